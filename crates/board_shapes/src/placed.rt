@@ -1,0 +1,59 @@
+// A solid on a span of layers.
+ghost use Rattle.board_shapes.specs.Touching.{CommonLayer};
+ghost use Rattle.contact.specs.Solid.{InBox, IsInside, SharePoint};
+ghost use Rattle.std.specs.Prelude.{IsTrue, ◌+◌, ◌≡◌, ◌≤◌, ◌↔◌};
+
+use crate::shape::Shape;
+use contact::{Closed, Meets};
+use planar::Frame;
+use std::sync::ledger::Ledger;
+use steps::Steps;
+
+/// What made a piece: a command of a file, and which copy of a block it is.
+#[derive(Clone, Copy, Debug, PartialEq, Eq)]
+pub struct Origin {
+    /// The number of the file, from 0 through the copper files and then the drill files.
+    pub file: u32,
+    /// The command or line that made the piece, from 1; for a contour the one that closed it.
+    pub command: u32,
+    /// Which copy of a block it is, from 0; 0 outside blocks.
+    pub copy: u32,
+}
+
+/// A solid with its span of layers, 1 <= top <= bottom.
+#[derive(Drop)]
+pub struct Placed<S> {
+    pub shape: S,
+    pub top: u8,
+    pub bottom: u8,
+    pub origin: Origin,
+}
+
+/// A piece of copper or a plated barrel.
+pub type Piece = Placed<Shape>;
+
+/// How many pieces, and edges of filled contours, may still come.
+#[derive(Clone, Copy, Debug, PartialEq, Eq)]
+pub struct Room {
+    pub pieces: u32,
+    pub edges: u32,
+}
+impl<S: Meets<S>> Placed<S> {
+    /// Whether the spans have a common layer and the solids share a point.
+    pub fn touches<L: Ledger>(&self, other: &Placed<S>, frame: Frame, tests: &mut Steps<L>) -> bool
+        requires self_inside { IsInside (S.extent self.now.shape) frame }
+        requires other_inside { IsInside (S.extent other.now.shape) frame }
+        ensures touch { IsTrue result ↔ (CommonLayer self.now.top self.now.bottom other.now.top other.now.bottom × SharePoint (S.holds self.now.shape) (S.holds other.now.shape)) }
+        ensures one_test { tests.new ≤ tests.old + 1 }
+        ensures none_apart { ¬ (CommonLayer self.now.top self.now.bottom other.now.top other.now.bottom) → tests.new ≡ tests.old }
+        ensures none_away { ¬ (SharePoint (InBox (S.extent self.now.shape)) (InBox (S.extent other.now.shape))) → tests.new ≡ tests.old }
+    {
+        if self.top.max(other.top) > self.bottom.min(other.bottom) {
+            return false;
+        }
+        if !self.shape.bounds().meet(&other.shape.bounds()) {
+            return false;
+        }
+        self.shape.meets(&other.shape, frame, tests)
+    }
+}

@@ -1,0 +1,59 @@
+// A solid of copper: a capsule or a filled contour.
+ghost use Rattle.board_shapes.specs.Shapes.{InShape, IsShapeLawful, boxed, not_empty, shape_box};
+ghost use Rattle.contact.specs.RoundLaws.{turned};
+
+use area_contact::Area;
+use contact::{Bounds, Capsule, Closed, Meets};
+use planar::{Frame, Spot};
+use std::sync::ledger::Ledger;
+use steps::Steps;
+
+/// A solid of copper: a capsule or a filled contour.
+#[derive(Drop)]
+pub enum Shape {
+    Round(Capsule),
+    Filled(Area),
+}
+impl Closed for Shape {
+    ghost holds = { λ s p. InShape s p };
+
+    ghost extent = { λ s. shape_box s };
+
+    ghost is_lawful = { λ s. IsShapeLawful s };
+
+    fn bounds(&self) -> Bounds {
+        match self {
+            Shape::Round(capsule) => capsule.bounds(),
+            Shape::Filled(area) => area.bounds(),
+        }
+    }
+
+    fn has(&self, p: Spot, frame: Frame) -> bool {
+        match self {
+            Shape::Round(capsule) => capsule.has(p, frame),
+            Shape::Filled(area) => area.has(p, frame),
+        }
+    }
+
+    ghost not_empty = { λ s h. not_empty s h };
+
+    ghost boxed = { λ s p h k. boxed s p h k };
+}
+
+impl Meets<Shape> for Shape {
+    fn meets<L: Ledger>(&self, other: &Shape, frame: Frame, tests: &mut Steps<L>) -> bool {
+        match (self, other) {
+            (Shape::Round(first), Shape::Round(second)) => first.meets(second, frame, tests),
+            (Shape::Round(first), Shape::Filled(second)) => first.meets(second, frame, tests),
+            (Shape::Filled(first), Shape::Round(second)) => first.meets(second, frame, tests),
+            (Shape::Filled(first), Shape::Filled(second)) => first.meets(second, frame, tests),
+        }
+    }
+
+    ghost symmetric = { λ s t h k m. turned m };
+
+    ghost reflexive = { λ s h. let p = not_empty s h in record { point = p.0; in_first = p.1; in_second = p.1 } };
+
+    ghost within_boxes = { λ s t h k m. record { point = m.point; in_first = boxed s m.point h m.in_first; in_second = boxed t m.point k m.in_second } };
+}
+

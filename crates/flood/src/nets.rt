@@ -1,0 +1,102 @@
+// Nets, each breadth first from its least piece.
+ghost use Rattle.std.specs.Prelude.{◌≡◌, ◌⊎◌, ℕ, ◌+◌, ◌<◌, ◌≤◌, ◌^◌, Bool, List, [], ◌∷◌, ◌++◌, length, Contains, OnOk, IfOk};
+ghost use Rattle.cell_index.specs.Field.{sum_below};
+ghost use Rattle.verdict.specs.Forest.{IsForest, pieces_of};
+ghost use Rattle.verdict.specs.declared.verdict.Twig.{Twig};
+ghost use Rattle.flood.specs.Flood.{IsSeen, unseen, weight, IsGrown, IsWhole};
+
+use cell_index::Field;
+use lengths::{NoMemory, Rows};
+use std::alloc::Global;
+use std::sync::ledger::Ledger;
+use steps::Steps;
+use verdict::{Tree, Trees, Twig};
+
+/// The nets as trees: by rising least piece, each breadth first.
+pub fn flood<F: Field, L: Ledger>(
+    alloc: Global,
+    field: &F,
+    tests: &mut Steps<L>,
+) -> Result<Trees, NoMemory>
+    ensures nets { IfOk result (IsForest (F.size field.now) (F.near field.now)) }
+    ensures ticks { tests.new ≤ tests.old + sum_below (F.rivals field.now) (F.size field.now) }
+{
+    let count = field.count();
+    let mut flags = vec![in alloc; false; count]?;
+    let seen = flags.as_mut_slice();
+    let mut row = Vec::new(alloc);
+    let mut nets = Rows::new(alloc);
+    for first in 0..count {
+        if !seen[first] {
+            let net = net_from(alloc, field, first, seen, &mut row, tests)?;
+            nets.push(net)?;
+        }
+    }
+    Ok(nets)
+}
+
+// The net whose least piece is the first.
+fn net_from<F: Field, L: Ledger>(
+    alloc: Global,
+    field: &F,
+    first: usize,
+    seen: &mut [bool],
+    row: &mut Vec<u32>,
+    tests: &mut Steps<L>,
+) -> Result<Tree, NoMemory>
+    requires few { F.size field.now < 2 ^ 32 }
+    requires flags { length seen.old ≡ F.size field.now }
+    requires first { first < F.size field.now }
+    requires fresh { IsSeen seen.old first → ⊥ }
+    requires below { (q : ℕ) → q < first → IsSeen seen.old q }
+    ensures whole { IfOk result (λ net. IsWhole (F.near field.now) seen.old first net seen.new) }
+    ensures kept { IfOk result (λ net. (w : ℕ → ℕ) → unseen w 0 seen.new + weight w net ≡ unseen w 0 seen.old) }
+    ensures ticks { tests.new + unseen (F.rivals field.now) 0 seen.new ≤ tests.old + unseen (F.rivals field.now) 0 seen.old }
+{
+    let mut net = Rows::new(alloc);
+    seen[first] = true;
+    net.push(Twig {
+        piece: first as u32,
+        parent: None,
+    })?;
+    let mut at = 0;
+    while at < net.as_slice().len() {
+        let piece = net.as_slice()[at].piece;
+        spread(field, piece, &mut net, seen, row, tests)?;
+        at += 1;
+    }
+    Ok(net)
+}
+
+// Adds to a net the pieces that are near one of its pieces and were not seen.
+fn spread<F: Field, L: Ledger>(
+    field: &F,
+    piece: u32,
+    net: &mut Tree,
+    seen: &mut [bool],
+    row: &mut Vec<u32>,
+    tests: &mut Steps<L>,
+) -> Result<(), NoMemory>
+    requires flags { length seen.old ≡ F.size field.now }
+    requires piece { piece < F.size field.now }
+    requires inside { Contains (pieces_of net.old) piece }
+    ensures grown { OnOk result ((base : List Bool) (first : ℕ) → IsGrown (F.near field.now) base first net.old seen.old → IsGrown (F.near field.now) base first net.new seen.new) }
+    ensures more { OnOk result ((more : List Twig) × (net.new ≡ net.old ++ more)) }
+    ensures stays { OnOk result ((q : ℕ) → IsSeen seen.old q → IsSeen seen.new q) }
+    ensures all { OnOk result ((q : ℕ) → F.near field.now piece q → IsSeen seen.new q) }
+    ensures kept { OnOk result ((w : ℕ → ℕ) → unseen w 0 seen.new + weight w net.new ≡ unseen w 0 seen.old + weight w net.old) }
+    ensures fewer { (w : ℕ → ℕ) → unseen w 0 seen.new ≤ unseen w 0 seen.old }
+    ensures ticks { tests.new ≤ tests.old + F.rivals field.now piece }
+{
+    field.neighbours(piece as usize, row, tests)?;
+    for &other in row.as_slice() {
+        if !seen[other as usize] {
+            seen[other as usize] = true;
+            net.push(Twig {
+                piece: other,
+                parent: Some(piece),
+            })?;
+        }
+    }
+    Ok(())
+}

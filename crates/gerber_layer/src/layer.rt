@@ -1,0 +1,105 @@
+// Reads a layer.
+ghost use Rattle.std.specs.Prelude.{◌≡◌, ◌+◌, ◌^◌, ◌<◌, ◌≤◌, length, IfOk, IfErr, IsSomeAnd};
+ghost use Rattle.board_shapes.specs.Plain.{plain_pieces};
+ghost use Rattle.gerber_layer.specs.Command.{view};
+ghost use Rattle.gerber_layer.specs.Lawful.{IsLawfulCommand};
+ghost use Rattle.gerber_layer.specs.Layer.{IsFault, IsRead};
+ghost use Rattle.gerber_layer.specs.Reader.{Faults, IsLawfulReader, IsNew, Leaves, fault_at};
+
+use crate::command::Command;
+use crate::kind::{Fault, Halt, LayerFault};
+use crate::reader::Reader;
+use crate::reading::read_command;
+use crate::settings::Settings;
+use crate::wheel::Wheel;
+use board_shapes::{Piece, Room};
+use gerber_words::{Step, Words};
+use planar::Spot;
+use std::alloc::Global;
+
+impl Reader {
+    fn new(alloc: Global, layer: u8, file: u32, room: u32) -> Reader
+        ensures new { IsNew (record { layer = layer; file = file; room = room }) result }
+        ensures lawful { IsLawfulReader result }
+    {
+        Reader {
+            settings: Settings {
+                format: None,
+                unit: None,
+                selected: None,
+                at: Spot { x: 0, y: 0 },
+                last: None,
+                ended: false,
+            },
+            wheel: Wheel::new(alloc),
+            pieces: Vec::new(alloc),
+            commands: 0,
+            layer,
+            file,
+            room,
+        }
+    }
+
+    fn into_pieces(self) -> Vec<Piece>
+        ensures { result ≡ self.pieces }
+    {
+        self.pieces
+    }
+}
+
+fn fault_at(halt: Halt, command: u32, at: usize) -> LayerFault
+    ensures { result ≡ fault_at halt command at }
+{
+    match halt {
+        Halt::Fault(Fault::Kind(kind)) => LayerFault::Refused { kind, command, at },
+        Halt::Fault(Fault::NotYet) => LayerFault::NotYet { command, at },
+        Halt::NoMemory => LayerFault::NoMemory,
+    }
+}
+
+// Obeys the last command, and gives the pieces.
+fn finished(
+    alloc: Global,
+    mut reader: Reader,
+    command: Command,
+    at: usize,
+) -> Result<Vec<Piece>, LayerFault>
+    requires lawful { IsLawfulReader reader }
+    requires command { IsLawfulCommand (view command) }
+    requires few { reader.commands + 1 < 2 ^ 32 }
+    ensures ok { IfOk result (λ pieces. Leaves reader (view command.entry) pieces.items) }
+    ensures fault { IfErr result (Faults reader (view command.entry) at) }
+{
+    let number = reader.commands + 1;
+    match reader.obey(alloc, &command) {
+        Ok(()) => Ok(reader.into_pieces()),
+        Err(halt) => Err(fault_at(halt, number, at)),
+    }
+}
+
+/// The pieces of a layer's copper, in order, or the first faulty command.
+pub fn read_layer(
+    alloc: Global,
+    file: &[u8],
+    layer: u8,
+    file_number: u32,
+    room: Room,
+) -> Result<Vec<Piece>, LayerFault>
+    requires { length file.now ≤ 67108864 }
+    ensures ok { IfOk result (λ pieces. IsRead file.now (record { layer = layer; file = file_number; room = room.pieces }) (plain_pieces pieces.items)) }
+    ensures fault { IfErr result (IsFault file.now (record { layer = layer; file = file_number; room = room.pieces })) }
+{
+    let mut words = Words::new(file);
+    let mut reader = Reader::new(alloc, layer, file_number, room.pieces);
+    loop {
+        let number = reader.commands + 1;
+        match words.next_word() {
+            Step::Word(word) => match reader.obey(alloc, &read_command(word)) {
+                Ok(()) => (),
+                Err(halt) => return Err(fault_at(halt, number, word.at)),
+            },
+            Step::End => return finished(alloc, reader, Command::Finish, file.len()),
+            Step::Broken(fault, at) => return finished(alloc, reader, Command::Broken(fault), at),
+        }
+    }
+}

@@ -1,0 +1,139 @@
+-- The names on a net, and the branches of a short.
+use Rattle.std.proofs.Common.{◌≡◌, ◌≢◌, inl, inr, ℕ, zero, suc, ◌+◌, ◌<◌, ◌≤◌, Bool, true, false, List, [], ◌∷◌, ◌++◌, length, map, get_or, set, take, drop, replicate, Contains, All, AllPairs, Option, Some, None, refl, sym, ap, subst, ◌∙◌, append-nil, arith, slice_get}
+use Rattle.std.proofs.lemmas.List.{length-set, get_or-set_same, get_or-set_other, length-map, get_or-replicate, length-replicate, map-append, take_more}
+use Rattle.std.proofs.lemmas.List.Elements.{All-get_or, Contains-append_left}
+use Rattle.std.proofs.lemmas.Bool.{cases_eq}
+use Rattle.verdict.specs.declared.verdict.Twig.{Twig}
+use Rattle.verdict.specs.declared.verdict.Branch.{Branch}
+use Rattle.verdict.specs.declared.verdict.PointLine.{PointLine}
+use Rattle.judge.specs.declared.shorts.Mark.{Mark}
+use Rattle.verdict.specs.Forest.{pieces_of, piece_of, first_piece}
+use Rattle.verdict.specs.Right.{IsWay, BeginsAt, IsBranch, AreBranches, first_on, names_on, where_some, outline, short_of, Outline}
+use Rattle.judge.specs.Judged.{twig_at, HasPlaces, AreFlags, BeginsAtHome, IsFirst, mark_name, branch_name}
+use Rattle.verdict.specs.declared.verdict.Short.{Short}
+use Rattle.judge.proofs.Paths.{twig_piece}
+use Rattle.judge.proofs.Lines.{turn}
+
+pub record ArePlaced (net : List Twig) (long : ℕ) (i : ℕ) (places : List ℕ) : Type 0 where
+  pub room : length places ≡ long
+  pub done : (k : ℕ) → k < i → get_or places (twig_at net k).piece 0 ≡ k
+
+pub placed_more : (net : List Twig) (long i : ℕ) (places : List ℕ) → AllPairs (λ p q. p ≢ q) (pieces_of net) → i < length net → (twig_at net i).piece < length places → ArePlaced net long i places → ArePlaced net long (i + 1) (set places (twig_at net i).piece i)
+placed_more net long i places once within below a = record {
+  room = length-set places (twig_at net i).piece i ∙ a.room;
+  done = λ k h. elim (cases_eq k i) [
+    | inl same ↦ ap (λ (x : ℕ). get_or (set places (twig_at net i).piece i) (twig_at net x).piece 0) same ∙ (get_or-set_same places (twig_at net i).piece i 0 below ∙ sym same)
+    | inr other ↦ get_or-set_other places (twig_at net i).piece (twig_at net k).piece i 0 (λ same. once k i 0 (omega arith) (let e = length-map net piece_of in omega arith) (twig_piece net k (omega arith) ∙ (same ∙ sym (twig_piece net i within)))) ∙ a.done k (omega arith)
+  ];
+}
+
+-- the ends of a way that follows these branches
+abbrev pub held : List ℕ → List Branch → List ℕ
+held ends [] = ends
+held ends (b ∷ rest) = held (ends ++ b.pieces) rest
+
+held_still : (ends : List ℕ) (branches : List Branch) (p : ℕ) → Contains ends p → Contains (held ends branches) p
+held_still ends [] p h = h
+held_still ends (b ∷ rest) p h = held_still (ends ++ b.pieces) rest p (Contains-append_left ends b.pieces p h)
+
+held-push : (ends : List ℕ) (branches : List Branch) (b : Branch) → held ends (branches ++ b ∷ []) ≡ held ends branches ++ b.pieces
+held-push ends [] b = refl
+held-push ends (c ∷ rest) b = held-push (ends ++ c.pieces) rest b
+
+branches_push : (net : List Twig) (starts : ℕ → ℕ → Type 0) (lines : List PointLine) (number : ℕ) (ends : List ℕ) (branches : List Branch) (b : Branch) → AreBranches net starts lines number ends branches → IsBranch net starts lines number (held ends branches) b → AreBranches net starts lines number ends (branches ++ b ∷ [])
+branches_push net starts lines number ends [] b all one = (one, tt)
+branches_push net starts lines number ends (c ∷ rest) b (first, all) one = (first, branches_push net starts lines number (ends ++ c.pieces) rest b all one)
+
+-- The marks before i have their branches.
+pub record AreBranched (net : List Twig) (homes : List (Option ℕ)) (marks : List Mark) (i : ℕ) (branches : List Branch) (flags : List Bool) : Type 0 where
+  pub long : length flags ≡ length net
+  pub flagged : AreFlags net (held (first_piece net ∷ []) branches) flags
+  pub names : map branch_name branches ≡ map mark_name (take i marks)
+  pub right : (number : ℕ) (lines : List PointLine) → All (IsFirst number lines) marks → AreBranches net (BeginsAtHome homes) lines number (first_piece net ∷ []) branches
+
+first_is : (net : List Twig) → (twig_at net 0).piece ≡ first_piece net
+first_is [] = refl
+first_is (t ∷ rest) = refl
+
+pub branched_root : (net : List Twig) (homes : List (Option ℕ)) (marks : List Mark) (i : ℕ) (branches : List Branch) (flags : List Bool) → AreBranched net homes marks i branches flags → 0 < length net → get_or flags 0 false ≡ true
+branched_root net homes marks i branches flags b some = (b.flagged 0 some).0 (held_still (first_piece net ∷ []) branches (twig_at net 0).piece (0, omega arith, sym (first_is net)))
+
+one_of : (x q : ℕ) → Contains (x ∷ []) q → x ≡ q
+one_of x q (zero, below, same) = same
+one_of x q (suc k, below, same) = absurd (omega arith)
+
+pub branched_start : (net : List Twig) (places : List ℕ) (homes : List (Option ℕ)) (marks : List Mark) (ends : List Bool) → 0 < length net → HasPlaces net places → ends ≡ replicate (length net) false → AreBranched net homes marks 0 [] (set ends 0 true)
+branched_start net places homes marks ends some all none =
+    let long : length ends ≡ length net = ap length none ∙ length-replicate (length net) false in
+    record {
+      long = length-set ends 0 true ∙ long;
+      flagged = λ k within.
+          let forth : Contains (first_piece net ∷ []) (twig_at net k).piece → get_or (set ends 0 true) k false ≡ true =
+          λ held. let same : k ≡ 0 = sym (all k within).1 ∙ (ap (λ (x : ℕ). get_or places x 0) (sym (first_is net ∙ one_of (first_piece net) (twig_at net k).piece held)) ∙ (all 0 some).1) in
+          ap (λ (x : ℕ). get_or (set ends 0 true) x false) same ∙ get_or-set_same ends 0 true false (omega arith) in
+          let back : get_or (set ends 0 true) k false ≡ true → Contains (first_piece net ∷ []) (twig_at net k).piece =
+          λ on. elim (cases_eq k 0) [
+            | inl same ↦ (0, omega arith, sym (first_is net) ∙ ap (λ (x : ℕ). (twig_at net x).piece) (sym same))
+            | inr other ↦ absurd (let off : get_or ends k false ≡ false = ap (λ (xs : List Bool). get_or xs k false) none ∙ get_or-replicate (length net) k false false within in let kept = get_or-set_other ends 0 k true false other in cc)
+          ] in
+          (forth, back);
+      names = refl;
+      right = λ number lines firsts. tt;
+    }
+
+pub branched_more : (net : List Twig) (homes : List (Option ℕ)) (marks : List Mark) (i : ℕ) (d : Mark) (branches branches' : List Branch) (flags flags' : List Bool) (home : ℕ) (pieces : List ℕ) → i < length marks → AreBranched net homes marks i branches flags → length flags' ≡ length flags
+    → get_or homes (get_or marks i d).probe None ≡ Some home → BeginsAt (λ piece. piece ≡ home) pieces → ((ends : List ℕ) → AreFlags net ends flags → IsWay net ends pieces) → ((ends : List ℕ) → AreFlags net ends flags → AreFlags net (ends ++ pieces) flags')
+    → branches' ≡ branches ++ record { name = (get_or marks i d).name; probe = (get_or marks i d).probe; pieces = pieces } ∷ [] → AreBranched net homes marks (i + 1) branches' flags'
+branched_more net homes marks i d branches branches' flags flags' home pieces below b long start begins way flag now =
+    let m : Mark = get_or marks i d in
+    let ends : List ℕ = first_piece net ∷ [] in
+    let new : Branch = record { name = m.name; probe = m.probe; pieces = pieces } in
+    record {
+      long = long ∙ b.long;
+      flagged = subst (λ (xs : List ℕ). AreFlags net xs flags') (sym (ap (held ends) now ∙ held-push ends branches new)) (flag (held ends branches) b.flagged);
+      names = ap (map branch_name) now ∙ (map-append branch_name branches (new ∷ []) ∙ (ap (λ (xs : List ℕ). xs ++ m.name ∷ []) b.names ∙ (sym (map-append mark_name (take i marks) (m ∷ [])) ∙ ap (map mark_name) (sym (take_more marks i d below)))));
+      right = λ number lines firsts. subst (λ (xs : List Branch). AreBranches net (BeginsAtHome homes) lines number ends xs) (sym now)
+          (branches_push net (BeginsAtHome homes) lines number ends branches new (b.right number lines firsts)
+          (record { probe = All-get_or (IsFirst number lines) marks i d below firsts; start = begun pieces begins; way = way (held ends branches) b.flagged }));
+    }
+  where
+    begun : (pieces : List ℕ) → BeginsAt (λ piece. piece ≡ home) pieces → BeginsAt (BeginsAtHome homes (get_or marks i d).probe) pieces
+    begun [] h = absurd h
+    begun (p ∷ rest) h = start ∙ ap Some (sym h)
+
+pub short_few : (n : ℕ) (names : List ℕ) → length names < 2 → short_of n names ≡ []
+short_few n [] few = refl
+short_few n (a ∷ []) few = refl
+short_few n (a ∷ b ∷ rest) few = absurd (omega arith)
+
+pub short_many : (n : ℕ) (names : List ℕ) → 2 ≤ length names → short_of n names ≡ record { net = n; names = names } ∷ []
+short_many n [] many = absurd (omega arith)
+short_many n (a ∷ []) many = absurd (omega arith)
+short_many n (a ∷ b ∷ rest) many = refl
+
+pub marks_some : (net n : ℕ) (names : List (List ℕ)) (lines : List PointLine) (found found' : List Mark) (probe : ℕ) (d : List ℕ) → n < length names → first_on net n lines ≡ Some probe → found' ≡ found ++ record { name = n; probe = probe } ∷ []
+    → map mark_name found ++ names_on net n (drop n names) lines ≡ names_on net 0 names lines → map mark_name found' ++ names_on net (n + 1) (drop (n + 1) names) lines ≡ names_on net 0 names lines
+marks_some net n names lines found found' probe d below first now before =
+    let m : Mark = record { name = n; probe = probe } in
+    let part : where_some (first_on net n lines) n ≡ n ∷ [] = ap (λ (o : Option ℕ). where_some o n) first in
+    turn (λ xs. names_on net n xs lines) (n ∷ []) (λ xs. names_on net (n + 1) xs lines) (map mark_name found) (map mark_name found') (names_on net 0 names lines) names n d below
+    (ap (λ (xs : List ℕ). xs ++ names_on net (n + 1) (drop (n + 1) names) lines) part) before (ap (map mark_name) now ∙ map-append mark_name found (m ∷ []))
+
+pub marks_none : (net n : ℕ) (names : List (List ℕ)) (lines : List PointLine) (found : List Mark) (d : List ℕ) → n < length names → first_on net n lines ≡ None
+    → map mark_name found ++ names_on net n (drop n names) lines ≡ names_on net 0 names lines → map mark_name found ++ names_on net (n + 1) (drop (n + 1) names) lines ≡ names_on net 0 names lines
+marks_none net n names lines found d below first before =
+    let part : where_some (first_on net n lines) n ≡ [] = ap (λ (o : Option ℕ). where_some o n) first in
+    turn (λ xs. names_on net n xs lines) [] (λ xs. names_on net (n + 1) xs lines) (map mark_name found) (map mark_name found) (names_on net 0 names lines) names n d below
+    (ap (λ (xs : List ℕ). xs ++ names_on net (n + 1) (drop (n + 1) names) lines) part) before (sym (append-nil (map mark_name found)))
+
+pub short_pushed : (n : ℕ) (names : List ℕ) (shorts shorts' : List Short) (branches : List Branch) (marks : List Mark) → 2 ≤ length marks → map mark_name marks ≡ names → map branch_name branches ≡ map mark_name marks → shorts' ≡ shorts ++ record { net = n; branches = branches } ∷ [] → map outline shorts' ≡ map outline shorts ++ short_of n names
+short_pushed n names shorts shorts' branches marks many named same now =
+    let s : Short = record { net = n; branches = branches } in
+    let o : ℕ → List ℕ → Outline = λ net list. record { net = net; names = list } in
+    let long : length names ≡ length marks = sym (ap length named) ∙ length-map marks mark_name in
+    ap (map outline) now ∙ (map-append outline shorts (s ∷ []) ∙ ap (λ (xs : List Outline). map outline shorts ++ xs) (ap (λ (xs : List ℕ). o n xs ∷ []) (same ∙ named) ∙ sym (short_many n names (omega arith))))
+
+pub get_some : {X : Type 0} (xs : List X) (i : ℕ) (d : X) → i < length xs → slice_get xs i ≡ Some (get_or xs i d)
+get_some [] i d below = absurd (omega arith)
+get_some (x ∷ xs) zero d below = refl
+get_some (x ∷ xs) (suc i) d below = get_some xs i d (omega arith)

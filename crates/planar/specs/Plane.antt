@@ -1,0 +1,83 @@
+-- The plane: points with rational coordinates, and what it means to lie in a capsule.
+use Rattle.std.specs.Prelude.{ℕ, ℤ, pos, neg_ℤ, ◌+ℤ◌, ◌-ℤ◌, ◌*ℤ◌, ◌≤ℤ◌, ◌<ℤ◌, ◌⊎◌}
+use Rattle.planar.specs.declared.Frame.{Frame}
+use Rattle.planar.specs.declared.Spot.{Spot}
+use Rattle.planar.specs.declared.TheConstants.{SIDE}
+use Rattle.planar.specs.declared.Way.{Way}
+
+abbrev pub square : ℤ → ℤ
+square z = z *ℤ z
+
+-- the cross product of a - o and b - o
+abbrev pub cross_of : Spot → Spot → Spot → ℤ
+cross_of o a b = (a.x -ℤ o.x) *ℤ (b.y -ℤ o.y) -ℤ (a.y -ℤ o.y) *ℤ (b.x -ℤ o.x)
+
+-- their scalar product
+abbrev pub dot_of : Spot → Spot → Spot → ℤ
+dot_of o a b = (a.x -ℤ o.x) *ℤ (b.x -ℤ o.x) +ℤ (a.y -ℤ o.y) *ℤ (b.y -ℤ o.y)
+
+-- the point (x/n, y/n)
+pub record Point : Type 0 where
+  pub x : ℤ
+  pub y : ℤ
+  pub n : ℤ
+  pub positive : pos 1 ≤ℤ n
+
+abbrev pub at : Spot → Point
+at p = record { x = p.x; y = p.y; n = pos 1; positive = record { le = tt } }
+
+-- some place on the segment from a to b, i/m of the way, is at most r from the point
+pub record InCapsule (a b : Spot) (r : ℤ) (p : Point) : Type 0 where
+  pub i : ℤ
+  pub m : ℤ
+  pub from_start : pos 0 ≤ℤ i
+  pub to_end : i ≤ℤ m
+  pub positive : pos 1 ≤ℤ m
+  pub near : (square (m *ℤ p.x -ℤ p.n *ℤ (m *ℤ a.x +ℤ i *ℤ (b.x -ℤ a.x))) +ℤ square (m *ℤ p.y -ℤ p.n *ℤ (m *ℤ a.y +ℤ i *ℤ (b.y -ℤ a.y)))) ≤ℤ square (p.n *ℤ m *ℤ r)
+
+-- some point lies in the capsules (a, b, r) and (c, d, s)
+pub record Share (a b : Spot) (r : ℤ) (c d : Spot) (s : ℤ) : Type 0 where
+  pub point : Point
+  pub in_first : InCapsule a b r point
+  pub in_second : InCapsule c d s point
+
+-- an end of the segment from a to b is at most r from the segment from c to d
+abbrev pub AnEnd : Spot → Spot → Spot → Spot → ℤ → Type 0
+AnEnd a b c d r = InCapsule c d r (at a) ⊎ InCapsule c d r (at b)
+
+-- of the ends of an edge, `low` is not above p and `high` is
+-- the edge passes strictly to the right of p at p's height
+abbrev pub PassesRight : Spot → Spot → Point → Type 0
+PassesRight low high p =
+    ((p.n *ℤ low.y) ≤ℤ p.y) × (p.y <ℤ (p.n *ℤ high.y)) ×
+    (pos 0 <ℤ ((high.x -ℤ low.x) *ℤ (p.y -ℤ p.n *ℤ low.y) +ℤ (p.n *ℤ low.x -ℤ p.x) *ℤ (high.y -ℤ low.y)))
+
+-- the ray from p to the right crosses the edge between a and b
+abbrev pub RayCrosses : Spot → Spot → Point → Type 0
+RayCrosses a b p = PassesRight a b p ⊎ PassesRight b a p
+
+-- z is at most n from 0
+abbrev pub IsWithin : ℕ → ℤ → Type 0
+IsWithin n z = (neg_ℤ (pos n) ≤ℤ z) × (z ≤ℤ pos n)
+
+-- a coordinate at most one metre from 0
+abbrev pub IsReached : ℤ → Type 0
+IsReached z = IsWithin 10_000_000_000 z
+
+-- a spot whose coordinates are
+abbrev pub IsPlaced : Spot → Type 0
+IsPlaced p = IsReached p.x × IsReached p.y
+
+abbrev pub IsShort : Way → Type 0
+IsShort u = IsWithin 20_000_000_000 u.x × IsWithin 20_000_000_000 u.y
+
+-- z lies from low to low + SIDE
+abbrev pub IsInSide : ℤ → ℤ → Type 0
+IsInSide low z = (low ≤ℤ z) × (z ≤ℤ (low +ℤ SIDE))
+
+abbrev pub IsInFrame : Frame → Spot → Type 0
+IsInFrame f p = IsInSide f.left p.x × IsInSide f.low p.y
+
+-- a radius from 0 to SIDE
+abbrev pub IsRadius : ℤ → Type 0
+IsRadius r = (pos 0 ≤ℤ r) × (r ≤ℤ SIDE)

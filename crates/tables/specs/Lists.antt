@@ -1,0 +1,14 @@
+-- Lists of the numbers of which something holds.
+use Rattle.std.specs.Prelude.{ℕ, ◌≤◌, Option, Some, None, List, Contains}
+use Rattle.std.specs.List.Sorted.{IsStrictlyIncreasing}
+
+-- exactly the numbers that P says, rising
+pub record Lists (P : ℕ → Type 0) (xs : List ℕ) : Type 0 where
+  pub rising : IsStrictlyIncreasing xs
+  pub only : (q : ℕ) → Contains xs q → P q
+  pub all : (q : ℕ) → P q → Contains xs q
+
+-- the least number that P says, or none where it says none
+abbrev pub IsLeast : (ℕ → Type 0) → Option ℕ → Type 0
+IsLeast P None = (q : ℕ) → P q → ⊥
+IsLeast P (Some least) = P least × ((q : ℕ) → P q → least ≤ q)

@@ -1,0 +1,7 @@
+use Rattle.std.proofs.Common.{refl}
+use Rattle.verdict.specs.ReportText.{point_line}
+use Rattle.verdict.proofs.Numbered.{numbered_turn}
+use Rattle.verdict.proofs.report.push_points.Goals as goal
+
+pub loop-number-preserved : goal.loop-number-preserved
+loop-number-preserved c = numbered_turn point_line _ _ _ c.args.points.now c.loop-number.number _ _ c.loop-number-test.true refl c.loop-number.invariant c.in_ok-push_point.ensures

@@ -1,0 +1,99 @@
+-- The text of a verdict.
+use Rattle.std.specs.Prelude.{◌≡◌, ℕ, ◌+◌, List, [], ◌∷◌, ◌++◌, length, Option, Some, None, codes, decimal}
+use Rattle.std.specs.List.{flat_map}
+use Rattle.verdict.specs.declared.verdict.Twig.{Twig}
+use Rattle.verdict.specs.declared.verdict.PointLine.{PointLine}
+use Rattle.verdict.specs.declared.verdict.Open.{Open}
+use Rattle.verdict.specs.declared.verdict.Branch.{Branch}
+use Rattle.verdict.specs.declared.verdict.Short.{Short}
+use Rattle.verdict.specs.declared.verdict.Verdict.{Verdict}
+
+-- nothing is open, shorted or without copper
+pub record Agrees (v : Verdict) : Type 0 where
+  pub opens : v.opens ≡ []
+  pub shorts : v.shorts ≡ []
+  pub bare : v.bare ≡ []
+
+-- a blank and a number
+abbrev pub word : ℕ → List ℕ
+word n = 32 ∷ decimal n
+
+-- a line feed
+abbrev pub end : List ℕ
+end = 10 ∷ []
+
+-- a title and a count
+abbrev pub count_line : List ℕ → ℕ → List ℕ
+count_line title n = title ++ word n ++ end
+
+-- the texts of the items one after another, each of its number and itself
+abbrev pub numbered : {X : Type 0} → (ℕ → X → List ℕ) → ℕ → List X → List ℕ
+numbered text n [] = []
+numbered text n (x ∷ xs) = text n x ++ numbered text (n + 1) xs
+
+abbrev pub parent_text : Option ℕ → List ℕ
+parent_text None = []
+parent_text (Some p) = 58 ∷ decimal p
+
+abbrev pub twig_text : Twig → List ℕ
+twig_text t = word t.piece ++ parent_text t.parent
+
+abbrev pub net_line : ℕ → List Twig → List ℕ
+net_line n net = codes "net" ++ word n ++ flat_map twig_text net ++ end
+
+abbrev pub name_line : ℕ → List ℕ → List ℕ
+name_line n name = codes "name" ++ word n ++ 32 ∷ name ++ end
+
+abbrev pub net_text : Option ℕ → List ℕ
+net_text None = codes " -"
+net_text (Some net) = word net
+
+abbrev pub point_line : ℕ → PointLine → List ℕ
+point_line n p = codes "point" ++ word n ++ word p.number ++ word p.layer ++ word p.name ++ net_text p.net ++ end
+
+abbrev pub open_line : Open → List ℕ
+open_line o = codes "open" ++ word o.name ++ word o.home ++ word o.other ++ word o.probe ++ end
+
+abbrev pub branch_line : Branch → List ℕ
+branch_line b = codes "branch" ++ word b.name ++ word b.probe ++ flat_map word b.pieces ++ end
+
+abbrev pub short_lines : Short → List ℕ
+short_lines s = codes "short" ++ word s.net ++ word (length s.branches) ++ end ++ flat_map branch_line s.branches
+
+abbrev pub bare_line : ℕ → List ℕ
+bare_line probe = codes "bare" ++ word probe ++ end
+
+abbrev pub last_line : {A B C : Type 0} → List A → List B → List C → List ℕ
+last_line [] [] [] = codes "agrees" ++ end
+last_line opens shorts bare = codes "differs" ++ end
+
+-- The text of a verdict, part by part.
+abbrev pub nets_text : List (List Twig) → List ℕ
+nets_text nets = count_line (codes "nets") (length nets) ++ numbered net_line 0 nets
+
+abbrev pub names_text : List (List ℕ) → List ℕ
+names_text names = count_line (codes "names") (length names) ++ numbered name_line 0 names
+
+abbrev pub points_text : List PointLine → List ℕ
+points_text points = count_line (codes "points") (length points) ++ numbered point_line 0 points
+
+abbrev pub opens_text : List Open → List ℕ
+opens_text opens = count_line (codes "opens") (length opens) ++ flat_map open_line opens
+
+abbrev pub shorts_text : List Short → List ℕ
+shorts_text shorts = count_line (codes "shorts") (length shorts) ++ flat_map short_lines shorts
+
+abbrev pub bare_text : List ℕ → List ℕ
+bare_text bare = count_line (codes "missing") (length bare) ++ flat_map bare_line bare
+
+-- the parts up to the points
+abbrev pub tables_text : Verdict → List ℕ
+tables_text v = count_line (codes "pieces") v.pieces ++ nets_text v.nets ++ names_text v.names ++ points_text v.points
+
+-- the parts behind them
+abbrev pub findings_text : Verdict → List ℕ
+findings_text v = opens_text v.opens ++ shorts_text v.shorts ++ bare_text v.bare ++ last_line v.opens v.shorts v.bare
+
+-- the text of a verdict
+abbrev pub report_text : Verdict → List ℕ
+report_text v = codes "boardnet 1" ++ end ++ tables_text v ++ findings_text v

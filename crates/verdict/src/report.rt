@@ -1,0 +1,265 @@
+// The text of a verdict.
+ghost use Rattle.std.specs.Prelude.{◌≡◌, ◌∷◌, ◌++◌, ◌+◌, ℕ, List, OnOk, IfOk, length, codes, decimal, Option};
+ghost use Rattle.std.specs.List.{flat_map};
+ghost use Rattle.verdict.specs.ReportText as spec;
+
+use crate::verdict::{Branch, Open, PointLine, Short, Tree, Twig, Verdict};
+use itoa::Buffer;
+use lengths::{NoMemory, Text};
+use std::alloc::Global;
+
+// Appends a word of text.
+fn push_bytes(out: &mut Vec<u8>, bytes: &[u8]) -> Result<(), NoMemory>
+    ensures { OnOk result (out.new.items ≡ out.old.items ++ bytes.now) }
+{
+    out.extend_from_slice(bytes)?;
+    Ok(())
+}
+
+// Appends the digits of a number.
+fn push_digits(out: &mut Vec<u8>, n: u64) -> Result<(), NoMemory>
+    ensures { OnOk result (out.new.items ≡ out.old.items ++ decimal n) }
+{
+    let mut buffer = Buffer::new();
+    push_bytes(out, buffer.format(n).as_bytes())
+}
+
+// Appends a blank and a number.
+fn push_word(out: &mut Vec<u8>, n: u64) -> Result<(), NoMemory>
+    ensures { OnOk result (out.new.items ≡ out.old.items ++ spec.word n) }
+{
+    push_bytes(out, b" ")?;
+    push_digits(out, n)
+}
+
+// Appends a title and a count.
+fn push_count(out: &mut Vec<u8>, title: &[u8], n: u64) -> Result<(), NoMemory>
+    ensures { OnOk result (out.new.items ≡ out.old.items ++ spec.count_line title.now n) }
+{
+    push_bytes(out, title)?;
+    push_word(out, n)?;
+    push_bytes(out, b"\n")
+}
+
+fn push_twig(out: &mut Vec<u8>, twig: &Twig) -> Result<(), NoMemory>
+    ensures { OnOk result (out.new.items ≡ out.old.items ++ spec.twig_text twig.now) }
+{
+    push_word(out, u64::from(twig.piece))?;
+    match twig.parent {
+        None => Ok(()),
+        Some(parent) => {
+            push_bytes(out, b":")?;
+            push_digits(out, u64::from(parent))
+        }
+    }
+}
+
+fn push_twigs(out: &mut Vec<u8>, net: &[Twig]) -> Result<(), NoMemory>
+    ensures { OnOk result (out.new.items ≡ out.old.items ++ flat_map spec.twig_text net.now) }
+{
+    for twig in net {
+        push_twig(out, twig)?;
+    }
+    Ok(())
+}
+
+fn push_net(out: &mut Vec<u8>, number: u64, net: &[Twig]) -> Result<(), NoMemory>
+    ensures { OnOk result (out.new.items ≡ out.old.items ++ spec.net_line number net.now) }
+{
+    push_bytes(out, b"net")?;
+    push_word(out, number)?;
+    push_twigs(out, net)?;
+    push_bytes(out, b"\n")
+}
+
+#[tactic(auto, using(crate::proofs::Numbered::numbered_turn))]
+fn push_nets(out: &mut Vec<u8>, nets: &[Tree]) -> Result<(), NoMemory>
+    ensures { OnOk result (out.new.items ≡ out.old.items ++ spec.nets_text nets.now) }
+{
+    push_count(out, b"nets", nets.len() as u64)?;
+    for (number, net) in nets.iter().enumerate() {
+        push_net(out, number as u64, net.as_slice())?;
+    }
+    Ok(())
+}
+
+fn push_name(out: &mut Vec<u8>, number: u64, name: &Text) -> Result<(), NoMemory>
+    ensures { OnOk result (out.new.items ≡ out.old.items ++ spec.name_line number name.now) }
+{
+    push_bytes(out, b"name")?;
+    push_word(out, number)?;
+    push_bytes(out, b" ")?;
+    push_bytes(out, name.as_bytes())?;
+    push_bytes(out, b"\n")
+}
+
+#[tactic(auto, using(crate::proofs::Numbered::numbered_turn))]
+fn push_names(out: &mut Vec<u8>, names: &[Text]) -> Result<(), NoMemory>
+    ensures { OnOk result (out.new.items ≡ out.old.items ++ spec.names_text names.now) }
+{
+    push_count(out, b"names", names.len() as u64)?;
+    for (number, name) in names.iter().enumerate() {
+        push_name(out, number as u64, name)?;
+    }
+    Ok(())
+}
+
+fn push_net_of(out: &mut Vec<u8>, net: Option<u32>) -> Result<(), NoMemory>
+    ensures { OnOk result (out.new.items ≡ out.old.items ++ spec.net_text net) }
+{
+    match net {
+        None => push_bytes(out, b" -"),
+        Some(net) => push_word(out, u64::from(net)),
+    }
+}
+
+fn push_point(out: &mut Vec<u8>, number: u64, point: &PointLine) -> Result<(), NoMemory>
+    ensures { OnOk result (out.new.items ≡ out.old.items ++ spec.point_line number point.now) }
+{
+    push_bytes(out, b"point")?;
+    push_word(out, number)?;
+    push_word(out, u64::from(point.number))?;
+    push_word(out, u64::from(point.layer))?;
+    push_word(out, u64::from(point.name))?;
+    push_net_of(out, point.net)?;
+    push_bytes(out, b"\n")
+}
+
+#[tactic(auto, using(crate::proofs::Numbered::numbered_turn))]
+fn push_points(out: &mut Vec<u8>, points: &[PointLine]) -> Result<(), NoMemory>
+    ensures { OnOk result (out.new.items ≡ out.old.items ++ spec.points_text points.now) }
+{
+    push_count(out, b"points", points.len() as u64)?;
+    for (number, point) in points.iter().enumerate() {
+        push_point(out, number as u64, point)?;
+    }
+    Ok(())
+}
+
+fn push_open(out: &mut Vec<u8>, found: &Open) -> Result<(), NoMemory>
+    ensures { OnOk result (out.new.items ≡ out.old.items ++ spec.open_line found.now) }
+{
+    push_bytes(out, b"open")?;
+    push_word(out, u64::from(found.name))?;
+    push_word(out, u64::from(found.home))?;
+    push_word(out, u64::from(found.other))?;
+    push_word(out, u64::from(found.probe))?;
+    push_bytes(out, b"\n")
+}
+
+fn push_opens(out: &mut Vec<u8>, opens: &[Open]) -> Result<(), NoMemory>
+    ensures { OnOk result (out.new.items ≡ out.old.items ++ spec.opens_text opens.now) }
+{
+    push_count(out, b"opens", opens.len() as u64)?;
+    for found in opens {
+        push_open(out, found)?;
+    }
+    Ok(())
+}
+
+fn push_pieces(out: &mut Vec<u8>, pieces: &[u32]) -> Result<(), NoMemory>
+    ensures { OnOk result (out.new.items ≡ out.old.items ++ flat_map spec.word pieces.now) }
+{
+    for piece in pieces {
+        push_word(out, u64::from(*piece))?;
+    }
+    Ok(())
+}
+
+fn push_branch(out: &mut Vec<u8>, branch: &Branch) -> Result<(), NoMemory>
+    ensures { OnOk result (out.new.items ≡ out.old.items ++ spec.branch_line branch.now) }
+{
+    push_bytes(out, b"branch")?;
+    push_word(out, u64::from(branch.name))?;
+    push_word(out, u64::from(branch.probe))?;
+    push_pieces(out, branch.pieces.as_slice())?;
+    push_bytes(out, b"\n")
+}
+
+fn push_branches(out: &mut Vec<u8>, branches: &[Branch]) -> Result<(), NoMemory>
+    ensures { OnOk result (out.new.items ≡ out.old.items ++ flat_map spec.branch_line branches.now) }
+{
+    for branch in branches {
+        push_branch(out, branch)?;
+    }
+    Ok(())
+}
+
+fn push_short(out: &mut Vec<u8>, short: &Short) -> Result<(), NoMemory>
+    ensures { OnOk result (out.new.items ≡ out.old.items ++ spec.short_lines short.now) }
+{
+    push_bytes(out, b"short")?;
+    push_word(out, u64::from(short.net))?;
+    push_word(out, short.branches.as_slice().len() as u64)?;
+    push_bytes(out, b"\n")?;
+    push_branches(out, short.branches.as_slice())
+}
+
+fn push_shorts(out: &mut Vec<u8>, shorts: &[Short]) -> Result<(), NoMemory>
+    ensures { OnOk result (out.new.items ≡ out.old.items ++ spec.shorts_text shorts.now) }
+{
+    push_count(out, b"shorts", shorts.len() as u64)?;
+    for short in shorts {
+        push_short(out, short)?;
+    }
+    Ok(())
+}
+
+fn push_bare(out: &mut Vec<u8>, bare: &[u32]) -> Result<(), NoMemory>
+    ensures { OnOk result (out.new.items ≡ out.old.items ++ spec.bare_text bare.now) }
+{
+    push_count(out, b"missing", bare.len() as u64)?;
+    for probe in bare {
+        push_bare_line(out, *probe)?;
+    }
+    Ok(())
+}
+
+fn push_bare_line(out: &mut Vec<u8>, probe: u32) -> Result<(), NoMemory>
+    ensures { OnOk result (out.new.items ≡ out.old.items ++ spec.bare_line probe) }
+{
+    push_bytes(out, b"bare")?;
+    push_word(out, u64::from(probe))?;
+    push_bytes(out, b"\n")
+}
+
+fn push_last(out: &mut Vec<u8>, v: &Verdict) -> Result<(), NoMemory>
+    ensures { OnOk result (out.new.items ≡ out.old.items ++ spec.last_line v.now.opens v.now.shorts v.now.bare) }
+{
+    if v.agrees() {
+        push_bytes(out, b"agrees\n")
+    } else {
+        push_bytes(out, b"differs\n")
+    }
+}
+
+// Appends the parts up to the points.
+fn push_tables(out: &mut Vec<u8>, v: &Verdict) -> Result<(), NoMemory>
+    ensures { OnOk result (out.new.items ≡ out.old.items ++ spec.tables_text v.now) }
+{
+    push_count(out, b"pieces", u64::from(v.pieces))?;
+    push_nets(out, v.nets.as_slice())?;
+    push_names(out, v.names.as_slice())?;
+    push_points(out, v.points.as_slice())
+}
+
+// Appends the parts behind the points.
+fn push_findings(out: &mut Vec<u8>, v: &Verdict) -> Result<(), NoMemory>
+    ensures { OnOk result (out.new.items ≡ out.old.items ++ spec.findings_text v.now) }
+{
+    push_opens(out, v.opens.as_slice())?;
+    push_shorts(out, v.shorts.as_slice())?;
+    push_bare(out, v.bare.as_slice())?;
+    push_last(out, v)
+}
+
+/// The text of a verdict.
+pub fn write_report(alloc: Global, v: &Verdict) -> Result<Vec<u8>, NoMemory>
+    ensures { IfOk result (λ text. text.items ≡ spec.report_text v.now) }
+{
+    let mut out = Vec::new(alloc);
+    push_bytes(&mut out, b"boardnet 1\n")?;
+    push_tables(&mut out, v)?;
+    push_findings(&mut out, v)?;
+    Ok(out)
+}
