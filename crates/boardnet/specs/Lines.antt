@@ -1,0 +1,43 @@
+-- The lines to the notes.
+use Rattle.std.specs.Prelude.{ℕ, List, [], ◌∷◌, Option, codes, decimal}
+use Rattle.std.specs.Fmt.{signed_decimal}
+use Rattle.std.specs.List.{concat}
+use Rattle.board_io.specs.Causes.{Rose}
+use Rattle.board_io.specs.Sink.{Gains, GainsFrontOf}
+use Rattle.contact.specs.declared.Bounds.{Bounds}
+
+-- A sink got a front of these bytes, and all of them where none of its faults rose.
+pub record Says {N : Type 0} (got : N → Option (List ℕ)) (faults : N → ℕ) (old new : N) (bytes : List ℕ) : Type 0 where
+  pub front : GainsFrontOf (got old) bytes (got new)
+  pub whole : (Rose (faults old) (faults new) → ⊥) → Gains (got old) bytes (got new)
+
+-- the name of the program begins each line
+abbrev pub begin : List ℕ
+begin = codes "boardnet: "
+
+abbrev pub end : List ℕ
+end = 10 ∷ []
+
+abbrev pub plain_line : List ℕ → List ℕ
+plain_line what = concat (begin ∷ what ∷ end ∷ [])
+
+abbrev pub file_line : List ℕ → List ℕ → List ℕ
+file_line file what = concat (begin ∷ file ∷ codes ": " ∷ what ∷ end ∷ [])
+
+-- a refusal of a copper file: the number and the name of its kind, the command and its first byte
+abbrev pub copper_line : List ℕ → ℕ → List ℕ → ℕ → ℕ → List ℕ
+copper_line file number kind command byte = concat (begin ∷ file ∷ codes ": Gerber " ∷ decimal number ∷ codes " " ∷ kind ∷ codes " at command " ∷ decimal command ∷ codes ", byte " ∷ decimal byte ∷ end ∷ [])
+
+-- a refusal of a drill file: the number and the name of its kind, the line and its first byte
+abbrev pub drill_line : List ℕ → ℕ → List ℕ → ℕ → ℕ → List ℕ
+drill_line file number kind line byte = concat (begin ∷ file ∷ codes ": drill " ∷ decimal number ∷ codes " " ∷ kind ∷ codes " at line " ∷ decimal line ∷ codes ", byte " ∷ decimal byte ∷ end ∷ [])
+
+-- a refusal of a netlist: the number and the name of its kind, and the line
+abbrev pub netlist_line : List ℕ → ℕ → List ℕ → ℕ → List ℕ
+netlist_line file number kind line = concat (begin ∷ file ∷ codes ": netlist " ∷ decimal number ∷ codes " " ∷ kind ∷ codes " at line " ∷ decimal line ∷ end ∷ [])
+
+abbrev pub differs_line : ℕ → ℕ → ℕ → List ℕ
+differs_line opens shorts missing = concat (begin ∷ codes "differs, opens " ∷ decimal opens ∷ codes ", shorts " ∷ decimal shorts ∷ codes ", missing " ∷ decimal missing ∷ end ∷ [])
+
+abbrev pub frame_line : Bounds → List ℕ
+frame_line b = concat (begin ∷ codes "frame too large: " ∷ signed_decimal b.left ∷ codes " " ∷ signed_decimal b.low ∷ codes " " ∷ signed_decimal b.right ∷ codes " " ∷ signed_decimal b.high ∷ end ∷ [])

@@ -1,0 +1,7 @@
+// boardnet: which test points does the copper of a bare board join?
+#![tactic(auto)]
+
+pub mod lines;
+pub mod words;
+
+fn main() {}
