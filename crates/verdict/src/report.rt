@@ -4,8 +4,8 @@ ghost use Rattle.std.specs.List.{flat_map};
 ghost use Rattle.verdict.specs.ReportText as spec;
 
 use crate::verdict::{Branch, Open, PointLine, Short, Tree, Twig, Verdict};
-use itoa::Buffer;
 use lengths::{NoMemory, Text};
+use numerals::Numeral;
 use std::alloc::Global;
 
 // Appends a word of text.
@@ -20,8 +20,7 @@ fn push_bytes(out: &mut Vec<u8>, bytes: &[u8]) -> Result<(), NoMemory>
 fn push_digits(out: &mut Vec<u8>, n: u64) -> Result<(), NoMemory>
     ensures { OnOk result (out.new.items ≡ out.old.items ++ decimal n) }
 {
-    let mut buffer = Buffer::new();
-    push_bytes(out, buffer.format(n).as_bytes())
+    push_bytes(out, Numeral::of(n).as_bytes())
 }
 
 // Appends a blank and a number.
