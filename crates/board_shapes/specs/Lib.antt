@@ -2,6 +2,7 @@ pub mod CommonBox
 pub mod Faults
 pub mod Figures
 pub mod Lawful
+pub mod Moved
 pub mod Pieces
 pub mod Plain
 pub mod Shapes
