@@ -13,7 +13,8 @@ ghost use Rattle.std.specs.Prelude.{IsTrue, pos, ◌<◌, ◌+◌, ◌+ℤ◌, �
 
 pub mod laws;
 
-use planar::{Frame, SIDE, Spot, segments_within};
+use planar::segments_within;
+pub use planar::{Frame, SIDE, Spot};
 use std::sync::ledger::Ledger;
 use steps::Steps;
 
@@ -131,9 +132,9 @@ pub trait Meets<T: Closed>: Closed {
 /// The places that are at most a radius away from a segment.
 #[derive(Clone, Copy)]
 pub struct Capsule {
-    a: Spot,
-    b: Spot,
-    r: i64,
+    pub a: Spot,
+    pub b: Spot,
+    pub r: i64,
     ghost start: { IsPlaced a },
     ghost end: { IsPlaced b },
     ghost radius: { IsCapsuleRadius r },
