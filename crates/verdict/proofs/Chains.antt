@@ -3,7 +3,8 @@ use Rattle.std.proofs.Common.{◌≡◌, ◌⊎◌, inl, inr, ℕ, zero, suc, �
 use Rattle.std.proofs.lemmas.List.{get_or_past}
 use Rattle.std.proofs.lemmas.List.Elements.{Contains-append_cases}
 use Rattle.verdict.specs.declared.verdict.Twig.{Twig}
-use Rattle.verdict.specs.Forest.{IsForest, IsTree, Hang, IsChain, AreJoined, Holds, pieces_of, first_piece}
+use Rattle.tables.specs.Chains.{IsChain, AreJoined}
+use Rattle.verdict.specs.Forest.{IsForest, IsTree, Hang, Holds, pieces_of, first_piece}
 
 -- a list of one has that one
 only : (x q : ℕ) → Contains (x ∷ []) q → x ≡ q

@@ -4,7 +4,8 @@ use Rattle.std.proofs.lemmas.List.Elements.{All-get_or}
 use Rattle.verdict.specs.declared.verdict.Twig.{Twig}
 use Rattle.verdict.specs.declared.verdict.PointLine.{PointLine}
 use Rattle.verdict.specs.declared.verdict.Verdict.{Verdict}
-use Rattle.verdict.specs.Forest.{IsForest, IsTree, AreJoined, Holds, net_at, first_piece}
+use Rattle.tables.specs.Chains.{AreJoined}
+use Rattle.verdict.specs.Forest.{IsForest, IsTree, Holds, net_at, first_piece}
 use Rattle.verdict.specs.Right.{AreTables, ArePointsJoined, HaveOneNet, IsOn, NetNumbersAreJoins, IsRight, Trees, Covers, Apart, Points, AreLines}
 use Rattle.tables.specs.Tables.{Tables, TestPoint, Stands, row_at}
 use Rattle.verdict.proofs.Chains.{stays, from_first, AreJoined-trans, AreJoined-back, holds_within}

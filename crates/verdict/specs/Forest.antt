@@ -57,11 +57,3 @@ pub record IsForest (count : ℕ) (near : ℕ → ℕ → Type 0) (nets : List (
   pub trees : AreTrees count near nets
   pub covers : StandOnce count nets
   pub apart : StandApart near nets
-
--- A chain from a piece through others to a last one: each is near the one before.
-abbrev pub IsChain : (ℕ → ℕ → Type 0) → ℕ → List ℕ → ℕ → Type 0
-IsChain near p [] q = p ≡ q
-IsChain near p (next ∷ rest) q = near p next × IsChain near next rest q
-
-abbrev pub AreJoined : (ℕ → ℕ → Type 0) → ℕ → ℕ → Type 0
-AreJoined near p q = (chain : List ℕ) × IsChain near p chain q

@@ -11,7 +11,8 @@ use Rattle.verdict.specs.declared.verdict.Seat.{Seat}
 use Rattle.verdict.specs.declared.verdict.Short.{Short}
 use Rattle.verdict.specs.declared.verdict.Verdict.{Verdict}
 use Rattle.tables.specs.Tables.{TestPoint, Tables, row_at, Stands}
-use Rattle.verdict.specs.Forest.{AreTrees, StandOnce, StandApart, AreJoined, Holds, first_piece}
+use Rattle.tables.specs.Chains.{AreJoined}
+use Rattle.verdict.specs.Forest.{AreTrees, StandOnce, StandApart, Holds, first_piece}
 
 -- ---- Points
 
