@@ -2,6 +2,7 @@
 #![tactic(auto)]
 
 pub mod lines;
+pub mod run;
 pub mod words;
 
 fn main() {}
