@@ -3,6 +3,7 @@
 
 pub mod board;
 mod common_box;
+pub mod laws;
 pub mod moved;
 pub mod placed;
 pub mod probe;
