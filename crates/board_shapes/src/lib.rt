@@ -3,6 +3,7 @@
 
 pub mod board;
 mod common_box;
+pub mod laws;
 pub mod moved;
 pub mod placed;
 pub mod probe;
@@ -13,3 +14,6 @@ pub use moved::MoveFault;
 pub use placed::{Origin, Piece, Placed, Room};
 pub use probe::Probe;
 pub use shape::Shape;
+
+#[cfg(test)]
+mod tests;
