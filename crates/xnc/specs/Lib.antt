@@ -1,0 +1,6 @@
+pub mod DrillFile
+pub mod History
+pub mod Kind
+pub mod Place
+pub mod Reading
+pub mod Table
