@@ -18,7 +18,7 @@ pub record Item : Type 0 where
   pub at : ℕ
 
 abbrev pub item_of : Place → PlainLine → Item
-item_of p line = record { form = form_of p line.text; at = line.at }
+item_of p line = record { form = form_of p.from p.to line.text; at = line.at }
 
 -- The items of a file: its lines, and its end, which is the last.
 abbrev pub items_with : Place → ℕ → List PlainLine → List Item

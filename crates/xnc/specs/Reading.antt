@@ -11,7 +11,6 @@ use Rattle.xnc.specs.declared.kind.DrillKind.TheVariants as kind
 use Rattle.xnc.specs.declared.form.Coordinates.{Coordinates}
 use Rattle.xnc.specs.declared.form.Form.{Form}
 use Rattle.xnc.specs.declared.form.Form.TheVariants as form
-use Rattle.xnc.specs.Place.{Place}
 
 abbrev pub is : List ℕ → List ℕ → Bool
 is text word = pointwise nat_eq text word
@@ -30,20 +29,20 @@ abbrev pub further : List ℕ → List ℕ
 further text = after_first is_comma text
 
 -- the first two fields are the span's numbers
-abbrev pub names_span : Place → List ℕ → Bool
-names_span p fields = is (field fields) (number_text p.from) && is (field (further fields)) (number_text p.to)
+abbrev pub names_span : ℕ → ℕ → List ℕ → Bool
+names_span from to fields = is (field fields) (number_text from) && is (field (further fields)) (number_text to)
 
 -- a comment on the file's function, by the fields behind its name
-unfoldable pub file_function : Place → List ℕ → Form
-file_function p fields =
+unfoldable pub file_function : ℕ → ℕ → List ℕ → Form
+file_function from to fields =
     if is (field fields) (codes "MixedPlating") then form.Misfit kind.MixedPlating
     else (if is (field fields) (codes "NonPlated") then form.Misfit kind.NotPlated
-    else (if is (field fields) (codes "Plated") then (if names_span p (further fields) then form.Blank else form.Misfit kind.WrongSpan)
+    else (if is (field fields) (codes "Plated") then (if names_span from to (further fields) then form.Blank else form.Misfit kind.WrongSpan)
     else form.Misfit kind.BadLine))
 
 -- a line that begins with a semicolon
-unfoldable pub comment : Place → List ℕ → Form
-comment p text = if begins text (codes "; #@! TF.FileFunction,") then file_function p (drop 22 text) else form.Blank
+unfoldable pub comment : ℕ → ℕ → List ℕ → Form
+comment from to text = if begins text (codes "; #@! TF.FileFunction,") then file_function from to (drop 22 text) else form.Blank
 
 -- Places: `X<decimal>`, `Y<decimal>`, or both in this order.
 abbrev pub is_y : ℕ → Bool
@@ -158,10 +157,10 @@ command text =
     else (if begins text (codes "T") then tool_line (drop 1 text)
     else body_line text))))))
 
-unfoldable pub within_blanks : Place → List ℕ → Form
-within_blanks p [] = form.Blank
-within_blanks p (c ∷ text) = if c == 59 then comment p (c ∷ text) else command (c ∷ text)
+unfoldable pub within_blanks : ℕ → ℕ → List ℕ → Form
+within_blanks from to [] = form.Blank
+within_blanks from to (c ∷ text) = if c == 59 then comment from to (c ∷ text) else command (c ∷ text)
 
--- blanks at both ends of a line mean nothing
-unfoldable pub form_of : Place → List ℕ → Form
-form_of p line = within_blanks p (trimmed line)
+-- The form of a line in a file of this span. Blanks at both ends of the line mean nothing.
+unfoldable pub form_of : ℕ → ℕ → List ℕ → Form
+form_of from to line = within_blanks from to (trimmed line)
