@@ -88,11 +88,12 @@ pub fn read_drill(
     let mut reader = Reader::new(alloc, span, file_number, room.pieces);
     loop {
         let number = reader.lines + 1;
-        let Some(line) = lines.next_line() else {
-            return finished(reader, file.len());
-        };
-        if let Err(halt) = reader.obey(&read_line(span, line.text)) {
-            return Err(fault_at(halt, number, line.at));
+        match lines.next_line() {
+            None => return finished(reader, file.len()),
+            Some(line) => match reader.obey(&read_line(span, line.text)) {
+                Ok(()) => (),
+                Err(halt) => return Err(fault_at(halt, number, line.at)),
+            },
         }
     }
 }
