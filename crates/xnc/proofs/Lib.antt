@@ -1,0 +1,6 @@
+pub mod Bridge
+pub mod LawfulAfter
+pub mod Numbers
+pub mod OneAnswer
+pub mod Outcome
+pub mod ReadSoFar
