@@ -53,10 +53,10 @@ pub record Obeys (old : Reader) (form : Form) (new : Reader) : Type 0 where
   pub clean : effect (known_of old) form ≡ Ok effect_is
   pub applied : Applies old effect_is new
 
--- the reader with one more probe
-pub record Pushes (old : Reader) (probe : Probe) (new : Reader) : Type 0 where
-  pub known : known_of new ≡ known_of old
-  pub probes : new.probes ≡ old.probes ++ probe ∷ []
+-- the reader with more probes
+pub record Pushes (old : Reader) (more : List Probe) (new : Reader) : Type 0 where
+  pub is : new ≡ record old { probes = new.probes }
+  pub probes : new.probes ≡ old.probes ++ more
 
 pub record IsLawfulReader (r : Reader) : Type 0 where
   pub records : r.records ≤ 200000

@@ -7,7 +7,7 @@ use Rattle.texts.specs.Digits.{is_decimal_digit}
 use Rattle.lengths.specs.declared.decimal.Unit.{Unit as Measure}
 use Rattle.lengths.specs.declared.decimal.Unit.TheVariants.{Mm, Inch}
 use Rattle.ipc356_records.specs.declared.form.Coordinate.{Coordinate}
-use Rattle.ipc356_records.specs.Columns.{is_blank, is_empty, part, columns, column, without_front, trimmed, words}
+use Rattle.ipc356_records.specs.Columns.{is_blank, part, columns, column, without_front, trimmed, words}
 use Rattle.ipc356_records.specs.Form.{Form, TestFields, blank, unread, units, ends, continues, tests, unknown}
 
 abbrev pub is : List ℕ → List ℕ → Bool
@@ -26,11 +26,14 @@ unfoldable pub name_of : List ℕ → Option (List ℕ)
 name_of [] = Some (codes "N/C")
 name_of (b ∷ name) = if list_all is_graphic (b ∷ name) then Some (b ∷ name) else None
 
+-- one digit or more
+unfoldable pub digits_in : List ℕ → Option ℕ
+digits_in [] = None
+digits_in (b ∷ digits) = if list_all is_decimal_digit (b ∷ digits) then Some (digits_value 10 (b ∷ digits)) else None
+
 -- the number that columns hold: leading blanks are zeros, and at least one digit stands
-unfoldable pub number_of : List ℕ → Option ℕ
-number_of text =
-    if is_empty (without_front text) || not (list_all is_decimal_digit (without_front text)) then None
-    else Some (digits_value 10 (without_front text))
+abbrev pub number_of : List ℕ → Option ℕ
+number_of text = digits_in (without_front text)
 
 -- the letter `A`, and two columns with a number
 unfoldable pub access_in : List ℕ → Option ℕ

@@ -105,12 +105,12 @@ layers_of layers access =
     if access == 0 then (if layers == 1 then 1 ∷ [] else 1 ∷ layers ∷ []) else access ∷ []
 
 -- the probe of a test record on a layer
-abbrev pub probe_on : Known → List ℕ → Spot → ℕ → Probe
-probe_on k name at layer = record { number = k.records + 1; at = at; layer = layer; name = index_of name k.names }
+abbrev pub probe_at : ℕ → ℕ → Spot → ℕ → Probe
+probe_at number name at layer = record { number = number; at = at; layer = layer; name = name }
 
--- the probes that an effect makes
+-- the probes that an effect makes: their record is the number of the test record among all
 unfoldable pub probes_of_effect : Known → Effect → List Probe
 probes_of_effect k stays = []
 probes_of_effect k (sets unit) = []
 probes_of_effect k closes = []
-probes_of_effect k (probes name access at) = map (probe_on k name at) (layers_of k.layers access)
+probes_of_effect k (probes name access at) = map (probe_at (k.records + 1) (index_of name k.names) at) (layers_of k.layers access)

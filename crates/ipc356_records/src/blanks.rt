@@ -13,7 +13,8 @@ pub fn is_blank(byte: u8) -> bool
 
 /// A text without the blanks at its start.
 pub fn without_front(text: &[u8]) -> &[u8]
-    ensures { result.now ≡ spec.without_front text.now }
+    ensures value { result.now ≡ spec.without_front text.now }
+    ensures within { length result.now ≤ length text.now }
 {
     let mut text = text;
     while let [first, rest @ ..] = text {
@@ -27,7 +28,8 @@ pub fn without_front(text: &[u8]) -> &[u8]
 
 // A text without the blanks at its end.
 fn without_end(text: &[u8]) -> &[u8]
-    ensures { result.now ≡ spec.without_end text.now }
+    ensures value { result.now ≡ spec.without_end text.now }
+    ensures within { length result.now ≤ length text.now }
 {
     let mut text = text;
     while let [rest @ .., last] = text {
@@ -42,7 +44,8 @@ fn without_end(text: &[u8]) -> &[u8]
 /// A text without the blanks at either end.
 #[tactic(auto, unfolding(crate::specs::Columns::trimmed))]
 pub fn trimmed(text: &[u8]) -> &[u8]
-    ensures { result.now ≡ spec.trimmed text.now }
+    ensures value { result.now ≡ spec.trimmed text.now }
+    ensures within { length result.now ≤ length text.now }
 {
     without_end(without_front(text))
 }

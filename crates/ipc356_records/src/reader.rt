@@ -19,11 +19,11 @@ pub struct Reader<'a> {
 }
 
 impl<'a> Reader<'a> {
-    ghost use Rattle.std.specs.Prelude.{◌≡◌, ◌+◌, ◌^◌, ◌<◌, ◌≤◌, length, IfOk, IfErr, OnOk};
+    ghost use Rattle.std.specs.Prelude.{◌≡◌, ◌+◌, ◌^◌, ◌<◌, ◌≤◌, ◌∷◌, [], length, map, IfOk, IfErr, OnOk};
     ghost use Rattle.ipc356_records.specs.Form.{view};
     ghost use Rattle.ipc356_records.specs.Lawful.{IsLawfulForm};
     ghost use Rattle.ipc356_records.specs.Reader.{Applies, Halts, IsFit, IsLawfulReader, IsNew, Obeys, Pushes, known_of, shown};
-    ghost use Rattle.ipc356_records.specs.Table.{probes};
+    ghost use Rattle.ipc356_records.specs.Table.{layers_of, probe_at, probes};
 
     pub fn new(alloc: Global, layers: u8) -> Reader<'a>
         requires { 1 ≤ layers }
@@ -42,7 +42,7 @@ impl<'a> Reader<'a> {
 
     // Adds the probe of a test record on a layer.
     fn push(&mut self, number: u32, at: Spot, layer: u8, name: u32) -> Result<(), NoMemory>
-        ensures ok { OnOk result (Pushes self.old (record { number = number; at = at; layer = layer; name = name }) self.new) }
+        ensures ok { OnOk result (Pushes self.old (probe_at number name at layer ∷ []) self.new) }
     {
         self.probes.push(Probe {
             number,
@@ -52,7 +52,22 @@ impl<'a> Reader<'a> {
         })
     }
 
-    // Adds the probes of a test record. An `Err` leaves a reader that is of no more use.
+    // Adds the probes of a test record.
+    fn push_all(&mut self, number: u32, at: Spot, access: u8, name: u32) -> Result<(), NoMemory>
+        ensures ok { OnOk result (Pushes self.old (map (probe_at number name at) (layers_of self.old.layers access)) self.new) }
+    {
+        if access > 0 {
+            return self.push(number, at, access, name);
+        }
+        self.push(number, at, 1, name)?;
+        if self.layers == 1 {
+            return Ok(());
+        }
+        self.push(number, at, self.layers, name)
+    }
+
+    // Adds a test record. An `Err` leaves a reader that is of no more use.
+    #[tactic(auto, unfolding(crate::specs::Table::probes_of_effect))]
     fn add(&mut self, name: &'a [u8], access: u32, at: Spot) -> Result<(), NoMemory>
         requires lawful { IsLawfulReader self.old }
         requires fit { IsFit self.old (probes name.now access at) }
@@ -62,17 +77,11 @@ impl<'a> Reader<'a> {
         let name = self.names.number(name)?;
         let number = self.records + 1;
         self.records = number;
-        if access > 0 {
-            return self.push(number, at, access as u8, name);
-        }
-        self.push(number, at, 1, name)?;
-        if self.layers > 1 {
-            self.push(number, at, self.layers, name)?;
-        }
-        Ok(())
+        self.push_all(number, at, access as u8, name)
     }
 
     // Takes an effect on. An `Err` leaves a reader that is of no more use.
+    #[tactic(auto, unfolding(crate::specs::Table::probes_of_effect))]
     fn apply(&mut self, effect: Effect<'a>) -> Result<(), NoMemory>
         requires lawful { IsLawfulReader self.old }
         requires fit { IsFit self.old (shown effect) }

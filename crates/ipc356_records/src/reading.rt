@@ -61,6 +61,21 @@ fn name_of(name: &[u8]) -> Option<&[u8]>
     if all_graphic(name) { Some(name) } else { None }
 }
 
+#[tactic(auto, unfolding(crate::specs::Reading::digits_in))]
+fn digits_in(digits: &[u8]) -> Option<u32>
+    requires { length digits.now ≤ 6 }
+    ensures { result ≡ spec.digits_in digits.now }
+{
+    if digits.is_empty() {
+        return None;
+    }
+    if all_digits(digits) {
+        Some(digits_value(0, digits) as u32)
+    } else {
+        None
+    }
+}
+
 // The number in so many columns.
 fn number_of(text: &[u8], width: usize) -> Option<u32>
     requires width { width ≤ 6 }
@@ -70,11 +85,7 @@ fn number_of(text: &[u8], width: usize) -> Option<u32>
     if text.len() < width {
         return None;
     }
-    let digits = without_front(text);
-    if digits.is_empty() || !all_digits(digits) {
-        return None;
-    }
-    Some(digits_value(0, digits) as u32)
+    digits_in(without_front(text))
 }
 
 #[tactic(auto, unfolding(crate::specs::Reading::access_in))]

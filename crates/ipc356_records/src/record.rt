@@ -1,5 +1,5 @@
 // The lines of a netlist and their columns.
-ghost use Rattle.std.specs.Prelude.{◌≡◌, ◌≤◌, length};
+ghost use Rattle.std.specs.Prelude.{◌≡◌, ◌+◌, ◌-◌, ◌≤◌, length};
 ghost use Rattle.text_lines.specs.Lines.{start};
 ghost use Rattle.ipc356_records.specs.Columns.{part, trimmed};
 
@@ -19,6 +19,7 @@ impl<'a> Record<'a> {
         requires from_one { 1 ≤ first }
         requires in_order { first ≤ last }
         ensures part { result.now ≡ part first last self.now.text.now }
+        ensures within { length result.now ≤ last + 1 - first }
     {
         let end = last.min(self.text.len());
         let start = (first - 1).min(end);
@@ -28,6 +29,7 @@ impl<'a> Record<'a> {
     /// The net name in columns 4 to 17, without the blanks at either end.
     pub fn net(&self) -> &'a [u8]
         ensures name { result.now ≡ trimmed (part 4 17 self.now.text.now) }
+        ensures short { length result.now ≤ 14 }
     {
         trimmed(self.columns(4, 17))
     }

@@ -5,6 +5,7 @@ ghost use Rattle.std.specs.Option.{option_copied};
 ghost use Rattle.ipc356_records.specs.Form.{view, view_fields};
 ghost use Rattle.ipc356_records.specs.Lawful.{IsLawfulForm, IsName};
 ghost use Rattle.ipc356_records.specs.Reader.{IsFit, known_of, shown, showing};
+ghost use Rattle.ipc356_records.specs.declared.reader.Reader.{Reader};
 ghost use Rattle.ipc356_records.specs.Table as spec;
 ghost use Rattle.ipc356_records.specs.Table.{stays};
 
@@ -64,6 +65,7 @@ fn needed<T>(why: RecordKind, value: Option<T>) -> Result<T, RecordKind>
 #[tactic(auto, unfolding(crate::specs::Table::set_unit))]
 fn set_unit<'a>(before: Option<Unit>, unit: Option<Unit>) -> Result<Effect<'a>, RecordKind>
     ensures value { showing result ≡ spec.set_unit before unit }
+    ensures fit { (r : Reader) → IfOk result (λ e. IsFit r (shown e)) }
 {
     match unit {
         None => Err(RecordKind::BadUnits),
