@@ -1,0 +1,6 @@
+mod BlankLemmas
+mod NumberLemmas
+mod WordLemmas
+mod NameLemmas
+mod Outcome
+mod Bridge
