@@ -1,0 +1,57 @@
+// Files of the system, and packages and sinks in memory whose calls fail.
+use super::*;
+use std::alloc::Global;
+use std::fs;
+use std::test::Fail;
+
+#[test]
+fn files_of_the_system(rt: HostRuntime) -> Result<(), Fail> {
+    let mut into = Vec::new(rt.alloc());
+    let mut sink = StreamSink::new(fs::create(&rt, "board_io_row.txt")?);
+    assert_eq!(rt; sink.put(b"four"), Put::Done);
+    let mut package = FolderPackage::new(rt);
+    assert_eq!(rt; package.take("board_io_row.txt", 4, &mut into), Take::Whole);
+    assert_eq!(rt; into.as_slice(), b"four".as_slice());
+    assert_eq!(rt;
+        package.take("board_io_row.txt", 3, &mut into),
+        Take::Longer
+    );
+    assert_eq!(rt;
+        package.take("board_io_none.txt", 4, &mut into),
+        Take::Failed
+    );
+    assert!(rt; into.is_empty());
+    Ok(())
+}
+
+#[test]
+fn memory_that_fails(rt: HostRuntime) -> Result<(), Fail> {
+    let alloc = rt.alloc();
+    let mut into = Vec::new(alloc);
+    let mut package = MemoryPackage::new(alloc);
+    package.hold("a", b"four")?;
+    package.fail_at(2)?;
+    let answers = [
+        ("a", 3, Take::Longer),
+        ("a", 4, Take::Whole),
+        ("a", 4, Take::Failed),
+        ("b", 4, Take::Failed),
+    ];
+    for (name, most, want) in &answers {
+        assert_eq!(rt; package.take(*name, *most, &mut into), *want);
+    }
+    assert_eq!(rt; package.calls(), 4);
+
+    let mut sink = MemorySink::new(alloc, 12)?;
+    sink.fail_at(1, 3)?;
+    let puts = [
+        (b"board".as_slice(), Put::Done),
+        (b"netting".as_slice(), Put::Failed),
+        (b"lists".as_slice(), Put::Failed),
+    ];
+    for (piece, want) in &puts {
+        assert_eq!(rt; sink.put(*piece), *want);
+    }
+    assert_eq!(rt; sink.bytes(), b"boardnetlist".as_slice());
+    Ok(())
+}
