@@ -1,20 +1,19 @@
 -- A list of the pieces near one, made by looking at each.
-use Rattle.std.proofs.Common.{◌≡◌, inl, inr, ℕ, ◌+◌, ◌<◌, List, [], ◌∷◌, ◌++◌, length, get_or, Contains, All, sym, subst, arith, length-append}
+use Rattle.std.proofs.Common.{◌≡◌, inl, inr, ℕ, ◌+◌, ◌<◌, ◌≤◌, List, [], ◌∷◌, ◌++◌, length, get_or, Contains, sym, subst, arith, length-append}
 use Rattle.std.proofs.lemmas.List.{get_or_append_left, get_or_at}
 use Rattle.std.proofs.lemmas.List.Elements.{Contains-get_or, Contains-push, Contains-push_cases, Contains-append_left}
 use Rattle.std.proofs.lemmas.Bool.{cases_eq}
 use Rattle.std.specs.List.Sorted.{IsStrictlyIncreasing}
 use Rattle.tables.specs.Lists.{Lists}
-use Rattle.all_pairs.specs.Pairs.{Near}
 
-pub record IsListing (size : ℕ) (near : ℕ → ℕ → Type 0) (i q : ℕ) (xs : List ℕ) : Type 0 where
+pub record IsListing (near : ℕ → ℕ → Type 0) (i q : ℕ) (xs : List ℕ) : Type 0 where
   pub rising : IsStrictlyIncreasing xs
   pub below : (x : ℕ) → Contains xs x → x < q
   pub only : (x : ℕ) → Contains xs x → near i x
   pub all : (x : ℕ) → x < q → near i x → Contains xs x
 
-pub listing_start : (size : ℕ) (near : ℕ → ℕ → Type 0) (i : ℕ) → IsListing size near i 0 []
-listing_start size near i = record {
+pub listing_start : (near : ℕ → ℕ → Type 0) (i : ℕ) → IsListing near i 0 []
+listing_start near i = record {
   rising = λ k h. absurd (omega arith);
   below = λ x h. (let b = h.1 in absurd (omega arith));
   only = λ x h. (let b = h.1 in absurd (omega arith));
@@ -30,8 +29,8 @@ rising_push xs y rising below k h =
       | inr other ↦ (let there = get_or_append_left xs (y ∷ []) 0 (k + 1) (omega arith) in let r = rising k (omega arith) in omega arith)
     ]
 
-pub listing_more : (size : ℕ) (near : ℕ → ℕ → Type 0) (i q : ℕ) (xs : List ℕ) → IsListing size near i q xs → near i q → IsListing size near i (q + 1) (xs ++ q ∷ [])
-listing_more size near i q xs l touch = record {
+pub listing_more : (near : ℕ → ℕ → Type 0) (i q : ℕ) (xs : List ℕ) → IsListing near i q xs → near i q → IsListing near i (q + 1) (xs ++ q ∷ [])
+listing_more near i q xs l touch = record {
   rising = rising_push xs q l.rising l.below;
   below = λ x h. elim (Contains-push_cases xs q x h) [ inl old ↦ (let b = l.below x old in omega arith) | inr same ↦ omega arith ];
   only = λ x h. elim (Contains-push_cases xs q x h) [ inl old ↦ l.only x old | inr same ↦ subst (λ (y : ℕ). near i y) same touch ];
@@ -41,20 +40,13 @@ listing_more size near i q xs l touch = record {
   ];
 }
 
-pub listing_skip : (size : ℕ) (near : ℕ → ℕ → Type 0) (i q : ℕ) (xs : List ℕ) → IsListing size near i q xs → (near i q → ⊥) → IsListing size near i (q + 1) xs
-listing_skip size near i q xs l not = record {
+pub listing_skip : (near : ℕ → ℕ → Type 0) (i q : ℕ) (xs : List ℕ) → IsListing near i q xs → (near i q → ⊥) → IsListing near i (q + 1) xs
+listing_skip near i q xs l not = record {
   rising = l.rising;
   below = λ x h. (let b = l.below x h in omega arith);
   only = l.only;
   all = λ x h t. elim (cases_eq x q) [ inl same ↦ absurd (not (subst (λ (y : ℕ). near i y) same t)) | inr other ↦ l.all x (omega arith) t ];
 }
 
-pub listing_pieces : (size : ℕ) (near : ℕ → ℕ → Type 0) (i q : ℕ) (xs : List ℕ) → IsListing size near i q xs → q ≡ size → All (λ x. x < size) xs
-listing_pieces size near i q xs l all k d h = let b = l.below (get_or xs k d) (Contains-get_or xs k d h) in omega arith
-
-pub listing_all : (size : ℕ) (near : ℕ → ℕ → Type 0) (i q : ℕ) (xs : List ℕ) → IsListing size near i q xs → q ≡ size → i < size → Lists (Near size near i) xs
-listing_all size near i q xs l all within = record {
-  rising = l.rising;
-  only = λ x h. record { first = within; second = (let b = l.below x h in omega arith); touch = l.only x h };
-  all = λ x h. l.all x (let b = h.second in omega arith) h.touch;
-}
+pub listing_all : (size : ℕ) (near : ℕ → ℕ → Type 0) (i q : ℕ) (xs : List ℕ) → IsListing near i q xs → size ≤ q → ((x : ℕ) → near i x → x < size) → Lists (near i) xs
+listing_all size near i q xs l all below = record { rising = l.rising; only = l.only; all = λ x h. l.all x (let b = below x h in omega arith) h }
