@@ -1,7 +1,7 @@
 -- Which of the items of a list touch, and which are under a spot. `holds` says which points lie in a shape.
 use Rattle.std.specs.Prelude.{◌≡◌, ℕ, ◌≤◌, pos, List, Some, None, Option, slice_get}
 use Rattle.std.proofs.Common.{arith}
-use Rattle.board_shapes.specs.Touching.{CommonLayer}
+use Rattle.board_shapes.specs.Spans.{CommonLayer, InSpan}
 use Rattle.board_shapes.specs.declared.placed.Placed.{Placed}
 use Rattle.contact.specs.Solid.{SharePoint}
 use Rattle.contact.specs.declared.Bounds.{Bounds}
@@ -27,8 +27,7 @@ turned holds items p q t = record { first = t.second; second = t.first; here = t
 pub record UnderAmong {A : Type 0} (holds : A → Point → Type 0) (items : List (Placed A)) (spot : Spot) (layer p : ℕ) : Type 0 where
   pub item : Placed A
   pub there : slice_get items p ≡ Some item
-  pub not_above : item.top ≤ layer
-  pub not_below : layer ≤ item.bottom
+  pub in_span : InSpan item.top item.bottom layer
   pub inside : holds item.shape (at spot)
 
 -- the box and the span of an item, and some of what is past the end of a list

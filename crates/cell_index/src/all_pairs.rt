@@ -2,7 +2,7 @@
 ghost use Rattle.cell_index.specs.Among.{TouchAmong, UnderAmong, bottom_in, extent_in, top_in, turned};
 ghost use Rattle.cell_index.specs.Field.{IsNear, is_rival};
 ghost use Rattle.contact.specs.Solid.{IsInside};
-ghost use Rattle.planar.specs.Plane.{IsPlaced, at};
+ghost use Rattle.planar.specs.Plane.{IsPlaced};
 ghost use Rattle.planar.specs.declared.Spot.{Spot};
 ghost use Rattle.std.specs.Prelude.{◌≡◌, ℕ, ◌+◌, ◌<◌, ◌≤◌, ◌^◌, ◌↔◌, if◌then◌else◌, IsTrue, All, length};
 
@@ -47,12 +47,12 @@ impl<'a, S: Meets<S>> AllPairs<'a, S> {
     }
 
     // Whether the piece is under the spot on the layer.
-    fn has_under(&self, p: usize, spot: Spot, layer: u8) -> bool
+    fn is_under(&self, p: usize, spot: Spot, layer: u8) -> bool
         requires piece { p < length self.now.items.now }
         requires placed { IsPlaced spot }
         ensures { IsTrue result ↔ UnderAmong S.holds self.now.items.now spot layer p }
     {
-        is_under(&self.items[p], spot, layer, self.frame)
+        self.items[p].under(spot, layer, self.frame)
     }
 }
 
@@ -94,19 +94,10 @@ impl<'a, S: Meets<S>> Field for AllPairs<'a, S> {
 
     fn least_at(&self, at: Spot, layer: u8) -> Option<u32> {
         for q in 0..self.items.len() {
-            if self.has_under(q, at, layer) {
+            if self.is_under(q, at, layer) {
                 return Some(q as u32);
             }
         }
         None
     }
-}
-
-// Whether the layer is in the span and the spot in the solid.
-fn is_under<S: Meets<S>>(piece: &Placed<S>, spot: Spot, layer: u8, frame: Frame) -> bool
-    requires inside { IsInside (S.extent piece.now.shape) frame }
-    requires placed { IsPlaced spot }
-    ensures { IsTrue result ↔ ((piece.now.top ≤ layer) × (layer ≤ piece.now.bottom) × S.holds piece.now.shape (at spot)) }
-{
-    piece.top <= layer && layer <= piece.bottom && piece.shape.has(spot, frame)
 }
