@@ -1,11 +1,10 @@
--- The pieces at which the points of a board begin.
-use Rattle.std.specs.Prelude.{ℕ, List, [], ◌∷◌, Option}
-use Rattle.tables.specs.Lists.{IsLeast}
-use Rattle.cell_index.specs.declared.field.Spot.{Spot}
-use Rattle.cell_index.specs.declared.field.Probe.{Probe}
+-- The pieces under the test points of a board.
+use Rattle.std.specs.Prelude.{◌≡◌, ℕ, List, Some, slice_get}
+use Rattle.board_shapes.specs.declared.probe.Probe.{Probe}
+use Rattle.planar.specs.declared.Spot.{Spot}
 
--- One home for each probe: the least piece under it.
-abbrev pub AreHomes : (Spot → ℕ → ℕ → Type 0) → List Probe → List (Option ℕ) → Type 0
-AreHomes under [] [] = Unit {0}
-AreHomes under (p ∷ probes) (home ∷ homes) = IsLeast (under p.at p.layer) home × AreHomes under probes homes
-AreHomes under probes homes = ⊥
+-- The piece is under probe k of the list.
+pub record UnderProbe (under : Spot → ℕ → ℕ → Type 0) (probes : List Probe) (k piece : ℕ) : Type 0 where
+  pub probe : Probe
+  pub probe_is : slice_get probes k ≡ Some probe
+  pub is_under : under probe.at probe.layer piece

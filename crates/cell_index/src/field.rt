@@ -1,50 +1,48 @@
-// What a search of nets asks of a board, with no word of shapes.
-ghost use Rattle.std.specs.Prelude.{◌≡◌, ℕ, ℤ, ◌+◌, ◌<◌, ◌≤◌, ◌^◌, All, OnOk, IfSome};
+// What a search of nets asks of pieces, with no word of shapes.
+ghost use Rattle.cell_index.specs.Field.{IsNear, rivals_of};
+ghost use Rattle.contact.specs.declared.Bounds.{Bounds};
+ghost use Rattle.planar.specs.Plane.{IsPlaced};
+ghost use Rattle.planar.specs.declared.Spot.{Spot};
+ghost use Rattle.std.specs.Prelude.{◌≡◌, ℕ, ◌+◌, ◌<◌, ◌≤◌, ◌^◌, OnOk, IfSome};
 ghost use Rattle.tables.specs.Lists.{Lists, IsLeast};
-ghost use Rattle.cell_index.specs.declared.field.Spot.{Spot};
 
 use lengths::NoMemory;
+use planar::Spot;
 use std::sync::ledger::Ledger;
 use steps::Steps;
 
-/// A place on the board.
-#[derive(Clone, Copy, Debug, PartialEq, Eq)]
-pub struct Spot {
-    pub x: i64,
-    pub y: i64,
-}
-
-/// A test point of a board.
-#[derive(Clone, Copy, Debug, PartialEq, Eq)]
-pub struct Probe {
-    pub number: u32,
-    pub at: Spot,
-    pub layer: u8,
-    pub name: u32,
-}
-
-/// Pieces by their numbers.
+/// Pieces by their numbers, from 0.
 pub trait Field {
+    /// How many pieces there are.
     ghost size: { Self → ℕ };
 
-    // The second is another piece, which touches the first.
-    ghost near: { Self → ℕ → ℕ → Type 0 };
+    /// The box of each piece.
+    ghost extent: { Self → ℕ → Bounds };
 
-    // how many other pieces have a box and a span that meet those of this one
-    ghost rivals: { Self → ℕ → ℕ };
+    /// The first layer of each piece.
+    ghost top: { Self → ℕ → ℕ };
 
-    // The last is a piece under the spot on the layer.
+    /// The last layer of each piece.
+    ghost bottom: { Self → ℕ → ℕ };
+
+    /// The two pieces touch.
+    ghost touch: { Self → ℕ → ℕ → Type 0 };
+
+    /// The last is a piece under the spot on the layer.
     ghost beneath: { Self → Spot → ℕ → ℕ → Type 0 };
 
+    /// The field keeps the invariant of its type.
     ghost is_lawful: { Self → Type 0 };
 
-    /// How many pieces there are.
+    /// How many pieces there are, which is below 2^32. The field is lawful.
     fn count(&self) -> usize
         ensures value { result ≡ size self.now }
         ensures few { size self.now < 2 ^ 32 }
         ensures lawful { is_lawful self.now };
 
-    /// The numbers of the other pieces that touch piece i, rising.
+    /// Puts into `into` the numbers of the other pieces that touch piece i, once each, rising. After a refusal `into`
+    /// holds anything. One tick of `tests` is one contact test: there is at most one for each other piece whose box
+    /// meets that of i and whose span has a common layer with that of i.
     fn neighbours<L: Ledger>(
         &self,
         i: usize,
@@ -52,14 +50,14 @@ pub trait Field {
         tests: &mut Steps<L>,
     ) -> Result<(), NoMemory>
         requires { i < size self.now }
-        ensures pieces { OnOk result (All (λ q. q < size self.now) into.new.items) }
-        ensures near { OnOk result (Lists (near self.now i) into.new.items) }
-        ensures ticks { tests.new ≤ tests.old + rivals self.now i };
+        ensures near { OnOk result (Lists (IsNear (size self.now) (touch self.now) i) into.new.items) }
+        ensures ticks { tests.new ≤ tests.old + rivals_of (size self.now) (extent self.now) (top self.now) (bottom self.now) i };
 
-    /// The least piece under a spot on a layer.
+    /// The least piece under a spot on a layer, or none where there is none. The spot lies within 1 m. No memory.
     fn least_at(&self, at: Spot, layer: u8) -> Option<u32>
+        requires { IsPlaced at }
         ensures least { IsLeast (beneath self.now at layer) result }
         ensures piece { IfSome result (λ p. p < size self.now) };
 
-    ghost symmetric: { (field : Self) (p q : ℕ) → is_lawful field → near field p q → near field q p };
+    ghost symmetric: { (field : Self) (p q : ℕ) → is_lawful field → touch field p q → touch field q p };
 }

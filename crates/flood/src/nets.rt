@@ -1,6 +1,6 @@
 // Nets, each breadth first from its least piece.
 ghost use Rattle.std.specs.Prelude.{◌≡◌, ◌⊎◌, ℕ, ◌+◌, ◌<◌, ◌≤◌, ◌^◌, Bool, List, [], ◌∷◌, ◌++◌, length, Contains, OnOk, IfOk};
-ghost use Rattle.cell_index.specs.Field.{sum_below};
+ghost use Rattle.cell_index.specs.Field.{IsNear, rivals_of, sum_below};
 ghost use Rattle.verdict.specs.Forest.{IsForest, pieces_of};
 ghost use Rattle.verdict.specs.declared.verdict.Twig.{Twig};
 ghost use Rattle.flood.specs.Flood.{IsSeen, unseen, weight, IsGrown, IsWhole};
@@ -18,8 +18,8 @@ pub fn flood<F: Field, L: Ledger>(
     field: &F,
     tests: &mut Steps<L>,
 ) -> Result<Trees, NoMemory>
-    ensures nets { IfOk result (IsForest (F.size field.now) (F.near field.now)) }
-    ensures ticks { tests.new ≤ tests.old + sum_below (F.rivals field.now) (F.size field.now) }
+    ensures nets { IfOk result (IsForest (F.size field.now) (IsNear (F.size field.now) (F.touch field.now))) }
+    ensures ticks { tests.new ≤ tests.old + sum_below (rivals_of (F.size field.now) (F.extent field.now) (F.top field.now) (F.bottom field.now)) (F.size field.now) }
 {
     let count = field.count();
     let mut flags = vec![in alloc; false; count]?;
@@ -49,9 +49,9 @@ fn net_from<F: Field, L: Ledger>(
     requires first { first < F.size field.now }
     requires fresh { IsSeen seen.old first → ⊥ }
     requires below { (q : ℕ) → q < first → IsSeen seen.old q }
-    ensures whole { IfOk result (λ net. IsWhole (F.near field.now) seen.old first net seen.new) }
+    ensures whole { IfOk result (λ net. IsWhole (IsNear (F.size field.now) (F.touch field.now)) seen.old first net seen.new) }
     ensures kept { IfOk result (λ net. (w : ℕ → ℕ) → unseen w 0 seen.new + weight w net ≡ unseen w 0 seen.old) }
-    ensures ticks { tests.new + unseen (F.rivals field.now) 0 seen.new ≤ tests.old + unseen (F.rivals field.now) 0 seen.old }
+    ensures ticks { tests.new + unseen (rivals_of (F.size field.now) (F.extent field.now) (F.top field.now) (F.bottom field.now)) 0 seen.new ≤ tests.old + unseen (rivals_of (F.size field.now) (F.extent field.now) (F.top field.now) (F.bottom field.now)) 0 seen.old }
 {
     let mut net = Rows::new(alloc);
     seen[first] = true;
@@ -80,13 +80,13 @@ fn spread<F: Field, L: Ledger>(
     requires flags { length seen.old ≡ F.size field.now }
     requires piece { piece < F.size field.now }
     requires inside { Contains (pieces_of net.old) piece }
-    ensures grown { OnOk result ((base : List Bool) (first : ℕ) → IsGrown (F.near field.now) base first net.old seen.old → IsGrown (F.near field.now) base first net.new seen.new) }
+    ensures grown { OnOk result ((base : List Bool) (first : ℕ) → IsGrown (IsNear (F.size field.now) (F.touch field.now)) base first net.old seen.old → IsGrown (IsNear (F.size field.now) (F.touch field.now)) base first net.new seen.new) }
     ensures more { OnOk result ((more : List Twig) × (net.new ≡ net.old ++ more)) }
     ensures stays { OnOk result ((q : ℕ) → IsSeen seen.old q → IsSeen seen.new q) }
-    ensures all { OnOk result ((q : ℕ) → F.near field.now piece q → IsSeen seen.new q) }
+    ensures all { OnOk result ((q : ℕ) → IsNear (F.size field.now) (F.touch field.now) piece q → IsSeen seen.new q) }
     ensures kept { OnOk result ((w : ℕ → ℕ) → unseen w 0 seen.new + weight w net.new ≡ unseen w 0 seen.old + weight w net.old) }
     ensures fewer { (w : ℕ → ℕ) → unseen w 0 seen.new ≤ unseen w 0 seen.old }
-    ensures ticks { tests.new ≤ tests.old + F.rivals field.now piece }
+    ensures ticks { tests.new ≤ tests.old + rivals_of (F.size field.now) (F.extent field.now) (F.top field.now) (F.bottom field.now) piece }
 {
     field.neighbours(piece as usize, row, tests)?;
     for &other in row.as_slice() {

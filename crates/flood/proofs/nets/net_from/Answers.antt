@@ -1,21 +1,22 @@
 use Rattle.std.proofs.Common.{◌≡◌, ℕ, List, length, arith, Contains, get_or, subst, sym, ap, None}
 use Rattle.verdict.specs.declared.verdict.Twig.{Twig}
 use Rattle.verdict.specs.Forest.{pieces_of}
+use Rattle.cell_index.specs.Field.{IsNear, rivals_of}
 use Rattle.flood.proofs.Seen.{unseen-set}
 use Rattle.flood.proofs.Net.{asked_start, asked_step, asked_all, asked_ticks, failed_ticks, net_short, piece_inside, piece_below}
 use Rattle.flood.proofs.nets.net_from.Goals as goal
 
 pub returns-in_err-push-clause-ticks : goal.returns-in_err-push-clause-ticks
 returns-in_err-push-clause-ticks g c =
-    let e = unseen-set (g.F.Field.rivals c.args.field.now) 0 c.args.seen.now c.args.first (omega arith) c.requires.fresh in omega arith
+    let e = unseen-set (rivals_of (g.F.Field.size c.args.field.now) (g.F.Field.extent c.args.field.now) (g.F.Field.top c.args.field.now) (g.F.Field.bottom c.args.field.now)) 0 c.args.seen.now c.args.first (omega arith) c.requires.fresh in omega arith
 
 pub loop-at-init : goal.loop-at-init
 loop-at-init g c =
-    rw (c.in_ok-push.ensures.ok, c.new-net.ensures) (asked_start (g.F.Field.near c.args.field.now) (g.F.Field.rivals c.args.field.now) c.args.seen.now c.args.first c.args.tests.now (omega arith) c.requires.fresh c.requires.below)
+    rw (c.in_ok-push.ensures.ok, c.new-net.ensures) (asked_start (IsNear (g.F.Field.size c.args.field.now) (g.F.Field.touch c.args.field.now)) (rivals_of (g.F.Field.size c.args.field.now) (g.F.Field.extent c.args.field.now) (g.F.Field.top c.args.field.now) (g.F.Field.bottom c.args.field.now)) c.args.seen.now c.args.first c.args.tests.now (omega arith) c.requires.fresh c.requires.below)
 
 pub spread-requires-clause-piece : goal.spread-requires-clause-piece
 spread-requires-clause-piece g c =
-    let near : ℕ → ℕ → Type 0 = g.F.Field.near c.args.field.now in
+    let near : ℕ → ℕ → Type 0 = IsNear (g.F.Field.size c.args.field.now) (g.F.Field.touch c.args.field.now) in
     let d : Twig = record { piece = 0; parent = None } in
     let inside = piece_inside c.loop-at.net c.loop-at.at (omega (arith, ap length c.as_slice.ensures)) in
     let below = piece_below near c.args.seen.now c.args.first c.loop-at.net c.loop-at.seen (get_or c.loop-at.net c.loop-at.at d).piece c.loop-at.invariant.grown inside in
@@ -31,8 +32,8 @@ spread-requires-clause-inside g c =
 pub returns-in_err-spread-clause-ticks : goal.returns-in_err-spread-clause-ticks
 returns-in_err-spread-clause-ticks g c =
     let d : Twig = record { piece = 0; parent = None } in
-    failed_ticks _ (g.F.Field.rivals c.args.field.now) _ _ _ c.loop-at.net c.loop-at.seen c.spread.new.seen c.loop-at.at _ _ _ c.loop-at.invariant (omega (arith, ap length c.as_slice.ensures))
-    (ap (λ (xs : List Twig). (get_or xs c.loop-at.at d).piece) c.as_slice-in-loop-at.ensures) (c.spread.ensures.fewer (g.F.Field.rivals c.args.field.now)) c.spread.ensures.ticks
+    failed_ticks _ (rivals_of (g.F.Field.size c.args.field.now) (g.F.Field.extent c.args.field.now) (g.F.Field.top c.args.field.now) (g.F.Field.bottom c.args.field.now)) _ _ _ c.loop-at.net c.loop-at.seen c.spread.new.seen c.loop-at.at _ _ _ c.loop-at.invariant (omega (arith, ap length c.as_slice.ensures))
+    (ap (λ (xs : List Twig). (get_or xs c.loop-at.at d).piece) c.as_slice-in-loop-at.ensures) (c.spread.ensures.fewer (rivals_of (g.F.Field.size c.args.field.now) (g.F.Field.extent c.args.field.now) (g.F.Field.top c.args.field.now) (g.F.Field.bottom c.args.field.now))) c.spread.ensures.ticks
 
 pub loop-at-smaller : goal.loop-at-smaller
 loop-at-smaller g c =

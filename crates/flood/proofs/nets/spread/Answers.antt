@@ -1,20 +1,21 @@
 use Rattle.std.proofs.Common.{ℕ, ◌<◌, List, length, arith, Contains, get_or, subst, sym, refl, All}
 use Rattle.std.proofs.lemmas.List.Elements.{All-get_or, Contains-get_or}
 use Rattle.tables.specs.Lists.{Lists}
+use Rattle.cell_index.specs.Field.{IsNear}
 use Rattle.flood.specs.Flood.{IsSeen}
 use Rattle.flood.proofs.Growing.{spread_old, spread_new}
-use Rattle.flood.proofs.Seen.{read_at, unseen-set}
+use Rattle.flood.proofs.Seen.{near_below, read_at, unseen-set}
 use Rattle.flood.proofs.nets.spread.Goals.{then-not-seen-other+in_ok-push, else-not-seen-other}
 use Rattle.flood.proofs.nets.spread.Goals as goal
 
 pub loop-other-preserved : goal.loop-other-preserved
 loop-other-preserved g c = elim c.if-not-seen-other.branch [
   | then-not-seen-other+in_ok-push w ↦
-      let near : ℕ → ℕ → Type 0 = g.F.Field.near c.args.field.now in
+      let near : ℕ → ℕ → Type 0 = IsNear (g.F.Field.size c.args.field.now) (g.F.Field.touch c.args.field.now) in
       let row : List ℕ = c.as_slice-other-items.result.now in
       let q : ℕ = get_or row c.loop-other.other-index 0 in
       let lists : Lists (near c.args.piece) row = subst (λ (xs : List ℕ). Lists (near c.args.piece) xs) (sym c.as_slice-other-items.ensures.value) c.in_ok-neighbours.ensures.near in
-      let few : All (λ x. x < g.F.Field.size c.args.field.now) row = subst (λ (xs : List ℕ). All (λ x. x < g.F.Field.size c.args.field.now) xs) (sym c.as_slice-other-items.ensures.value) c.in_ok-neighbours.ensures.pieces in
+      let few : All (λ x. x < g.F.Field.size c.args.field.now) row = near_below (g.F.Field.size c.args.field.now) (g.F.Field.touch c.args.field.now) c.args.piece c.neighbours.new.into.items row c.as_slice-other-items.ensures.value c.in_ok-neighbours.ensures.near in
       let item : c.loop-other.other-index < length row = omega arith in
       let below : q < length c.loop-other.seen = let e = All-get_or (λ x. x < g.F.Field.size c.args.field.now) row c.loop-other.other-index 0 item few in omega arith in
       let new : IsSeen c.loop-other.seen q → ⊥ = λ was. let t = w.if-not-seen-other.true in cc in
@@ -34,10 +35,24 @@ pub returns-in_err-push-clause-fewer : goal.returns-in_err-push-clause-fewer
 returns-in_err-push-clause-fewer g c = λ w.
     let row : List ℕ = c.as_slice-other-items.result.now in
     let q : ℕ = get_or row c.loop-other.other-index 0 in
-    let few : All (λ x. x < g.F.Field.size c.args.field.now) row = subst (λ (xs : List ℕ). All (λ x. x < g.F.Field.size c.args.field.now) xs) (sym c.as_slice-other-items.ensures.value) c.in_ok-neighbours.ensures.pieces in
+    let few : All (λ x. x < g.F.Field.size c.args.field.now) row = near_below (g.F.Field.size c.args.field.now) (g.F.Field.touch c.args.field.now) c.args.piece c.neighbours.new.into.items row c.as_slice-other-items.ensures.value c.in_ok-neighbours.ensures.near in
     let item : c.loop-other.other-index < length row = omega arith in
     let below : q < length c.loop-other.seen = let e = All-get_or (λ x. x < g.F.Field.size c.args.field.now) row c.loop-other.other-index 0 item few in omega arith in
     let new : IsSeen c.loop-other.seen q → ⊥ = λ was. let t = c.if-not-seen-other.true in cc in
     let e = unseen-set w 0 c.loop-other.seen q below new in
     let f = c.loop-other.invariant.fewer w in
+    omega arith
+
+pub bounds-seen-other : goal.bounds-seen-other
+bounds-seen-other g c =
+    let row : List ℕ = c.as_slice-other-items.result.now in
+    let few : All (λ x. x < g.F.Field.size c.args.field.now) row = near_below (g.F.Field.size c.args.field.now) (g.F.Field.touch c.args.field.now) c.args.piece c.neighbours.new.into.items row c.as_slice-other-items.ensures.value c.in_ok-neighbours.ensures.near in
+    let e = All-get_or (λ x. x < g.F.Field.size c.args.field.now) row c.loop-other.other-index 0 c.loop-other-test.true few in
+    omega arith
+
+pub bounds-seen-other-then-not-seen-other : goal.bounds-seen-other-then-not-seen-other
+bounds-seen-other-then-not-seen-other g c =
+    let row : List ℕ = c.as_slice-other-items.result.now in
+    let few : All (λ x. x < g.F.Field.size c.args.field.now) row = near_below (g.F.Field.size c.args.field.now) (g.F.Field.touch c.args.field.now) c.args.piece c.neighbours.new.into.items row c.as_slice-other-items.ensures.value c.in_ok-neighbours.ensures.near in
+    let e = All-get_or (λ x. x < g.F.Field.size c.args.field.now) row c.loop-other.other-index 0 c.loop-other-test.true few in
     omega arith

@@ -1,0 +1,103 @@
+// A field that looks at every piece.
+ghost use Rattle.cell_index.specs.Among.{TouchAmong, UnderAmong, bottom_in, extent_in, top_in, turned};
+ghost use Rattle.cell_index.specs.Field.{IsNear, is_rival};
+ghost use Rattle.contact.specs.Solid.{IsInside};
+ghost use Rattle.planar.specs.Plane.{IsPlaced};
+ghost use Rattle.planar.specs.declared.Spot.{Spot};
+ghost use Rattle.std.specs.Prelude.{◌≡◌, ℕ, ◌+◌, ◌<◌, ◌≤◌, ◌^◌, ◌↔◌, if◌then◌else◌, IsTrue, All, length};
+
+use crate::field::Field;
+use board_shapes::Placed;
+use contact::{Closed, Meets};
+use lengths::NoMemory;
+use planar::{Frame, Spot};
+use std::sync::ledger::Ledger;
+use steps::Steps;
+
+/// Placed solids, each of which is looked at for each answer. Their numbers are their places in the list.
+pub struct AllPairs<'a, S: Meets<S>> {
+    pub items: &'a [Placed<S>],
+    pub frame: Frame,
+    ghost few: { length items.now < 2 ^ 32 },
+    ghost inside: { All (λ p. IsInside (S.extent p.shape) frame) items.now },
+}
+
+impl<'a, S: Meets<S>> AllPairs<'a, S> {
+    /// A field of the items, of which there are fewer than 2^32, with their bounds inside the frame. No memory.
+    pub fn new(items: &'a [Placed<S>], frame: Frame) -> AllPairs<'a, S>
+        requires few { length items.now < 2 ^ 32 }
+        requires inside { All (λ p. IsInside (S.extent p.shape) frame) items.now }
+        ensures items { result.items.now ≡ items.now }
+        ensures frame { result.frame ≡ frame }
+    {
+        AllPairs { items, frame }
+    }
+
+    // Whether q is another piece than p, and touches it.
+    fn is_near<L: Ledger>(&self, p: usize, q: usize, tests: &mut Steps<L>) -> bool
+        requires first { p < length self.now.items.now }
+        requires second { q < length self.now.items.now }
+        ensures near { IsTrue result ↔ IsNear (length self.now.items.now) (TouchAmong S.holds self.now.items.now) p q }
+        ensures ticks { tests.new ≤ tests.old + (if is_rival (extent_in S.extent self.now.items.now) (top_in self.now.items.now) (bottom_in self.now.items.now) p q then 1 else 0) }
+    {
+        if q == p {
+            return false;
+        }
+        self.items[p].touches(&self.items[q], self.frame, tests)
+    }
+
+    // Whether the piece is under the spot on the layer.
+    fn is_under(&self, p: usize, spot: Spot, layer: u8) -> bool
+        requires piece { p < length self.now.items.now }
+        requires placed { IsPlaced spot }
+        ensures { IsTrue result ↔ UnderAmong S.holds self.now.items.now spot layer p }
+    {
+        self.items[p].under(spot, layer, self.frame)
+    }
+}
+
+impl<'a, S: Meets<S>> Field for AllPairs<'a, S> {
+    ghost size = { λ f. length f.items.now };
+
+    ghost extent = { λ f. extent_in S.extent f.items.now };
+
+    ghost top = { λ f. top_in f.items.now };
+
+    ghost bottom = { λ f. bottom_in f.items.now };
+
+    ghost touch = { λ f. TouchAmong S.holds f.items.now };
+
+    ghost beneath = { λ f. UnderAmong S.holds f.items.now };
+
+    ghost is_lawful = { λ f. (length f.items.now < 2 ^ 32) × All (λ p. IsInside (S.extent p.shape) f.frame) f.items.now };
+
+    ghost symmetric = { λ f p q lawful t. turned S.holds f.items.now p q t };
+
+    fn count(&self) -> usize {
+        self.items.len()
+    }
+
+    fn neighbours<L: Ledger>(
+        &self,
+        i: usize,
+        into: &mut Vec<u32>,
+        tests: &mut Steps<L>,
+    ) -> Result<(), NoMemory> {
+        into.clear();
+        for q in 0..self.items.len() {
+            if self.is_near(i, q, tests) {
+                into.push(q as u32)?;
+            }
+        }
+        Ok(())
+    }
+
+    fn least_at(&self, at: Spot, layer: u8) -> Option<u32> {
+        for q in 0..self.items.len() {
+            if self.is_under(q, at, layer) {
+                return Some(q as u32);
+            }
+        }
+        None
+    }
+}
