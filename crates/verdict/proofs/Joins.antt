@@ -6,7 +6,8 @@ use Rattle.verdict.specs.declared.verdict.PointLine.{PointLine}
 use Rattle.verdict.specs.declared.verdict.Verdict.{Verdict}
 use Rattle.tables.specs.Chains.{AreJoined}
 use Rattle.verdict.specs.Forest.{IsForest, IsTree, Holds, net_at, first_piece}
-use Rattle.verdict.specs.Right.{AreTables, ArePointsJoined, HaveOneNet, IsOn, NetNumbersAreJoins, IsRight, Trees, Covers, Apart, Points, AreLines}
+use Rattle.tables.specs.Consistent.{AreConsistent, ArePointsJoined}
+use Rattle.verdict.specs.Right.{HaveOneNet, IsOn, NetNumbersAreJoins, IsRight, Trees, Covers, Apart, Points, AreLines}
 use Rattle.tables.specs.Tables.{Tables, TestPoint, Stands, row_at}
 use Rattle.verdict.proofs.Chains.{stays, from_first, AreJoined-trans, AreJoined-back, holds_within}
 
@@ -40,7 +41,7 @@ pub piece_on : (board : Tables) (v : Verdict) → IsRight board v → (k net : �
 piece_on board v right k net (line, there, named) = on_net v.nets (row_at board.beneath k) line net named (line_at v.nets board.beneath board.points v.points k line (right Points) there)
 
 -- The pieces of one net are joined.
-pub one_net_joins : (board : Tables) (v : Verdict) → AreTables board → IsRight board v → (i p q : ℕ) → Holds v.nets i p → Holds v.nets i q → AreJoined (Stands board.near) p q
+pub one_net_joins : (board : Tables) (v : Verdict) → AreConsistent board → IsRight board v → (i p q : ℕ) → Holds v.nets i p → Holds v.nets i q → AreJoined (Stands board.near) p q
 one_net_joins board v tables right i p q h k =
     let near : ℕ → ℕ → Type 0 = Stands board.near in
     let tree = All-get_or (IsTree near) v.nets i [] (holds_within v.nets i p h) (right Trees).trees in
@@ -48,7 +49,7 @@ one_net_joins board v tables right i p q h k =
     AreJoined-trans near p (first_piece (net_at v.nets i)) q (AreJoined-back near tables.both (first_piece (net_at v.nets i)) p there.0 there.1) (from_first near (net_at v.nets i) tree q k)
 
 -- Each piece under a point on a net is in that net.
-pub all_on : (board : Tables) (v : Verdict) → AreTables board → IsRight board v → (k net p : ℕ) → IsOn v k net → Stands board.beneath k p → Holds v.nets net p
+pub all_on : (board : Tables) (v : Verdict) → AreConsistent board → IsRight board v → (k net p : ℕ) → IsOn v k net → Stands board.beneath k p → Holds v.nets net p
 all_on board v tables right k net p on inside =
     let found = piece_on board v right k net on in
     elim (tables.close k found.0 p found.1 inside) [
@@ -67,13 +68,13 @@ point_on board v right k p inside =
     let net = is_on (row_at board.beneath k) v.nets p line.0.net inside (line_at v.nets board.beneath board.points v.points k line.0 (right Points) line.1) in
     (net.0, (line.0, line.1, net.1))
 
-forth : (board : Tables) (v : Verdict) → AreTables board → IsRight board v → (a b : ℕ) → HaveOneNet v a b → ArePointsJoined board a b
+forth : (board : Tables) (v : Verdict) → AreConsistent board → IsRight board v → (a b : ℕ) → HaveOneNet v a b → ArePointsJoined board a b
 forth board v tables right a b (net, on, other) =
     let p = piece_on board v right a net on in
     let q = piece_on board v right b net other in
     record { p = p.0; q = q.0; first = p.1; last = q.1; joined = one_net_joins board v tables right net p.0 q.0 p.2 q.2 }
 
-back : (board : Tables) (v : Verdict) → AreTables board → IsRight board v → (a b : ℕ) → ArePointsJoined board a b → HaveOneNet v a b
+back : (board : Tables) (v : Verdict) → AreConsistent board → IsRight board v → (a b : ℕ) → ArePointsJoined board a b → HaveOneNet v a b
 back board v tables right a b j =
     let here = point_on board v right a j.p j.first in
     let there = point_on board v right b j.q j.last in
@@ -83,5 +84,5 @@ back board v tables right a b j =
     let same : here.0 ≡ there.0 = (right Covers).one_net here.0 there.0 j.q reached other in
     (here.0, here.1, subst (λ (n : ℕ). IsOn v b n) (sym same) there.1)
 
-pub net_numbers_are_joins : (board : Tables) (v : Verdict) → AreTables board → IsRight board v → NetNumbersAreJoins board v
+pub net_numbers_are_joins : (board : Tables) (v : Verdict) → AreConsistent board → IsRight board v → NetNumbersAreJoins board v
 net_numbers_are_joins board v tables right a b = (forth board v tables right a b, back board v tables right a b)

@@ -10,8 +10,8 @@ use Rattle.verdict.specs.declared.verdict.Branch.{Branch}
 use Rattle.verdict.specs.declared.verdict.Seat.{Seat}
 use Rattle.verdict.specs.declared.verdict.Short.{Short}
 use Rattle.verdict.specs.declared.verdict.Verdict.{Verdict}
+use Rattle.tables.specs.Consistent.{ArePointsJoined}
 use Rattle.tables.specs.Tables.{TestPoint, Tables, row_at, Stands}
-use Rattle.tables.specs.Chains.{AreJoined}
 use Rattle.verdict.specs.Forest.{AreTrees, StandOnce, StandApart, Holds, first_piece}
 
 -- ---- Points
@@ -196,21 +196,6 @@ pub record FailsFirst (board : Tables) (v : Verdict) (n : ℕ) : Type 0 where
   pub before : (earlier : Clause) → number_of earlier < n → Says board v earlier
 
 -- ---- Points that are joined
-
--- What holds of the tables of every board.
-pub record AreTables (board : Tables) : Type 0 where
-  pub known : (p q : ℕ) → Stands board.near p q → q < length board.near
-  pub both : (p q : ℕ) → Stands board.near p q → Stands board.near q p
-  pub under : (k p : ℕ) → Stands board.beneath k p → p < length board.near
-  pub close : (k p q : ℕ) → Stands board.beneath k p → Stands board.beneath k q → (p ≡ q) ⊎ Stands board.near p q
-
--- A chain joins a piece under the one point to a piece under the other.
-pub record ArePointsJoined (board : Tables) (a b : ℕ) : Type 0 where
-  pub p : ℕ
-  pub q : ℕ
-  pub first : Stands board.beneath a p
-  pub last : Stands board.beneath b q
-  pub joined : AreJoined (Stands board.near) p q
 
 -- Point k is on the net.
 abbrev pub IsOn : Verdict → ℕ → ℕ → Type 0

@@ -1,11 +1,12 @@
 // Laws of verdicts.
-ghost use Rattle.verdict.specs.Right.{AreTables, IsRight, NetNumbersAreJoins, OpensCoverSplitNames};
+ghost use Rattle.verdict.specs.Right.{IsRight, NetNumbersAreJoins, OpensCoverSplitNames};
+ghost use Rattle.tables.specs.Consistent.{AreConsistent};
 ghost use Rattle.tables.specs.Tables.{Tables};
 ghost use Rattle.verdict.specs.declared.verdict.Verdict.{Verdict};
 
 /// In a right verdict two points have the same net number exactly where a chain joins them.
 pub fn net_numbers_are_joins()
-    ensures { (board : Tables) (v : Verdict) → AreTables board → IsRight board v → NetNumbersAreJoins board v }
+    ensures { (board : Tables) (v : Verdict) → AreConsistent board → IsRight board v → NetNumbersAreJoins board v }
 {}
 
 /// In a right verdict two points of one name on different nets have listed opens.
