@@ -1,2 +1,3 @@
+pub mod OnBoard
 pub mod Reports
 pub mod Says

@@ -2,7 +2,7 @@
 ghost use Rattle.board_io.specs.Causes.{Rose};
 ghost use Rattle.board_io.specs.Sink.{Gains, GainsFrontOf};
 ghost use Rattle.board_package.specs.PackageBoard.{HasCause, IsBoardOf};
-ghost use Rattle.board_shapes.specs.Plain.{PlainBoard, plain_board};
+ghost use Rattle.board_shapes.specs.Plain.{PlainBoard};
 ghost use Rattle.boardnet.specs.Answers.{Refuses};
 ghost use Rattle.boardnet.specs.Lines.{Says, file_line, plain_line};
 ghost use Rattle.boardnet.specs.Outcome.{HasStatus, IsRefusal, IsReport, IsRightOn};
@@ -11,14 +11,14 @@ ghost use Rattle.lengths.specs.Text.{IsText};
 ghost use Rattle.std.specs.Prelude.{IfErr, IfOk, IfSome, List, codes, ℕ, ◌↔◌, ◌≡◌, ◌≢◌, ◌≤◌, ◌⊎◌};
 ghost use Rattle.verdict.specs.ReportText.{report_text};
 
+use crate::judged::judged;
 use crate::lines::{self, Kind};
 use crate::words::manifest_of;
 use board_io::{Package, Put, Sink};
 use board_package::{BuildFault, build};
-use board_shapes::Board;
-use lengths::{NoMemory, Text, TextFault};
+use lengths::{NoMemory, Text};
 use std::alloc::Global;
-use verdict::{Verdict, write_report};
+use verdict::Verdict;
 
 /// Does what the words ask for, and answers the status.
 ///
@@ -197,7 +197,7 @@ fn report<P: Package>(
 {
     let name = name_of(alloc, manifest)?;
     let board = build(alloc, &name, package)?;
-    match conclude(alloc, &board) {
+    match judged(alloc, &board) {
         Ok(found) => Ok(found),
         Err(NoMemory) => Err(BuildFault::NoMemory),
     }
@@ -213,13 +213,4 @@ fn name_of(alloc: Global, manifest: &str) -> Result<Text, BuildFault>
         Ok(name) => Ok(name),
         Err(_) => Err(BuildFault::NoMemory),
     }
-}
-
-// The verdict on a board, and its text.
-fn conclude(alloc: Global, board: &Board) -> Result<(Verdict, Vec<u8>), NoMemory>
-    ensures { IfOk result (λ r. IsRightOn (plain_board board.now) r.0 × (r.1.items ≡ report_text r.0)) }
-{
-    let _ = alloc;
-    let _ = board;
-    Err(NoMemory)
 }
