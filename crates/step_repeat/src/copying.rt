@@ -19,7 +19,7 @@ struct Shift {
 }
 
 impl Repeat {
-    /// The pieces that stand for a block (Gerber Layer Format Specification, 4.11): for each column
+    /// The pieces that stand for a block (Gerber Layer Format Specification, step and repeat): for each column
     /// from 0, and in it for each row from 0, the block's pieces moved by column times `dx` and row
     /// times `dy`, with copy number column times `up` plus row. An empty block has no copies,
     /// whatever the counts.
