@@ -14,22 +14,20 @@ use Rattle.xnc.specs.declared.settings.Settings.{Settings}
 use Rattle.xnc.specs.declared.tools.Tools.{Tools}
 use Rattle.xnc.specs.declared.reader.Reader.{Reader}
 use Rattle.xnc.specs.Place.{Place}
-use Rattle.xnc.specs.Table.{Known, Effect, stays, makes, moves, drills, coordinate, effect, gone, after}
-use Rattle.xnc.specs.History.{or_else, value_or, value_in, settings_at, unit_at, x_at, y_at, x_in, y_in, defined_at, tools_at, piece_of, known_with, known_at, barrels_at}
+use Rattle.xnc.specs.Table.{Known, Effect, stays, makes, moves, drills, coordinate, effect, after}
+use Rattle.xnc.specs.History.{or_else, value_or, value_in, settings_at, unit_at, x_at, y_at, defined_at, tools_at, piece_of, known_with, known_at, barrels_at}
 use Rattle.xnc.specs.Reader.{defined_in, count_of, Adds, Turns, known_of, place_of, Obeys}
-use Rattle.xnc.proofs.Outcome.{IsPlain, Leads, Goes, Went, Crossed, Defined, Outcome, outcome}
+use Rattle.xnc.proofs.Outcome.{IsPlain, Leads, Crossed, Outcome, outcome}
 
 -- a coordinate's value
 value_is : (unit : Measure) (here to : ℤ) (d : Option Fraction) → coordinate unit here d ≡ Ok to → value_in (Some unit) here d ≡ to
-unfolding coordinate
 value_is unit here to None h = cc
 value_is unit here to (Some d) h = ap (value_or here) h
 
 -- and that of the second of two
 value_then : (unit : Measure) (here first to : ℤ) (c d : Option Fraction) → coordinate unit here c ≡ Ok first → coordinate unit first d ≡ Ok to → value_in (Some unit) here (or_else d c) ≡ to
-unfolding coordinate
 value_then unit here first to c None h k = let e : first ≡ to = cc in value_is unit here first c h ∙ e
-value_then unit here first to c (Some d) h k = let e : value_or here (coordinate unit first (Some d)) ≡ to = ap (value_or here) k in e
+value_then unit here first to c (Some d) h k = ap (value_or here) k
 
 -- where a place led
 led : (earlier : List Form) (c : Coordinates) (to : Spot) → Leads (unit_at earlier) (record { x = x_at earlier; y = y_at earlier }) c to → ◌≡◌ {A = Spot} to (record { x = value_in (unit_at earlier) (x_at earlier) c.x; y = value_in (unit_at earlier) (y_at earlier) c.y })

@@ -4,3 +4,4 @@ pub mod Numbers
 pub mod OneAnswer
 pub mod Outcome
 pub mod ReadSoFar
+pub mod ToolDown

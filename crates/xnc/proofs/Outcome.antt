@@ -1,9 +1,9 @@
 -- What an effect says of its line.
-use Rattle.std.proofs.Common.{◌≡◌, ℕ, Bool, true, false, not, ◌||◌, cond, nat_le, Option, Some, None, is_some, is_none, Result, Ok, Err, refl, sym, ap, ◌∙◌, subst}
+use Rattle.std.proofs.Common.{◌≡◌, ℕ, Bool, true, false, not, ◌||◌, cond, nat_le, ℤ, Option, Some, None, is_some, is_none, Result, Ok, Err, refl, sym, ap, ◌∙◌, subst}
 use Rattle.planar.specs.declared.Spot.{Spot}
 use Rattle.lengths.specs.Decimal.{Fraction}
 use Rattle.lengths.specs.declared.decimal.Unit.{Unit as Measure}
-use Rattle.board_shapes.specs.Plain.{Figure, round}
+use Rattle.board_shapes.specs.Plain.{round}
 use Rattle.xnc.specs.declared.kind.DrillKind.{DrillKind}
 use Rattle.xnc.specs.declared.kind.DrillKind.TheVariants as kind
 use Rattle.xnc.specs.declared.form.Coordinates.{Coordinates}
@@ -39,19 +39,23 @@ pub record Leads (unit : Option Measure) (here : Spot) (c : Coordinates) (to : S
   pub x_is : coordinate measure here.x c.x ≡ Ok to.x
   pub y_is : coordinate measure here.y c.y ≡ Ok to.y
 
+at_x : (x y : ℤ) (to : Spot) → ◌≡◌ {A = Result Spot DrillKind} (Ok (record { x = x; y = y })) (Ok to) → ◌≡◌ {A = Result ℤ DrillKind} (Ok x) (Ok to.x)
+at_x x y to h = let e : ◌≡◌ {A = Spot} (record { x = x; y = y }) to = cc in ap (λ (s : Spot). Ok s.x) e
+
+at_y : (x y : ℤ) (to : Spot) → ◌≡◌ {A = Result Spot DrillKind} (Ok (record { x = x; y = y })) (Ok to) → ◌≡◌ {A = Result ℤ DrillKind} (Ok y) (Ok to.y)
+at_y x y to h = let e : ◌≡◌ {A = Spot} (record { x = x; y = y }) to = cc in ap (λ (s : Spot). Ok s.y) e
+
 pub target_led : (unit : Option Measure) (here : Spot) (c : Coordinates) (to : Spot) → target unit here c ≡ Ok to → Leads unit here c to
 unfolding target
 target_led unit here c to h =
     let u = bind_ok (needed kind.MissingUnit unit) (λ unit. coordinate unit here.x c.x >>= λ x. coordinate unit here.y c.y >>= λ y. Ok (record { x = x; y = y })) to h in
     let a = bind_ok (coordinate u.0 here.x c.x) (λ x. coordinate u.0 here.y c.y >>= λ y. Ok (record { x = x; y = y })) to u.2 in
     let b = bind_ok (coordinate u.0 here.y c.y) (λ y. Ok (record { x = a.0; y = y })) to a.2 in
-    let made : ◌≡◌ {A = Result Spot DrillKind} (Ok (record { x = a.0; y = b.0 })) (Ok to) = b.2 in
-    let there : ◌≡◌ {A = Spot} (record { x = a.0; y = b.0 }) to = cc in
     record {
       measure = u.0;
       unit_is = got kind.MissingUnit unit u.0 u.1;
-      x_is = a.1 ∙ ap (λ (s : Spot). Ok s.x) there;
-      y_is = b.1 ∙ ap (λ (s : Spot). Ok s.y) there;
+      x_is = a.1 ∙ at_x a.0 b.0 to b.2;
+      y_is = b.1 ∙ at_y a.0 b.0 to b.2;
     }
 
 -- it goes to a spot and makes a barrel, or goes there alone
@@ -147,11 +151,11 @@ Outcome k other e = e ≡ stays
 ok_stays : (e : Effect) → ◌≡◌ {A = Result Effect DrillKind} (Ok stays) (Ok e) → e ≡ stays
 ok_stays e h = let f : stays ≡ e = cc in sym f
 
-no_ok : {A : Type 0} (why : DrillKind) (y : A) → ◌≡◌ {A = Result A DrillKind} (Err why) (Ok y) → ⊥
+pub no_ok : {A : Type 0} (why : DrillKind) (y : A) → ◌≡◌ {A = Result A DrillKind} (Err why) (Ok y) → ⊥
 no_ok why y h = cc
 
 -- by where the line stands: what follows from its row in the header, and from its row in the body
-placed : (P : Type 0) (s : Stage) (k : Known) (f : Form) (e : Effect) → (is_start f ≡ true → e ≡ stays → P) → (header k f ≡ Ok e → P) → (body k f ≡ Ok e → P) → staged s k f ≡ Ok e → P
+pub placed : (P : Type 0) (s : Stage) (k : Known) (f : Form) (e : Effect) → (is_start f ≡ true → e ≡ stays → P) → (header k f ≡ Ok e → P) → (body k f ≡ Ok e → P) → staged s k f ≡ Ok e → P
 unfolding staged
 placed P Opening k f e start in_header in_body h = by (is_start f) refl h
   where

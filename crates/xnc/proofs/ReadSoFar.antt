@@ -1,5 +1,5 @@
 -- How far a file is read.
-use Rattle.std.proofs.Common.{◌≡◌, ℕ, ◌+◌, List, [], ◌∷◌, ◌++◌, length, map, reverse, Result, Ok, Err, IsOk, refl, sym, ap, ◌∙◌, subst, append_assoc}
+use Rattle.std.proofs.Common.{◌≡◌, ℕ, ◌+◌, List, [], ◌∷◌, ◌++◌, length, reverse, Result, Ok, Err, IsOk, refl, sym, ap, ◌∙◌, subst, append_assoc}
 use mathlib.Core.Path.{fun_ext}
 use Rattle.std.proofs.lemmas.List.{length-map, reverse-append}
 use Rattle.std.specs.Prelude.{IfOk, IfErr}

@@ -12,7 +12,7 @@ use Rattle.xnc.specs.declared.settings.Mode.{Mode}
 use Rattle.xnc.specs.declared.settings.Mode.TheVariants.{Drill, Rout}
 use Rattle.xnc.specs.declared.settings.Settings.{Settings}
 use Rattle.xnc.specs.Place.{Place}
-use Rattle.xnc.specs.Table.{Known, Effect, stays, makes, moves, drills, coordinate, diameter_of, effect}
+use Rattle.xnc.specs.Table.{Known, Effect, stays, makes, moves, drills, value_of, diameter_of, effect}
 
 -- before `M48`, in the header, in the body, or behind the end
 abbrev pub stage_at : List Form → Stage
@@ -78,7 +78,7 @@ value_or here (Err kind) = here
 abbrev pub value_in : Option Measure → ℤ → Option Fraction → ℤ
 value_in unit here None = here
 value_in None here (Some d) = here
-value_in (Some unit) here (Some d) = value_or here (coordinate unit here (Some d))
+value_in (Some unit) here (Some d) = value_or here (value_of unit d)
 
 -- the value of the last X or Y that a line named, or 0
 abbrev pub x_at : List Form → ℤ

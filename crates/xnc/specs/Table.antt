@@ -1,5 +1,5 @@
 -- What a line does, or its fault, by what is known before it.
-use Rattle.std.specs.Prelude.{ℕ, ◌/◌, Bool, true, false, ◌&&◌, ◌||◌, not, ◌==◌, nat_le, if◌then◌else◌, ℤ, pos, unsigned_abs, Option, Some, None, is_some, is_none, Result, Ok, Err}
+use Rattle.std.specs.Prelude.{ℕ, ◌/◌, Bool, true, false, ◌||◌, not, ◌==◌, nat_le, if◌then◌else◌, ℤ, pos, unsigned_abs, Option, Some, None, is_some, is_none, Result, Ok, Err}
 use Rattle.planar.specs.declared.Spot.{Spot}
 use Rattle.lengths.specs.Decimal.{Fraction}
 use Rattle.lengths.specs.Grid.{position_of, size_of}
@@ -90,10 +90,14 @@ define k n d = do
   size ← diameter_of k.settings.unit d
   unless (is_some (k.defined n)) kind.ToolTwice (unless (nat_le 1000 k.tools) kind.TooManyTools (Ok (makes n size)))
 
+-- the value of a coordinate
+unfoldable pub value_of : Measure → Fraction → Result ℤ DrillKind
+value_of unit d = unless (not d.pointed) kind.ImpliedDecimals (gridded (position_of d unit))
+
 -- where a coordinate leads from `here`
-unfoldable pub coordinate : Measure → ℤ → Option Fraction → Result ℤ DrillKind
+abbrev pub coordinate : Measure → ℤ → Option Fraction → Result ℤ DrillKind
 coordinate unit here None = Ok here
-coordinate unit here (Some d) = unless (not d.pointed) kind.ImpliedDecimals (gridded (position_of d unit))
+coordinate unit here (Some d) = value_of unit d
 
 -- where a place leads from `here`
 unfoldable pub target : Option Measure → Spot → Coordinates → Result Spot DrillKind

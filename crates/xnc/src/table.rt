@@ -116,38 +116,42 @@ fn diameter(unit: Option<Unit>, d: Decimal) -> Result<u64, DrillKind>
     not_zero(size)
 }
 
+// The value of a coordinate.
+#[tactic(auto, unfolding(crate::specs::Table::value_of))]
+fn value(unit: Unit, d: Decimal) -> Result<i64, DrillKind>
+    ensures value { result ≡ spec.value_of unit d }
+    ensures reached { IfOk result IsReached }
+{
+    if d.pointed() {
+        let len = position(d, unit)?;
+        Ok(len.u())
+    } else {
+        Err(DrillKind::ImpliedDecimals)
+    }
+}
+
 // Where X leads.
-#[tactic(auto, unfolding(crate::specs::Table::coordinate))]
 fn across(unit: Unit, here: Spot, x: Option<Decimal>) -> Result<i64, DrillKind>
     requires { IsPlaced here }
     ensures value { result ≡ spec.coordinate unit here.x x }
     ensures reached { IfOk result IsReached }
 {
-    let Some(d) = x else {
-        return Ok(here.x);
-    };
-    if !d.pointed() {
-        return Err(DrillKind::ImpliedDecimals);
+    match x {
+        None => Ok(here.x),
+        Some(d) => value(unit, d),
     }
-    let len = position(d, unit)?;
-    Ok(len.u())
 }
 
 // Where Y leads.
-#[tactic(auto, unfolding(crate::specs::Table::coordinate))]
 fn up(unit: Unit, here: Spot, y: Option<Decimal>) -> Result<i64, DrillKind>
     requires { IsPlaced here }
     ensures value { result ≡ spec.coordinate unit here.y y }
     ensures reached { IfOk result IsReached }
 {
-    let Some(d) = y else {
-        return Ok(here.y);
-    };
-    if !d.pointed() {
-        return Err(DrillKind::ImpliedDecimals);
+    match y {
+        None => Ok(here.y),
+        Some(d) => value(unit, d),
     }
-    let len = position(d, unit)?;
-    Ok(len.u())
 }
 
 // Where a place leads.

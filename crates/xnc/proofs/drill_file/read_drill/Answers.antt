@@ -1,4 +1,4 @@
-use Rattle.std.proofs.Common.{◌≡◌, ◌+◌, List, length, refl, sym, ap, subst, arith}
+use Rattle.std.proofs.Common.{◌≡◌, ◌+◌, length, refl, sym, ap, subst, arith}
 use Rattle.text_lines.specs.Lines.{Ahead, start}
 use Rattle.text_lines.specs.Stepping.{ahead, plain_line}
 use Rattle.xnc.specs.Place.{Place}
