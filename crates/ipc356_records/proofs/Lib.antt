@@ -4,3 +4,6 @@ mod WordLemmas
 mod NameLemmas
 mod Outcome
 mod Bridge
+mod OneAnswer
+mod ReadSoFar
+mod Fits
