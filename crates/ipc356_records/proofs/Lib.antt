@@ -1,4 +1,4 @@
-mod BlankLemmas
+mod Front
 mod NumberLemmas
 mod WordLemmas
 mod NameLemmas
