@@ -1,6 +1,8 @@
 // A solid of copper: a capsule or a filled contour.
+ghost use Rattle.board_shapes.specs.Figures.{figure_edges, figure_of};
 ghost use Rattle.board_shapes.specs.Shapes.{InShape, IsShapeLawful, boxed, not_empty, shape_box};
 ghost use Rattle.contact.specs.RoundLaws.{turned};
+ghost use Rattle.std.specs.Prelude.{◌≡◌};
 
 use area_contact::Area;
 use contact::{Bounds, Capsule, Closed, Meets};
@@ -14,6 +16,19 @@ pub enum Shape {
     Round(Capsule),
     Filled(Area),
 }
+
+impl Shape {
+    /// The number of edges of its contour; 0 for a capsule.
+    pub fn edges(&self) -> u32
+        ensures { result ≡ figure_edges (figure_of self.now) }
+    {
+        match self {
+            Shape::Round(_) => 0,
+            Shape::Filled(area) => area.edges(),
+        }
+    }
+}
+
 impl Closed for Shape {
     ghost holds = { λ s p. InShape s p };
 
@@ -56,4 +71,3 @@ impl Meets<Shape> for Shape {
 
     ghost within_boxes = { λ s t h k m. record { point = m.point; in_first = boxed s m.point h m.in_first; in_second = boxed t m.point k m.in_second } };
 }
-
