@@ -5,7 +5,7 @@ use Rattle.lengths.specs.declared.decimal.Unit.{Unit as Measure}
 use Rattle.ipc356_records.specs.declared.kind.RecordKind.{RecordKind}
 use Rattle.ipc356_records.specs.declared.reader.Reader.{Reader}
 use Rattle.ipc356_records.specs.Form.{Form, TestFields, blank, unread, units, ends, continues, tests, unknown, finishes}
-use Rattle.ipc356_records.specs.Table.{Known, Effect, stays, sets, closes, probes, set_unit, row, behind, effect, probes_of_effect}
+use Rattle.ipc356_records.specs.Table.{Known, Effect, stays, sets, closes, adds, set_unit, row, behind, effect, probes_of_effect}
 use Rattle.ipc356_records.specs.NetlistFile.{known_at, unit_before, has_ended, probes_in, probes_of}
 use Rattle.ipc356_records.specs.Reader.{known_of, after, Obeys}
 use Rattle.ipc356_records.proofs.Outcome.{Tested, tested}

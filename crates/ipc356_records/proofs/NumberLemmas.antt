@@ -6,7 +6,9 @@ use Rattle.std.specs.List.{list_all}
 use Rattle.std.specs.Str.Parse.{digits_value}
 use Rattle.std.proofs.lemmas.List.Folds.{list_all-append}
 use Rattle.texts.specs.Digits.{is_decimal_digit}
-use Rattle.ipc356_records.specs.Columns.{is_blank, filled, without_front}
+use Rattle.text_lines.specs.Blanks.{is_blank, without_front}
+use Rattle.ipc356_records.proofs.Front.{front-blank, front-other}
+use Rattle.ipc356_records.specs.Columns.{filled}
 use Rattle.ipc356_records.specs.Reading.{digits_in, number_of}
 
 -- a text that fills its columns
@@ -27,16 +29,16 @@ no_digits (x ∷ xs) ys = rw (no_digits xs ys) (by (is_decimal_digit x))
 -- what comes of the bytes in front of a blank that only blanks follow
 before_blank : (xs ys : List ℕ) → without_front ys ≡ [] → number_of (xs ++ 32 ∷ ys) ≡ None
 unfolding digits_in
-before_blank [] ys h = rw h refl
+before_blank [] ys h = ap digits_in (front-blank 32 ys refl ∙ h)
 before_blank (x ∷ xs) ys h = by (is_blank x) refl (before_blank xs ys h)
   where
     by : (b : Bool) → is_blank x ≡ b → number_of (xs ++ 32 ∷ ys) ≡ None → number_of (x ∷ xs ++ 32 ∷ ys) ≡ None
-    by true e more = rw e more
-    by false e more = rw (e, no_digits (x ∷ xs) ys) refl
+    by true e more = ap digits_in (front-blank x (xs ++ 32 ∷ ys) e) ∙ more
+    by false e more = ap digits_in (front-other x (xs ++ 32 ∷ ys) e) ∙ rw (no_digits (x ∷ xs) ys) refl
 
 blanks : (n : ℕ) → without_front (replicate n 32) ≡ []
 blanks zero = refl
-blanks (suc n) = blanks n
+blanks (suc n) = front-blank 32 (replicate n 32) refl ∙ blanks n
 
 -- the columns past a line's end hold no digit
 pub number_of-short : (width : ℕ) (xs : List ℕ) → length xs < width → number_of (filled width xs) ≡ None

@@ -8,7 +8,7 @@ use Rattle.ipc356_records.specs.declared.form.Coordinate.{Coordinate}
 use Rattle.ipc356_records.specs.declared.kind.RecordKind.{RecordKind}
 use Rattle.ipc356_records.specs.declared.kind.RecordKind.TheVariants as kind
 use Rattle.ipc356_records.specs.Form.{TestFields}
-use Rattle.ipc356_records.specs.Table.{Known, Effect, stays, sets, closes, probes, ◌>>=◌, unless, needed, within, placed, test}
+use Rattle.ipc356_records.specs.Table.{Known, Effect, stays, sets, closes, adds, ◌>>=◌, unless, needed, within, placed, test}
 
 pub bind_ok : {A B : Type 0} (r : Result A RecordKind) (f : A → Result B RecordKind) (y : B) → (r >>= f) ≡ Ok y → (x : A) × (r ≡ Ok x) × (f x ≡ Ok y)
 bind_ok (Ok x) f y h = (x, refl, h)
@@ -44,7 +44,7 @@ pub record Tested (k : Known) (f : TestFields) (e : Effect) : Type 0 where
   pub x_is : placed unit x ≡ Ok at.x
   pub y_is : placed unit y ≡ Ok at.y
   pub room : nat_le 200000 k.records ≡ false
-  pub is : e ≡ probes name access at
+  pub is : e ≡ adds name access at
 
 pub tested : (k : Known) (f : TestFields) (e : Effect) → test k f ≡ Ok e → Tested k f e
 unfolding test

@@ -1,8 +1,9 @@
 -- The words of a text.
-use Rattle.std.proofs.Common.{◌≡◌, ℕ, ◌+◌, ◌-◌, ◌≤◌, suc, Bool, true, false, not, cond, List, [], ◌∷◌, length, take, drop, filter, refl, sym, ap, ◌∙◌, arith}
-use Rattle.std.proofs.lemmas.List.{take_all}
+use Rattle.std.proofs.Common.{◌≡◌, ℕ, ◌+◌, ◌-◌, ◌≤◌, suc, Bool, true, false, not, cond, List, [], ◌∷◌, length, take, drop, filter, refl, sym, ap, subst, ◌∙◌, arith}
 use Rattle.std.specs.List.{slice_split, position_or_len, onto_first}
-use Rattle.ipc356_records.specs.Columns.{is_blank, is_empty, without_front, words}
+use Rattle.text_lines.specs.Blanks.{is_blank, without_front}
+use Rattle.ipc356_records.specs.Columns.{is_empty, words}
+use Rattle.ipc356_records.proofs.Front.{front-blank, front-other}
 
 abbrev kept : List (List ℕ) → List (List ℕ)
 kept parts = filter (λ w. not (is_empty w)) parts
@@ -40,23 +41,28 @@ first_part (b ∷ text) = by (is_blank b) refl (first_part text)
 abbrev pub Next : List ℕ → List ℕ → Type 0
 Next text behind = words text ≡ take (position_or_len is_blank behind) behind ∷ words (drop (position_or_len is_blank behind) behind)
 
-pub first_word : (text : List ℕ) → 1 ≤ length (without_front text) → Next text (without_front text)
+word_at : (b : ℕ) (text : List ℕ) → is_blank b ≡ false → Next (b ∷ text) (b ∷ text)
 unfolding words
+word_at b text e =
+    let p = first_part text in
+    let n : 1 + position_or_len is_blank text ≡ suc (position_or_len is_blank text) = omega arith in
+    rw (e, n, p.parts) (ap (λ (ws : List (List ℕ)). (b ∷ take (position_or_len is_blank text) text) ∷ ws) p.words_are)
+
+pub first_word : (text : List ℕ) → 1 ≤ length (without_front text) → Next text (without_front text)
 first_word [] h = absurd (omega arith)
-first_word (b ∷ text) h = by (is_blank b) refl (first_word text) h
+first_word (b ∷ text) h = by (is_blank b) refl (first_word text)
   where
-    by : (v : Bool) → is_blank b ≡ v → (1 ≤ length (without_front text) → Next text (without_front text)) → 1 ≤ length (cond v (without_front text) (b ∷ text)) → Next (b ∷ text) (cond v (without_front text) (b ∷ text))
-    by true e more h = blank_first b text e ∙ more h
-    by false e more h =
-        let p = first_part text in
-        let n : 1 + position_or_len is_blank text ≡ suc (position_or_len is_blank text) = omega arith in
-        rw (e, n, p.parts) (ap (λ (ws : List (List ℕ)). (b ∷ take (position_or_len is_blank text) text) ∷ ws) p.words_are)
+    by : (v : Bool) → is_blank b ≡ v → (1 ≤ length (without_front text) → Next text (without_front text)) → Next (b ∷ text) (without_front (b ∷ text))
+    by true e more =
+        let same : without_front (b ∷ text) ≡ without_front text = front-blank b text e in
+        subst (Next (b ∷ text)) (sym same) (blank_first b text e ∙ more (subst (λ (xs : List ℕ). 1 ≤ length xs) same h))
+    by false e more = subst (Next (b ∷ text)) (sym (front-other b text e)) (word_at b text e)
 
 pub no_word : (text : List ℕ) → length (without_front text) ≡ 0 → words text ≡ []
 unfolding words
 no_word [] h = refl
-no_word (b ∷ text) h = by (is_blank b) refl (no_word text) h
+no_word (b ∷ text) h = by (is_blank b) refl (no_word text)
   where
-    by : (v : Bool) → is_blank b ≡ v → (length (without_front text) ≡ 0 → words text ≡ []) → length (cond v (without_front text) (b ∷ text)) ≡ 0 → words (b ∷ text) ≡ []
-    by true e more h = blank_first b text e ∙ more h
-    by false e more h = absurd (omega arith)
+    by : (v : Bool) → is_blank b ≡ v → (length (without_front text) ≡ 0 → words text ≡ []) → words (b ∷ text) ≡ []
+    by true e more = blank_first b text e ∙ more (ap length (sym (front-blank b text e)) ∙ h)
+    by false e more = absurd (let k : length (b ∷ text) ≡ 0 = ap length (sym (front-other b text e)) ∙ h in omega arith)

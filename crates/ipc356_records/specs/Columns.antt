@@ -2,10 +2,7 @@
 use Rattle.std.specs.Prelude.{◌≡◌, ℕ, ◌+◌, ◌-◌, Bool, true, false, ◌&&◌, ◌||◌, not, ◌==◌, if◌then◌else◌, List, [], ◌∷◌, ◌++◌, length, take, drop, filter, replicate, slice_index_or, Option, Some, None}
 use Rattle.std.specs.List.{slice_split}
 use Rattle.std.specs.Borrow.{Bor}
-
--- a tab or a space
-abbrev pub is_blank : ℕ → Bool
-is_blank b = b == 9 || b == 32
+use Rattle.text_lines.specs.Blanks.{is_blank}
 
 abbrev pub is_empty : List ℕ → Bool
 is_empty [] = true
@@ -26,18 +23,6 @@ columns first last text = filled (last + 1 - first) (part first last text)
 -- one column, blank past the line's end
 abbrev pub column : ℕ → List ℕ → ℕ
 column n text = slice_index_or text (n - 1) 32
-
--- a text without the blanks at its start, at its end, and at both
-abbrev pub without_front : List ℕ → List ℕ
-without_front [] = []
-without_front (b ∷ text) = if is_blank b then without_front text else b ∷ text
-
-abbrev pub without_end : List ℕ → List ℕ
-without_end [] = []
-without_end (b ∷ text) = if is_blank b && is_empty (without_end text) then [] else b ∷ without_end text
-
-unfoldable pub trimmed : List ℕ → List ℕ
-trimmed text = without_end (without_front text)
 
 -- what stands between blanks
 unfoldable pub words : List ℕ → List (List ℕ)

@@ -14,13 +14,13 @@ use Rattle.ipc356_records.specs.declared.reader.Reader.{Reader}
 use Rattle.ipc356_records.specs.Form.{Form}
 use Rattle.ipc356_records.specs.Names.{with_name}
 use Rattle.ipc356_records.specs.NameTable.{names_in}
-use Rattle.ipc356_records.specs.Table.{Known, Effect, stays, sets, closes, probes, effect, probes_of_effect}
+use Rattle.ipc356_records.specs.Table.{Known, Effect, stays, sets, closes, adds, effect, probes_of_effect}
 
 abbrev pub shown : Seen → Effect
 shown seen.Stays = stays
 shown (seen.Sets unit) = sets unit
 shown seen.Closes = closes
-shown (seen.Probes name access at) = probes name.now access at
+shown (seen.Adds name access at) = adds name.now access at
 
 abbrev pub showing : Result Seen RecordKind → Result Effect RecordKind
 showing (Ok e) = Ok (shown e)
@@ -40,7 +40,7 @@ abbrev pub after : Known → Effect → Known
 after k stays = k
 after k (sets unit) = record k { unit = Some unit }
 after k closes = record k { ended = true }
-after k (probes name access at) = record k { records = k.records + 1; names = with_name name k.names }
+after k (adds name access at) = record k { records = k.records + 1; names = with_name name k.names }
 
 -- the reader has taken an effect on
 pub record Applies (old : Reader) (e : Effect) (new : Reader) : Type 0 where
@@ -69,7 +69,7 @@ abbrev pub IsFit : Reader → Effect → Type 0
 IsFit r stays = Unit {0}
 IsFit r (sets unit) = Unit {0}
 IsFit r closes = Unit {0}
-IsFit r (probes name access at) = IsText name × (access ≤ r.layers) × (r.records < 200000)
+IsFit r (adds name access at) = IsText name × (access ≤ r.layers) × (r.records < 200000)
 
 abbrev pub Halts : Known → Form → Halt → Type 0
 Halts k form (halt.Fault why) = effect k form ≡ Err why

@@ -7,7 +7,8 @@ use Rattle.texts.specs.Digits.{is_decimal_digit}
 use Rattle.lengths.specs.declared.decimal.Unit.{Unit as Measure}
 use Rattle.lengths.specs.declared.decimal.Unit.TheVariants.{Mm, Inch}
 use Rattle.ipc356_records.specs.declared.form.Coordinate.{Coordinate}
-use Rattle.ipc356_records.specs.Columns.{is_blank, part, columns, column, without_front, trimmed, words}
+use Rattle.text_lines.specs.Blanks.{is_blank, trimmed, without_front}
+use Rattle.ipc356_records.specs.Columns.{part, columns, column, words}
 use Rattle.ipc356_records.specs.Form.{Form, TestFields, blank, unread, units, ends, continues, tests, unknown}
 
 abbrev pub is : List ℕ → List ℕ → Bool

@@ -27,7 +27,7 @@ pub data Effect : Type 0 where
   stays : Effect
   sets : Measure → Effect
   closes : Effect
-  probes : List ℕ → ℕ → Spot → Effect
+  adds : List ℕ → ℕ → Spot → Effect
 
 infixl 10 ◌>>=◌
 abbrev pub ◌>>=◌ : {A B : Type 0} → Result A RecordKind → (A → Result B RecordKind) → Result B RecordKind
@@ -66,7 +66,7 @@ test k f = do
   y ← needed kind.BadNumber f.y
   to_x ← placed unit x
   to_y ← placed unit y
-  unless (nat_le 200000 k.records) kind.TooManyRecords (Ok (probes name access (record { x = to_x; y = to_y })))
+  unless (nat_le 200000 k.records) kind.TooManyRecords (Ok (adds name access (record { x = to_x; y = to_y })))
 
 -- a parameter record with the word `UNITS`
 unfoldable pub set_unit : Option Measure → Option Measure → Result Effect RecordKind
@@ -113,4 +113,4 @@ unfoldable pub probes_of_effect : Known → Effect → List Probe
 probes_of_effect k stays = []
 probes_of_effect k (sets unit) = []
 probes_of_effect k closes = []
-probes_of_effect k (probes name access at) = map (probe_at (k.records + 1) (index_of name k.names) at) (layers_of k.layers access)
+probes_of_effect k (adds name access at) = map (probe_at (k.records + 1) (index_of name k.names) at) (layers_of k.layers access)

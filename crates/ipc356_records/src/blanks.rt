@@ -1,15 +1,10 @@
-// Blanks, and what stands between them.
+// What stands behind blanks and between them.
 ghost use Rattle.std.specs.Prelude.{◌≡◌, ◌≤◌, length};
 ghost use Rattle.std.specs.List.{position_or_len};
-ghost use Rattle.ipc356_records.specs.Columns as spec;
+ghost use Rattle.text_lines.specs.Blanks as spec;
 ghost use Rattle.ipc356_records.specs.Columns.{NextWord};
 
-/// Whether a byte is a tab or a space.
-pub fn is_blank(byte: u8) -> bool
-    ensures { result ≡ spec.is_blank byte }
-{
-    byte == b'\t' || byte == b' '
-}
+use text_lines::is_blank;
 
 /// A text without the blanks at its start.
 pub fn without_front(text: &[u8]) -> &[u8]
@@ -24,30 +19,6 @@ pub fn without_front(text: &[u8]) -> &[u8]
         text = rest;
     }
     text
-}
-
-// A text without the blanks at its end.
-fn without_end(text: &[u8]) -> &[u8]
-    ensures value { result.now ≡ spec.without_end text.now }
-    ensures within { length result.now ≤ length text.now }
-{
-    let mut text = text;
-    while let [rest @ .., last] = text {
-        if !is_blank(*last) {
-            return text;
-        }
-        text = rest;
-    }
-    text
-}
-
-/// A text without the blanks at either end.
-#[tactic(auto, unfolding(crate::specs::Columns::trimmed))]
-pub fn trimmed(text: &[u8]) -> &[u8]
-    ensures value { result.now ≡ spec.trimmed text.now }
-    ensures within { length result.now ≤ length text.now }
-{
-    without_end(without_front(text))
 }
 
 // How many bytes stand before the first blank.

@@ -8,5 +8,5 @@ pub enum Effect<'a> {
     Stays,
     Sets(Unit),
     Closes,
-    Probes(&'a [u8], u32, Spot),
+    Adds(&'a [u8], u32, Spot),
 }

@@ -23,7 +23,7 @@ impl<'a> Reader<'a> {
     ghost use Rattle.ipc356_records.specs.Form.{view};
     ghost use Rattle.ipc356_records.specs.Lawful.{IsLawfulForm};
     ghost use Rattle.ipc356_records.specs.Reader.{Applies, Halts, IsFit, IsLawfulReader, IsNew, Obeys, Pushes, known_of, shown};
-    ghost use Rattle.ipc356_records.specs.Table.{layers_of, probe_at, probes};
+    ghost use Rattle.ipc356_records.specs.Table.{adds, layers_of, probe_at};
 
     pub fn new(alloc: Global, layers: u8) -> Reader<'a>
         requires { 1 ≤ layers }
@@ -70,8 +70,8 @@ impl<'a> Reader<'a> {
     #[tactic(auto, unfolding(crate::specs::Table::probes_of_effect))]
     fn add(&mut self, name: &'a [u8], access: u32, at: Spot) -> Result<(), NoMemory>
         requires lawful { IsLawfulReader self.old }
-        requires fit { IsFit self.old (probes name.now access at) }
-        ensures ok { OnOk result (Applies self.old (probes name.now access at) self.new) }
+        requires fit { IsFit self.old (adds name.now access at) }
+        ensures ok { OnOk result (Applies self.old (adds name.now access at) self.new) }
         ensures lawful { OnOk result (IsLawfulReader self.new) }
     {
         let name = self.names.number(name)?;
@@ -98,7 +98,7 @@ impl<'a> Reader<'a> {
                 self.ended = true;
                 Ok(())
             },
-            Effect::Probes(name, access, at) => self.add(name, access, at),
+            Effect::Adds(name, access, at) => self.add(name, access, at),
         }
     }
 

@@ -2,15 +2,17 @@
 ghost use Rattle.std.specs.Prelude.{◌≡◌, ◌==◌, ◌≤◌, ◌<◌, ◌^◌, length, codes, Option, Some, None, IfSome};
 ghost use Rattle.std.specs.Option.{option_copied};
 ghost use Rattle.std.specs.List.{list_all};
-ghost use Rattle.ipc356_records.specs.Columns.{column, filled, is_blank as blank, words};
+ghost use Rattle.text_lines.specs.Blanks.{is_blank as blank};
+ghost use Rattle.ipc356_records.specs.Columns.{column, filled, words};
 ghost use Rattle.ipc356_records.specs.Form.{view, view_fields};
 ghost use Rattle.ipc356_records.specs.Lawful.{IsLawfulForm, IsName};
 ghost use Rattle.ipc356_records.specs.Reading as spec;
 
-use crate::blanks::{is_blank, next_word, without_front};
+use crate::blanks::{next_word, without_front};
 use crate::form::{Coordinate, Form, TestFields};
 use crate::record::Record;
 use lengths::{Unit, digits_value};
+use text_lines::is_blank;
 use texts::all_digits;
 
 fn is(text: &[u8], word: &[u8]) -> bool

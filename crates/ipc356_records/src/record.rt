@@ -1,10 +1,10 @@
 // The lines of a netlist and their columns.
 ghost use Rattle.std.specs.Prelude.{◌≡◌, ◌+◌, ◌-◌, ◌≤◌, length};
+ghost use Rattle.text_lines.specs.Blanks.{trimmed};
 ghost use Rattle.text_lines.specs.Lines.{start};
-ghost use Rattle.ipc356_records.specs.Columns.{part, trimmed};
+ghost use Rattle.ipc356_records.specs.Columns.{part};
 
-use crate::blanks::trimmed;
-use text_lines::Lines;
+use text_lines::{Lines, trimmed};
 
 /// A line of a netlist: its number, from 1, and its bytes without the line end.
 #[derive(Clone, Copy, Debug)]

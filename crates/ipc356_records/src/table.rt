@@ -106,7 +106,7 @@ impl<'a> Reader<'a> {
         if self.records >= 200_000 {
             return Err(RecordKind::TooManyRecords);
         }
-        Ok(Effect::Probes(name, access, Spot { x, y }))
+        Ok(Effect::Adds(name, access, Spot { x, y }))
     }
 
     #[tactic(auto, unfolding(crate::specs::Table::row))]
