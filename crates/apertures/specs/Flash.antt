@@ -2,7 +2,7 @@
 use Rattle.std.specs.Prelude.{◌≡◌, ℕ, Bool, true, false, ◌&&◌, ◌%◌, ◌/◌, ◌-◌, nat_le, nat_lt, if◌then◌else◌, ℤ, pos, ◌+ℤ◌, ◌≤ℤ◌, neg_ℤ, unsigned_abs, Option, Some, None, Result, Ok, Err}
 use Rattle.planar.specs.declared.Spot.{Spot}
 use Rattle.board_shapes.specs.declared.shape.Shape.{Shape}
-use Rattle.board_shapes.specs.Plain.{Stroke, stroke_of}
+use Rattle.board_shapes.specs.Plain.{Stroke, Figure, round, figure_of}
 use Rattle.apertures.specs.declared.aperture.Aperture.{Aperture}
 use Rattle.apertures.specs.declared.aperture.Aperture.TheVariants.{Circle, Rectangle, Obround}
 use Rattle.apertures.specs.declared.fault.FlashFault.{FlashFault}
@@ -48,21 +48,21 @@ way back by' = if back then neg_ℤ (pos by') else pos by'
 abbrev pub half : ℤ → ℤ
 half z = pos (unsigned_abs z / 2)
 
-abbrev pub placed : Stroke → Result (Option Stroke) FlashFault
-placed s = if is_placed s.a && is_placed s.b then Ok (Some s) else Err OutOfRange
+abbrev pub placed : Stroke → Result (Option Figure) FlashFault
+placed s = if is_placed s.a && is_placed s.b then Ok (Some (round s)) else Err OutOfRange
 
 -- with x over y it lies across
-abbrev pub obround : ℕ → ℕ → Spot → Result (Option Stroke) FlashFault
+abbrev pub obround : ℕ → ℕ → Spot → Result (Option Figure) FlashFault
 obround x y at =
     if nat_lt y x then placed (record { a = across at (way true ((x - y) / 2)); b = across at (way false ((x - y) / 2)); r = pos (y / 2) })
     else placed (record { a = up at (way true ((y - x) / 2)); b = up at (way false ((y - x) / 2)); r = pos (x / 2) })
 
-unfoldable pub flash_of : Aperture → Spot → Result (Option Stroke) FlashFault
-flash_of (Circle d) at = if is_zero d then Ok None else Ok (Some (record { a = at; b = at; r = half d }))
+unfoldable pub flash_of : Aperture → Spot → Result (Option Figure) FlashFault
+flash_of (Circle d) at = if is_zero d then Ok None else Ok (Some (round (record { a = at; b = at; r = half d })))
 flash_of (Obround x y) at = obround (unsigned_abs x) (unsigned_abs y) at
 flash_of (Rectangle x y) at = Ok None
 
-abbrev pub seen : Result (Option Shape) FlashFault → Result (Option Stroke) FlashFault
+abbrev pub seen : Result (Option Shape) FlashFault → Result (Option Figure) FlashFault
 seen (Ok None) = Ok None
-seen (Ok (Some shape)) = Ok (Some (stroke_of shape))
+seen (Ok (Some shape)) = Ok (Some (figure_of shape))
 seen (Err e) = Err e

@@ -67,7 +67,7 @@ size-push : (old new : Wheel) (p : Place) (earlier : List Command) (n : ℕ) (c 
 size-push old new p earlier n (defines text) e h o t =
     let adds : Adds old new o.n o.aperture = subst (λ (f : Effect). Turns old f new) o.is t in
     adds.more ∙ ap (λ (k : ℕ). k + 1) h
-size-push old new p earlier n (operates x y code) e h o t = still old new _ e (performs o.to o.stroke) o.is t (λ s. s) h
+size-push old new p earlier n (operates x y code) e h o t = still old new _ e (performs o.to o.figure) o.is t (λ s. s) h
 size-push old new p earlier n nothing e h o t = still old new _ e stays o t (λ s. s) h
 size-push old new p earlier n (refused why) e h o t = still old new _ e stays o t (λ s. s) h
 size-push old new p earlier n not_yet e h o t = still old new _ e stays o t (λ s. s) h

@@ -129,8 +129,8 @@ pub record Place : Type 0 where
 
 -- the piece that the command after these makes
 abbrev pub mark : Place → ℕ → Result Effect Fault → List PlainPiece
-mark p number (Ok (performs to (Some stroke))) =
-    record { stroke = stroke; top = p.layer; bottom = p.layer; origin = record { file = p.file; command = number; copy = 0 } } ∷ []
+mark p number (Ok (performs to (Some figure))) =
+    record { figure = figure; top = p.layer; bottom = p.layer; origin = record { file = p.file; command = number; copy = 0 } } ∷ []
 mark p number (Ok (performs to None)) = []
 mark p number (Ok stays) = []
 mark p number (Ok (makes n aperture)) = []

@@ -1,7 +1,7 @@
 -- What the reader keeps.
 use Rattle.std.specs.Prelude.{◌≡◌, ℕ, ◌+◌, ◌==◌, if◌then◌else◌, List, [], ◌++◌, length, nat_eq, Option, Some, None, Result, Ok, Err, IfSome}
 use Rattle.std.specs.HashMap.{get, hash_map_len}
-use Rattle.board_shapes.specs.Plain.{Stroke, stroke_of, plain_pieces}
+use Rattle.board_shapes.specs.Plain.{Figure, figure_of, plain_pieces}
 use Rattle.board_shapes.specs.declared.shape.Shape.{Shape}
 use Rattle.board_shapes.specs.declared.placed.Placed.{Placed}
 use Rattle.apertures.specs.declared.aperture.Aperture.{Aperture}
@@ -22,14 +22,14 @@ use Rattle.gerber_layer.specs.Lawful.{AreLawfulSettings}
 use Rattle.gerber_layer.specs.Command.{Command}
 use Rattle.gerber_layer.specs.History.{Place, mark, settings_at}
 
-abbrev pub stroke_if : Option Shape → Option Stroke
-stroke_if None = None
-stroke_if (Some shape) = Some (stroke_of shape)
+abbrev pub figure_if : Option Shape → Option Figure
+figure_if None = None
+figure_if (Some shape) = Some (figure_of shape)
 
 abbrev pub shown : Seen → Effect
 shown seen.Stays = stays
 shown (seen.Makes n aperture) = makes n aperture
-shown (seen.Performs to shape) = performs to (stroke_if shape)
+shown (seen.Performs to shape) = performs to (figure_if shape)
 
 abbrev pub showing : Result Seen Fault → Result Effect Fault
 showing (Ok e) = Ok (shown e)
@@ -66,7 +66,7 @@ place_of r = record { layer = r.layer; file = r.file; room = r.room }
 abbrev pub Turns : Wheel → Effect → Wheel → Type 0
 Turns old stays new = new ≡ old
 Turns old (makes n aperture) new = Adds old new n aperture
-Turns old (performs to stroke) new = new ≡ old
+Turns old (performs to figure) new = new ≡ old
 
 -- The reader has obeyed a command that has no fault.
 pub record Obeys (old : Reader) (c : Command) (new : Reader) : Type 0 where
@@ -97,10 +97,10 @@ pub record Applies (old : Reader) (e : Effect) (new : Reader) : Type 0 where
   pub place : place_of new ≡ place_of old
 
 -- the reader with one more piece
-pub record Places (old : Reader) (stroke : Stroke) (new : Reader) : Type 0 where
+pub record Places (old : Reader) (figure : Figure) (new : Reader) : Type 0 where
   pub settings : new.settings ≡ old.settings
   pub wheel : new.wheel ≡ old.wheel
-  pub marks : plain_pieces new.pieces.items ≡ plain_pieces old.pieces.items ++ mark (place_of old) (old.commands + 1) (Ok (performs old.settings.at (Some stroke)))
+  pub marks : plain_pieces new.pieces.items ≡ plain_pieces old.pieces.items ++ mark (place_of old) (old.commands + 1) (Ok (performs old.settings.at (Some figure)))
   pub counts : new.commands ≡ old.commands
   pub place : place_of new ≡ place_of old
 
