@@ -2,8 +2,8 @@
 use Rattle.std.proofs.Common.{◌≡◌, ℕ, ◌+◌, ◌⊎◌, inl, inr, List, [], ◌∷◌, ◌++◌, length, reverse, Result, Ok, Err, IsOk, refl, sym, ap, ◌∙◌, subst, append_assoc, append-nil}
 use Rattle.std.proofs.lemmas.List.{map-append, reverse-append, reverse-reverse}
 use Rattle.board_shapes.specs.Plain.{PlainPiece}
-use Rattle.gerber_words.specs.Cut.{Entry, Stop, HasWords, entries, start}
-use Rattle.gerber_words.proofs.OneCut.{has_words, one_cut}
+use Rattle.gerber_words.specs.Words.{Entry, Stop, HasWords, start}
+use Rattle.gerber_words.proofs.OneCut.{has_words, words_are_unique}
 use Rattle.gerber_layer.specs.Command.{Command}
 use Rattle.gerber_layer.specs.declared.kind.Fault.{Fault}
 use Rattle.gerber_layer.specs.Table.{Effect, effect}
@@ -16,13 +16,10 @@ pub record SameWords (v w : List Entry) (s t : Stop) : Type 0 where
 
 same_words : (file : List ℕ) (v w : List Entry) (s t : Stop) → HasWords (start file) v s → HasWords (start file) w t → SameWords v w s t
 same_words file v w s t a b =
-    let one = one_cut file in
-    let e = one.only a.parts s a.cut in
-    let f = one.only b.parts t b.cut in
-    record {
-      words = a.are ∙ ap (entries (start file).pair (start file).at) (e.0 ∙ sym f.0) ∙ sym b.are;
-      stop = e.1 ∙ sym f.1;
-    }
+    let one = words_are_unique file in
+    let e = one.only v s a in
+    let f = one.only w t b in
+    record { words = e.0 ∙ sym f.0; stop = e.1 ∙ sym f.1 }
 
 -- two readings see the same commands
 same_items : (file : List ℕ) (p : Place) (e f r s : List Item) → IsReadTo file p e r → IsReadTo file p f s → reverse e ++ r ≡ reverse f ++ s

@@ -3,7 +3,7 @@ use Rattle.std.proofs.Common.{◌≡◌, ℕ, ◌+◌, List, [], ◌∷◌, ◌+
 use mathlib.Core.Path.{fun_ext}
 use Rattle.std.proofs.lemmas.List.{length-map, reverse-append}
 use Rattle.board_shapes.specs.Plain.{plain_pieces}
-use Rattle.gerber_words.specs.Cut.{Ahead, Entry, Stop, HasWords, start}
+use Rattle.gerber_words.specs.Words.{Ahead, Entry, Stop, HasWords, start}
 use Rattle.gerber_words.proofs.OneCut.{has_words}
 use Rattle.gerber_layer.specs.Command.{Command}
 use Rattle.gerber_layer.specs.Reading.{command_of}

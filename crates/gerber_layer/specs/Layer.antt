@@ -1,7 +1,7 @@
 -- What a copper file is read as.
 use Rattle.std.specs.Prelude.{◌≡◌, ℕ, ◌+◌, ◌⊎◌, List, [], ◌∷◌, ◌++◌, length, map, reverse, Err, IsOk}
 use Rattle.board_shapes.specs.Plain.{PlainPiece}
-use Rattle.gerber_words.specs.Cut.{Entry, Stop, ended, broken, HasWords, start}
+use Rattle.gerber_words.specs.Words.{Entry, Stop, ended, broken, HasWords, start}
 use Rattle.gerber_layer.specs.Command.{Command, finishes, breaks}
 use Rattle.gerber_layer.specs.Reading.{command_of}
 use Rattle.gerber_layer.specs.declared.kind.Fault.{Fault}
