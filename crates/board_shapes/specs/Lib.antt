@@ -1,3 +1,10 @@
+pub mod CommonBox
+pub mod Faults
+pub mod Figures
+pub mod Lawful
+pub mod Pieces
 pub mod Plain
 pub mod Shapes
+pub mod Spans
+pub mod Tables
 pub mod Touching

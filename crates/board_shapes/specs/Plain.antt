@@ -1,35 +1,34 @@
--- Shapes and pieces as plain data, without their invariants.
-use Rattle.std.specs.Prelude.{ℕ, ℤ, List, map}
-use Rattle.planar.specs.declared.Spot.{Spot}
+-- Pieces and boards as plain data, without their invariants.
+use Rattle.std.specs.Prelude.{ℕ, List}
+use Rattle.planar.specs.declared.Frame.{Frame}
 use Rattle.board_shapes.specs.declared.shape.Shape.{Shape}
-use Rattle.board_shapes.specs.declared.shape.Shape.TheVariants.{Round, Filled}
-use Rattle.board_shapes.specs.declared.placed.Origin.{Origin}
 use Rattle.board_shapes.specs.declared.placed.Placed.{Placed}
+use Rattle.board_shapes.specs.declared.probe.Probe.{Probe}
+use Rattle.board_shapes.specs.declared.board.Board.{Board}
+use Rattle.board_shapes.specs.CommonBox.{common_box, frame_over}
+use Rattle.board_shapes.specs.Pieces.{PlainPiece, plain_pieces}
+pub use Rattle.board_shapes.specs.Figures.{Stroke, Figure, round, filled, figure_of}
+pub use Rattle.board_shapes.specs.Pieces.{PlainPiece, plain_piece, plain_pieces}
+pub use Rattle.board_shapes.specs.CommonBox.{common_box, FitsFrame, Fits}
 
--- the places at most r away from the segment from a to b
-pub record Stroke : Type 0 where
-  pub a : Spot
-  pub b : Spot
-  pub r : ℤ
+-- pieces and probes, the texts of the net names, and how many layers there are
+pub record PlainBoard : Type 0 where
+  pub pieces : List PlainPiece
+  pub probes : List Probe
+  pub names : List (List ℕ)
+  pub layers : ℕ
 
--- a stroke, or what the closed contour through the points bounds
-pub data Figure : Type 0 where
-  round : Stroke → Figure
-  filled : List Spot → Figure
+-- the board of these parts
+abbrev pub plain_parts : List (Placed Shape) → List Probe → List (List ℕ) → ℕ → PlainBoard
+plain_parts pieces probes names layers = record { pieces = plain_pieces pieces; probes = probes; names = names; layers = layers }
 
-abbrev pub figure_of : Shape → Figure
-figure_of (Round c) = round (record { a = c.a; b = c.b; r = c.r })
-figure_of (Filled area) = filled area.points.items
+abbrev pub plain_board : Board → PlainBoard
+plain_board b = plain_parts b.pieces.items b.probes b.names b.layers
 
--- a figure on a span of layers
-pub record PlainPiece : Type 0 where
-  pub figure : Figure
-  pub top : ℕ
-  pub bottom : ℕ
-  pub origin : Origin
+-- the frame of the board's pieces
+abbrev pub frame_of : PlainBoard → Frame
+frame_of b = frame_over (common_box b.pieces)
 
-abbrev pub plain_piece : Placed Shape → PlainPiece
-plain_piece p = record { figure = figure_of p.shape; top = p.top; bottom = p.bottom; origin = p.origin }
-
-abbrev pub plain_pieces : List (Placed Shape) → List PlainPiece
-plain_pieces pieces = map plain_piece pieces
+-- the pieces themselves
+abbrev pub pieces_of : Board → List (Placed Shape)
+pieces_of b = b.pieces.items

@@ -1,11 +1,12 @@
 // A solid on a span of layers.
-ghost use Rattle.board_shapes.specs.Touching.{CommonLayer};
+ghost use Rattle.board_shapes.specs.Spans.{CommonLayer, InSpan};
 ghost use Rattle.contact.specs.Solid.{InBox, IsInside, SharePoint};
+ghost use Rattle.planar.specs.Plane.{IsPlaced, at as point_at};
 ghost use Rattle.std.specs.Prelude.{IsTrue, ◌+◌, ◌≡◌, ◌≤◌, ◌↔◌};
 
 use crate::shape::Shape;
 use contact::{Closed, Meets};
-use planar::Frame;
+use planar::{Frame, Spot};
 use std::sync::ledger::Ledger;
 use steps::Steps;
 
@@ -38,6 +39,22 @@ pub struct Room {
     pub pieces: u32,
     pub edges: u32,
 }
+
+impl<S: Closed> Placed<S> {
+    /// Whether the piece is under a place on a layer: the layer is in its span, and the place in
+    /// its solid.
+    pub fn under(&self, at: Spot, layer: u8, frame: Frame) -> bool
+        requires inside { IsInside (S.extent self.now.shape) frame }
+        requires placed { IsPlaced at }
+        ensures under { IsTrue result ↔ (InSpan self.now.top self.now.bottom layer × S.holds self.now.shape (point_at at)) }
+    {
+        if layer < self.top || self.bottom < layer {
+            return false;
+        }
+        self.shape.has(at, frame)
+    }
+}
+
 impl<S: Meets<S>> Placed<S> {
     /// Whether the spans have a common layer and the solids share a point.
     pub fn touches<L: Ledger>(&self, other: &Placed<S>, frame: Frame, tests: &mut Steps<L>) -> bool

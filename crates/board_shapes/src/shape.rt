@@ -14,6 +14,7 @@ pub enum Shape {
     Round(Capsule),
     Filled(Area),
 }
+
 impl Closed for Shape {
     ghost holds = { λ s p. InShape s p };
 
@@ -56,4 +57,3 @@ impl Meets<Shape> for Shape {
 
     ghost within_boxes = { λ s t h k m. record { point = m.point; in_first = boxed s m.point h m.in_first; in_second = boxed t m.point k m.in_second } };
 }
-

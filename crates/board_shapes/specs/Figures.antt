@@ -1,0 +1,39 @@
+-- Shapes as plain data, without their invariants: figures, their points and their boxes.
+use Rattle.std.specs.Prelude.{ℤ, List}
+use Rattle.planar.specs.declared.Spot.{Spot}
+use Rattle.planar.specs.Plane.{InCapsule, Point}
+use Rattle.contact.specs.declared.Bounds.{Bounds}
+use Rattle.contact.specs.Round.{IsLawful, box_of}
+use Rattle.area_contact.specs.Contour.{InArea, IsContour, area_box, edges_of}
+use Rattle.board_shapes.specs.declared.shape.Shape.{Shape}
+use Rattle.board_shapes.specs.declared.shape.Shape.TheVariants.{Round, Filled}
+
+-- the places at most r away from the segment from a to b
+pub record Stroke : Type 0 where
+  pub a : Spot
+  pub b : Spot
+  pub r : ℤ
+
+-- a stroke, or what the closed contour through the points bounds
+pub data Figure : Type 0 where
+  round : Stroke → Figure
+  filled : List Spot → Figure
+
+abbrev pub figure_of : Shape → Figure
+figure_of (Round c) = round (record { a = c.a; b = c.b; r = c.r })
+figure_of (Filled area) = filled area.points.items
+
+-- the point lies in the figure
+abbrev pub InFigure : Figure → Point → Type 0
+InFigure (round s) p = InCapsule s.a s.b s.r p
+InFigure (filled points) p = InArea (edges_of points) p
+
+-- the box of the figure
+abbrev pub figure_box : Figure → Bounds
+figure_box (round s) = box_of s.a s.b s.r
+figure_box (filled points) = area_box points
+
+-- ends within one metre and a radius from 0 to one metre, or the points of a contour
+abbrev pub IsLawfulFigure : Figure → Type 0
+IsLawfulFigure (round s) = IsLawful s.a s.b s.r
+IsLawfulFigure (filled points) = IsContour points

@@ -1,0 +1,19 @@
+-- Pieces as plain data.
+use Rattle.std.specs.Prelude.{ℕ, List, map}
+use Rattle.board_shapes.specs.declared.shape.Shape.{Shape}
+use Rattle.board_shapes.specs.declared.placed.Origin.{Origin}
+use Rattle.board_shapes.specs.declared.placed.Placed.{Placed}
+use Rattle.board_shapes.specs.Figures.{Figure, figure_of}
+
+-- a figure on a span of layers
+pub record PlainPiece : Type 0 where
+  pub figure : Figure
+  pub top : ℕ
+  pub bottom : ℕ
+  pub origin : Origin
+
+abbrev pub plain_piece : Placed Shape → PlainPiece
+plain_piece p = record { figure = figure_of p.shape; top = p.top; bottom = p.bottom; origin = p.origin }
+
+abbrev pub plain_pieces : List (Placed Shape) → List PlainPiece
+plain_pieces pieces = map plain_piece pieces

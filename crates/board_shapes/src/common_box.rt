@@ -1,0 +1,66 @@
+// The common box of pieces, and whether it fits a frame.
+ghost use Rattle.board_shapes.specs.CommonBox.{FitsFrame, box_around, common_box, frame_over, joined};
+ghost use Rattle.board_shapes.specs.Pieces.{plain_pieces};
+ghost use Rattle.planar.specs.declared.TheConstants.{SIDE};
+ghost use Rattle.std.specs.Prelude.{IsTrue, ◌-ℤ◌, ◌≡◌, ◌≤ℤ◌, ◌↔◌};
+
+use crate::placed::Piece;
+use contact::{Bounds, Closed};
+use planar::{Frame, SIDE};
+
+/// The common box of all pieces, where there are any.
+pub(crate) fn box_of_all(pieces: &[Piece]) -> Option<Bounds>
+    ensures { result ≡ common_box (plain_pieces pieces.now) }
+{
+    match pieces {
+        [] => None,
+        [first, rest @ ..] => Some(widened(first.shape.bounds(), rest)),
+    }
+}
+
+/// The least box with the box in it and the boxes of the pieces.
+fn widened(first: Bounds, pieces: &[Piece]) -> Bounds
+    ensures { result ≡ box_around first (plain_pieces pieces.now) }
+{
+    let mut all = first;
+    for piece in pieces {
+        all = join(all, piece.shape.bounds());
+    }
+    all
+}
+
+/// The least box with both boxes in it.
+fn join(b: Bounds, c: Bounds) -> Bounds
+    ensures { result ≡ joined b c }
+{
+    Bounds {
+        left: b.left.min(c.left),
+        low: b.low.min(c.low),
+        right: b.right.max(c.right),
+        high: b.high.max(c.high),
+    }
+}
+
+/// The frame from the lower left corner of the box.
+pub(crate) fn corner(b: Bounds) -> Frame
+    ensures { result ≡ frame_over (Some b) }
+{
+    Frame {
+        left: b.left,
+        low: b.low,
+    }
+}
+
+/// Whether both sides of the box are at most that of a frame.
+pub(crate) fn fits_frame(b: Bounds) -> bool
+    ensures { IsTrue result ↔ FitsFrame b }
+{
+    is_short(b.left, b.right) && is_short(b.low, b.high)
+}
+
+/// Whether the way from `low` to `high` is at most the side of a frame.
+fn is_short(low: i64, high: i64) -> bool
+    ensures { IsTrue result ↔ ((high -ℤ low) ≤ℤ SIDE) }
+{
+    i128::from(high) - i128::from(low) <= i128::from(SIDE)
+}
