@@ -1,10 +1,12 @@
 -- Shapes as plain data, without their invariants: figures, their points and their boxes.
-use Rattle.std.specs.Prelude.{ℤ, List}
+use Rattle.std.specs.Prelude.{ℕ, ◌-◌, ℤ, List, length}
 use Rattle.planar.specs.declared.Spot.{Spot}
 use Rattle.planar.specs.Plane.{InCapsule, Point}
 use Rattle.contact.specs.declared.Bounds.{Bounds}
+use Rattle.contact.specs.declared.Capsule.{Capsule}
 use Rattle.contact.specs.Round.{IsLawful, box_of}
 use Rattle.area_contact.specs.Contour.{InArea, IsContour, area_box, edges_of}
+use Rattle.area_contact.specs.declared.Area.{Area}
 use Rattle.board_shapes.specs.declared.shape.Shape.{Shape}
 use Rattle.board_shapes.specs.declared.shape.Shape.TheVariants.{Round, Filled}
 
@@ -19,9 +21,20 @@ pub data Figure : Type 0 where
   round : Stroke → Figure
   filled : List Spot → Figure
 
+abbrev pub capsule_figure : Capsule → Figure
+capsule_figure c = round (record { a = c.a; b = c.b; r = c.r })
+
+abbrev pub area_figure : Area → Figure
+area_figure area = filled area.points.items
+
 abbrev pub figure_of : Shape → Figure
-figure_of (Round c) = round (record { a = c.a; b = c.b; r = c.r })
-figure_of (Filled area) = filled area.points.items
+figure_of (Round c) = capsule_figure c
+figure_of (Filled area) = area_figure area
+
+-- how many edges the figure has: none, or those of its contour
+abbrev pub figure_edges : Figure → ℕ
+figure_edges (round s) = 0
+figure_edges (filled points) = length points - 1
 
 -- the point lies in the figure
 abbrev pub InFigure : Figure → Point → Type 0

@@ -2,6 +2,9 @@ pub mod CommonBox
 pub mod Faults
 pub mod Figures
 pub mod Lawful
+pub mod LawfulBoard
+pub mod Laws
+pub mod Moved
 pub mod Pieces
 pub mod Plain
 pub mod Shapes

@@ -1,7 +1,7 @@
 -- The tables of a board.
-use Rattle.std.specs.Prelude.{ℕ, ◌<◌, ◌≡◌, ◌≢◌, List, length, map}
-use Rattle.tables.specs.Lists.{Lists}
-use Rattle.tables.specs.Tables.{Tables, TestPoint, row_at}
+use Rattle.std.specs.Prelude.{ℕ, ◌≡◌, ◌≢◌, length, map}
+use Rattle.tables.specs.Lists.{AreRows}
+use Rattle.tables.specs.Tables.{Tables, TestPoint}
 use Rattle.board_shapes.specs.declared.probe.Probe.{Probe}
 use Rattle.board_shapes.specs.Plain.{PlainBoard}
 use Rattle.board_shapes.specs.Touching.{TouchAt, UnderAt}
@@ -13,11 +13,6 @@ IsNear b i j = (j ≢ i) × TouchAt b i j
 -- the record, the layer and the name of the probe
 abbrev pub point_of : Probe → TestPoint
 point_of probe = record { number = probe.number; layer = probe.layer; name = probe.name }
-
--- a row for each of so many items, which lists the numbers that R says of the item
-pub record AreRows (count : ℕ) (R : ℕ → ℕ → Type 0) (rows : List (List ℕ)) : Type 0 where
-  pub many : length rows ≡ count
-  pub each : (i : ℕ) → i < count → Lists (R i) (row_at rows i)
 
 -- `near` lists for each piece the other pieces that touch it, `beneath` for each probe the pieces under it, and the probes and names are the board's
 pub record IsTables (b : PlainBoard) (t : Tables) : Type 0 where

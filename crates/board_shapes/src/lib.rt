@@ -3,11 +3,14 @@
 
 pub mod board;
 mod common_box;
+pub mod laws;
+pub mod moved;
 pub mod placed;
 pub mod probe;
 pub mod shape;
 
 pub use board::{Board, BoardFault};
+pub use moved::MoveFault;
 pub use placed::{Origin, Piece, Placed, Room};
 pub use probe::Probe;
 pub use shape::Shape;

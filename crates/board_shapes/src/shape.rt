@@ -1,6 +1,8 @@
 // A solid of copper: a capsule or a filled contour.
+ghost use Rattle.board_shapes.specs.Figures.{figure_edges, figure_of};
 ghost use Rattle.board_shapes.specs.Shapes.{InShape, IsShapeLawful, boxed, not_empty, shape_box};
 ghost use Rattle.contact.specs.RoundLaws.{turned};
+ghost use Rattle.std.specs.Prelude.{◌≡◌};
 
 use area_contact::Area;
 use contact::{Bounds, Capsule, Closed, Meets};
@@ -13,6 +15,19 @@ use steps::Steps;
 pub enum Shape {
     Round(Capsule),
     Filled(Area),
+}
+
+
+impl Shape {
+    /// The number of edges of its contour; 0 for a capsule.
+    pub fn edges(&self) -> u32
+        ensures { result ≡ figure_edges (figure_of self.now) }
+    {
+        match self {
+            Shape::Round(_) => 0,
+            Shape::Filled(area) => area.edges(),
+        }
+    }
 }
 
 impl Closed for Shape {

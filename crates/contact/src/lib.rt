@@ -11,7 +11,10 @@ ghost use Rattle.planar.specs.declared.Spot.{Spot};
 ghost use Rattle.std.specs.Int.{int_max, int_min};
 ghost use Rattle.std.specs.Prelude.{IsTrue, pos, ◌<◌, ◌+◌, ◌+ℤ◌, ◌-ℤ◌, ◌≡◌, ◌≤ℤ◌, ◌↔◌};
 
-use planar::{Frame, SIDE, Spot, segments_within};
+pub mod laws;
+
+use planar::segments_within;
+pub use planar::{Frame, SIDE, Spot};
 use std::sync::ledger::Ledger;
 use steps::Steps;
 
@@ -46,25 +49,21 @@ impl Bounds {
 
     /// Whether the box lies in the frame.
     pub fn inside(&self, frame: Frame) -> bool
-        requires left { IsReached frame.left }
-        requires low { IsReached frame.low }
         ensures { IsTrue result ↔ IsInside self.now frame }
     {
         self.inside_across(frame) && self.inside_up(frame)
     }
 
     fn inside_across(&self, frame: Frame) -> bool
-        requires left { IsReached frame.left }
         ensures { IsTrue result ↔ LiesIn frame.left self.now.left self.now.right }
     {
-        frame.left <= self.left && self.right <= frame.left + SIDE
+        frame.left <= self.left && self.right as i128 <= frame.left as i128 + SIDE as i128
     }
 
     fn inside_up(&self, frame: Frame) -> bool
-        requires low { IsReached frame.low }
         ensures { IsTrue result ↔ LiesIn frame.low self.now.low self.now.high }
     {
-        frame.low <= self.low && self.high <= frame.low + SIDE
+        frame.low <= self.low && self.high as i128 <= frame.low as i128 + SIDE as i128
     }
 
     /// Whether the spot lies in the box.
@@ -133,9 +132,9 @@ pub trait Meets<T: Closed>: Closed {
 /// The places that are at most a radius away from a segment.
 #[derive(Clone, Copy)]
 pub struct Capsule {
-    a: Spot,
-    b: Spot,
-    r: i64,
+    pub a: Spot,
+    pub b: Spot,
+    pub r: i64,
     ghost start: { IsPlaced a },
     ghost end: { IsPlaced b },
     ghost radius: { IsCapsuleRadius r },
@@ -248,10 +247,7 @@ mod tests {
         t: &T,
         frame: Frame,
         tests: &mut Steps<L>,
-    ) -> Option<bool>
-        requires left { IsReached frame.left }
-        requires low { IsReached frame.low }
-    {
+    ) -> Option<bool> {
         if s.bounds().inside(frame) && t.bounds().inside(frame) {
             Some(s.meets(t, frame, tests))
         } else {

@@ -3,7 +3,7 @@ use Rattle.std.specs.Prelude.{ℕ, ℤ, pos, neg_ℤ, ◌+ℤ◌, ◌-ℤ◌, �
 use Rattle.planar.specs.declared.Frame.{Frame}
 use Rattle.planar.specs.declared.Spot.{Spot}
 use Rattle.planar.specs.declared.TheConstants.{SIDE}
-use Rattle.planar.specs.declared.Way.{Way}
+use Rattle.planar.specs.declared.ways.Way.{Way}
 
 abbrev pub square : ℤ → ℤ
 square z = z *ℤ z

@@ -1,3 +1,4 @@
 pub mod Chains
+pub mod Consistent
 pub mod Lists
 pub mod Tables

@@ -1,0 +1,104 @@
+//! Whether points of segments are at most a radius apart.
+ghost use Rattle.planar.specs.Plane.{AnEnd, InCapsule, IsInFrame, IsPlaced, IsRadius, IsWithin, Share, at, dot_of, square};
+ghost use Rattle.std.specs.Prelude.{IsTrue, pos, ◌*ℤ◌, ◌≤ℤ◌, ◌≤◌, ◌↔◌, ◌⊎◌};
+
+use super::meeting::segments_meet;
+use super::ways::{cross, dot};
+use super::{Frame, Spot};
+
+/// Whether `p` is at most `r` from `o`.
+#[tactic(auto, using(crate::proofs::SpotWithin::whole_from_zero))]
+fn spots_within(o: Spot, p: Spot, r: u64) -> bool
+    requires o_placed { IsPlaced o }
+    requires p_placed { IsPlaced p }
+    requires radius { r ≤ 3_000_000_000 }
+    ensures { IsTrue result ↔ (dot_of o p p) ≤ℤ (square (pos r)) }
+{
+    let r = r as u128;
+    dot(o, p, p).unsigned_abs() <= r * r
+}
+
+/// Whether a spot that is `off / length` from a line is at most `r` from it, where `whole` is the
+/// square of the length.
+fn line_within(off: i128, whole: i128, r: u64) -> bool
+    requires off_small { IsWithin 18_000_000_000_000_000_000 off }
+    requires whole_small { IsWithin 18_000_000_000_000_000_000 whole }
+    requires from_zero { pos 0 ≤ℤ whole }
+    requires radius { r ≤ 3_000_000_000 }
+    ensures { IsTrue result ↔ (square off) ≤ℤ (square (pos r) *ℤ whole) }
+{
+    let off = off.unsigned_abs();
+    let r = r as u128;
+    off * off <= r * r * whole.unsigned_abs()
+}
+
+/// Whether `p` is at most `r` from some place on the segment from `a` to `b`.
+fn spot_within(a: Spot, b: Spot, p: Spot, r: u64, frame: Frame) -> bool
+    requires a_placed { IsPlaced a }
+    requires b_placed { IsPlaced b }
+    requires p_placed { IsPlaced p }
+    requires a_in_frame { IsInFrame frame a }
+    requires b_in_frame { IsInFrame frame b }
+    requires p_in_frame { IsInFrame frame p }
+    requires radius { r ≤ 3_000_000_000 }
+    ensures { IsTrue result ↔ InCapsule a b (pos r) (at p) }
+{
+    let (along, whole) = (dot(a, p, b), dot(a, b, b));
+    if along <= 0 {
+        spots_within(a, p, r)
+    } else if whole <= along {
+        spots_within(b, p, r)
+    } else {
+        line_within(cross(a, b, p), whole, r)
+    }
+}
+
+/// Whether an end of the segment from `a` to `b` is at most `r` from the segment from `c` to `d`.
+fn end_within(a: Spot, b: Spot, c: Spot, d: Spot, r: u64, frame: Frame) -> bool
+    requires a_placed { IsPlaced a }
+    requires b_placed { IsPlaced b }
+    requires c_placed { IsPlaced c }
+    requires d_placed { IsPlaced d }
+    requires a_in_frame { IsInFrame frame a }
+    requires b_in_frame { IsInFrame frame b }
+    requires c_in_frame { IsInFrame frame c }
+    requires d_in_frame { IsInFrame frame d }
+    requires radius { r ≤ 3_000_000_000 }
+    ensures { IsTrue result ↔ AnEnd a b c d (pos r) }
+{
+    spot_within(c, d, a, r, frame) || spot_within(c, d, b, r, frame)
+}
+
+/// Whether an end of one of the segments from `a` to `b` and from `c` to `d` is at most `r` from the
+/// other.
+fn ends_within(a: Spot, b: Spot, c: Spot, d: Spot, r: u64, frame: Frame) -> bool
+    requires a_placed { IsPlaced a }
+    requires b_placed { IsPlaced b }
+    requires c_placed { IsPlaced c }
+    requires d_placed { IsPlaced d }
+    requires a_in_frame { IsInFrame frame a }
+    requires b_in_frame { IsInFrame frame b }
+    requires c_in_frame { IsInFrame frame c }
+    requires d_in_frame { IsInFrame frame d }
+    requires radius { r ≤ 3_000_000_000 }
+    ensures { IsTrue result ↔ (AnEnd a b c d (pos r) ⊎ AnEnd c d a b (pos r)) }
+{
+    end_within(a, b, c, d, r, frame) || end_within(c, d, a, b, r, frame)
+}
+
+/// Whether some point of the segment from `a` to `b` is at most `r` from some point of the segment
+/// from `c` to `d`.
+pub fn segments_within(a: Spot, b: Spot, c: Spot, d: Spot, r: i64, frame: Frame) -> bool
+    requires a_placed { IsPlaced a }
+    requires b_placed { IsPlaced b }
+    requires c_placed { IsPlaced c }
+    requires d_placed { IsPlaced d }
+    requires a_in_frame { IsInFrame frame a }
+    requires b_in_frame { IsInFrame frame b }
+    requires c_in_frame { IsInFrame frame c }
+    requires d_in_frame { IsInFrame frame d }
+    requires radius { IsRadius r }
+    ensures { IsTrue result ↔ Share a b (pos 0) c d r }
+{
+    segments_meet(a, b, c, d) || ends_within(a, b, c, d, r.unsigned_abs(), frame)
+}

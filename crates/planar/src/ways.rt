@@ -1,0 +1,64 @@
+//! Ways from spot to spot, and their products.
+ghost use Rattle.planar.specs.Plane.{IsPlaced, IsShort, cross_of, dot_of};
+ghost use Rattle.std.specs.Prelude.{◌*ℤ◌, ◌+ℤ◌, ◌-ℤ◌, ◌≡◌};
+
+use super::Spot;
+
+/// The way from one spot to another.
+#[derive(Clone, Copy)]
+struct Way {
+    x: i128,
+    y: i128,
+}
+
+impl Way {
+    fn cross(self, other: Way) -> i128
+        requires self_short { IsShort self }
+        requires other_short { IsShort other }
+        ensures { result ≡ self.x *ℤ other.y -ℤ self.y *ℤ other.x }
+    {
+        self.x * other.y - self.y * other.x
+    }
+
+    fn dot(self, other: Way) -> i128
+        requires self_short { IsShort self }
+        requires other_short { IsShort other }
+        ensures { result ≡ self.x *ℤ other.x +ℤ self.y *ℤ other.y }
+    {
+        self.x * other.x + self.y * other.y
+    }
+}
+
+/// The way from `o` to `a`.
+fn between(o: Spot, a: Spot) -> Way
+    requires o_placed { IsPlaced o }
+    requires a_placed { IsPlaced a }
+    ensures across { result.x ≡ a.x -ℤ o.x }
+    ensures up { result.y ≡ a.y -ℤ o.y }
+    ensures short { IsShort result }
+{
+    Way {
+        x: a.x as i128 - o.x as i128,
+        y: a.y as i128 - o.y as i128,
+    }
+}
+
+/// The cross product of `a` minus `o` and `b` minus `o`.
+pub fn cross(o: Spot, a: Spot, b: Spot) -> i128
+    requires o_placed { IsPlaced o }
+    requires a_placed { IsPlaced a }
+    requires b_placed { IsPlaced b }
+    ensures { result ≡ cross_of o a b }
+{
+    between(o, a).cross(between(o, b))
+}
+
+/// The scalar product of `a` minus `o` and `b` minus `o`.
+pub fn dot(o: Spot, a: Spot, b: Spot) -> i128
+    requires o_placed { IsPlaced o }
+    requires a_placed { IsPlaced a }
+    requires b_placed { IsPlaced b }
+    ensures { result ≡ dot_of o a b }
+{
+    between(o, a).dot(between(o, b))
+}
