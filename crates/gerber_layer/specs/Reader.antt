@@ -1,5 +1,5 @@
 -- What the reader keeps, and how it goes on.
-use Rattle.std.specs.Prelude.{◌≡◌, ℕ, ◌+◌, ◌*◌, ◌≤◌, ◌==◌, false, if◌then◌else◌, List, [], ◌++◌, length, nat_eq, Option, Some, None, Result, Ok, Err, IfSome}
+use Rattle.std.specs.Prelude.{◌≡◌, ℕ, ◌+◌, ◌*◌, ◌^◌, ◌<◌, ◌≤◌, ◌==◌, false, if◌then◌else◌, List, [], ◌++◌, length, nat_eq, Option, Some, None, Result, Ok, Err, IfSome}
 use Rattle.std.specs.HashMap.{get, hash_map_len}
 use Rattle.planar.specs.declared.Spot.{Spot}
 use Rattle.planar.specs.Plane.{IsPlaced}
@@ -112,6 +112,7 @@ pub record AreCounted (r : Reader) : Type 0 where
   pub edges : r.edges ≡ edges_of (plain_pieces r.pieces.items)
   pub few_edges : r.edges ≤ 100_000 * length r.pieces.items
   pub few_pieces : length r.pieces.items ≤ r.room.pieces
+  pub room : r.room.pieces < 2 ^ 32
 
 pub record IsLawfulReader (r : Reader) : Type 0 where
   pub settings : AreLawfulSettings r.settings

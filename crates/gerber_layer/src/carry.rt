@@ -89,6 +89,7 @@ impl Reader {
         requires lawful { IsLawful aperture }
         requires placed { IsPlaced to }
         ensures ok { OnOk result (CarriesOut self.old (spec.flash_by (known_of self.old) aperture to) self.new) }
+        ensures dictionary { OnOk result (self.new.dictionary ≡ self.old.dictionary) }
         ensures counted { OnOk result (AreCounted self.new) }
         ensures halt { IfErr result (Stops (spec.flash_by (known_of self.old) aperture to)) }
     {
@@ -125,6 +126,7 @@ impl Reader {
         requires here { IsPlaced self.old.settings.at }
         requires placed { IsPlaced to }
         ensures ok { OnOk result (CarriesOut self.old (spec.extend (known_of self.old) to) self.new) }
+        ensures dictionary { OnOk result (self.new.dictionary ≡ self.old.dictionary) }
         ensures counted { OnOk result (AreCounted self.new) }
         ensures halt { IfErr result (Stops (spec.extend (known_of self.old) to)) }
     {
