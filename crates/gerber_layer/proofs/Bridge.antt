@@ -5,7 +5,7 @@ use Rattle.lengths.specs.declared.decimal.Unit.{Unit as Measure}
 use Rattle.planar.specs.declared.Spot.{Spot}
 use Rattle.board_shapes.specs.Pieces.{PlainPiece, plain_piece, plain_pieces}
 use Rattle.apertures.specs.declared.aperture.Aperture.{Aperture}
-use Rattle.gerber_layer.specs.Command.{Command, nothing, refused, not_yet, formats, counts_in, defines, selects, opens_region, closes_region, operates, ends, breaks, finishes}
+use Rattle.gerber_layer.specs.Command.{Command, nothing, refused, formats, counts_in, defines, selects, repeats, functions, opens_region, closes_region, operates, ends, breaks, finishes}
 use Rattle.gerber_layer.specs.declared.kind.Fault.{Fault}
 use Rattle.gerber_layer.specs.declared.command.Format.{Format}
 use Rattle.gerber_layer.specs.declared.command.Code.{Code}
@@ -42,7 +42,8 @@ point_is p earlier ps x y code e o =
 settings-push : (p : Place) (earlier : List Command) (ps : List PlainPiece) (c : Command) (e : Effect) → Outcome (known_with p earlier ps) c e → after (settings_at earlier) c (heads e) ≡ settings_at (c ∷ earlier)
 settings-push p earlier ps nothing e o = refl
 settings-push p earlier ps (refused why) e o = refl
-settings-push p earlier ps not_yet e o = refl
+settings-push p earlier ps (repeats text) e o = refl
+settings-push p earlier ps (functions function layer) e o = refl
 settings-push p earlier ps (formats format) e o = refl
 settings-push p earlier ps (counts_in unit) e o = refl
 settings-push p earlier ps (defines text) e o = refl
@@ -76,7 +77,8 @@ contour-push p earlier ps closes_region e o = ap (λ (f : Effect). contour_after
 contour-push p earlier ps (defines text) e o = keeps e (makes o.n o.aperture) (contour_at earlier) (point_at earlier) o.is refl
 contour-push p earlier ps nothing e o = keeps e stays (contour_at earlier) (point_at earlier) o refl
 contour-push p earlier ps (refused why) e o = keeps e stays (contour_at earlier) (point_at earlier) o refl
-contour-push p earlier ps not_yet e o = keeps e stays (contour_at earlier) (point_at earlier) o refl
+contour-push p earlier ps (repeats text) e o = keeps e stays (contour_at earlier) (point_at earlier) o refl
+contour-push p earlier ps (functions function layer) e o = keeps e stays (contour_at earlier) (point_at earlier) o refl
 contour-push p earlier ps (formats format) e o = keeps e stays (contour_at earlier) (point_at earlier) o refl
 contour-push p earlier ps (counts_in unit) e o = keeps e stays (contour_at earlier) (point_at earlier) o refl
 contour-push p earlier ps (selects m) e o = keeps e stays (contour_at earlier) (point_at earlier) o refl
@@ -103,7 +105,8 @@ keeps_dictionary old new k opens_region e o t = subst (λ (f : Effect). Turns ol
 keeps_dictionary old new k closes_region e o t = subst (λ (f : Effect). Turns old f new) o.1 t
 keeps_dictionary old new k nothing e o t = subst (λ (f : Effect). Turns old f new) o t
 keeps_dictionary old new k (refused why) e o t = subst (λ (f : Effect). Turns old f new) o t
-keeps_dictionary old new k not_yet e o t = subst (λ (f : Effect). Turns old f new) o t
+keeps_dictionary old new k (repeats text) e o t = subst (λ (f : Effect). Turns old f new) o t
+keeps_dictionary old new k (functions function layer) e o t = subst (λ (f : Effect). Turns old f new) o t
 keeps_dictionary old new k (formats format) e o t = subst (λ (f : Effect). Turns old f new) o t
 keeps_dictionary old new k (counts_in unit) e o t = subst (λ (f : Effect). Turns old f new) o t
 keeps_dictionary old new k (selects m) e o t = subst (λ (f : Effect). Turns old f new) o t
@@ -135,7 +138,8 @@ dictionary-push old new p earlier ps opens_region e h o t u = let f = same_found
 dictionary-push old new p earlier ps closes_region e h o t u = let f = same_found old new earlier h u in record { defined = f.defined; size = f.size }
 dictionary-push old new p earlier ps nothing e h o t u = let f = same_found old new earlier h u in record { defined = f.defined; size = f.size }
 dictionary-push old new p earlier ps (refused why) e h o t u = let f = same_found old new earlier h u in record { defined = f.defined; size = f.size }
-dictionary-push old new p earlier ps not_yet e h o t u = let f = same_found old new earlier h u in record { defined = f.defined; size = f.size }
+dictionary-push old new p earlier ps (repeats text) e h o t u = let f = same_found old new earlier h u in record { defined = f.defined; size = f.size }
+dictionary-push old new p earlier ps (functions function layer) e h o t u = let f = same_found old new earlier h u in record { defined = f.defined; size = f.size }
 dictionary-push old new p earlier ps (formats format) e h o t u = let f = same_found old new earlier h u in record { defined = f.defined; size = f.size }
 dictionary-push old new p earlier ps (counts_in unit) e h o t u = let f = same_found old new earlier h u in record { defined = f.defined; size = f.size }
 dictionary-push old new p earlier ps (selects m) e h o t u = let f = same_found old new earlier h u in record { defined = f.defined; size = f.size }

@@ -118,6 +118,7 @@ pub record IsLawfulReader (r : Reader) : Type 0 where
   pub settings : AreLawfulSettings r.settings
   pub dictionary : AreLawful r.dictionary
   pub counted : AreCounted r
+  pub layer : r.layer ≤ 32
 
 -- an effect that the reader can carry out
 abbrev pub IsFit : Dictionary → Seen → Type 0

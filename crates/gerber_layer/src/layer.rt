@@ -19,6 +19,7 @@ use std::alloc::Global;
 
 impl Reader {
     fn new(alloc: Global, layer: u8, file: u32, room: Room) -> Reader
+        requires { layer ≤ 32 }
         ensures new { IsNew (record { layer = layer; file = file; room = room }) result }
         ensures lawful { IsLawfulReader result }
     {
