@@ -15,6 +15,7 @@ use std::sync::ledger::Ledger;
 use steps::Steps;
 
 /// Placed solids, each of which is looked at for each answer. Their numbers are their places in the list.
+#[derive(Drop)]
 pub struct AllPairs<'a, S: Meets<S>> {
     pub items: &'a [Placed<S>],
     pub frame: Frame,

@@ -1,21 +1,29 @@
 -- The parts that `judge` makes are a right verdict.
-use Rattle.std.proofs.Common.{◌≡◌, ℕ, zero, suc, ◌+◌, ◌<◌, Bool, true, false, ◌==◌, ◌&&◌, if◌then◌else◌, List, [], ◌∷◌, length, map, get_or, Contains, All, Option, Some, None, MatchOption, IfSome, slice_get, refl, sym, ap, subst, ◌∙◌, arith}
-use Rattle.std.proofs.lemmas.List.Elements.{All-weaker, All-get_or}
+use Rattle.std.proofs.Common.{◌≡◌, ℕ, zero, suc, ◌+◌, ◌<◌, ◌≤◌, ◌^◌, Bool, true, false, ◌==◌, ◌&&◌, if◌then◌else◌, inl, inr, List, [], ◌∷◌, length, map, get_or, Contains, All, Option, Some, None, MatchOption, IfSome, slice_get, refl, sym, ap, subst, ◌∙◌, arith}
+use Rattle.std.proofs.lemmas.List.{get_or_past, length-map}
+use Rattle.std.proofs.lemmas.List.Elements.{All-cons, All-from_get_or, All-get_or, All-head, All-nil, All-tail, All-weaker}
 use Rattle.std.proofs.lemmas.Bool.{eqb-true}
-use Rattle.tables.specs.Lists.{Lists, IsLeast}
-use Rattle.cell_index.specs.Homes.{AreHomes}
-use Rattle.cell_index.specs.declared.field.Spot.{Spot}
-use Rattle.cell_index.specs.declared.field.Probe.{Probe}
+use Rattle.std.proofs.lemmas.Option.{slice_get_within}
+use Rattle.board_shapes.specs.Plain.{PlainBoard, plain_piece, plain_pieces}
+use Rattle.board_shapes.specs.Tables.{IsNear, IsTables, point_of}
+use Rattle.board_shapes.specs.Touching.{UnderAt}
+use Rattle.board_shapes.specs.declared.placed.Placed.{Placed}
+use Rattle.board_shapes.specs.declared.probe.Probe.{Probe}
+use Rattle.board_shapes.specs.declared.shape.Shape.{Shape}
+use Rattle.tables.specs.Lists.{AreLeast, IsLeast, Lists}
+use Rattle.tables.specs.Tables.{Stands, Tables, TestPoint, row_at}
 use Rattle.verdict.specs.declared.verdict.Twig.{Twig}
 use Rattle.verdict.specs.declared.verdict.Short.{Short}
 use Rattle.verdict.specs.declared.verdict.Open.{Open}
 use Rattle.verdict.specs.declared.verdict.PointLine.{PointLine}
-use Rattle.judge.specs.declared.shorts.Mark.{Mark}
+use Rattle.judge.specs.declared.marks.Mark.{Mark}
 use Rattle.verdict.specs.Forest.{IsTree, IsForest, Holds, net_at, first_piece}
 use Rattle.verdict.specs.Right.{IsRight, Trees, Covers, Apart, Points, Opens, Shorts, Branches, Bare, Counts, AreLines, bare_from, all_opens, all_shorts, outline, HasBranches, BeginsBeneath, IsLeastOf, first_from, marks, is_on}
-use Rattle.tables.specs.Tables.{Tables, TestPoint, Stands}
-use Rattle.judge.specs.Judged.{HaveRows, HasTables, point_of, net_by, line_by, lines_by, BeginsAtHome, IsFirst, HasHome}
-use Rattle.judge.proofs.Along.{tree_along, branches_along}
+use Rattle.judge.specs.Judged.{net_by, line_by, lines_by, BeginsAtHome, IsFirst, HasHome}
+use Rattle.judge.proofs.Along.{tree_along, branches_along, nets_few}
+use Rattle.judge.proofs.Numbers.{held_within, le_or_lt}
+
+-- ---- Points
 
 none_listed : (P : ℕ → Type 0) (row : List ℕ) → Lists P row → ((q : ℕ) → P q → ⊥) → row ≡ []
 none_listed P [] lists none = refl
@@ -27,27 +35,62 @@ net_right size near nets numbers lawful numbered P row (Some p) lists least know
     let home = lawful.covers.held p known in
     (p, lists.all p least.0, subst (λ (i : ℕ). Holds nets i p) (sym (numbered home.0 p home.1)) home.1)
 
-lines_right : (size : ℕ) (near : ℕ → ℕ → Type 0) (under : Spot → ℕ → ℕ → Type 0) (nets : List (List Twig)) (numbers : List ℕ) → IsForest size near nets → ((i p : ℕ) → Holds nets i p → get_or numbers p 0 ≡ i) → (probes : List Probe) (homes : List (Option ℕ)) (beneath : List (List ℕ)) → HaveRows under probes beneath → AreHomes under probes homes → All (λ home. IfSome home (λ p. p < size)) homes → AreLines nets beneath (map point_of probes) (lines_by numbers probes homes)
-lines_right size near under nets numbers lawful numbered [] [] [] rows least known = tt
-lines_right size near under nets numbers lawful numbered [] [] (r ∷ rs) rows least known = absurd rows
-lines_right size near under nets numbers lawful numbered [] (h ∷ hs) beneath rows least known = absurd least
-lines_right size near under nets numbers lawful numbered (p ∷ ps) [] beneath rows least known = absurd least
-lines_right size near under nets numbers lawful numbered (p ∷ ps) (h ∷ hs) [] rows least known = absurd rows
-lines_right size near under nets numbers lawful numbered (p ∷ ps) (h ∷ hs) (r ∷ rs) (row, rows) (one, least) known = (
-  record { number = refl; layer = refl; name = refl; net = net_right size near nets numbers lawful numbered (under p.at p.layer) r h row one (known 0 None (omega arith)) },
-  lines_right size near under nets numbers lawful numbered ps hs rs rows least (λ k d below. known (suc k) d (omega arith)),
+lines_right : (size : ℕ) (near : ℕ → ℕ → Type 0) (nets : List (List Twig)) (numbers : List ℕ) → IsForest size near nets → ((i p : ℕ) → Holds nets i p → get_or numbers p 0 ≡ i)
+    → (R : ℕ → ℕ → Type 0) (probes : List Probe) (homes : List (Option ℕ)) (beneath : List (List ℕ)) → length homes ≡ length probes → length beneath ≡ length probes
+    → ((k : ℕ) → k < length probes → IsLeast (R k) (get_or homes k None)) → ((k : ℕ) → k < length probes → Lists (R k) (row_at beneath k)) → All (λ home. IfSome home (λ p. p < size)) homes → AreLines nets beneath (map point_of probes) (lines_by numbers probes homes)
+lines_right size near nets numbers lawful numbered R [] [] [] long many least rows known = tt
+lines_right size near nets numbers lawful numbered R [] [] (r ∷ rs) long many least rows known = absurd (omega arith)
+lines_right size near nets numbers lawful numbered R [] (h ∷ hs) beneath long many least rows known = absurd (omega arith)
+lines_right size near nets numbers lawful numbered R (p ∷ ps) [] beneath long many least rows known = absurd (omega arith)
+lines_right size near nets numbers lawful numbered R (p ∷ ps) (h ∷ hs) [] long many least rows known = absurd (omega arith)
+lines_right size near nets numbers lawful numbered R (p ∷ ps) (h ∷ hs) (r ∷ rs) long many least rows known = (
+  record { number = refl; layer = refl; name = refl; net = net_right size near nets numbers lawful numbered (R 0) r h (rows 0 (omega arith)) (least 0 (omega arith)) (All-head (λ home. IfSome home (λ p. p < size)) h hs known) },
+  lines_right size near nets numbers lawful numbered (λ k. R (suc k)) ps hs rs (omega arith) (omega arith) (λ k below. least (suc k) (omega arith)) (λ k below. rows (suc k) (omega arith)) (All-tail (λ home. IfSome home (λ p. p < size)) h hs known),
 )
 
 least_of : (P : ℕ → Type 0) (row : List ℕ) (home : Option ℕ) (p : ℕ) → Lists P row → IsLeast P home → home ≡ Some p → IsLeastOf row p
 least_of P row None p lists least same = cc
 least_of P row (Some q) p lists least same = let e : q ≡ p = cc in subst (λ (x : ℕ). IsLeastOf row x) e (lists.all q least.0, λ r inside. least.1 r (lists.only r inside))
 
-home_least : (under : Spot → ℕ → ℕ → Type 0) (probes : List Probe) (homes : List (Option ℕ)) (beneath : List (List ℕ)) → HaveRows under probes beneath → AreHomes under probes homes → (k p : ℕ) → BeginsAtHome homes k p → BeginsBeneath beneath k p
-home_least under probes [] beneath rows least k p home = cc
-home_least under [] (h ∷ hs) beneath rows least k p home = absurd least
-home_least under (q ∷ ps) (h ∷ hs) [] rows least k p home = absurd rows
-home_least under (q ∷ ps) (h ∷ hs) (r ∷ rs) (row, rows) (one, least) zero p home = least_of (under q.at q.layer) r h p row one home
-home_least under (q ∷ ps) (h ∷ hs) (r ∷ rs) (row, rows) (one, least) (suc k) p home = home_least under ps hs rs rows least k p home
+within_of : (homes : List (Option ℕ)) (k p : ℕ) → BeginsAtHome homes k p → k < length homes
+within_of homes k p home = elim (le_or_lt (length homes) k) [
+  | inl past ↦ (let none = get_or_past homes k None past in cc)
+  | inr within ↦ within
+]
+
+home_least : (R : ℕ → ℕ → Type 0) (homes : List (Option ℕ)) (beneath : List (List ℕ)) → ((k : ℕ) → k < length homes → IsLeast (R k) (get_or homes k None)) → ((k : ℕ) → k < length homes → Lists (R k) (row_at beneath k)) → (k p : ℕ) → BeginsAtHome homes k p → BeginsBeneath beneath k p
+home_least R homes beneath least rows k p home = let within = within_of homes k p home in least_of (R k) (row_at beneath k) (get_or homes k None) p (rows k within) (least k within) home
+
+-- the piece of a home is a piece of the board
+pub homes_known : (b : PlainBoard) (homes : List (Option ℕ)) → AreLeast (length b.probes) (UnderAt b) homes → All (λ home. IfSome home (λ p. p < length b.pieces)) homes
+homes_known b homes least = All-from_get_or (λ home. IfSome home (λ p. p < length b.pieces)) homes None (λ k below. known k (get_or homes k None) (least.each k (let e = least.many in omega arith))) where
+  known : (k : ℕ) (home : Option ℕ) → IsLeast (UnderAt b k) home → IfSome home (λ p. p < length b.pieces)
+  known k None least = tt
+  known k (Some p) least = slice_get_within b.pieces p least.0.piece least.0.piece_is
+
+-- ---- Lines
+
+pub lines_long : (numbers : List ℕ) (probes : List Probe) (homes : List (Option ℕ)) → length homes ≡ length probes → length (lines_by numbers probes homes) ≡ length probes
+lines_long numbers [] homes e = refl
+lines_long numbers (p ∷ ps) [] e = absurd (omega arith)
+lines_long numbers (p ∷ ps) (h ∷ hs) e = let r = lines_long numbers ps hs (omega arith) in omega arith
+
+pub lines_named : (names : ℕ) (numbers : List ℕ) (probes : List Probe) (homes : List (Option ℕ)) → All (λ p. p.name < names) probes → All (λ line. line.name < names) (lines_by numbers probes homes)
+lines_named names numbers [] homes all = All-nil (λ line. line.name < names)
+lines_named names numbers (p ∷ ps) [] all = All-nil (λ line. line.name < names)
+lines_named names numbers (p ∷ ps) (h ∷ hs) all =
+    All-cons (λ line. line.name < names) (line_by numbers p h) (lines_by numbers ps hs) (All-head (λ q. q.name < names) p ps all) (lines_named names numbers ps hs (All-tail (λ q. q.name < names) p ps all))
+
+pub lines_netted : (size : ℕ) (near : ℕ → ℕ → Type 0) (nets : List (List Twig)) (numbers : List ℕ) → IsForest size near nets → ((i p : ℕ) → Holds nets i p → get_or numbers p 0 ≡ i) → (probes : List Probe) (homes : List (Option ℕ)) → All (λ home. IfSome home (λ p. p < size)) homes → All (λ line. IfSome line.net (λ net. net < length nets)) (lines_by numbers probes homes)
+lines_netted size near nets numbers lawful numbered [] homes known = All-nil (λ line. IfSome line.net (λ net. net < length nets))
+lines_netted size near nets numbers lawful numbered (p ∷ ps) [] known = All-nil (λ line. IfSome line.net (λ net. net < length nets))
+lines_netted size near nets numbers lawful numbered (p ∷ ps) (h ∷ hs) known =
+    All-cons (λ line. IfSome line.net (λ net. net < length nets)) (line_by numbers p h) (lines_by numbers ps hs) (netted h (All-head (λ home. IfSome home (λ p. p < size)) h hs known))
+    (lines_netted size near nets numbers lawful numbered ps hs (All-tail (λ home. IfSome home (λ p. p < size)) h hs known))
+  where
+    netted : (home : Option ℕ) → IfSome home (λ p. p < size) → IfSome (net_by numbers home) (λ net. net < length nets)
+    netted None below = tt
+    netted (Some q) below = let held = lawful.covers.held q below in subst (λ (i : ℕ). i < length nets) (sym (numbered held.0 q held.1)) (held_within nets held.0 q held.1)
 
 -- The first point of a name on a net is on the net.
 abbrev Marked : ℕ → ℕ → ℕ → List PointLine → ℕ → Type 0
@@ -102,40 +145,53 @@ homes_held size near nets numbers probes homes lawful numbered known number m fi
 along_branches : (nets : List (List Twig)) (starts more : ℕ → ℕ → Type 0) (lines : List PointLine) → ((probe p : ℕ) → starts probe p → more probe p) → (s : Short) → HasBranches nets starts lines s → HasBranches nets more lines s
 along_branches nets starts more lines along s h = record { net = h.net; there = h.there; branches = branches_along h.net starts more along lines s.net (first_piece h.net ∷ []) s.branches h.branches }
 
-homes_long : (under : Spot → ℕ → ℕ → Type 0) (probes : List Probe) (homes : List (Option ℕ)) → AreHomes under probes homes → length homes ≡ length probes
-homes_long under [] [] all = refl
-homes_long under [] (h ∷ hs) all = absurd all
-homes_long under (p ∷ ps) [] all = absurd all
-homes_long under (p ∷ ps) (h ∷ hs) (one, all) = let e = homes_long under ps hs all in omega arith
+near_within : (b : PlainBoard) (p q : ℕ) → IsNear b p q → p < length b.pieces
+near_within b p q near = slice_get_within b.pieces p near.1.first near.1.first_is
 
-lines_long : (numbers : List ℕ) (probes : List Probe) (homes : List (Option ℕ)) → length homes ≡ length probes → length (lines_by numbers probes homes) ≡ length probes
-lines_long numbers [] homes e = refl
-lines_long numbers (p ∷ ps) [] e = absurd (omega arith)
-lines_long numbers (p ∷ ps) (h ∷ hs) e = let r = lines_long numbers ps hs (omega arith) in omega arith
+pub judged_right : (b : PlainBoard) (homes : List (Option ℕ)) (nets : List (List Twig)) (numbers : List ℕ) (points : List PointLine) (opens : List Open) (shorts : List Short) (bare : List ℕ) (pieces : ℕ) (names : List (List ℕ))
+    → pieces ≡ length b.pieces → names ≡ b.names → IsForest (length b.pieces) (IsNear b) nets → ((i p : ℕ) → Holds nets i p → get_or numbers p 0 ≡ i) → AreLeast (length b.probes) (UnderAt b) homes
+    → points ≡ lines_by numbers b.probes homes → bare ≡ bare_from 0 points → opens ≡ all_opens 0 names points → map outline shorts ≡ all_shorts 0 nets names points → All (HasBranches nets (BeginsAtHome homes) points) shorts
+    → (t : Tables) → IsTables b t → IsRight t (record { pieces = pieces; names = names; nets = nets; points = points; opens = opens; shorts = shorts; bare = bare })
+judged_right b homes nets numbers points opens shorts bare pieces names all named lawful numbered least lines bared opened outlined branched t tables =
+    let known = homes_known b homes least in
+    let texts : names ≡ t.names = named ∙ sym tables.names in
+    elim [
+      | Trees ↦ record {
+        known = λ i p h. subst (λ (n : ℕ). p < n) (sym tables.near.many) (lawful.trees.known i p h);
+        trees = All-weaker (IsTree (IsNear b)) (IsTree (Stands t.near)) (λ net. tree_along (IsNear b) (Stands t.near) (λ p q h. (tables.near.each p (near_within b p q h)).all q h) net) nets lawful.trees.trees;
+        rising = lawful.trees.rising;
+      }
+      | Covers ↦ record {
+        held = λ p h. lawful.covers.held p (subst (λ (n : ℕ). p < n) tables.near.many h);
+        one_net = lawful.covers.one_net;
+        one_place = lawful.covers.one_place;
+      }
+      | Apart ↦ λ i j p q h k s. lawful.apart i j p q h k ((tables.near.each p (lawful.trees.known i p h)).only q s)
+      | Points ↦ subst (λ (ps : List TestPoint). AreLines nets t.beneath ps points) (sym tables.points) (subst (λ (ls : List PointLine). AreLines nets t.beneath (map point_of b.probes) ls) (sym lines)
+          (lines_right (length b.pieces) (IsNear b) nets numbers lawful numbered (UnderAt b) b.probes homes t.beneath least.many tables.beneath.many least.each tables.beneath.each known))
+      | Opens ↦ opened ∙ ap (λ (ns : List (List ℕ)). all_opens 0 ns points) texts
+      | Shorts ↦ outlined ∙ ap (λ (ns : List (List ℕ)). all_shorts 0 nets ns points) texts
+      | Branches ↦ All-weaker (HasBranches nets (BeginsAtHome homes) points) (HasBranches nets (BeginsBeneath t.beneath) points)
+          (along_branches nets (BeginsAtHome homes) (BeginsBeneath t.beneath) points (home_least (UnderAt b) homes t.beneath (λ k below. least.each k (let e = least.many in omega arith)) (λ k below. tables.beneath.each k (let e = least.many in omega arith)))) shorts branched
+      | Bare ↦ bared
+      | Counts ↦ (all ∙ sym tables.near.many, texts)
+    ]
 
-pub judged_right : (size : ℕ) (near : ℕ → ℕ → Type 0) (under : Spot → ℕ → ℕ → Type 0) (probes : List Probe) (names : List (List ℕ)) (homes : List (Option ℕ)) (nets : List (List Twig)) (numbers : List ℕ) (points : List PointLine) (opens : List Open) (shorts : List Short) (bare : List ℕ) (pieces : ℕ)
-    → pieces ≡ size → IsForest size near nets → ((i p : ℕ) → Holds nets i p → get_or numbers p 0 ≡ i) → AreHomes under probes homes → All (λ home. IfSome home (λ p. p < size)) homes
-    → points ≡ lines_by numbers probes homes → bare ≡ bare_from 0 points → opens ≡ all_opens 0 names points → map outline shorts ≡ all_shorts 0 nets names points → All (HasBranches nets (BeginsAtHome homes) points) shorts
-    → (t : Tables) → HasTables size near under probes names t → IsRight t (record { pieces = pieces; names = names; nets = nets; points = points; opens = opens; shorts = shorts; bare = bare })
-judged_right size near under probes names homes nets numbers points opens shorts bare pieces all lawful numbered least known lines bared opened outlined branched t tables = elim [
-  | Trees ↦ record {
-    known = λ i p h. subst (λ (n : ℕ). p < n) (sym tables.pieces) (lawful.trees.known i p h);
-    trees = All-weaker (IsTree near) (IsTree (Stands t.near)) (λ net. tree_along near (Stands t.near) (λ p q h. (tables.near_rows p).all q h) net) nets lawful.trees.trees;
-    rising = lawful.trees.rising;
-  }
-  | Covers ↦ record {
-    held = λ p h. lawful.covers.held p (subst (λ (n : ℕ). p < n) tables.pieces h);
-    one_net = lawful.covers.one_net;
-    one_place = lawful.covers.one_place;
-  }
-  | Apart ↦ λ i j p q h k s. lawful.apart i j p q h k ((tables.near_rows p).only q s)
-  | Points ↦ subst (λ (ps : List TestPoint). AreLines nets t.beneath ps points) (sym tables.points) (subst (λ (ls : List PointLine). AreLines nets t.beneath (map point_of probes) ls) (sym lines) (lines_right size near under nets numbers lawful numbered probes homes t.beneath tables.under_rows least known))
-  | Opens ↦ opened ∙ ap (λ (ns : List (List ℕ)). all_opens 0 ns points) (sym tables.texts)
-  | Shorts ↦ outlined ∙ ap (λ (ns : List (List ℕ)). all_shorts 0 nets ns points) (sym tables.texts)
-  | Branches ↦ All-weaker (HasBranches nets (BeginsAtHome homes) points) (HasBranches nets (BeginsBeneath t.beneath) points) (along_branches nets (BeginsAtHome homes) (BeginsBeneath t.beneath) points (home_least under probes homes t.beneath tables.under_rows least)) shorts branched
-  | Bare ↦ bared
-  | Counts ↦ (all ∙ sym tables.pieces, sym tables.texts)
-]
+pub pieces_long : (b : PlainBoard) (items : List (Placed Shape)) → plain_pieces items ≡ b.pieces → length items ≡ length b.pieces
+pieces_long b items same = sym (length-map items plain_piece) ∙ ap length same
 
-pub lines_count : (under : Spot → ℕ → ℕ → Type 0) (numbers : List ℕ) (probes : List Probe) (homes : List (Option ℕ)) → AreHomes under probes homes → (length homes ≡ length probes) × (length (lines_by numbers probes homes) ≡ length probes)
-lines_count under numbers probes homes all = let e = homes_long under probes homes all in (e, lines_long numbers probes homes e)
+pub lines_count : (numbers : List ℕ) (probes : List Probe) (homes : List (Option ℕ)) (lines : List PointLine) → lines ≡ lines_by numbers probes homes → length homes ≡ length probes → length lines ≡ length probes
+lines_count numbers probes homes lines same long = ap length same ∙ lines_long numbers probes homes long
+
+pub nets_short : (b : PlainBoard) (items : List (Placed Shape)) (nets trees : List (List Twig)) → plain_pieces items ≡ b.pieces → length items < 2 ^ 32 → nets ≡ trees → IsForest (length b.pieces) (IsNear b) trees → length nets < 2 ^ 32
+nets_short b items nets trees same few now lawful =
+    let e = nets_few (length b.pieces) (IsNear b) trees lawful (length trees) refl in
+    let s = ap length now in
+    let k = pieces_long b items same in
+    omega arith
+
+pub pieces_within : (b : PlainBoard) (items : List (Placed Shape)) (nets trees : List (List Twig)) → plain_pieces items ≡ b.pieces → nets ≡ trees → IsForest (length b.pieces) (IsNear b) trees → (i p : ℕ) → Holds nets i p → p < length items
+pieces_within b items nets trees same now lawful i p h =
+    let e = lawful.trees.known i p (subst (λ (ns : List (List Twig)). Holds ns i p) now h) in
+    let k = pieces_long b items same in
+    omega arith

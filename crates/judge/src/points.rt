@@ -4,7 +4,7 @@ ghost use Rattle.verdict.specs.Forest.{Holds, pieces_of};
 ghost use Rattle.verdict.specs.Right.{bare_from};
 ghost use Rattle.judge.specs.Judged.{line_by, lines_by};
 
-use cell_index::Probe;
+use board_shapes::Probe;
 use lengths::{NoMemory, Rows};
 use std::alloc::Global;
 use verdict::{PointLine, Tree, Twig};

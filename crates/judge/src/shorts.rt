@@ -1,91 +1,70 @@
 // Nets with points of several names.
-ghost use Rattle.std.specs.Prelude.{◌≡◌, ◌≢◌, ℕ, ◌+◌, ◌<◌, ◌^◌, length, map, List, Option, Some, None, [], ◌∷◌, ◌++◌, All, AllPairs, Contains, slice_index_or, slice_get, IfOk, OnOk};
+ghost use Rattle.std.specs.Prelude.{◌≡◌, ◌≢◌, ℕ, ◌+◌, ◌<◌, ◌≤◌, ◌^◌, length, map, List, Option, Some, None, [], ◌∷◌, ◌++◌, All, AllPairs, Contains, slice_index_or, slice_get, IfOk, OnOk};
 ghost use Rattle.verdict.specs.Forest.{Holds, net_at, pieces_of, first_piece};
-ghost use Rattle.verdict.specs.Right.{first_from, first_on, names_on, marks, outline, short_of, all_shorts, AreBranches, HasBranches};
+ghost use Rattle.verdict.specs.Right.{outline, short_of, all_shorts, AreBranches, HasBranches};
 ghost use Rattle.verdict.specs.declared.verdict.PointLine.{PointLine};
 ghost use Rattle.verdict.specs.declared.verdict.Twig.{Twig};
-ghost use Rattle.judge.specs.Judged.{twig_at, HangAbove, HasPlaces, BeginsAtHome, IsFirst, HasHome, mark_name, branch_name};
+ghost use Rattle.judge.specs.Judged.{AreFirst, AreNamed, twig_at, HangAbove, HasPlaces, BeginsAtHome, IsFirst, HasHome, mark_name, marks_at, branch_name};
 
+use crate::marks::Mark;
 use crate::ways::{flag_way, way_of};
-use lengths::{NoMemory, Rows, Text};
+use lengths::{NoMemory, Rows};
 use std::alloc::Global;
-use verdict::{Branch, PointLine, Short, Tree, Twig};
+use verdict::{Branch, Short, Tree, Twig};
 
-/// A name on a net, and its first point there.
-#[derive(Clone, Copy, Debug, PartialEq, Eq)]
-pub struct Mark {
-    pub name: u32,
-    pub probe: u32,
-}
-
-/// The shorts of all nets.
+/// The shorts of all nets, from the names on each net.
 pub fn shorts_of(
     alloc: Global,
     nets: &[Tree],
+    marks: &[Rows<Mark>],
     count: usize,
-    names: &[Text],
-    lines: &[PointLine],
     homes: &[Option<u32>],
 ) -> Result<Rows<Short>, NoMemory>
     requires few_nets { length nets.now < 2 ^ 32 }
-    requires few_pieces { count < 2 ^ 32 }
-    requires few_names { length names.now < 2 ^ 32 }
-    requires few_lines { length lines.now < 2 ^ 32 }
+    requires long { length marks.now ≡ length nets.now }
     requires known { (i piece : ℕ) → Holds nets.now i piece → piece < count }
     requires once { All (λ net. AllPairs (λ p q. p ≢ q) (pieces_of net)) nets.now }
     requires some { All (λ net. 0 < length net) nets.now }
     requires hang { All HangAbove nets.now }
-    requires homes { (number : ℕ) (m : Mark) → IsFirst number lines.now m → HasHome (net_at nets.now number) homes.now m }
-    ensures outlines { IfOk result (λ shorts. map outline shorts ≡ all_shorts 0 nets.now names.now lines.now) }
-    ensures branches { IfOk result (λ shorts. All (HasBranches nets.now (BeginsAtHome homes.now) lines.now) shorts) }
+    requires homes { (number : ℕ) → number < length nets.now → All (HasHome (net_at nets.now number) homes.now) (marks_at marks.now number) }
+    ensures outlines { IfOk result (λ shorts. (names : List (List ℕ)) (lines : List PointLine) → AreNamed names lines marks.now → map outline shorts ≡ all_shorts 0 nets.now names lines) }
+    ensures branches { IfOk result (λ shorts. (lines : List PointLine) → AreFirst lines marks.now → All (HasBranches nets.now (BeginsAtHome homes.now) lines) shorts) }
 {
     let mut table = vec![in alloc; 0; count]?;
     let places = table.as_mut_slice();
     let mut shorts = Rows::new(alloc);
     for n in 0..nets.len() {
         let net = nets[n].as_slice();
-        push_short(
-            alloc,
-            n as u32,
-            net,
-            names,
-            lines,
-            homes,
-            places,
-            &mut shorts,
-        )?;
+        let names = marks[n].as_slice();
+        if names.len() > 1 {
+            push_short(alloc, n as u32, net, names, homes, places, &mut shorts)?;
+        }
     }
     Ok(shorts)
 }
 
-// Adds the short of a net, if it is short.
+// Adds the short of a net.
 fn push_short(
     alloc: Global,
     number: u32,
     net: &[Twig],
-    names: &[Text],
-    lines: &[PointLine],
+    marks: &[Mark],
     homes: &[Option<u32>],
     places: &mut [usize],
     shorts: &mut Rows<Short>,
 ) -> Result<(), NoMemory>
-    requires few_names { length names.now < 2 ^ 32 }
-    requires few_lines { length lines.now < 2 ^ 32 }
+    requires several { 2 ≤ length marks.now }
     requires some { 0 < length net.now }
     requires known { (piece : ℕ) → Contains (pieces_of net.now) piece → piece < length places.old }
     requires once { AllPairs (λ p q. p ≢ q) (pieces_of net.now) }
     requires hang { HangAbove net.now }
-    requires homes { (m : Mark) → IsFirst number lines.now m → HasHome net.now homes.now m }
-    ensures outlines { OnOk result (map outline shorts.new ≡ map outline shorts.old ++ short_of number (names_on number 0 names.now lines.now)) }
-    ensures branches { OnOk result ((nets : List (List Twig)) → slice_get nets number ≡ Some net.now
-        → All (HasBranches nets (BeginsAtHome homes.now) lines.now) shorts.old → All (HasBranches nets (BeginsAtHome homes.now) lines.now) shorts.new) }
+    requires homes { All (HasHome net.now homes.now) marks.now }
+    ensures outlines { OnOk result (map outline shorts.new ≡ map outline shorts.old ++ short_of number (map mark_name marks.now)) }
+    ensures branches { OnOk result ((nets : List (List Twig)) (lines : List PointLine) → slice_get nets number ≡ Some net.now → All (IsFirst number lines) marks.now
+        → All (HasBranches nets (BeginsAtHome homes.now) lines) shorts.old → All (HasBranches nets (BeginsAtHome homes.now) lines) shorts.new) }
 {
-    let marks = marks_on(alloc, number, names, lines)?;
-    if marks.as_slice().len() < 2 {
-        return Ok(());
-    }
     place_net(net, places);
-    let branches = branches_of(alloc, net, places, homes, marks.as_slice())?;
+    let branches = branches_of(alloc, net, places, homes, marks)?;
     shorts.push(Short {
         net: number,
         branches,
@@ -101,56 +80,6 @@ fn place_net(net: &[Twig], places: &mut [usize])
 {
     for k in 0..net.len() {
         places[net[k].piece as usize] = k;
-    }
-}
-
-// The names on a net, each with its first point there.
-fn marks_on(
-    alloc: Global,
-    net: u32,
-    names: &[Text],
-    lines: &[PointLine],
-) -> Result<Rows<Mark>, NoMemory>
-    requires few_names { length names.now < 2 ^ 32 }
-    requires few_lines { length lines.now < 2 ^ 32 }
-    ensures names { IfOk result (λ found. map mark_name found ≡ names_on net 0 names.now lines.now) }
-    ensures firsts { IfOk result (λ found. All (IsFirst net lines.now) found) }
-{
-    let mut found = Rows::new(alloc);
-    for n in 0..names.len() {
-        match first_point(net, n as u32, lines) {
-            Some(probe) => {
-                found.push(Mark {
-                    name: n as u32,
-                    probe,
-                })?;
-            }
-            None => {}
-        }
-    }
-    Ok(found)
-}
-
-// The first point of a name on a net.
-fn first_point(net: u32, name: u32, lines: &[PointLine]) -> Option<u32>
-    requires { length lines.now < 2 ^ 32 }
-    ensures { result ≡ first_on net name lines.now }
-{
-    for i in 0..lines.len() {
-        if is_marked(net, name, lines[i]) {
-            return Some(i as u32);
-        }
-    }
-    None
-}
-
-// Whether a point of the name is on the net.
-fn is_marked(net: u32, name: u32, line: PointLine) -> bool
-    ensures { result ≡ marks net name line }
-{
-    match line.net {
-        Some(n) => line.name == name && n == net,
-        None => false,
     }
 }
 

@@ -1,7 +1,7 @@
 use Rattle.std.proofs.Common.{ℕ, ◌++◌, List, All, Contains, arith, sym, subst}
 use Rattle.verdict.specs.Forest.{pieces_of}
 use Rattle.judge.specs.Judged.{AreFlags}
-use Rattle.judge.proofs.Marks.{branched_root, branched_more}
+use Rattle.judge.proofs.Branches.{branched_root, branched_more}
 use Rattle.judge.proofs.shorts.branches_of.Goals as goal
 
 pub way_of-requires-clause-root : goal.way_of-requires-clause-root

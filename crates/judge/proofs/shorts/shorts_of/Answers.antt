@@ -1,10 +1,11 @@
-use Rattle.std.proofs.Common.{◌≡◌, ℕ, ◌+◌, [], List, Contains, Some, arith, refl, sym, ap, ◌∙◌, subst, map, slice_get}
+use Rattle.std.proofs.Common.{◌≡◌, ℕ, ◌+◌, [], List, All, Contains, Some, arith, length, refl, sym, ap, ◌∙◌, subst}
 use Rattle.std.proofs.lemmas.List.{get_or_read}
 use Rattle.verdict.specs.declared.verdict.Twig.{Twig}
 use Rattle.verdict.specs.Forest.{pieces_of, net_at}
-use Rattle.verdict.specs.Right.{all_shorts, short_of, names_on, outline}
-use Rattle.judge.proofs.Lines.{turn}
-use Rattle.judge.proofs.Marks.{get_some}
+use Rattle.judge.specs.declared.marks.Mark.{Mark}
+use Rattle.judge.specs.Judged.{HasHome, marks_at}
+use Rattle.judge.proofs.Branches.{shorted_all, shorted_more, shorted_skip}
+use Rattle.judge.proofs.shorts.shorts_of.Goals.{then-names-gt1+in_ok-push_short, else-names-gt1}
 use Rattle.judge.proofs.shorts.shorts_of.Goals as goal
 
 pub push_short-requires-clause-known : goal.push_short-requires-clause-known
@@ -15,11 +16,24 @@ push_short-requires-clause-known c = λ p h.
     let g = c.in_ok-table.ensures.len in
     omega arith
 
+pub push_short-requires-clause-homes : goal.push_short-requires-clause-homes
+push_short-requires-clause-homes c =
+    let same : c.as_slice-net.result.now ≡ net_at c.args.nets.now c.loop-n.n = c.as_slice-net.ensures ∙ get_or_read c.args.nets.now c.loop-n.n c.index-nets-n.result (omega arith) c.index-nets-n.is [] in
+    let row : c.as_slice-names.result.now ≡ marks_at c.args.marks.now c.loop-n.n = c.as_slice-names.ensures ∙ get_or_read c.args.marks.now c.loop-n.n c.index-marks-n.result (omega arith) c.index-marks-n.is [] in
+    subst (λ (net : List Twig). All (HasHome net c.args.homes.now) c.as_slice-names.result.now) (sym same) (subst (λ (xs : List Mark). All (HasHome (net_at c.args.nets.now c.loop-n.n) c.args.homes.now) xs) (sym row) (c.requires.homes c.loop-n.n (omega arith)))
+
 pub loop-n-preserved : goal.loop-n-preserved
 loop-n-preserved c =
-    let n : ℕ = c.loop-n.n in
-    let same : c.as_slice-net.result.now ≡ net_at c.args.nets.now n = c.as_slice-net.ensures ∙ get_or_read c.args.nets.now n c.index-nets-n.result (omega arith) c.index-nets-n.is [] in
-    let there : slice_get c.args.nets.now n ≡ Some c.as_slice-net.result.now = get_some c.args.nets.now n [] (omega arith) ∙ ap Some (sym same) in (
-      turn (λ xs. all_shorts n xs c.args.names.now c.args.lines.now) (short_of n (names_on n 0 c.args.names.now c.args.lines.now)) (λ xs. all_shorts (n + 1) xs c.args.names.now c.args.lines.now) (map outline c.loop-n.shorts) (map outline c.push_short.new.shorts) (all_shorts 0 c.args.nets.now c.args.names.now c.args.lines.now) c.args.nets.now n [] (omega arith) refl c.loop-n.invariant.0 c.in_ok-push_short.ensures.outlines,
-      c.in_ok-push_short.ensures.branches c.args.nets.now there c.loop-n.invariant.1,
-    )
+    let same : c.as_slice-net.result.now ≡ net_at c.args.nets.now c.loop-n.n = c.as_slice-net.ensures ∙ get_or_read c.args.nets.now c.loop-n.n c.index-nets-n.result (omega arith) c.index-nets-n.is [] in
+    let row : c.as_slice-names.result.now ≡ marks_at c.args.marks.now c.loop-n.n = c.as_slice-names.ensures ∙ get_or_read c.args.marks.now c.loop-n.n c.index-marks-n.result (omega arith) c.index-marks-n.is [] in
+    elim c.if-names-gt1.branch [
+      | then-names-gt1+in_ok-push_short w ↦ rw w.shorts-is (shorted_more c.args.nets.now c.args.marks.now c.args.homes.now c.loop-n.n c.loop-n.shorts w.push_short.new.shorts c.as_slice-net.result.now c.as_slice-names.result.now c.loop-n-test.true c.requires.long same row c.loop-n.invariant w.in_ok-push_short.ensures.outlines w.in_ok-push_short.ensures.branches)
+      | else-names-gt1 w ↦ rw w.shorts-is (shorted_skip c.args.nets.now c.args.marks.now c.args.homes.now c.loop-n.n c.loop-n.shorts c.as_slice-names.result.now c.loop-n-test.true c.requires.long row (omega arith) c.loop-n.invariant)
+    ]
+
+pub returns-clause-outlines : goal.returns-clause-outlines
+returns-clause-outlines c = λ names lines given.
+    shorted_all c.args.nets.now c.args.marks.now c.args.homes.now c.loop-n.n c.loop-n.shorts names lines c.loop-n-test.false c.loop-n.invariant given
+
+pub returns-clause-branches : goal.returns-clause-branches
+returns-clause-branches c = λ lines firsts. c.loop-n.invariant.branches lines firsts

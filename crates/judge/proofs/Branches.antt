@@ -1,18 +1,18 @@
--- The names on a net, and the branches of a short.
+-- The branches of shorts.
 use Rattle.std.proofs.Common.{◌≡◌, ◌≢◌, inl, inr, ℕ, zero, suc, ◌+◌, ◌<◌, ◌≤◌, Bool, true, false, List, [], ◌∷◌, ◌++◌, length, map, get_or, set, take, drop, replicate, Contains, All, AllPairs, Option, Some, None, refl, sym, ap, subst, ◌∙◌, append-nil, arith, slice_get}
-use Rattle.std.proofs.lemmas.List.{length-set, get_or-set_same, get_or-set_other, length-map, get_or-replicate, length-replicate, map-append, take_more}
+use Rattle.std.proofs.lemmas.List.{drop_all, length-set, get_or-set_same, get_or-set_other, length-map, get_or-replicate, length-replicate, map-append, take_more}
 use Rattle.std.proofs.lemmas.List.Elements.{All-get_or, Contains-append_left}
 use Rattle.std.proofs.lemmas.Bool.{cases_eq}
 use Rattle.verdict.specs.declared.verdict.Twig.{Twig}
 use Rattle.verdict.specs.declared.verdict.Branch.{Branch}
 use Rattle.verdict.specs.declared.verdict.PointLine.{PointLine}
-use Rattle.judge.specs.declared.shorts.Mark.{Mark}
+use Rattle.judge.specs.declared.marks.Mark.{Mark}
 use Rattle.verdict.specs.Forest.{pieces_of, piece_of, first_piece}
-use Rattle.verdict.specs.Right.{IsWay, BeginsAt, IsBranch, AreBranches, first_on, names_on, where_some, outline, short_of, Outline}
-use Rattle.judge.specs.Judged.{twig_at, HasPlaces, AreFlags, BeginsAtHome, IsFirst, mark_name, branch_name}
+use Rattle.verdict.specs.Right.{IsWay, BeginsAt, IsBranch, AreBranches, HasBranches, all_shorts, names_on, outline, short_of, Outline}
+use Rattle.judge.specs.Judged.{twig_at, HasPlaces, AreFlags, AreFirst, AreNamed, BeginsAtHome, IsFirst, mark_name, marks_at, branch_name}
+use Rattle.judge.proofs.Lines.{turn}
 use Rattle.verdict.specs.declared.verdict.Short.{Short}
 use Rattle.judge.proofs.Paths.{twig_piece}
-use Rattle.judge.proofs.Lines.{turn}
 
 pub record ArePlaced (net : List Twig) (long : ℕ) (i : ℕ) (places : List ℕ) : Type 0 where
   pub room : length places ≡ long
@@ -111,21 +111,6 @@ short_many n [] many = absurd (omega arith)
 short_many n (a ∷ []) many = absurd (omega arith)
 short_many n (a ∷ b ∷ rest) many = refl
 
-pub marks_some : (net n : ℕ) (names : List (List ℕ)) (lines : List PointLine) (found found' : List Mark) (probe : ℕ) (d : List ℕ) → n < length names → first_on net n lines ≡ Some probe → found' ≡ found ++ record { name = n; probe = probe } ∷ []
-    → map mark_name found ++ names_on net n (drop n names) lines ≡ names_on net 0 names lines → map mark_name found' ++ names_on net (n + 1) (drop (n + 1) names) lines ≡ names_on net 0 names lines
-marks_some net n names lines found found' probe d below first now before =
-    let m : Mark = record { name = n; probe = probe } in
-    let part : where_some (first_on net n lines) n ≡ n ∷ [] = ap (λ (o : Option ℕ). where_some o n) first in
-    turn (λ xs. names_on net n xs lines) (n ∷ []) (λ xs. names_on net (n + 1) xs lines) (map mark_name found) (map mark_name found') (names_on net 0 names lines) names n d below
-    (ap (λ (xs : List ℕ). xs ++ names_on net (n + 1) (drop (n + 1) names) lines) part) before (ap (map mark_name) now ∙ map-append mark_name found (m ∷ []))
-
-pub marks_none : (net n : ℕ) (names : List (List ℕ)) (lines : List PointLine) (found : List Mark) (d : List ℕ) → n < length names → first_on net n lines ≡ None
-    → map mark_name found ++ names_on net n (drop n names) lines ≡ names_on net 0 names lines → map mark_name found ++ names_on net (n + 1) (drop (n + 1) names) lines ≡ names_on net 0 names lines
-marks_none net n names lines found d below first before =
-    let part : where_some (first_on net n lines) n ≡ [] = ap (λ (o : Option ℕ). where_some o n) first in
-    turn (λ xs. names_on net n xs lines) [] (λ xs. names_on net (n + 1) xs lines) (map mark_name found) (map mark_name found) (names_on net 0 names lines) names n d below
-    (ap (λ (xs : List ℕ). xs ++ names_on net (n + 1) (drop (n + 1) names) lines) part) before (sym (append-nil (map mark_name found)))
-
 pub short_pushed : (n : ℕ) (names : List ℕ) (shorts shorts' : List Short) (branches : List Branch) (marks : List Mark) → 2 ≤ length marks → map mark_name marks ≡ names → map branch_name branches ≡ map mark_name marks → shorts' ≡ shorts ++ record { net = n; branches = branches } ∷ [] → map outline shorts' ≡ map outline shorts ++ short_of n names
 short_pushed n names shorts shorts' branches marks many named same now =
     let s : Short = record { net = n; branches = branches } in
@@ -137,3 +122,35 @@ pub get_some : {X : Type 0} (xs : List X) (i : ℕ) (d : X) → i < length xs �
 get_some [] i d below = absurd (omega arith)
 get_some (x ∷ xs) zero d below = refl
 get_some (x ∷ xs) (suc i) d below = get_some xs i d (omega arith)
+
+-- The shorts of the nets before n stand.
+pub record AreShorted (nets : List (List Twig)) (table : List (List Mark)) (homes : List (Option ℕ)) (n : ℕ) (shorts : List Short) : Type 0 where
+  pub outlines : (names : List (List ℕ)) (lines : List PointLine) → AreNamed names lines table → map outline shorts ++ all_shorts n (drop n nets) names lines ≡ all_shorts 0 nets names lines
+  pub branches : (lines : List PointLine) → AreFirst lines table → All (HasBranches nets (BeginsAtHome homes) lines) shorts
+
+shorts_turn : (nets : List (List Twig)) (table : List (List Mark)) (n : ℕ) (outlines outlines' : List Outline) (names : List (List ℕ)) (lines : List PointLine) → n < length nets → length table ≡ length nets → AreNamed names lines table
+    → outlines ++ all_shorts n (drop n nets) names lines ≡ all_shorts 0 nets names lines → outlines' ≡ outlines ++ short_of n (map mark_name (marks_at table n)) → outlines' ++ all_shorts (n + 1) (drop (n + 1) nets) names lines ≡ all_shorts 0 nets names lines
+shorts_turn nets table n outlines outlines' names lines below long named before now =
+    turn (λ xs. all_shorts n xs names lines) (short_of n (names_on n 0 names lines)) (λ xs. all_shorts (n + 1) xs names lines) outlines outlines' (all_shorts 0 nets names lines) nets n [] below refl before (now ∙ ap (λ (xs : List ℕ). outlines ++ short_of n xs) (named n (omega arith)))
+
+pub shorted_more : (nets : List (List Twig)) (table : List (List Mark)) (homes : List (Option ℕ)) (n : ℕ) (shorts shorts' : List Short) (net : List Twig) (row : List Mark) → n < length nets → length table ≡ length nets → net ≡ get_or nets n [] → row ≡ marks_at table n → AreShorted nets table homes n shorts
+    → map outline shorts' ≡ map outline shorts ++ short_of n (map mark_name row)
+    → ((ns : List (List Twig)) (lines : List PointLine) → slice_get ns n ≡ Some net → All (IsFirst n lines) row → All (HasBranches ns (BeginsAtHome homes) lines) shorts → All (HasBranches ns (BeginsAtHome homes) lines) shorts')
+    → AreShorted nets table homes (n + 1) shorts'
+shorted_more nets table homes n shorts shorts' net row below long here named done outlined branched = record {
+  outlines = λ names lines given. shorts_turn nets table n (map outline shorts) (map outline shorts') names lines below long given (done.outlines names lines given) (outlined ∙ ap (λ (ms : List Mark). map outline shorts ++ short_of n (map mark_name ms)) named);
+  branches = λ lines firsts. branched nets lines (get_some nets n [] below ∙ ap Some (sym here)) (subst (λ (ms : List Mark). All (IsFirst n lines) ms) (sym named) (firsts n (omega arith))) (done.branches lines firsts);
+}
+
+pub shorted_skip : (nets : List (List Twig)) (table : List (List Mark)) (homes : List (Option ℕ)) (n : ℕ) (shorts : List Short) (row : List Mark) → n < length nets → length table ≡ length nets → row ≡ marks_at table n → length row < 2 → AreShorted nets table homes n shorts → AreShorted nets table homes (n + 1) shorts
+shorted_skip nets table homes n shorts row below long named few done =
+    let none : short_of n (map mark_name (marks_at table n)) ≡ [] = short_few n (map mark_name (marks_at table n)) (let a = length-map (marks_at table n) mark_name in let b = ap length named in omega arith) in
+    record {
+      outlines = λ names lines given. shorts_turn nets table n (map outline shorts) (map outline shorts) names lines below long given (done.outlines names lines given) (sym (append-nil (map outline shorts)) ∙ ap (λ (xs : List Outline). map outline shorts ++ xs) (sym none));
+      branches = done.branches;
+    }
+
+pub shorted_all : (nets : List (List Twig)) (table : List (List Mark)) (homes : List (Option ℕ)) (n : ℕ) (shorts : List Short) (names : List (List ℕ)) (lines : List PointLine) → length nets ≤ n → AreShorted nets table homes n shorts → AreNamed names lines table → map outline shorts ≡ all_shorts 0 nets names lines
+shorted_all nets table homes n shorts names lines all done given =
+    let none : drop n nets ≡ [] = drop_all n nets all in
+    sym (append-nil (map outline shorts)) ∙ (ap (λ (xs : List (List Twig)). map outline shorts ++ all_shorts n xs names lines) (sym none) ∙ done.outlines names lines given)
