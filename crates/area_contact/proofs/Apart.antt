@@ -1,5 +1,5 @@
 -- What lies in boxes that do not meet shares no point.
-use Rattle.std.proofs.Common.{Bool, true, false, IsTrue, ◌≡◌, ◌↔◌, ℤ, List, sym, subst}
+use Rattle.std.proofs.Common.{Bool, false, IsTrue, ◌≡◌, ◌↔◌, ℤ, List, sym, subst}
 use Rattle.planar.specs.declared.Spot.{Spot}
 use Rattle.planar.specs.Plane.{at, InCapsule}
 use Rattle.contact.specs.declared.Bounds.{Bounds}

@@ -1,12 +1,12 @@
 -- Whether areas and capsules share a point, and whether a spot lies in an area, is decided.
-use Rattle.std.proofs.Common.{ℤ, pos, List, [], ◌∷◌, ◌⊎◌, ◌≡◌, inl, inr, refl}
+use Rattle.std.proofs.Common.{ℤ, pos, List, [], ◌∷◌, ◌⊎◌, inl, inr, refl}
 use Rattle.planar.specs.declared.Spot.{Spot}
-use Rattle.planar.specs.Plane.{Point, at, InCapsule, Share}
+use Rattle.planar.specs.Plane.{Point, at, InCapsule}
 use Rattle.planar.proofs.Decided.{Decided, either_decided, same_decided, segments_decided, spot_decided, test_decided, within_decided}
 use Rattle.contact.specs.Round.{IsLawful}
 use Rattle.contact.specs.Solid.{SharePoint}
 use Rattle.area_contact.specs.declared.Edge.{Edge}
-use Rattle.area_contact.specs.Contour.{edges_of, first_of, InArea, IsContour, OddCrossed, OnEdge, Reaches, SomeEdge}
+use Rattle.area_contact.specs.Contour.{edges_of, first_of, InArea, IsContour, OddCrossed, SomeEdge}
 use Rattle.area_contact.specs.Parity.{odd, odd_is}
 use Rattle.area_contact.proofs.Areas.{capsule_shared, edges_shared, end_decides, first_decides_areas, first_shared, EdgesMeet, FirstInside}
 

@@ -18,6 +18,7 @@ abbrev pub edges_from : Spot → List Spot → List Edge
 edges_from a [] = []
 edges_from a (b ∷ rest) = record { start = a; end = b } ∷ edges_from b rest
 
+-- the edges of the line through the spots
 abbrev pub edges_of : List Spot → List Edge
 edges_of [] = []
 edges_of (a ∷ rest) = edges_from a rest
@@ -27,6 +28,7 @@ abbrev pub end_from : Spot → List Spot → Spot
 end_from a [] = a
 end_from a (b ∷ rest) = end_from b rest
 
+-- the first spot of a list that has one
 abbrev pub first_of : List Spot → Spot
 first_of [] = record { x = pos 0; y = pos 0 }
 first_of (a ∷ rest) = a
@@ -75,6 +77,7 @@ widened_by b (p ∷ rest) = widened_by (widened b p) rest
 abbrev pub box_from : Spot → List Spot → Bounds
 box_from a rest = widened_by (record { left = a.x; low = a.y; right = a.x; high = a.y }) rest
 
+-- and of a list of corners
 abbrev pub area_box : List Spot → Bounds
 area_box [] = record { left = pos 0; low = pos 0; right = pos 0; high = pos 0 }
 area_box (a ∷ rest) = box_from a rest

@@ -4,6 +4,7 @@ ghost use Rattle.planar.specs.Plane.{IsPlaced};
 ghost use Rattle.std.specs.Prelude.{◌<◌, ◌≡◌};
 
 use super::*;
+use Outline::*;
 use contact::{Capsule, Closed, Meets};
 use planar::Frame;
 use std::alloc::{AllocError, Global};
@@ -93,8 +94,6 @@ impl Outline {
         }
     }
 }
-
-use Outline::*;
 
 /// Two contours, how far the second is moved, and whether the areas share a point.
 type Pair = (Outline, Outline, (i16, i16), bool);
@@ -235,6 +234,17 @@ const FRAME: Frame = Frame {
     low: -1_000_000,
 };
 
+const METRE: i64 = 10_000_000_000;
+
+fn placed(x: i64, y: i64) -> Spot
+    ensures { IsPlaced result }
+{
+    Spot {
+        x: x.clamp(-METRE, METRE),
+        y: y.clamp(-METRE, METRE),
+    }
+}
+
 /// The spot moved, and where wanted turned and five times as far out: no answer changes by that.
 fn spot(at: (i16, i16), by: (i16, i16), turn: bool) -> Spot
     ensures { IsPlaced result }
@@ -242,22 +252,27 @@ fn spot(at: (i16, i16), by: (i16, i16), turn: bool) -> Spot
     let x = at.0 as i64 + by.0 as i64;
     let y = at.1 as i64 + by.1 as i64;
     if turn {
-        Spot {
-            x: 3 * x - 4 * y,
-            y: 4 * x + 3 * y,
-        }
+        let (across, up) = (x.wrapping_mul(3), y.wrapping_mul(3));
+        placed(
+            across.wrapping_sub(y.wrapping_mul(4)),
+            up.wrapping_add(x.wrapping_mul(4)),
+        )
     } else {
-        Spot { x, y }
+        placed(x, y)
+    }
+}
+
+fn radius(r: i16, turn: bool) -> i64 {
+    if turn {
+        (r as i64).wrapping_mul(5)
+    } else {
+        r as i64
     }
 }
 
 fn round(a: (i16, i16), b: (i16, i16), r: i16, turn: bool) -> Capsule {
-    let times = if turn { 5 } else { 1 };
-    Capsule::new(
-        spot(a, (0, 0), turn),
-        spot(b, (0, 0), turn),
-        r.unsigned_abs() as i64 * times,
-    )
+    let (start, end) = (spot(a, (0, 0), turn), spot(b, (0, 0), turn));
+    Capsule::new(start, end, radius(r, turn).clamp(0, METRE))
 }
 
 fn contour(

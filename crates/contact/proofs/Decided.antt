@@ -2,7 +2,7 @@
 use Rattle.std.proofs.Common.{ℤ, ◌⊎◌}
 use Rattle.planar.specs.declared.Spot.{Spot}
 use Rattle.planar.specs.Plane.{at, InCapsule}
-use Rattle.planar.proofs.Decided.{Decided, same_decided, share_decided, spot_decided}
+use Rattle.planar.proofs.Decided.{same_decided, share_decided, spot_decided}
 use Rattle.contact.specs.Round.{IsLawful}
 use Rattle.contact.specs.Solid.{SharePoint}
 

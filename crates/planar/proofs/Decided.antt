@@ -1,5 +1,5 @@
 -- Whether two segments share a point, and whether a spot lies in a capsule, is decided: one of the two holds.
-use Rattle.std.proofs.Common.{Bool, true, false, IsTrue, refl, sym, arith, ◌≡◌, ◌↔◌, ℤ, pos, ◌+ℤ◌, ◌*ℤ◌, ◌≤ℤ◌, ◌<ℤ◌, ◌⊎◌, inl, inr}
+use Rattle.std.proofs.Common.{Bool, true, false, IsTrue, refl, arith, ◌↔◌, ℤ, pos, ◌+ℤ◌, ◌*ℤ◌, ◌≤ℤ◌, ◌<ℤ◌, ◌⊎◌, inl, inr}
 use Rattle.planar.specs.declared.Spot.{Spot}
 use Rattle.planar.specs.Plane.{square, at, AnEnd, InCapsule, Share, cross_of, dot_of}
 use Rattle.planar.proofs.Ring.{linear, le_or_lt}

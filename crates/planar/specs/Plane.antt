@@ -5,6 +5,7 @@ use Rattle.planar.specs.declared.Spot.{Spot}
 use Rattle.planar.specs.declared.TheConstants.{SIDE}
 use Rattle.planar.specs.declared.ways.Way.{Way}
 
+-- the number times itself
 abbrev pub square : ℤ → ℤ
 square z = z *ℤ z
 
@@ -23,6 +24,7 @@ pub record Point : Type 0 where
   pub n : ℤ
   pub positive : pos 1 ≤ℤ n
 
+-- the spot as a point
 abbrev pub at : Spot → Point
 at p = record { x = p.x; y = p.y; n = pos 1; positive = record { le = tt } }
 
@@ -45,8 +47,7 @@ pub record Share (a b : Spot) (r : ℤ) (c d : Spot) (s : ℤ) : Type 0 where
 abbrev pub AnEnd : Spot → Spot → Spot → Spot → ℤ → Type 0
 AnEnd a b c d r = InCapsule c d r (at a) ⊎ InCapsule c d r (at b)
 
--- of the ends of an edge, `low` is not above p and `high` is
--- the edge passes strictly to the right of p at p's height
+-- of the ends of an edge `low` is not above p and `high` is, and the edge passes strictly to the right of p at p's height
 abbrev pub PassesRight : Spot → Spot → Point → Type 0
 PassesRight low high p =
     ((p.n *ℤ low.y) ≤ℤ p.y) × (p.y <ℤ (p.n *ℤ high.y)) ×
@@ -68,6 +69,7 @@ IsReached z = IsWithin 10_000_000_000 z
 abbrev pub IsPlaced : Spot → Type 0
 IsPlaced p = IsReached p.x × IsReached p.y
 
+-- a way between two such spots
 abbrev pub IsShort : Way → Type 0
 IsShort u = IsWithin 20_000_000_000 u.x × IsWithin 20_000_000_000 u.y
 
@@ -75,6 +77,7 @@ IsShort u = IsWithin 20_000_000_000 u.x × IsWithin 20_000_000_000 u.y
 abbrev pub IsInSide : ℤ → ℤ → Type 0
 IsInSide low z = (low ≤ℤ z) × (z ≤ℤ (low +ℤ SIDE))
 
+-- the spot lies in the closed frame
 abbrev pub IsInFrame : Frame → Spot → Type 0
 IsInFrame f p = IsInSide f.left p.x × IsInSide f.low p.y
 

@@ -87,7 +87,7 @@ fn ends_within(a: Spot, b: Spot, c: Spot, d: Spot, r: u64, frame: Frame) -> bool
 }
 
 /// Whether some point of the segment from `a` to `b` is at most `r` from some point of the segment
-/// from `c` to `d`.
+/// from `c` to `d`. All four spots lie in the frame, and `r` is from 0 to `SIDE`.
 pub fn segments_within(a: Spot, b: Spot, c: Spot, d: Spot, r: i64, frame: Frame) -> bool
     requires a_placed { IsPlaced a }
     requires b_placed { IsPlaced b }

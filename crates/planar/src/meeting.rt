@@ -52,7 +52,8 @@ fn crosses_over(a: Spot, b: Spot, c: Spot, d: Spot) -> bool
     end.max(near) <= 0 && start.min(far) >= 0
 }
 
-/// Whether the closed segments from `a` to `b` and from `c` to `d` share a point.
+/// Whether the closed segments from `a` to `b` and from `c` to `d` share a rational point. Segments of
+/// no length, on one line or along each other are not excepted.
 pub fn segments_meet(a: Spot, b: Spot, c: Spot, d: Spot) -> bool
     requires a_placed { IsPlaced a }
     requires b_placed { IsPlaced b }

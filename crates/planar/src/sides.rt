@@ -5,7 +5,7 @@ ghost use Rattle.std.specs.Prelude.{IsTrue, pos, ◌<ℤ◌, ◌≡◌, ◌↔�
 use super::ways::cross;
 use super::{Hand, Spot};
 
-/// On which hand `p` lies, seen from `a` towards `b`.
+/// On which hand `p` lies, seen from `a` towards `b`: the sign of `cross(a, b, p)`.
 pub fn which_side(a: Spot, b: Spot, p: Spot) -> Hand
     requires a_placed { IsPlaced a }
     requires b_placed { IsPlaced b }
@@ -24,7 +24,9 @@ pub fn which_side(a: Spot, b: Spot, p: Spot) -> Hand
     }
 }
 
-/// Whether the ray from `p` to the right crosses the edge between `a` and `b`.
+/// Whether the ray from `p` to the right crosses the edge between `a` and `b`: one of its ends is
+/// strictly above `p` and the other is not, and the edge passes strictly to the right of `p` at `p`'s
+/// height.
 pub fn ray_crosses(a: Spot, b: Spot, p: Spot) -> bool
     requires a_placed { IsPlaced a }
     requires b_placed { IsPlaced b }

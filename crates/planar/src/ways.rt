@@ -43,7 +43,8 @@ fn between(o: Spot, a: Spot) -> Way
     }
 }
 
-/// The cross product of `a` minus `o` and `b` minus `o`.
+/// The cross product of `a` minus `o` and `b` minus `o`, in square u: above 0 where `b` is on the left
+/// of the way from `o` to `a`.
 pub fn cross(o: Spot, a: Spot, b: Spot) -> i128
     requires o_placed { IsPlaced o }
     requires a_placed { IsPlaced a }
@@ -53,7 +54,7 @@ pub fn cross(o: Spot, a: Spot, b: Spot) -> i128
     between(o, a).cross(between(o, b))
 }
 
-/// The scalar product of `a` minus `o` and `b` minus `o`.
+/// The scalar product of `a` minus `o` and `b` minus `o`, in square u.
 pub fn dot(o: Spot, a: Spot, b: Spot) -> i128
     requires o_placed { IsPlaced o }
     requires a_placed { IsPlaced a }
