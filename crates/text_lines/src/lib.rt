@@ -1,4 +1,5 @@
-//! Cuts a text file into its lines.
+//! Cuts a text file into its lines, as slices of the file (`lines`), and takes the blanks from the
+//! ends of a text (`blanks`). Nothing here takes memory.
 #![tactic(auto)]
 
 pub mod blanks;
@@ -6,3 +7,6 @@ pub mod lines;
 
 pub use blanks::{is_blank, trimmed};
 pub use lines::{Line, Lines};
+
+#[cfg(test)]
+mod tests;

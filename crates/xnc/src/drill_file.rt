@@ -71,8 +71,13 @@ fn finished(mut reader: Reader, at: usize) -> Result<Vec<Piece>, DrillFault>
     }
 }
 
-/// The barrels of a drill file, in the order of its lines, or its first faulty line. The pieces
-/// that may still come are those of `room`; drill files make no edges.
+/// The barrels of a drill file: one for each hit, slot and straight rout, in the order of the
+/// lines, with half the tool's diameter as radius, on the layers of the span. The file has at most
+/// 67,108,864 bytes, `file_number` counts from 0, and `room.pieces` is how many pieces may come.
+///
+/// `Refused` gives the first line with a fault, its number from 1, the offset of its first byte,
+/// and the first condition that it breaks; a file without `M30` is refused at the next line number,
+/// at its length. `NoMemory` may come at any file.
 pub fn read_drill(
     alloc: Global,
     file: &[u8],

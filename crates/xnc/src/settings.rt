@@ -1,4 +1,6 @@
 // What earlier lines have set.
+ghost use Rattle.std.specs.Prelude.{◌≡◌};
+
 use lengths::Unit;
 use planar::Spot;
 
@@ -11,6 +13,7 @@ pub enum Stage {
     Ended,
 }
 
+/// Whether a place is drilled, or the tool goes along routs.
 #[derive(Clone, Copy, Debug, PartialEq, Eq)]
 pub enum Mode {
     Drill,
@@ -29,4 +32,24 @@ pub struct Settings {
     pub down: bool,
     /// The last place.
     pub at: Spot,
+}
+
+impl Settings {
+    pub fn in_stage(self, stage: Stage) -> Settings
+        ensures { result ≡ record self { stage = stage } }
+    {
+        Settings { stage, ..self }
+    }
+
+    pub fn with_tool(self, tool: Option<u32>) -> Settings
+        ensures { result ≡ record self { tool = tool } }
+    {
+        Settings { tool, ..self }
+    }
+
+    pub fn with_down(self, down: bool) -> Settings
+        ensures { result ≡ record self { down = down } }
+    {
+        Settings { down, ..self }
+    }
 }

@@ -427,26 +427,17 @@ fn after(settings: Settings, form: &Form, effect: &Effect) -> Settings
 {
     let at = gone(settings.at, effect);
     match *form {
-        Form::Start => Settings {
-            stage: Stage::Header,
-            ..settings
-        },
+        Form::Start => settings.in_stage(Stage::Header),
+        Form::HeaderEnd => settings.in_stage(Stage::Body),
+        Form::End => settings.in_stage(Stage::Ended),
         Form::Unit(unit) => Settings {
             unit: Some(unit),
             ..settings
         },
-        Form::HeaderEnd => Settings {
-            stage: Stage::Body,
-            ..settings
-        },
-        Form::NoTool => Settings {
-            tool: None,
-            ..settings
-        },
-        Form::Select(n) => Settings {
-            tool: Some(n),
-            ..settings
-        },
+        Form::NoTool => settings.with_tool(None),
+        Form::Select(n) => settings.with_tool(Some(n)),
+        Form::Lower => settings.with_down(true),
+        Form::Raise => settings.with_down(false),
         Form::Drill => Settings {
             mode: Mode::Drill,
             ..settings
@@ -457,19 +448,7 @@ fn after(settings: Settings, form: &Form, effect: &Effect) -> Settings
             at,
             ..settings
         },
-        Form::Lower => Settings {
-            down: true,
-            ..settings
-        },
-        Form::Raise => Settings {
-            down: false,
-            ..settings
-        },
         Form::Straight(_) | Form::Hit(_) | Form::Slot(_, _) => Settings { at, ..settings },
-        Form::End => Settings {
-            stage: Stage::Ended,
-            ..settings
-        },
         _ => settings,
     }
 }
