@@ -1,12 +1,12 @@
 -- What the reader knows is what looking back finds.
-use Rattle.std.proofs.Common.{◌≡◌, ℕ, ◌+◌, Bool, true, false, cond, List, [], ◌∷◌, ◌++◌, length, Option, Some, None, Result, Ok, Err, refl, sym, ap, ◌∙◌, subst}
+use Rattle.std.proofs.Common.{◌≡◌, ℕ, Bool, true, false, cond, List, ◌∷◌, ◌++◌, Option, Some, None, Result, Ok, refl, sym, ap, ◌∙◌, subst}
 use Rattle.board_shapes.specs.declared.probe.Probe.{Probe}
 use Rattle.lengths.specs.declared.decimal.Unit.{Unit as Measure}
 use Rattle.ipc356_records.specs.declared.kind.RecordKind.{RecordKind}
 use Rattle.ipc356_records.specs.declared.reader.Reader.{Reader}
-use Rattle.ipc356_records.specs.Form.{Form, TestFields, blank, unread, units, ends, continues, tests, unknown, finishes}
-use Rattle.ipc356_records.specs.Table.{Known, Effect, stays, sets, closes, adds, set_unit, row, behind, effect, probes_of_effect}
-use Rattle.ipc356_records.specs.NetlistFile.{known_at, unit_before, has_ended, probes_in, probes_of}
+use Rattle.ipc356_records.specs.Form.{Form, blank, unread, units, ends, continues, tests, unknown, finishes}
+use Rattle.ipc356_records.specs.Table.{Known, Effect, stays, sets, closes, set_unit, row, behind, effect, probes_of_effect}
+use Rattle.ipc356_records.specs.NetlistFile.{known_at, probes_in, probes_of}
 use Rattle.ipc356_records.specs.Reader.{known_of, after, Obeys}
 use Rattle.ipc356_records.proofs.Outcome.{Tested, tested}
 

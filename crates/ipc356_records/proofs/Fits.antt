@@ -1,26 +1,26 @@
 -- What is read fits a board.
-use Rattle.std.proofs.Common.{◌≡◌, ℕ, ◌+◌, ◌*◌, ◌<◌, ◌≤◌, Bool, true, false, cond, List, [], ◌∷◌, ◌++◌, length, map, get_or, ℤ, pos, Option, Some, None, Result, Ok, Err, IsOk, not, ◌||◌, ◌≢◌, eqb, refl, sym, ap, ◌∙◌, subst, append-nil, arith}
+use Rattle.std.proofs.Common.{◌≡◌, ℕ, ◌+◌, ◌*◌, ◌<◌, ◌≤◌, Bool, true, false, cond, List, [], ◌∷◌, ◌++◌, length, map, ℤ, Result, Ok, Err, IsOk, not, ◌||◌, ◌≢◌, eqb, refl, sym, ap, subst, append-nil, arith}
 use borrow.Author.Tests.{leb-true, leb-false, ltb-false}
 use Rattle.std.proofs.lemmas.Int.{ints}
 use Rattle.std.proofs.lemmas.Bool.{eqb-false}
 use Rattle.std.proofs.lemmas.List.Sums.{prefix_len-le-length}
-use Rattle.std.specs.Prelude.{nat_lt, nat_le, All, neg_ℤ, IfOk}
+use Rattle.std.specs.Prelude.{nat_lt, All, IfOk}
 use Rattle.ipc356_records.specs.declared.kind.RecordFault.{RecordFault}
 use Rattle.std.specs.List.{list_any, position_or_len}
 use Rattle.std.proofs.lemmas.List.{length-append, length-map}
 use Rattle.std.proofs.lemmas.List.Elements.{All-append, All-map, All-push}
 use Rattle.planar.specs.Plane.{IsPlaced, IsReached}
-use Rattle.planar.specs.declared.Spot.{Spot}
 use Rattle.lengths.specs.Decimal.{signed}
 use Rattle.lengths.specs.declared.decimal.Unit.{Unit as Measure}
+use Rattle.board_shapes.specs.Lawful.{IsProbe}
 use Rattle.board_shapes.specs.declared.probe.Probe.{Probe}
 use Rattle.ipc356_records.specs.declared.form.Coordinate.{Coordinate}
 use Rattle.ipc356_records.specs.declared.kind.RecordKind.{RecordKind}
 use Rattle.ipc356_records.specs.declared.kind.RecordKind.TheVariants as kind
 use Rattle.ipc356_records.specs.Form.{Form, TestFields, blank, unread, units, ends, continues, tests, unknown, finishes}
 use Rattle.ipc356_records.specs.Names.{is_name, index_of, with_name}
-use Rattle.ipc356_records.specs.Table.{Known, Effect, stays, sets, closes, adds, step_of, placed, effect, layers_of, probe_at, probes_of_effect}
-use Rattle.ipc356_records.specs.NetlistFile.{known_at, records_before, names_of, probes_in, probes_of, forms, Clean, IsRead, IsOnBoard, FitsBoard}
+use Rattle.ipc356_records.specs.Table.{Known, Effect, stays, sets, closes, step_of, placed, effect, layers_of, probe_at, probes_of_effect}
+use Rattle.ipc356_records.specs.NetlistFile.{known_at, records_before, names_of, probes_in, probes_of, forms, Clean, IsRead, FitsBoard}
 use Rattle.ipc356_records.proofs.Outcome.{Tested, past_test}
 use Rattle.ipc356_records.proofs.Bridge.{Outcome, outcome}
 
@@ -65,10 +65,10 @@ names_grow name names = by (list_any (is_name name) names)
     by false = let e : length (names ++ name ∷ []) ≡ length names + 1 = length-append names (name ∷ []) in record { least = omega arith; most = omega arith }
 
 -- a probe stays on the board where names come
-more_names : (n m layers : ℕ) (ps : List Probe) → n ≤ m → All (IsOnBoard n layers) ps → All (IsOnBoard m layers) ps
+more_names : (n m layers : ℕ) (ps : List Probe) → n ≤ m → All (IsProbe n layers) ps → All (IsProbe m layers) ps
 more_names n m layers ps h all i d below =
     let p = all i d below in
-    record { name = (let e = p.name in omega arith); top = p.top; bottom = p.bottom; at = p.at }
+    record { named = (let e = p.named in omega arith); from_top = p.from_top; to_bottom = p.to_bottom; placed = p.placed }
 
 -- each layer of an access code is one of the board's, and there are one or two
 pub record IsLayer (layers n : ℕ) : Type 0 where
@@ -98,16 +98,16 @@ layers_fit layers access some h = by (eqb access 0) refl
 
 -- what a history without a fault has made
 pub record Fit (layers : ℕ) (earlier : List Form) : Type 0 where
-  pub lawful : All (IsOnBoard (length (names_of earlier)) layers) (probes_of layers earlier)
+  pub lawful : All (IsProbe (length (names_of earlier)) layers) (probes_of layers earlier)
   pub records : records_before earlier ≤ 200000
   pub names : length (names_of earlier) ≤ records_before earlier
   pub probes : length (probes_of layers earlier) ≤ 2 * records_before earlier
 
 -- a line that is no test record changes none of it
-stays_fit : (layers : ℕ) (earlier : List Form) (r : Result Effect RecordKind) (e : Effect) → Fit layers earlier → r ≡ Ok e → probes_of_effect (known_at layers earlier) e ≡ [] → All (IsOnBoard (length (names_of earlier)) layers) (probes_of layers earlier ++ probes_in (known_at layers earlier) r) × (length (probes_of layers earlier ++ probes_in (known_at layers earlier) r) ≤ 2 * records_before earlier)
+stays_fit : (layers : ℕ) (earlier : List Form) (r : Result Effect RecordKind) (e : Effect) → Fit layers earlier → r ≡ Ok e → probes_of_effect (known_at layers earlier) e ≡ [] → All (IsProbe (length (names_of earlier)) layers) (probes_of layers earlier ++ probes_in (known_at layers earlier) r) × (length (probes_of layers earlier ++ probes_in (known_at layers earlier) r) ≤ 2 * records_before earlier)
 stays_fit layers earlier r e f ok none =
     let same : probes_of layers earlier ++ probes_in (known_at layers earlier) r ≡ probes_of layers earlier = rw (ok, none) (append-nil (probes_of layers earlier)) in
-    (subst (All (IsOnBoard (length (names_of earlier)) layers)) (sym same) f.lawful, (let a = ap length same in let b = f.probes in omega arith))
+    (subst (All (IsProbe (length (names_of earlier)) layers)) (sym same) f.lawful, (let a = ap length same in let b = f.probes in omega arith))
 
 no_probes : (k : Known) (e f : Effect) → e ≡ f → probes_of_effect k f ≡ [] → probes_of_effect k e ≡ []
 no_probes k e f same none = rw same none
@@ -123,8 +123,8 @@ tested_fit layers earlier fields e some f ok t =
     let made : List Probe = map (probe_at (records_before earlier + 1) (index_of t.name names) t.at) (layers_of layers t.access) in
     let made_is : probes_of layers (tests fields ∷ earlier) ≡ probes_of layers earlier ++ made = rw (ok, t.is) refl in
     let at : IsPlaced t.at = (placed_reached t.unit t.x t.at.x t.x_is, placed_reached t.unit t.y t.at.y t.y_is) in
-    let each : All (IsOnBoard (length (with_name t.name names)) layers) made = All-map (IsOnBoard (length (with_name t.name names)) layers) (probe_at (records_before earlier + 1) (index_of t.name names) t.at) (layers_of layers t.access) (λ i d below. let l = reach.each i d below in record { name = index_below t.name names; top = l.top; bottom = l.bottom; at = at }) in
-    let all : All (IsOnBoard (length (with_name t.name names)) layers) (probes_of layers earlier ++ made) = All-append (IsOnBoard (length (with_name t.name names)) layers) (probes_of layers earlier) made (more_names (length names) (length (with_name t.name names)) layers (probes_of layers earlier) grows.least f.lawful) each in
+    let each : All (IsProbe (length (with_name t.name names)) layers) made = All-map (IsProbe (length (with_name t.name names)) layers) (probe_at (records_before earlier + 1) (index_of t.name names) t.at) (layers_of layers t.access) (λ i d below. let l = reach.each i d below in record { named = index_below t.name names; from_top = l.top; to_bottom = l.bottom; placed = at }) in
+    let all : All (IsProbe (length (with_name t.name names)) layers) (probes_of layers earlier ++ made) = All-append (IsProbe (length (with_name t.name names)) layers) (probes_of layers earlier) made (more_names (length names) (length (with_name t.name names)) layers (probes_of layers earlier) grows.least f.lawful) each in
     let two : length made ≡ length (layers_of layers t.access) = length-map (layers_of layers t.access) (probe_at (records_before earlier + 1) (index_of t.name names) t.at) in
     let total : length (probes_of layers earlier ++ made) ≡ length (probes_of layers earlier) + length made = length-append (probes_of layers earlier) made in
     record {

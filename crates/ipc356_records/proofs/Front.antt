@@ -1,8 +1,8 @@
 -- Blanks in front of a text.
-use Rattle.std.proofs.Common.{◌≡◌, ℕ, ◌+◌, ◌-◌, ◌<◌, ◌≤◌, suc, true, false, List, [], ◌∷◌, length, take, drop, get_or, refl, sym, ap, ◌∙◌, arith}
+use Rattle.std.proofs.Common.{◌≡◌, ℕ, ◌+◌, ◌-◌, ◌≤◌, suc, true, false, List, ◌∷◌, length, refl, arith}
 use Rattle.std.proofs.lemmas.List.{length-drop, length-take}
 use Rattle.std.specs.List.{prefix_len, suffix_len}
-use Rattle.text_lines.specs.Blanks.{is_blank, without_front, without_back, trimmed}
+use Rattle.text_lines.specs.Blanks.{is_blank, without_front, trimmed}
 
 pub front-blank : (b : ℕ) (text : List ℕ) → is_blank b ≡ true → without_front (b ∷ text) ≡ without_front text
 front-blank b text h =

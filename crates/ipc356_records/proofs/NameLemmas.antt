@@ -1,7 +1,7 @@
 -- The names of a table, as lists.
 use Rattle.std.proofs.Common.{◌≡◌, ℕ, ◌+◌, ◌<◌, Bool, true, false, not, ◌||◌, cond, List, [], ◌∷◌, ◌++◌, length, take, map, get_or, refl, sym, arith, ap, ◌∙◌, subst}
 use Rattle.std.specs.List.{list_any, position_or_len, All}
-use Rattle.std.proofs.lemmas.List.{map-append, get_or-map, take_more, take-map, length-map}
+use Rattle.std.proofs.lemmas.List.{map-append, get_or-map, take_more, length-map}
 use Rattle.ipc356_records.specs.Names.{is_name, index_of, with_name}
 
 -- a name's number among views of names

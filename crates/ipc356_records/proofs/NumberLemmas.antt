@@ -1,10 +1,8 @@
 -- Numbers in columns.
-use Rattle.std.proofs.Common.{◌≡◌, ℕ, ◌+◌, ◌-◌, ◌*◌, ◌^◌, ◌<◌, ◌≤◌, zero, suc, Bool, true, false, not, ◌&&◌, ◌||◌, cond, List, [], ◌∷◌, ◌++◌, length, Option, Some, None, refl, sym, ap, ◌∙◌, subst, append-nil, arith}
+use Rattle.std.proofs.Common.{◌≡◌, ℕ, ◌-◌, ◌^◌, ◌<◌, ◌≤◌, zero, suc, Bool, true, false, ◌&&◌, List, [], ◌∷◌, ◌++◌, length, None, refl, ap, ◌∙◌, append-nil, arith}
 use Rattle.std.specs.Prelude.{replicate}
 use Rattle.std.proofs.Math.Nat.{pow-le-pow_right}
 use Rattle.std.specs.List.{list_all}
-use Rattle.std.specs.Str.Parse.{digits_value}
-use Rattle.std.proofs.lemmas.List.Folds.{list_all-append}
 use Rattle.texts.specs.Digits.{is_decimal_digit}
 use Rattle.text_lines.specs.Blanks.{is_blank, without_front}
 use Rattle.ipc356_records.proofs.Front.{front-blank, front-other}

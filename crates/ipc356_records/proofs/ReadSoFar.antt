@@ -13,7 +13,7 @@ use Rattle.ipc356_records.specs.declared.reader.Reader.{Reader}
 use Rattle.ipc356_records.specs.Form.{Form, finishes}
 use Rattle.ipc356_records.specs.Reading.{form_of}
 use Rattle.ipc356_records.specs.Table.{Known, Effect, effect}
-use Rattle.ipc356_records.specs.NetlistFile.{Item, item_of, items, forms, known_at, Clean, IsReadTo, IsRead, IsRefused, IsFault}
+use Rattle.ipc356_records.specs.NetlistFile.{Item, item_of, items, forms, known_at, Clean, IsRead, IsRefused, IsFault}
 use Rattle.ipc356_records.specs.Reader.{known_of, Obeys, IsNew, Halts, fault_at, Leaves, Faults}
 use Rattle.ipc356_records.proofs.Bridge.{State, state-push}
 

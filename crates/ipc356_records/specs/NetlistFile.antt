@@ -1,7 +1,7 @@
 -- What a netlist file is read as. A history is a list of lines by their forms, the last first.
-use Rattle.std.specs.Prelude.{◌≡◌, ℕ, ◌+◌, ◌<◌, ◌≤◌, ◌⊎◌, Bool, true, false, ◌||◌, if◌then◌else◌, List, [], ◌∷◌, ◌++◌, length, map, reverse, All, Option, Some, None, Result, Ok, Err, IsOk}
-use Rattle.planar.specs.Plane.{IsPlaced}
+use Rattle.std.specs.Prelude.{◌≡◌, ℕ, ◌+◌, ◌≤◌, ◌⊎◌, Bool, true, false, ◌||◌, if◌then◌else◌, List, [], ◌∷◌, ◌++◌, length, map, reverse, All, Option, Some, None, Result, Ok, Err, IsOk}
 use Rattle.lengths.specs.declared.decimal.Unit.{Unit as Measure}
+use Rattle.board_shapes.specs.Lawful.{IsProbe}
 use Rattle.board_shapes.specs.declared.probe.Probe.{Probe}
 use Rattle.text_lines.specs.Lines.{PlainLine, lines_of}
 use Rattle.ipc356_records.specs.declared.kind.RecordKind.{RecordKind}
@@ -127,14 +127,8 @@ pub record HasOneAnswer (file : List ℕ) (layers : ℕ) : Type 0 where
   pub not_both : (probes : List Probe) (names : List (List ℕ)) (why : RecordKind) (line : ℕ) → IsRead file layers probes names → IsRefused file layers why line → ⊥
   pub one_fault : (why other : RecordKind) (line n : ℕ) → IsRefused file layers why line → IsRefused file layers other n → (why ≡ other) × (line ≡ n)
 
--- what a board asks of a probe: a name and a layer that are there, and a place within 1 m
-pub record IsOnBoard (names layers : ℕ) (p : Probe) : Type 0 where
-  pub name : p.name < names
-  pub top : 1 ≤ p.layer
-  pub bottom : p.layer ≤ layers
-  pub at : IsPlaced p.at
-
+-- what a board asks of probes and names
 pub record FitsBoard (layers : ℕ) (probes : List Probe) (names : List (List ℕ)) : Type 0 where
-  pub lawful : All (IsOnBoard (length names) layers) probes
+  pub lawful : All (IsProbe (length names) layers) probes
   pub few_probes : length probes ≤ 400000
   pub few_names : length names ≤ 200000

@@ -1,7 +1,5 @@
 -- What a line does, or its fault, by what is known before it.
-use Rattle.std.specs.Prelude.{ℕ, ◌+◌, ◌*◌, Bool, true, false, ◌==◌, nat_eq, nat_lt, nat_le, if◌then◌else◌, List, [], ◌∷◌, ◌++◌, map, ℤ, Option, Some, None, Result, Ok, Err}
-use Rattle.std.specs.List.{list_any, position_or_len}
-use Rattle.std.specs.Cmp.Lexicographic.{pointwise}
+use Rattle.std.specs.Prelude.{ℕ, ◌+◌, ◌*◌, Bool, ◌==◌, nat_lt, nat_le, if◌then◌else◌, List, [], ◌∷◌, map, ℤ, Option, Some, None, Result, Ok, Err}
 use Rattle.planar.specs.declared.Spot.{Spot}
 use Rattle.lengths.specs.Decimal.{signed}
 use Rattle.lengths.specs.declared.decimal.Unit.{Unit as Measure}
@@ -11,7 +9,7 @@ use Rattle.ipc356_records.specs.declared.form.Coordinate.{Coordinate}
 use Rattle.ipc356_records.specs.declared.kind.RecordKind.{RecordKind}
 use Rattle.ipc356_records.specs.declared.kind.RecordKind.TheVariants as kind
 use Rattle.ipc356_records.specs.Form.{Form, TestFields, blank, unread, units, ends, continues, tests, unknown, finishes}
-use Rattle.ipc356_records.specs.Names.{index_of, with_name}
+use Rattle.ipc356_records.specs.Names.{index_of}
 
 -- What is known before a line: the unit, how many test records stand before it, their distinct names in first-seen order,
 -- whether the end code stands before it, and how many layers the board has.

@@ -40,11 +40,11 @@ fn all_graphic(text: &[u8]) -> bool
 }
 
 // One column, blank past the line's end.
-fn column(record: &Record, number: usize) -> u8
+fn column(line: &Record, number: usize) -> u8
     requires { 1 ≤ number }
-    ensures { result ≡ column number record.now.text.now }
+    ensures { result ≡ column number line.now.text.now }
 {
-    match record.text.get(number - 1) {
+    match line.text.get(number - 1) {
         None => b' ',
         Some(byte) => *byte,
     }
@@ -91,13 +91,13 @@ fn number_of(text: &[u8], width: usize) -> Option<u32>
 }
 
 #[tactic(auto, unfolding(crate::specs::Reading::access_in))]
-fn access_in(record: &Record) -> Option<u32>
-    ensures value { result ≡ spec.access_in record.now.text.now }
+fn access_in(line: &Record) -> Option<u32>
+    ensures value { result ≡ spec.access_in line.now.text.now }
 {
-    if column(record, 39) != b'A' {
+    if column(line, 39) != b'A' {
         return None;
     }
-    number_of(record.columns(40, 41), 2)
+    number_of(line.columns(40, 41), 2)
 }
 
 #[tactic(auto, unfolding(crate::specs::Reading::signed_number))]
@@ -117,28 +117,28 @@ fn signed_number(sign: u8, steps: Option<u32>) -> Option<Coordinate>
 
 // A letter, a sign and a number of six columns, from a column on.
 #[tactic(auto, unfolding(crate::specs::Reading::coordinate_in))]
-fn coordinate_in(record: &Record, letter: u8, at: usize) -> Option<Coordinate>
+fn coordinate_in(line: &Record, letter: u8, at: usize) -> Option<Coordinate>
     requires from_one { 1 ≤ at }
     requires in_line { at ≤ 50 }
-    ensures value { result ≡ spec.coordinate_in letter at record.now.text.now }
+    ensures value { result ≡ spec.coordinate_in letter at line.now.text.now }
 {
-    if column(record, at) != letter {
+    if column(line, at) != letter {
         return None;
     }
-    let steps = number_of(record.columns(at + 2, at + 7), 6);
-    signed_number(column(record, at + 1), steps)
+    let steps = number_of(line.columns(at + 2, at + 7), 6);
+    signed_number(column(line, at + 1), steps)
 }
 
 #[tactic(auto, unfolding(crate::specs::Reading::fields_in))]
-fn fields_in<'a>(record: &Record<'a>) -> TestFields<'a>
-    ensures value { view_fields result ≡ spec.fields_in record.now.text.now }
+fn fields_in<'a>(line: &Record<'a>) -> TestFields<'a>
+    ensures value { view_fields result ≡ spec.fields_in line.now.text.now }
     ensures lawful { IsName (option_copied result.name) }
 {
     TestFields {
-        name: name_of(record.net()),
-        access: access_in(record),
-        x: coordinate_in(record, b'X', 42),
-        y: coordinate_in(record, b'Y', 50),
+        name: name_of(line.net()),
+        access: access_in(line),
+        x: coordinate_in(line, b'X', 42),
+        y: coordinate_in(line, b'Y', 50),
     }
 }
 
@@ -202,17 +202,17 @@ fn is_other_zero(text: &[u8]) -> bool
 
 // A record by its code.
 #[tactic(auto, unfolding(crate::specs::Reading::coded))]
-fn coded<'a>(record: &Record<'a>) -> Form<'a>
-    ensures value { view result ≡ spec.coded record.now.text.now }
+fn coded<'a>(line: &Record<'a>) -> Form<'a>
+    ensures value { view result ≡ spec.coded line.now.text.now }
     ensures lawful { IsLawfulForm (view result) }
 {
-    let text = record.text;
+    let text = line.text;
     if begins(text, b"999") {
         Form::End
     } else if is_continuation(text) {
         Form::Continuation
     } else if is_test(text) {
-        Form::Test(fields_in(record))
+        Form::Test(fields_in(line))
     } else if is_other_three(text) || is_other_zero(text) {
         Form::Unread
     } else {
@@ -222,17 +222,17 @@ fn coded<'a>(record: &Record<'a>) -> Form<'a>
 
 /// What a line says by itself.
 #[tactic(auto, unfolding(crate::specs::Reading::form_of))]
-pub fn read_form<'a>(record: &Record<'a>) -> Form<'a>
-    ensures value { view result ≡ spec.form_of record.now.text.now }
+pub fn read_form<'a>(line: &Record<'a>) -> Form<'a>
+    ensures value { view result ≡ spec.form_of line.now.text.now }
     ensures lawful { IsLawfulForm (view result) }
 {
-    if all_blank(record.columns(1, 57)) {
+    if all_blank(line.columns(1, 57)) {
         Form::Blank
-    } else if begins(record.text, b"C") {
+    } else if begins(line.text, b"C") {
         Form::Unread
-    } else if begins(record.text, b"P") {
-        parameter(record.columns(2, 57))
+    } else if begins(line.text, b"P") {
+        parameter(line.columns(2, 57))
     } else {
-        coded(record)
+        coded(line)
     }
 }

@@ -1,7 +1,6 @@
-use Rattle.std.proofs.Common.{◌≡◌, ◌≢◌, ◌-◌, ◌≤◌, true, false, List, ℕ, ◌∷◌, length, take, drop, sym, ap, ◌∙◌, subst, arith}
+use Rattle.std.proofs.Common.{◌≡◌, ◌≢◌, ◌-◌, ◌≤◌, List, ℕ, length, take, drop, sym, ap, ◌∙◌, subst, arith}
 use Rattle.std.proofs.lemmas.Bool.{eqb-true, eqb-false}
 use Rattle.std.proofs.lemmas.List.{take_all, length-drop}
-use Rattle.ipc356_records.specs.Columns.{words}
 use Rattle.ipc356_records.proofs.WordLemmas.{Next, first_word, no_word}
 use Rattle.ipc356_records.proofs.blanks.next_word.Goals as goal
 

@@ -1,9 +1,8 @@
-use Rattle.std.proofs.Common.{◌≡◌, List, ℕ, sym, ap, ◌∙◌, subst}
-use Rattle.board_shapes.specs.declared.probe.Probe.{Probe}
-use Rattle.text_lines.specs.Lines.{Ahead, start}
+use Rattle.std.proofs.Common.{ap, ◌∙◌}
+use Rattle.text_lines.specs.Lines.{Ahead}
 use Rattle.ipc356_records.specs.Records.{ahead}
 use Rattle.ipc356_records.proofs.Fits.{if_fits_board}
-use Rattle.ipc356_records.proofs.ReadSoFar.{ReadSoFar, read-start, read-line, line-fault, if-read, if-fault}
+use Rattle.ipc356_records.proofs.ReadSoFar.{read-line, line-fault, if-read, if-fault}
 use Rattle.ipc356_records.proofs.netlist.read_netlist.Goals as goal
 
 pub loop-record-preserved : goal.loop-record-preserved

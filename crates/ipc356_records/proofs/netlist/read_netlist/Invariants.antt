@@ -1,4 +1,4 @@
-use Rattle.std.proofs.Common.{◌≤◌, length}
+use Rattle.std.proofs.Common.{length}
 use Rattle.ipc356_records.specs.Records.{ahead}
 use Rattle.ipc356_records.specs.Reader.{IsLawfulReader}
 use Rattle.ipc356_records.proofs.ReadSoFar.{ReadSoFar}

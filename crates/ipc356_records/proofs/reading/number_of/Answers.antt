@@ -1,4 +1,4 @@
-use Rattle.std.proofs.Common.{◌≡◌, length, sym, ap, ◌∙◌, arith}
+use Rattle.std.proofs.Common.{sym, ap, ◌∙◌}
 use Rattle.ipc356_records.specs.Reading.{digits_in, number_of}
 use Rattle.ipc356_records.proofs.NumberLemmas.{filled-full, number_of-short}
 use Rattle.ipc356_records.proofs.reading.number_of.Goals as goal

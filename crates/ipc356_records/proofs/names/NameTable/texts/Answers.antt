@@ -1,4 +1,4 @@
-use Rattle.std.proofs.Common.{◌≡◌, List, ℕ, ap, Err, ◌∷◌, [], ◌++◌, ◌∙◌}
+use Rattle.std.proofs.Common.{List, ℕ, ap, Err, ◌∷◌, [], ◌++◌, ◌∙◌}
 use Rattle.lengths.specs.Text.{IsText}
 use Rattle.ipc356_records.proofs.NameLemmas.{text_at, names-step}
 use Rattle.ipc356_records.proofs.names.NameTable.texts.Goals as goal
