@@ -9,7 +9,7 @@ use Rattle.gerber_words.specs.declared.attribute.AttributeKind.TheVariants.{File
 abbrev pub is_comma : ℕ → Bool
 is_comma b = b == 44
 
--- what the first two letters say (Gerber Layer Format Specification, 5.1)
+-- what the first two letters say (Gerber Layer Format Specification, section 5)
 unfoldable pub attribute_kind : List ℕ → Option AttributeKind
 attribute_kind text =
     if starts_with nat_eq text (codes "TF") then Some File

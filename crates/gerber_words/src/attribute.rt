@@ -6,8 +6,9 @@ ghost use Rattle.gerber_words.specs.Stepping.{entry_of};
 
 use crate::words::Word;
 
-/// What an attribute is attached to (Gerber Layer Format Specification, 5.1): the file, the
-/// apertures or the objects that follow; or the attribute deletes others.
+/// What an attribute speaks of (Gerber Layer Format Specification, section 5): the file (`TF`), the
+/// apertures that are defined next (`TA`) or the objects that are made next (`TO`); or it deletes
+/// attributes (`TD`).
 #[derive(Clone, Copy, Debug, PartialEq, Eq)]
 pub enum AttributeKind {
     File,

@@ -48,30 +48,4 @@ pub enum Hand {
 }
 
 #[cfg(test)]
-mod tests {
-    use super::*;
-
-    fn spot(x: i64, y: i64) -> Spot
-        ensures { result ≡ record { x = x; y = y } }
-    {
-        Spot { x, y }
-    }
-
-    #[test]
-    fn the_rows_of_segments(rt: HostRuntime) {
-        let frame = Frame { left: 0, low: 0 };
-        let (start, end, corner) = (spot(0, 0), spot(SIDE, SIDE), spot(SIDE, 0));
-        for (r, want) in [(2_121_320_343, false), (2_121_320_344, true)] {
-            assert_eq!(rt;
-                segments_within(start, end, corner, corner, r, frame),
-                want,
-                "at {r}"
-            );
-        }
-        assert!(rt; segments_meet(start, end, corner, spot(0, SIDE)));
-        assert!(rt; !segments_meet(start, corner, spot(0, 1), spot(SIDE, 1)));
-        assert!(rt; segments_meet(start, corner, corner, end));
-        assert!(rt; ray_crosses(corner, end, spot(0, 0)));
-        assert!(rt; !ray_crosses(corner, end, end));
-    }
-}
+mod tests;

@@ -1,4 +1,4 @@
--- Contours by their points.
+-- A contour in the making is the list of its points.
 use Rattle.std.specs.Prelude.{ℕ, Bool, true, false, ◌&&◌, not, ◌==◌, nat_lt, if◌then◌else◌, List, [], ◌∷◌, ◌++◌, length, ℤ, pos, negsuc, Option, Some, None, Result, Ok, Err, ◌≡◌, ◌<◌}
 use Rattle.planar.specs.declared.Spot.{Spot}
 use Rattle.area_contact.specs.Contour.{end_from}
@@ -13,16 +13,19 @@ use Rattle.regions.specs.declared.contour.CloseFault.TheVariants.{Open, Short, N
 abbrev pub points_of : Contour → List Spot
 points_of c = c.first ∷ c.ends.items
 
+-- the numbers are equal
 abbrev pub same_number : ℤ → ℤ → Bool
 same_number (pos m) (pos n) = m == n
 same_number (negsuc m) (negsuc n) = m == n
 same_number (pos m) (negsuc n) = false
 same_number (negsuc m) (pos n) = false
 
+-- the spots are one
 abbrev pub same_spot : Spot → Spot → Bool
 same_spot a b = same_number a.x b.x && same_number a.y b.y
 
--- The points of the area that a contour bounds. One point has no edge, and bounds none.
+-- What a contour through the points bounds: nothing where it has no edge, else the area through exactly these points.
+-- It is open where its last point is not its first, and short where it is closed with one or two edges.
 unfoldable pub close_of : List Spot → Result (Option (List Spot)) CloseFault
 close_of [] = Ok None
 close_of (a ∷ []) = Ok None
@@ -30,6 +33,7 @@ close_of (a ∷ b ∷ rest) =
     if not (same_spot (end_from b rest) a) then Err Open
     else (if nat_lt (length rest) 2 then Err Short else Ok (Some (a ∷ b ∷ rest)))
 
+-- the points of the area, where there is one
 abbrev pub points_if : Option Area → Option (List Spot)
 points_if None = None
 points_if (Some area) = Some (area.points.items)
@@ -41,7 +45,7 @@ Closes (Err Open) closed = Err Open ≡ closed
 Closes (Err Short) closed = Err Short ≡ closed
 Closes (Err NoMemory) closed = Unit {0}
 
--- the points have one more, or stay; there are at most 100,001
+-- the points have one more, or stay; the contour is too long where it has 100,000 edges
 abbrev pub Adds : List Spot → Spot → Result (Unit {0}) AddFault → List Spot → Type 0
 Adds old to (Ok done) new = new ≡ old ++ to ∷ []
 Adds old to (Err add.TooLong) new = (100_000 < length old) × (new ≡ old)

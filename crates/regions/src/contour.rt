@@ -43,7 +43,7 @@ pub struct Contour {
 impl Contour {
     ghost use Rattle.regions.specs.Contours.{Adds, Closes, close_of, points_of};
 
-    /// A contour that begins at a spot and has no edge yet.
+    /// A contour that begins at a spot within 1 m and has no edge yet.
     pub fn begin(alloc: Global, at: Spot) -> Contour
         requires { IsPlaced at }
         ensures { points_of result ≡ at ∷ [] }
@@ -54,8 +54,9 @@ impl Contour {
         }
     }
 
-    /// Adds an edge from the last spot to this one. `TooLong` where there are 100,000 edges
-    /// already. A refusal changes nothing.
+    /// Adds an edge from the last spot to this one, within 1 m.
+    ///
+    /// `TooLong` where there are 100,000 edges already. A refusal changes nothing.
     pub fn add(&mut self, to: Spot) -> Result<(), AddFault>
         requires { IsPlaced to }
         ensures { Adds (points_of self.old) to result (points_of self.new) }
@@ -77,9 +78,10 @@ impl Contour {
         self.ends.len() as u32
     }
 
-    /// The area that the contour bounds, or `None` where it has no edge. `Open` where it has one and
-    /// the last spot is not the first; `Short` where it is closed with one or two edges. A refusal
-    /// drops the contour.
+    /// The area that the contour bounds, or `None` where it has no edge.
+    ///
+    /// `Open` where it has an edge and the last spot is not the first; `Short` where it is closed
+    /// with one or two edges. A refusal drops the contour.
     #[tactic(auto, unfolding(crate::specs::Contours::close_of))]
     pub fn close(self) -> Result<Option<Area>, CloseFault>
         ensures { Closes result (close_of (points_of self)) }

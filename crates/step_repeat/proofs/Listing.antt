@@ -1,15 +1,20 @@
 -- Lists put end to end, and what holds of each of their pieces.
-use Rattle.std.proofs.Common.{◌≡◌, ℕ, ◌+◌, ◌-◌, ◌*◌, ◌<◌, ◌≤◌, suc, zero, Bool, true, false, ◌&&◌, nat_lt, ◌⊎◌, inl, inr, List, [], ◌∷◌, ◌++◌, length, map, Option, None, Result, Ok, refl, sym, ap, ◌∙◌, subst, arith, append_assoc, append-nil, add-zero}
+use Rattle.std.proofs.Common.{◌≡◌, ℕ, ◌+◌, ◌-◌, ◌*◌, ◌<◌, ◌≤◌, suc, zero, Bool, true, false, ◌&&◌, nat_lt, ◌⊎◌, inl, inr, cond, List, [], ◌∷◌, ◌++◌, length, map, Option, Some, None, Result, Ok, Err, length-append, refl, sym, ap, ◌∙◌, subst, pos, ◌*ℤ◌, arith, append_assoc, append-nil, add-zero}
 use Rattle.std.specs.List.{flat_map, list_all, range_with_len}
+use Rattle.std.proofs.lemmas.List.{length-map}
 use Rattle.std.proofs.lemmas.List.Folds.{list_all-append}
+use Rattle.std.proofs.Math.Nat.{mul_assoc}
+use Rattle.board_shapes.specs.Moved.{moved_piece}
 use Rattle.board_shapes.specs.Pieces.{PlainPiece, plain_piece, plain_pieces}
 use Rattle.board_shapes.specs.declared.placed.Placed.{Placed}
 use Rattle.board_shapes.specs.declared.placed.Room.{Room}
 use Rattle.board_shapes.specs.declared.shape.Shape.{Shape}
 use Rattle.std.proofs.Math.Nat.{eq-or-lt_of_le}
-use borrow.Author.Tests.{le-ltb}
-use Rattle.step_repeat.specs.Copies.{are_placed, block_at, column_of, copies_at, copies_of, room_fault}
+use borrow.Author.Tests.{le-ltb, ltb-false}
+use Rattle.step_repeat.specs.Copies.{are_placed, block_at, column_of, copies_at, copies_of, edges_in, placed_copies, room_fault}
 use Rattle.step_repeat.specs.declared.repeat.Repeat.{Repeat}
+use Rattle.step_repeat.specs.declared.fault.CopyFault.{CopyFault}
+use Rattle.step_repeat.specs.declared.fault.CopyFault.TheVariants.{TooManyPieces, TooManyEdges, OutOfRange}
 
 -- one more list at the end
 ranged : (f : ℕ → List PlainPiece) (a n m : ℕ) → a + n ≡ m → flat_map f (range_with_len a (suc n)) ≡ flat_map f (range_with_len a n) ++ f m
@@ -72,3 +77,36 @@ no_room_fault r room block h =
     let pieces : nat_lt room.pieces 0 ≡ false = le-ltb _ _ (omega arith) in
     let edges : nat_lt room.edges 0 ≡ false = le-ltb _ _ (omega arith) in
     rw (none, product, pieces, edges) refl
+
+-- how long lists are that are put end to end
+length_joined : (f : ℕ → List PlainPiece) (a n size : ℕ) → ((k : ℕ) → length (f k) ≡ size) → length (flat_map f (range_with_len a n)) ≡ n * size
+length_joined f a zero size h = omega arith
+length_joined f a (suc n) size h =
+    let first : length (f a) ≡ size = h a in
+    let more : length (flat_map f (range_with_len (a + 1) n)) ≡ n * size = length_joined f (a + 1) n size h in
+    let all : length (f a ++ flat_map f (range_with_len (a + 1) n)) ≡ length (f a) + length (flat_map f (range_with_len (a + 1) n)) = length-append (f a) (flat_map f (range_with_len (a + 1) n)) in
+    all ∙ rw (first, more) (grind arith)
+
+length_copies : (r : Repeat) (block : List PlainPiece) → length (copies_of r block) ≡ r.across * r.up * length block
+unfolding copies_of
+length_copies r block =
+    let column : (k : ℕ) → length (column_of r block k) ≡ r.up * length block = λ k. length_joined (block_at r block k) 0 r.up (length block) (λ j. length-map block (moved_piece (pos k *ℤ r.dx) (pos j *ℤ r.dy) (k * r.up + j))) in
+    length_joined (column_of r block) 0 r.across (r.up * length block) column ∙ sym (mul_assoc r.across r.up (length block))
+
+-- copies have room
+pub few : (r : Repeat) (room : Room) (block : List PlainPiece) (made : List (Placed Shape)) → copies_at r room block ≡ Ok (plain_pieces made) → length made ≤ room.pieces
+unfolding copies_at room_fault
+few r room block made h = by (nat_lt room.pieces (r.across * r.up * length block)) (nat_lt room.edges (r.across * r.up * edges_in block)) refl h
+  where
+    by : (p e : Bool) → nat_lt room.pieces (r.across * r.up * length block) ≡ p → placed_copies (copies_of r block) (cond p (Some TooManyPieces) (cond e (Some TooManyEdges) None)) ≡ Ok (plain_pieces made) → length made ≤ room.pieces
+    by true e test h = cc
+    by false true test h = cc
+    by false false test h = kept (are_placed (copies_of r block)) h
+      where
+        kept : (b : Bool) → cond b (Ok (copies_of r block)) (Err OutOfRange) ≡ Ok (plain_pieces made) → length made ≤ room.pieces
+        kept false h = cc
+        kept true h =
+            let same : copies_of r block ≡ plain_pieces made = cc in
+            let size : length made ≡ r.across * r.up * length block = sym (length-map made plain_piece) ∙ ap length (sym same) ∙ length_copies r block in
+            let within : r.across * r.up * length block ≤ room.pieces = ltb-false _ _ test in
+            omega arith

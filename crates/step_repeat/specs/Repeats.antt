@@ -83,7 +83,7 @@ parameters_at text unit =
     if not (list_any is_y text) then Err BadText
     else (count_at (before_first is_y text) >>= λ across. rows_at across (after_first is_y text) unit)
 
--- what a word says: `SR` has no parameters (Gerber Layer Format Specification, 4.11)
+-- what a word says: `SR` has no parameters (Gerber Layer Format Specification, step and repeat)
 unfoldable pub repeat_at : List ℕ → Measure → Result (Option Repeat) RepeatFault
 repeat_at word unit =
     if pointwise nat_eq word (codes "SR") then Ok None

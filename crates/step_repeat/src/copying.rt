@@ -19,10 +19,10 @@ struct Shift {
 }
 
 impl Repeat {
-    /// The pieces that stand for a block (Gerber Layer Format Specification, 4.11): for each column
-    /// from 0, and in it for each row from 0, the block's pieces moved by column times `dx` and row
-    /// times `dy`, with copy number column times `up` plus row. An empty block has no copies,
-    /// whatever the counts.
+    /// The pieces that stand for a block (Gerber Layer Format Specification, step and repeat): for
+    /// each column from 0, and in it for each row from 0, the block's pieces moved by column times
+    /// `dx` and row times `dy`, with copy number column times `up` plus row. An empty block has no
+    /// copies, whatever the counts.
     ///
     /// `TooManyPieces` comes exactly where `across` times `up` times the block's pieces exceeds the
     /// room; `TooManyEdges` exactly where it does not, and the same product of edges does. Both take
@@ -37,6 +37,7 @@ impl Repeat {
     ) -> Result<Vec<Piece>, CopyFault>
         requires lawful { IsLawful self.now }
         ensures ok { IfOk result (λ copies. copies_at self.now room (plain_pieces block.now) ≡ Ok (plain_pieces copies.items)) }
+        ensures few { IfOk result (λ copies. length copies.items ≤ room.pieces) }
         ensures fault { IfErr result (IsCopyFault (copies_at self.now room (plain_pieces block.now))) }
 
         // What takes no memory.

@@ -1,7 +1,8 @@
-//! Step and repeat: the grid of copies of a block in a Gerber file.
+//! Step and repeat: the grid of copies that stands for a block in a Gerber file.
 //!
-//! `Repeat::read` reads the word that opens or ends a block, and `Repeat::copies` makes the pieces
-//! that stand for the block in the image.
+//! `Repeat::read` reads the word that opens or ends a block, and `Repeat::copies` makes the copies
+//! of the block's pieces, or says what the room has no place for. The layer above relies on this:
+//! the copies are exactly those of the columns and rows, or the refusal is the first that holds.
 #![tactic(auto)]
 
 mod copying;
@@ -11,3 +12,6 @@ pub mod repeat;
 
 pub use fault::{CopyFault, RepeatFault};
 pub use repeat::Repeat;
+
+#[cfg(test)]
+mod tests;

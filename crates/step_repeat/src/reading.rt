@@ -13,7 +13,7 @@ use lengths::{Decimal, GridFault, Unit, digits_value, read_decimal};
 use texts::{after, all_digits, before, has};
 
 impl Repeat {
-    /// Reads a step and repeat word (Gerber Layer Format Specification, 4.11): `SR`, which is
+    /// Reads an `SR` word (Gerber Layer Format Specification, step and repeat): `SR` alone, which is
     /// `None`, or `SRX<n>Y<m>I<dx>J<dy>`, with counts of 1 to 9 digits that are not 0 and decimal
     /// steps in the unit. It takes no memory.
     ///

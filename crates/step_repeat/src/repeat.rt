@@ -1,7 +1,7 @@
 // A grid of copies.
 
 /// How often a block is repeated, and how far apart the copies stand (Gerber Layer Format
-/// Specification, 4.11): `across` columns `dx` apart, each of `up` rows `dy` apart, in u.
+/// Specification, step and repeat): `across` columns `dx` apart, each of `up` rows `dy` apart, in u.
 #[derive(Clone, Copy, Debug, PartialEq, Eq)]
 pub struct Repeat {
     /// The number of columns, from 1 to 999,999,999.
