@@ -1,0 +1,7 @@
+pub mod Bridge
+pub mod LawfulAfter
+pub mod Numbers
+pub mod OneAnswer
+pub mod Outcome
+pub mod ReadSoFar
+pub mod ToolDown

@@ -1,0 +1,44 @@
+use Rattle.std.proofs.Common.{◌≡◌, ◌+◌, length, refl, sym, ap, subst, arith}
+use Rattle.text_lines.specs.Lines.{Ahead, start}
+use Rattle.text_lines.specs.Stepping.{ahead, plain_line}
+use Rattle.xnc.specs.Place.{Place}
+use Rattle.xnc.proofs.ReadSoFar.{ReadSoFar, read-start, read-line, line-fault, end-read, end-fault}
+use Rattle.xnc.proofs.drill_file.read_drill.Goals as goal
+
+pub loop-reader-init : goal.loop-reader-init
+loop-reader-init c =
+    let p : Place = record { from = c.args.span.from; to = c.args.span.to; file = c.args.file_number; room = c.args.room.pieces } in
+    let at_start : ahead c.new-lines.result ≡ start c.args.file.now = c.new-lines.ensures in
+    let size : length c.new-lines.result.rest.now ≡ length c.args.file.now = ap (λ (a : Ahead). length a.bytes) at_start in
+    let none : c.new-reader.result.lines ≡ 0 = c.new-reader.ensures.new.counts in
+    record {
+      read = subst (λ (a : Ahead). ReadSoFar c.args.file.now p a c.new-reader.result) (sym at_start) (read-start c.args.file.now p c.new-reader.result c.new-reader.ensures.new);
+      lawful = c.new-reader.ensures.lawful;
+      few = omega (arith, size, none);
+    }
+
+pub loop-reader-preserved : goal.loop-reader-preserved
+loop-reader-preserved c =
+    let p : Place = record { from = c.args.span.from; to = c.args.span.to; file = c.args.file_number; room = c.args.room.pieces } in
+    let obeys = rw c.read_line.ensures at c.in-Ok.ensures.ok in
+    record {
+      read = read-line c.args.file.now p (ahead c.loop-reader.lines) (ahead c.next_line.new.self) (plain_line c.in-Some.line) c.loop-reader.reader c.obey.new.self c.loop-reader.invariant.read c.in-Some.ensures.next.0 obeys;
+      lawful = c.in-Ok.ensures.lawful;
+      few = omega (arith, c.in-Ok.ensures.ok.counts, c.in-Some.ensures.shorter, c.loop-reader.invariant.few);
+    }
+
+pub returns-in-Err-clause-fault : goal.returns-in-Err-clause-fault
+returns-in-Err-clause-fault c =
+    let p : Place = record { from = c.args.span.from; to = c.args.span.to; file = c.args.file_number; room = c.args.room.pieces } in
+    let halts = rw c.read_line.ensures at c.in-Err.ensures.halt in
+    rw c.fault_at.ensures (line-fault c.args.file.now p (ahead c.loop-reader.lines) (ahead c.next_line.new.self) (plain_line c.in-Some.line) c.loop-reader.reader c.in-Err.halt (c.loop-reader.reader.lines + 1) c.loop-reader.invariant.read c.in-Some.ensures.next.0 halts refl)
+
+pub returns-in-None-clause-ok : goal.returns-in-None-clause-ok
+returns-in-None-clause-ok c =
+    let p : Place = record { from = c.args.span.from; to = c.args.span.to; file = c.args.file_number; room = c.args.room.pieces } in
+    end-read (λ v. v.items) c.finished.result c.args.file.now p (ahead c.loop-reader.lines) c.loop-reader.reader c.loop-reader.invariant.read c.in-None.ensures.next.0 c.finished.ensures.ok
+
+pub returns-in-None-clause-fault : goal.returns-in-None-clause-fault
+returns-in-None-clause-fault c =
+    let p : Place = record { from = c.args.span.from; to = c.args.span.to; file = c.args.file_number; room = c.args.room.pieces } in
+    end-fault c.finished.result c.args.file.now p (ahead c.loop-reader.lines) c.loop-reader.reader c.loop-reader.invariant.read c.in-None.ensures.next.0 c.finished.ensures.fault

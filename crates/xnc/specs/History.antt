@@ -1,0 +1,142 @@
+-- What earlier lines have set, found by looking back. A history is a list of the forms of lines, the last first.
+use Rattle.std.specs.Prelude.{ℕ, ◌+◌, Bool, true, false, ◌==◌, if◌then◌else◌, List, [], ◌∷◌, ◌++◌, length, ℤ, pos, Option, Some, None, Result, Ok, Err}
+use Rattle.lengths.specs.Decimal.{Fraction}
+use Rattle.lengths.specs.declared.decimal.Unit.{Unit as Measure}
+use Rattle.board_shapes.specs.Plain.{PlainPiece}
+use Rattle.xnc.specs.declared.kind.DrillKind.{DrillKind}
+use Rattle.xnc.specs.declared.form.Form.{Form}
+use Rattle.xnc.specs.declared.form.Form.TheVariants as form
+use Rattle.xnc.specs.declared.settings.Stage.{Stage}
+use Rattle.xnc.specs.declared.settings.Stage.TheVariants.{Opening, Header, Body, Ended}
+use Rattle.xnc.specs.declared.settings.Mode.{Mode}
+use Rattle.xnc.specs.declared.settings.Mode.TheVariants.{Drill, Rout}
+use Rattle.xnc.specs.declared.settings.Settings.{Settings}
+use Rattle.xnc.specs.Place.{Place}
+use Rattle.xnc.specs.Table.{Known, Effect, stays, makes, moves, drills, value_of, diameter_of, effect}
+
+-- before `M48`, in the header, in the body, or behind the end
+abbrev pub stage_at : List Form → Stage
+stage_at [] = Opening
+stage_at (form.Start ∷ earlier) = Header
+stage_at (form.HeaderEnd ∷ earlier) = Body
+stage_at (form.End ∷ earlier) = Ended
+stage_at (other ∷ earlier) = stage_at earlier
+
+-- the unit of the last unit line
+abbrev pub unit_at : List Form → Option Measure
+unit_at [] = None
+unit_at (form.Unit unit ∷ earlier) = Some unit
+unit_at (other ∷ earlier) = unit_at earlier
+
+-- the tool that was selected last, and none behind `T0`
+abbrev pub tool_at : List Form → Option ℕ
+tool_at [] = None
+tool_at (form.Select n ∷ earlier) = Some n
+tool_at (form.NoTool ∷ earlier) = None
+tool_at (other ∷ earlier) = tool_at earlier
+
+-- drill mode at the start and behind `G05`, rout mode behind `G00`
+abbrev pub mode_at : List Form → Mode
+mode_at [] = Drill
+mode_at (form.Drill ∷ earlier) = Drill
+mode_at (form.Rout to ∷ earlier) = Rout
+mode_at (other ∷ earlier) = mode_at earlier
+
+-- down behind `M15`; up at the start, behind `M16` and behind `G00`
+abbrev pub down_at : List Form → Bool
+down_at [] = false
+down_at (form.Lower ∷ earlier) = true
+down_at (form.Raise ∷ earlier) = false
+down_at (form.Rout to ∷ earlier) = false
+down_at (other ∷ earlier) = down_at earlier
+
+-- the first of two that is there
+abbrev pub or_else : {A : Type 0} → Option A → Option A → Option A
+or_else (Some x) other = Some x
+or_else None other = other
+
+-- the last X or Y that a line names
+abbrev pub x_in : Form → Option Fraction
+x_in (form.Rout to) = to.x
+x_in (form.Straight to) = to.x
+x_in (form.Hit at) = at.x
+x_in (form.Slot from to) = or_else to.x from.x
+x_in other = None
+
+abbrev pub y_in : Form → Option Fraction
+y_in (form.Rout to) = to.y
+y_in (form.Straight to) = to.y
+y_in (form.Hit at) = at.y
+y_in (form.Slot from to) = or_else to.y from.y
+y_in other = None
+
+-- the value of a coordinate in the unit in force
+abbrev pub value_or : ℤ → Result ℤ DrillKind → ℤ
+value_or here (Ok z) = z
+value_or here (Err kind) = here
+
+abbrev pub value_in : Option Measure → ℤ → Option Fraction → ℤ
+value_in unit here None = here
+value_in None here (Some d) = here
+value_in (Some unit) here (Some d) = value_or here (value_of unit d)
+
+-- the value of the last X or Y that a line named, or 0
+abbrev pub x_at : List Form → ℤ
+x_at [] = pos 0
+x_at (f ∷ earlier) = value_in (unit_at earlier) (x_at earlier) (x_in f)
+
+abbrev pub y_at : List Form → ℤ
+y_at [] = pos 0
+y_at (f ∷ earlier) = value_in (unit_at earlier) (y_at earlier) (y_in f)
+
+abbrev pub settings_at : List Form → Settings
+settings_at earlier = record {
+  stage = stage_at earlier;
+  unit = unit_at earlier;
+  tool = tool_at earlier;
+  mode = mode_at earlier;
+  down = down_at earlier;
+  at = record { x = x_at earlier; y = y_at earlier };
+}
+
+-- the diameter that n is defined with
+abbrev pub diameter_in : ℕ → ℕ → Result ℕ DrillKind → Option ℕ
+diameter_in n m (Ok d) = if m == n then Some d else None
+diameter_in n m (Err kind) = None
+
+abbrev pub defined_at : List Form → ℕ → Option ℕ
+defined_at [] n = None
+defined_at (form.Tool m d ∷ earlier) n = or_else (diameter_in n m (diameter_of (unit_at earlier) d)) (defined_at earlier n)
+defined_at (other ∷ earlier) n = defined_at earlier n
+
+-- how many tools are defined
+abbrev pub tools_at : List Form → ℕ
+tools_at [] = 0
+tools_at (form.Tool m d ∷ earlier) = tools_at earlier + 1
+tools_at (other ∷ earlier) = tools_at earlier
+
+-- the piece that a line of this number makes
+abbrev pub piece_of : Place → ℕ → Result Effect DrillKind → List PlainPiece
+piece_of p number (Ok (drills to figure)) =
+    record { figure = figure; top = p.from; bottom = p.to; origin = record { file = p.file; command = number; copy = 0 } } ∷ []
+piece_of p number (Ok (moves to)) = []
+piece_of p number (Ok stays) = []
+piece_of p number (Ok (makes n d)) = []
+piece_of p number (Err kind) = []
+
+-- what is known before the next line, and the pieces so far
+abbrev pub known_with : Place → List Form → ℕ → Known
+known_with p earlier pieces = record {
+  settings = settings_at earlier;
+  defined = defined_at earlier;
+  tools = tools_at earlier;
+  pieces = pieces;
+  room = p.room;
+}
+
+unfoldable pub barrels_at : Place → List Form → List PlainPiece
+barrels_at p [] = []
+barrels_at p (f ∷ earlier) = barrels_at p earlier ++ piece_of p (length earlier + 1) (effect (known_with p earlier (length (barrels_at p earlier))) f)
+
+abbrev pub known_at : Place → List Form → Known
+known_at p earlier = known_with p earlier (length (barrels_at p earlier))

@@ -1,0 +1,9 @@
+-- Where barrels come to stand.
+use Rattle.std.specs.Prelude.{ℕ}
+
+-- the span of layers and the file that barrels are of, and the room for them
+pub record Place : Type 0 where
+  pub from : ℕ
+  pub to : ℕ
+  pub file : ℕ
+  pub room : ℕ

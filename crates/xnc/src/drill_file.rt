@@ -1,0 +1,104 @@
+// Reads a drill file.
+ghost use Rattle.std.specs.Prelude.{◌≡◌, ◌+◌, ◌^◌, ◌<◌, ◌≤◌, length, IfOk, IfErr};
+ghost use Rattle.board_shapes.specs.Plain.{plain_pieces};
+ghost use Rattle.xnc.specs.DrillFile.{IsFault, IsRead};
+ghost use Rattle.xnc.specs.declared.form.Form.TheVariants as form;
+ghost use Rattle.xnc.specs.Reader.{Faults, IsLawfulReader, IsNew, Leaves, fault_at};
+
+use crate::form::Form;
+use crate::kind::{DrillFault, Halt};
+use crate::reader::Reader;
+use crate::reading::read_line;
+use crate::settings::{Mode, Settings, Stage};
+use crate::span::Span;
+use crate::tools::Tools;
+use board_shapes::{Piece, Room};
+use planar::Spot;
+use std::alloc::Global;
+use text_lines::Lines;
+
+impl Reader {
+    fn new(alloc: Global, span: Span, file: u32, room: u32) -> Reader
+        ensures new { IsNew (record { from = span.from; to = span.to; file = file; room = room }) result }
+        ensures lawful { IsLawfulReader result }
+    {
+        Reader {
+            settings: Settings {
+                stage: Stage::Opening,
+                unit: None,
+                tool: None,
+                mode: Mode::Drill,
+                down: false,
+                at: Spot { x: 0, y: 0 },
+            },
+            tools: Tools::new(alloc),
+            pieces: Vec::new(alloc),
+            lines: 0,
+            from: span.from,
+            to: span.to,
+            file,
+            room,
+        }
+    }
+
+    fn into_pieces(self) -> Vec<Piece>
+        ensures { result ≡ self.pieces }
+    {
+        self.pieces
+    }
+}
+
+fn fault_at(halt: Halt, line: u32, at: usize) -> DrillFault
+    ensures { result ≡ fault_at halt line at }
+{
+    match halt {
+        Halt::Fault(kind) => DrillFault::Refused { kind, line, at },
+        Halt::NoMemory => DrillFault::NoMemory,
+    }
+}
+
+// Obeys the file's end, and gives the pieces.
+fn finished(mut reader: Reader, at: usize) -> Result<Vec<Piece>, DrillFault>
+    requires lawful { IsLawfulReader reader }
+    requires few { reader.lines + 1 < 2 ^ 32 }
+    ensures ok { IfOk result (λ pieces. Leaves reader form.Finish pieces.items) }
+    ensures fault { IfErr result (Faults reader form.Finish at) }
+{
+    let number = reader.lines + 1;
+    match reader.obey(&Form::Finish) {
+        Ok(()) => Ok(reader.into_pieces()),
+        Err(halt) => Err(fault_at(halt, number, at)),
+    }
+}
+
+/// The barrels of a drill file: one for each hit, slot and straight rout, in the order of the
+/// lines, with half the tool's diameter as radius, on the layers of the span. The file has at most
+/// 67,108,864 bytes, `file_number` counts from 0, and `room.pieces` is how many pieces may come.
+///
+/// `Refused` gives the first line with a fault, its number from 1, the offset of its first byte,
+/// and the first condition that it breaks; a file without `M30` is refused at the next line number,
+/// at its length. `NoMemory` may come at any file.
+pub fn read_drill(
+    alloc: Global,
+    file: &[u8],
+    span: Span,
+    file_number: u32,
+    room: Room,
+) -> Result<Vec<Piece>, DrillFault>
+    requires { length file.now ≤ 67108864 }
+    ensures ok { IfOk result (λ pieces. IsRead file.now (record { from = span.from; to = span.to; file = file_number; room = room.pieces }) (plain_pieces pieces.items)) }
+    ensures fault { IfErr result (IsFault file.now (record { from = span.from; to = span.to; file = file_number; room = room.pieces })) }
+{
+    let mut lines = Lines::new(file);
+    let mut reader = Reader::new(alloc, span, file_number, room.pieces);
+    loop {
+        let number = reader.lines + 1;
+        match lines.next_line() {
+            None => return finished(reader, file.len()),
+            Some(line) => match reader.obey(&read_line(span, line.text)) {
+                Ok(()) => (),
+                Err(halt) => return Err(fault_at(halt, number, line.at)),
+            },
+        }
+    }
+}

@@ -1,0 +1,17 @@
+//! Laws over the definitions alone.
+ghost use Rattle.std.specs.Prelude.{ℕ, List};
+ghost use Rattle.xnc.specs.declared.form.Form.{Form};
+ghost use Rattle.xnc.specs.DrillFile.{HasOneAnswer};
+ghost use Rattle.xnc.specs.Laws.{HasTool};
+ghost use Rattle.xnc.specs.Place.{Place};
+
+/// Each file has one answer: its barrels, or its first fault.
+pub fn one_answer()
+    ensures { (file : List ℕ) (p : Place) → HasOneAnswer file p }
+{}
+
+/// Where lines without a fault leave the tool down, a tool is selected. So each straight rout has
+/// the half of a diameter as its radius.
+pub fn routs_have_tools()
+    ensures { (p : Place) (earlier : List Form) → HasTool p earlier }
+{}

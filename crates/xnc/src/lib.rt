@@ -1,0 +1,26 @@
+//! Reads the barrels of a drill file, by this project's profile of the XNC Format Specification.
+//!
+//! A file is its lines (`text_lines`). Each line is read by itself into a form (`reading`, `form`),
+//! and judged by one table, which has a part for the header and one for the body (`table`), with
+//! what earlier lines have set (`settings`, `tools`, `reader`). `drill_file` has the call. The
+//! definition (specs/DrillFile.antt) keeps no state: it looks back in the list of lines.
+#![tactic(auto)]
+
+pub mod drill_file;
+mod effect;
+mod form;
+pub mod kind;
+pub mod laws;
+mod reader;
+mod reading;
+mod settings;
+pub mod span;
+mod table;
+mod tools;
+
+pub use drill_file::read_drill;
+pub use kind::{DrillFault, DrillKind};
+pub use span::Span;
+
+#[cfg(test)]
+mod tests;

@@ -1,0 +1,14 @@
+// The layers that a drill file joins.
+ghost use Rattle.std.specs.Prelude.{◌≤◌};
+
+/// The layers that each barrel of a drill file joins, 1 <= from <= to <= 32.
+#[derive(Clone, Copy, Debug, PartialEq, Eq)]
+pub struct Span {
+    /// The first layer, from 1.
+    pub from: u8,
+    /// The last layer.
+    pub to: u8,
+    pub ghost from_first: { 1 ≤ from },
+    pub ghost ordered: { from ≤ to },
+    pub ghost to_last: { to ≤ 32 },
+}
