@@ -58,8 +58,10 @@ under_one b k i j u v = record { first = u.piece; second = v.piece; first_is = u
   where
     same : v.probe ≡ u.probe
     same = (let e = sym v.probe_is ∙ u.probe_is in cc)
+
     other : InSpan v.piece.top v.piece.bottom u.probe.layer × InFigure v.piece.figure (at u.probe.at)
     other = subst (λ (p : Probe). InSpan v.piece.top v.piece.bottom p.layer × InFigure v.piece.figure (at p.at)) same v.under
+
     touch : Touch u.piece v.piece
     touch = (layers_meet u.piece.top u.piece.bottom v.piece.top v.piece.bottom u.probe.layer u.under.0 other.0, record { point = at u.probe.at; in_first = u.under.1; in_second = other.1 })
 

@@ -8,7 +8,7 @@ use Rattle.contact.specs.declared.Bounds.{Bounds}
 use Rattle.board_shapes.specs.declared.shape.Shape.{Shape}
 use Rattle.board_shapes.specs.declared.placed.Placed.{Placed}
 use Rattle.board_shapes.specs.CommonBox.{joined, box_around, common_box, FitsFrame, Fits, frame_over}
-use Rattle.board_shapes.specs.Lawful.{IsInFrame}
+use Rattle.board_shapes.specs.Lawful.{IsInsideFrame}
 use Rattle.board_shapes.specs.Pieces.{PlainPiece, plain_pieces}
 use Rattle.board_shapes.specs.Figures.{figure_box}
 use Rattle.board_shapes.specs.Shapes.{shape_box}
@@ -39,13 +39,13 @@ around b (p ∷ rest) =
     let next : Bounds = joined b (shape_box p.shape) in
     All-cons (λ q. LiesWithin (shape_box q.shape) (box_around next (plain_pieces rest))) p rest (onward (shape_box p.shape) next (box_around next (plain_pieces rest)) (second_joined b (shape_box p.shape)) (grows next (plain_pieces rest))) (around next rest)
 
-pub none_inside : (pieces : List (Placed Shape)) (f : Frame) → common_box (plain_pieces pieces) ≡ None → All (IsInFrame f) pieces
-none_inside [] f e = All-nil (IsInFrame f)
+pub none_inside : (pieces : List (Placed Shape)) (f : Frame) → common_box (plain_pieces pieces) ≡ None → All (IsInsideFrame f) pieces
+none_inside [] f e = All-nil (IsInsideFrame f)
 none_inside (p ∷ rest) f e = cc
 
-pub all_inside : (pieces : List (Placed Shape)) (b : Bounds) (f : Frame) → common_box (plain_pieces pieces) ≡ Some b → FitsFrame b → f ≡ frame_over (Some b) → All (IsInFrame f) pieces
+pub all_inside : (pieces : List (Placed Shape)) (b : Bounds) (f : Frame) → common_box (plain_pieces pieces) ≡ Some b → FitsFrame b → f ≡ frame_over (Some b) → All (IsInsideFrame f) pieces
 all_inside [] b f e fits corner = cc
-all_inside (p ∷ rest) b f e fits corner = All-weaker (λ q. LiesWithin (shape_box q.shape) b) (IsInFrame f) (λ q h. inside q h) (p ∷ rest) (All-cons (λ q. LiesWithin (shape_box q.shape) b) p rest first others)
+all_inside (p ∷ rest) b f e fits corner = All-weaker (λ q. LiesWithin (shape_box q.shape) b) (IsInsideFrame f) (λ q h. inside q h) (p ∷ rest) (All-cons (λ q. LiesWithin (shape_box q.shape) b) p rest first others)
   where
     same : box_around (shape_box p.shape) (plain_pieces rest) ≡ b
     same = cc
@@ -56,5 +56,5 @@ all_inside (p ∷ rest) b f e fits corner = All-weaker (λ q. LiesWithin (shape_
     others : All (λ q. LiesWithin (shape_box q.shape) b) rest
     others = subst (λ (c : Bounds). All (λ q. LiesWithin (shape_box q.shape) c) rest) same (around (shape_box p.shape) rest)
 
-    inside : (q : Placed Shape) → LiesWithin (shape_box q.shape) b → IsInFrame f q
-    inside q h = subst (λ (g : Frame). IsInFrame g q) (sym corner) ((h.left, omega (arith, ints, h.right, fits.across)), (h.low, omega (arith, ints, h.high, fits.up)))
+    inside : (q : Placed Shape) → LiesWithin (shape_box q.shape) b → IsInsideFrame f q
+    inside q h = subst (λ (g : Frame). IsInsideFrame g q) (sym corner) ((h.left, omega (arith, ints, h.right, fits.across)), (h.low, omega (arith, ints, h.high, fits.up)))

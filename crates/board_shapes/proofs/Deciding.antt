@@ -99,6 +99,7 @@ under_at_decided b k i = elim (slice_get_cases b.pieces i).1 [
   where
     no_piece : (p : PlainPiece) → Some p ≡ None → ⊥
     no_piece p e = cc
+
     no_probe : (p : Probe) → Some p ≡ None → ⊥
     no_probe p e = cc
 

@@ -17,8 +17,8 @@ abbrev pub IsOnLayers : ℕ → Placed Shape → Type 0
 IsOnLayers layers p = IsSpan layers p.top p.bottom
 
 -- the piece's box is inside the frame
-abbrev pub IsInFrame : Frame → Placed Shape → Type 0
-IsInFrame frame p = IsInside (shape_box p.shape) frame
+abbrev pub IsInsideFrame : Frame → Placed Shape → Type 0
+IsInsideFrame frame p = IsInside (shape_box p.shape) frame
 
 -- the probe's name is one of the names, its layer one of the layers, and its place within one metre
 pub record IsProbe (names layers : ℕ) (probe : Probe) : Type 0 where

@@ -1,6 +1,6 @@
 // A board: its pieces, its probes and their names.
 ghost use Rattle.board_shapes.specs.CommonBox.{common_box, frame_over};
-ghost use Rattle.board_shapes.specs.Lawful.{IsInFrame, IsOnLayers, IsProbe};
+ghost use Rattle.board_shapes.specs.Lawful.{IsInsideFrame, IsOnLayers, IsProbe};
 ghost use Rattle.board_shapes.specs.Pieces.{plain_pieces};
 ghost use Rattle.std.specs.Prelude.{All, length, ◌<◌, ◌≡◌, ◌^◌};
 ghost use lib.IntN.{ℤ_set};
@@ -27,7 +27,7 @@ pub struct Board {
     ghost few_probes: { length probes < 2 ^ 32 },
     ghost few_names: { length names < 2 ^ 32 },
     ghost spans: { All (IsOnLayers layers) pieces.items },
-    ghost inside: { All (IsInFrame frame) pieces.items },
+    ghost inside: { All (IsInsideFrame frame) pieces.items },
     ghost corner: { frame ≡ frame_over (common_box (plain_pieces pieces.items)) } by { Prim.hlevel (ℤ_set) },
     ghost known: { All (IsProbe (length names) layers) probes },
 }

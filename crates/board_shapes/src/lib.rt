@@ -14,3 +14,6 @@ pub use moved::MoveFault;
 pub use placed::{Origin, Piece, Placed, Room};
 pub use probe::Probe;
 pub use shape::Shape;
+
+#[cfg(test)]
+mod tests;

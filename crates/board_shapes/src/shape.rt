@@ -17,7 +17,6 @@ pub enum Shape {
     Filled(Area),
 }
 
-
 impl Shape {
     /// The number of edges of its contour; 0 for a capsule.
     pub fn edges(&self) -> u32

@@ -17,3 +17,8 @@ IsLeast P (Some least) = P least × ((q : ℕ) → P q → least ≤ q)
 pub record AreRows (count : ℕ) (R : ℕ → ℕ → Type 0) (rows : List (List ℕ)) : Type 0 where
   pub many : length rows ≡ count
   pub each : (i : ℕ) → i < count → Lists (R i) (slice_index_or rows i [])
+
+-- one for each of so many items: the least number that R says of the item, or none
+pub record AreLeast (count : ℕ) (R : ℕ → ℕ → Type 0) (least : List (Option ℕ)) : Type 0 where
+  pub many : length least ≡ count
+  pub each : (i : ℕ) → i < count → IsLeast (R i) (slice_index_or least i None)

@@ -1,7 +1,7 @@
 // What a board is made of and what it answers.
 ghost use Rattle.board_shapes.specs.CommonBox.{Fits, common_box};
 ghost use Rattle.board_shapes.specs.Faults.{IsBoardFault};
-ghost use Rattle.board_shapes.specs.Lawful.{IsInFrame, IsOnLayers, IsProbe};
+ghost use Rattle.board_shapes.specs.Lawful.{IsInsideFrame, IsOnLayers, IsProbe};
 ghost use Rattle.board_shapes.specs.Pieces.{plain_pieces};
 ghost use Rattle.board_shapes.specs.Plain.{frame_of, pieces_of, plain_board, plain_parts};
 ghost use Rattle.std.specs.Prelude.{All, IfErr, IfOk, length, ◌<◌, ◌≡◌, ◌^◌};
@@ -61,7 +61,7 @@ impl Board {
         ensures items { result.now ≡ pieces_of self.now }
         ensures plain { plain_pieces result.now ≡ (plain_board self.now).pieces }
         ensures few { length result.now < 2 ^ 32 }
-        ensures inside { All (IsInFrame (frame_of (plain_board self.now))) result.now }
+        ensures inside { All (IsInsideFrame (frame_of (plain_board self.now))) result.now }
         ensures spans { All (IsOnLayers (plain_board self.now).layers) result.now }
     {
         &self.pieces

@@ -1,0 +1,9 @@
+mod Front
+mod NumberLemmas
+mod WordLemmas
+mod NameLemmas
+mod Outcome
+mod Bridge
+mod OneAnswer
+mod ReadSoFar
+mod Fits

@@ -1,0 +1,39 @@
+-- What a line says by itself, without where it lies in memory.
+use Rattle.std.specs.Prelude.{ℕ, List, Option}
+use Rattle.std.specs.Option.{option_copied}
+use Rattle.lengths.specs.declared.decimal.Unit.{Unit as Measure}
+use Rattle.ipc356_records.specs.declared.form.Coordinate.{Coordinate}
+use Rattle.ipc356_records.specs.declared.form.TestFields.{TestFields as SeenFields}
+use Rattle.ipc356_records.specs.declared.form.Form.{Form as Seen}
+use Rattle.ipc356_records.specs.declared.form.Form.TheVariants as seen
+
+-- the fields of a test record, each of them missing where it is amiss
+pub record TestFields : Type 0 where
+  pub name : Option (List ℕ)
+  pub access : Option ℕ
+  pub x : Option Coordinate
+  pub y : Option Coordinate
+
+-- The end of a file is the last of its forms.
+pub data Form : Type 0 where
+  blank : Form
+  unread : Form
+  units : Option Measure → Form
+  ends : Form
+  continues : Form
+  tests : TestFields → Form
+  unknown : Form
+  finishes : Form
+
+abbrev pub view_fields : SeenFields → TestFields
+view_fields f = record { name = option_copied f.name; access = f.access; x = f.x; y = f.y }
+
+abbrev pub view : Seen → Form
+view seen.Blank = blank
+view seen.Unread = unread
+view (seen.Units unit) = units unit
+view seen.End = ends
+view seen.Continuation = continues
+view (seen.Test fields) = tests (view_fields fields)
+view seen.Unknown = unknown
+view seen.Finish = finishes

@@ -1,0 +1,13 @@
+-- What the readers of lines keep.
+use Rattle.std.specs.Prelude.{ℕ, List, Option, Some, None}
+use Rattle.lengths.specs.Text.{IsText}
+use Rattle.ipc356_records.specs.Form.{Form, tests}
+
+-- a net name that is read can be kept as a text
+abbrev pub IsName : Option (List ℕ) → Type 0
+IsName None = Unit {0}
+IsName (Some name) = IsText name
+
+abbrev pub IsLawfulForm : Form → Type 0
+IsLawfulForm (tests fields) = IsName fields.name
+IsLawfulForm other = Unit {0}

@@ -1,0 +1,11 @@
+pub mod Columns
+pub mod Form
+pub mod Kind
+pub mod Lawful
+pub mod NameTable
+pub mod Names
+pub mod NetlistFile
+pub mod Reader
+pub mod Reading
+pub mod Records
+pub mod Table

@@ -1,0 +1,6 @@
+-- What a table of names holds.
+use Rattle.std.specs.Prelude.{ℕ, List, map}
+use Rattle.ipc356_records.specs.declared.names.NameTable.{NameTable}
+
+abbrev pub names_in : NameTable → List (List ℕ)
+names_in t = map (λ name. name.now) t.names.keys

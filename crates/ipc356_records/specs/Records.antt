@@ -1,0 +1,35 @@
+-- What the records of a file are.
+use Rattle.std.specs.Prelude.{◌≡◌, ◌+◌, ◌<◌, ◌∷◌, [], length, Option, Some, None}
+use Rattle.text_lines.specs.Lines.{Ahead, PlainLine, lines_from}
+use Rattle.text_lines.specs.Stepping.{ahead as lines_ahead}
+use Rattle.ipc356_records.specs.declared.record.Record.{Record}
+use Rattle.ipc356_records.specs.declared.record.Records.{Records}
+
+-- what lies ahead of the records read so far
+abbrev pub ahead : Records → Ahead
+ahead r = lines_ahead r.lines
+
+-- a record is a line: its number and its text
+pub record IsLine (r : Record) (line : PlainLine) : Type 0 where
+  pub number : r.line ≡ line.number
+  pub text : r.text.now ≡ line.text
+
+-- The answer is the first line ahead, and then the others lie ahead; or there is none.
+pub record GivesLine (old : Ahead) (r : Record) (new : Ahead) : Type 0 where
+  pub line : PlainLine
+  pub is : IsLine r line
+  pub first : lines_from old ≡ line ∷ lines_from new
+  pub counts : new.number ≡ old.number + 1
+
+pub record GivesNone (old new : Ahead) : Type 0 where
+  pub none : lines_from old ≡ []
+  pub stays : new ≡ old
+
+abbrev pub Gives : Ahead → Option Record → Ahead → Type 0
+Gives old (Some r) new = GivesLine old r new
+Gives old None new = GivesNone old new
+
+-- A line that was read lies behind.
+abbrev pub IsShorter : Ahead → Option Record → Ahead → Type 0
+IsShorter old (Some r) new = length new.bytes < length old.bytes
+IsShorter old None new = Unit {0}

@@ -1,0 +1,12 @@
+// What a line does.
+use lengths::Unit;
+use planar::Spot;
+
+/// A line may set the unit, end the records, or test a net at a place by an access code.
+#[derive(Clone, Copy)]
+pub enum Effect<'a> {
+    Stays,
+    Sets(Unit),
+    Closes,
+    Adds(&'a [u8], u32, Spot),
+}

@@ -1,0 +1,53 @@
+// The distinct names of a netlist.
+use indexmap::IndexSet;
+use lengths::{NoMemory, Rows, Text, TextFault};
+use std::alloc::Global;
+
+/// Names in first-seen order, each a slice of the file, numbered from 0.
+#[derive(Drop)]
+pub struct NameTable<'a> {
+    names: IndexSet<&'a [u8]>,
+}
+
+impl<'a> NameTable<'a> {
+    ghost use Rattle.std.specs.Prelude.{◌≡◌, ◌+◌, ◌<◌, ◌^◌, [], length, All, IfOk, OnOk};
+    ghost use Rattle.lengths.specs.Text.{IsText};
+    ghost use Rattle.ipc356_records.specs.Names.{index_of, with_name};
+    ghost use Rattle.ipc356_records.specs.NameTable.{names_in};
+
+    pub fn new(alloc: Global) -> NameTable<'a>
+        ensures { names_in result ≡ [] }
+    {
+        NameTable {
+            names: IndexSet::new(alloc),
+        }
+    }
+
+    /// The number of a name, which is kept where it is new. An `Err` leaves the names as they were.
+    pub fn number(&mut self, name: &'a [u8]) -> Result<u32, NoMemory>
+        requires few { length (names_in self.old) + 1 < 2 ^ 32 }
+        ensures index { IfOk result (λ n. n ≡ index_of name.now (names_in self.old)) }
+        ensures kept { OnOk result (names_in self.new ≡ with_name name.now (names_in self.old)) }
+    {
+        match self.names.insert_full(name) {
+            Ok((index, _)) => Ok(index as u32),
+            Err(_) => Err(NoMemory),
+        }
+    }
+
+    /// The names as texts of their own.
+    pub fn texts(&self, alloc: Global) -> Result<Rows<Text>, NoMemory>
+        requires lawful { All IsText (names_in self.now) }
+        ensures same { IfOk result (λ rows. rows ≡ names_in self.now) }
+    {
+        let mut rows = Rows::new(alloc);
+        for name in self.names.as_slice() {
+            match Text::new(alloc, name) {
+                Ok(text) => rows.push(text)?,
+                Err(TextFault::BadText) => unreachable!(),
+                Err(TextFault::NoMemory) => return Err(NoMemory),
+            }
+        }
+        Ok(rows)
+    }
+}

@@ -1,0 +1,238 @@
+// How a line is read by itself.
+ghost use Rattle.std.specs.Prelude.{◌≡◌, ◌==◌, ◌≤◌, ◌<◌, ◌^◌, length, codes, Option, Some, None, IfSome};
+ghost use Rattle.std.specs.Option.{option_copied};
+ghost use Rattle.std.specs.List.{list_all};
+ghost use Rattle.text_lines.specs.Blanks.{is_blank as blank};
+ghost use Rattle.ipc356_records.specs.Columns.{column, filled, words};
+ghost use Rattle.ipc356_records.specs.Form.{view, view_fields};
+ghost use Rattle.ipc356_records.specs.Lawful.{IsLawfulForm, IsName};
+ghost use Rattle.ipc356_records.specs.Reading as spec;
+
+use crate::blanks::{next_word, without_front};
+use crate::form::{Coordinate, Form, TestFields};
+use crate::record::Record;
+use lengths::{Unit, digits_value};
+use text_lines::is_blank;
+use texts::all_digits;
+
+fn is(text: &[u8], word: &[u8]) -> bool
+    ensures { result ≡ spec.is text.now word.now }
+{
+    text == word
+}
+
+fn begins(text: &[u8], front: &[u8]) -> bool
+    ensures { result ≡ spec.begins text.now front.now }
+{
+    text.starts_with(front)
+}
+
+fn all_blank(text: &[u8]) -> bool
+    ensures { result ≡ list_all blank text.now }
+{
+    text.iter().all(|byte| is_blank(*byte))
+}
+
+fn all_graphic(text: &[u8]) -> bool
+    ensures { result ≡ list_all spec.is_graphic text.now }
+{
+    text.iter().all(|byte| *byte >= 33 && *byte <= 126)
+}
+
+// One column, blank past the line's end.
+fn column(record: &Record, number: usize) -> u8
+    requires { 1 ≤ number }
+    ensures { result ≡ column number record.now.text.now }
+{
+    match record.text.get(number - 1) {
+        None => b' ',
+        Some(byte) => *byte,
+    }
+}
+
+// The net name that stands between blanks.
+#[tactic(auto, unfolding(crate::specs::Reading::name_of))]
+fn name_of(name: &[u8]) -> Option<&[u8]>
+    requires short { length name.now ≤ 14 }
+    ensures lawful { IsName (option_copied result) }
+    ensures value { option_copied result ≡ spec.name_of name.now }
+{
+    if name.is_empty() {
+        return Some(b"N/C");
+    }
+    if all_graphic(name) { Some(name) } else { None }
+}
+
+#[tactic(auto, unfolding(crate::specs::Reading::digits_in))]
+fn digits_in(digits: &[u8]) -> Option<u32>
+    requires { length digits.now ≤ 6 }
+    ensures { result ≡ spec.digits_in digits.now }
+{
+    if digits.is_empty() {
+        return None;
+    }
+    if all_digits(digits) {
+        Some(digits_value(0, digits) as u32)
+    } else {
+        None
+    }
+}
+
+// The number in so many columns.
+fn number_of(text: &[u8], width: usize) -> Option<u32>
+    requires width { width ≤ 6 }
+    requires within { length text.now ≤ width }
+    ensures value { result ≡ spec.number_of (filled width text.now) }
+{
+    if text.len() < width {
+        return None;
+    }
+    digits_in(without_front(text))
+}
+
+#[tactic(auto, unfolding(crate::specs::Reading::access_in))]
+fn access_in(record: &Record) -> Option<u32>
+    ensures value { result ≡ spec.access_in record.now.text.now }
+{
+    if column(record, 39) != b'A' {
+        return None;
+    }
+    number_of(record.columns(40, 41), 2)
+}
+
+#[tactic(auto, unfolding(crate::specs::Reading::signed_number))]
+fn signed_number(sign: u8, steps: Option<u32>) -> Option<Coordinate>
+    ensures value { result ≡ spec.signed_number sign steps }
+{
+    let steps = steps?;
+    if is_blank(sign) || sign == b'+' || sign == b'-' {
+        Some(Coordinate {
+            negative: sign == b'-',
+            steps,
+        })
+    } else {
+        None
+    }
+}
+
+// A letter, a sign and a number of six columns, from a column on.
+#[tactic(auto, unfolding(crate::specs::Reading::coordinate_in))]
+fn coordinate_in(record: &Record, letter: u8, at: usize) -> Option<Coordinate>
+    requires from_one { 1 ≤ at }
+    requires in_line { at ≤ 50 }
+    ensures value { result ≡ spec.coordinate_in letter at record.now.text.now }
+{
+    if column(record, at) != letter {
+        return None;
+    }
+    let steps = number_of(record.columns(at + 2, at + 7), 6);
+    signed_number(column(record, at + 1), steps)
+}
+
+#[tactic(auto, unfolding(crate::specs::Reading::fields_in))]
+fn fields_in<'a>(record: &Record<'a>) -> TestFields<'a>
+    ensures value { view_fields result ≡ spec.fields_in record.now.text.now }
+    ensures lawful { IsName (option_copied result.name) }
+{
+    TestFields {
+        name: name_of(record.net()),
+        access: access_in(record),
+        x: coordinate_in(record, b'X', 42),
+        y: coordinate_in(record, b'Y', 50),
+    }
+}
+
+// The unit that the words behind `UNITS` say.
+#[tactic(auto, unfolding(crate::specs::Reading::unit_of))]
+fn unit_of(text: &[u8]) -> Option<Unit>
+    ensures { result ≡ spec.unit_of (words text.now) }
+{
+    let (word, text) = next_word(text)?;
+    let (number, text) = next_word(text)?;
+    if next_word(text).is_some() || !is(word, b"CUST") {
+        None
+    } else if is(number, b"0") {
+        Some(Unit::Inch)
+    } else if is(number, b"1") {
+        Some(Unit::Mm)
+    } else {
+        None
+    }
+}
+
+// A parameter record, by what stands behind its `P`.
+#[tactic(auto, unfolding(crate::specs::Reading::parameter))]
+fn parameter<'a>(text: &[u8]) -> Form<'a>
+    ensures value { view result ≡ spec.parameter (words text.now) }
+    ensures lawful { IsLawfulForm (view result) }
+{
+    match next_word(text) {
+        None => Form::Unread,
+        Some((word, further)) => if is(word, b"UNITS") {
+            Form::Units(unit_of(further))
+        } else {
+            Form::Unread
+        },
+    }
+}
+
+fn is_continuation(text: &[u8]) -> bool
+    ensures { result ≡ spec.is_continuation text.now }
+{
+    begins(text, b"017") || begins(text, b"027")
+}
+
+fn is_test(text: &[u8]) -> bool
+    ensures { result ≡ spec.is_test text.now }
+{
+    begins(text, b"317") || begins(text, b"327")
+}
+
+fn is_other_three(text: &[u8]) -> bool
+    ensures { result ≡ spec.is_other_three text.now }
+{
+    begins(text, b"367") || begins(text, b"378") || begins(text, b"379") || begins(text, b"389")
+}
+
+fn is_other_zero(text: &[u8]) -> bool
+    ensures { result ≡ spec.is_other_zero text.now }
+{
+    begins(text, b"078") || begins(text, b"079") || begins(text, b"089")
+}
+
+// A record by its code.
+#[tactic(auto, unfolding(crate::specs::Reading::coded))]
+fn coded<'a>(record: &Record<'a>) -> Form<'a>
+    ensures value { view result ≡ spec.coded record.now.text.now }
+    ensures lawful { IsLawfulForm (view result) }
+{
+    let text = record.text;
+    if begins(text, b"999") {
+        Form::End
+    } else if is_continuation(text) {
+        Form::Continuation
+    } else if is_test(text) {
+        Form::Test(fields_in(record))
+    } else if is_other_three(text) || is_other_zero(text) {
+        Form::Unread
+    } else {
+        Form::Unknown
+    }
+}
+
+/// What a line says by itself.
+#[tactic(auto, unfolding(crate::specs::Reading::form_of))]
+pub fn read_form<'a>(record: &Record<'a>) -> Form<'a>
+    ensures value { view result ≡ spec.form_of record.now.text.now }
+    ensures lawful { IsLawfulForm (view result) }
+{
+    if all_blank(record.columns(1, 57)) {
+        Form::Blank
+    } else if begins(record.text, b"C") {
+        Form::Unread
+    } else if begins(record.text, b"P") {
+        parameter(record.columns(2, 57))
+    } else {
+        coded(record)
+    }
+}

@@ -1,0 +1,48 @@
+-- Contours by their points.
+use Rattle.std.specs.Prelude.{ℕ, Bool, true, false, ◌&&◌, not, ◌==◌, nat_lt, if◌then◌else◌, List, [], ◌∷◌, ◌++◌, length, ℤ, pos, negsuc, Option, Some, None, Result, Ok, Err, ◌≡◌, ◌<◌}
+use Rattle.planar.specs.declared.Spot.{Spot}
+use Rattle.area_contact.specs.Contour.{end_from}
+use Rattle.area_contact.specs.declared.Area.{Area}
+use Rattle.regions.specs.declared.contour.Contour.{Contour}
+use Rattle.regions.specs.declared.contour.AddFault.{AddFault}
+use Rattle.regions.specs.declared.contour.AddFault.TheVariants as add
+use Rattle.regions.specs.declared.contour.CloseFault.{CloseFault}
+use Rattle.regions.specs.declared.contour.CloseFault.TheVariants.{Open, Short, NoMemory}
+
+-- where the contour began, and where each of its edges ends
+abbrev pub points_of : Contour → List Spot
+points_of c = c.first ∷ c.ends.items
+
+abbrev pub same_number : ℤ → ℤ → Bool
+same_number (pos m) (pos n) = m == n
+same_number (negsuc m) (negsuc n) = m == n
+same_number (pos m) (negsuc n) = false
+same_number (negsuc m) (pos n) = false
+
+abbrev pub same_spot : Spot → Spot → Bool
+same_spot a b = same_number a.x b.x && same_number a.y b.y
+
+-- The points of the area that a contour bounds. One point has no edge, and bounds none.
+unfoldable pub close_of : List Spot → Result (Option (List Spot)) CloseFault
+close_of [] = Ok None
+close_of (a ∷ []) = Ok None
+close_of (a ∷ b ∷ rest) =
+    if not (same_spot (end_from b rest) a) then Err Open
+    else (if nat_lt (length rest) 2 then Err Short else Ok (Some (a ∷ b ∷ rest)))
+
+abbrev pub points_if : Option Area → Option (List Spot)
+points_if None = None
+points_if (Some area) = Some (area.points.items)
+
+-- the answer is what closing gives, unless memory is wanted
+abbrev pub Closes : Result (Option Area) CloseFault → Result (Option (List Spot)) CloseFault → Type 0
+Closes (Ok area) closed = Ok (points_if area) ≡ closed
+Closes (Err Open) closed = Err Open ≡ closed
+Closes (Err Short) closed = Err Short ≡ closed
+Closes (Err NoMemory) closed = Unit {0}
+
+-- the points have one more, or stay; there are at most 100,001
+abbrev pub Adds : List Spot → Spot → Result (Unit {0}) AddFault → List Spot → Type 0
+Adds old to (Ok done) new = new ≡ old ++ to ∷ []
+Adds old to (Err add.TooLong) new = (100_000 < length old) × (new ≡ old)
+Adds old to (Err add.NoMemory) new = new ≡ old

@@ -1,0 +1,6 @@
+//! The contours of regions.
+#![tactic(auto)]
+
+mod contour;
+
+pub use contour::{AddFault, CloseFault, Contour};
