@@ -1,12 +1,13 @@
 -- What an aperture flashes.
-use Rattle.std.specs.Prelude.{◌≡◌, ℕ, Bool, true, false, ◌&&◌, ◌%◌, ◌/◌, ◌-◌, nat_le, nat_lt, if◌then◌else◌, ℤ, pos, ◌+ℤ◌, ◌≤ℤ◌, neg_ℤ, unsigned_abs, Option, Some, None, Result, Ok, Err}
+use Rattle.std.specs.Prelude.{◌≡◌, ℕ, Bool, true, false, ◌&&◌, ◌==◌, ◌%◌, ◌/◌, ◌-◌, nat_le, nat_lt, if◌then◌else◌, List, [], ◌∷◌, ℤ, pos, ◌+ℤ◌, ◌≤ℤ◌, neg_ℤ, unsigned_abs, Option, Some, None, Result, Ok, Err}
+use Rattle.std.specs.List.{list_all}
 use Rattle.planar.specs.declared.Spot.{Spot}
 use Rattle.board_shapes.specs.declared.shape.Shape.{Shape}
-use Rattle.board_shapes.specs.Plain.{Stroke, stroke_of}
+use Rattle.board_shapes.specs.Plain.{Figure, Stroke, filled, figure_of, round}
 use Rattle.apertures.specs.declared.aperture.Aperture.{Aperture}
 use Rattle.apertures.specs.declared.aperture.Aperture.TheVariants.{Circle, Rectangle, Obround}
 use Rattle.apertures.specs.declared.fault.FlashFault.{FlashFault}
-use Rattle.apertures.specs.declared.fault.FlashFault.TheVariants.{OutOfRange}
+use Rattle.apertures.specs.declared.fault.FlashFault.TheVariants.{OutOfRange, NoMemory}
 use Rattle.apertures.specs.Reading.{is_zero}
 
 -- a size: even, and from 0 to 1 m
@@ -21,11 +22,13 @@ IsLawful (Circle d) = IsSize d
 IsLawful (Rectangle x y) = IsSize x × IsSize y × (is_zero x ≡ false) × (is_zero y ≡ false)
 IsLawful (Obround x y) = IsSize x × IsSize y × (is_zero x ≡ false) × (is_zero y ≡ false)
 
+-- whether the aperture is a rectangle
 abbrev pub is_rectangle : Aperture → Bool
 is_rectangle (Circle d) = false
 is_rectangle (Rectangle x y) = true
 is_rectangle (Obround x y) = false
 
+-- the diameter of the pen that the aperture is: a circle alone draws
 abbrev pub pen_of : Aperture → Option ℤ
 pen_of (Circle d) = Some d
 pen_of (Rectangle x y) = None
@@ -35,34 +38,67 @@ pen_of (Obround x y) = None
 abbrev pub is_placed : Spot → Bool
 is_placed p = nat_le (unsigned_abs p.x) 10000000000 && nat_le (unsigned_abs p.y) 10000000000
 
+-- the spot so far to the right
 abbrev pub across : Spot → ℤ → Spot
 across p by' = record { x = p.x +ℤ by'; y = p.y }
 
+-- the spot so far up
 abbrev pub up : Spot → ℤ → Spot
 up p by' = record { x = p.x; y = p.y +ℤ by' }
 
--- so far to one side or the other
+-- so far back, to the left or down, or so far on
 abbrev pub way : Bool → ℕ → ℤ
 way back by' = if back then neg_ℤ (pos by') else pos by'
 
+-- half a size
 abbrev pub half : ℤ → ℤ
 half z = pos (unsigned_abs z / 2)
 
-abbrev pub placed : Stroke → Result (Option Stroke) FlashFault
-placed s = if is_placed s.a && is_placed s.b then Ok (Some s) else Err OutOfRange
+-- a disc of this diameter around the spot; none for diameter 0
+abbrev pub disc : ℕ → Spot → Option Figure
+disc d at = if d == 0 then None else Some (round (record { a = at; b = at; r = pos (d / 2) }))
 
--- with x over y it lies across
-abbrev pub obround : ℕ → ℕ → Spot → Result (Option Stroke) FlashFault
+-- lower left, lower right, upper right, upper left, and lower left again, so far from the middle
+unfoldable pub corners : ℕ → ℕ → Spot → List Spot
+corners x y at =
+    across (up at (way true y)) (way true x)
+    ∷ across (up at (way true y)) (way false x)
+    ∷ across (up at (way false y)) (way false x)
+    ∷ across (up at (way false y)) (way true x)
+    ∷ across (up at (way true y)) (way true x)
+    ∷ []
+
+-- the area of four corners, each within 1 m
+abbrev pub rectangle : ℕ → ℕ → Spot → Result (Option Figure) FlashFault
+rectangle x y at = if list_all is_placed (corners (x / 2) (y / 2) at) then Ok (Some (filled (corners (x / 2) (y / 2) at))) else Err OutOfRange
+
+-- a capsule with both ends within 1 m
+abbrev pub placed : Stroke → Result (Option Figure) FlashFault
+placed s = if is_placed s.a && is_placed s.b then Ok (Some (round s)) else Err OutOfRange
+
+-- With x over y its segment lies across, of length x - y, and the radius is y/2; otherwise it stands, of length y - x, with x/2.
+abbrev pub obround : ℕ → ℕ → Spot → Result (Option Figure) FlashFault
 obround x y at =
     if nat_lt y x then placed (record { a = across at (way true ((x - y) / 2)); b = across at (way false ((x - y) / 2)); r = pos (y / 2) })
     else placed (record { a = up at (way true ((y - x) / 2)); b = up at (way false ((y - x) / 2)); r = pos (x / 2) })
 
-unfoldable pub flash_of : Aperture → Spot → Result (Option Stroke) FlashFault
-flash_of (Circle d) at = if is_zero d then Ok None else Ok (Some (record { a = at; b = at; r = half d }))
+-- what the aperture makes at a spot (Gerber Layer Format Specification, 4.4)
+unfoldable pub flash_of : Aperture → Spot → Result (Option Figure) FlashFault
+flash_of (Circle d) at = Ok (disc (unsigned_abs d) at)
+flash_of (Rectangle x y) at = rectangle (unsigned_abs x) (unsigned_abs y) at
 flash_of (Obround x y) at = obround (unsigned_abs x) (unsigned_abs y) at
-flash_of (Rectangle x y) at = Ok None
 
-abbrev pub seen : Result (Option Shape) FlashFault → Result (Option Stroke) FlashFault
-seen (Ok None) = Ok None
-seen (Ok (Some shape)) = Ok (Some (stroke_of shape))
+abbrev pub seen_shape : Option Shape → Option Figure
+seen_shape None = None
+seen_shape (Some shape) = Some (figure_of shape)
+
+-- the answer with its shape as plain data
+abbrev pub seen : Result (Option Shape) FlashFault → Result (Option Figure) FlashFault
+seen (Ok shape) = Ok (seen_shape shape)
 seen (Err e) = Err e
+
+-- the answer is the flash, unless memory is wanted
+abbrev pub Flashes : Result (Option Shape) FlashFault → Result (Option Figure) FlashFault → Type 0
+Flashes (Ok shape) flash = Ok (seen_shape shape) ≡ flash
+Flashes (Err OutOfRange) flash = Err OutOfRange ≡ flash
+Flashes (Err NoMemory) flash = Unit {0}

@@ -1,20 +1,22 @@
 -- The state of the reader is what looking back finds.
-use Rattle.std.proofs.Common.{◌≡◌, ℕ, ◌+◌, Bool, true, false, cond, eqb, List, ◌∷◌, ◌++◌, length, ℤ, Option, Some, None, Result, Ok, refl, sym, ap, ◌∙◌, subst, arith}
-use Rattle.std.proofs.lemmas.List.{length-map}
+use Rattle.std.proofs.Common.{◌≡◌, ℕ, ◌+◌, Bool, true, false, cond, eqb, List, [], ◌∷◌, ◌++◌, length, ℤ, Option, Some, None, Result, Ok, refl, sym, ap, ◌∙◌, subst, arith}
 use mathlib.Core.Path.{fun_ext}
 use Rattle.lengths.specs.declared.decimal.Unit.{Unit as Measure}
-use Rattle.board_shapes.specs.Plain.{PlainPiece, plain_piece, plain_pieces}
+use Rattle.planar.specs.declared.Spot.{Spot}
+use Rattle.board_shapes.specs.Pieces.{PlainPiece, plain_piece, plain_pieces}
 use Rattle.apertures.specs.declared.aperture.Aperture.{Aperture}
-use Rattle.gerber_layer.specs.Command.{Command, nothing, refused, not_yet, formats, counts_in, defines, selects, operates, ends, breaks, finishes}
+use Rattle.gerber_layer.specs.Command.{Command, nothing, refused, formats, counts_in, defines, selects, repeats, functions, opens_region, closes_region, operates, ends, breaks, finishes}
 use Rattle.gerber_layer.specs.declared.kind.Fault.{Fault}
 use Rattle.gerber_layer.specs.declared.command.Format.{Format}
+use Rattle.gerber_layer.specs.declared.command.Code.{Code}
+use Rattle.gerber_layer.specs.declared.command.Code.TheVariants.{Draw, Move, Flash}
 use Rattle.gerber_layer.specs.declared.settings.Settings.{Settings}
-use Rattle.gerber_layer.specs.declared.wheel.Wheel.{Wheel}
+use Rattle.gerber_layer.specs.declared.dictionary.Dictionary.{Dictionary}
 use Rattle.gerber_layer.specs.declared.reader.Reader.{Reader}
-use Rattle.gerber_layer.specs.Table.{Known, Effect, stays, performs, coordinate, effect, after}
-use Rattle.gerber_layer.specs.History.{or_else, value_or, value_in, settings_at, format_at, unit_at, x_at, y_at, defined_at, definitions_at, Place, mark, known_with, known_at, pieces_at}
-use Rattle.gerber_layer.specs.Reader.{defined_in, size_of, Adds, Turns, known_of, place_of, Obeys}
-use Rattle.gerber_layer.proofs.Outcome.{Outcome, outcome}
+use Rattle.gerber_layer.specs.Table.{Place, Known, Effect, figure_in, stays, makes, performs, extends, closes, opens, leaves, code_of, contour_after, coordinate, effect, after, heads}
+use Rattle.gerber_layer.specs.History.{or_else, value_or, value_in, settings_at, format_at, unit_at, x_at, y_at, point_at, region_at, drawn, contour_by, contour_at, defined_at, definitions_at, made, with_effect, known_with, known_at, pieces_at}
+use Rattle.gerber_layer.specs.Reader.{defined_in, size_of, Adds, Turns, contour_of, known_of, place_of, Obeys}
+use Rattle.gerber_layer.proofs.Outcome.{Outcome, outcome, Goes, IsEffect}
 
 -- a coordinate's value
 value_is : (x : Option (List ℕ)) (format : Format) (unit : Measure) (here to : ℤ) → coordinate format unit here x ≡ Ok to → value_in x (Some format) (Some unit) here ≡ to
@@ -22,92 +24,158 @@ unfolding coordinate
 value_is None format unit here to h = cc
 value_is (Some digits) format unit here to h = ap (value_or here) h
 
--- the settings behind a command are found by looking back from the next
-settings-push : (p : Place) (earlier : List Command) (n : ℕ) (c : Command) (e : Effect) → Outcome (known_with p earlier n) c e → after (settings_at earlier) c e ≡ settings_at (c ∷ earlier)
-settings-push p earlier n nothing e o = refl
-settings-push p earlier n (refused why) e o = refl
-settings-push p earlier n not_yet e o = refl
-settings-push p earlier n (formats format) e o = refl
-settings-push p earlier n (counts_in unit) e o = refl
-settings-push p earlier n (defines text) e o = refl
-settings-push p earlier n (selects m) e o = refl
-settings-push p earlier n (operates x y code) e o =
+-- an operation's effect leads to its spot
+heads_is : (inside : Bool) (code : Code) (to : Spot) (e : Effect) → IsEffect inside code to e → heads e ≡ Some to
+heads_is false code to e i = ap heads i.is
+heads_is true Draw to e i = ap heads i
+heads_is true Move to e i = ap heads i.1
+heads_is true Flash to e i = absurd i
+
+-- where an operation leads is found by looking back
+point_is : (p : Place) (earlier : List Command) (ps : List PlainPiece) (x y : Option (List ℕ)) (code : Option Code) (e : Effect) (o : Outcome (known_with p earlier ps) (operates x y code) e) → o.to ≡ point_at (operates x y code ∷ earlier)
+point_is p earlier ps x y code e o =
     let across : value_in x (format_at earlier) (unit_at earlier) (x_at earlier) ≡ o.to.x = rw (o.format_is, o.unit_is) (value_is x o.format o.unit (x_at earlier) o.to.x o.x_is) in
     let up : value_in y (format_at earlier) (unit_at earlier) (y_at earlier) ≡ o.to.y = rw (o.format_is, o.unit_is) (value_is y o.format o.unit (y_at earlier) o.to.y o.y_is) in
-    rw (o.is, across, up) refl
-settings-push p earlier n ends e o = refl
-settings-push p earlier n (breaks fault) e o = refl
-settings-push p earlier n finishes e o = refl
+    rw (across, up) refl
 
--- so are the apertures
-defined-push : (old new : Wheel) (p : Place) (earlier : List Command) (n : ℕ) (c : Command) (e : Effect) → ((m : ℕ) → defined_in old m ≡ defined_at earlier m) → Outcome (known_with p earlier n) c e → Turns old e new → (m : ℕ) → defined_in new m ≡ defined_at (c ∷ earlier) m
-defined-push old new p earlier n (defines text) e h o t m =
+-- the settings behind a command are found by looking back from the next
+settings-push : (p : Place) (earlier : List Command) (ps : List PlainPiece) (c : Command) (e : Effect) → Outcome (known_with p earlier ps) c e → after (settings_at earlier) c (heads e) ≡ settings_at (c ∷ earlier)
+settings-push p earlier ps nothing e o = refl
+settings-push p earlier ps (refused why) e o = refl
+settings-push p earlier ps (repeats text) e o = refl
+settings-push p earlier ps (functions function layer) e o = refl
+settings-push p earlier ps (formats format) e o = refl
+settings-push p earlier ps (counts_in unit) e o = refl
+settings-push p earlier ps (defines text) e o = refl
+settings-push p earlier ps (selects m) e o = refl
+settings-push p earlier ps opens_region e o = refl
+settings-push p earlier ps closes_region e o = refl
+settings-push p earlier ps (operates x y code) e o =
+    let there = point_is p earlier ps x y code e o in
+    rw (heads_is (region_at earlier) (code_of code) o.to e o.is, there) refl
+settings-push p earlier ps ends e o = refl
+settings-push p earlier ps (breaks fault) e o = refl
+settings-push p earlier ps finishes e o = refl
+
+-- so is the contour
+keeps : (e f : Effect) (contour : List Spot) (from : Spot) → e ≡ f → contour_after f contour from ≡ contour → contour_after e contour from ≡ contour
+keeps e f contour from same h = rw same h
+
+drawn_is : (inside : Bool) (code : Code) (to : Spot) (e : Effect) (contour : List Spot) (from : Spot) → IsEffect inside code to e → contour_after e contour from ≡ drawn code inside contour from to
+drawn_is true Draw to e contour from i = ap (λ (f : Effect). contour_after f contour from) i
+drawn_is true Move to e contour from i = ap (λ (f : Effect). contour_after f contour from) i.1
+drawn_is true Flash to e contour from i = absurd i
+drawn_is false Draw to e contour from i = ap (λ (f : Effect). contour_after f contour from) i.is
+drawn_is false Move to e contour from i = ap (λ (f : Effect). contour_after f contour from) i.is
+drawn_is false Flash to e contour from i = ap (λ (f : Effect). contour_after f contour from) i.is
+
+contour-push : (p : Place) (earlier : List Command) (ps : List PlainPiece) (c : Command) (e : Effect) → Outcome (known_with p earlier ps) c e → contour_after e (contour_at earlier) (point_at earlier) ≡ contour_at (c ∷ earlier)
+contour-push p earlier ps (operates x y code) e o =
+    drawn_is (region_at earlier) (code_of code) o.to e (contour_at earlier) (point_at earlier) o.is ∙ ap (λ (to : Spot). drawn (code_of code) (region_at earlier) (contour_at earlier) (point_at earlier) to) (point_is p earlier ps x y code e o)
+contour-push p earlier ps opens_region e o = ap (λ (f : Effect). contour_after f (contour_at earlier) (point_at earlier)) o
+contour-push p earlier ps closes_region e o = ap (λ (f : Effect). contour_after f (contour_at earlier) (point_at earlier)) o.1
+contour-push p earlier ps (defines text) e o = keeps e (makes o.n o.aperture) (contour_at earlier) (point_at earlier) o.is refl
+contour-push p earlier ps nothing e o = keeps e stays (contour_at earlier) (point_at earlier) o refl
+contour-push p earlier ps (refused why) e o = keeps e stays (contour_at earlier) (point_at earlier) o refl
+contour-push p earlier ps (repeats text) e o = keeps e stays (contour_at earlier) (point_at earlier) o refl
+contour-push p earlier ps (functions function layer) e o = keeps e stays (contour_at earlier) (point_at earlier) o refl
+contour-push p earlier ps (formats format) e o = keeps e stays (contour_at earlier) (point_at earlier) o refl
+contour-push p earlier ps (counts_in unit) e o = keeps e stays (contour_at earlier) (point_at earlier) o refl
+contour-push p earlier ps (selects m) e o = keeps e stays (contour_at earlier) (point_at earlier) o refl
+contour-push p earlier ps ends e o = keeps e stays (contour_at earlier) (point_at earlier) o refl
+contour-push p earlier ps (breaks fault) e o = keeps e stays (contour_at earlier) (point_at earlier) o refl
+contour-push p earlier ps finishes e o = keeps e stays (contour_at earlier) (point_at earlier) o refl
+
+-- an operation and the end of a region leave the dictionary as it was
+operation_keeps : (old new : Dictionary) (inside : Bool) (code : Code) (to : Spot) (e : Effect) → IsEffect inside code to e → Turns old e new → new ≡ old
+operation_keeps old new false code to e i t = subst (λ (f : Effect). Turns old f new) i.is t
+operation_keeps old new true Draw to e i t = subst (λ (f : Effect). Turns old f new) i t
+operation_keeps old new true Move to e i t = subst (λ (f : Effect). Turns old f new) i.1 t
+operation_keeps old new true Flash to e i t = absurd i
+
+-- every command but a definition does
+abbrev Keeps : Command → Dictionary → Dictionary → Type 0
+Keeps (defines text) old new = Unit {0}
+Keeps other old new = new ≡ old
+
+keeps_dictionary : (old new : Dictionary) (k : Known) (c : Command) (e : Effect) → Outcome k c e → Turns old e new → Keeps c old new
+keeps_dictionary old new k (defines text) e o t = tt
+keeps_dictionary old new k (operates x y code) e o t = operation_keeps old new k.settings.region (code_of code) o.to e o.is t
+keeps_dictionary old new k opens_region e o t = subst (λ (f : Effect). Turns old f new) o t
+keeps_dictionary old new k closes_region e o t = subst (λ (f : Effect). Turns old f new) o.1 t
+keeps_dictionary old new k nothing e o t = subst (λ (f : Effect). Turns old f new) o t
+keeps_dictionary old new k (refused why) e o t = subst (λ (f : Effect). Turns old f new) o t
+keeps_dictionary old new k (repeats text) e o t = subst (λ (f : Effect). Turns old f new) o t
+keeps_dictionary old new k (functions function layer) e o t = subst (λ (f : Effect). Turns old f new) o t
+keeps_dictionary old new k (formats format) e o t = subst (λ (f : Effect). Turns old f new) o t
+keeps_dictionary old new k (counts_in unit) e o t = subst (λ (f : Effect). Turns old f new) o t
+keeps_dictionary old new k (selects m) e o t = subst (λ (f : Effect). Turns old f new) o t
+keeps_dictionary old new k ends e o t = subst (λ (f : Effect). Turns old f new) o t
+keeps_dictionary old new k (breaks fault) e o t = subst (λ (f : Effect). Turns old f new) o t
+keeps_dictionary old new k finishes e o t = subst (λ (f : Effect). Turns old f new) o t
+
+-- The aperture dictionary is found by looking back.
+pub record Found (new : Dictionary) (earlier : List Command) : Type 0 where
+  pub defined : (m : ℕ) → defined_in new m ≡ defined_at earlier m
+  pub size : size_of new ≡ definitions_at earlier
+
+same_found : (old new : Dictionary) (earlier : List Command) → Found old earlier → new ≡ old → Found new earlier
+same_found old new earlier h same = subst (λ (d : Dictionary). Found d earlier) (sym same) h
+
+dictionary-push : (old new : Dictionary) (p : Place) (earlier : List Command) (ps : List PlainPiece) (c : Command) (e : Effect) → Found old earlier → Outcome (known_with p earlier ps) c e → Turns old e new → Keeps c old new → Found new (c ∷ earlier)
+dictionary-push old new p earlier ps (defines text) e h o t u =
     let adds : Adds old new o.n o.aperture = subst (λ (f : Effect). Turns old f new) o.is t in
-    adds.defined m ∙ rw (o.unit_is, o.read_is, h m) (by (eqb o.n m))
+    record {
+      defined = λ m. adds.defined m ∙ rw (o.unit_is, o.read_is, h.defined m) (by (eqb o.n m) m);
+      size = adds.more ∙ ap (λ (k : ℕ). k + 1) h.size;
+    }
   where
-    by : (b : Bool) → cond b (Some o.aperture) (defined_at earlier m) ≡ or_else (cond b (Some o.aperture) None) (defined_at earlier m)
-    by true = refl
-    by false = refl
-defined-push old new p earlier n (operates x y code) e h o t m = let same : new ≡ old = subst (λ (f : Effect). Turns old f new) o.is t in rw same (h m)
-defined-push old new p earlier n nothing e h o t m = let same : new ≡ old = subst (λ (f : Effect). Turns old f new) o t in rw same (h m)
-defined-push old new p earlier n (refused why) e h o t m = let same : new ≡ old = subst (λ (f : Effect). Turns old f new) o t in rw same (h m)
-defined-push old new p earlier n not_yet e h o t m = let same : new ≡ old = subst (λ (f : Effect). Turns old f new) o t in rw same (h m)
-defined-push old new p earlier n (formats format) e h o t m = let same : new ≡ old = subst (λ (f : Effect). Turns old f new) o t in rw same (h m)
-defined-push old new p earlier n (counts_in unit) e h o t m = let same : new ≡ old = subst (λ (f : Effect). Turns old f new) o t in rw same (h m)
-defined-push old new p earlier n (selects k) e h o t m = let same : new ≡ old = subst (λ (f : Effect). Turns old f new) o t in rw same (h m)
-defined-push old new p earlier n ends e h o t m = let same : new ≡ old = subst (λ (f : Effect). Turns old f new) o t in rw same (h m)
-defined-push old new p earlier n (breaks fault) e h o t m = let same : new ≡ old = subst (λ (f : Effect). Turns old f new) o t in rw same (h m)
-defined-push old new p earlier n finishes e h o t m = let same : new ≡ old = subst (λ (f : Effect). Turns old f new) o t in rw same (h m)
-
--- and their number
-still : (old new : Wheel) (n : ℕ) (e f : Effect) → e ≡ f → Turns old e new → (Turns old f new → new ≡ old) → size_of old ≡ n → size_of new ≡ n
-still old new n e f o t back h = let same : new ≡ old = back (subst (λ (g : Effect). Turns old g new) o t) in rw same h
-
-size-push : (old new : Wheel) (p : Place) (earlier : List Command) (n : ℕ) (c : Command) (e : Effect) → size_of old ≡ definitions_at earlier → Outcome (known_with p earlier n) c e → Turns old e new → size_of new ≡ definitions_at (c ∷ earlier)
-size-push old new p earlier n (defines text) e h o t =
-    let adds : Adds old new o.n o.aperture = subst (λ (f : Effect). Turns old f new) o.is t in
-    adds.more ∙ ap (λ (k : ℕ). k + 1) h
-size-push old new p earlier n (operates x y code) e h o t = still old new _ e (performs o.to o.stroke) o.is t (λ s. s) h
-size-push old new p earlier n nothing e h o t = still old new _ e stays o t (λ s. s) h
-size-push old new p earlier n (refused why) e h o t = still old new _ e stays o t (λ s. s) h
-size-push old new p earlier n not_yet e h o t = still old new _ e stays o t (λ s. s) h
-size-push old new p earlier n (formats format) e h o t = still old new _ e stays o t (λ s. s) h
-size-push old new p earlier n (counts_in unit) e h o t = still old new _ e stays o t (λ s. s) h
-size-push old new p earlier n (selects k) e h o t = still old new _ e stays o t (λ s. s) h
-size-push old new p earlier n ends e h o t = still old new _ e stays o t (λ s. s) h
-size-push old new p earlier n (breaks fault) e h o t = still old new _ e stays o t (λ s. s) h
-size-push old new p earlier n finishes e h o t = still old new _ e stays o t (λ s. s) h
+    by : (b : Bool) (m : ℕ) → cond b (Some o.aperture) (defined_at earlier m) ≡ or_else (cond b (Some o.aperture) None) (defined_at earlier m)
+    by true m = refl
+    by false m = refl
+dictionary-push old new p earlier ps (operates x y code) e h o t u = let f = same_found old new earlier h u in record { defined = f.defined; size = f.size }
+dictionary-push old new p earlier ps opens_region e h o t u = let f = same_found old new earlier h u in record { defined = f.defined; size = f.size }
+dictionary-push old new p earlier ps closes_region e h o t u = let f = same_found old new earlier h u in record { defined = f.defined; size = f.size }
+dictionary-push old new p earlier ps nothing e h o t u = let f = same_found old new earlier h u in record { defined = f.defined; size = f.size }
+dictionary-push old new p earlier ps (refused why) e h o t u = let f = same_found old new earlier h u in record { defined = f.defined; size = f.size }
+dictionary-push old new p earlier ps (repeats text) e h o t u = let f = same_found old new earlier h u in record { defined = f.defined; size = f.size }
+dictionary-push old new p earlier ps (functions function layer) e h o t u = let f = same_found old new earlier h u in record { defined = f.defined; size = f.size }
+dictionary-push old new p earlier ps (formats format) e h o t u = let f = same_found old new earlier h u in record { defined = f.defined; size = f.size }
+dictionary-push old new p earlier ps (counts_in unit) e h o t u = let f = same_found old new earlier h u in record { defined = f.defined; size = f.size }
+dictionary-push old new p earlier ps (selects m) e h o t u = let f = same_found old new earlier h u in record { defined = f.defined; size = f.size }
+dictionary-push old new p earlier ps ends e h o t u = let f = same_found old new earlier h u in record { defined = f.defined; size = f.size }
+dictionary-push old new p earlier ps (breaks fault) e h o t u = let f = same_found old new earlier h u in record { defined = f.defined; size = f.size }
+dictionary-push old new p earlier ps finishes e h o t u = let f = same_found old new earlier h u in record { defined = f.defined; size = f.size }
 
 -- the reader has obeyed these commands
 pub record State (p : Place) (earlier : List Command) (r : Reader) : Type 0 where
   pub known : known_of r ≡ known_at p earlier
-  pub marks : plain_pieces r.pieces.items ≡ pieces_at p earlier
   pub counts : r.commands ≡ length earlier
-  pub place : place_of r ≡ p
 
-pub same_known : (s s' : Settings) (d d' : ℕ → Option Aperture) (n n' k k' m m' : ℕ) → s ≡ s' → d ≡ d' → n ≡ n' → k ≡ k' → m ≡ m' → ◌≡◌ {A = Known} (record { settings = s; defined = d; definitions = n; pieces = k; room = m }) (record { settings = s'; defined = d'; definitions = n'; pieces = k'; room = m' })
-same_known s s' d d' n n' k k' m m' a b c e f = cc
+pub same_known : (s s' : Settings) (d d' : ℕ → Option Aperture) (n n' : ℕ) (c c' : List Spot) (k k' : List PlainPiece) (m m' : Place) → s ≡ s' → d ≡ d' → n ≡ n' → c ≡ c' → k ≡ k' → m ≡ m' → ◌≡◌ {A = Known} (record { settings = s; defined = d; definitions = n; contour = c; pieces = k; place = m }) (record { settings = s'; defined = d'; definitions = n'; contour = c'; pieces = k'; place = m' })
+same_known s s' d d' n n' c c' k k' m m' a b e f g h = cc
 
-same_marks : (a b : List PlainPiece) (q p : Place) (m n : ℕ) (x y : Result Effect Fault) → a ≡ b → q ≡ p → m ≡ n → x ≡ y → a ++ mark q m x ≡ b ++ mark p n y
-same_marks a b q p m n x y e f g h = ap (λ (xs : List PlainPiece). xs ++ mark q m x) e ∙ ap (λ (t : Place). b ++ mark t m x) f ∙ ap (λ (t : ℕ). b ++ mark p t x) g ∙ ap (λ (t : Result Effect Fault). b ++ mark p n t) h
+-- the pieces with an effect
+same_pieces : (old new earlier : List PlainPiece) (q p : Place) (m n : ℕ) (e : Effect) (x : Result Effect Fault) → new ≡ old ++ made q m (figure_in e) → old ≡ earlier → q ≡ p → m ≡ n → Ok e ≡ x → new ≡ with_effect p n earlier x
+same_pieces old new earlier q p m n e x h a b c d =
+    h ∙ ap (λ (xs : List PlainPiece). xs ++ made q m (figure_in e)) a ∙ ap (λ (t : Place). earlier ++ made t m (figure_in e)) b ∙ ap (λ (t : ℕ). earlier ++ made p t (figure_in e)) c ∙ ap (λ (t : Result Effect Fault). with_effect p n earlier t) d
 
 -- one command more
 pub state-push : (p : Place) (earlier : List Command) (r : Reader) (c : Command) (new : Reader) → State p earlier r → Obeys r c new → State p (c ∷ earlier) new
 unfolding pieces_at
 state-push p earlier r c new s o =
-    let n : ℕ = length (pieces_at p earlier) in
-    let clean : effect (known_at p earlier) c ≡ Ok o.effect_is = subst (λ (k : Known). effect k c ≡ Ok o.effect_is) s.known o.clean in
-    let did : Outcome (known_with p earlier n) c o.effect_is = outcome (known_with p earlier n) c o.effect_is clean in
-    let settings : new.settings ≡ settings_at (c ∷ earlier) = o.settings ∙ ap (λ (t : Settings). after t c o.effect_is) (ap (λ (k : Known). k.settings) s.known) ∙ settings-push p earlier n c o.effect_is did in
-    let defined : (m : ℕ) → defined_in new.wheel m ≡ defined_at (c ∷ earlier) m = defined-push r.wheel new.wheel p earlier n c o.effect_is (λ m. ap (λ (k : Known). k.defined m) s.known) did o.wheel in
-    let size : size_of new.wheel ≡ definitions_at (c ∷ earlier) = size-push r.wheel new.wheel p earlier n c o.effect_is (ap (λ (k : Known). k.definitions) s.known) did o.wheel in
+    let e : Effect = o.effect_is in
+    let ps : List PlainPiece = pieces_at p earlier in
+    let clean : effect (known_at p earlier) c ≡ Ok e = subst (λ (k : Known). effect k c ≡ Ok e) s.known o.clean in
+    let did : Outcome (known_with p earlier ps) c e = outcome (known_with p earlier ps) c e clean in
+    let place : place_of r ≡ p = ap (λ (k : Known). k.place) s.known in
+    let settings : new.settings ≡ settings_at (c ∷ earlier) = o.settings ∙ ap (λ (t : Settings). after t c (heads e)) (ap (λ (k : Known). k.settings) s.known) ∙ settings-push p earlier ps c e did in
+    let had : Found r.dictionary earlier = record { defined = λ m. ap (λ (k : Known). k.defined m) s.known; size = ap (λ (k : Known). k.definitions) s.known } in
+    let has : Found new.dictionary (c ∷ earlier) = dictionary-push r.dictionary new.dictionary p earlier ps c e had did o.dictionary (keeps_dictionary r.dictionary new.dictionary (known_with p earlier ps) c e did o.dictionary) in
+    let contour : contour_of new.contour ≡ contour_at (c ∷ earlier) = o.contour ∙ ap (λ (k : Known). contour_after e k.contour k.settings.at) s.known ∙ contour-push p earlier ps c e did in
     let number : r.commands + 1 ≡ length earlier + 1 = ap (λ (k : ℕ). k + 1) s.counts in
-    let marks : plain_pieces new.pieces.items ≡ pieces_at p (c ∷ earlier) = o.marks ∙ same_marks (plain_pieces r.pieces.items) (pieces_at p earlier) (place_of r) p (r.commands + 1) (length earlier + 1) (Ok o.effect_is) (effect (known_at p earlier) c) s.marks s.place number (sym clean) in
-    let pieces : length new.pieces.items ≡ length (pieces_at p (c ∷ earlier)) = sym (length-map new.pieces.items plain_piece) ∙ ap length marks in
-    let place : place_of new ≡ p = o.place ∙ s.place in
+    let pieces : plain_pieces new.pieces.items ≡ pieces_at p (c ∷ earlier) = same_pieces (plain_pieces r.pieces.items) (plain_pieces new.pieces.items) ps (place_of r) p (r.commands + 1) (length earlier + 1) e (effect (known_at p earlier) c) o.pieces (ap (λ (k : Known). k.pieces) s.known) place number (sym clean) in
     record {
-      known = same_known new.settings (settings_at (c ∷ earlier)) (defined_in new.wheel) (defined_at (c ∷ earlier)) (size_of new.wheel) (definitions_at (c ∷ earlier)) (length new.pieces.items) (length (pieces_at p (c ∷ earlier))) new.room p.room settings (fun_ext defined) size pieces (ap (λ (q : Place). q.room) place);
-      marks = marks;
+      known = same_known new.settings (settings_at (c ∷ earlier)) (defined_in new.dictionary) (defined_at (c ∷ earlier)) (size_of new.dictionary) (definitions_at (c ∷ earlier)) (contour_of new.contour) (contour_at (c ∷ earlier)) (plain_pieces new.pieces.items) (pieces_at p (c ∷ earlier)) (place_of new) p settings (fun_ext has.defined) has.size contour pieces (o.place ∙ place);
       counts = (let e = o.counts in let f = s.counts in omega arith);
-      place = place;
     }

@@ -1,13 +1,13 @@
 -- Each file has one answer.
 use Rattle.std.proofs.Common.{◌≡◌, ℕ, ◌+◌, ◌⊎◌, inl, inr, List, [], ◌∷◌, ◌++◌, length, reverse, Result, Ok, Err, IsOk, refl, sym, ap, ◌∙◌, subst, append_assoc, append-nil}
 use Rattle.std.proofs.lemmas.List.{map-append, reverse-append, reverse-reverse}
-use Rattle.board_shapes.specs.Plain.{PlainPiece}
-use Rattle.gerber_words.specs.Cut.{Entry, Stop, HasWords, entries, start}
-use Rattle.gerber_words.proofs.OneCut.{has_words, one_cut}
+use Rattle.board_shapes.specs.Pieces.{PlainPiece}
+use Rattle.gerber_words.specs.Words.{Entry, Stop, HasWords, start}
+use Rattle.gerber_words.proofs.OneCut.{has_words, words_are_unique}
 use Rattle.gerber_layer.specs.Command.{Command}
 use Rattle.gerber_layer.specs.declared.kind.Fault.{Fault}
-use Rattle.gerber_layer.specs.Table.{Effect, effect}
-use Rattle.gerber_layer.specs.History.{Place, known_at, pieces_at}
+use Rattle.gerber_layer.specs.Table.{Place, Effect, effect}
+use Rattle.gerber_layer.specs.History.{known_at, pieces_at}
 use Rattle.gerber_layer.specs.Layer.{Item, items, commands, Clean, IsReadTo, IsRead, IsRefused, HasOneAnswer}
 
 pub record SameWords (v w : List Entry) (s t : Stop) : Type 0 where
@@ -16,13 +16,10 @@ pub record SameWords (v w : List Entry) (s t : Stop) : Type 0 where
 
 same_words : (file : List ℕ) (v w : List Entry) (s t : Stop) → HasWords (start file) v s → HasWords (start file) w t → SameWords v w s t
 same_words file v w s t a b =
-    let one = one_cut file in
-    let e = one.only a.parts s a.cut in
-    let f = one.only b.parts t b.cut in
-    record {
-      words = a.are ∙ ap (entries (start file).pair (start file).at) (e.0 ∙ sym f.0) ∙ sym b.are;
-      stop = e.1 ∙ sym f.1;
-    }
+    let one = words_are_unique file in
+    let e = one.only v s a in
+    let f = one.only w t b in
+    record { words = e.0 ∙ sym f.0; stop = e.1 ∙ sym f.1 }
 
 -- two readings see the same commands
 same_items : (file : List ℕ) (p : Place) (e f r s : List Item) → IsReadTo file p e r → IsReadTo file p f s → reverse e ++ r ≡ reverse f ++ s
@@ -70,9 +67,9 @@ past p e f i t h clean =
     clean_part p (commands (reverse t)) i.command (commands e) (subst (λ (cs : List Command). Clean p cs) g clean)
 
 -- a reading to a fault and a reading to the end
-apart : (file : List ℕ) (p : Place) (marks : List PlainPiece) (why : Fault) (number place : ℕ) → IsRead file p marks → IsRefused file p why number place → ⊥
+apart : (file : List ℕ) (p : Place) (pieces : List PlainPiece) (why : Fault) (number place : ℕ) → IsRead file p pieces → IsRefused file p why number place → ⊥
 unfolding Fronts
-apart file p marks why number place a b =
+apart file p pieces why number place a b =
     by (fronts (reverse a.earlier) (reverse b.earlier) [] (b.item ∷ b.later) (same_items file p a.earlier b.earlier [] (b.item ∷ b.later) a.whole b.first))
   where
     by : Fronts (reverse a.earlier) (reverse b.earlier) [] (b.item ∷ b.later) → ⊥
@@ -90,23 +87,23 @@ apart file p marks why number place a b =
             let ok = past p b.earlier a.earlier i t h a.whole.clean in
             fails p (commands b.earlier) b.item.command why (subst (λ (j : Item). IsOk (effect (known_at p (commands b.earlier)) j.command)) same ok) b.is
 
-same_list : (file : List ℕ) (p : Place) (marks others : List PlainPiece) → IsRead file p marks → IsRead file p others → marks ≡ others
+same_list : (file : List ℕ) (p : Place) (pieces others : List PlainPiece) → IsRead file p pieces → IsRead file p others → pieces ≡ others
 unfolding Fronts
-same_list file p marks others a b =
+same_list file p pieces others a b =
     by (fronts (reverse a.earlier) (reverse b.earlier) [] [] (same_items file p a.earlier b.earlier [] [] a.whole b.whole))
   where
-    at_once : reverse a.earlier ≡ reverse b.earlier → marks ≡ others
+    at_once : reverse a.earlier ≡ reverse b.earlier → pieces ≡ others
     at_once h = a.are ∙ ap (λ (e : List Item). pieces_at p (commands e)) (same_reverse a.earlier b.earlier h) ∙ sym b.are
 
-    by : Fronts (reverse a.earlier) (reverse b.earlier) [] [] → marks ≡ others
+    by : Fronts (reverse a.earlier) (reverse b.earlier) [] [] → pieces ≡ others
     by (inl w) = left w.0 w.1 w.2
       where
-        left : (t : List Item) → reverse b.earlier ≡ reverse a.earlier ++ t → [] ≡ t ++ [] → marks ≡ others
+        left : (t : List Item) → reverse b.earlier ≡ reverse a.earlier ++ t → [] ≡ t ++ [] → pieces ≡ others
         left [] h k = at_once (sym (h ∙ append-nil (reverse a.earlier)))
         left (x ∷ t) h k = cc
     by (inr w) = right w.0 w.1 w.2
       where
-        right : (t : List Item) → reverse a.earlier ≡ reverse b.earlier ++ t → [] ≡ t ++ [] → marks ≡ others
+        right : (t : List Item) → reverse a.earlier ≡ reverse b.earlier ++ t → [] ≡ t ++ [] → pieces ≡ others
         right [] h k = at_once (h ∙ append-nil (reverse b.earlier))
         right (x ∷ t) h k = cc
 
@@ -144,7 +141,7 @@ same_fault file p why other number n place q a b =
             absurd (fails p (commands b.earlier) b.item.command other (subst (λ (j : Item). IsOk (effect (known_at p (commands b.earlier)) j.command)) same ok) b.is)
 
 Answer : List ℕ → Place → Type 0
-Answer file p = ((marks : List PlainPiece) × IsRead file p marks) ⊎ ((why : Fault) × (number : ℕ) × (place : ℕ) × IsRefused file p why number place)
+Answer file p = ((pieces : List PlainPiece) × IsRead file p pieces) ⊎ ((why : Fault) × (number : ℕ) × (place : ℕ) × IsRefused file p why number place)
 
 turn : (earlier : List Item) (i : Item) (rest : List Item) → reverse earlier ++ (i ∷ rest) ≡ reverse (i ∷ earlier) ++ rest
 turn earlier i rest = sym (ap (λ (xs : List Item). xs ++ rest) (reverse-append (i ∷ []) earlier) ∙ append_assoc (reverse earlier) (i ∷ []) rest)

@@ -2,8 +2,8 @@
 use Rattle.std.proofs.Common.{◌≡◌, ℕ, ◌+◌, List, [], ◌∷◌, ◌++◌, length, reverse, Result, Ok, Err, IsOk, refl, sym, ap, ◌∙◌, subst, append_assoc}
 use mathlib.Core.Path.{fun_ext}
 use Rattle.std.proofs.lemmas.List.{length-map, reverse-append}
-use Rattle.board_shapes.specs.Plain.{plain_pieces}
-use Rattle.gerber_words.specs.Cut.{Ahead, Entry, Stop, HasWords, start}
+use Rattle.board_shapes.specs.Pieces.{plain_pieces}
+use Rattle.gerber_words.specs.Words.{Ahead, Entry, Stop, HasWords, start}
 use Rattle.gerber_words.proofs.OneCut.{has_words}
 use Rattle.gerber_layer.specs.Command.{Command}
 use Rattle.gerber_layer.specs.Reading.{command_of}
@@ -16,10 +16,10 @@ use Rattle.gerber_layer.specs.declared.kind.Halt.{Halt}
 use Rattle.gerber_layer.specs.declared.kind.Halt.TheVariants as halt
 use Rattle.gerber_layer.specs.declared.kind.LayerFault.{LayerFault}
 use Rattle.gerber_layer.specs.declared.reader.Reader.{Reader}
-use Rattle.gerber_layer.specs.Table.{Known, Effect, effect}
-use Rattle.gerber_layer.specs.History.{Place, known_at, pieces_at, settings_at, defined_at}
+use Rattle.gerber_layer.specs.Table.{Place, Known, Effect, effect}
+use Rattle.gerber_layer.specs.History.{known_at, pieces_at, settings_at, defined_at}
 use Rattle.gerber_layer.specs.Layer.{Item, item_of, stop_item, items, commands, Clean, IsRead, IsRefused, IsFault}
-use Rattle.gerber_layer.specs.Reader.{known_of, defined_in, size_of, Obeys, IsNew, Halts, fault_at, Leaves, Faults}
+use Rattle.gerber_layer.specs.Reader.{known_of, contour_of, defined_in, place_of, size_of, Obeys, IsNew, Stops, fault_at, Leaves, Faults}
 use Rattle.gerber_layer.proofs.Bridge.{State, state-push, same_known}
 
 -- whatever words follow, the file's commands are the earlier ones and theirs
@@ -44,10 +44,8 @@ read-start file p r n = record {
   extends = λ words stop h. record { all = words; cut = h; split = refl };
   clean = tt;
   state = record {
-    known = same_known r.settings (settings_at []) (defined_in r.wheel) (defined_at []) (size_of r.wheel) 0 (length r.pieces.items) 0 r.room p.room n.settings (fun_ext n.defined) n.size (ap length n.pieces) (ap (λ (q : Place). q.room) n.place);
-    marks = ap plain_pieces n.pieces;
+    known = same_known r.settings (settings_at []) (defined_in r.dictionary) (defined_at []) (size_of r.dictionary) 0 (contour_of r.contour) [] (plain_pieces r.pieces.items) [] (place_of r) p n.settings (fun_ext n.defined) n.size n.contour (ap plain_pieces n.pieces) n.place;
     counts = n.counts;
-    place = n.place;
   };
 }
 
@@ -97,7 +95,7 @@ read-stop file p old stop r r' s h o =
         split = x.split ∙ turn s.earlier (stop_item (length file) stop) [];
         clean = (is_ok (known_of r) (known_at p (commands s.earlier)) (stop_item (length file) stop).command o.effect_is s.state.known o.clean, s.clean);
       };
-      are = last.marks;
+      are = ap (λ (k : Known). k.pieces) last.known;
     }
 
 -- and where it has a fault
@@ -115,12 +113,12 @@ refused-stop file p old stop r fault number s had h n =
     }
 
 -- what stops the reader at a word is that word's fault
-pub word-fault : (file : List ℕ) (p : Place) (old new : Ahead) (w : Entry) (r : Reader) (why : Halt) (number : ℕ) → ReadSoFar file p old r → ((words : List Entry) (stop : Stop) → HasWords new words stop → HasWords old (w ∷ words) stop) → Halts (known_of r) (command_of w) why → number ≡ r.commands + 1 → IsFault file p (fault_at why number w.at)
+pub word-fault : (file : List ℕ) (p : Place) (old new : Ahead) (w : Entry) (r : Reader) (why : Halt) (number : ℕ) → ReadSoFar file p old r → ((words : List Entry) (stop : Stop) → HasWords new words stop → HasWords old (w ∷ words) stop) → Stops (effect (known_of r) (command_of w)) why → number ≡ r.commands + 1 → IsFault file p (fault_at why number w.at)
 word-fault file p old new w r (halt.Fault (fault.Kind kind)) number s next h n = refused-word file p old new w r (fault.Kind kind) number s next h n
 word-fault file p old new w r (halt.Fault fault.NotYet) number s next h n = refused-word file p old new w r fault.NotYet number s next h n
 word-fault file p old new w r halt.NoMemory number s next h n = tt
 
-stop-halt : (file : List ℕ) (p : Place) (old : Ahead) (stop : Stop) (r : Reader) (why : Halt) → ReadSoFar file p old r → HasWords old [] stop → Halts (known_of r) (stop_item (length file) stop).command why → IsFault file p (fault_at why (r.commands + 1) (stop_item (length file) stop).at)
+stop-halt : (file : List ℕ) (p : Place) (old : Ahead) (stop : Stop) (r : Reader) (why : Halt) → ReadSoFar file p old r → HasWords old [] stop → Stops (effect (known_of r) (stop_item (length file) stop).command) why → IsFault file p (fault_at why (r.commands + 1) (stop_item (length file) stop).at)
 stop-halt file p old stop r (halt.Fault (fault.Kind kind)) s had h = refused-stop file p old stop r (fault.Kind kind) (r.commands + 1) s had h refl
 stop-halt file p old stop r (halt.Fault fault.NotYet) s had h = refused-stop file p old stop r fault.NotYet (r.commands + 1) s had h refl
 stop-halt file p old stop r halt.NoMemory s had h = tt

@@ -1,16 +1,19 @@
 -- What earlier commands have set, found by looking back. A history is a list of commands, the last first.
 use Rattle.std.specs.Prelude.{ℕ, ◌+◌, Bool, true, false, ◌||◌, ◌==◌, if◌then◌else◌, List, [], ◌∷◌, ◌++◌, length, ℤ, pos, Option, Some, None, Result, Ok, Err}
 use Rattle.lengths.specs.declared.decimal.Unit.{Unit as Measure}
-use Rattle.board_shapes.specs.Plain.{PlainPiece}
+use Rattle.planar.specs.declared.Spot.{Spot}
+use Rattle.board_shapes.specs.Figures.{Figure}
+use Rattle.board_shapes.specs.Pieces.{PlainPiece}
 use Rattle.apertures.specs.declared.aperture.Aperture.{Aperture}
 use Rattle.apertures.specs.declared.fault.ApertureFault.{ApertureFault}
 use Rattle.apertures.specs.Reading.{aperture_at}
-use Rattle.gerber_layer.specs.Command.{Command, formats, counts_in, defines, selects, operates, ends}
+use Rattle.gerber_layer.specs.Command.{Command, formats, counts_in, defines, selects, opens_region, closes_region, operates, ends}
 use Rattle.gerber_layer.specs.declared.kind.Fault.{Fault}
 use Rattle.gerber_layer.specs.declared.command.Code.{Code}
+use Rattle.gerber_layer.specs.declared.command.Code.TheVariants.{Draw, Move, Flash}
 use Rattle.gerber_layer.specs.declared.command.Format.{Format}
 use Rattle.gerber_layer.specs.declared.settings.Settings.{Settings}
-use Rattle.gerber_layer.specs.Table.{Known, Effect, stays, makes, performs, code_of, coordinate, effect, keep_first}
+use Rattle.gerber_layer.specs.Table.{Place, Known, Effect, code_of, coordinate, effect, figure_in, keep_first, lengthened}
 
 -- the first of two that is there
 abbrev pub or_else : {A : Type 0} → Option A → Option A → Option A
@@ -72,6 +75,21 @@ abbrev pub operation_at : List Command → Option Code
 operation_at [] = None
 operation_at (c ∷ earlier) = or_else (code_in c) (operation_at earlier)
 
+-- what a command says of whether a region is open
+abbrev pub region_in : Command → Option Bool
+region_in opens_region = Some true
+region_in closes_region = Some false
+region_in other = None
+
+abbrev pub latest : {A : Type 0} → Option A → A → A
+latest (Some x) earlier = x
+latest None earlier = earlier
+
+-- a region is open where the last `G36` stands after the last `G37`
+abbrev pub region_at : List Command → Bool
+region_at [] = false
+region_at (c ∷ earlier) = latest (region_in c) (region_at earlier)
+
 abbrev pub has_ended : List Command → Bool
 has_ended [] = false
 has_ended (c ∷ earlier) = is_end c || has_ended earlier
@@ -96,15 +114,38 @@ abbrev pub y_at : List Command → ℤ
 y_at [] = pos 0
 y_at (c ∷ earlier) = value_in (y_in c) (format_at earlier) (unit_at earlier) (y_at earlier)
 
+-- the current point
+abbrev pub point_at : List Command → Spot
+point_at earlier = record { x = x_at earlier; y = y_at earlier }
+
 abbrev pub settings_at : List Command → Settings
 settings_at earlier = record {
   format = format_at earlier;
   unit = unit_at earlier;
   selected = selection_at earlier;
-  at = record { x = x_at earlier; y = y_at earlier };
+  at = point_at earlier;
   last = operation_at earlier;
+  region = region_at earlier;
   ended = has_ended earlier;
 }
+
+-- The contour so far: the current point before the first `D01` in the open region since the last `G36` or `D02`, and where each leads.
+abbrev pub drawn : Code → Bool → List Spot → Spot → Spot → List Spot
+drawn Draw true contour from to = lengthened contour from to
+drawn Draw false contour from to = contour
+drawn Move true contour from to = []
+drawn Move false contour from to = contour
+drawn Flash inside contour from to = contour
+
+abbrev pub contour_by : Command → Bool → List Spot → Spot → Spot → List Spot
+contour_by (operates x y code) inside contour from to = drawn (code_of code) inside contour from to
+contour_by opens_region inside contour from to = []
+contour_by closes_region inside contour from to = []
+contour_by other inside contour from to = contour
+
+abbrev pub contour_at : List Command → List Spot
+contour_at [] = []
+contour_at (c ∷ earlier) = contour_by c (region_at earlier) (contour_at earlier) (point_at earlier) (point_at (c ∷ earlier))
 
 -- what a definition defines n as
 abbrev pub as_number : ℕ → Result (ℕ × Aperture) ApertureFault → Option Aperture
@@ -121,34 +162,31 @@ abbrev pub defined_at : List Command → ℕ → Option Aperture
 defined_at [] n = None
 defined_at (c ∷ earlier) n = or_else (definition_in c (unit_at earlier) n) (defined_at earlier n)
 
--- The layer and the file that pieces are on, and the room for them.
-pub record Place : Type 0 where
-  pub layer : ℕ
-  pub file : ℕ
-  pub room : ℕ
+-- the piece that the command of this number makes of a figure
+abbrev pub made : Place → ℕ → Option Figure → List PlainPiece
+made p number None = []
+made p number (Some figure) =
+    record { figure = figure; top = p.layer; bottom = p.layer; origin = record { file = p.file; command = number; copy = 0 } } ∷ []
 
--- the piece that the command after these makes
-abbrev pub mark : Place → ℕ → Result Effect Fault → List PlainPiece
-mark p number (Ok (performs to (Some stroke))) =
-    record { stroke = stroke; top = p.layer; bottom = p.layer; origin = record { file = p.file; command = number; copy = 0 } } ∷ []
-mark p number (Ok (performs to None)) = []
-mark p number (Ok stays) = []
-mark p number (Ok (makes n aperture)) = []
-mark p number (Err fault) = []
+abbrev pub with_effect : Place → ℕ → List PlainPiece → Result Effect Fault → List PlainPiece
+with_effect p number pieces (Ok e) = pieces ++ made p number (figure_in e)
+with_effect p number pieces (Err fault) = pieces
 
--- what is known before the next command, and the pieces so far
-abbrev pub known_with : Place → List Command → ℕ → Known
+-- what is known before the next command, with the pieces so far
+abbrev pub known_with : Place → List Command → List PlainPiece → Known
 known_with p earlier pieces = record {
   settings = settings_at earlier;
   defined = defined_at earlier;
   definitions = definitions_at earlier;
+  contour = contour_at earlier;
   pieces = pieces;
-  room = p.room;
+  place = p;
 }
 
+-- the pieces that the commands make, in order
 unfoldable pub pieces_at : Place → List Command → List PlainPiece
 pieces_at p [] = []
-pieces_at p (c ∷ earlier) = pieces_at p earlier ++ mark p (length earlier + 1) (effect (known_with p earlier (length (pieces_at p earlier))) c)
+pieces_at p (c ∷ earlier) = with_effect p (length earlier + 1) (pieces_at p earlier) (effect (known_with p earlier (pieces_at p earlier)) c)
 
 abbrev pub known_at : Place → List Command → Known
-known_at p earlier = known_with p earlier (length (pieces_at p earlier))
+known_at p earlier = known_with p earlier (pieces_at p earlier)

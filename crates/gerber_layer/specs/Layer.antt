@@ -1,15 +1,15 @@
 -- What a copper file is read as.
 use Rattle.std.specs.Prelude.{◌≡◌, ℕ, ◌+◌, ◌⊎◌, List, [], ◌∷◌, ◌++◌, length, map, reverse, Err, IsOk}
-use Rattle.board_shapes.specs.Plain.{PlainPiece}
-use Rattle.gerber_words.specs.Cut.{Entry, Stop, ended, broken, HasWords, start}
+use Rattle.board_shapes.specs.Pieces.{PlainPiece}
+use Rattle.gerber_words.specs.Words.{Entry, Stop, ended, broken, HasWords, start}
 use Rattle.gerber_layer.specs.Command.{Command, finishes, breaks}
 use Rattle.gerber_layer.specs.Reading.{command_of}
 use Rattle.gerber_layer.specs.declared.kind.Fault.{Fault}
 use Rattle.gerber_layer.specs.declared.kind.Fault.TheVariants as fault
 use Rattle.gerber_layer.specs.declared.kind.LayerFault.{LayerFault}
 use Rattle.gerber_layer.specs.declared.kind.LayerFault.TheVariants as layer
-use Rattle.gerber_layer.specs.Table.{effect}
-use Rattle.gerber_layer.specs.History.{Place, known_at, pieces_at}
+use Rattle.gerber_layer.specs.Table.{Place, effect}
+use Rattle.gerber_layer.specs.History.{known_at, pieces_at}
 
 -- a command with its place
 pub record Item : Type 0 where
@@ -45,10 +45,10 @@ pub record IsReadTo (file : List ℕ) (p : Place) (earlier rest : List Item) : T
   pub clean : Clean p (commands earlier)
 
 -- no command has a fault, and these are the pieces that they make
-pub record IsRead (file : List ℕ) (p : Place) (marks : List PlainPiece) : Type 0 where
+pub record IsRead (file : List ℕ) (p : Place) (pieces : List PlainPiece) : Type 0 where
   pub earlier : List Item
   pub whole : IsReadTo file p earlier []
-  pub are : marks ≡ pieces_at p (commands earlier)
+  pub are : pieces ≡ pieces_at p (commands earlier)
 
 -- the first command with a fault, its number and its place
 pub record IsRefused (file : List ℕ) (p : Place) (fault : Fault) (number place : ℕ) : Type 0 where
@@ -67,7 +67,7 @@ IsFault file p layer.NoMemory = Unit {0}
 
 -- Each file has one answer: the pieces, or the first fault.
 pub record HasOneAnswer (file : List ℕ) (p : Place) : Type 0 where
-  pub some_answer : ((marks : List PlainPiece) × IsRead file p marks) ⊎ ((why : Fault) × (number : ℕ) × (place : ℕ) × IsRefused file p why number place)
-  pub one_list : (marks others : List PlainPiece) → IsRead file p marks → IsRead file p others → marks ≡ others
-  pub not_both : (marks : List PlainPiece) (why : Fault) (number place : ℕ) → IsRead file p marks → IsRefused file p why number place → ⊥
+  pub some_answer : ((pieces : List PlainPiece) × IsRead file p pieces) ⊎ ((why : Fault) × (number : ℕ) × (place : ℕ) × IsRefused file p why number place)
+  pub one_list : (pieces others : List PlainPiece) → IsRead file p pieces → IsRead file p others → pieces ≡ others
+  pub not_both : (pieces : List PlainPiece) (why : Fault) (number place : ℕ) → IsRead file p pieces → IsRefused file p why number place → ⊥
   pub one_fault : (why other : Fault) (number n place q : ℕ) → IsRefused file p why number place → IsRefused file p other n q → (why ≡ other) × (number ≡ n) × (place ≡ q)

@@ -1,11 +1,16 @@
--- What the reader keeps.
-use Rattle.std.specs.Prelude.{◌≡◌, ℕ, ◌+◌, ◌==◌, if◌then◌else◌, List, [], ◌++◌, length, nat_eq, Option, Some, None, Result, Ok, Err, IfSome}
+-- What the reader keeps, and how it goes on.
+use Rattle.std.specs.Prelude.{◌≡◌, ℕ, ◌+◌, ◌*◌, ◌^◌, ◌<◌, ◌≤◌, ◌==◌, false, if◌then◌else◌, List, [], ◌++◌, length, nat_eq, Option, Some, None, Result, Ok, Err, IfSome}
 use Rattle.std.specs.HashMap.{get, hash_map_len}
-use Rattle.board_shapes.specs.Plain.{Stroke, stroke_of, plain_pieces}
+use Rattle.planar.specs.declared.Spot.{Spot}
+use Rattle.planar.specs.Plane.{IsPlaced}
+use Rattle.board_shapes.specs.Figures.{Figure, figure_of}
+use Rattle.board_shapes.specs.Pieces.{PlainPiece, plain_pieces}
 use Rattle.board_shapes.specs.declared.shape.Shape.{Shape}
 use Rattle.board_shapes.specs.declared.placed.Placed.{Placed}
 use Rattle.apertures.specs.declared.aperture.Aperture.{Aperture}
 use Rattle.apertures.specs.Flash.{IsLawful}
+use Rattle.regions.specs.Contours.{points_of}
+use Rattle.regions.specs.declared.contour.Contour.{Contour}
 use Rattle.gerber_layer.specs.declared.kind.Fault.{Fault}
 use Rattle.gerber_layer.specs.declared.kind.Fault.TheVariants as fault
 use Rattle.gerber_layer.specs.declared.kind.LayerFault.{LayerFault}
@@ -14,105 +19,164 @@ use Rattle.gerber_layer.specs.declared.kind.Halt.{Halt}
 use Rattle.gerber_layer.specs.declared.kind.Halt.TheVariants as halt
 use Rattle.gerber_layer.specs.declared.effect.Effect.{Effect as Seen}
 use Rattle.gerber_layer.specs.declared.effect.Effect.TheVariants as seen
-use Rattle.gerber_layer.specs.declared.wheel.Wheel.{Wheel}
+use Rattle.gerber_layer.specs.declared.dictionary.Dictionary.{Dictionary}
 use Rattle.gerber_layer.specs.declared.reader.Reader.{Reader}
-use Rattle.gerber_layer.specs.Table.{Known, Effect, stays, makes, performs, effect, after}
-use Rattle.planar.specs.Plane.{IsPlaced}
+use Rattle.gerber_layer.specs.Table.{Place, Known, Effect, stays, makes, performs, extends, closes, opens, leaves, effect, after, closing, contour_after, edges_of, extend, figure_in, flash_by, heads, room_for, ◌>>=◌}
 use Rattle.gerber_layer.specs.Lawful.{AreLawfulSettings}
 use Rattle.gerber_layer.specs.Command.{Command}
-use Rattle.gerber_layer.specs.History.{Place, mark, settings_at}
-
-abbrev pub stroke_if : Option Shape → Option Stroke
-stroke_if None = None
-stroke_if (Some shape) = Some (stroke_of shape)
-
-abbrev pub shown : Seen → Effect
-shown seen.Stays = stays
-shown (seen.Makes n aperture) = makes n aperture
-shown (seen.Performs to shape) = performs to (stroke_if shape)
-
-abbrev pub showing : Result Seen Fault → Result Effect Fault
-showing (Ok e) = Ok (shown e)
-showing (Err fault) = Err fault
+use Rattle.gerber_layer.specs.History.{made, settings_at}
 
 -- the aperture that n is defined as, and how many are defined
-abbrev pub defined_in : Wheel → ℕ → Option Aperture
-defined_in w n = get nat_eq w.apertures n
+abbrev pub defined_in : Dictionary → ℕ → Option Aperture
+defined_in d n = get nat_eq d.apertures n
 
-abbrev pub size_of : Wheel → ℕ
-size_of w = hash_map_len w.apertures
+abbrev pub size_of : Dictionary → ℕ
+size_of d = hash_map_len d.apertures
 
-abbrev pub AreLawful : Wheel → Type 0
-AreLawful w = (n : ℕ) → IfSome (defined_in w n) IsLawful
+abbrev pub AreLawful : Dictionary → Type 0
+AreLawful d = (n : ℕ) → IfSome (defined_in d n) IsLawful
 
--- the new wheel defines n besides
-pub record Adds (old new : Wheel) (n : ℕ) (aperture : Aperture) : Type 0 where
+-- the new dictionary defines n besides
+pub record Adds (old new : Dictionary) (n : ℕ) (aperture : Aperture) : Type 0 where
   pub defined : (m : ℕ) → defined_in new m ≡ (if n == m then Some aperture else defined_in old m)
   pub more : size_of new ≡ size_of old + 1
 
-abbrev pub known_of : Reader → Known
-known_of r = record {
-  settings = r.settings;
-  defined = defined_in r.wheel;
-  definitions = size_of r.wheel;
-  pieces = length r.pieces.items;
-  room = r.room;
-}
+-- the spots of a contour that has an edge, or none
+abbrev pub contour_of : Option Contour → List Spot
+contour_of None = []
+contour_of (Some c) = points_of c
 
 abbrev pub place_of : Reader → Place
 place_of r = record { layer = r.layer; file = r.file; room = r.room }
 
--- the wheel after an effect
-abbrev pub Turns : Wheel → Effect → Wheel → Type 0
-Turns old stays new = new ≡ old
+abbrev pub known_of : Reader → Known
+known_of r = record {
+  settings = r.settings;
+  defined = defined_in r.dictionary;
+  definitions = size_of r.dictionary;
+  contour = contour_of r.contour;
+  pieces = plain_pieces r.pieces.items;
+  place = place_of r;
+}
+
+-- what an effect comes to, by the conditions that are tried when it is carried out
+abbrev pub shown : Known → Seen → Result Effect Fault
+shown k seen.Stays = Ok stays
+shown k (seen.Makes n aperture) = Ok (makes n aperture)
+shown k (seen.Moves to) = Ok (performs to None)
+shown k (seen.Draws to shape) = room_for k (Some (figure_of shape)) >>= λ figure. Ok (performs to figure)
+shown k (seen.Flashes to aperture) = flash_by k aperture to
+shown k (seen.Extends to) = extend k to
+shown k (seen.Closes to) = closing k >>= λ area. Ok (closes to area)
+shown k seen.Opens = Ok opens
+shown k seen.Leaves = closing k >>= λ area. Ok (leaves area)
+
+abbrev pub showing : Known → Result Seen Fault → Result Effect Fault
+showing k (Ok e) = shown k e
+showing k (Err fault) = Err fault
+
+abbrev pub leads : Seen → Option Spot
+leads (seen.Moves to) = Some to
+leads (seen.Draws to shape) = Some to
+leads (seen.Flashes to aperture) = Some to
+leads (seen.Extends to) = Some to
+leads (seen.Closes to) = Some to
+leads seen.Stays = None
+leads (seen.Makes n aperture) = None
+leads seen.Opens = None
+leads seen.Leaves = None
+
+-- the dictionary after an effect
+abbrev pub Turns : Dictionary → Effect → Dictionary → Type 0
 Turns old (makes n aperture) new = Adds old new n aperture
-Turns old (performs to stroke) new = new ≡ old
+Turns old stays new = new ≡ old
+Turns old (performs to figure) new = new ≡ old
+Turns old (extends to) new = new ≡ old
+Turns old (closes to figure) new = new ≡ old
+Turns old opens new = new ≡ old
+Turns old (leaves figure) new = new ≡ old
 
 -- The reader has obeyed a command that has no fault.
 pub record Obeys (old : Reader) (c : Command) (new : Reader) : Type 0 where
   pub effect_is : Effect
   pub clean : effect (known_of old) c ≡ Ok effect_is
-  pub settings : new.settings ≡ after old.settings c effect_is
-  pub wheel : Turns old.wheel effect_is new.wheel
-  pub marks : plain_pieces new.pieces.items ≡ plain_pieces old.pieces.items ++ mark (place_of old) (old.commands + 1) (Ok effect_is)
+  pub settings : new.settings ≡ after old.settings c (heads effect_is)
+  pub dictionary : Turns old.dictionary effect_is new.dictionary
+  pub contour : contour_of new.contour ≡ contour_after effect_is (contour_of old.contour) old.settings.at
+  pub pieces : plain_pieces new.pieces.items ≡ plain_pieces old.pieces.items ++ made (place_of old) (old.commands + 1) (figure_in effect_is)
   pub counts : new.commands ≡ old.commands + 1
   pub place : place_of new ≡ place_of old
 
+-- The edges are counted, and the pieces have room.
+pub record AreCounted (r : Reader) : Type 0 where
+  pub edges : r.edges ≡ edges_of (plain_pieces r.pieces.items)
+  pub few_edges : r.edges ≤ 100_000 * length r.pieces.items
+  pub few_pieces : length r.pieces.items ≤ r.room.pieces
+  pub room : r.room.pieces < 2 ^ 32
+
 pub record IsLawfulReader (r : Reader) : Type 0 where
   pub settings : AreLawfulSettings r.settings
-  pub wheel : AreLawful r.wheel
+  pub dictionary : AreLawful r.dictionary
+  pub counted : AreCounted r
+  pub layer : r.layer ≤ 32
 
--- an effect that the reader can take on
-abbrev pub IsFit : Wheel → Seen → Type 0
-IsFit w seen.Stays = Unit {0}
-IsFit w (seen.Makes n aperture) = IsLawful aperture × (defined_in w n ≡ None)
-IsFit w (seen.Performs to shape) = IsPlaced to
+-- an effect that the reader can carry out
+abbrev pub IsFit : Dictionary → Seen → Type 0
+IsFit d (seen.Makes n aperture) = IsLawful aperture × (defined_in d n ≡ None)
+IsFit d (seen.Moves to) = IsPlaced to
+IsFit d (seen.Draws to shape) = IsPlaced to
+IsFit d (seen.Flashes to aperture) = IsPlaced to × IsLawful aperture
+IsFit d (seen.Extends to) = IsPlaced to
+IsFit d (seen.Closes to) = IsPlaced to
+IsFit d seen.Stays = Unit {0}
+IsFit d seen.Opens = Unit {0}
+IsFit d seen.Leaves = Unit {0}
 
--- the reader with an effect, before the settings change
-pub record Applies (old : Reader) (e : Effect) (new : Reader) : Type 0 where
+-- The reader has carried an effect out. Its settings are as before.
+pub record Carries (old : Reader) (e : Effect) (new : Reader) : Type 0 where
   pub settings : new.settings ≡ old.settings
-  pub wheel : Turns old.wheel e new.wheel
-  pub marks : plain_pieces new.pieces.items ≡ plain_pieces old.pieces.items ++ mark (place_of old) (old.commands + 1) (Ok e)
+  pub dictionary : Turns old.dictionary e new.dictionary
+  pub contour : contour_of new.contour ≡ contour_after e (contour_of old.contour) old.settings.at
+  pub pieces : plain_pieces new.pieces.items ≡ plain_pieces old.pieces.items ++ made (place_of old) (old.commands + 1) (figure_in e)
   pub counts : new.commands ≡ old.commands
   pub place : place_of new ≡ place_of old
 
--- the reader with one more piece
-pub record Places (old : Reader) (stroke : Stroke) (new : Reader) : Type 0 where
+pub record CarriesOut (old : Reader) (what : Result Effect Fault) (new : Reader) : Type 0 where
+  pub effect_is : Effect
+  pub is : what ≡ Ok effect_is
+  pub carries : Carries old effect_is new
+
+-- What stops the reader is that fault, or want of memory.
+abbrev pub Stops : {A : Type 0} → Result A Fault → Halt → Type 0
+Stops what (halt.Fault fault) = what ≡ Err fault
+Stops what halt.NoMemory = Unit {0}
+
+-- The reader has a piece more, if there is a figure.
+pub record Places (old : Reader) (figure : Option Figure) (new : Reader) : Type 0 where
   pub settings : new.settings ≡ old.settings
-  pub wheel : new.wheel ≡ old.wheel
-  pub marks : plain_pieces new.pieces.items ≡ plain_pieces old.pieces.items ++ mark (place_of old) (old.commands + 1) (Ok (performs old.settings.at (Some stroke)))
+  pub dictionary : new.dictionary ≡ old.dictionary
+  pub contour : new.contour ≡ old.contour
+  pub pieces : plain_pieces new.pieces.items ≡ plain_pieces old.pieces.items ++ made (place_of old) (old.commands + 1) figure
   pub counts : new.commands ≡ old.commands
   pub place : place_of new ≡ place_of old
 
-abbrev pub Halts : Known → Command → Halt → Type 0
-Halts k c (halt.Fault fault) = effect k c ≡ Err fault
-Halts k c halt.NoMemory = Unit {0}
+-- The reader has closed its contour, and has its area as a piece more, if it had an edge.
+pub record Closes (old new : Reader) : Type 0 where
+  pub area : Option Figure
+  pub is : closing (known_of old) ≡ Ok area
+  pub settings : new.settings ≡ old.settings
+  pub dictionary : new.dictionary ≡ old.dictionary
+  pub contour : contour_of new.contour ≡ []
+  pub pieces : plain_pieces new.pieces.items ≡ plain_pieces old.pieces.items ++ made (place_of old) (old.commands + 1) area
+  pub counts : new.commands ≡ old.commands
+  pub place : place_of new ≡ place_of old
 
 -- a reader that has obeyed nothing
 pub record IsNew (p : Place) (r : Reader) : Type 0 where
   pub settings : r.settings ≡ settings_at []
-  pub defined : (n : ℕ) → defined_in r.wheel n ≡ None
-  pub size : size_of r.wheel ≡ 0
+  pub defined : (n : ℕ) → defined_in r.dictionary n ≡ None
+  pub size : size_of r.dictionary ≡ 0
+  pub contour : contour_of r.contour ≡ []
   pub pieces : r.pieces.items ≡ []
   pub counts : r.commands ≡ 0
   pub place : place_of r ≡ p
@@ -131,5 +195,5 @@ pub record Leaves (r : Reader) (c : Command) (pieces : List (Placed Shape)) : Ty
 -- the fault of a command that stands at a place
 pub record Faults (r : Reader) (c : Command) (at : ℕ) (why : LayerFault) : Type 0 where
   pub halt : Halt
-  pub halts : Halts (known_of r) c halt
+  pub halts : Stops (effect (known_of r) c) halt
   pub is : why ≡ fault_at halt (r.commands + 1) at

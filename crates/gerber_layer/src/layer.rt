@@ -1,24 +1,25 @@
 // Reads a layer.
 ghost use Rattle.std.specs.Prelude.{◌≡◌, ◌+◌, ◌^◌, ◌<◌, ◌≤◌, length, IfOk, IfErr, IsSomeAnd};
-ghost use Rattle.board_shapes.specs.Plain.{plain_pieces};
+ghost use Rattle.board_shapes.specs.Pieces.{plain_pieces};
 ghost use Rattle.gerber_layer.specs.Command.{view};
 ghost use Rattle.gerber_layer.specs.Lawful.{IsLawfulCommand};
 ghost use Rattle.gerber_layer.specs.Layer.{IsFault, IsRead};
 ghost use Rattle.gerber_layer.specs.Reader.{Faults, IsLawfulReader, IsNew, Leaves, fault_at};
 
 use crate::command::Command;
+use crate::dictionary::Dictionary;
 use crate::kind::{Fault, Halt, LayerFault};
 use crate::reader::Reader;
 use crate::reading::read_command;
 use crate::settings::Settings;
-use crate::wheel::Wheel;
 use board_shapes::{Piece, Room};
 use gerber_words::{Step, Words};
 use planar::Spot;
 use std::alloc::Global;
 
 impl Reader {
-    fn new(alloc: Global, layer: u8, file: u32, room: u32) -> Reader
+    fn new(alloc: Global, layer: u8, file: u32, room: Room) -> Reader
+        requires { layer ≤ 32 }
         ensures new { IsNew (record { layer = layer; file = file; room = room }) result }
         ensures lawful { IsLawfulReader result }
     {
@@ -29,10 +30,13 @@ impl Reader {
                 selected: None,
                 at: Spot { x: 0, y: 0 },
                 last: None,
+                region: false,
                 ended: false,
             },
-            wheel: Wheel::new(alloc),
+            dictionary: Dictionary::new(alloc),
+            contour: None,
             pieces: Vec::new(alloc),
+            edges: 0,
             commands: 0,
             layer,
             file,
@@ -85,12 +89,13 @@ pub fn read_layer(
     file_number: u32,
     room: Room,
 ) -> Result<Vec<Piece>, LayerFault>
-    requires { length file.now ≤ 67108864 }
-    ensures ok { IfOk result (λ pieces. IsRead file.now (record { layer = layer; file = file_number; room = room.pieces }) (plain_pieces pieces.items)) }
-    ensures fault { IfErr result (IsFault file.now (record { layer = layer; file = file_number; room = room.pieces })) }
+    requires layer { (1 ≤ layer) × (layer ≤ 32) }
+    requires size { length file.now ≤ 67_108_864 }
+    ensures ok { IfOk result (λ pieces. IsRead file.now (record { layer = layer; file = file_number; room = room }) (plain_pieces pieces.items)) }
+    ensures fault { IfErr result (IsFault file.now (record { layer = layer; file = file_number; room = room })) }
 {
     let mut words = Words::new(file);
-    let mut reader = Reader::new(alloc, layer, file_number, room.pieces);
+    let mut reader = Reader::new(alloc, layer, file_number, room);
     loop {
         let number = reader.commands + 1;
         match words.next_word() {

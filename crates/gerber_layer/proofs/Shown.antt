@@ -1,0 +1,24 @@
+-- Where an effect leads, before and after it is carried out.
+use Rattle.std.proofs.Common.{◌≡◌, ℕ, Option, Some, None, Result, Ok, Err, refl, sym, ap, ◌∙◌}
+use Rattle.planar.specs.declared.Spot.{Spot}
+use Rattle.board_shapes.specs.Figures.{Figure, figure_of}
+use Rattle.gerber_layer.specs.declared.kind.Fault.{Fault}
+use Rattle.gerber_layer.specs.declared.effect.Effect.{Effect as Seen}
+use Rattle.gerber_layer.specs.declared.effect.Effect.TheVariants as seen
+use Rattle.gerber_layer.specs.Table.{Known, Effect, stays, makes, performs, opens, heads, room_for}
+use Rattle.gerber_layer.specs.Reader.{shown, leads}
+use Rattle.gerber_layer.proofs.Outcome.{then_goes, flash_goes, extend_is, close_is, area_left}
+
+same_heads : (e f : Effect) → ◌≡◌ {A = Result Effect Fault} (Ok f) (Ok e) → heads e ≡ heads f
+same_heads e f h = let g : f ≡ e = cc in ap heads (sym g)
+
+pub heads_shown : (k : Known) (what : Seen) (e : Effect) → shown k what ≡ Ok e → heads e ≡ leads what
+heads_shown k seen.Stays e h = same_heads e stays h
+heads_shown k (seen.Makes n aperture) e h = same_heads e (makes n aperture) h
+heads_shown k (seen.Moves to) e h = same_heads e (performs to None) h
+heads_shown k (seen.Draws to shape) e h = let g = then_goes (room_for k (Some (figure_of shape))) to e h in ap heads g.is
+heads_shown k (seen.Flashes to aperture) e h = let g = flash_goes k aperture to e h in ap heads g.is
+heads_shown k (seen.Extends to) e h = ap heads (extend_is k to e h)
+heads_shown k (seen.Closes to) e h = let g = close_is k to e h in ap heads g.1
+heads_shown k seen.Opens e h = same_heads e opens h
+heads_shown k seen.Leaves e h = let g = area_left k e h in ap heads g.1

@@ -1,0 +1,73 @@
+-- The copies of a block.
+use Rattle.std.specs.Prelude.{◌≡◌, ℕ, ◌+◌, ◌*◌, Bool, true, false, ◌&&◌, nat_le, nat_lt, if◌then◌else◌, List, [], ◌++◌, length, map, sum_by, ℤ, pos, ◌*ℤ◌, unsigned_abs, Option, Some, None, Result, Ok, Err}
+use Rattle.std.specs.List.{flat_map, list_all, range_with_len}
+use Rattle.planar.specs.declared.Spot.{Spot}
+use Rattle.board_shapes.specs.declared.placed.Room.{Room}
+use Rattle.board_shapes.specs.Figures.{figure_edges}
+use Rattle.board_shapes.specs.Moved.{corners, moved_piece}
+use Rattle.board_shapes.specs.Pieces.{PlainPiece}
+use Rattle.step_repeat.specs.declared.repeat.Repeat.{Repeat}
+use Rattle.step_repeat.specs.declared.fault.CopyFault.{CopyFault}
+use Rattle.step_repeat.specs.declared.fault.CopyFault.TheVariants.{TooManyPieces, TooManyEdges, OutOfRange, NoMemory}
+
+-- the block's pieces moved, as that copy
+abbrev pub moved_block : ℤ → ℤ → ℕ → List PlainPiece → List PlainPiece
+moved_block dx dy copy block = map (moved_piece dx dy copy) block
+
+-- the block in this column and this row, counted from 0
+abbrev pub block_at : Repeat → List PlainPiece → ℕ → ℕ → List PlainPiece
+block_at r block column row = moved_block (pos column *ℤ r.dx) (pos row *ℤ r.dy) (column * r.up + row) block
+
+-- a column, row by row
+abbrev pub column_of : Repeat → List PlainPiece → ℕ → List PlainPiece
+column_of r block column = flat_map (block_at r block column) (range_with_len 0 r.up)
+
+-- the pieces that stand for a block (Gerber Layer Format Specification, 4.11): column by column, and in each row by row
+unfoldable pub copies_of : Repeat → List PlainPiece → List PlainPiece
+copies_of r block = flat_map (column_of r block) (range_with_len 0 r.across)
+
+-- the spot is at most 1 m from 0 in x and y
+abbrev pub is_placed : Spot → Bool
+is_placed p = nat_le (unsigned_abs p.x) 10000000000 && nat_le (unsigned_abs p.y) 10000000000
+
+-- each end or corner of the piece is
+abbrev pub is_placed_piece : PlainPiece → Bool
+is_placed_piece p = list_all is_placed (corners p.figure)
+
+-- and of each piece
+abbrev pub are_placed : List PlainPiece → Bool
+are_placed pieces = list_all is_placed_piece pieces
+
+-- how many edges the pieces have
+abbrev pub edges_in : List PlainPiece → ℕ
+edges_in pieces = sum_by (λ p. figure_edges p.figure) pieces
+
+-- what the room has no place for, pieces before edges
+unfoldable pub room_fault : Repeat → Room → List PlainPiece → Option CopyFault
+room_fault r room block =
+    if nat_lt room.pieces (r.across * r.up * length block) then Some TooManyPieces
+    else (if nat_lt room.edges (r.across * r.up * edges_in block) then Some TooManyEdges
+    else None)
+
+abbrev pub placed_copies : List PlainPiece → Option CopyFault → Result (List PlainPiece) CopyFault
+placed_copies copies (Some fault) = Err fault
+placed_copies copies None = if are_placed copies then Ok copies else Err OutOfRange
+
+-- the copies of a block, where they have room and each stays within 1 m
+unfoldable pub copies_at : Repeat → Room → List PlainPiece → Result (List PlainPiece) CopyFault
+copies_at r room block = placed_copies (copies_of r block) (room_fault r room block)
+
+-- the refusal is that of the copies, unless memory is wanted
+abbrev pub IsCopyFault : Result (List PlainPiece) CopyFault → CopyFault → Type 0
+IsCopyFault copies TooManyPieces = copies ≡ Err TooManyPieces
+IsCopyFault copies TooManyEdges = copies ≡ Err TooManyEdges
+IsCopyFault copies OutOfRange = copies ≡ Err OutOfRange
+IsCopyFault copies NoMemory = Unit {0}
+
+-- More was added at the end, each piece within 1 m; or some piece of it is not, or memory is wanted.
+abbrev pub Adds : List PlainPiece → Result (Unit {0}) CopyFault → List PlainPiece → List PlainPiece → Type 0
+Adds old (Ok done) new more = (new ≡ old ++ more) × (are_placed more ≡ true)
+Adds old (Err TooManyPieces) new more = ⊥
+Adds old (Err TooManyEdges) new more = ⊥
+Adds old (Err OutOfRange) new more = are_placed more ≡ false
+Adds old (Err NoMemory) new more = Unit {0}

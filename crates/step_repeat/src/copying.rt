@@ -1,0 +1,217 @@
+// The copies of a block.
+ghost use Rattle.std.specs.Prelude.{◌≡◌, ◌+◌, ◌*◌, ◌<◌, ◌≤◌, ◌^◌, ◌*ℤ◌, pos, [], ◌∷◌, length, Option, Some, None, Result, Ok, Err, IfOk, IfErr, IsOk, IfSome, MatchOption};
+ghost use Rattle.std.specs.Option.{SomeIff};
+ghost use Rattle.board_shapes.specs.Moved.{IsShift, moved_piece};
+ghost use Rattle.board_shapes.specs.Pieces.{plain_piece, plain_pieces};
+ghost use Rattle.step_repeat.specs.Copies.{Adds, IsCopyFault, block_at, column_of, copies_at, copies_of, edges_in, moved_block, room_fault};
+ghost use Rattle.step_repeat.specs.Repeats.{IsLawful};
+
+use crate::fault::CopyFault;
+use crate::repeat::Repeat;
+use board_shapes::{MoveFault, Piece, Room};
+use std::alloc::Global;
+
+/// How far a copy stands from the block, in u.
+#[derive(Clone, Copy)]
+struct Shift {
+    x: i64,
+    y: i64,
+}
+
+impl Repeat {
+    /// The pieces that stand for a block (Gerber Layer Format Specification, 4.11): for each column
+    /// from 0, and in it for each row from 0, the block's pieces moved by column times `dx` and row
+    /// times `dy`, with copy number column times `up` plus row. An empty block has no copies,
+    /// whatever the counts.
+    ///
+    /// `TooManyPieces` comes exactly where `across` times `up` times the block's pieces exceeds the
+    /// room; `TooManyEdges` exactly where it does not, and the same product of edges does. Both take
+    /// no memory. `OutOfRange` comes exactly where neither does, and a moved end or corner is over
+    /// 1 m from 0 in x or y.
+    #[tactic(auto, unfolding(crate::specs::Copies::copies_at))]
+    pub fn copies(
+        &self,
+        alloc: Global,
+        block: &[Piece],
+        room: Room,
+    ) -> Result<Vec<Piece>, CopyFault>
+        requires lawful { IsLawful self.now }
+        ensures ok { IfOk result (λ copies. copies_at self.now room (plain_pieces block.now) ≡ Ok (plain_pieces copies.items)) }
+        ensures fault { IfErr result (IsCopyFault (copies_at self.now room (plain_pieces block.now))) }
+
+        // What takes no memory.
+        ensures by_room { IfSome (room_fault self.now room (plain_pieces block.now)) (λ fault. result ≡ Err fault) }
+        ensures empty { length block.now ≡ 0 → IsOk result }
+    {
+        let mut copies = Vec::new(alloc);
+        if block.is_empty() {
+            return Ok(copies);
+        }
+        if let Some(fault) = self.room_fault(block, room) {
+            return Err(fault);
+        }
+        self.push_all(alloc, block, &mut copies)?;
+        Ok(copies)
+    }
+
+    // What the room has no place for.
+    #[tactic(auto, unfolding(crate::specs::Copies::room_fault))]
+    fn room_fault(&self, block: &[Piece], room: Room) -> Option<CopyFault>
+        requires lawful { IsLawful self.now }
+        ensures value { result ≡ room_fault self.now room (plain_pieces block.now) }
+        ensures few { result ≡ None → 0 < length block.now → self.now.across * self.now.up < 2 ^ 32 }
+    {
+        let times = u128::from(self.across) * u128::from(self.up);
+        if times * block.len() as u128 > u128::from(room.pieces) {
+            return Some(CopyFault::TooManyPieces);
+        }
+        if times * u128::from(edges_of(block)) > u128::from(room.edges) {
+            return Some(CopyFault::TooManyEdges);
+        }
+        None
+    }
+
+    #[tactic(auto, unfolding(crate::specs::Copies::copies_of))]
+    fn push_all(
+        &self,
+        alloc: Global,
+        block: &[Piece],
+        copies: &mut Vec<Piece>,
+    ) -> Result<(), CopyFault>
+        requires some { 0 < length block.now }
+        requires few { self.now.across * self.now.up < 2 ^ 32 }
+        requires lawful { IsLawful self.now }
+        ensures { Adds (plain_pieces copies.old.items) result (plain_pieces copies.new.items) (copies_of self.now (plain_pieces block.now)) }
+    {
+        for column in 0..self.across {
+            self.push_column(alloc, block, column, copies)?;
+        }
+        Ok(())
+    }
+
+    fn push_column(
+        &self,
+        alloc: Global,
+        block: &[Piece],
+        column: u32,
+        copies: &mut Vec<Piece>,
+    ) -> Result<(), CopyFault>
+        requires some { 0 < length block.now }
+        requires few { self.now.across * self.now.up < 2 ^ 32 }
+        requires lawful { IsLawful self.now }
+        requires within { column < self.now.across }
+        ensures { Adds (plain_pieces copies.old.items) result (plain_pieces copies.new.items) (column_of self.now (plain_pieces block.now) column) }
+    {
+        for row in 0..self.up {
+            self.push_block(alloc, block, column, row, copies)?;
+        }
+        Ok(())
+    }
+
+    fn push_block(
+        &self,
+        alloc: Global,
+        block: &[Piece],
+        column: u32,
+        row: u32,
+        copies: &mut Vec<Piece>,
+    ) -> Result<(), CopyFault>
+        requires some { 0 < length block.now }
+        requires few { self.now.across * self.now.up < 2 ^ 32 }
+        requires lawful { IsLawful self.now }
+        requires within_across { column < self.now.across }
+        requires within_up { row < self.now.up }
+        ensures { Adds (plain_pieces copies.old.items) result (plain_pieces copies.new.items) (block_at self.now (plain_pieces block.now) column row) }
+    {
+        match self.shift(column, row) {
+            None => Err(CopyFault::OutOfRange),
+            Some(by) => push_pieces(alloc, block, by, self.copy_number(column, row), copies),
+        }
+    }
+
+    // How far the copy in this column and row stands from the block, where that is at most 2 m: a
+    // piece within 1 m that is moved farther is not within 1 m.
+    fn shift(&self, column: u32, row: u32) -> Option<Shift>
+        ensures { MatchOption result
+            (¬ (IsShift (pos column *ℤ self.now.dx) × IsShift (pos row *ℤ self.now.dy)))
+            (λ by. (by.x ≡ pos column *ℤ self.now.dx) × (by.y ≡ pos row *ℤ self.now.dy) × IsShift by.x × IsShift by.y) }
+    {
+        let x = way(column, self.dx)?;
+        let y = way(row, self.dy)?;
+        Some(Shift { x, y })
+    }
+
+    fn copy_number(&self, column: u32, row: u32) -> u32
+        requires few { self.now.across * self.now.up < 2 ^ 32 }
+        requires within_across { column < self.now.across }
+        requires within_up { row < self.now.up }
+        ensures { result ≡ column * self.now.up + row }
+    {
+        column * self.up + row
+    }
+}
+
+// How many edges the pieces have.
+fn edges_of(block: &[Piece]) -> u64
+    requires { length block.now < 2 ^ 32 }
+    ensures { result ≡ edges_in (plain_pieces block.now) }
+{
+    let mut edges = 0;
+    for piece in block {
+        edges += u64::from(piece.shape.edges());
+    }
+    edges
+}
+
+// So many steps, where that is at most 2 m.
+fn way(n: u32, step: i64) -> Option<i64>
+    ensures { SomeIff result (IsShift (pos n *ℤ step)) (pos n *ℤ step) }
+{
+    let far = i64::from(n).checked_mul(step)?;
+    if far.unsigned_abs() <= 20_000_000_000 {
+        Some(far)
+    } else {
+        None
+    }
+}
+
+// The block's pieces moved, at the end of the copies.
+fn push_pieces(
+    alloc: Global,
+    block: &[Piece],
+    by: Shift,
+    copy: u32,
+    copies: &mut Vec<Piece>,
+) -> Result<(), CopyFault>
+    requires across { IsShift by.x }
+    requires up { IsShift by.y }
+    ensures { Adds (plain_pieces copies.old.items) result (plain_pieces copies.new.items) (moved_block by.x by.y copy (plain_pieces block.now)) }
+{
+    for piece in block {
+        push_moved(alloc, piece, by, copy, copies)?;
+    }
+    Ok(())
+}
+
+// The piece moved, at the end of the copies.
+fn push_moved(
+    alloc: Global,
+    piece: &Piece,
+    by: Shift,
+    copy: u32,
+    copies: &mut Vec<Piece>,
+) -> Result<(), CopyFault>
+    requires across { IsShift by.x }
+    requires up { IsShift by.y }
+    ensures { Adds (plain_pieces copies.old.items) result (plain_pieces copies.new.items) (moved_piece by.x by.y copy (plain_piece piece.now) ∷ []) }
+{
+    let moved = match piece.moved(alloc, by.x, by.y, copy) {
+        Ok(moved) => moved,
+        Err(MoveFault::OutOfRange) => return Err(CopyFault::OutOfRange),
+        Err(MoveFault::NoMemory) => return Err(CopyFault::NoMemory),
+    };
+    let Ok(()) = copies.push(moved) else {
+        return Err(CopyFault::NoMemory);
+    };
+    Ok(())
+}
