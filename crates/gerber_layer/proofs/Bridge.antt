@@ -3,18 +3,18 @@ use Rattle.std.proofs.Common.{◌≡◌, ℕ, ◌+◌, Bool, true, false, cond, 
 use mathlib.Core.Path.{fun_ext}
 use Rattle.lengths.specs.declared.decimal.Unit.{Unit as Measure}
 use Rattle.planar.specs.declared.Spot.{Spot}
-use Rattle.board_shapes.specs.Pieces.{PlainPiece, plain_piece, plain_pieces}
+use Rattle.board_shapes.specs.Pieces.{PlainPiece, plain_pieces}
 use Rattle.apertures.specs.declared.aperture.Aperture.{Aperture}
 use Rattle.gerber_layer.specs.Command.{Command, nothing, refused, formats, counts_in, defines, selects, repeats, functions, opens_region, closes_region, operates, ends, breaks, finishes}
-use Rattle.gerber_layer.specs.declared.kind.Fault.{Fault}
+use Rattle.gerber_layer.specs.declared.kind.GerberKind.{GerberKind}
 use Rattle.gerber_layer.specs.declared.command.Format.{Format}
 use Rattle.gerber_layer.specs.declared.command.Code.{Code}
 use Rattle.gerber_layer.specs.declared.command.Code.TheVariants.{Draw, Move, Flash}
 use Rattle.gerber_layer.specs.declared.settings.Settings.{Settings}
 use Rattle.gerber_layer.specs.declared.dictionary.Dictionary.{Dictionary}
 use Rattle.gerber_layer.specs.declared.reader.Reader.{Reader}
-use Rattle.gerber_layer.specs.Table.{Place, Known, Effect, figure_in, stays, makes, performs, extends, closes, opens, leaves, code_of, contour_after, coordinate, effect, after, heads}
-use Rattle.gerber_layer.specs.History.{or_else, value_or, value_in, settings_at, format_at, unit_at, x_at, y_at, point_at, region_at, drawn, contour_by, contour_at, defined_at, definitions_at, made, with_effect, known_with, known_at, pieces_at}
+use Rattle.gerber_layer.specs.Table.{Place, Known, Effect, stays, makes, performs, extends, closes, opens, leaves, steps, concludes, opened, code_of, contour_after, coordinate, effect, after, heads}
+use Rattle.gerber_layer.specs.History.{or_else, value_or, value_in, settings_at, format_at, unit_at, x_at, y_at, point_at, region_at, drawn, contour_by, contour_at, defined_at, definitions_at, Image, ok_block, with_effect, known_with, known_at, image_at}
 use Rattle.gerber_layer.specs.Reader.{defined_in, size_of, Adds, Turns, contour_of, known_of, place_of, Obeys}
 use Rattle.gerber_layer.proofs.Outcome.{Outcome, outcome, Goes, IsEffect}
 
@@ -32,17 +32,17 @@ heads_is true Move to e i = ap heads i.1
 heads_is true Flash to e i = absurd i
 
 -- where an operation leads is found by looking back
-point_is : (p : Place) (earlier : List Command) (ps : List PlainPiece) (x y : Option (List ℕ)) (code : Option Code) (e : Effect) (o : Outcome (known_with p earlier ps) (operates x y code) e) → o.to ≡ point_at (operates x y code ∷ earlier)
+point_is : (p : Place) (earlier : List Command) (ps : Image) (x y : Option (List ℕ)) (code : Option Code) (e : Effect) (o : Outcome (known_with p earlier ps) (operates x y code) e) → o.to ≡ point_at (operates x y code ∷ earlier)
 point_is p earlier ps x y code e o =
     let across : value_in x (format_at earlier) (unit_at earlier) (x_at earlier) ≡ o.to.x = rw (o.format_is, o.unit_is) (value_is x o.format o.unit (x_at earlier) o.to.x o.x_is) in
     let up : value_in y (format_at earlier) (unit_at earlier) (y_at earlier) ≡ o.to.y = rw (o.format_is, o.unit_is) (value_is y o.format o.unit (y_at earlier) o.to.y o.y_is) in
     rw (across, up) refl
 
 -- the settings behind a command are found by looking back from the next
-settings-push : (p : Place) (earlier : List Command) (ps : List PlainPiece) (c : Command) (e : Effect) → Outcome (known_with p earlier ps) c e → after (settings_at earlier) c (heads e) ≡ settings_at (c ∷ earlier)
+settings-push : (p : Place) (earlier : List Command) (ps : Image) (c : Command) (e : Effect) → Outcome (known_with p earlier ps) c e → after (settings_at earlier) c (heads e) (opened e) ≡ settings_at (c ∷ earlier)
 settings-push p earlier ps nothing e o = refl
 settings-push p earlier ps (refused why) e o = refl
-settings-push p earlier ps (repeats text) e o = refl
+settings-push p earlier ps (repeats text) e o = rw (ap opened o.is, ap ok_block o.next_is) refl
 settings-push p earlier ps (functions function layer) e o = refl
 settings-push p earlier ps (formats format) e o = refl
 settings-push p earlier ps (counts_in unit) e o = refl
@@ -69,7 +69,7 @@ drawn_is false Draw to e contour from i = ap (λ (f : Effect). contour_after f c
 drawn_is false Move to e contour from i = ap (λ (f : Effect). contour_after f contour from) i.is
 drawn_is false Flash to e contour from i = ap (λ (f : Effect). contour_after f contour from) i.is
 
-contour-push : (p : Place) (earlier : List Command) (ps : List PlainPiece) (c : Command) (e : Effect) → Outcome (known_with p earlier ps) c e → contour_after e (contour_at earlier) (point_at earlier) ≡ contour_at (c ∷ earlier)
+contour-push : (p : Place) (earlier : List Command) (ps : Image) (c : Command) (e : Effect) → Outcome (known_with p earlier ps) c e → contour_after e (contour_at earlier) (point_at earlier) ≡ contour_at (c ∷ earlier)
 contour-push p earlier ps (operates x y code) e o =
     drawn_is (region_at earlier) (code_of code) o.to e (contour_at earlier) (point_at earlier) o.is ∙ ap (λ (to : Spot). drawn (code_of code) (region_at earlier) (contour_at earlier) (point_at earlier) to) (point_is p earlier ps x y code e o)
 contour-push p earlier ps opens_region e o = ap (λ (f : Effect). contour_after f (contour_at earlier) (point_at earlier)) o
@@ -77,12 +77,12 @@ contour-push p earlier ps closes_region e o = ap (λ (f : Effect). contour_after
 contour-push p earlier ps (defines text) e o = keeps e (makes o.n o.aperture) (contour_at earlier) (point_at earlier) o.is refl
 contour-push p earlier ps nothing e o = keeps e stays (contour_at earlier) (point_at earlier) o refl
 contour-push p earlier ps (refused why) e o = keeps e stays (contour_at earlier) (point_at earlier) o refl
-contour-push p earlier ps (repeats text) e o = keeps e stays (contour_at earlier) (point_at earlier) o refl
+contour-push p earlier ps (repeats text) e o = keeps e (steps o.next o.pieces) (contour_at earlier) (point_at earlier) o.is refl
 contour-push p earlier ps (functions function layer) e o = keeps e stays (contour_at earlier) (point_at earlier) o refl
 contour-push p earlier ps (formats format) e o = keeps e stays (contour_at earlier) (point_at earlier) o refl
 contour-push p earlier ps (counts_in unit) e o = keeps e stays (contour_at earlier) (point_at earlier) o refl
 contour-push p earlier ps (selects m) e o = keeps e stays (contour_at earlier) (point_at earlier) o refl
-contour-push p earlier ps ends e o = keeps e stays (contour_at earlier) (point_at earlier) o refl
+contour-push p earlier ps ends e o = keeps e (concludes o.0) (contour_at earlier) (point_at earlier) o.1 refl
 contour-push p earlier ps (breaks fault) e o = keeps e stays (contour_at earlier) (point_at earlier) o refl
 contour-push p earlier ps finishes e o = keeps e stays (contour_at earlier) (point_at earlier) o refl
 
@@ -105,12 +105,12 @@ keeps_dictionary old new k opens_region e o t = subst (λ (f : Effect). Turns ol
 keeps_dictionary old new k closes_region e o t = subst (λ (f : Effect). Turns old f new) o.1 t
 keeps_dictionary old new k nothing e o t = subst (λ (f : Effect). Turns old f new) o t
 keeps_dictionary old new k (refused why) e o t = subst (λ (f : Effect). Turns old f new) o t
-keeps_dictionary old new k (repeats text) e o t = subst (λ (f : Effect). Turns old f new) o t
+keeps_dictionary old new k (repeats text) e o t = subst (λ (f : Effect). Turns old f new) o.is t
 keeps_dictionary old new k (functions function layer) e o t = subst (λ (f : Effect). Turns old f new) o t
 keeps_dictionary old new k (formats format) e o t = subst (λ (f : Effect). Turns old f new) o t
 keeps_dictionary old new k (counts_in unit) e o t = subst (λ (f : Effect). Turns old f new) o t
 keeps_dictionary old new k (selects m) e o t = subst (λ (f : Effect). Turns old f new) o t
-keeps_dictionary old new k ends e o t = subst (λ (f : Effect). Turns old f new) o t
+keeps_dictionary old new k ends e o t = subst (λ (f : Effect). Turns old f new) o.1 t
 keeps_dictionary old new k (breaks fault) e o t = subst (λ (f : Effect). Turns old f new) o t
 keeps_dictionary old new k finishes e o t = subst (λ (f : Effect). Turns old f new) o t
 
@@ -122,7 +122,7 @@ pub record Found (new : Dictionary) (earlier : List Command) : Type 0 where
 same_found : (old new : Dictionary) (earlier : List Command) → Found old earlier → new ≡ old → Found new earlier
 same_found old new earlier h same = subst (λ (d : Dictionary). Found d earlier) (sym same) h
 
-dictionary-push : (old new : Dictionary) (p : Place) (earlier : List Command) (ps : List PlainPiece) (c : Command) (e : Effect) → Found old earlier → Outcome (known_with p earlier ps) c e → Turns old e new → Keeps c old new → Found new (c ∷ earlier)
+dictionary-push : (old new : Dictionary) (p : Place) (earlier : List Command) (ps : Image) (c : Command) (e : Effect) → Found old earlier → Outcome (known_with p earlier ps) c e → Turns old e new → Keeps c old new → Found new (c ∷ earlier)
 dictionary-push old new p earlier ps (defines text) e h o t u =
     let adds : Adds old new o.n o.aperture = subst (λ (f : Effect). Turns old f new) o.is t in
     record {
@@ -152,30 +152,40 @@ pub record State (p : Place) (earlier : List Command) (r : Reader) : Type 0 wher
   pub known : known_of r ≡ known_at p earlier
   pub counts : r.commands ≡ length earlier
 
-pub same_known : (s s' : Settings) (d d' : ℕ → Option Aperture) (n n' : ℕ) (c c' : List Spot) (k k' : List PlainPiece) (m m' : Place) → s ≡ s' → d ≡ d' → n ≡ n' → c ≡ c' → k ≡ k' → m ≡ m' → ◌≡◌ {A = Known} (record { settings = s; defined = d; definitions = n; contour = c; pieces = k; place = m }) (record { settings = s'; defined = d'; definitions = n'; contour = c'; pieces = k'; place = m' })
-same_known s s' d d' n n' c c' k k' m m' a b e f g h = cc
+pub same_known : (s s' : Settings) (d d' : ℕ → Option Aperture) (n n' : ℕ) (c c' : List Spot) (i i' : Image) (m m' : Place) → s ≡ s' → d ≡ d' → n ≡ n' → c ≡ c' → i ≡ i' → m ≡ m' → ◌≡◌ {A = Known} (record { settings = s; defined = d; definitions = n; contour = c; pieces = i.pieces; start = i.start; place = m }) (record { settings = s'; defined = d'; definitions = n'; contour = c'; pieces = i'.pieces; start = i'.start; place = m' })
+same_known s s' d d' n n' c c' i i' m m' a b e f g h = cc
 
--- the pieces with an effect
-same_pieces : (old new earlier : List PlainPiece) (q p : Place) (m n : ℕ) (e : Effect) (x : Result Effect Fault) → new ≡ old ++ made q m (figure_in e) → old ≡ earlier → q ≡ p → m ≡ n → Ok e ≡ x → new ≡ with_effect p n earlier x
-same_pieces old new earlier q p m n e x h a b c d =
-    h ∙ ap (λ (xs : List PlainPiece). xs ++ made q m (figure_in e)) a ∙ ap (λ (t : Place). earlier ++ made t m (figure_in e)) b ∙ ap (λ (t : ℕ). earlier ++ made p t (figure_in e)) c ∙ ap (λ (t : Result Effect Fault). with_effect p n earlier t) d
+-- the pieces of a reader, and how many of them stand before the open block
+abbrev pub image_of : Reader → Image
+image_of r = record { pieces = plain_pieces r.pieces.items; start = r.start }
+
+-- the image with an effect
+same_image : (old new earlier : Image) (q p : Place) (m n : ℕ) (e : Effect) (x : Result Effect GerberKind) → new ≡ with_effect q m old (Ok e) → old ≡ earlier → q ≡ p → m ≡ n → Ok e ≡ x → new ≡ with_effect p n earlier x
+same_image old new earlier q p m n e x h a b c d =
+    h ∙ ap (λ (i : Image). with_effect q m i (Ok e)) a ∙ ap (λ (t : Place). with_effect t m earlier (Ok e)) b ∙ ap (λ (t : ℕ). with_effect p t earlier (Ok e)) c ∙ ap (λ (t : Result Effect GerberKind). with_effect p n earlier t) d
+
+new_image : (i j : Image) → i.pieces ≡ j.pieces → i.start ≡ j.start → i ≡ j
+new_image i j a b =
+    ap (λ (xs : List PlainPiece). let r : Image = record { pieces = xs; start = i.start } in r) a ∙ ap (λ (n : ℕ). let r : Image = record { pieces = j.pieces; start = n } in r) b
 
 -- one command more
 pub state-push : (p : Place) (earlier : List Command) (r : Reader) (c : Command) (new : Reader) → State p earlier r → Obeys r c new → State p (c ∷ earlier) new
-unfolding pieces_at
+unfolding image_at
 state-push p earlier r c new s o =
     let e : Effect = o.effect_is in
-    let ps : List PlainPiece = pieces_at p earlier in
+    let ps : Image = image_at p earlier in
     let clean : effect (known_at p earlier) c ≡ Ok e = subst (λ (k : Known). effect k c ≡ Ok e) s.known o.clean in
     let did : Outcome (known_with p earlier ps) c e = outcome (known_with p earlier ps) c e clean in
     let place : place_of r ≡ p = ap (λ (k : Known). k.place) s.known in
-    let settings : new.settings ≡ settings_at (c ∷ earlier) = o.settings ∙ ap (λ (t : Settings). after t c (heads e)) (ap (λ (k : Known). k.settings) s.known) ∙ settings-push p earlier ps c e did in
+    let settings : new.settings ≡ settings_at (c ∷ earlier) = o.settings ∙ ap (λ (t : Settings). after t c (heads e) (opened e)) (ap (λ (k : Known). k.settings) s.known) ∙ settings-push p earlier ps c e did in
     let had : Found r.dictionary earlier = record { defined = λ m. ap (λ (k : Known). k.defined m) s.known; size = ap (λ (k : Known). k.definitions) s.known } in
     let has : Found new.dictionary (c ∷ earlier) = dictionary-push r.dictionary new.dictionary p earlier ps c e had did o.dictionary (keeps_dictionary r.dictionary new.dictionary (known_with p earlier ps) c e did o.dictionary) in
     let contour : contour_of new.contour ≡ contour_at (c ∷ earlier) = o.contour ∙ ap (λ (k : Known). contour_after e k.contour k.settings.at) s.known ∙ contour-push p earlier ps c e did in
     let number : r.commands + 1 ≡ length earlier + 1 = ap (λ (k : ℕ). k + 1) s.counts in
-    let pieces : plain_pieces new.pieces.items ≡ pieces_at p (c ∷ earlier) = same_pieces (plain_pieces r.pieces.items) (plain_pieces new.pieces.items) ps (place_of r) p (r.commands + 1) (length earlier + 1) e (effect (known_at p earlier) c) o.pieces (ap (λ (k : Known). k.pieces) s.known) place number (sym clean) in
+    let same : image_of r ≡ ps = new_image (image_of r) ps (ap (λ (k : Known). k.pieces) s.known) (ap (λ (k : Known). k.start) s.known) in
+    let next : image_of new ≡ with_effect (place_of r) (r.commands + 1) (image_of r) (Ok e) = new_image (image_of new) (with_effect (place_of r) (r.commands + 1) (image_of r) (Ok e)) o.pieces o.start in
+    let image : image_of new ≡ image_at p (c ∷ earlier) = same_image (image_of r) (image_of new) ps (place_of r) p (r.commands + 1) (length earlier + 1) e (effect (known_at p earlier) c) next same place number (sym clean) in
     record {
-      known = same_known new.settings (settings_at (c ∷ earlier)) (defined_in new.dictionary) (defined_at (c ∷ earlier)) (size_of new.dictionary) (definitions_at (c ∷ earlier)) (contour_of new.contour) (contour_at (c ∷ earlier)) (plain_pieces new.pieces.items) (pieces_at p (c ∷ earlier)) (place_of new) p settings (fun_ext has.defined) has.size contour pieces (o.place ∙ place);
+      known = same_known new.settings (settings_at (c ∷ earlier)) (defined_in new.dictionary) (defined_at (c ∷ earlier)) (size_of new.dictionary) (definitions_at (c ∷ earlier)) (contour_of new.contour) (contour_at (c ∷ earlier)) (image_of new) (image_at p (c ∷ earlier)) (place_of new) p settings (fun_ext has.defined) has.size contour image (o.place ∙ place);
       counts = (let e = o.counts in let f = s.counts in omega arith);
     }

@@ -7,8 +7,7 @@ use Rattle.board_shapes.specs.Pieces.{PlainPiece, plain_pieces}
 use Rattle.regions.specs.Contours.{close_of}
 use Rattle.gerber_layer.specs.declared.kind.Halt.{Halt}
 use Rattle.gerber_layer.specs.declared.reader.Reader.{Reader}
-use Rattle.gerber_layer.specs.Table.{Place, Known, room_for, closing, area_if}
-use Rattle.gerber_layer.specs.History.{made}
+use Rattle.gerber_layer.specs.Table.{Place, Known, room_for, closing, area_if, made}
 use Rattle.gerber_layer.specs.Reader.{Places, Closes, Stops, contour_of, known_of, place_of}
 
 -- a contour that closes
@@ -32,9 +31,9 @@ same_room k j None p q = refl
 same_room k j (Some figure) p q = rw (p, q) refl
 
 -- the reader without its contour takes the area on
-pub closes_after : {E : Type 0} (result : Result (Unit {0}) E) (old bare new : Reader) (points : List Spot) → bare.settings ≡ old.settings → bare.dictionary ≡ old.dictionary → contour_of bare.contour ≡ [] → bare.pieces ≡ old.pieces → bare.commands ≡ old.commands → place_of bare ≡ place_of old → close_of (contour_of old.contour) ≡ Ok (Some points) → OnOk result (Places bare (Some (filled points)) new) → OnOk result (room_for (known_of bare) (Some (filled points)) ≡ Ok (Some (filled points))) → OnOk result (Closes old new)
-closes_after (Err e) old bare new points a b c d e' f h p r = tt
-closes_after (Ok done) old bare new points a b c d e f h p r = record {
+pub closes_after : {E : Type 0} (result : Result (Unit {0}) E) (old bare new : Reader) (points : List Spot) → bare.settings ≡ old.settings → bare.dictionary ≡ old.dictionary → contour_of bare.contour ≡ [] → bare.pieces ≡ old.pieces → bare.commands ≡ old.commands → place_of bare ≡ place_of old → bare.start ≡ old.start → close_of (contour_of old.contour) ≡ Ok (Some points) → OnOk result (Places bare (Some (filled points)) new) → OnOk result (room_for (known_of bare) (Some (filled points)) ≡ Ok (Some (filled points))) → OnOk result (Closes old new)
+closes_after (Err e) old bare new points a b c d e' f g h p r = tt
+closes_after (Ok done) old bare new points a b c d e f g h p r = record {
   area = Some (filled points);
   is = closing_is (known_of old) (Some points) h ∙ same_room (known_of old) (known_of bare) (Some (filled points)) (sym f) (ap (λ v. plain_pieces v.items) (sym d)) ∙ r;
   settings = p.settings ∙ a;
@@ -45,6 +44,7 @@ closes_after (Ok done) old bare new points a b c d e f h p r = record {
     ∙ ap (λ v. plain_pieces v.items ++ made (place_of bare) (bare.commands + 1) (Some (filled points))) d
     ∙ ap (λ (t : Place). plain_pieces old.pieces.items ++ made t (bare.commands + 1) (Some (filled points))) f
     ∙ ap (λ (n : ℕ). plain_pieces old.pieces.items ++ made (place_of old) (n + 1) (Some (filled points))) e;
+  start = p.start ∙ g;
   counts = p.counts ∙ e;
   place = p.place ∙ f;
 }

@@ -5,7 +5,7 @@ use Rattle.board_shapes.specs.Pieces.{PlainPiece}
 use Rattle.gerber_words.specs.Words.{Entry, Stop, HasWords, start}
 use Rattle.gerber_words.proofs.OneCut.{has_words, words_are_unique}
 use Rattle.gerber_layer.specs.Command.{Command}
-use Rattle.gerber_layer.specs.declared.kind.Fault.{Fault}
+use Rattle.gerber_layer.specs.declared.kind.GerberKind.{GerberKind}
 use Rattle.gerber_layer.specs.Table.{Place, Effect, effect}
 use Rattle.gerber_layer.specs.History.{known_at, pieces_at}
 use Rattle.gerber_layer.specs.Layer.{Item, items, commands, Clean, IsReadTo, IsRead, IsRefused, HasOneAnswer}
@@ -27,10 +27,10 @@ same_items file p e f r s a b =
     let w = same_words file a.words b.words a.stop b.stop a.cut b.cut in
     sym a.split ∙ ap (λ (v : List Entry). items (length file) v a.stop) w.words ∙ ap (λ (t : Stop). items (length file) b.words t) w.stop ∙ b.split
 
-fails : (p : Place) (e : List Command) (c : Command) (why : Fault) → IsOk (effect (known_at p e) c) → effect (known_at p e) c ≡ Err why → ⊥
+fails : (p : Place) (e : List Command) (c : Command) (why : GerberKind) → IsOk (effect (known_at p e) c) → effect (known_at p e) c ≡ Err why → ⊥
 fails p e c why h k = by (effect (known_at p e) c) h k
   where
-    by : (r : Result Effect Fault) → IsOk r → r ≡ Err why → ⊥
+    by : (r : Result Effect GerberKind) → IsOk r → r ≡ Err why → ⊥
     by (Ok x) h k = cc
     by (Err x) h k = cc
 
@@ -67,7 +67,7 @@ past p e f i t h clean =
     clean_part p (commands (reverse t)) i.command (commands e) (subst (λ (cs : List Command). Clean p cs) g clean)
 
 -- a reading to a fault and a reading to the end
-apart : (file : List ℕ) (p : Place) (pieces : List PlainPiece) (why : Fault) (number place : ℕ) → IsRead file p pieces → IsRefused file p why number place → ⊥
+apart : (file : List ℕ) (p : Place) (pieces : List PlainPiece) (why : GerberKind) (number place : ℕ) → IsRead file p pieces → IsRefused file p why number place → ⊥
 unfolding Fronts
 apart file p pieces why number place a b =
     by (fronts (reverse a.earlier) (reverse b.earlier) [] (b.item ∷ b.later) (same_items file p a.earlier b.earlier [] (b.item ∷ b.later) a.whole b.first))
@@ -107,10 +107,10 @@ same_list file p pieces others a b =
         right [] h k = at_once (h ∙ append-nil (reverse b.earlier))
         right (x ∷ t) h k = cc
 
-abbrev SameFault : Fault → Fault → ℕ → ℕ → ℕ → ℕ → Type 0
+abbrev SameFault : GerberKind → GerberKind → ℕ → ℕ → ℕ → ℕ → Type 0
 SameFault why other number n place q = (why ≡ other) × (number ≡ n) × (place ≡ q)
 
-same_fault : (file : List ℕ) (p : Place) (why other : Fault) (number n place q : ℕ) → IsRefused file p why number place → IsRefused file p other n q → SameFault why other number n place q
+same_fault : (file : List ℕ) (p : Place) (why other : GerberKind) (number n place q : ℕ) → IsRefused file p why number place → IsRefused file p other n q → SameFault why other number n place q
 unfolding Fronts
 same_fault file p why other number n place q a b =
     by (fronts (reverse a.earlier) (reverse b.earlier) (a.item ∷ a.later) (b.item ∷ b.later) (same_items file p a.earlier b.earlier (a.item ∷ a.later) (b.item ∷ b.later) a.first b.first))
@@ -141,7 +141,7 @@ same_fault file p why other number n place q a b =
             absurd (fails p (commands b.earlier) b.item.command other (subst (λ (j : Item). IsOk (effect (known_at p (commands b.earlier)) j.command)) same ok) b.is)
 
 Answer : List ℕ → Place → Type 0
-Answer file p = ((pieces : List PlainPiece) × IsRead file p pieces) ⊎ ((why : Fault) × (number : ℕ) × (place : ℕ) × IsRefused file p why number place)
+Answer file p = ((pieces : List PlainPiece) × IsRead file p pieces) ⊎ ((why : GerberKind) × (number : ℕ) × (place : ℕ) × IsRefused file p why number place)
 
 turn : (earlier : List Item) (i : Item) (rest : List Item) → reverse earlier ++ (i ∷ rest) ≡ reverse (i ∷ earlier) ++ rest
 turn earlier i rest = sym (ap (λ (xs : List Item). xs ++ rest) (reverse-append (i ∷ []) earlier) ∙ append_assoc (reverse earlier) (i ∷ []) rest)
@@ -159,7 +159,7 @@ walk file p words stop cut [] earlier split clean = inl (
 walk file p words stop cut (i ∷ rest) earlier split clean =
     by (effect (known_at p (commands earlier)) i.command) refl (walk file p words stop cut rest (i ∷ earlier) (split ∙ turn earlier i rest))
   where
-    by : (r : Result Effect Fault) → effect (known_at p (commands earlier)) i.command ≡ r → (Clean p (commands (i ∷ earlier)) → Answer file p) → Answer file p
+    by : (r : Result Effect GerberKind) → effect (known_at p (commands earlier)) i.command ≡ r → (Clean p (commands (i ∷ earlier)) → Answer file p) → Answer file p
     by (Ok x) e more = more ((rw e refl), clean)
     by (Err why) e more = inr (
       why,

@@ -10,17 +10,16 @@ use Rattle.gerber_layer.specs.Reading.{command_of}
 use Rattle.std.specs.Prelude.{IfOk, IfErr}
 use Rattle.board_shapes.specs.declared.placed.Placed.{Placed}
 use Rattle.board_shapes.specs.declared.shape.Shape.{Shape}
-use Rattle.gerber_layer.specs.declared.kind.Fault.{Fault}
-use Rattle.gerber_layer.specs.declared.kind.Fault.TheVariants as fault
+use Rattle.gerber_layer.specs.declared.kind.GerberKind.{GerberKind}
 use Rattle.gerber_layer.specs.declared.kind.Halt.{Halt}
 use Rattle.gerber_layer.specs.declared.kind.Halt.TheVariants as halt
 use Rattle.gerber_layer.specs.declared.kind.LayerFault.{LayerFault}
 use Rattle.gerber_layer.specs.declared.reader.Reader.{Reader}
 use Rattle.gerber_layer.specs.Table.{Place, Known, Effect, effect}
-use Rattle.gerber_layer.specs.History.{known_at, pieces_at, settings_at, defined_at}
+use Rattle.gerber_layer.specs.History.{known_at, image_at, pieces_at, settings_at, defined_at}
 use Rattle.gerber_layer.specs.Layer.{Item, item_of, stop_item, items, commands, Clean, IsRead, IsRefused, IsFault}
 use Rattle.gerber_layer.specs.Reader.{known_of, contour_of, defined_in, place_of, size_of, Obeys, IsNew, Stops, fault_at, Leaves, Faults}
-use Rattle.gerber_layer.proofs.Bridge.{State, state-push, same_known}
+use Rattle.gerber_layer.proofs.Bridge.{State, image_of, state-push, same_known}
 
 -- whatever words follow, the file's commands are the earlier ones and theirs
 pub record Extends (file : List ℕ) (earlier : List Item) (words : List Entry) (stop : Stop) : Type 0 where
@@ -38,13 +37,13 @@ turn : (earlier : List Item) (i : Item) (rest : List Item) → reverse earlier +
 turn earlier i rest = sym (ap (λ (xs : List Item). xs ++ rest) (reverse-append (i ∷ []) earlier) ∙ append_assoc (reverse earlier) (i ∷ []) rest)
 
 pub read-start : (file : List ℕ) (p : Place) (r : Reader) → IsNew p r → ReadSoFar file p (start file) r
-unfolding pieces_at
+unfolding image_at
 read-start file p r n = record {
   earlier = [];
   extends = λ words stop h. record { all = words; cut = h; split = refl };
   clean = tt;
   state = record {
-    known = same_known r.settings (settings_at []) (defined_in r.dictionary) (defined_at []) (size_of r.dictionary) 0 (contour_of r.contour) [] (plain_pieces r.pieces.items) [] (place_of r) p n.settings (fun_ext n.defined) n.size n.contour (ap plain_pieces n.pieces) n.place;
+    known = same_known r.settings (settings_at []) (defined_in r.dictionary) (defined_at []) (size_of r.dictionary) 0 (contour_of r.contour) [] (image_of r) (image_at p []) (place_of r) p n.settings (fun_ext n.defined) n.size n.contour (let a = ap plain_pieces n.pieces in let b = n.start in cc) n.place;
     counts = n.counts;
   };
 }
@@ -67,7 +66,7 @@ count_of : (earlier : List Item) (r : Reader) (p : Place) (number : ℕ) → Sta
 count_of earlier r p number s h = h ∙ ap (λ (k : ℕ). k + 1) (s.counts ∙ length-map earlier (λ i. i.command))
 
 -- a word that has a fault
-pub refused-word : (file : List ℕ) (p : Place) (old new : Ahead) (w : Entry) (r : Reader) (fault : Fault) (number : ℕ) → ReadSoFar file p old r → ((words : List Entry) (stop : Stop) → HasWords new words stop → HasWords old (w ∷ words) stop) → effect (known_of r) (command_of w) ≡ Err fault → number ≡ r.commands + 1 → IsRefused file p fault number w.at
+pub refused-word : (file : List ℕ) (p : Place) (old new : Ahead) (w : Entry) (r : Reader) (fault : GerberKind) (number : ℕ) → ReadSoFar file p old r → ((words : List Entry) (stop : Stop) → HasWords new words stop → HasWords old (w ∷ words) stop) → effect (known_of r) (command_of w) ≡ Err fault → number ≡ r.commands + 1 → IsRefused file p fault number w.at
 refused-word file p old new w r fault number s next h n =
     let more = has_words new in
     let x = s.extends (w ∷ more.words) more.stop (next more.words more.stop more.has) in
@@ -99,7 +98,7 @@ read-stop file p old stop r r' s h o =
     }
 
 -- and where it has a fault
-pub refused-stop : (file : List ℕ) (p : Place) (old : Ahead) (stop : Stop) (r : Reader) (fault : Fault) (number : ℕ) → ReadSoFar file p old r → HasWords old [] stop → effect (known_of r) (stop_item (length file) stop).command ≡ Err fault → number ≡ r.commands + 1 → IsRefused file p fault number (stop_item (length file) stop).at
+pub refused-stop : (file : List ℕ) (p : Place) (old : Ahead) (stop : Stop) (r : Reader) (fault : GerberKind) (number : ℕ) → ReadSoFar file p old r → HasWords old [] stop → effect (known_of r) (stop_item (length file) stop).command ≡ Err fault → number ≡ r.commands + 1 → IsRefused file p fault number (stop_item (length file) stop).at
 refused-stop file p old stop r fault number s had h n =
     let x = s.extends [] stop had in
     record {
@@ -114,13 +113,11 @@ refused-stop file p old stop r fault number s had h n =
 
 -- what stops the reader at a word is that word's fault
 pub word-fault : (file : List ℕ) (p : Place) (old new : Ahead) (w : Entry) (r : Reader) (why : Halt) (number : ℕ) → ReadSoFar file p old r → ((words : List Entry) (stop : Stop) → HasWords new words stop → HasWords old (w ∷ words) stop) → Stops (effect (known_of r) (command_of w)) why → number ≡ r.commands + 1 → IsFault file p (fault_at why number w.at)
-word-fault file p old new w r (halt.Fault (fault.Kind kind)) number s next h n = refused-word file p old new w r (fault.Kind kind) number s next h n
-word-fault file p old new w r (halt.Fault fault.NotYet) number s next h n = refused-word file p old new w r fault.NotYet number s next h n
+word-fault file p old new w r (halt.Refused kind) number s next h n = refused-word file p old new w r kind number s next h n
 word-fault file p old new w r halt.NoMemory number s next h n = tt
 
 stop-halt : (file : List ℕ) (p : Place) (old : Ahead) (stop : Stop) (r : Reader) (why : Halt) → ReadSoFar file p old r → HasWords old [] stop → Stops (effect (known_of r) (stop_item (length file) stop).command) why → IsFault file p (fault_at why (r.commands + 1) (stop_item (length file) stop).at)
-stop-halt file p old stop r (halt.Fault (fault.Kind kind)) s had h = refused-stop file p old stop r (fault.Kind kind) (r.commands + 1) s had h refl
-stop-halt file p old stop r (halt.Fault fault.NotYet) s had h = refused-stop file p old stop r fault.NotYet (r.commands + 1) s had h refl
+stop-halt file p old stop r (halt.Refused kind) s had h = refused-stop file p old stop r kind (r.commands + 1) s had h refl
 stop-halt file p old stop r halt.NoMemory s had h = tt
 
 -- the answer at the stop

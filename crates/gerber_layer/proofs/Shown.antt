@@ -2,14 +2,14 @@
 use Rattle.std.proofs.Common.{◌≡◌, ℕ, Option, Some, None, Result, Ok, Err, refl, sym, ap, ◌∙◌}
 use Rattle.planar.specs.declared.Spot.{Spot}
 use Rattle.board_shapes.specs.Figures.{Figure, figure_of}
-use Rattle.gerber_layer.specs.declared.kind.Fault.{Fault}
+use Rattle.gerber_layer.specs.declared.kind.GerberKind.{GerberKind}
 use Rattle.gerber_layer.specs.declared.effect.Effect.{Effect as Seen}
 use Rattle.gerber_layer.specs.declared.effect.Effect.TheVariants as seen
-use Rattle.gerber_layer.specs.Table.{Known, Effect, stays, makes, performs, opens, heads, room_for}
-use Rattle.gerber_layer.specs.Reader.{shown, leads}
-use Rattle.gerber_layer.proofs.Outcome.{then_goes, flash_goes, extend_is, close_is, area_left}
+use Rattle.gerber_layer.specs.Table.{Known, Effect, stays, makes, performs, opens, heads, opened, room_for}
+use Rattle.gerber_layer.specs.Reader.{shown, leads, opens_block}
+use Rattle.gerber_layer.proofs.Outcome.{then_goes, flash_goes, extend_is, close_is, area_left, steps_is, concludes_is}
 
-same_heads : (e f : Effect) → ◌≡◌ {A = Result Effect Fault} (Ok f) (Ok e) → heads e ≡ heads f
+same_heads : (e f : Effect) → ◌≡◌ {A = Result Effect GerberKind} (Ok f) (Ok e) → heads e ≡ heads f
 same_heads e f h = let g : f ≡ e = cc in ap heads (sym g)
 
 pub heads_shown : (k : Known) (what : Seen) (e : Effect) → shown k what ≡ Ok e → heads e ≡ leads what
@@ -20,5 +20,24 @@ heads_shown k (seen.Draws to shape) e h = let g = then_goes (room_for k (Some (f
 heads_shown k (seen.Flashes to aperture) e h = let g = flash_goes k aperture to e h in ap heads g.is
 heads_shown k (seen.Extends to) e h = ap heads (extend_is k to e h)
 heads_shown k (seen.Closes to) e h = let g = close_is k to e h in ap heads g.1
+heads_shown k (seen.Repeats next) e h = let g = steps_is k next e h in ap heads g.1
+heads_shown k seen.Ends e h = let g = concludes_is k e h in ap heads g.1
 heads_shown k seen.Opens e h = same_heads e opens h
 heads_shown k seen.Leaves e h = let g = area_left k e h in ap heads g.1
+
+-- and the block that it opens
+same_opened : (e f : Effect) → ◌≡◌ {A = Result Effect GerberKind} (Ok f) (Ok e) → opened e ≡ opened f
+same_opened e f h = let g : f ≡ e = cc in ap opened (sym g)
+
+pub opened_shown : (k : Known) (what : Seen) (e : Effect) → shown k what ≡ Ok e → opened e ≡ opens_block what
+opened_shown k seen.Stays e h = same_opened e stays h
+opened_shown k (seen.Makes n aperture) e h = same_opened e (makes n aperture) h
+opened_shown k (seen.Moves to) e h = same_opened e (performs to None) h
+opened_shown k (seen.Draws to shape) e h = let g = then_goes (room_for k (Some (figure_of shape))) to e h in ap opened g.is
+opened_shown k (seen.Flashes to aperture) e h = let g = flash_goes k aperture to e h in ap opened g.is
+opened_shown k (seen.Extends to) e h = ap opened (extend_is k to e h)
+opened_shown k (seen.Closes to) e h = let g = close_is k to e h in ap opened g.1
+opened_shown k (seen.Repeats next) e h = let g = steps_is k next e h in ap opened g.1
+opened_shown k seen.Ends e h = let g = concludes_is k e h in ap opened g.1
+opened_shown k seen.Opens e h = same_opened e opens h
+opened_shown k seen.Leaves e h = let g = area_left k e h in ap opened g.1

@@ -2,18 +2,18 @@
 use Rattle.std.specs.Prelude.{ℕ, ◌+◌, Bool, true, false, ◌||◌, ◌==◌, if◌then◌else◌, List, [], ◌∷◌, ◌++◌, length, ℤ, pos, Option, Some, None, Result, Ok, Err}
 use Rattle.lengths.specs.declared.decimal.Unit.{Unit as Measure}
 use Rattle.planar.specs.declared.Spot.{Spot}
-use Rattle.board_shapes.specs.Figures.{Figure}
 use Rattle.board_shapes.specs.Pieces.{PlainPiece}
 use Rattle.apertures.specs.declared.aperture.Aperture.{Aperture}
 use Rattle.apertures.specs.declared.fault.ApertureFault.{ApertureFault}
 use Rattle.apertures.specs.Reading.{aperture_at}
-use Rattle.gerber_layer.specs.Command.{Command, formats, counts_in, defines, selects, opens_region, closes_region, operates, ends}
-use Rattle.gerber_layer.specs.declared.kind.Fault.{Fault}
+use Rattle.step_repeat.specs.declared.repeat.Repeat.{Repeat}
+use Rattle.gerber_layer.specs.Command.{Command, formats, counts_in, defines, selects, repeats, opens_region, closes_region, operates, ends}
+use Rattle.gerber_layer.specs.declared.kind.GerberKind.{GerberKind}
 use Rattle.gerber_layer.specs.declared.command.Code.{Code}
 use Rattle.gerber_layer.specs.declared.command.Code.TheVariants.{Draw, Move, Flash}
 use Rattle.gerber_layer.specs.declared.command.Format.{Format}
 use Rattle.gerber_layer.specs.declared.settings.Settings.{Settings}
-use Rattle.gerber_layer.specs.Table.{Place, Known, Effect, code_of, coordinate, effect, figure_in, keep_first, lengthened}
+use Rattle.gerber_layer.specs.Table.{Place, Known, Effect, code_of, coordinate, effect, keep_first, lengthened, next_block, pieces_after, start_after}
 
 -- the first of two that is there
 abbrev pub or_else : {A : Type 0} → Option A → Option A → Option A
@@ -90,12 +90,26 @@ abbrev pub region_at : List Command → Bool
 region_at [] = false
 region_at (c ∷ earlier) = latest (region_in c) (region_at earlier)
 
+-- the block that a step and repeat word opens, if it has parameters
+abbrev pub ok_block : Result (Option Repeat) GerberKind → Option Repeat
+ok_block (Ok next) = next
+ok_block (Err fault) = None
+
+abbrev pub block_in : Command → Option Measure → Option (Option Repeat)
+block_in (repeats text) unit = Some (ok_block (next_block unit text))
+block_in other unit = None
+
+-- a block is open where the last `SR` word has parameters
+abbrev pub block_at : List Command → Option Repeat
+block_at [] = None
+block_at (c ∷ earlier) = latest (block_in c (unit_at earlier)) (block_at earlier)
+
 abbrev pub has_ended : List Command → Bool
 has_ended [] = false
 has_ended (c ∷ earlier) = is_end c || has_ended earlier
 
 -- the value of a coordinate, in the format and the unit in force
-abbrev pub value_or : ℤ → Result ℤ Fault → ℤ
+abbrev pub value_or : ℤ → Result ℤ GerberKind → ℤ
 value_or here (Ok z) = z
 value_or here (Err fault) = here
 
@@ -126,6 +140,7 @@ settings_at earlier = record {
   at = point_at earlier;
   last = operation_at earlier;
   region = region_at earlier;
+  block = block_at earlier;
   ended = has_ended earlier;
 }
 
@@ -162,31 +177,34 @@ abbrev pub defined_at : List Command → ℕ → Option Aperture
 defined_at [] n = None
 defined_at (c ∷ earlier) n = or_else (definition_in c (unit_at earlier) n) (defined_at earlier n)
 
--- the piece that the command of this number makes of a figure
-abbrev pub made : Place → ℕ → Option Figure → List PlainPiece
-made p number None = []
-made p number (Some figure) =
-    record { figure = figure; top = p.layer; bottom = p.layer; origin = record { file = p.file; command = number; copy = 0 } } ∷ []
+-- the pieces so far, and how many of them stand before the open block
+pub record Image : Type 0 where
+  pub pieces : List PlainPiece
+  pub start : ℕ
 
-abbrev pub with_effect : Place → ℕ → List PlainPiece → Result Effect Fault → List PlainPiece
-with_effect p number pieces (Ok e) = pieces ++ made p number (figure_in e)
-with_effect p number pieces (Err fault) = pieces
+abbrev pub with_effect : Place → ℕ → Image → Result Effect GerberKind → Image
+with_effect p number image (Ok e) = record { pieces = pieces_after p number image.pieces e; start = start_after image.start e }
+with_effect p number image (Err fault) = image
 
--- what is known before the next command, with the pieces so far
-abbrev pub known_with : Place → List Command → List PlainPiece → Known
-known_with p earlier pieces = record {
+-- what is known before the next command, with the image so far
+abbrev pub known_with : Place → List Command → Image → Known
+known_with p earlier image = record {
   settings = settings_at earlier;
   defined = defined_at earlier;
   definitions = definitions_at earlier;
   contour = contour_at earlier;
-  pieces = pieces;
+  pieces = image.pieces;
+  start = image.start;
   place = p;
 }
 
--- the pieces that the commands make, in order
-unfoldable pub pieces_at : Place → List Command → List PlainPiece
-pieces_at p [] = []
-pieces_at p (c ∷ earlier) = with_effect p (length earlier + 1) (pieces_at p earlier) (effect (known_with p earlier (pieces_at p earlier)) c)
+-- The image of the commands: the pieces that they make, in order. Those of a block give way to its copies where it ends.
+unfoldable pub image_at : Place → List Command → Image
+image_at p [] = record { pieces = []; start = 0 }
+image_at p (c ∷ earlier) = with_effect p (length earlier + 1) (image_at p earlier) (effect (known_with p earlier (image_at p earlier)) c)
+
+abbrev pub pieces_at : Place → List Command → List PlainPiece
+pieces_at p earlier = (image_at p earlier).pieces
 
 abbrev pub known_at : Place → List Command → Known
-known_at p earlier = known_with p earlier (pieces_at p earlier)
+known_at p earlier = known_with p earlier (image_at p earlier)

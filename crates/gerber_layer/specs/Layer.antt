@@ -4,8 +4,7 @@ use Rattle.board_shapes.specs.Pieces.{PlainPiece}
 use Rattle.gerber_words.specs.Words.{Entry, Stop, ended, broken, HasWords, start}
 use Rattle.gerber_layer.specs.Command.{Command, finishes, breaks}
 use Rattle.gerber_layer.specs.Reading.{command_of}
-use Rattle.gerber_layer.specs.declared.kind.Fault.{Fault}
-use Rattle.gerber_layer.specs.declared.kind.Fault.TheVariants as fault
+use Rattle.gerber_layer.specs.declared.kind.GerberKind.{GerberKind}
 use Rattle.gerber_layer.specs.declared.kind.LayerFault.{LayerFault}
 use Rattle.gerber_layer.specs.declared.kind.LayerFault.TheVariants as layer
 use Rattle.gerber_layer.specs.Table.{Place, effect}
@@ -51,7 +50,7 @@ pub record IsRead (file : List ℕ) (p : Place) (pieces : List PlainPiece) : Typ
   pub are : pieces ≡ pieces_at p (commands earlier)
 
 -- the first command with a fault, its number and its place
-pub record IsRefused (file : List ℕ) (p : Place) (fault : Fault) (number place : ℕ) : Type 0 where
+pub record IsRefused (file : List ℕ) (p : Place) (fault : GerberKind) (number place : ℕ) : Type 0 where
   pub earlier : List Item
   pub item : Item
   pub later : List Item
@@ -61,13 +60,12 @@ pub record IsRefused (file : List ℕ) (p : Place) (fault : Fault) (number place
   pub at : place ≡ item.at
 
 abbrev pub IsFault : List ℕ → Place → LayerFault → Type 0
-IsFault file p (layer.Refused kind number place) = IsRefused file p (fault.Kind kind) number place
-IsFault file p (layer.NotYet number place) = IsRefused file p fault.NotYet number place
+IsFault file p (layer.Refused kind number place) = IsRefused file p kind number place
 IsFault file p layer.NoMemory = Unit {0}
 
 -- Each file has one answer: the pieces, or the first fault.
 pub record HasOneAnswer (file : List ℕ) (p : Place) : Type 0 where
-  pub some_answer : ((pieces : List PlainPiece) × IsRead file p pieces) ⊎ ((why : Fault) × (number : ℕ) × (place : ℕ) × IsRefused file p why number place)
+  pub some_answer : ((pieces : List PlainPiece) × IsRead file p pieces) ⊎ ((why : GerberKind) × (number : ℕ) × (place : ℕ) × IsRefused file p why number place)
   pub one_list : (pieces others : List PlainPiece) → IsRead file p pieces → IsRead file p others → pieces ≡ others
-  pub not_both : (pieces : List PlainPiece) (why : Fault) (number place : ℕ) → IsRead file p pieces → IsRefused file p why number place → ⊥
-  pub one_fault : (why other : Fault) (number n place q : ℕ) → IsRefused file p why number place → IsRefused file p other n q → (why ≡ other) × (number ≡ n) × (place ≡ q)
+  pub not_both : (pieces : List PlainPiece) (why : GerberKind) (number place : ℕ) → IsRead file p pieces → IsRefused file p why number place → ⊥
+  pub one_fault : (why other : GerberKind) (number n place q : ℕ) → IsRefused file p why number place → IsRefused file p other n q → (why ≡ other) × (number ≡ n) × (place ≡ q)

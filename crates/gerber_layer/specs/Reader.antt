@@ -9,10 +9,11 @@ use Rattle.board_shapes.specs.declared.shape.Shape.{Shape}
 use Rattle.board_shapes.specs.declared.placed.Placed.{Placed}
 use Rattle.apertures.specs.declared.aperture.Aperture.{Aperture}
 use Rattle.apertures.specs.Flash.{IsLawful}
+use Rattle.step_repeat.specs.Repeats.{IsLawful as IsLawfulRepeat}
+use Rattle.step_repeat.specs.declared.repeat.Repeat.{Repeat}
 use Rattle.regions.specs.Contours.{points_of}
 use Rattle.regions.specs.declared.contour.Contour.{Contour}
-use Rattle.gerber_layer.specs.declared.kind.Fault.{Fault}
-use Rattle.gerber_layer.specs.declared.kind.Fault.TheVariants as fault
+use Rattle.gerber_layer.specs.declared.kind.GerberKind.{GerberKind}
 use Rattle.gerber_layer.specs.declared.kind.LayerFault.{LayerFault}
 use Rattle.gerber_layer.specs.declared.kind.LayerFault.TheVariants as layer
 use Rattle.gerber_layer.specs.declared.kind.Halt.{Halt}
@@ -21,10 +22,10 @@ use Rattle.gerber_layer.specs.declared.effect.Effect.{Effect as Seen}
 use Rattle.gerber_layer.specs.declared.effect.Effect.TheVariants as seen
 use Rattle.gerber_layer.specs.declared.dictionary.Dictionary.{Dictionary}
 use Rattle.gerber_layer.specs.declared.reader.Reader.{Reader}
-use Rattle.gerber_layer.specs.Table.{Place, Known, Effect, stays, makes, performs, extends, closes, opens, leaves, effect, after, closing, contour_after, edges_of, extend, figure_in, flash_by, heads, room_for, ◌>>=◌}
+use Rattle.gerber_layer.specs.Table.{Place, Known, Effect, stays, makes, performs, extends, closes, opens, leaves, steps, concludes, effect, after, closing, contour_after, edges_of, ended_block, extend, flash_by, heads, made, opened, pieces_after, room_for, start_after, ◌>>=◌}
 use Rattle.gerber_layer.specs.Lawful.{AreLawfulSettings}
 use Rattle.gerber_layer.specs.Command.{Command}
-use Rattle.gerber_layer.specs.History.{made, settings_at}
+use Rattle.gerber_layer.specs.History.{settings_at}
 
 -- the aperture that n is defined as, and how many are defined
 abbrev pub defined_in : Dictionary → ℕ → Option Aperture
@@ -56,11 +57,12 @@ known_of r = record {
   definitions = size_of r.dictionary;
   contour = contour_of r.contour;
   pieces = plain_pieces r.pieces.items;
+  start = r.start;
   place = place_of r;
 }
 
 -- what an effect comes to, by the conditions that are tried when it is carried out
-abbrev pub shown : Known → Seen → Result Effect Fault
+abbrev pub shown : Known → Seen → Result Effect GerberKind
 shown k seen.Stays = Ok stays
 shown k (seen.Makes n aperture) = Ok (makes n aperture)
 shown k (seen.Moves to) = Ok (performs to None)
@@ -68,10 +70,12 @@ shown k (seen.Draws to shape) = room_for k (Some (figure_of shape)) >>= λ figur
 shown k (seen.Flashes to aperture) = flash_by k aperture to
 shown k (seen.Extends to) = extend k to
 shown k (seen.Closes to) = closing k >>= λ area. Ok (closes to area)
+shown k (seen.Repeats next) = ended_block k >>= λ pieces. Ok (steps next pieces)
+shown k seen.Ends = ended_block k >>= λ pieces. Ok (concludes pieces)
 shown k seen.Opens = Ok opens
 shown k seen.Leaves = closing k >>= λ area. Ok (leaves area)
 
-abbrev pub showing : Known → Result Seen Fault → Result Effect Fault
+abbrev pub showing : Known → Result Seen GerberKind → Result Effect GerberKind
 showing k (Ok e) = shown k e
 showing k (Err fault) = Err fault
 
@@ -83,8 +87,14 @@ leads (seen.Extends to) = Some to
 leads (seen.Closes to) = Some to
 leads seen.Stays = None
 leads (seen.Makes n aperture) = None
+leads (seen.Repeats next) = None
+leads seen.Ends = None
 leads seen.Opens = None
 leads seen.Leaves = None
+
+abbrev pub opens_block : Seen → Option Repeat
+opens_block (seen.Repeats next) = next
+opens_block other = None
 
 -- the dictionary after an effect
 abbrev pub Turns : Dictionary → Effect → Dictionary → Type 0
@@ -93,6 +103,8 @@ Turns old stays new = new ≡ old
 Turns old (performs to figure) new = new ≡ old
 Turns old (extends to) new = new ≡ old
 Turns old (closes to figure) new = new ≡ old
+Turns old (steps next pieces) new = new ≡ old
+Turns old (concludes pieces) new = new ≡ old
 Turns old opens new = new ≡ old
 Turns old (leaves figure) new = new ≡ old
 
@@ -100,19 +112,20 @@ Turns old (leaves figure) new = new ≡ old
 pub record Obeys (old : Reader) (c : Command) (new : Reader) : Type 0 where
   pub effect_is : Effect
   pub clean : effect (known_of old) c ≡ Ok effect_is
-  pub settings : new.settings ≡ after old.settings c (heads effect_is)
+  pub settings : new.settings ≡ after old.settings c (heads effect_is) (opened effect_is)
   pub dictionary : Turns old.dictionary effect_is new.dictionary
   pub contour : contour_of new.contour ≡ contour_after effect_is (contour_of old.contour) old.settings.at
-  pub pieces : plain_pieces new.pieces.items ≡ plain_pieces old.pieces.items ++ made (place_of old) (old.commands + 1) (figure_in effect_is)
+  pub pieces : plain_pieces new.pieces.items ≡ pieces_after (place_of old) (old.commands + 1) (plain_pieces old.pieces.items) effect_is
+  pub start : new.start ≡ start_after old.start effect_is
   pub counts : new.commands ≡ old.commands + 1
   pub place : place_of new ≡ place_of old
 
 -- The edges are counted, and the pieces have room.
 pub record AreCounted (r : Reader) : Type 0 where
   pub edges : r.edges ≡ edges_of (plain_pieces r.pieces.items)
-  pub few_edges : r.edges ≤ 100_000 * length r.pieces.items
   pub few_pieces : length r.pieces.items ≤ r.room.pieces
   pub room : r.room.pieces < 2 ^ 32
+  pub start : r.start ≤ length r.pieces.items
 
 pub record IsLawfulReader (r : Reader) : Type 0 where
   pub settings : AreLawfulSettings r.settings
@@ -128,6 +141,8 @@ IsFit d (seen.Draws to shape) = IsPlaced to
 IsFit d (seen.Flashes to aperture) = IsPlaced to × IsLawful aperture
 IsFit d (seen.Extends to) = IsPlaced to
 IsFit d (seen.Closes to) = IsPlaced to
+IsFit d (seen.Repeats next) = IfSome next IsLawfulRepeat
+IsFit d seen.Ends = Unit {0}
 IsFit d seen.Stays = Unit {0}
 IsFit d seen.Opens = Unit {0}
 IsFit d seen.Leaves = Unit {0}
@@ -137,18 +152,19 @@ pub record Carries (old : Reader) (e : Effect) (new : Reader) : Type 0 where
   pub settings : new.settings ≡ old.settings
   pub dictionary : Turns old.dictionary e new.dictionary
   pub contour : contour_of new.contour ≡ contour_after e (contour_of old.contour) old.settings.at
-  pub pieces : plain_pieces new.pieces.items ≡ plain_pieces old.pieces.items ++ made (place_of old) (old.commands + 1) (figure_in e)
+  pub pieces : plain_pieces new.pieces.items ≡ pieces_after (place_of old) (old.commands + 1) (plain_pieces old.pieces.items) e
+  pub start : new.start ≡ start_after old.start e
   pub counts : new.commands ≡ old.commands
   pub place : place_of new ≡ place_of old
 
-pub record CarriesOut (old : Reader) (what : Result Effect Fault) (new : Reader) : Type 0 where
+pub record CarriesOut (old : Reader) (what : Result Effect GerberKind) (new : Reader) : Type 0 where
   pub effect_is : Effect
   pub is : what ≡ Ok effect_is
   pub carries : Carries old effect_is new
 
 -- What stops the reader is that fault, or want of memory.
-abbrev pub Stops : {A : Type 0} → Result A Fault → Halt → Type 0
-Stops what (halt.Fault fault) = what ≡ Err fault
+abbrev pub Stops : {A : Type 0} → Result A GerberKind → Halt → Type 0
+Stops what (halt.Refused fault) = what ≡ Err fault
 Stops what halt.NoMemory = Unit {0}
 
 -- The reader has a piece more, if there is a figure.
@@ -157,6 +173,7 @@ pub record Places (old : Reader) (figure : Option Figure) (new : Reader) : Type 
   pub dictionary : new.dictionary ≡ old.dictionary
   pub contour : new.contour ≡ old.contour
   pub pieces : plain_pieces new.pieces.items ≡ plain_pieces old.pieces.items ++ made (place_of old) (old.commands + 1) figure
+  pub start : new.start ≡ old.start
   pub counts : new.commands ≡ old.commands
   pub place : place_of new ≡ place_of old
 
@@ -168,6 +185,17 @@ pub record Closes (old new : Reader) : Type 0 where
   pub dictionary : new.dictionary ≡ old.dictionary
   pub contour : contour_of new.contour ≡ []
   pub pieces : plain_pieces new.pieces.items ≡ plain_pieces old.pieces.items ++ made (place_of old) (old.commands + 1) area
+  pub start : new.start ≡ old.start
+  pub counts : new.commands ≡ old.commands
+  pub place : place_of new ≡ place_of old
+
+-- The reader has the pieces where its open block has ended.
+pub record EndsBlock (old new : Reader) : Type 0 where
+  pub is : ended_block (known_of old) ≡ Ok (plain_pieces new.pieces.items)
+  pub settings : new.settings ≡ old.settings
+  pub dictionary : new.dictionary ≡ old.dictionary
+  pub contour : new.contour ≡ old.contour
+  pub start : new.start ≡ old.start
   pub counts : new.commands ≡ old.commands
   pub place : place_of new ≡ place_of old
 
@@ -178,12 +206,12 @@ pub record IsNew (p : Place) (r : Reader) : Type 0 where
   pub size : size_of r.dictionary ≡ 0
   pub contour : contour_of r.contour ≡ []
   pub pieces : r.pieces.items ≡ []
+  pub start : r.start ≡ 0
   pub counts : r.commands ≡ 0
   pub place : place_of r ≡ p
 
 abbrev pub fault_at : Halt → ℕ → ℕ → LayerFault
-fault_at (halt.Fault (fault.Kind kind)) number at = layer.Refused kind number at
-fault_at (halt.Fault fault.NotYet) number at = layer.NotYet number at
+fault_at (halt.Refused kind) number at = layer.Refused kind number at
 fault_at halt.NoMemory number at = layer.NoMemory
 
 -- The reader obeys a last command, and these pieces are left.

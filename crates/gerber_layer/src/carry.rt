@@ -1,25 +1,40 @@
 // How the reader carries an effect out.
-ghost use Rattle.std.specs.Prelude.{◌≡◌, ◌+◌, ◌^◌, ◌<◌, ◌≤◌, length, nat_le, IfErr, OnOk, Some};
+ghost use Rattle.std.specs.Prelude.{◌≡◌, ◌+◌, ◌^◌, ◌*◌, ◌<◌, ◌≤◌, drop, length, nat_le, take, IfErr, IfOk, IfSome, OnOk, Some};
 ghost use Rattle.planar.specs.Plane.{IsPlaced};
 ghost use Rattle.apertures.specs.Flash.{IsLawful};
 ghost use Rattle.board_shapes.specs.Figures.{figure_of};
 ghost use Rattle.board_shapes.specs.Pieces.{plain_pieces};
-ghost use Rattle.gerber_layer.specs.Reader.{AreCounted, AreLawful, CarriesOut, Closes, IsFit, Places, Stops, known_of, shown};
+ghost use Rattle.gerber_layer.specs.Reader.{AreCounted, AreLawful, CarriesOut, Closes, EndsBlock, IsFit, Places, Stops, known_of, shown};
 ghost use Rattle.gerber_layer.specs.Table as spec;
+ghost use Rattle.step_repeat.specs.Copies.{copies_at};
+ghost use Rattle.step_repeat.specs.Repeats.{IsLawful as IsLawfulRepeat};
 
 use crate::effect::Effect;
-use crate::kind::{Fault, GerberKind, Halt};
+use crate::kind::{GerberKind, Halt};
 use crate::reader::Reader;
 use apertures::{Aperture, FlashFault};
-use board_shapes::{Origin, Placed, Shape};
+use board_shapes::{Origin, Piece, Placed, Room, Shape};
 use planar::Spot;
 use regions::{AddFault, CloseFault, Contour};
 use std::alloc::Global;
+use step_repeat::{CopyFault, Repeat};
 
 fn refused(kind: GerberKind) -> Halt
-    ensures { result ≡ Halt.Fault (Fault.Kind kind) }
+    ensures { result ≡ Halt.Refused kind }
 {
-    Halt::Fault(Fault::Kind(kind))
+    Halt::Refused(kind)
+}
+
+// How many edges the pieces have.
+fn edges_of(pieces: &[Piece]) -> u64
+    requires { length pieces.now < 2 ^ 32 }
+    ensures { result ≡ spec.edges_of (plain_pieces pieces.now) }
+{
+    let mut edges = 0;
+    for piece in pieces {
+        edges += u64::from(piece.shape.edges());
+    }
+    edges
 }
 
 impl Reader {
@@ -169,12 +184,84 @@ impl Reader {
         }
     }
 
+    // The pieces of the open block.
+    fn block(&self) -> &[Piece]
+        requires { AreCounted self.now }
+        ensures pieces { plain_pieces result.now ≡ drop self.now.start (plain_pieces self.now.pieces.items) }
+        ensures few { length result.now ≤ length self.now.pieces.items }
+    {
+        &self.pieces[self.start..]
+    }
+
+    // How many edges the pieces before the open block have.
+    fn edges_before(&self) -> u64
+        requires { AreCounted self.now }
+        ensures { result ≡ spec.edges_of (take self.now.start (plain_pieces self.now.pieces.items)) }
+    {
+        self.edges - edges_of(self.block())
+    }
+
+    // The room that the pieces before the open block leave.
+    fn left(&self, edges: u64) -> Room
+        requires counted { AreCounted self.now }
+        requires edges { edges ≡ spec.edges_of (take self.now.start (plain_pieces self.now.pieces.items)) }
+        ensures { result ≡ spec.left (known_of self.now) }
+    {
+        let most = self.room.edges;
+        Room {
+            pieces: self.room.pieces - self.start as u32,
+            edges: u64::from(most).saturating_sub(edges) as u32,
+        }
+    }
+
+    // The copies that the open block gives way to.
+    fn copies(&self, alloc: Global, block: Repeat, edges: u64) -> Result<Vec<Piece>, Halt>
+        requires counted { AreCounted self.now }
+        requires lawful { IsLawfulRepeat block }
+        requires edges { edges ≡ spec.edges_of (take self.now.start (plain_pieces self.now.pieces.items)) }
+        ensures ok { IfOk result (λ copies. copies_at block (spec.left (known_of self.now)) (drop self.now.start (plain_pieces self.now.pieces.items)) ≡ Ok (plain_pieces copies.items)) }
+        ensures few { IfOk result (λ copies. self.now.start + length copies.items ≤ self.now.room.pieces) }
+        ensures halt { IfErr result (Stops (spec.as_copies (take self.now.start (plain_pieces self.now.pieces.items)) (copies_at block (spec.left (known_of self.now)) (drop self.now.start (plain_pieces self.now.pieces.items))))) }
+    {
+        match block.copies(alloc, self.block(), self.left(edges)) {
+            Ok(copies) => Ok(copies),
+            Err(CopyFault::TooManyPieces) => Err(refused(GerberKind::TooManyPieces)),
+            Err(CopyFault::TooManyEdges) => Err(refused(GerberKind::TooManyVertices)),
+            Err(CopyFault::OutOfRange) => Err(refused(GerberKind::OutOfRange)),
+            Err(CopyFault::NoMemory) => Err(Halt::NoMemory),
+        }
+    }
+
+    // Ends the open block: its pieces give way to its copies.
+    #[tactic(auto, unfolding(crate::specs::Table::ended_block))]
+    fn end_block(&mut self, alloc: Global) -> Result<(), Halt>
+        requires counted { AreCounted self.old }
+        requires lawful { IfSome self.old.settings.block IsLawfulRepeat }
+        ensures ok { OnOk result (EndsBlock self.old self.new) }
+        ensures counted { OnOk result (AreCounted self.new) }
+        ensures halt { IfErr result (Stops (spec.ended_block (known_of self.old))) }
+    {
+        let Some(block) = self.settings.block else {
+            return Ok(());
+        };
+        let before = self.edges_before();
+        let mut copies = self.copies(alloc, block, before)?;
+        let edges = before + edges_of(&copies);
+        self.pieces.truncate(self.start);
+        if let Err(_) = self.pieces.append(&mut copies) {
+            return Err(Halt::NoMemory);
+        }
+        self.edges = edges;
+        Ok(())
+    }
+
     /// Carries an effect out, by the last conditions of its row. An `Err` leaves a reader that is of
     /// no more use.
     pub fn carry_out(&mut self, alloc: Global, effect: Effect) -> Result<(), Halt>
         requires fit { IsFit self.old.dictionary effect }
         requires here { IsPlaced self.old.settings.at }
         requires counted { AreCounted self.old }
+        requires block { IfSome self.old.settings.block IsLawfulRepeat }
         requires few { self.old.commands + 1 < 2 ^ 32 }
         ensures ok { OnOk result (CarriesOut self.old (shown (known_of self.old) effect) self.new) }
         ensures dictionary { OnOk result (AreLawful self.old.dictionary → AreLawful self.new.dictionary) }
@@ -192,6 +279,12 @@ impl Reader {
             Effect::Flashes(to, aperture) => self.flash_by(alloc, aperture, to),
             Effect::Extends(to) => self.extend(alloc, to),
             Effect::Closes(_) => self.close(),
+            Effect::Repeats(_) => {
+                self.end_block(alloc)?;
+                self.start = self.pieces.len();
+                Ok(())
+            },
+            Effect::Ends => self.end_block(alloc),
             Effect::Opens => {
                 self.contour = None;
                 Ok(())

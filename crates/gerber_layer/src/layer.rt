@@ -8,7 +8,7 @@ ghost use Rattle.gerber_layer.specs.Reader.{Faults, IsLawfulReader, IsNew, Leave
 
 use crate::command::Command;
 use crate::dictionary::Dictionary;
-use crate::kind::{Fault, Halt, LayerFault};
+use crate::kind::{Halt, LayerFault};
 use crate::reader::Reader;
 use crate::reading::read_command;
 use crate::settings::Settings;
@@ -31,12 +31,14 @@ impl Reader {
                 at: Spot { x: 0, y: 0 },
                 last: None,
                 region: false,
+                block: None,
                 ended: false,
             },
             dictionary: Dictionary::new(alloc),
             contour: None,
             pieces: Vec::new(alloc),
             edges: 0,
+            start: 0,
             commands: 0,
             layer,
             file,
@@ -55,8 +57,7 @@ fn fault_at(halt: Halt, command: u32, at: usize) -> LayerFault
     ensures { result ≡ fault_at halt command at }
 {
     match halt {
-        Halt::Fault(Fault::Kind(kind)) => LayerFault::Refused { kind, command, at },
-        Halt::Fault(Fault::NotYet) => LayerFault::NotYet { command, at },
+        Halt::Refused(kind) => LayerFault::Refused { kind, command, at },
         Halt::NoMemory => LayerFault::NoMemory,
     }
 }

@@ -2,7 +2,7 @@
 ghost use Rattle.std.specs.Prelude.{◌≡◌, ◌+◌, ◌^◌, ◌<◌, IfErr, OnOk, Option, Some, None};
 ghost use Rattle.gerber_layer.specs.Command.{operates, view};
 ghost use Rattle.gerber_layer.specs.Lawful.{IsLawfulCommand};
-ghost use Rattle.gerber_layer.specs.Reader.{IsLawfulReader, Obeys, Stops, known_of, leads};
+ghost use Rattle.gerber_layer.specs.Reader.{IsLawfulReader, Obeys, Stops, known_of, leads, opens_block};
 ghost use Rattle.gerber_layer.specs.Table as spec;
 
 use crate::command::{Code, Command, Format};
@@ -13,6 +13,7 @@ use crate::settings::Settings;
 use crate::table::code_of;
 use lengths::Unit;
 use planar::Spot;
+use step_repeat::Repeat;
 use std::alloc::Global;
 
 impl Effect {
@@ -26,10 +27,22 @@ impl Effect {
             Effect::Flashes(to, _) => Some(*to),
             Effect::Extends(to) => Some(*to),
             Effect::Closes(to) => Some(*to),
+            Effect::Repeats(_) => None,
+            Effect::Ends => None,
             Effect::Stays => None,
             Effect::Makes(_, _) => None,
             Effect::Opens => None,
             Effect::Leaves => None,
+        }
+    }
+
+    // The block that it opens.
+    fn opens_block(&self) -> Option<Repeat>
+        ensures { result ≡ opens_block self.now }
+    {
+        match self {
+            Effect::Repeats(next) => *next,
+            _ => None,
         }
     }
 }
@@ -46,9 +59,9 @@ impl Reader {
     {
         let effect = match self.effect(command) {
             Ok(effect) => effect,
-            Err(fault) => return Err(Halt::Fault(fault)),
+            Err(kind) => return Err(Halt::Refused(kind)),
         };
-        let settings = after(self.settings, command, effect.leads());
+        let settings = after(self.settings, command, effect.leads(), effect.opens_block());
         self.carry_out(alloc, effect)?;
         self.settings = settings;
         self.commands += 1;
@@ -74,9 +87,9 @@ fn first_unit(first: Option<Unit>, unit: Unit) -> Option<Unit>
     }
 }
 
-// The settings behind a command that has no fault, and where it leads.
-fn after(settings: Settings, command: &Command, to: Option<Spot>) -> Settings
-    ensures { result ≡ spec.after settings (view command.now) to }
+// The settings behind a command that has no fault, by where it leads and the block that it opens.
+fn after(settings: Settings, command: &Command, to: Option<Spot>, next: Option<Repeat>) -> Settings
+    ensures { result ≡ spec.after settings (view command.now) to next }
 {
     match *command {
         Command::Format(format) => Settings {
@@ -89,6 +102,10 @@ fn after(settings: Settings, command: &Command, to: Option<Spot>) -> Settings
         },
         Command::Select(n) => Settings {
             selected: Some(n),
+            ..settings
+        },
+        Command::Repeat(_) => Settings {
+            block: next,
             ..settings
         },
         Command::OpenRegion => Settings {
@@ -106,7 +123,6 @@ fn after(settings: Settings, command: &Command, to: Option<Spot>) -> Settings
         },
         Command::Nothing => settings,
         Command::Refused(_) => settings,
-        Command::Repeat(_) => settings,
         Command::Function(_, _) => settings,
         Command::Define(_) => settings,
         Command::Broken(_) => settings,
@@ -115,7 +131,7 @@ fn after(settings: Settings, command: &Command, to: Option<Spot>) -> Settings
 }
 
 fn performed(settings: Settings, code: Option<Code>, to: Option<Spot>) -> Settings
-    ensures { result ≡ spec.after settings (operates None None code) to }
+    ensures { result ≡ spec.after settings (operates None None code) to None }
 {
     match to {
         Some(to) => Settings {

@@ -14,6 +14,7 @@ returns-in_default-clause-ok c =
       dictionary = refl;
       contour = ap contour_of c.take.ensures.after;
       pieces = sym (append-nil _);
+      start = refl;
       counts = refl;
       place = refl;
     }
@@ -29,6 +30,7 @@ returns-in-Ok-None-clause-ok c =
       dictionary = refl;
       contour = ap contour_of c.take.ensures.after;
       pieces = sym (append-nil _);
+      start = refl;
       counts = refl;
       place = refl;
     }
@@ -37,7 +39,7 @@ pub returns-in-Ok-Some-clause-ok : goal.returns-in-Ok-Some-clause-ok
 returns-in-Ok-Some-clause-ok c =
     let had : contour_of c.args.self.now.contour ≡ points_of c.in-Some.contour = ap contour_of (sym c.take.ensures.value ∙ c.in-Some.is) in
     let closed = rw c.in-Ok-Some.field-0-is at c.in-Ok-Some.ensures in
-    closes_after c.place.result c.args.self.now (record (c.args.self.now) { contour = c.take.new.self }) c.place.new.self c.in-Ok-Some.area.points.items refl refl (ap contour_of c.take.ensures.after) refl refl refl (ap close_of had ∙ sym closed) c.place.ensures.ok c.place.ensures.room
+    closes_after c.place.result c.args.self.now (record (c.args.self.now) { contour = c.take.new.self }) c.place.new.self c.in-Ok-Some.area.points.items refl refl (ap contour_of c.take.ensures.after) refl refl refl refl (ap close_of had ∙ sym closed) c.place.ensures.ok c.place.ensures.room
 
 pub returns-in-Ok-Some-clause-halt : goal.returns-in-Ok-Some-clause-halt
 returns-in-Ok-Some-clause-halt c =
