@@ -3,5 +3,6 @@ pub mod LawfulAfter
 pub mod Numbers
 pub mod OneAnswer
 pub mod Outcome
+pub mod Placing
 pub mod ReadSoFar
 pub mod ToolDown

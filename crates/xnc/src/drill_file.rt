@@ -1,5 +1,5 @@
 // Reads a drill file.
-ghost use Rattle.std.specs.Prelude.{◌≡◌, ◌+◌, ◌^◌, ◌<◌, ◌≤◌, length, IfOk, IfErr};
+ghost use Rattle.std.specs.Prelude.{◌≡◌, ◌+◌, ◌^◌, ◌<◌, ◌≤◌, length, All, IfOk, IfErr};
 ghost use Rattle.board_shapes.specs.Plain.{plain_pieces};
 ghost use Rattle.xnc.specs.DrillFile.{IsFault, IsRead};
 ghost use Rattle.xnc.specs.declared.form.Form.TheVariants as form;
@@ -87,6 +87,8 @@ pub fn read_drill(
 ) -> Result<Vec<Piece>, DrillFault>
     requires { length file.now ≤ 67108864 }
     ensures ok { IfOk result (λ pieces. IsRead file.now (record { from = span.from; to = span.to; file = file_number; room = room.pieces }) (plain_pieces pieces.items)) }
+    ensures few { IfOk result (λ pieces. length pieces.items ≤ room.pieces) }
+    ensures layers { IfOk result (λ pieces. All (λ piece. (piece.top ≡ span.from) × (piece.bottom ≡ span.to)) pieces.items) }
     ensures fault { IfErr result (IsFault file.now (record { from = span.from; to = span.to; file = file_number; room = room.pieces })) }
 {
     let mut lines = Lines::new(file);

@@ -2,6 +2,7 @@ use Rattle.std.proofs.Common.{◌≡◌, ◌+◌, length, refl, sym, ap, subst, 
 use Rattle.text_lines.specs.Lines.{Ahead, start}
 use Rattle.text_lines.specs.Stepping.{ahead, plain_line}
 use Rattle.xnc.specs.Place.{Place}
+use Rattle.xnc.proofs.Placing.{few_read, span_read}
 use Rattle.xnc.proofs.ReadSoFar.{ReadSoFar, read-start, read-line, line-fault, end-read, end-fault}
 use Rattle.xnc.proofs.drill_file.read_drill.Goals as goal
 
@@ -37,6 +38,12 @@ pub returns-in-None-clause-ok : goal.returns-in-None-clause-ok
 returns-in-None-clause-ok c =
     let p : Place = record { from = c.args.span.from; to = c.args.span.to; file = c.args.file_number; room = c.args.room.pieces } in
     end-read (λ v. v.items) c.finished.result c.args.file.now p (ahead c.loop-reader.lines) c.loop-reader.reader c.loop-reader.invariant.read c.in-None.ensures.next.0 c.finished.ensures.ok
+
+pub returns-in-None-clause-few : goal.returns-in-None-clause-few
+returns-in-None-clause-few c = few_read (λ v. v.items) c.finished.result c.args.file.now (record { from = c.args.span.from; to = c.args.span.to; file = c.args.file_number; room = c.args.room.pieces }) (returns-in-None-clause-ok c)
+
+pub returns-in-None-clause-layers : goal.returns-in-None-clause-layers
+returns-in-None-clause-layers c = span_read (λ v. v.items) c.finished.result c.args.file.now (record { from = c.args.span.from; to = c.args.span.to; file = c.args.file_number; room = c.args.room.pieces }) (returns-in-None-clause-ok c)
 
 pub returns-in-None-clause-fault : goal.returns-in-None-clause-fault
 returns-in-None-clause-fault c =

@@ -1,0 +1,81 @@
+-- Causes, carried from one stage to the next.
+use Rattle.std.proofs.Common.{◌≡◌, ◌⊎◌, inl, inr, ℕ, ◌+◌, ◌-◌, ◌^◌, ◌≤◌, min, List, Option, Some, None, IfSome, refl, sym, subst, arith}
+use Rattle.board_io.specs.Causes.{Rose}
+use Rattle.board_io.specs.Package.{Files}
+use Rattle.board_shapes.specs.Plain.{PlainBoard}
+use Rattle.board_package.specs.Causes.{HasCause, IsUnread, IsNotYet, HasRefusal, IsFrameFault}
+use Rattle.board_package.specs.PackageBoard.{Stop, longer, not_json, bad_manifest, refused, frame_too_large, StopsAtFrame}
+use Rattle.board_package.specs.declared.fault.BuildFault.{BuildFault}
+use Rattle.board_package.specs.declared.fault.BuildFault.TheVariants as fault
+use Rattle.board_package.specs.declared.reading.Refusal.{Refusal}
+use Rattle.board_package.specs.declared.reading.Refusal.TheVariants as refusal
+
+-- two facts of the files that are told, and a third that follows
+pub told : (held : Option Files) (A B C : Files → Type 0) → ((files : Files) → A files → B files → C files) → IfSome held A → IfSome held B → IfSome held C
+told None A B C k a b = tt
+told (Some files) A B C k a b = k files a b
+
+pub told_of : (held : Option Files) (A B : Files → Type 0) → ((files : Files) → A files → B files) → IfSome held A → IfSome held B
+told_of None A B k a = tt
+told_of (Some files) A B k a = k files a
+
+pub told_all : (held : Option Files) (A : Files → Type 0) → ((files : Files) → A files) → IfSome held A
+told_all None A k = tt
+told_all (Some files) A k = k files
+
+-- the stops of one stage are stops of the next, and so are the names that come
+pub record Carries (S T : Stop → Type 0) (C D : List ℕ → Type 0) : Type 0 where
+  pub stops : (stop : Stop) → S stop → T stop
+  pub comes : (name : List ℕ) → C name → D name
+
+rose_before : (before mid now : ℕ) → before ≤ mid → Rose mid now → Rose before now
+rose_before before mid now le rose = omega arith
+
+pub lift : (held : Option Files) (S T : Files → Stop → Type 0) (C D : Files → List ℕ → Type 0) (before mid now : ℕ) (lost : List ℕ) (why : BuildFault)
+    → IfSome held (λ files. Carries (S files) (T files) (C files) (D files)) → before ≤ mid → HasCause held S C mid now lost why → HasCause held T D before now lost why
+lift held S T C D before mid now lost fault.NotJson carries le h = told held _ (λ files. S files not_json) (λ files. T files not_json) (λ files a b. a.stops not_json b) carries h
+lift held S T C D before mid now lost fault.BadManifest carries le h = told held _ (λ files. S files bad_manifest) (λ files. T files bad_manifest) (λ files a b. a.stops bad_manifest b) carries h
+lift held S T C D before mid now lost (fault.Longer name) carries le h = told held _ (λ files. S files (longer name)) (λ files. T files (longer name)) (λ files a b. a.stops (longer name) b) carries h
+lift held S T C D before mid now lost (fault.CannotRead name) carries le h = record {
+  rose = rose_before before mid now le h.rose;
+  lost_is = h.lost_is;
+  comes = told held _ (λ files. C files name) (λ files. D files name) (λ files a b. a.comes name b) carries h.comes;
+}
+lift held S T C D before mid now lost (fault.Layer name kind command at) carries le h =
+    told held _ (λ files. S files (refused name (refusal.Layer kind command at))) (λ files. T files (refused name (refusal.Layer kind command at))) (λ files a b. a.stops (refused name (refusal.Layer kind command at)) b) carries h
+lift held S T C D before mid now lost (fault.NotYet name) carries le h =
+    told held _ (λ files. IsNotYet (S files) name) (λ files. IsNotYet (T files) name) (λ files a b. (b.0, b.1, a.stops (refused name (refusal.NotYet b.0 b.1)) b.2)) carries h
+lift held S T C D before mid now lost (fault.Drill name kind line at) carries le h =
+    told held _ (λ files. S files (refused name (refusal.Drill kind line at))) (λ files. T files (refused name (refusal.Drill kind line at))) (λ files a b. a.stops (refused name (refusal.Drill kind line at)) b) carries h
+lift held S T C D before mid now lost (fault.Netlist name kind line) carries le h =
+    told held _ (λ files. S files (refused name (refusal.Netlist kind line))) (λ files. T files (refused name (refusal.Netlist kind line))) (λ files a b. a.stops (refused name (refusal.Netlist kind line)) b) carries h
+lift held S T C D before mid now lost (fault.FrameTooLarge box) carries le h = told held _ (λ files. S files (frame_too_large box)) (λ files. T files (frame_too_large box)) (λ files a b. a.stops (frame_too_large box) b) carries h
+lift held S T C D before mid now lost fault.NoMemory carries le h = tt
+
+-- a refusal of a file is a cause
+pub refusal_cause : (held : Option Files) (S : Files → Stop → Type 0) (C : Files → List ℕ → Type 0) (before now : ℕ) (lost name : List ℕ) (why : Refusal) (given : BuildFault)
+    → IfSome held (λ files. S files (refused name why)) → HasRefusal name why given → HasCause held S C before now lost given
+refusal_cause held S C before now lost name (refusal.Layer kind command at) given h (inl e) = subst (λ f. HasCause held S C before now lost f) (sym e) h
+refusal_cause held S C before now lost name (refusal.Layer kind command at) given h (inr e) = subst (λ f. HasCause held S C before now lost f) (sym e) tt
+refusal_cause held S C before now lost name (refusal.NotYet command at) given h (inl e) =
+    subst (λ f. HasCause held S C before now lost f) (sym e) (told_of held (λ files. S files (refused name (refusal.NotYet command at))) (λ files. IsNotYet (S files) name) (λ files s. (command, at, s)) h)
+refusal_cause held S C before now lost name (refusal.NotYet command at) given h (inr e) = subst (λ f. HasCause held S C before now lost f) (sym e) tt
+refusal_cause held S C before now lost name (refusal.Drill kind line at) given h (inl e) = subst (λ f. HasCause held S C before now lost f) (sym e) h
+refusal_cause held S C before now lost name (refusal.Drill kind line at) given h (inr e) = subst (λ f. HasCause held S C before now lost f) (sym e) tt
+refusal_cause held S C before now lost name (refusal.Netlist kind line) given h (inl e) = subst (λ f. HasCause held S C before now lost f) (sym e) h
+refusal_cause held S C before now lost name (refusal.Netlist kind line) given h (inr e) = subst (λ f. HasCause held S C before now lost f) (sym e) tt
+
+-- a frame that is too large is a cause
+pub frame_cause : (held : Option Files) (S : Files → Stop → Type 0) (C : Files → List ℕ → Type 0) (before now : ℕ) (lost : List ℕ) (board : PlainBoard) (given : BuildFault)
+    → IfSome held (λ files. (stop : Stop) → StopsAtFrame board stop → S files stop) → IsFrameFault board given → HasCause held S C before now lost given
+frame_cause held S C before now lost board fault.NotJson h e = absurd e
+frame_cause held S C before now lost board fault.BadManifest h e = absurd e
+frame_cause held S C before now lost board (fault.Longer name) h e = absurd e
+frame_cause held S C before now lost board (fault.CannotRead name) h e = absurd e
+frame_cause held S C before now lost board (fault.Layer name kind command at) h e = absurd e
+frame_cause held S C before now lost board (fault.NotYet name) h e = absurd e
+frame_cause held S C before now lost board (fault.Drill name kind line at) h e = absurd e
+frame_cause held S C before now lost board (fault.Netlist name kind line) h e = absurd e
+frame_cause held S C before now lost board (fault.FrameTooLarge box) h e =
+    told_of held (λ files. (stop : Stop) → StopsAtFrame board stop → S files stop) (λ files. S files (frame_too_large box)) (λ files k. k (frame_too_large box) e) h
+frame_cause held S C before now lost board fault.NoMemory h e = absurd e

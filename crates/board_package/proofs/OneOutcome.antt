@@ -1,0 +1,327 @@
+-- A package has one outcome.
+use Rattle.std.proofs.Common.{◌≡◌, ◌⊎◌, inl, inr, ℕ, ◌<◌, ◌≤◌, List, [], ◌∷◌, length, Option, Some, None, IsSomeAnd, refl, sym, ap, subst, ◌∙◌, arith}
+use Rattle.board_io.specs.Package.{Files}
+use Rattle.board_shapes.specs.Plain.{PlainBoard, PlainPiece, common_box, FitsFrame, Fits}
+use Rattle.board_shapes.specs.declared.probe.Probe.{Probe}
+use Rattle.contact.specs.declared.Bounds.{Bounds}
+use Rattle.gerber_layer.specs.History.{Place as LayerPlace}
+use Rattle.gerber_layer.specs.Layer as layer_file
+use Rattle.gerber_layer.specs.declared.kind.Fault.TheVariants as gerber
+use Rattle.xnc.specs.Place.{Place as DrillPlace}
+use Rattle.xnc.specs.DrillFile as drill_file
+use Rattle.ipc356_records.specs.NetlistFile as netlist_file
+use Rattle.serde_json.specs.Data.{Data}
+use Rattle.board_package.specs.Laws.{HasOneOutcome}
+use Rattle.board_package.specs.Manifest.{IsManifest, IsNotJson, IsOther, IsValueOf, manifest_of}
+use Rattle.board_package.specs.PackageBoard.{Stop, absent, longer, not_json, bad_manifest, refused, frame_too_large, IsHeld, IsHeldWith, Goes, IsRefusedFor, StopsAt, StopsTaking, StopsAtManifest, StopsAtFrame, StopsAmong, IsManifestFile, IsBoardOf, IsFirstStop, IsFrameStop, IsLaterStop, Walks, AtOne, most_bytes}
+use Rattle.board_package.specs.Parts.{with_pieces, with_netlist, empty_board}
+use Rattle.board_package.specs.Reading.{Reads, Refuses, layer_place, drill_place}
+use Rattle.board_package.specs.declared.entry.Entry.{Entry}
+use Rattle.board_package.specs.declared.entry.Role.{Role}
+use Rattle.board_package.specs.declared.entry.Role.TheVariants as role
+use Rattle.board_package.specs.declared.manifest.Manifest.{Manifest}
+use Rattle.board_package.specs.declared.reading.Refusal.{Refusal}
+use Rattle.board_package.specs.declared.reading.Refusal.TheVariants as refusal
+
+-- each file has one answer
+pub record HaveAnswers : Type 0 where
+  pub layer : (file : List ℕ) (p : LayerPlace) → layer_file.HasOneAnswer file p
+  pub drill : (file : List ℕ) (p : DrillPlace) → drill_file.HasOneAnswer file p
+  pub netlist : (file : List ℕ) (layers : ℕ) → netlist_file.HasOneAnswer file layers
+
+-- ---- One file
+
+reads_one : HaveAnswers → (r : Role) (n : ℕ) (bytes : List ℕ) (before x y : PlainBoard) → Reads r n bytes before x → Reads r n bytes before y → x ≡ y
+reads_one all (role.Copper layer) n bytes before x y (a, read, is) (b, read', is') =
+    let e : a ≡ b = (all.layer bytes (layer_place layer n before)).one_list a b read read' in is ∙ (ap (with_pieces before) e ∙ sym is')
+reads_one all (role.Drill from to) n bytes before x y (a, read, is) (b, read', is') =
+    let e : a ≡ b = (all.drill bytes (drill_place from to n before)).one_list a b read read' in is ∙ (ap (with_pieces before) e ∙ sym is')
+reads_one all role.Netlist n bytes before x y (a, names, read, is) (b, names', read', is') =
+    let e = (all.netlist bytes before.layers).one_list a b names names' read read' in is ∙ (same e.0 e.1 ∙ sym is')
+  where
+    same : a ≡ b → names ≡ names' → with_netlist before a names ≡ with_netlist before b names'
+    same p q = rw (p, q) refl
+
+reads_not_refused : HaveAnswers → (r : Role) (n : ℕ) (bytes : List ℕ) (before x : PlainBoard) (why : Refusal) → Reads r n bytes before x → Refuses r n bytes before why → ⊥
+reads_not_refused all (role.Copper layer) n bytes before x (refusal.Layer kind command at) (a, read, is) no' = (all.layer bytes (layer_place layer n before)).not_both a (gerber.Kind kind) command at read no'
+reads_not_refused all (role.Copper layer) n bytes before x (refusal.NotYet command at) (a, read, is) no' = (all.layer bytes (layer_place layer n before)).not_both a gerber.NotYet command at read no'
+reads_not_refused all (role.Copper layer) n bytes before x (refusal.Drill kind line at) read no' = no'
+reads_not_refused all (role.Copper layer) n bytes before x (refusal.Netlist kind line) read no' = no'
+reads_not_refused all (role.Drill from to) n bytes before x (refusal.Layer kind command at) read no' = no'
+reads_not_refused all (role.Drill from to) n bytes before x (refusal.NotYet command at) read no' = no'
+reads_not_refused all (role.Drill from to) n bytes before x (refusal.Drill kind line at) (a, read, is) no' = (all.drill bytes (drill_place from to n before)).not_both a kind line at read no'
+reads_not_refused all (role.Drill from to) n bytes before x (refusal.Netlist kind line) read no' = no'
+reads_not_refused all role.Netlist n bytes before x (refusal.Layer kind command at) read no' = no'
+reads_not_refused all role.Netlist n bytes before x (refusal.NotYet command at) read no' = no'
+reads_not_refused all role.Netlist n bytes before x (refusal.Drill kind line at) read no' = no'
+reads_not_refused all role.Netlist n bytes before x (refusal.Netlist kind line) (a, names, read, is) no' = (all.netlist bytes before.layers).not_both a names kind line read no'
+
+refuses_one : HaveAnswers → (r : Role) (n : ℕ) (bytes : List ℕ) (before : PlainBoard) (why other : Refusal) → Refuses r n bytes before why → Refuses r n bytes before other → why ≡ other
+refuses_one all (role.Copper layer) n bytes before (refusal.Layer kind command at) (refusal.Layer kind' command' at') p q =
+    let e = (all.layer bytes (layer_place layer n before)).one_fault (gerber.Kind kind) (gerber.Kind kind') command command' at at' p q in cc (e.0, e.1, e.2)
+refuses_one all (role.Copper layer) n bytes before (refusal.Layer kind command at) (refusal.NotYet command' at') p q =
+    let e = (all.layer bytes (layer_place layer n before)).one_fault (gerber.Kind kind) gerber.NotYet command command' at at' p q in cc (e.0)
+refuses_one all (role.Copper layer) n bytes before (refusal.Layer kind command at) (refusal.Drill kind' line at') p q = absurd q
+refuses_one all (role.Copper layer) n bytes before (refusal.Layer kind command at) (refusal.Netlist kind' line) p q = absurd q
+refuses_one all (role.Copper layer) n bytes before (refusal.NotYet command at) (refusal.Layer kind' command' at') p q =
+    let e = (all.layer bytes (layer_place layer n before)).one_fault gerber.NotYet (gerber.Kind kind') command command' at at' p q in cc (e.0)
+refuses_one all (role.Copper layer) n bytes before (refusal.NotYet command at) (refusal.NotYet command' at') p q =
+    let e = (all.layer bytes (layer_place layer n before)).one_fault gerber.NotYet gerber.NotYet command command' at at' p q in cc (e.1, e.2)
+refuses_one all (role.Copper layer) n bytes before (refusal.NotYet command at) (refusal.Drill kind' line at') p q = absurd q
+refuses_one all (role.Copper layer) n bytes before (refusal.NotYet command at) (refusal.Netlist kind' line) p q = absurd q
+refuses_one all (role.Copper layer) n bytes before (refusal.Drill kind line at) other p q = absurd p
+refuses_one all (role.Copper layer) n bytes before (refusal.Netlist kind line) other p q = absurd p
+refuses_one all (role.Drill from to) n bytes before (refusal.Layer kind command at) other p q = absurd p
+refuses_one all (role.Drill from to) n bytes before (refusal.NotYet command at) other p q = absurd p
+refuses_one all (role.Drill from to) n bytes before (refusal.Drill kind line at) (refusal.Layer kind' command at') p q = absurd q
+refuses_one all (role.Drill from to) n bytes before (refusal.Drill kind line at) (refusal.NotYet command at') p q = absurd q
+refuses_one all (role.Drill from to) n bytes before (refusal.Drill kind line at) (refusal.Drill kind' line' at') p q =
+    let e = (all.drill bytes (drill_place from to n before)).one_fault kind kind' line line' at at' p q in cc (e.0, e.1, e.2)
+refuses_one all (role.Drill from to) n bytes before (refusal.Drill kind line at) (refusal.Netlist kind' line') p q = absurd q
+refuses_one all (role.Drill from to) n bytes before (refusal.Netlist kind line) other p q = absurd p
+refuses_one all role.Netlist n bytes before (refusal.Layer kind command at) other p q = absurd p
+refuses_one all role.Netlist n bytes before (refusal.NotYet command at) other p q = absurd p
+refuses_one all role.Netlist n bytes before (refusal.Drill kind line at) other p q = absurd p
+refuses_one all role.Netlist n bytes before (refusal.Netlist kind line) (refusal.Layer kind' command at') p q = absurd q
+refuses_one all role.Netlist n bytes before (refusal.Netlist kind line) (refusal.NotYet command at') p q = absurd q
+refuses_one all role.Netlist n bytes before (refusal.Netlist kind line) (refusal.Drill kind' line' at') p q = absurd q
+refuses_one all role.Netlist n bytes before (refusal.Netlist kind line) (refusal.Netlist kind' line') p q =
+    let e = (all.netlist bytes before.layers).one_fault kind kind' line line' p q in cc (e.0, e.1)
+
+-- ---- One taking
+
+held_one : (files : Files) (name a b : List ℕ) → IsHeld files name a → IsHeld files name b → a ≡ b
+held_one files name a b h k = some_one (h.held) (k.held)
+  where
+    some_one : files name ≡ Some a → files name ≡ Some b → a ≡ b
+    some_one p q = cc
+
+held_not_absent : (files : Files) (name a : List ℕ) → IsHeld files name a → files name ≡ None → ⊥
+held_not_absent files name a h e = apart (h.held)
+  where
+    apart : files name ≡ Some a → ⊥
+    apart p = cc
+
+long_of : (o : Option (List ℕ)) (a : List ℕ) → o ≡ Some a → IsSomeAnd o (λ bytes. most_bytes < length bytes) → most_bytes < length a
+long_of o a e h = subst (λ (p : Option (List ℕ)). IsSomeAnd p (λ bytes. most_bytes < length bytes)) e h
+
+held_not_longer : (files : Files) (name a : List ℕ) → IsHeld files name a → IsSomeAnd (files name) (λ bytes. most_bytes < length bytes) → ⊥
+held_not_longer files name a h long = let l = long_of (files name) a h.held long in let s = h.short in omega arith
+
+absent_not_longer : (o : Option (List ℕ)) → o ≡ None → IsSomeAnd o (λ bytes. most_bytes < length bytes) → ⊥
+absent_not_longer o e h = subst (λ (p : Option (List ℕ)). IsSomeAnd p (λ bytes. most_bytes < length bytes)) e h
+
+same_name : (name a b : List ℕ) → a ≡ name → b ≡ name → a ≡ b
+same_name name a b p q = p ∙ sym q
+
+goes_one : HaveAnswers → (files : Files) (e : Entry) (before x y : PlainBoard) → Goes files e before x → Goes files e before y → x ≡ y
+goes_one all files e before x y g h =
+    let same = held_one files e.name g.bytes h.bytes g.held h.held in
+    reads_one all e.role e.number h.bytes before x y (subst (λ bytes. Reads e.role e.number bytes before x) same g.read) h.read
+
+goes_not_stops : HaveAnswers → (files : Files) (e : Entry) (before x : PlainBoard) (stop : Stop) → Goes files e before x → StopsAt files e before stop → ⊥
+goes_not_stops all files e before x (absent name) g s = held_not_absent files e.name g.bytes g.held s.1
+goes_not_stops all files e before x (longer name) g s = held_not_longer files e.name g.bytes g.held s.1
+goes_not_stops all files e before x not_json g s = s
+goes_not_stops all files e before x bad_manifest g s = s
+goes_not_stops all files e before x (refused name why) g s =
+    let same = held_one files e.name g.bytes s.1.bytes g.held s.1.held in
+    reads_not_refused all e.role e.number s.1.bytes before x why (subst (λ bytes. Reads e.role e.number bytes before x) same g.read) s.1.refused
+goes_not_stops all files e before x (frame_too_large box) g s = s
+
+refused_one : HaveAnswers → (files : Files) (e : Entry) (before : PlainBoard) (why other : Refusal) → IsRefusedFor files e before why → IsRefusedFor files e before other → why ≡ other
+refused_one all files e before why other r s =
+    let same = held_one files e.name r.bytes s.bytes r.held s.held in
+    refuses_one all e.role e.number s.bytes before why other (subst (λ bytes. Refuses e.role e.number bytes before why) same r.refused) s.refused
+
+stops_one : HaveAnswers → (files : Files) (e : Entry) (before : PlainBoard) (stop other : Stop) → StopsAt files e before stop → StopsAt files e before other → stop ≡ other
+stops_one all files e before (absent a) (absent b) s t = ap absent (same_name e.name a b s.0 t.0)
+stops_one all files e before (absent a) (longer b) s t = absurd (absent_not_longer (files e.name) s.1 t.1)
+stops_one all files e before (absent a) (refused b why) s t = absurd (held_not_absent files e.name t.1.bytes t.1.held s.1)
+stops_one all files e before (absent a) not_json s t = absurd t
+stops_one all files e before (absent a) bad_manifest s t = absurd t
+stops_one all files e before (absent a) (frame_too_large box) s t = absurd t
+stops_one all files e before (longer a) (absent b) s t = absurd (absent_not_longer (files e.name) t.1 s.1)
+stops_one all files e before (longer a) (longer b) s t = ap longer (same_name e.name a b s.0 t.0)
+stops_one all files e before (longer a) (refused b why) s t = absurd (held_not_longer files e.name t.1.bytes t.1.held s.1)
+stops_one all files e before (longer a) not_json s t = absurd t
+stops_one all files e before (longer a) bad_manifest s t = absurd t
+stops_one all files e before (longer a) (frame_too_large box) s t = absurd t
+stops_one all files e before (refused a why) (absent b) s t = absurd (held_not_absent files e.name s.1.bytes s.1.held t.1)
+stops_one all files e before (refused a why) (longer b) s t = absurd (held_not_longer files e.name s.1.bytes s.1.held t.1)
+stops_one all files e before (refused a why) (refused b other) s t = both (same_name e.name a b s.0 t.0) (refused_one all files e before why other s.1 t.1)
+  where
+    both : a ≡ b → why ≡ other → refused a why ≡ refused b other
+    both p q = cc
+stops_one all files e before (refused a why) not_json s t = absurd t
+stops_one all files e before (refused a why) bad_manifest s t = absurd t
+stops_one all files e before (refused a why) (frame_too_large box) s t = absurd t
+stops_one all files e before not_json other s t = absurd s
+stops_one all files e before bad_manifest other s t = absurd s
+stops_one all files e before (frame_too_large box) other s t = absurd s
+
+-- ---- The order
+
+walks_one : HaveAnswers → (files : Files) (entries : List Entry) (start x y : PlainBoard) → Walks files entries start x → Walks files entries start y → x ≡ y
+walks_one all files [] start x y p q = sym p ∙ q
+walks_one all files (e ∷ rest) start x y (b, goes, walks) (b', goes', walks') =
+    let same = goes_one all files e start b b' goes goes' in
+    walks_one all files rest b' x y (subst (λ c. Walks files rest c x) same walks) walks'
+
+walks_not_stops : HaveAnswers → (files : Files) (entries : List Entry) (start x : PlainBoard) (stop : Stop) → Walks files entries start x → StopsAmong files entries start stop → ⊥
+walks_not_stops all files [] start x stop p s = s
+walks_not_stops all files (e ∷ rest) start x stop (b, goes, walks) (inl s) = goes_not_stops all files e start b stop goes s
+walks_not_stops all files (e ∷ rest) start x stop (b, goes, walks) (inr (b', goes', later)) =
+    let same = goes_one all files e start b b' goes goes' in
+    walks_not_stops all files rest b' x stop (subst (λ c. Walks files rest c x) same walks) later
+
+among_one : HaveAnswers → (files : Files) (entries : List Entry) (start : PlainBoard) (stop other : Stop) → StopsAmong files entries start stop → StopsAmong files entries start other → stop ≡ other
+among_one all files [] start stop other s t = absurd s
+among_one all files (e ∷ rest) start stop other (inl s) (inl t) = stops_one all files e start stop other s t
+among_one all files (e ∷ rest) start stop other (inl s) (inr (b, goes, later)) = absurd (goes_not_stops all files e start b stop goes s)
+among_one all files (e ∷ rest) start stop other (inr (b, goes, later)) (inl t) = absurd (goes_not_stops all files e start b other goes t)
+among_one all files (e ∷ rest) start stop other (inr (b, goes, later)) (inr (b', goes', later')) =
+    let same = goes_one all files e start b b' goes goes' in
+    among_one all files rest b' stop other (subst (λ c. StopsAmong files rest c stop) same later) later'
+
+-- ---- The manifest
+
+value_one : (bytes : List ℕ) (v w : Data) → IsValueOf bytes v → IsValueOf bytes w → v ≡ w
+value_one bytes v w p q = some_one p.spelled q.spelled
+  where
+    some_one : {o : Option Data} → o ≡ Some v → o ≡ Some w → v ≡ w
+    some_one a b = cc
+
+manifest_one : (bytes : List ℕ) (m n : Manifest) → IsManifest bytes m → IsManifest bytes n → m ≡ n
+manifest_one bytes m n p q =
+    let same = value_one bytes p.value q.value p.read_as q.read_as in
+    some_one (subst (λ v. manifest_of v ≡ Some m) same p.form) q.form
+  where
+    some_one : {o : Option Manifest} → o ≡ Some m → o ≡ Some n → m ≡ n
+    some_one a b = cc
+
+manifest_not_other : (bytes : List ℕ) (m : Manifest) → IsManifest bytes m → IsOther bytes → ⊥
+manifest_not_other bytes m p q =
+    let same = value_one bytes p.value q.value p.read_as q.read_as in
+    apart (subst (λ v. manifest_of v ≡ Some m) same p.form) q.form
+  where
+    apart : {o : Option Manifest} → o ≡ Some m → o ≡ None → ⊥
+    apart a b = cc
+
+with_one : (files : Files) (name : List ℕ) (P Q : List ℕ → Type 0) (R : Type 0) → ((bytes : List ℕ) → P bytes → Q bytes → R) → IsHeldWith files name P → IsHeldWith files name Q → R
+with_one files name P Q R k p q =
+    let same = held_one files name p.bytes q.bytes p.held q.held in
+    k q.bytes (subst P same p.good) q.good
+
+manifest_file_one : (files : Files) (name : List ℕ) (m n : Manifest) → IsManifestFile files name m → IsManifestFile files name n → m ≡ n
+manifest_file_one files name m n p q = with_one files name (λ bytes. IsManifest bytes m) (λ bytes. IsManifest bytes n) (m ≡ n) (λ bytes a b. manifest_one bytes m n a b) p q
+
+manifest_not_stops : (files : Files) (name : List ℕ) (m : Manifest) (stop : Stop) → IsManifestFile files name m → StopsAtManifest files name stop → ⊥
+manifest_not_stops files name m (absent a) p s = held_not_absent files name p.bytes p.held s.1
+manifest_not_stops files name m (longer a) p s = held_not_longer files name p.bytes p.held s.1
+manifest_not_stops files name m not_json p s = with_one files name (λ bytes. IsManifest bytes m) IsNotJson ⊥ (λ bytes a b. b a.value a.read_as) p s
+manifest_not_stops files name m bad_manifest p s = with_one files name (λ bytes. IsManifest bytes m) IsOther ⊥ (λ bytes a b. manifest_not_other bytes m a b) p s
+manifest_not_stops files name m (refused a why) p s = s
+manifest_not_stops files name m (frame_too_large box) p s = s
+
+not_json_not_other : (files : Files) (name : List ℕ) → IsHeldWith files name IsNotJson → IsHeldWith files name IsOther → ⊥
+not_json_not_other files name p q = with_one files name IsNotJson IsOther ⊥ (λ bytes a b. a b.value b.read_as) p q
+
+at_manifest_one : (files : Files) (name : List ℕ) (stop other : Stop) → StopsAtManifest files name stop → StopsAtManifest files name other → stop ≡ other
+at_manifest_one files name (absent a) (absent b) s t = ap absent (same_name name a b s.0 t.0)
+at_manifest_one files name (absent a) (longer b) s t = absurd (absent_not_longer (files name) s.1 t.1)
+at_manifest_one files name (absent a) not_json s t = absurd (held_not_absent files name t.bytes t.held s.1)
+at_manifest_one files name (absent a) bad_manifest s t = absurd (held_not_absent files name t.bytes t.held s.1)
+at_manifest_one files name (absent a) (refused b why) s t = absurd t
+at_manifest_one files name (absent a) (frame_too_large box) s t = absurd t
+at_manifest_one files name (longer a) (absent b) s t = absurd (absent_not_longer (files name) t.1 s.1)
+at_manifest_one files name (longer a) (longer b) s t = ap longer (same_name name a b s.0 t.0)
+at_manifest_one files name (longer a) not_json s t = absurd (held_not_longer files name t.bytes t.held s.1)
+at_manifest_one files name (longer a) bad_manifest s t = absurd (held_not_longer files name t.bytes t.held s.1)
+at_manifest_one files name (longer a) (refused b why) s t = absurd t
+at_manifest_one files name (longer a) (frame_too_large box) s t = absurd t
+at_manifest_one files name not_json (absent b) s t = absurd (held_not_absent files name s.bytes s.held t.1)
+at_manifest_one files name not_json (longer b) s t = absurd (held_not_longer files name s.bytes s.held t.1)
+at_manifest_one files name not_json not_json s t = refl
+at_manifest_one files name not_json bad_manifest s t = absurd (not_json_not_other files name s t)
+at_manifest_one files name not_json (refused b why) s t = absurd t
+at_manifest_one files name not_json (frame_too_large box) s t = absurd t
+at_manifest_one files name bad_manifest (absent b) s t = absurd (held_not_absent files name s.bytes s.held t.1)
+at_manifest_one files name bad_manifest (longer b) s t = absurd (held_not_longer files name s.bytes s.held t.1)
+at_manifest_one files name bad_manifest not_json s t = absurd (not_json_not_other files name t s)
+at_manifest_one files name bad_manifest bad_manifest s t = refl
+at_manifest_one files name bad_manifest (refused b why) s t = absurd t
+at_manifest_one files name bad_manifest (frame_too_large box) s t = absurd t
+at_manifest_one files name (refused a why) other s t = absurd s
+at_manifest_one files name (frame_too_large box) other s t = absurd s
+
+-- ---- The frame
+
+frame_one : (b : PlainBoard) (stop other : Stop) → StopsAtFrame b stop → StopsAtFrame b other → stop ≡ other
+frame_one b (frame_too_large box) (frame_too_large box') s t = ap frame_too_large (some_one s.0 t.0)
+  where
+    some_one : {o : Option Bounds} → o ≡ Some box → o ≡ Some box' → box ≡ box'
+    some_one p q = cc
+frame_one b (frame_too_large box) (absent a) s t = absurd t
+frame_one b (frame_too_large box) (longer a) s t = absurd t
+frame_one b (frame_too_large box) not_json s t = absurd t
+frame_one b (frame_too_large box) bad_manifest s t = absurd t
+frame_one b (frame_too_large box) (refused a why) s t = absurd t
+frame_one b (absent a) other s t = absurd s
+frame_one b (longer a) other s t = absurd s
+frame_one b not_json other s t = absurd s
+frame_one b bad_manifest other s t = absurd s
+frame_one b (refused a why) other s t = absurd s
+
+fits_not_stops : (b : PlainBoard) (stop : Stop) → Fits (common_box b.pieces) → StopsAtFrame b stop → ⊥
+fits_not_stops b (frame_too_large box) fits s = s.1 (subst (λ (o : Option Bounds). Fits o) s.0 fits)
+fits_not_stops b (absent a) fits s = s
+fits_not_stops b (longer a) fits s = s
+fits_not_stops b not_json fits s = s
+fits_not_stops b bad_manifest fits s = s
+fits_not_stops b (refused a why) fits s = s
+
+-- ---- The package
+
+abbrev Later : Files → Manifest → Stop → Type 0
+Later files m stop = StopsAmong files m.files (empty_board m.layers) stop ⊎ IsFrameStop files m stop
+
+later_one : HaveAnswers → (files : Files) (m : Manifest) (stop other : Stop) → Later files m stop → Later files m other → stop ≡ other
+later_one all files m stop other (inl s) (inl t) = among_one all files m.files (empty_board m.layers) stop other s t
+later_one all files m stop other (inl s) (inr t) = absurd (walks_not_stops all files m.files (empty_board m.layers) t.board stop t.walked s)
+later_one all files m stop other (inr s) (inl t) = absurd (walks_not_stops all files m.files (empty_board m.layers) s.board other s.walked t)
+later_one all files m stop other (inr s) (inr t) =
+    let same = walks_one all files m.files (empty_board m.layers) s.board t.board s.walked t.walked in
+    frame_one t.board stop other (subst (λ b. StopsAtFrame b stop) same s.frame) t.frame
+
+later_not_board : HaveAnswers → (files : Files) (m : Manifest) (board : PlainBoard) (stop : Stop) → Walks files m.files (empty_board m.layers) board → Fits (common_box board.pieces) → Later files m stop → ⊥
+later_not_board all files m board stop walks fits (inl s) = walks_not_stops all files m.files (empty_board m.layers) board stop walks s
+later_not_board all files m board stop walks fits (inr s) =
+    let same = walks_one all files m.files (empty_board m.layers) s.board board s.walked walks in
+    fits_not_stops board stop fits (subst (λ b. StopsAtFrame b stop) same s.frame)
+
+first_one : HaveAnswers → (files : Files) (name : List ℕ) (stop other : Stop) → IsFirstStop files name stop → IsFirstStop files name other → stop ≡ other
+first_one all files name stop other (inl s) (inl t) = at_manifest_one files name stop other s t
+first_one all files name stop other (inl s) (inr t) = absurd (manifest_not_stops files name t.listed stop t.manifest s)
+first_one all files name stop other (inr s) (inl t) = absurd (manifest_not_stops files name s.listed other s.manifest t)
+first_one all files name stop other (inr s) (inr t) =
+    let same = manifest_file_one files name s.listed t.listed s.manifest t.manifest in
+    later_one all files t.listed stop other (subst (λ m. Later files m stop) same s.stops) t.stops
+
+board_not_stop : HaveAnswers → (files : Files) (name : List ℕ) (board : PlainBoard) (stop : Stop) → IsBoardOf files name board → IsFirstStop files name stop → ⊥
+board_not_stop all files name board stop b (inl s) = manifest_not_stops files name b.listed stop b.manifest s
+board_not_stop all files name board stop b (inr s) =
+    let same = manifest_file_one files name s.listed b.listed s.manifest b.manifest in
+    later_not_board all files b.listed board stop b.walked b.frame (subst (λ m. Later files m stop) same s.stops)
+
+board_one : HaveAnswers → (files : Files) (name : List ℕ) (board other : PlainBoard) → IsBoardOf files name board → IsBoardOf files name other → board ≡ other
+board_one all files name board other a b =
+    let same = manifest_file_one files name a.listed b.listed a.manifest b.manifest in
+    walks_one all files b.listed.files (empty_board b.listed.layers) board other (subst (λ (m : Manifest). Walks files m.files (empty_board m.layers) board) same a.walked) b.walked
+
+pub one_outcome : HaveAnswers → (files : Files) (name : List ℕ) → HasOneOutcome files name
+one_outcome all files name = record {
+  one_board = λ board other a b. board_one all files name board other a b;
+  not_both = λ board stop a b. board_not_stop all files name board stop a b;
+  one_stop = λ stop other a b. first_one all files name stop other a b;
+}

@@ -1,0 +1,148 @@
+-- The board of a package, and its first stop.
+use Rattle.std.specs.Prelude.{◌≡◌, ◌⊎◌, ℕ, ◌<◌, ◌≤◌, List, [], ◌∷◌, length, Option, Some, None, IsSomeAnd}
+use Rattle.board_io.specs.Package.{Files}
+use Rattle.board_shapes.specs.Plain.{PlainBoard, common_box, FitsFrame, Fits}
+use Rattle.contact.specs.declared.Bounds.{Bounds}
+use Rattle.board_package.specs.Manifest.{IsManifest, IsNotJson, IsOther}
+use Rattle.board_package.specs.Parts.{empty_board}
+use Rattle.board_package.specs.Reading.{Reads, Refuses}
+use Rattle.board_package.specs.declared.entry.Entry.{Entry}
+use Rattle.board_package.specs.declared.manifest.Manifest.{Manifest}
+use Rattle.board_package.specs.declared.reading.Refusal.{Refusal}
+
+-- the most bytes of a file
+abbrev pub most_bytes : ℕ
+most_bytes = 67108864
+
+-- the files of a package after its manifest, in the order in which they are taken
+abbrev pub order_of : Manifest → List Entry
+order_of m = m.files
+
+-- why a package is no board
+pub data Stop : Type 0 where
+  absent : List ℕ → Stop
+  longer : List ℕ → Stop
+  not_json : Stop
+  bad_manifest : Stop
+  refused : List ℕ → Refusal → Stop
+  frame_too_large : Bounds → Stop
+
+-- ---- One file
+
+-- the file is held and not too long
+pub record IsHeld (files : Files) (name bytes : List ℕ) : Type 0 where
+  pub held : files name ≡ Some bytes
+  pub short : length bytes ≤ most_bytes
+
+-- the file is not there to be judged: it is not held, or too long
+abbrev pub StopsTaking : Files → List ℕ → Stop → Type 0
+StopsTaking files name (absent other) = (other ≡ name) × (files name ≡ None)
+StopsTaking files name (longer other) = (other ≡ name) × IsSomeAnd (files name) (λ bytes. most_bytes < length bytes)
+StopsTaking files name not_json = ⊥
+StopsTaking files name bad_manifest = ⊥
+StopsTaking files name (refused other why) = ⊥
+StopsTaking files name (frame_too_large box) = ⊥
+
+-- the file is read and takes the board on
+pub record Goes (files : Files) (e : Entry) (before after : PlainBoard) : Type 0 where
+  pub bytes : List ℕ
+  pub held : IsHeld files e.name bytes
+  pub read : Reads e.role e.number bytes before after
+
+-- the file is refused
+pub record IsRefusedFor (files : Files) (e : Entry) (before : PlainBoard) (why : Refusal) : Type 0 where
+  pub bytes : List ℕ
+  pub held : IsHeld files e.name bytes
+  pub refused : Refuses e.role e.number bytes before why
+
+-- the first file to be taken stops the package
+abbrev pub StopsAt : Files → Entry → PlainBoard → Stop → Type 0
+StopsAt files e before (absent other) = StopsTaking files e.name (absent other)
+StopsAt files e before (longer other) = StopsTaking files e.name (longer other)
+StopsAt files e before not_json = ⊥
+StopsAt files e before bad_manifest = ⊥
+StopsAt files e before (refused other why) = (other ≡ e.name) × IsRefusedFor files e before why
+StopsAt files e before (frame_too_large box) = ⊥
+
+-- ---- The files in their order
+
+-- all files are read, one after another
+abbrev pub Walks : Files → List Entry → PlainBoard → PlainBoard → Type 0
+Walks files [] before after = before ≡ after
+Walks files (e ∷ rest) before after = (next : PlainBoard) × Goes files e before next × Walks files rest next after
+
+-- P holds at one of the files, and all before it are read
+abbrev pub AtOne : Files → List Entry → PlainBoard → (Entry → PlainBoard → Type 0) → Type 0
+AtOne files [] before P = ⊥
+AtOne files (e ∷ rest) before P = P e before ⊎ ((next : PlainBoard) × Goes files e before next × AtOne files rest next P)
+
+-- one of the files stops the package, and all before it are read
+abbrev pub StopsAmong : Files → List Entry → PlainBoard → Stop → Type 0
+StopsAmong files entries before stop = AtOne files entries before (λ e b. StopsAt files e b stop)
+
+-- one of the files has this name, and all before it are read
+abbrev pub ComesAmong : Files → List Entry → PlainBoard → List ℕ → Type 0
+ComesAmong files entries before name = AtOne files entries before (λ e b. e.name ≡ name)
+
+-- ---- The package
+
+-- the file of this name is held and not too long, and P holds of its bytes
+pub record IsHeldWith (files : Files) (name : List ℕ) (P : List ℕ → Type 0) : Type 0 where
+  pub bytes : List ℕ
+  pub held : IsHeld files name bytes
+  pub good : P bytes
+
+-- the file of this name is this manifest
+abbrev pub IsManifestFile : Files → List ℕ → Manifest → Type 0
+IsManifestFile files name m = IsHeldWith files name (λ bytes. IsManifest bytes m)
+
+-- the manifest stops the package
+abbrev pub StopsAtManifest : Files → List ℕ → Stop → Type 0
+StopsAtManifest files name (absent other) = StopsTaking files name (absent other)
+StopsAtManifest files name (longer other) = StopsTaking files name (longer other)
+StopsAtManifest files name not_json = IsHeldWith files name IsNotJson
+StopsAtManifest files name bad_manifest = IsHeldWith files name IsOther
+StopsAtManifest files name (refused other why) = ⊥
+StopsAtManifest files name (frame_too_large box) = ⊥
+
+-- the common box of all pieces is too large
+abbrev pub StopsAtFrame : PlainBoard → Stop → Type 0
+StopsAtFrame b (absent name) = ⊥
+StopsAtFrame b (longer name) = ⊥
+StopsAtFrame b not_json = ⊥
+StopsAtFrame b bad_manifest = ⊥
+StopsAtFrame b (refused name why) = ⊥
+StopsAtFrame b (frame_too_large box) = (common_box b.pieces ≡ Some box) × (FitsFrame box → ⊥)
+
+-- all files are read, and then the frame is too large
+pub record IsFrameStop (files : Files) (m : Manifest) (stop : Stop) : Type 0 where
+  pub board : PlainBoard
+  pub walked : Walks files (order_of m) (empty_board m.layers) board
+  pub frame : StopsAtFrame board stop
+
+-- the manifest is read, and then a file or the frame stops the package
+pub record IsLaterStop (files : Files) (name : List ℕ) (stop : Stop) : Type 0 where
+  pub listed : Manifest
+  pub manifest : IsManifestFile files name listed
+  pub stops : StopsAmong files (order_of listed) (empty_board listed.layers) stop ⊎ IsFrameStop files listed stop
+
+-- The first stop of the package under the name of a manifest: the manifest's, or that of the first file with one, or that of the frame.
+abbrev pub IsFirstStop : Files → List ℕ → Stop → Type 0
+IsFirstStop files name stop = StopsAtManifest files name stop ⊎ IsLaterStop files name stop
+
+-- The board of the package under the name of a manifest: there is no stop.
+pub record IsBoardOf (files : Files) (name : List ℕ) (board : PlainBoard) : Type 0 where
+  pub listed : Manifest
+  pub manifest : IsManifestFile files name listed
+  pub walked : Walks files (order_of listed) (empty_board listed.layers) board
+  pub frame : Fits (common_box board.pieces)
+
+-- the manifest is read, and a file of the order has this name, with all before it read
+pub record ComesLater (files : Files) (manifest name : List ℕ) : Type 0 where
+  pub listed : Manifest
+  pub manifest_file : IsManifestFile files manifest listed
+  pub comes : ComesAmong files (order_of listed) (empty_board listed.layers) name
+
+-- the name is that of the manifest or of a file of its order, and every file before it is held and has no refusal
+abbrev pub Comes : Files → List ℕ → List ℕ → Type 0
+Comes files manifest name = (name ≡ manifest) ⊎ ComesLater files manifest name

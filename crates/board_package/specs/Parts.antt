@@ -1,0 +1,42 @@
+-- What the files of a package give, one after another.
+use Rattle.std.specs.Prelude.{◌≡◌, ℕ, ◌-◌, ◌≤◌, List, [], ◌++◌, length, sum_by, All}
+use Rattle.board_shapes.specs.Figures.{figure_edges}
+use Rattle.board_shapes.specs.Lawful.{IsOnLayers, IsProbe}
+use Rattle.board_shapes.specs.Plain.{PlainBoard, PlainPiece, plain_parts}
+use Rattle.board_shapes.specs.declared.placed.Room.{Room}
+use Rattle.board_shapes.specs.declared.probe.Probe.{Probe}
+use Rattle.board_package.specs.declared.parts.Parts.{Parts}
+
+-- a board of so many layers with nothing on it
+abbrev pub empty_board : ℕ → PlainBoard
+empty_board layers = record { pieces = []; probes = []; names = []; layers = layers }
+
+-- the board with more pieces behind its own
+abbrev pub with_pieces : PlainBoard → List PlainPiece → PlainBoard
+with_pieces b pieces = record { pieces = b.pieces ++ pieces; probes = b.probes; names = b.names; layers = b.layers }
+
+-- the board with these probes and names
+abbrev pub with_netlist : PlainBoard → List Probe → List (List ℕ) → PlainBoard
+with_netlist b probes names = record { pieces = b.pieces; probes = probes; names = names; layers = b.layers }
+
+-- how many edges filled pieces have
+abbrev pub edges_in : List PlainPiece → ℕ
+edges_in pieces = sum_by (λ p. figure_edges p.figure) pieces
+
+-- the pieces and edges that may still come: a board has at most 200,000 pieces, and their contours 2,000,000 edges
+abbrev pub room_left : List PlainPiece → Room
+room_left pieces = record { pieces = 200000 - length pieces; edges = 2000000 - edges_in pieces }
+
+-- the board of what the files so far give
+abbrev pub board_so_far : Parts → PlainBoard
+board_so_far p = plain_parts p.pieces.items p.probes p.names p.layers
+
+-- what a board asks of its parts
+pub record IsLawfulParts (p : Parts) : Type 0 where
+  pub some_layer : 1 ≤ p.layers
+  pub few_layers : p.layers ≤ 32
+  pub few_pieces : length p.pieces.items ≤ 200000
+  pub few_probes : length p.probes ≤ 400000
+  pub few_names : length p.names ≤ 200000
+  pub spans : All (IsOnLayers p.layers) p.pieces.items
+  pub known : All (IsProbe (length p.names) p.layers) p.probes

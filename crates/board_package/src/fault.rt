@@ -1,0 +1,89 @@
+//! Why a package is no board.
+ghost use Rattle.std.specs.Prelude.{◌≡◌, List, ℕ, IfOk};
+ghost use Rattle.board_package.specs.Causes.{HasRefusal};
+
+use crate::reading::Refusal;
+use contact::Bounds;
+use gerber_layer::GerberKind;
+use ipc356_records::RecordKind;
+use lengths::{NoMemory, Text, TextFault};
+use std::alloc::Global;
+use xnc::DrillKind;
+
+/// Why a package gives no board: the first that stops it, in the order of its files, or a fault of reading, or want of
+/// memory.
+#[derive(Debug, Drop)]
+pub enum BuildFault {
+    /// `serde_json` reads no value from the manifest.
+    NotJson,
+    /// The manifest has another form.
+    BadManifest,
+    /// The file has more than 67,108,864 bytes.
+    Longer(Text),
+    /// The file could not be read: the package's count of faults rose, and this is its lost name.
+    CannotRead(Text),
+    /// The copper file is refused, by the first faulty command, from 1, and the place of its first byte, from 0.
+    Layer {
+        file: Text,
+        kind: GerberKind,
+        command: u32,
+        at: usize,
+    },
+    /// The copper file has a form that is not read yet.
+    NotYet(Text),
+    /// The drill file is refused, by the first faulty line, from 1, and the place of its first byte, from 0.
+    Drill {
+        file: Text,
+        kind: DrillKind,
+        line: u32,
+        at: usize,
+    },
+    /// The netlist is refused, by the first faulty line, from 1.
+    Netlist {
+        file: Text,
+        kind: RecordKind,
+        line: u32,
+    },
+    /// The common box of all pieces, which this is, has a side over 3,000,000,000 u (300 mm).
+    FrameTooLarge(Bounds),
+    NoMemory,
+}
+
+// A text of its own.
+pub fn copied(alloc: Global, name: &Text) -> Result<Text, NoMemory>
+    ensures { IfOk result (λ copy. copy ≡ name.now) }
+{
+    match Text::new(alloc, name.as_bytes()) {
+        Ok(copy) => Ok(copy),
+        Err(_) => Err(NoMemory),
+    }
+}
+
+// The fault of a file that is refused, or want of memory for its name.
+pub fn refused(alloc: Global, name: &Text, refusal: Refusal) -> BuildFault
+    ensures { HasRefusal name.now refusal result }
+{
+    let Ok(file) = copied(alloc, name) else {
+        return BuildFault::NoMemory;
+    };
+    match refusal {
+        Refusal::Layer { kind, command, at } => {
+            BuildFault::Layer {
+                file,
+                kind,
+                command,
+                at,
+            }
+        }
+        Refusal::NotYet { .. } => BuildFault::NotYet(file),
+        Refusal::Drill { kind, line, at } => {
+            BuildFault::Drill {
+                file,
+                kind,
+                line,
+                at,
+            }
+        }
+        Refusal::Netlist { kind, line } => BuildFault::Netlist { file, kind, line },
+    }
+}

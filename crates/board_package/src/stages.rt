@@ -1,0 +1,152 @@
+//! The board of a package.
+ghost use Rattle.std.specs.Prelude.{◌≡◌, ◌≤◌, List, ℕ, length, All, IfSome, IfOk, IfErr, OnOk};
+ghost use Rattle.board_shapes.specs.Plain.{plain_board, common_box, Fits};
+ghost use Rattle.board_package.specs.Causes.{HasCause, IsFrameFault};
+ghost use Rattle.board_package.specs.Manifest.{IsLawful, IsOnBoard};
+ghost use Rattle.board_package.specs.PackageBoard.{IsBoardOf, IsFirstStop, Comes, IsHeld, IsManifestFile, StopsTaking, StopsAtManifest, StopsAt, StopsAtFrame, StopsAmong, ComesAmong, Goes, Walks};
+ghost use Rattle.board_package.specs.Parts.{board_so_far, IsLawfulParts};
+
+use crate::entry::Entry;
+use crate::fault::{BuildFault, copied, refused};
+use crate::manifest::{Manifest, ManifestFault, read_manifest};
+use crate::parts::Parts;
+use crate::reading::{Halt, read_file};
+use board_io::{Package, Take};
+use board_shapes::{Board, BoardFault};
+use lengths::{NoMemory, Text};
+use std::alloc::Global;
+
+/// The most bytes of a file.
+pub const MOST_BYTES: usize = 67_108_864;
+
+/// The board of a package under the name of its manifest: its copper files' pieces and then its drill files', the probes
+/// and names of its netlist, and as many layers as copper files.
+///
+/// It takes the manifest, each copper file, each drill file and the netlist, in this order. Each is judged before the
+/// next is taken, and after a refusal nothing more is taken. The frame is judged last.
+pub fn build<P: Package>(
+    alloc: Global,
+    manifest: &Text,
+    package: &mut P,
+) -> Result<Board, BuildFault>
+    ensures held { P.held «package».new ≡ P.held «package».old }
+    ensures later { P.faults «package».old ≤ P.faults «package».new }
+    ensures ok { IfOk result (λ board. IfSome (P.held «package».old) (λ files. IsBoardOf files manifest.now (plain_board board))) }
+    ensures fault { IfErr result (HasCause (P.held «package».old) (λ files stop. IsFirstStop files manifest.now stop) (λ files name. Comes files manifest.now name) (P.faults «package».old) (P.faults «package».new) (P.lost «package».new)) }
+{
+    let mut file = Vec::new(alloc);
+    let listed = take_manifest(alloc, manifest, package, &mut file)?;
+    let mut parts = Parts::new(alloc, listed.layers);
+    take_files(alloc, package, listed.files.as_slice(), &mut parts, &mut file)?;
+    framed(parts)
+}
+
+// Takes the manifest.
+fn take_manifest<P: Package>(
+    alloc: Global,
+    manifest: &Text,
+    package: &mut P,
+    file: &mut Vec<u8>,
+) -> Result<Manifest, BuildFault>
+    ensures held { P.held «package».new ≡ P.held «package».old }
+    ensures later { P.faults «package».old ≤ P.faults «package».new }
+    ensures found { IfOk result (λ m. IfSome (P.held «package».old) (λ files. IsManifestFile files manifest.now m)) }
+    ensures lawful { IfOk result (λ m. IsLawful m) }
+    ensures cause { IfErr result (HasCause (P.held «package».old) (λ files stop. StopsAtManifest files manifest.now stop) (λ files name. name ≡ manifest.now) (P.faults «package».old) (P.faults «package».new) (P.lost «package».new)) }
+{
+    take_file(alloc, manifest, package, file)?;
+    match read_manifest(alloc, file.as_slice()) {
+        Ok(listed) => Ok(listed),
+        Err(ManifestFault::NotJson) => Err(BuildFault::NotJson),
+        Err(ManifestFault::BadManifest) => Err(BuildFault::BadManifest),
+        Err(ManifestFault::NoMemory) => Err(BuildFault::NoMemory),
+    }
+}
+
+// Takes the files of the order, and adds what they give.
+fn take_files<P: Package>(
+    alloc: Global,
+    package: &mut P,
+    entries: &[Entry],
+    parts: &mut Parts,
+    file: &mut Vec<u8>,
+) -> Result<(), BuildFault>
+    requires lawful { IsLawfulParts parts.old }
+    requires roles { All (λ e. IsOnBoard parts.old.layers e.role) entries.now }
+    ensures held { P.held «package».new ≡ P.held «package».old }
+    ensures later { P.faults «package».old ≤ P.faults «package».new }
+    ensures found { OnOk result (IfSome (P.held «package».old) (λ files. Walks files entries.now (board_so_far parts.old) (board_so_far parts.new))) }
+    ensures parts { OnOk result (IsLawfulParts parts.new) }
+    ensures cause { IfErr result (HasCause (P.held «package».old) (λ files stop. StopsAmong files entries.now (board_so_far parts.old) stop) (λ files name. ComesAmong files entries.now (board_so_far parts.old) name) (P.faults «package».old) (P.faults «package».new) (P.lost «package».new)) }
+{
+    for entry in entries {
+        take_entry(alloc, package, entry, parts, file)?;
+    }
+    Ok(())
+}
+
+// Takes one file of the order, and adds what it gives.
+fn take_entry<P: Package>(
+    alloc: Global,
+    package: &mut P,
+    entry: &Entry,
+    parts: &mut Parts,
+    file: &mut Vec<u8>,
+) -> Result<(), BuildFault>
+    requires lawful { IsLawfulParts parts.old }
+    requires role { IsOnBoard parts.old.layers entry.now.role }
+    ensures held { P.held «package».new ≡ P.held «package».old }
+    ensures later { P.faults «package».old ≤ P.faults «package».new }
+    ensures found { OnOk result (IfSome (P.held «package».old) (λ files. Goes files entry.now (board_so_far parts.old) (board_so_far parts.new))) }
+    ensures parts { OnOk result (IsLawfulParts parts.new) }
+    ensures layers { OnOk result (parts.new.layers ≡ parts.old.layers) }
+    ensures cause { IfErr result (HasCause (P.held «package».old) (λ files stop. StopsAt files entry.now (board_so_far parts.old) stop) (λ files name. entry.now.name ≡ name) (P.faults «package».old) (P.faults «package».new) (P.lost «package».new)) }
+{
+    take_file(alloc, &entry.name, package, file)?;
+    match read_file(alloc, entry.role, entry.number, file.as_slice(), parts) {
+        Ok(()) => Ok(()),
+        Err(Halt::Refused(refusal)) => Err(refused(alloc, &entry.name, refusal)),
+        Err(Halt::NoMemory) => Err(BuildFault::NoMemory),
+    }
+}
+
+// Takes a file.
+fn take_file<P: Package>(
+    alloc: Global,
+    name: &Text,
+    package: &mut P,
+    file: &mut Vec<u8>,
+) -> Result<(), BuildFault>
+    ensures held { P.held «package».new ≡ P.held «package».old }
+    ensures later { P.faults «package».old ≤ P.faults «package».new }
+    ensures short { OnOk result (length file.new.items ≤ 67108864) }
+    ensures found { OnOk result (IfSome (P.held «package».old) (λ files. IsHeld files name.now file.new.items)) }
+    ensures cause { IfErr result (HasCause (P.held «package».old) (λ files stop. StopsTaking files name.now stop) (λ files other. other ≡ name.now) (P.faults «package».old) (P.faults «package».new) (P.lost «package».new)) }
+{
+    let text = name.as_str();
+    match package.take(text, MOST_BYTES, file) {
+        Take::Whole => Ok(()),
+        Take::Longer => match copied(alloc, name) {
+            Ok(name) => Err(BuildFault::Longer(name)),
+            Err(NoMemory) => Err(BuildFault::NoMemory),
+        },
+        Take::Failed => match copied(alloc, name) {
+            Ok(name) => Err(BuildFault::CannotRead(name)),
+            Err(NoMemory) => Err(BuildFault::NoMemory),
+        },
+        Take::NoMemory => Err(BuildFault::NoMemory),
+    }
+}
+
+// The board of these parts, if it fits in a frame.
+fn framed(parts: Parts) -> Result<Board, BuildFault>
+    requires { IsLawfulParts parts }
+    ensures ok { IfOk result (λ board. plain_board board ≡ board_so_far parts) }
+    ensures fits { IfOk result (λ board. Fits (common_box (board_so_far parts).pieces)) }
+    ensures fault { IfErr result (IsFrameFault (board_so_far parts)) }
+{
+    match Board::new(parts.pieces, parts.probes, parts.names, parts.layers) {
+        Ok(board) => Ok(board),
+        Err(BoardFault::FrameTooLarge(bounds)) => Err(BuildFault::FrameTooLarge(bounds)),
+    }
+}
