@@ -1,16 +1,20 @@
 -- The outcome of `check`.
 use Rattle.std.specs.Prelude.{◌≡◌, ◌⊎◌, ◌↔◌, ℕ, List, length, Option, IfSome, codes}
 use Rattle.board_io.specs.Package.{Files}
-use Rattle.board_package.specs.PackageBoard.{Stop, absent, longer, not_json, bad_manifest, copper_refused, drill_refused, netlist_refused, frame_too_large, IsBoardOf, IsFirstStop}
-use Rattle.board_package.specs.Kinds.{gerber_number, gerber_name, drill_number, drill_name, record_number, record_name}
+use Rattle.board_package.specs.PackageBoard.{Stop, absent, longer, not_json, bad_manifest, refused, frame_too_large, IsBoardOf, IsFirstStop}
+use Rattle.board_package.specs.declared.reading.Refusal.{Refusal}
+use Rattle.board_package.specs.declared.reading.Refusal.TheVariants.{Layer, Drill, Netlist}
 use Rattle.board_shapes.specs.Plain.{PlainBoard}
 use Rattle.board_shapes.specs.Tables.{IsTables}
 use Rattle.board_shapes.specs.Touching.{ProbesJoined}
 use Rattle.boardnet.specs.Lines.{plain_line, file_line, copper_line, drill_line, netlist_line, frame_line, differs_line}
+use Rattle.gerber_layer.specs.Kinds.{kind_number, kind_name}
+use Rattle.ipc356_records.specs.Kind.{number_of_kind as record_number, name_of_kind as record_name}
 use Rattle.tables.specs.Tables.{Tables}
 use Rattle.verdict.specs.ReportText.{report_text, Agrees}
 use Rattle.verdict.specs.Right.{IsRight, HaveOneNet}
 use Rattle.verdict.specs.declared.verdict.Verdict.{Verdict}
+use Rattle.xnc.specs.Kind.{number_of_kind as drill_number, name_of_kind as drill_name}
 
 -- The verdict is right for the board, whose tables the law of tables gives.
 pub record IsRightOn (board : PlainBoard) (verdict : Verdict) : Type 0 where
@@ -35,15 +39,19 @@ pub record IsReport (files : Files) (manifest text : List ℕ) (status : ℕ) (l
   pub text_is : text ≡ report_text verdict
   pub status_is : HasStatus verdict status line
 
--- The line of a refusal. A file that is not held is none.
+-- The line of a file that is refused.
+abbrev pub refusal_line : List ℕ → Refusal → List ℕ
+refusal_line name (Layer kind command byte) = copper_line name (kind_number kind) (kind_name kind) command byte
+refusal_line name (Drill kind line byte) = drill_line name (drill_number kind) (drill_name kind) line byte
+refusal_line name (Netlist kind line) = netlist_line name (record_number kind) (record_name kind) line
+
+-- The line of a stop that is a refusal. A file that is not held is none.
 abbrev pub IsLineOf : List ℕ → Stop → List ℕ → Type 0
 IsLineOf manifest (absent name) line = ⊥
 IsLineOf manifest (longer name) line = line ≡ file_line name (codes "longer than 67108864 bytes")
 IsLineOf manifest not_json line = line ≡ file_line manifest (codes "not JSON")
 IsLineOf manifest bad_manifest line = line ≡ file_line manifest (codes "not a manifest")
-IsLineOf manifest (copper_refused name kind command byte) line = line ≡ copper_line name (gerber_number kind) (gerber_name kind) command byte
-IsLineOf manifest (drill_refused name kind number byte) line = line ≡ drill_line name (drill_number kind) (drill_name kind) number byte
-IsLineOf manifest (netlist_refused name kind number) line = line ≡ netlist_line name (record_number kind) (record_name kind) number
+IsLineOf manifest (refused name why) line = line ≡ refusal_line name why
 IsLineOf manifest (frame_too_large box) line = line ≡ frame_line box
 
 -- The package's first stop is a refusal, and this is its line.

@@ -1,7 +1,8 @@
 // The top call.
 ghost use Rattle.board_io.specs.Causes.{Rose};
 ghost use Rattle.board_io.specs.Sink.{Gains, GainsFrontOf};
-ghost use Rattle.board_package.specs.PackageBoard.{HasCause, IsBoardOf};
+ghost use Rattle.board_package.specs.Causes.{HasCause};
+ghost use Rattle.board_package.specs.PackageBoard.{Comes, IsBoardOf, IsFirstStop};
 ghost use Rattle.board_shapes.specs.Plain.{PlainBoard};
 ghost use Rattle.boardnet.specs.Answers.{Refuses};
 ghost use Rattle.boardnet.specs.Lines.{Says, file_line, plain_line};
@@ -54,9 +55,10 @@ pub fn run<P: Package, S: Sink, N: Sink>(
     ensures refused { result ≡ 3 → IfSome (P.held «package».old) (λ files. (name : List ℕ) → IsCheck words.now name
         → (line : List ℕ) × IsRefusal files name line × Says N.got N.faults notes.old notes.new line) }
 
-    // 4: a fault of reading, of the file in the line.
+    // 4: a fault of reading the file in the line, which is the manifest or a file of its order; each before it is held and read.
     ensures unreadable { result ≡ 4 → Rose (P.faults «package».old) (P.faults «package».new)
         × Says N.got N.faults notes.old notes.new (file_line (P.lost «package».new) (codes "cannot be read")) }
+    ensures unread { result ≡ 4 → IfSome (P.held «package».old) (λ files. (name : List ℕ) → IsCheck words.now name → Comes files name (P.lost «package».new)) }
 
     // 5: a fault of writing, behind a front of the text.
     ensures unwritable { result ≡ 5 → Rose (S.faults out.old) (S.faults out.new)
@@ -99,6 +101,7 @@ fn check<P: Package, S: Sink, N: Sink>(
         (line : List ℕ) × IsRefusal files manifest.now line × Says N.got N.faults notes.old notes.new line) }
     ensures unreadable { result ≡ 4 → Rose (P.faults «package».old) (P.faults «package».new)
         × Says N.got N.faults notes.old notes.new (file_line (P.lost «package».new) (codes "cannot be read")) }
+    ensures unread { result ≡ 4 → IfSome (P.held «package».old) (λ files. Comes files manifest.now (P.lost «package».new)) }
     ensures unwritable { result ≡ 5 → Rose (S.faults out.old) (S.faults out.new)
         × Says N.got N.faults notes.old notes.new (plain_line (codes "output cannot be written")) }
     ensures front { result ≡ 5 → IfSome (P.held «package».old) (λ files.
@@ -193,7 +196,7 @@ fn report<P: Package>(
 ) -> Result<(Verdict, Vec<u8>), BuildFault>
     requires { IsText manifest.now }
     ensures ok { IfOk result (λ r. IfSome (P.held «package».old) (λ files. (board : PlainBoard) × IsBoardOf files manifest.now board × IsRightOn board r.0 × (r.1.items ≡ report_text r.0))) }
-    ensures fault { IfErr result (HasCause (P.held «package».old) manifest.now (P.faults «package».old) (P.faults «package».new) (P.lost «package».new)) }
+    ensures fault { IfErr result (HasCause (P.held «package».old) (λ files stop. IsFirstStop files manifest.now stop) (λ files name. Comes files manifest.now name) (P.faults «package».old) (P.faults «package».new) (P.lost «package».new)) }
 {
     let name = name_of(alloc, manifest)?;
     let board = build(alloc, &name, package)?;
