@@ -90,6 +90,7 @@ ticks_of box items p q a b old new here there other one apart away = by_test (is
     | inl layer ↦ away (λ share. let r = rival_if box items p q a b here there other layer share in cc)
     | inr none ↦ apart (λ layer. omega arith)
   ]
+
   by_test : (r : Bool) → is_rival (extent_in box items) (top_in items) (bottom_in items) p q ≡ r → new ≤ old + (if r then 1 else 0)
   by_test true e = one
   by_test false e = let same : new ≡ old = quiet e in omega arith

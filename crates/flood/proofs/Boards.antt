@@ -51,8 +51,7 @@ plain_back items p x there = map_some (slice_get items p) x (sym (slice_get-map 
 
 near_there : (b : PlainBoard) (items : List (Placed Shape)) → b.pieces ≡ plain_pieces items → (p q : ℕ) → IsNear (length items) (TouchAmong InShape items) p q → IsNearOn b p q
 near_there b items same p q near =
-    let t = near.touch in
-    (
+    let t = near.touch in (
       λ e. near.other (sym e),
       record {
         first = plain_piece t.first;

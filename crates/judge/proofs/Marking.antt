@@ -84,13 +84,17 @@ takes net name n m line lines here on rest seen =
   where
     s : Seat
     s = record { net = m; probe = n }
+
     tail : List Seat
     tail = seats_from name (n + 1) lines
+
     marked : (b : Bool) → (m == net) ≡ b → marks net name line ≡ b
     marked b e = ap (λ (x : Bool). x && is_on line.net net) here ∙ (ap (λ (o : Option ℕ). is_on o net) on ∙ e)
+
     whole : (b : Bool) → (m == net) ≡ b → first_from net name n (line ∷ lines) ≡ (if b then Some n else first_from net name (n + 1) lines)
     whole true e = first_here net name n line lines (marked true e)
     whole false e = first_other net name n line lines (marked false e)
+
     by : (old : Bool) → list_any (λ k. k == m) seen ≡ old → (mine : Bool) → (m == net) ≡ mine → marks_of_seats name net (fresh seen (s ∷ tail)) ≡ unless_seen (list_any (λ k. k == net) seen) (mark_where name (first_from net name n (line ∷ lines)))
     by true was true mine =
         let there : list_any (λ k. k == net) seen ≡ true = ap (λ (x : ℕ). list_any (λ k. k == x) seen) (sym (eqb-true m net mine)) ∙ was in

@@ -32,9 +32,8 @@ shorts_of-requires-clause-known c = pieces_within (plain_board c.args.board.now)
 pub numbers_of-requires-clause-one_net : goal.numbers_of-requires-clause-one_net
 numbers_of-requires-clause-one_net c = subst (λ (ns : List (List Twig)). (i j p : ℕ) → Holds ns i p → Holds ns j p → i ≡ j) (sym c.as_slice-nets.ensures) c.requires.trees.covers.one_net
 
-
 pub lines_of-requires-clause-pieces : goal.lines_of-requires-clause-pieces
-lines_of-requires-clause-pieces c = 
+lines_of-requires-clause-pieces c =
     let b : PlainBoard = plain_board c.args.board.now in
     let homes : List (Option ℕ) = c.as_slice-rows.result.now in
     let known : All (λ home. IfSome home (λ p. p < length b.pieces)) homes = subst (λ (hs : List (Option ℕ)). All (λ home. IfSome home (λ p. p < length b.pieces)) hs) (sym c.as_slice-rows.ensures) (homes_known b c.args.homes c.requires.homes) in
@@ -42,7 +41,7 @@ lines_of-requires-clause-pieces c =
     subst (λ (n : ℕ). All (λ home. IfSome home (λ p. p < n)) homes) many known
 
 pub bare_of-requires : goal.bare_of-requires
-bare_of-requires c = 
+bare_of-requires c =
     let homes : List (Option ℕ) = c.as_slice-rows.result.now in
     let numbers : List ℕ = c.as_slice.result.now in
     let probes : List Probe = c.probes.result.now in
@@ -53,7 +52,7 @@ bare_of-requires c =
     omega (arith, c.probes.ensures.few)
 
 pub seats_of-requires-clause-few : goal.seats_of-requires-clause-few
-seats_of-requires-clause-few c = 
+seats_of-requires-clause-few c =
     let homes : List (Option ℕ) = c.as_slice-rows.result.now in
     let numbers : List ℕ = c.as_slice.result.now in
     let probes : List Probe = c.probes.result.now in
@@ -64,7 +63,7 @@ seats_of-requires-clause-few c =
     omega (arith, c.probes.ensures.few)
 
 pub seats_of-requires-clause-names : goal.seats_of-requires-clause-names
-seats_of-requires-clause-names c = 
+seats_of-requires-clause-names c =
     let b : PlainBoard = plain_board c.args.board.now in
     let homes : List (Option ℕ) = c.as_slice-rows.result.now in
     let numbers : List ℕ = c.as_slice.result.now in
@@ -76,7 +75,7 @@ seats_of-requires-clause-names c =
     subst (λ (n : ℕ). All (λ line. line.name < n) lines) texts (subst (λ (ls : List PointLine). All (λ line. line.name < length b.names) ls) (sym made) (lines_named (length b.names) numbers probes homes named))
 
 pub marks_of-requires-clause-nets : goal.marks_of-requires-clause-nets
-marks_of-requires-clause-nets c = 
+marks_of-requires-clause-nets c =
     let b : PlainBoard = plain_board c.args.board.now in
     let nets : List (List Twig) = c.as_slice-nets.result.now in
     let lawful : IsForest (length b.pieces) (IsNear b) nets = subst (λ (ns : List (List Twig)). IsForest (length b.pieces) (IsNear b) ns) (sym c.as_slice-nets.ensures) c.requires.trees in
@@ -94,7 +93,6 @@ marks_of-requires-clause-nets c =
 
 pub shorts_of-requires-clause-hang : goal.shorts_of-requires-clause-hang
 shorts_of-requires-clause-hang c = subst (λ (ns : List (List Twig)). All HangAbove ns) (sym c.as_slice-nets.ensures) (All-weaker (IsTree (IsNear (plain_board c.args.board.now))) HangAbove (tree_hangs (IsNear (plain_board c.args.board.now))) c.args.trees c.requires.trees.trees.trees)
-
 
 pub shorts_of-requires-clause-homes : goal.shorts_of-requires-clause-homes
 shorts_of-requires-clause-homes c = λ number below.

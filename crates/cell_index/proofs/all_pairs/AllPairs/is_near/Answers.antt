@@ -7,8 +7,7 @@ pub returns-clause-near : goal.returns-clause-near
 returns-clause-near g c =
     let here : slice_get c.args.self.now.items.now c.args.p ≡ Some (get_or c.args.self.now.items.now c.args.p c.index-self-p.result) = slice_get-get_or c.args.self.now.items.now c.args.p c.index-self-p.result c.requires.first in
     let there : slice_get c.args.self.now.items.now c.args.q ≡ Some (get_or c.args.self.now.items.now c.args.q c.index-self-q.result) = slice_get-get_or c.args.self.now.items.now c.args.q c.index-self-q.result c.requires.second in
-    let other : c.args.p ≢ c.args.q = λ e. c.if-q-p.false (sym e) in
-    (
+    let other : c.args.p ≢ c.args.q = λ e. c.if-q-p.false (sym e) in (
       λ h. near_there g.S.Closed.holds c.args.self.now.items.now c.args.p c.args.q (get_or c.args.self.now.items.now c.args.p c.index-self-p.result) (get_or c.args.self.now.items.now c.args.q c.index-self-q.result) here there other (c.touches.ensures.touch.0 h),
       λ n. c.touches.ensures.touch.1 (near_back g.S.Closed.holds c.args.self.now.items.now c.args.p c.args.q (get_or c.args.self.now.items.now c.args.p c.index-self-p.result) (get_or c.args.self.now.items.now c.args.q c.index-self-q.result) here there n),
     )
