@@ -1,4 +1,7 @@
-// boardnet: which test points does the copper of a bare board join?
+//! boardnet: does the copper of a bare board join exactly the points that its netlist joins?
+//!
+//! The words of the command line are judged (`words`), the package's board is built, judged and printed (`run`, `judged`),
+//! and a line about the outcome goes to the notes (`lines`).
 #![tactic(auto)]
 
 pub mod judged;
@@ -6,4 +9,39 @@ pub mod lines;
 pub mod run;
 pub mod words;
 
-fn main() {}
+#[cfg(test)]
+mod tests;
+
+use board_io::{FolderPackage, StreamSink};
+use run::run;
+use std::env;
+use std::process::ExitCode;
+
+/// The status where the system does not give the words of the command line.
+const NO_WORDS: u8 = 7;
+
+/// The status where memory for the words is wanted.
+const NO_MEMORY: u8 = 6;
+
+// The words after the program's name.
+fn words_of(rt: &HostRuntime) -> Result<Vec<String>, u8> {
+    let args = match env::args(rt) {
+        Ok(args) => args,
+        Err(_) => return Err(NO_WORDS),
+    };
+    args.skip(1).collect(rt.alloc()).map_err(|_| NO_MEMORY)
+}
+
+fn main(rt: HostRuntime) -> ExitCode {
+    let status = match words_of(&rt) {
+        Ok(words) => {
+            let mut out = StreamSink::new(rt.stdout());
+            let mut notes = StreamSink::new(rt.stderr());
+            let alloc = rt.alloc();
+            let mut package = FolderPackage::new(rt);
+            run(alloc, words.as_slice(), &mut package, &mut out, &mut notes)
+        }
+        Err(status) => status,
+    };
+    ExitCode::from(status)
+}
