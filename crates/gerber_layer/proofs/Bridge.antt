@@ -13,8 +13,10 @@ use Rattle.gerber_layer.specs.declared.command.Code.TheVariants.{Draw, Move, Fla
 use Rattle.gerber_layer.specs.declared.settings.Settings.{Settings}
 use Rattle.gerber_layer.specs.declared.dictionary.Dictionary.{Dictionary}
 use Rattle.gerber_layer.specs.declared.reader.Reader.{Reader}
-use Rattle.gerber_layer.specs.Table.{Place, Known, Effect, stays, makes, performs, extends, closes, opens, leaves, steps, concludes, opened, code_of, contour_after, coordinate, effect, after, heads}
-use Rattle.gerber_layer.specs.History.{or_else, value_or, value_in, settings_at, format_at, unit_at, x_at, y_at, point_at, region_at, drawn, contour_by, contour_at, defined_at, definitions_at, Image, ok_block, with_effect, known_with, known_at, image_at}
+use Rattle.gerber_layer.specs.Table.{Place, Known, Effect, stays, makes, performs, extends, closes, opens, leaves, steps, concludes, code_of, coordinate, effect}
+use Rattle.gerber_layer.specs.After.{after, contour_after, heads, opened}
+use Rattle.gerber_layer.specs.Settings.{or_else, value_or, value_in, settings_before, format_before, unit_before, x_before, y_before, point_before, region_open, drawn, contour_before, defined_before, definitions_before, ok_block}
+use Rattle.gerber_layer.specs.Image.{Image, with_effect, known_with, known_before, image_of}
 use Rattle.gerber_layer.specs.Reader.{defined_in, size_of, Adds, Turns, contour_of, known_of, place_of, Obeys}
 use Rattle.gerber_layer.proofs.Outcome.{Outcome, outcome, Goes, IsEffect}
 
@@ -32,14 +34,14 @@ heads_is true Move to e i = ap heads i.1
 heads_is true Flash to e i = absurd i
 
 -- where an operation leads is found by looking back
-point_is : (p : Place) (earlier : List Command) (ps : Image) (x y : Option (List ℕ)) (code : Option Code) (e : Effect) (o : Outcome (known_with p earlier ps) (operates x y code) e) → o.to ≡ point_at (operates x y code ∷ earlier)
+point_is : (p : Place) (earlier : List Command) (ps : Image) (x y : Option (List ℕ)) (code : Option Code) (e : Effect) (o : Outcome (known_with p earlier ps) (operates x y code) e) → o.to ≡ point_before (operates x y code ∷ earlier)
 point_is p earlier ps x y code e o =
-    let across : value_in x (format_at earlier) (unit_at earlier) (x_at earlier) ≡ o.to.x = rw (o.format_is, o.unit_is) (value_is x o.format o.unit (x_at earlier) o.to.x o.x_is) in
-    let up : value_in y (format_at earlier) (unit_at earlier) (y_at earlier) ≡ o.to.y = rw (o.format_is, o.unit_is) (value_is y o.format o.unit (y_at earlier) o.to.y o.y_is) in
+    let across : value_in x (format_before earlier) (unit_before earlier) (x_before earlier) ≡ o.to.x = rw (o.format_is, o.unit_is) (value_is x o.format o.unit (x_before earlier) o.to.x o.x_is) in
+    let up : value_in y (format_before earlier) (unit_before earlier) (y_before earlier) ≡ o.to.y = rw (o.format_is, o.unit_is) (value_is y o.format o.unit (y_before earlier) o.to.y o.y_is) in
     rw (across, up) refl
 
 -- the settings behind a command are found by looking back from the next
-settings-push : (p : Place) (earlier : List Command) (ps : Image) (c : Command) (e : Effect) → Outcome (known_with p earlier ps) c e → after (settings_at earlier) c (heads e) (opened e) ≡ settings_at (c ∷ earlier)
+settings-push : (p : Place) (earlier : List Command) (ps : Image) (c : Command) (e : Effect) → Outcome (known_with p earlier ps) c e → after (settings_before earlier) c (heads e) (opened e) ≡ settings_before (c ∷ earlier)
 settings-push p earlier ps nothing e o = refl
 settings-push p earlier ps (refused why) e o = refl
 settings-push p earlier ps (repeats text) e o = rw (ap opened o.is, ap ok_block o.next_is) refl
@@ -52,7 +54,7 @@ settings-push p earlier ps opens_region e o = refl
 settings-push p earlier ps closes_region e o = refl
 settings-push p earlier ps (operates x y code) e o =
     let there = point_is p earlier ps x y code e o in
-    rw (heads_is (region_at earlier) (code_of code) o.to e o.is, there) refl
+    rw (heads_is (region_open earlier) (code_of code) o.to e o.is, there) refl
 settings-push p earlier ps ends e o = refl
 settings-push p earlier ps (breaks fault) e o = refl
 settings-push p earlier ps finishes e o = refl
@@ -69,22 +71,22 @@ drawn_is false Draw to e contour from i = ap (λ (f : Effect). contour_after f c
 drawn_is false Move to e contour from i = ap (λ (f : Effect). contour_after f contour from) i.is
 drawn_is false Flash to e contour from i = ap (λ (f : Effect). contour_after f contour from) i.is
 
-contour-push : (p : Place) (earlier : List Command) (ps : Image) (c : Command) (e : Effect) → Outcome (known_with p earlier ps) c e → contour_after e (contour_at earlier) (point_at earlier) ≡ contour_at (c ∷ earlier)
+contour-push : (p : Place) (earlier : List Command) (ps : Image) (c : Command) (e : Effect) → Outcome (known_with p earlier ps) c e → contour_after e (contour_before earlier) (point_before earlier) ≡ contour_before (c ∷ earlier)
 contour-push p earlier ps (operates x y code) e o =
-    drawn_is (region_at earlier) (code_of code) o.to e (contour_at earlier) (point_at earlier) o.is ∙ ap (λ (to : Spot). drawn (code_of code) (region_at earlier) (contour_at earlier) (point_at earlier) to) (point_is p earlier ps x y code e o)
-contour-push p earlier ps opens_region e o = ap (λ (f : Effect). contour_after f (contour_at earlier) (point_at earlier)) o
-contour-push p earlier ps closes_region e o = ap (λ (f : Effect). contour_after f (contour_at earlier) (point_at earlier)) o.1
-contour-push p earlier ps (defines text) e o = keeps e (makes o.n o.aperture) (contour_at earlier) (point_at earlier) o.is refl
-contour-push p earlier ps nothing e o = keeps e stays (contour_at earlier) (point_at earlier) o refl
-contour-push p earlier ps (refused why) e o = keeps e stays (contour_at earlier) (point_at earlier) o refl
-contour-push p earlier ps (repeats text) e o = keeps e (steps o.next o.pieces) (contour_at earlier) (point_at earlier) o.is refl
-contour-push p earlier ps (functions function layer) e o = keeps e stays (contour_at earlier) (point_at earlier) o refl
-contour-push p earlier ps (formats format) e o = keeps e stays (contour_at earlier) (point_at earlier) o refl
-contour-push p earlier ps (counts_in unit) e o = keeps e stays (contour_at earlier) (point_at earlier) o refl
-contour-push p earlier ps (selects m) e o = keeps e stays (contour_at earlier) (point_at earlier) o refl
-contour-push p earlier ps ends e o = keeps e (concludes o.0) (contour_at earlier) (point_at earlier) o.1 refl
-contour-push p earlier ps (breaks fault) e o = keeps e stays (contour_at earlier) (point_at earlier) o refl
-contour-push p earlier ps finishes e o = keeps e stays (contour_at earlier) (point_at earlier) o refl
+    drawn_is (region_open earlier) (code_of code) o.to e (contour_before earlier) (point_before earlier) o.is ∙ ap (λ (to : Spot). drawn (code_of code) (region_open earlier) (contour_before earlier) (point_before earlier) to) (point_is p earlier ps x y code e o)
+contour-push p earlier ps opens_region e o = ap (λ (f : Effect). contour_after f (contour_before earlier) (point_before earlier)) o
+contour-push p earlier ps closes_region e o = ap (λ (f : Effect). contour_after f (contour_before earlier) (point_before earlier)) o.1
+contour-push p earlier ps (defines text) e o = keeps e (makes o.n o.aperture) (contour_before earlier) (point_before earlier) o.is refl
+contour-push p earlier ps nothing e o = keeps e stays (contour_before earlier) (point_before earlier) o refl
+contour-push p earlier ps (refused why) e o = keeps e stays (contour_before earlier) (point_before earlier) o refl
+contour-push p earlier ps (repeats text) e o = keeps e (steps o.next o.pieces) (contour_before earlier) (point_before earlier) o.is refl
+contour-push p earlier ps (functions function layer) e o = keeps e stays (contour_before earlier) (point_before earlier) o refl
+contour-push p earlier ps (formats format) e o = keeps e stays (contour_before earlier) (point_before earlier) o refl
+contour-push p earlier ps (counts_in unit) e o = keeps e stays (contour_before earlier) (point_before earlier) o refl
+contour-push p earlier ps (selects m) e o = keeps e stays (contour_before earlier) (point_before earlier) o refl
+contour-push p earlier ps ends e o = keeps e (concludes o.0) (contour_before earlier) (point_before earlier) o.1 refl
+contour-push p earlier ps (breaks fault) e o = keeps e stays (contour_before earlier) (point_before earlier) o refl
+contour-push p earlier ps finishes e o = keeps e stays (contour_before earlier) (point_before earlier) o refl
 
 -- an operation and the end of a region leave the dictionary as it was
 operation_keeps : (old new : Dictionary) (inside : Bool) (code : Code) (to : Spot) (e : Effect) → IsEffect inside code to e → Turns old e new → new ≡ old
@@ -116,8 +118,8 @@ keeps_dictionary old new k finishes e o t = subst (λ (f : Effect). Turns old f 
 
 -- The aperture dictionary is found by looking back.
 pub record Found (new : Dictionary) (earlier : List Command) : Type 0 where
-  pub defined : (m : ℕ) → defined_in new m ≡ defined_at earlier m
-  pub size : size_of new ≡ definitions_at earlier
+  pub defined : (m : ℕ) → defined_in new m ≡ defined_before earlier m
+  pub size : size_of new ≡ definitions_before earlier
 
 same_found : (old new : Dictionary) (earlier : List Command) → Found old earlier → new ≡ old → Found new earlier
 same_found old new earlier h same = subst (λ (d : Dictionary). Found d earlier) (sym same) h
@@ -130,7 +132,7 @@ dictionary-push old new p earlier ps (defines text) e h o t u =
       size = adds.more ∙ ap (λ (k : ℕ). k + 1) h.size;
     }
   where
-    by : (b : Bool) (m : ℕ) → cond b (Some o.aperture) (defined_at earlier m) ≡ or_else (cond b (Some o.aperture) None) (defined_at earlier m)
+    by : (b : Bool) (m : ℕ) → cond b (Some o.aperture) (defined_before earlier m) ≡ or_else (cond b (Some o.aperture) None) (defined_before earlier m)
     by true m = refl
     by false m = refl
 dictionary-push old new p earlier ps (operates x y code) e h o t u = let f = same_found old new earlier h u in record { defined = f.defined; size = f.size }
@@ -149,15 +151,15 @@ dictionary-push old new p earlier ps finishes e h o t u = let f = same_found old
 
 -- the reader has obeyed these commands
 pub record State (p : Place) (earlier : List Command) (r : Reader) : Type 0 where
-  pub known : known_of r ≡ known_at p earlier
+  pub known : known_of r ≡ known_before p earlier
   pub counts : r.commands ≡ length earlier
 
 pub same_known : (s s' : Settings) (d d' : ℕ → Option Aperture) (n n' : ℕ) (c c' : List Spot) (i i' : Image) (m m' : Place) → s ≡ s' → d ≡ d' → n ≡ n' → c ≡ c' → i ≡ i' → m ≡ m' → ◌≡◌ {A = Known} (record { settings = s; defined = d; definitions = n; contour = c; pieces = i.pieces; start = i.start; place = m }) (record { settings = s'; defined = d'; definitions = n'; contour = c'; pieces = i'.pieces; start = i'.start; place = m' })
 same_known s s' d d' n n' c c' i i' m m' a b e f g h = cc
 
 -- the pieces of a reader, and how many of them stand before the open block
-abbrev pub image_of : Reader → Image
-image_of r = record { pieces = plain_pieces r.pieces.items; start = r.start }
+abbrev pub reader_image : Reader → Image
+reader_image r = record { pieces = plain_pieces r.pieces.items; start = r.start }
 
 -- the image with an effect
 same_image : (old new earlier : Image) (q p : Place) (m n : ℕ) (e : Effect) (x : Result Effect GerberKind) → new ≡ with_effect q m old (Ok e) → old ≡ earlier → q ≡ p → m ≡ n → Ok e ≡ x → new ≡ with_effect p n earlier x
@@ -170,22 +172,22 @@ new_image i j a b =
 
 -- one command more
 pub state-push : (p : Place) (earlier : List Command) (r : Reader) (c : Command) (new : Reader) → State p earlier r → Obeys r c new → State p (c ∷ earlier) new
-unfolding image_at
+unfolding image_of
 state-push p earlier r c new s o =
     let e : Effect = o.effect_is in
-    let ps : Image = image_at p earlier in
-    let clean : effect (known_at p earlier) c ≡ Ok e = subst (λ (k : Known). effect k c ≡ Ok e) s.known o.clean in
+    let ps : Image = image_of p earlier in
+    let clean : effect (known_before p earlier) c ≡ Ok e = subst (λ (k : Known). effect k c ≡ Ok e) s.known o.clean in
     let did : Outcome (known_with p earlier ps) c e = outcome (known_with p earlier ps) c e clean in
     let place : place_of r ≡ p = ap (λ (k : Known). k.place) s.known in
-    let settings : new.settings ≡ settings_at (c ∷ earlier) = o.settings ∙ ap (λ (t : Settings). after t c (heads e) (opened e)) (ap (λ (k : Known). k.settings) s.known) ∙ settings-push p earlier ps c e did in
+    let settings : new.settings ≡ settings_before (c ∷ earlier) = o.settings ∙ ap (λ (t : Settings). after t c (heads e) (opened e)) (ap (λ (k : Known). k.settings) s.known) ∙ settings-push p earlier ps c e did in
     let had : Found r.dictionary earlier = record { defined = λ m. ap (λ (k : Known). k.defined m) s.known; size = ap (λ (k : Known). k.definitions) s.known } in
     let has : Found new.dictionary (c ∷ earlier) = dictionary-push r.dictionary new.dictionary p earlier ps c e had did o.dictionary (keeps_dictionary r.dictionary new.dictionary (known_with p earlier ps) c e did o.dictionary) in
-    let contour : contour_of new.contour ≡ contour_at (c ∷ earlier) = o.contour ∙ ap (λ (k : Known). contour_after e k.contour k.settings.at) s.known ∙ contour-push p earlier ps c e did in
+    let contour : contour_of new.contour ≡ contour_before (c ∷ earlier) = o.contour ∙ ap (λ (k : Known). contour_after e k.contour k.settings.at) s.known ∙ contour-push p earlier ps c e did in
     let number : r.commands + 1 ≡ length earlier + 1 = ap (λ (k : ℕ). k + 1) s.counts in
-    let same : image_of r ≡ ps = new_image (image_of r) ps (ap (λ (k : Known). k.pieces) s.known) (ap (λ (k : Known). k.start) s.known) in
-    let next : image_of new ≡ with_effect (place_of r) (r.commands + 1) (image_of r) (Ok e) = new_image (image_of new) (with_effect (place_of r) (r.commands + 1) (image_of r) (Ok e)) o.pieces o.start in
-    let image : image_of new ≡ image_at p (c ∷ earlier) = same_image (image_of r) (image_of new) ps (place_of r) p (r.commands + 1) (length earlier + 1) e (effect (known_at p earlier) c) next same place number (sym clean) in
+    let same : reader_image r ≡ ps = new_image (reader_image r) ps (ap (λ (k : Known). k.pieces) s.known) (ap (λ (k : Known). k.start) s.known) in
+    let next : reader_image new ≡ with_effect (place_of r) (r.commands + 1) (reader_image r) (Ok e) = new_image (reader_image new) (with_effect (place_of r) (r.commands + 1) (reader_image r) (Ok e)) o.pieces o.start in
+    let image : reader_image new ≡ image_of p (c ∷ earlier) = same_image (reader_image r) (reader_image new) ps (place_of r) p (r.commands + 1) (length earlier + 1) e (effect (known_before p earlier) c) next same place number (sym clean) in
     record {
-      known = same_known new.settings (settings_at (c ∷ earlier)) (defined_in new.dictionary) (defined_at (c ∷ earlier)) (size_of new.dictionary) (definitions_at (c ∷ earlier)) (contour_of new.contour) (contour_at (c ∷ earlier)) (image_of new) (image_at p (c ∷ earlier)) (place_of new) p settings (fun_ext has.defined) has.size contour image (o.place ∙ place);
+      known = same_known new.settings (settings_before (c ∷ earlier)) (defined_in new.dictionary) (defined_before (c ∷ earlier)) (size_of new.dictionary) (definitions_before (c ∷ earlier)) (contour_of new.contour) (contour_before (c ∷ earlier)) (reader_image new) (image_of p (c ∷ earlier)) (place_of new) p settings (fun_ext has.defined) has.size contour image (o.place ∙ place);
       counts = (let e = o.counts in let f = s.counts in omega arith);
     }

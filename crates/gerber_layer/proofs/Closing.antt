@@ -7,7 +7,8 @@ use Rattle.board_shapes.specs.Pieces.{PlainPiece, plain_pieces}
 use Rattle.regions.specs.Contours.{close_of}
 use Rattle.gerber_layer.specs.declared.kind.Halt.{Halt}
 use Rattle.gerber_layer.specs.declared.reader.Reader.{Reader}
-use Rattle.gerber_layer.specs.Table.{Place, Known, room_for, closing, area_if, made}
+use Rattle.gerber_layer.specs.Table.{Place, Known, room_for, closing, area_if}
+use Rattle.gerber_layer.specs.Image.{made}
 use Rattle.gerber_layer.specs.Reader.{Places, Closes, Stops, contour_of, known_of, place_of}
 
 -- a contour that closes

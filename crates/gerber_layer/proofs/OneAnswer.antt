@@ -7,7 +7,7 @@ use Rattle.gerber_words.proofs.OneCut.{has_words, words_are_unique}
 use Rattle.gerber_layer.specs.Command.{Command}
 use Rattle.gerber_layer.specs.declared.kind.GerberKind.{GerberKind}
 use Rattle.gerber_layer.specs.Table.{Place, Effect, effect}
-use Rattle.gerber_layer.specs.History.{known_at, pieces_at}
+use Rattle.gerber_layer.specs.Image.{known_before, pieces_of}
 use Rattle.gerber_layer.specs.Layer.{Item, items, commands, Clean, IsReadTo, IsRead, IsRefused, HasOneAnswer}
 
 pub record SameWords (v w : List Entry) (s t : Stop) : Type 0 where
@@ -27,8 +27,8 @@ same_items file p e f r s a b =
     let w = same_words file a.words b.words a.stop b.stop a.cut b.cut in
     sym a.split ∙ ap (λ (v : List Entry). items (length file) v a.stop) w.words ∙ ap (λ (t : Stop). items (length file) b.words t) w.stop ∙ b.split
 
-fails : (p : Place) (e : List Command) (c : Command) (why : GerberKind) → IsOk (effect (known_at p e) c) → effect (known_at p e) c ≡ Err why → ⊥
-fails p e c why h k = by (effect (known_at p e) c) h k
+fails : (p : Place) (e : List Command) (c : Command) (why : GerberKind) → IsOk (effect (known_before p e) c) → effect (known_before p e) c ≡ Err why → ⊥
+fails p e c why h k = by (effect (known_before p e) c) h k
   where
     by : (r : Result Effect GerberKind) → IsOk r → r ≡ Err why → ⊥
     by (Ok x) h k = cc
@@ -50,7 +50,7 @@ fronts (x ∷ a) (y ∷ b) r s h =
       | inr w ↦ inr (w.0, (let e : a ≡ b ++ w.0 = w.1 in cc), w.2)
     ]
 
-clean_part : (p : Place) (xs : List Command) (c : Command) (ys : List Command) → Clean p (xs ++ c ∷ ys) → IsOk (effect (known_at p ys) c)
+clean_part : (p : Place) (xs : List Command) (c : Command) (ys : List Command) → Clean p (xs ++ c ∷ ys) → IsOk (effect (known_before p ys) c)
 clean_part p [] c ys h = h.0
 clean_part p (x ∷ xs) c ys h = clean_part p xs c ys h.1
 
@@ -58,7 +58,7 @@ same_reverse : (e f : List Item) → reverse e ≡ reverse f → e ≡ f
 same_reverse e f h = sym (reverse-reverse e) ∙ ap reverse h ∙ reverse-reverse f
 
 -- where one reading goes on past the other, the next command has no fault
-past : (p : Place) (e f : List Item) (i : Item) (t : List Item) → reverse f ≡ reverse e ++ (i ∷ t) → Clean p (commands f) → IsOk (effect (known_at p (commands e)) i.command)
+past : (p : Place) (e f : List Item) (i : Item) (t : List Item) → reverse f ≡ reverse e ++ (i ∷ t) → Clean p (commands f) → IsOk (effect (known_before p (commands e)) i.command)
 past p e f i t h clean =
     let a : f ≡ reverse (reverse e ++ (i ∷ t)) = sym (reverse-reverse f) ∙ ap reverse h in
     let b : reverse (reverse e ++ (i ∷ t)) ≡ reverse (i ∷ t) ++ e = reverse-append (reverse e) (i ∷ t) ∙ ap (λ (x : List Item). reverse (i ∷ t) ++ x) (reverse-reverse e) in
@@ -85,7 +85,7 @@ apart file p pieces why number place a b =
         some (i ∷ t) h k =
             let same : i ≡ b.item = cc in
             let ok = past p b.earlier a.earlier i t h a.whole.clean in
-            fails p (commands b.earlier) b.item.command why (subst (λ (j : Item). IsOk (effect (known_at p (commands b.earlier)) j.command)) same ok) b.is
+            fails p (commands b.earlier) b.item.command why (subst (λ (j : Item). IsOk (effect (known_before p (commands b.earlier)) j.command)) same ok) b.is
 
 same_list : (file : List ℕ) (p : Place) (pieces others : List PlainPiece) → IsRead file p pieces → IsRead file p others → pieces ≡ others
 unfolding Fronts
@@ -93,7 +93,7 @@ same_list file p pieces others a b =
     by (fronts (reverse a.earlier) (reverse b.earlier) [] [] (same_items file p a.earlier b.earlier [] [] a.whole b.whole))
   where
     at_once : reverse a.earlier ≡ reverse b.earlier → pieces ≡ others
-    at_once h = a.are ∙ ap (λ (e : List Item). pieces_at p (commands e)) (same_reverse a.earlier b.earlier h) ∙ sym b.are
+    at_once h = a.are ∙ ap (λ (e : List Item). pieces_of p (commands e)) (same_reverse a.earlier b.earlier h) ∙ sym b.are
 
     by : Fronts (reverse a.earlier) (reverse b.earlier) [] [] → pieces ≡ others
     by (inl w) = left w.0 w.1 w.2
@@ -119,7 +119,7 @@ same_fault file p why other number n place q a b =
     at_once h k =
         let e : a.earlier ≡ b.earlier = same_reverse a.earlier b.earlier h in
         let i : a.item ≡ b.item = cc in
-        let f : Err why ≡ Err other = sym a.is ∙ ap (λ (x : List Item). effect (known_at p (commands x)) a.item.command) e ∙ ap (λ (x : Item). effect (known_at p (commands b.earlier)) x.command) i ∙ b.is in
+        let f : Err why ≡ Err other = sym a.is ∙ ap (λ (x : List Item). effect (known_before p (commands x)) a.item.command) e ∙ ap (λ (x : Item). effect (known_before p (commands b.earlier)) x.command) i ∙ b.is in
         ((cc), a.counts ∙ ap (λ (x : List Item). length x + 1) e ∙ sym b.counts, a.at ∙ ap (λ (x : Item). x.at) i ∙ sym b.at)
 
     by : Fronts (reverse a.earlier) (reverse b.earlier) (a.item ∷ a.later) (b.item ∷ b.later) → SameFault why other number n place q
@@ -130,7 +130,7 @@ same_fault file p why other number n place q a b =
         left (i ∷ t) h k =
             let same : i ≡ a.item = cc in
             let ok = past p a.earlier b.earlier i t h b.first.clean in
-            absurd (fails p (commands a.earlier) a.item.command why (subst (λ (j : Item). IsOk (effect (known_at p (commands a.earlier)) j.command)) same ok) a.is)
+            absurd (fails p (commands a.earlier) a.item.command why (subst (λ (j : Item). IsOk (effect (known_before p (commands a.earlier)) j.command)) same ok) a.is)
     by (inr w) = right w.0 w.1 w.2
       where
         right : (t : List Item) → reverse a.earlier ≡ reverse b.earlier ++ t → b.item ∷ b.later ≡ t ++ (a.item ∷ a.later) → SameFault why other number n place q
@@ -138,7 +138,7 @@ same_fault file p why other number n place q a b =
         right (i ∷ t) h k =
             let same : i ≡ b.item = cc in
             let ok = past p b.earlier a.earlier i t h a.first.clean in
-            absurd (fails p (commands b.earlier) b.item.command other (subst (λ (j : Item). IsOk (effect (known_at p (commands b.earlier)) j.command)) same ok) b.is)
+            absurd (fails p (commands b.earlier) b.item.command other (subst (λ (j : Item). IsOk (effect (known_before p (commands b.earlier)) j.command)) same ok) b.is)
 
 Answer : List ℕ → Place → Type 0
 Answer file p = ((pieces : List PlainPiece) × IsRead file p pieces) ⊎ ((why : GerberKind) × (number : ℕ) × (place : ℕ) × IsRefused file p why number place)
@@ -149,7 +149,7 @@ turn earlier i rest = sym (ap (λ (xs : List Item). xs ++ rest) (reverse-append 
 walk : (file : List ℕ) (p : Place) (words : List Entry) (stop : Stop) → HasWords (start file) words stop → (rest earlier : List Item) → items (length file) words stop ≡ reverse earlier ++ rest → Clean p (commands earlier) → Answer file p
 unfolding Answer
 walk file p words stop cut [] earlier split clean = inl (
-  pieces_at p (commands earlier),
+  pieces_of p (commands earlier),
   record {
     earlier = earlier;
     whole = record { words = words; stop = stop; cut = cut; split = split; clean = clean };
@@ -157,9 +157,9 @@ walk file p words stop cut [] earlier split clean = inl (
   },
 )
 walk file p words stop cut (i ∷ rest) earlier split clean =
-    by (effect (known_at p (commands earlier)) i.command) refl (walk file p words stop cut rest (i ∷ earlier) (split ∙ turn earlier i rest))
+    by (effect (known_before p (commands earlier)) i.command) refl (walk file p words stop cut rest (i ∷ earlier) (split ∙ turn earlier i rest))
   where
-    by : (r : Result Effect GerberKind) → effect (known_at p (commands earlier)) i.command ≡ r → (Clean p (commands (i ∷ earlier)) → Answer file p) → Answer file p
+    by : (r : Result Effect GerberKind) → effect (known_before p (commands earlier)) i.command ≡ r → (Clean p (commands (i ∷ earlier)) → Answer file p) → Answer file p
     by (Ok x) e more = more ((rw e refl), clean)
     by (Err why) e more = inr (
       why,

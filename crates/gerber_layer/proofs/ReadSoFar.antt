@@ -16,10 +16,11 @@ use Rattle.gerber_layer.specs.declared.kind.Halt.TheVariants as halt
 use Rattle.gerber_layer.specs.declared.kind.LayerFault.{LayerFault}
 use Rattle.gerber_layer.specs.declared.reader.Reader.{Reader}
 use Rattle.gerber_layer.specs.Table.{Place, Known, Effect, effect}
-use Rattle.gerber_layer.specs.History.{known_at, image_at, pieces_at, settings_at, defined_at}
+use Rattle.gerber_layer.specs.Settings.{settings_before, defined_before}
+use Rattle.gerber_layer.specs.Image.{known_before, image_of, pieces_of}
 use Rattle.gerber_layer.specs.Layer.{Item, item_of, stop_item, items, commands, Clean, IsRead, IsRefused, IsFault}
 use Rattle.gerber_layer.specs.Reader.{known_of, contour_of, defined_in, place_of, size_of, Obeys, IsNew, Stops, fault_at, Leaves, Faults}
-use Rattle.gerber_layer.proofs.Bridge.{State, image_of, state-push, same_known}
+use Rattle.gerber_layer.proofs.Bridge.{State, reader_image, state-push, same_known}
 
 -- whatever words follow, the file's commands are the earlier ones and theirs
 pub record Extends (file : List ℕ) (earlier : List Item) (words : List Entry) (stop : Stop) : Type 0 where
@@ -37,13 +38,13 @@ turn : (earlier : List Item) (i : Item) (rest : List Item) → reverse earlier +
 turn earlier i rest = sym (ap (λ (xs : List Item). xs ++ rest) (reverse-append (i ∷ []) earlier) ∙ append_assoc (reverse earlier) (i ∷ []) rest)
 
 pub read-start : (file : List ℕ) (p : Place) (r : Reader) → IsNew p r → ReadSoFar file p (start file) r
-unfolding image_at
+unfolding image_of
 read-start file p r n = record {
   earlier = [];
   extends = λ words stop h. record { all = words; cut = h; split = refl };
   clean = tt;
   state = record {
-    known = same_known r.settings (settings_at []) (defined_in r.dictionary) (defined_at []) (size_of r.dictionary) 0 (contour_of r.contour) [] (image_of r) (image_at p []) (place_of r) p n.settings (fun_ext n.defined) n.size n.contour (let a = ap plain_pieces n.pieces in let b = n.start in cc) n.place;
+    known = same_known r.settings (settings_before []) (defined_in r.dictionary) (defined_before []) (size_of r.dictionary) 0 (contour_of r.contour) [] (reader_image r) (image_of p []) (place_of r) p n.settings (fun_ext n.defined) n.size n.contour (let a = ap plain_pieces n.pieces in let b = n.start in cc) n.place;
     counts = n.counts;
   };
 }
@@ -58,7 +59,7 @@ read-word file p old new w r r' s next o = record {
   extends = λ words stop h.
       let x = s.extends (w ∷ words) stop (next words stop h) in
       record { all = x.all; cut = x.cut; split = x.split ∙ turn s.earlier (item_of w) (items (length file) words stop) };
-  clean = (is_ok (known_of r) (known_at p (commands s.earlier)) (command_of w) o.effect_is s.state.known o.clean, s.clean);
+  clean = (is_ok (known_of r) (known_before p (commands s.earlier)) (command_of w) o.effect_is s.state.known o.clean, s.clean);
   state = state-push p (commands s.earlier) r (command_of w) r' s.state o;
 }
 
@@ -92,7 +93,7 @@ read-stop file p old stop r r' s h o =
         stop = stop;
         cut = x.cut;
         split = x.split ∙ turn s.earlier (stop_item (length file) stop) [];
-        clean = (is_ok (known_of r) (known_at p (commands s.earlier)) (stop_item (length file) stop).command o.effect_is s.state.known o.clean, s.clean);
+        clean = (is_ok (known_of r) (known_before p (commands s.earlier)) (stop_item (length file) stop).command o.effect_is s.state.known o.clean, s.clean);
       };
       are = ap (λ (k : Known). k.pieces) last.known;
     }

@@ -8,7 +8,7 @@ use Rattle.gerber_layer.specs.declared.kind.GerberKind.{GerberKind}
 use Rattle.gerber_layer.specs.declared.kind.LayerFault.{LayerFault}
 use Rattle.gerber_layer.specs.declared.kind.LayerFault.TheVariants as layer
 use Rattle.gerber_layer.specs.Table.{Place, effect}
-use Rattle.gerber_layer.specs.History.{known_at, pieces_at}
+use Rattle.gerber_layer.specs.Image.{known_before, pieces_of}
 
 -- a command with its place
 pub record Item : Type 0 where
@@ -33,7 +33,7 @@ commands items = map (λ i. i.command) items
 -- no command of a history has a fault
 abbrev pub Clean : Place → List Command → Type 0
 Clean p [] = Unit {0}
-Clean p (c ∷ earlier) = IsOk (effect (known_at p earlier) c) × Clean p earlier
+Clean p (c ∷ earlier) = IsOk (effect (known_before p earlier) c) × Clean p earlier
 
 -- The file's commands are the earlier ones, of which the last is first, and those from one on. None of the earlier has a fault.
 pub record IsReadTo (file : List ℕ) (p : Place) (earlier rest : List Item) : Type 0 where
@@ -47,7 +47,7 @@ pub record IsReadTo (file : List ℕ) (p : Place) (earlier rest : List Item) : T
 pub record IsRead (file : List ℕ) (p : Place) (pieces : List PlainPiece) : Type 0 where
   pub earlier : List Item
   pub whole : IsReadTo file p earlier []
-  pub are : pieces ≡ pieces_at p (commands earlier)
+  pub are : pieces ≡ pieces_of p (commands earlier)
 
 -- the first command with a fault, its number and its place
 pub record IsRefused (file : List ℕ) (p : Place) (fault : GerberKind) (number place : ℕ) : Type 0 where
@@ -55,7 +55,7 @@ pub record IsRefused (file : List ℕ) (p : Place) (fault : GerberKind) (number 
   pub item : Item
   pub later : List Item
   pub first : IsReadTo file p earlier (item ∷ later)
-  pub is : effect (known_at p (commands earlier)) item.command ≡ Err fault
+  pub is : effect (known_before p (commands earlier)) item.command ≡ Err fault
   pub counts : number ≡ length earlier + 1
   pub at : place ≡ item.at
 

@@ -22,10 +22,12 @@ use Rattle.gerber_layer.specs.declared.effect.Effect.{Effect as Seen}
 use Rattle.gerber_layer.specs.declared.effect.Effect.TheVariants as seen
 use Rattle.gerber_layer.specs.declared.dictionary.Dictionary.{Dictionary}
 use Rattle.gerber_layer.specs.declared.reader.Reader.{Reader}
-use Rattle.gerber_layer.specs.Table.{Place, Known, Effect, stays, makes, performs, extends, closes, opens, leaves, steps, concludes, effect, after, closing, contour_after, edges_of, ended_block, extend, flash_by, heads, made, opened, pieces_after, room_for, start_after, ◌>>=◌}
+use Rattle.gerber_layer.specs.Table.{Place, Known, Effect, stays, makes, performs, extends, closes, opens, leaves, steps, concludes, effect, closing, edges_of, ended_block, extend, flash_by, room_for, ◌>>=◌}
+use Rattle.gerber_layer.specs.After.{after, contour_after, heads, opened}
+use Rattle.gerber_layer.specs.Image.{made, pieces_after, start_after}
 use Rattle.gerber_layer.specs.Lawful.{AreLawfulSettings}
 use Rattle.gerber_layer.specs.Command.{Command}
-use Rattle.gerber_layer.specs.History.{settings_at}
+use Rattle.gerber_layer.specs.Settings.{settings_before}
 
 -- the aperture that n is defined as, and how many are defined
 abbrev pub defined_in : Dictionary → ℕ → Option Aperture
@@ -201,7 +203,7 @@ pub record EndsBlock (old new : Reader) : Type 0 where
 
 -- a reader that has obeyed nothing
 pub record IsNew (p : Place) (r : Reader) : Type 0 where
-  pub settings : r.settings ≡ settings_at []
+  pub settings : r.settings ≡ settings_before []
   pub defined : (n : ℕ) → defined_in r.dictionary n ≡ None
   pub size : size_of r.dictionary ≡ 0
   pub contour : contour_of r.contour ≡ []

@@ -3,6 +3,8 @@ ghost use Rattle.std.specs.Prelude.{◌≡◌, ◌+◌, ◌^◌, ◌<◌, IfErr,
 ghost use Rattle.gerber_layer.specs.Command.{operates, view};
 ghost use Rattle.gerber_layer.specs.Lawful.{IsLawfulCommand};
 ghost use Rattle.gerber_layer.specs.Reader.{IsLawfulReader, Obeys, Stops, known_of, leads, opens_block};
+ghost use Rattle.gerber_layer.specs.After.{after};
+ghost use Rattle.gerber_layer.specs.Settings.{keep_first};
 ghost use Rattle.gerber_layer.specs.Table as spec;
 
 use crate::command::{Code, Command, Format};
@@ -70,7 +72,7 @@ impl Reader {
 }
 
 fn first_format(first: Option<Format>, format: Format) -> Option<Format>
-    ensures { result ≡ spec.keep_first (Some format) first }
+    ensures { result ≡ keep_first (Some format) first }
 {
     match first {
         None => Some(format),
@@ -79,7 +81,7 @@ fn first_format(first: Option<Format>, format: Format) -> Option<Format>
 }
 
 fn first_unit(first: Option<Unit>, unit: Unit) -> Option<Unit>
-    ensures { result ≡ spec.keep_first (Some unit) first }
+    ensures { result ≡ keep_first (Some unit) first }
 {
     match first {
         None => Some(unit),
@@ -89,7 +91,7 @@ fn first_unit(first: Option<Unit>, unit: Unit) -> Option<Unit>
 
 // The settings behind a command that has no fault, by where it leads and the block that it opens.
 fn after(settings: Settings, command: &Command, to: Option<Spot>, next: Option<Repeat>) -> Settings
-    ensures { result ≡ spec.after settings (view command.now) to next }
+    ensures { result ≡ after settings (view command.now) to next }
 {
     match *command {
         Command::Format(format) => Settings {
@@ -131,7 +133,7 @@ fn after(settings: Settings, command: &Command, to: Option<Spot>, next: Option<R
 }
 
 fn performed(settings: Settings, code: Option<Code>, to: Option<Spot>) -> Settings
-    ensures { result ≡ spec.after settings (operates None None code) to None }
+    ensures { result ≡ after settings (operates None None code) to None }
 {
     match to {
         Some(to) => Settings {

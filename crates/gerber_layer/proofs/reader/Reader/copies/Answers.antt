@@ -1,11 +1,10 @@
-use Rattle.std.proofs.Common.{◌≤◌, length, take, drop, arith}
-use Rattle.std.proofs.lemmas.List.{length-map}
-use Rattle.board_shapes.specs.Pieces.{plain_piece, plain_pieces}
+use Rattle.std.proofs.Common.{take, drop, arith}
+use Rattle.board_shapes.specs.Pieces.{plain_pieces}
 use Rattle.step_repeat.specs.Copies.{copies_at}
 use Rattle.step_repeat.specs.declared.fault.CopyFault.TheVariants as copy
 use Rattle.gerber_layer.specs.Reader.{known_of}
 use Rattle.gerber_layer.specs.Table.{left}
-use Rattle.gerber_layer.proofs.Copies.{copies_few, stops_copies}
+use Rattle.gerber_layer.proofs.Copies.{stops_copies}
 use Rattle.gerber_layer.proofs.reader.Reader.copies.Goals as goal
 
 pub returns-in-Ok-clause-ok : goal.returns-in-Ok-clause-ok
@@ -13,10 +12,7 @@ returns-in-Ok-clause-ok c =
     rw (c.block.ensures.pieces, c.left.ensures) at c.in-Ok.ensures.ok
 
 pub returns-in-Ok-clause-few : goal.returns-in-Ok-clause-few
-returns-in-Ok-clause-few c =
-    let made = rw (c.block.ensures.pieces, c.left.ensures) at c.in-Ok.ensures.ok in
-    let few = copies_few c.args.block (left (known_of c.args.self.now)) (drop c.args.self.now.start (plain_pieces c.args.self.now.pieces.items)) (plain_pieces c.in-Ok.copies.items) made in
-    omega (arith, few, length-map c.in-Ok.copies.items plain_piece)
+returns-in-Ok-clause-few c = let few = rw c.left.ensures at c.in-Ok.ensures.few in omega (arith, few)
 
 pub returns-in-Err-TooManyPieces-clause-halt : goal.returns-in-Err-TooManyPieces-clause-halt
 returns-in-Err-TooManyPieces-clause-halt c =

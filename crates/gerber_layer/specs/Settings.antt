@@ -2,7 +2,6 @@
 use Rattle.std.specs.Prelude.{ℕ, ◌+◌, Bool, true, false, ◌||◌, ◌==◌, if◌then◌else◌, List, [], ◌∷◌, ◌++◌, length, ℤ, pos, Option, Some, None, Result, Ok, Err}
 use Rattle.lengths.specs.declared.decimal.Unit.{Unit as Measure}
 use Rattle.planar.specs.declared.Spot.{Spot}
-use Rattle.board_shapes.specs.Pieces.{PlainPiece}
 use Rattle.apertures.specs.declared.aperture.Aperture.{Aperture}
 use Rattle.apertures.specs.declared.fault.ApertureFault.{ApertureFault}
 use Rattle.apertures.specs.Reading.{aperture_at}
@@ -13,7 +12,13 @@ use Rattle.gerber_layer.specs.declared.command.Code.{Code}
 use Rattle.gerber_layer.specs.declared.command.Code.TheVariants.{Draw, Move, Flash}
 use Rattle.gerber_layer.specs.declared.command.Format.{Format}
 use Rattle.gerber_layer.specs.declared.settings.Settings.{Settings}
-use Rattle.gerber_layer.specs.Table.{Place, Known, Effect, code_of, coordinate, effect, keep_first, lengthened, next_block, pieces_after, start_after}
+use Rattle.gerber_layer.specs.Table.{code_of, coordinate, next_block}
+
+-- what was set first, if anything was, and otherwise what a command sets
+abbrev pub keep_first : {A : Type 0} → Option A → Option A → Option A
+keep_first None first = first
+keep_first (Some x) None = Some x
+keep_first (Some x) (Some first) = Some first
 
 -- the first of two that is there
 abbrev pub or_else : {A : Type 0} → Option A → Option A → Option A
@@ -54,26 +59,26 @@ is_definition (defines text) = true
 is_definition other = false
 
 -- how many definitions stand before
-abbrev pub definitions_at : List Command → ℕ
-definitions_at [] = 0
-definitions_at (c ∷ earlier) = if is_definition c then definitions_at earlier + 1 else definitions_at earlier
+abbrev pub definitions_before : List Command → ℕ
+definitions_before [] = 0
+definitions_before (c ∷ earlier) = if is_definition c then definitions_before earlier + 1 else definitions_before earlier
 
 -- the first format and unit, and the last selection and operation
-abbrev pub format_at : List Command → Option Format
-format_at [] = None
-format_at (c ∷ earlier) = keep_first (format_in c) (format_at earlier)
+abbrev pub format_before : List Command → Option Format
+format_before [] = None
+format_before (c ∷ earlier) = keep_first (format_in c) (format_before earlier)
 
-abbrev pub unit_at : List Command → Option Measure
-unit_at [] = None
-unit_at (c ∷ earlier) = keep_first (unit_in c) (unit_at earlier)
+abbrev pub unit_before : List Command → Option Measure
+unit_before [] = None
+unit_before (c ∷ earlier) = keep_first (unit_in c) (unit_before earlier)
 
-abbrev pub selection_at : List Command → Option ℕ
-selection_at [] = None
-selection_at (c ∷ earlier) = or_else (selection_in c) (selection_at earlier)
+abbrev pub aperture_before : List Command → Option ℕ
+aperture_before [] = None
+aperture_before (c ∷ earlier) = or_else (selection_in c) (aperture_before earlier)
 
-abbrev pub operation_at : List Command → Option Code
-operation_at [] = None
-operation_at (c ∷ earlier) = or_else (code_in c) (operation_at earlier)
+abbrev pub operation_before : List Command → Option Code
+operation_before [] = None
+operation_before (c ∷ earlier) = or_else (code_in c) (operation_before earlier)
 
 -- what a command says of whether a region is open
 abbrev pub region_in : Command → Option Bool
@@ -86,9 +91,9 @@ latest (Some x) earlier = x
 latest None earlier = earlier
 
 -- a region is open where the last `G36` stands after the last `G37`
-abbrev pub region_at : List Command → Bool
-region_at [] = false
-region_at (c ∷ earlier) = latest (region_in c) (region_at earlier)
+abbrev pub region_open : List Command → Bool
+region_open [] = false
+region_open (c ∷ earlier) = latest (region_in c) (region_open earlier)
 
 -- the block that a step and repeat word opens, if it has parameters
 abbrev pub ok_block : Result (Option Repeat) GerberKind → Option Repeat
@@ -100,9 +105,9 @@ block_in (repeats text) unit = Some (ok_block (next_block unit text))
 block_in other unit = None
 
 -- a block is open where the last `SR` word has parameters
-abbrev pub block_at : List Command → Option Repeat
-block_at [] = None
-block_at (c ∷ earlier) = latest (block_in c (unit_at earlier)) (block_at earlier)
+abbrev pub block_open : List Command → Option Repeat
+block_open [] = None
+block_open (c ∷ earlier) = latest (block_in c (unit_before earlier)) (block_open earlier)
 
 abbrev pub has_ended : List Command → Bool
 has_ended [] = false
@@ -120,29 +125,34 @@ value_in (Some digits) (Some format) None here = here
 value_in (Some digits) None unit here = here
 
 -- the value of the last coordinate, or 0
-abbrev pub x_at : List Command → ℤ
-x_at [] = pos 0
-x_at (c ∷ earlier) = value_in (x_in c) (format_at earlier) (unit_at earlier) (x_at earlier)
+abbrev pub x_before : List Command → ℤ
+x_before [] = pos 0
+x_before (c ∷ earlier) = value_in (x_in c) (format_before earlier) (unit_before earlier) (x_before earlier)
 
-abbrev pub y_at : List Command → ℤ
-y_at [] = pos 0
-y_at (c ∷ earlier) = value_in (y_in c) (format_at earlier) (unit_at earlier) (y_at earlier)
+abbrev pub y_before : List Command → ℤ
+y_before [] = pos 0
+y_before (c ∷ earlier) = value_in (y_in c) (format_before earlier) (unit_before earlier) (y_before earlier)
 
 -- the current point
-abbrev pub point_at : List Command → Spot
-point_at earlier = record { x = x_at earlier; y = y_at earlier }
+abbrev pub point_before : List Command → Spot
+point_before earlier = record { x = x_before earlier; y = y_before earlier }
 
-abbrev pub settings_at : List Command → Settings
-settings_at earlier = record {
-  format = format_at earlier;
-  unit = unit_at earlier;
-  selected = selection_at earlier;
-  at = point_at earlier;
-  last = operation_at earlier;
-  region = region_at earlier;
-  block = block_at earlier;
+abbrev pub settings_before : List Command → Settings
+settings_before earlier = record {
+  format = format_before earlier;
+  unit = unit_before earlier;
+  selected = aperture_before earlier;
+  at = point_before earlier;
+  last = operation_before earlier;
+  region = region_open earlier;
+  block = block_open earlier;
   ended = has_ended earlier;
 }
+
+-- a contour with one more edge, which begins at the current point before its first one
+abbrev pub lengthened : List Spot → Spot → Spot → List Spot
+lengthened [] from to = from ∷ to ∷ []
+lengthened (a ∷ rest) from to = (a ∷ rest) ++ to ∷ []
 
 -- The contour so far: the current point before the first `D01` in the open region since the last `G36` or `D02`, and where each leads.
 abbrev pub drawn : Code → Bool → List Spot → Spot → Spot → List Spot
@@ -158,9 +168,9 @@ contour_by opens_region inside contour from to = []
 contour_by closes_region inside contour from to = []
 contour_by other inside contour from to = contour
 
-abbrev pub contour_at : List Command → List Spot
-contour_at [] = []
-contour_at (c ∷ earlier) = contour_by c (region_at earlier) (contour_at earlier) (point_at earlier) (point_at (c ∷ earlier))
+abbrev pub contour_before : List Command → List Spot
+contour_before [] = []
+contour_before (c ∷ earlier) = contour_by c (region_open earlier) (contour_before earlier) (point_before earlier) (point_before (c ∷ earlier))
 
 -- what a definition defines n as
 abbrev pub as_number : ℕ → Result (ℕ × Aperture) ApertureFault → Option Aperture
@@ -173,38 +183,6 @@ definition_in (defines text) None n = None
 definition_in other unit n = None
 
 -- the aperture that n is defined as
-abbrev pub defined_at : List Command → ℕ → Option Aperture
-defined_at [] n = None
-defined_at (c ∷ earlier) n = or_else (definition_in c (unit_at earlier) n) (defined_at earlier n)
-
--- the pieces so far, and how many of them stand before the open block
-pub record Image : Type 0 where
-  pub pieces : List PlainPiece
-  pub start : ℕ
-
-abbrev pub with_effect : Place → ℕ → Image → Result Effect GerberKind → Image
-with_effect p number image (Ok e) = record { pieces = pieces_after p number image.pieces e; start = start_after image.start e }
-with_effect p number image (Err fault) = image
-
--- what is known before the next command, with the image so far
-abbrev pub known_with : Place → List Command → Image → Known
-known_with p earlier image = record {
-  settings = settings_at earlier;
-  defined = defined_at earlier;
-  definitions = definitions_at earlier;
-  contour = contour_at earlier;
-  pieces = image.pieces;
-  start = image.start;
-  place = p;
-}
-
--- The image of the commands: the pieces that they make, in order. Those of a block give way to its copies where it ends.
-unfoldable pub image_at : Place → List Command → Image
-image_at p [] = record { pieces = []; start = 0 }
-image_at p (c ∷ earlier) = with_effect p (length earlier + 1) (image_at p earlier) (effect (known_with p earlier (image_at p earlier)) c)
-
-abbrev pub pieces_at : Place → List Command → List PlainPiece
-pieces_at p earlier = (image_at p earlier).pieces
-
-abbrev pub known_at : Place → List Command → Known
-known_at p earlier = known_with p earlier (image_at p earlier)
+abbrev pub defined_before : List Command → ℕ → Option Aperture
+defined_before [] n = None
+defined_before (c ∷ earlier) n = or_else (definition_in c (unit_before earlier) n) (defined_before earlier n)
