@@ -1,5 +1,5 @@
 // Reads a layer.
-ghost use Rattle.std.specs.Prelude.{◌≡◌, ◌+◌, ◌^◌, ◌<◌, ◌≤◌, length, IfOk, IfErr, IsSomeAnd};
+ghost use Rattle.std.specs.Prelude.{◌≡◌, ◌+◌, ◌^◌, ◌<◌, ◌≤◌, length, All, IfOk, IfErr, IsSomeAnd};
 ghost use Rattle.board_shapes.specs.Pieces.{plain_pieces};
 ghost use Rattle.gerber_layer.specs.Command.{view};
 ghost use Rattle.gerber_layer.specs.Lawful.{IsLawfulCommand};
@@ -73,6 +73,7 @@ fn finished(
     requires command { IsLawfulCommand (view command) }
     requires few { reader.commands + 1 < 2 ^ 32 }
     ensures ok { IfOk result (λ pieces. Leaves reader (view command.entry) pieces.items) }
+    ensures few { IfOk result (λ pieces. length pieces.items ≤ reader.room.pieces) }
     ensures fault { IfErr result (Faults reader (view command.entry) at) }
 {
     let number = reader.commands + 1;
@@ -93,6 +94,8 @@ pub fn read_layer(
     requires layer { (1 ≤ layer) × (layer ≤ 32) }
     requires size { length file.now ≤ 67_108_864 }
     ensures ok { IfOk result (λ pieces. IsRead file.now (record { layer = layer; file = file_number; room = room }) (plain_pieces pieces.items)) }
+    ensures few { IfOk result (λ pieces. length pieces.items ≤ room.pieces) }
+    ensures layers { IfOk result (λ pieces. All (λ piece. (piece.top ≡ layer) × (piece.bottom ≡ layer)) pieces.items) }
     ensures fault { IfErr result (IsFault file.now (record { layer = layer; file = file_number; room = room })) }
 {
     let mut words = Words::new(file);
