@@ -4,7 +4,7 @@ use Rattle.board_io.specs.Package.{Files}
 use Rattle.board_shapes.specs.Plain.{PlainBoard, PlainPiece, common_box, FitsFrame, Fits}
 use Rattle.board_shapes.specs.declared.probe.Probe.{Probe}
 use Rattle.contact.specs.declared.Bounds.{Bounds}
-use Rattle.gerber_layer.specs.History.{Place as LayerPlace}
+use Rattle.gerber_layer.specs.Table.{Place as LayerPlace}
 use Rattle.gerber_layer.specs.Layer as layer_file
 use Rattle.gerber_layer.specs.declared.kind.Fault.TheVariants as gerber
 use Rattle.xnc.specs.Place.{Place as DrillPlace}

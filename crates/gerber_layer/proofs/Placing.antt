@@ -18,8 +18,8 @@ use Rattle.gerber_layer.specs.declared.kind.GerberKind.{GerberKind}
 use Rattle.gerber_layer.specs.declared.kind.GerberKind.TheVariants as kind
 use Rattle.gerber_layer.specs.declared.command.Code.{Code}
 use Rattle.gerber_layer.specs.declared.command.Code.TheVariants.{Draw, Move, Flash}
-use Rattle.gerber_layer.specs.Table.{Place, Known, Effect, stays, makes, performs, extends, closes, opens, leaves, steps, concludes, ◌>>=◌, as_copies, kind_of_copy, with_copies, left, ended_block, next_block, repeat, row, effect, made, pieces_after, code_of}
-use Rattle.gerber_layer.specs.History.{image_at, pieces_at, known_at, with_effect}
+use Rattle.gerber_layer.specs.Table.{Place, Known, Effect, stays, makes, performs, extends, closes, opens, leaves, steps, concludes, ◌>>=◌, as_copies, kind_of_copy, with_copies, left, ended_block, next_block, repeat, row, effect, code_of}
+use Rattle.gerber_layer.specs.Image.{image_of, pieces_of, known_before, made, pieces_after, with_effect}
 use Rattle.gerber_layer.specs.Layer.{IsRead, commands}
 use Rattle.gerber_layer.proofs.Outcome.{bind_ok, past_test, outcome, IsEffect}
 
@@ -131,13 +131,13 @@ effect_on p k n other e on h = simple_on p n k.pieces e (simple_by e stays (outc
 
 -- ---- A file
 
-pieces_on : (p : Place) (earlier : List Command) → All (OnLayer p) (pieces_at p earlier)
-unfolding image_at
+pieces_on : (p : Place) (earlier : List Command) → All (OnLayer p) (pieces_of p earlier)
+unfolding image_of
 pieces_on p [] = All-nil (OnLayer p)
-pieces_on p (c ∷ earlier) = by (pieces_on p earlier) (effect (known_at p earlier) c) refl
+pieces_on p (c ∷ earlier) = by (pieces_on p earlier) (effect (known_before p earlier) c) refl
   where
-    by : All (OnLayer p) (pieces_at p earlier) → (r : Result Effect GerberKind) → effect (known_at p earlier) c ≡ r → All (OnLayer p) (with_effect p (length earlier + 1) (image_at p earlier) r).pieces
-    by on (Ok e) is = effect_on p (known_at p earlier) (length earlier + 1) c e on is
+    by : All (OnLayer p) (pieces_of p earlier) → (r : Result Effect GerberKind) → effect (known_before p earlier) c ≡ r → All (OnLayer p) (with_effect p (length earlier + 1) (image_of p earlier) r).pieces
+    by on (Ok e) is = effect_on p (known_before p earlier) (length earlier + 1) c e on is
     by on (Err fault) is = on
 
 -- what holds of each of the plain pieces holds of the pieces
