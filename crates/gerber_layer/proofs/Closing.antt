@@ -41,10 +41,10 @@ closes_after (Ok done) old bare new points a b c d e f g h p r = record {
   dictionary = p.dictionary ∙ b;
   contour = ap contour_of p.contour ∙ c;
   pieces =
-    p.pieces
-    ∙ ap (λ v. plain_pieces v.items ++ made (place_of bare) (bare.commands + 1) (Some (filled points))) d
-    ∙ ap (λ (t : Place). plain_pieces old.pieces.items ++ made t (bare.commands + 1) (Some (filled points))) f
-    ∙ ap (λ (n : ℕ). plain_pieces old.pieces.items ++ made (place_of old) (n + 1) (Some (filled points))) e;
+      p.pieces
+      ∙ ap (λ v. plain_pieces v.items ++ made (place_of bare) (bare.commands + 1) (Some (filled points))) d
+      ∙ ap (λ (t : Place). plain_pieces old.pieces.items ++ made t (bare.commands + 1) (Some (filled points))) f
+      ∙ ap (λ (n : ℕ). plain_pieces old.pieces.items ++ made (place_of old) (n + 1) (Some (filled points))) e;
   start = p.start ∙ g;
   counts = p.counts ∙ e;
   place = p.place ∙ f;

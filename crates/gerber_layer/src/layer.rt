@@ -83,7 +83,12 @@ fn finished(
     }
 }
 
-/// The pieces of a layer's copper, in order, or the first faulty command.
+/// The pieces of a layer's copper, in the order of the commands that make them; all lengths are in u,
+/// a tenth of a nanometre.
+///
+/// `layer` is from 1 to 32 and stands as span and in the file's function; `file_number` goes into the
+/// origins; `room` says how many pieces and edges may still come. `Refused` is the first command with
+/// a fault, and the first condition of its row that holds; want of memory is `NoMemory`.
 pub fn read_layer(
     alloc: Global,
     file: &[u8],

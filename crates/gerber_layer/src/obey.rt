@@ -15,8 +15,8 @@ use crate::settings::Settings;
 use crate::table::code_of;
 use lengths::Unit;
 use planar::Spot;
-use step_repeat::Repeat;
 use std::alloc::Global;
+use step_repeat::Repeat;
 
 impl Effect {
     // Where it leads.
