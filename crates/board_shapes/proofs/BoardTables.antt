@@ -1,22 +1,20 @@
 -- The tables of a board: they are there, they are the only ones, and they tell what the board joins.
-use Rattle.std.proofs.Common.{◌≡◌, ◌≢◌, ◌⊎◌, ◌↔◌, inl, inr, ℕ, ◌<◌, ◌≤◌, List, [], ◌∷◌, length, map, All, Contains, Option, Some, slice_get, refl, sym, ◌∙◌, ap, subst, arith}
+use Rattle.std.proofs.Common.{◌≡◌, ◌≢◌, ◌↔◌, inl, inr, ℕ, ◌<◌, List, [], ◌∷◌, length, map, All, refl, sym, ◌∙◌, ap, subst, arith}
 use Rattle.std.proofs.lemmas.Bool.{cases_eq}
 use Rattle.std.proofs.lemmas.Option.{slice_get_within}
 use Rattle.planar.specs.Plane.{at}
 use Rattle.contact.specs.RoundLaws.{turned}
 use Rattle.tables.specs.Chains.{AreJoined, IsChain}
 use Rattle.tables.specs.Consistent.{AreConsistent, ArePointsJoined}
-use Rattle.tables.specs.Lists.{AreRows}
 use Rattle.tables.specs.Tables.{Tables, TestPoint, Stands}
 use Rattle.tables.proofs.Listing.{rows_of, rows_are_one, stands_as, stands_where}
-use Rattle.board_shapes.specs.declared.board.Board.{Board}
 use Rattle.board_shapes.specs.declared.probe.Probe.{Probe}
 use Rattle.board_shapes.specs.Figures.{InFigure, IsLawfulFigure}
 use Rattle.board_shapes.specs.LawfulBoard.{IsLawfulBoard}
 use Rattle.board_shapes.specs.Laws.{HasOneTables}
-use Rattle.board_shapes.specs.Plain.{PlainBoard, PlainPiece, plain_board}
+use Rattle.board_shapes.specs.Plain.{PlainBoard}
 use Rattle.board_shapes.specs.Tables.{IsNear, IsTables, point_of}
-use Rattle.board_shapes.specs.Touching.{CommonLayer, InSpan, Joined, ProbesJoined, Touch, TouchAt, UnderAt}
+use Rattle.board_shapes.specs.Touching.{CommonLayer, InSpan, ProbesJoined, Touch, TouchAt, UnderAt}
 use Rattle.board_shapes.proofs.Deciding.{near_decided, under_at_decided}
 
 -- ---- One set of tables

@@ -1,13 +1,12 @@
 -- The common box has each piece's box in it.
-use Rattle.std.proofs.Common.{ℤ, ◌≤ℤ◌, ◌-ℤ◌, ◌≡◌, List, [], ◌∷◌, All, Option, Some, None, arith, subst, sym}
+use Rattle.std.proofs.Common.{◌≤ℤ◌, ◌≡◌, List, [], ◌∷◌, All, Some, None, arith, subst, sym}
 use Rattle.std.proofs.lemmas.Int.{ints, clamps}
 use Rattle.std.proofs.lemmas.List.Elements.{All-nil, All-cons, All-weaker}
-use Rattle.std.specs.Int.{int_min, int_max}
 use Rattle.planar.specs.declared.Frame.{Frame}
 use Rattle.contact.specs.declared.Bounds.{Bounds}
 use Rattle.board_shapes.specs.declared.shape.Shape.{Shape}
 use Rattle.board_shapes.specs.declared.placed.Placed.{Placed}
-use Rattle.board_shapes.specs.CommonBox.{joined, box_around, common_box, FitsFrame, Fits, frame_over}
+use Rattle.board_shapes.specs.CommonBox.{joined, box_around, common_box, FitsFrame, frame_over}
 use Rattle.board_shapes.specs.Lawful.{IsInsideFrame}
 use Rattle.board_shapes.specs.Pieces.{PlainPiece, plain_pieces}
 use Rattle.board_shapes.specs.Figures.{figure_box}

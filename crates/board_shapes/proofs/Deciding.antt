@@ -1,5 +1,5 @@
 -- Whether two pieces touch, and whether a piece is under a probe, is decided.
-use Rattle.std.proofs.Common.{◌≡◌, ◌≢◌, ◌⊎◌, inl, inr, ℕ, ◌≤◌, ◌<◌, List, length, All, Option, Some, None, slice_get, slice_index_or, refl, sym, ◌∙◌, subst, arith, max, min}
+use Rattle.std.proofs.Common.{◌≡◌, ◌≢◌, inl, inr, ℕ, ◌≤◌, ◌<◌, List, length, All, Some, None, slice_get, slice_index_or, sym, ◌∙◌, subst, arith, max, min}
 use Rattle.std.proofs.lemmas.Bool.{cases_eq, cases_lt}
 use Rattle.std.proofs.lemmas.Option.{slice_get_cases}
 use Rattle.planar.proofs.Decided.{Decided}
@@ -12,7 +12,6 @@ use Rattle.planar.specs.Plane.{at}
 use Rattle.board_shapes.specs.declared.probe.Probe.{Probe}
 use Rattle.board_shapes.specs.Figures.{Figure, round, filled, InFigure, IsLawfulFigure}
 use Rattle.board_shapes.specs.Plain.{PlainBoard, PlainPiece}
-use Rattle.board_shapes.specs.Spans.{CommonLayer, InSpan}
 use Rattle.board_shapes.specs.Tables.{IsNear}
 use Rattle.board_shapes.specs.Touching.{IsUnder, Touch, TouchAt, UnderAt}
 

@@ -1,14 +1,14 @@
 -- Every board keeps what its type says.
-use Rattle.std.proofs.Common.{ℕ, List, length, map, All, sym, ◌≡◌, subst, ap, ◌∙◌, ◌<◌, ◌^◌, slice_index_or, arith}
+use Rattle.std.proofs.Common.{All, subst, slice_index_or}
 use Rattle.std.proofs.lemmas.List.{length-map}
 use Rattle.std.proofs.lemmas.List.Elements.{All-map}
 use Rattle.contact.specs.Solid.{IsInside}
 use Rattle.planar.specs.declared.Frame.{Frame}
 use Rattle.board_shapes.specs.declared.board.Board.{Board}
 use Rattle.board_shapes.specs.Figures.{IsLawfulFigure, figure_box}
-use Rattle.board_shapes.specs.Lawful.{IsSpan, IsProbe, IsInsideFrame}
+use Rattle.board_shapes.specs.Lawful.{IsSpan, IsInsideFrame}
 use Rattle.board_shapes.specs.LawfulBoard.{IsLawfulBoard}
-use Rattle.board_shapes.specs.Plain.{PlainBoard, plain_board, plain_piece, frame_of}
+use Rattle.board_shapes.specs.Plain.{plain_board, plain_piece, frame_of}
 use Rattle.board_shapes.specs.Shapes.{lawful}
 
 pub board_is_lawful : (b : Board) → IsLawfulBoard (plain_board b)

@@ -1,5 +1,5 @@
 -- The common box of pieces, and the frame that lies over it.
-use Rattle.std.specs.Prelude.{ℕ, ℤ, pos, ◌-ℤ◌, ◌≤ℤ◌, List, [], ◌∷◌, Option, Some, None}
+use Rattle.std.specs.Prelude.{pos, ◌-ℤ◌, ◌≤ℤ◌, List, [], ◌∷◌, Option, Some, None}
 use Rattle.std.specs.Int.{int_min, int_max}
 use Rattle.planar.specs.declared.Frame.{Frame}
 use Rattle.planar.specs.declared.TheConstants.{SIDE}

@@ -1,5 +1,5 @@
 -- What every board keeps, said of its plain view.
-use Rattle.std.specs.Prelude.{ℕ, ◌<◌, ◌^◌, All, length}
+use Rattle.std.specs.Prelude.{◌<◌, ◌^◌, All, length}
 use Rattle.contact.specs.Solid.{IsInside}
 use Rattle.board_shapes.specs.Figures.{IsLawfulFigure, figure_box}
 use Rattle.board_shapes.specs.Lawful.{IsSpan, IsProbe}

@@ -1,5 +1,5 @@
 -- A contour in the making is the list of its points.
-use Rattle.std.specs.Prelude.{ℕ, Bool, true, false, ◌&&◌, not, ◌==◌, nat_lt, if◌then◌else◌, List, [], ◌∷◌, ◌++◌, length, ℤ, pos, negsuc, Option, Some, None, Result, Ok, Err, ◌≡◌, ◌<◌}
+use Rattle.std.specs.Prelude.{Bool, false, ◌&&◌, not, ◌==◌, nat_lt, if◌then◌else◌, List, [], ◌∷◌, ◌++◌, length, ℤ, pos, negsuc, Option, Some, None, Result, Ok, Err, ◌≡◌, ◌<◌}
 use Rattle.planar.specs.declared.Spot.{Spot}
 use Rattle.area_contact.specs.Contour.{end_from}
 use Rattle.area_contact.specs.declared.Area.{Area}

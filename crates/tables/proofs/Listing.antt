@@ -62,6 +62,7 @@ listing_of P decided (suc n) = go (listing_of P decided n) (decided n)
   where
     next : n + 1 ≡ suc n
     next = omega arith
+
     go : (xs : List ℕ) × IsListing P n xs → P n ⊎ (P n → ⊥) → (xs : List ℕ) × IsListing P (suc n) xs
     go (xs, l) (inl holds) = (xs ++ n ∷ [], subst (λ (m : ℕ). IsListing P m (xs ++ n ∷ [])) next (listing_more P n xs l holds))
     go (xs, l) (inr fails) = (xs, subst (λ (m : ℕ). IsListing P m xs) next (listing_skip P n xs l fails))
@@ -122,6 +123,7 @@ rows_from R decided n within (suc count) = go (rows_from R decided n within coun
       where
         long : length (rows ++ xs ∷ []) ≡ suc count
         long = let e = length-append rows (xs ∷ []) in let m = r.many in omega arith
+
         each : (i : ℕ) → i < suc count → Lists (R i) (get_or (rows ++ xs ∷ []) i [])
         each i h = elim (cases_eq i count) [
           | inl same ↦ subst (λ (j : ℕ). Lists (R j) (get_or (rows ++ xs ∷ []) j [])) (sym same) (subst (λ (row : List ℕ). Lists (R count) row) (sym (get_or_at rows xs [] [] count r.many)) l)

@@ -1,4 +1,4 @@
-use Rattle.std.proofs.Common.{◌≡◌, ◌↔◌, ℤ, ◌-ℤ◌, ◌≤ℤ◌, pos, IsTrue, to_z, of_z, arith}
+use Rattle.std.proofs.Common.{◌≡◌, ℤ, ◌-ℤ◌, ◌≤ℤ◌, pos, IsTrue, to_z, of_z, arith}
 use Rattle.std.proofs.lemmas.Int.{ints}
 use lib.Signed.{le_z}
 use mir.Syntax.{w128}

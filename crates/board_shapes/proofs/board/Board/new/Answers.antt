@@ -1,4 +1,4 @@
-use Rattle.std.proofs.Common.{List, ◌≡◌, ◌∙◌, ap, sym, refl, Option, Some, None}
+use Rattle.std.proofs.Common.{List, ◌≡◌, ◌∙◌, ap, sym, Option, Some, None}
 use Rattle.contact.specs.declared.Bounds.{Bounds}
 use Rattle.board_shapes.specs.declared.shape.Shape.{Shape}
 use Rattle.board_shapes.specs.declared.placed.Placed.{Placed}
