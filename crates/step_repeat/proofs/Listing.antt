@@ -1,6 +1,6 @@
 -- Lists put end to end, and what holds of each of their pieces.
-use Rattle.std.proofs.Common.{◌≡◌, ℕ, ◌+◌, ◌-◌, ◌*◌, ◌<◌, ◌≤◌, suc, zero, Bool, true, false, ◌&&◌, nat_lt, ◌⊎◌, inl, inr, cond, List, [], ◌∷◌, ◌++◌, length, map, Option, Some, None, Result, Ok, Err, length-append, refl, sym, ap, ◌∙◌, subst, pos, ◌*ℤ◌, arith, append_assoc, append-nil, add-zero}
-use Rattle.std.specs.List.{flat_map, list_all, range_with_len}
+use Rattle.std.proofs.Common.{◌≡◌, ℕ, ◌+◌, ◌*◌, ◌<◌, ◌≤◌, suc, zero, Bool, true, false, ◌&&◌, nat_lt, ◌⊎◌, inl, inr, cond, List, [], ◌∷◌, ◌++◌, length, map, Some, None, Ok, Err, length-append, refl, sym, ap, ◌∙◌, subst, pos, ◌*ℤ◌, arith, append_assoc, append-nil}
+use Rattle.std.specs.List.{flat_map, range_with_len}
 use Rattle.std.proofs.lemmas.List.{length-map}
 use Rattle.std.proofs.lemmas.List.Folds.{list_all-append}
 use Rattle.std.proofs.Math.Nat.{mul_assoc}
@@ -13,7 +13,6 @@ use Rattle.std.proofs.Math.Nat.{eq-or-lt_of_le}
 use borrow.Author.Tests.{le-ltb, ltb-false}
 use Rattle.step_repeat.specs.Copies.{are_placed, block_at, column_of, copies_at, copies_of, edges_in, placed_copies, room_fault}
 use Rattle.step_repeat.specs.declared.repeat.Repeat.{Repeat}
-use Rattle.step_repeat.specs.declared.fault.CopyFault.{CopyFault}
 use Rattle.step_repeat.specs.declared.fault.CopyFault.TheVariants.{TooManyPieces, TooManyEdges, OutOfRange}
 
 -- one more list at the end

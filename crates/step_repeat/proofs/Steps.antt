@@ -1,5 +1,5 @@
 -- Steps, by the relation of positions.
-use Rattle.std.proofs.Common.{◌≡◌, List, ℤ, Result, refl}
+use Rattle.std.proofs.Common.{◌≡◌, ℤ, Result, refl}
 use Rattle.lengths.specs.Decimal.{Fraction, Positions}
 use Rattle.lengths.specs.Grid.{position_of}
 use Rattle.lengths.proofs.GridLemmas.{Positions-is}

@@ -1,5 +1,5 @@
 -- Step and repeat words: how they are read, and what they give.
-use Rattle.std.specs.Prelude.{ℕ, ◌≤◌, Bool, true, false, ◌||◌, not, ◌==◌, nat_eq, nat_lt, if◌then◌else◌, List, [], ◌∷◌, length, drop, codes, ℤ, Option, Some, None, Result, Ok, Err}
+use Rattle.std.specs.Prelude.{ℕ, ◌≤◌, Bool, ◌||◌, not, ◌==◌, nat_eq, nat_lt, if◌then◌else◌, List, length, drop, codes, ℤ, Option, Some, None, Result, Ok, Err}
 use Rattle.std.specs.List.{before_first, after_first, list_all, list_any, starts_with}
 use Rattle.std.specs.Cmp.Lexicographic.{pointwise}
 use Rattle.std.specs.Str.Parse.{digits_value}

@@ -1,9 +1,9 @@
-use Rattle.std.proofs.Common.{◌≡◌, ℤ, List, [], ◌∷◌, ◌++◌, rules, to_z, of_z, subst}
+use Rattle.std.proofs.Common.{◌≡◌, ℤ, rules, to_z, of_z, subst}
 use Rattle.std.proofs.lemmas.Int.{to_z-of_z}
 use mir.Val.{SFits}
 use Rattle.std.specs.Int.{w64}
 use Rattle.board_shapes.specs.Moved.{StaysPlaced, moved_piece}
-use Rattle.board_shapes.specs.Pieces.{plain_piece, PlainPiece}
+use Rattle.board_shapes.specs.Pieces.{plain_piece}
 use Rattle.step_repeat.proofs.Placing.{leaves_alone, pushed, stays}
 use Rattle.step_repeat.proofs.copying.push_moved.Goals as goal
 

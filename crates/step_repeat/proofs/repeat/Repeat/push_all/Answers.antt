@@ -1,4 +1,4 @@
-use Rattle.std.proofs.Common.{ℕ, List, arith}
+use Rattle.std.proofs.Common.{ℕ, List}
 use Rattle.std.proofs.lemmas.Result.{err_from_is_err_and}
 use Rattle.board_shapes.specs.Pieces.{PlainPiece, plain_pieces}
 use Rattle.step_repeat.specs.Copies.{column_of, copies_of}
