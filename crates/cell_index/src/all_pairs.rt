@@ -94,9 +94,9 @@ impl<'a, S: Meets<S>> Field for AllPairs<'a, S> {
     }
 
     fn least_at(&self, at: Spot, layer: u8) -> Option<u32> {
-        for q in 0..self.items.len() {
-            if self.is_under(q, at, layer) {
-                return Some(q as u32);
+        for p in 0..self.items.len() {
+            if self.is_under(p, at, layer) {
+                return Some(p as u32);
             }
         }
         None
