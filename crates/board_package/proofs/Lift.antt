@@ -3,7 +3,7 @@ use Rattle.std.proofs.Common.{◌≡◌, ◌⊎◌, inl, inr, ℕ, ◌+◌, ◌-
 use Rattle.board_io.specs.Causes.{Rose}
 use Rattle.board_io.specs.Package.{Files}
 use Rattle.board_shapes.specs.Plain.{PlainBoard}
-use Rattle.board_package.specs.Causes.{HasCause, IsUnread, IsNotYet, HasRefusal, IsFrameFault}
+use Rattle.board_package.specs.Causes.{HasCause, IsUnread, HasRefusal, IsFrameFault}
 use Rattle.board_package.specs.PackageBoard.{Stop, longer, not_json, bad_manifest, refused, frame_too_large, StopsAtFrame}
 use Rattle.board_package.specs.declared.fault.BuildFault.{BuildFault}
 use Rattle.board_package.specs.declared.fault.BuildFault.TheVariants as fault
@@ -43,8 +43,6 @@ lift held S T C D before mid now lost (fault.CannotRead name) carries le h = rec
 }
 lift held S T C D before mid now lost (fault.Layer name kind command at) carries le h =
     told held _ (λ files. S files (refused name (refusal.Layer kind command at))) (λ files. T files (refused name (refusal.Layer kind command at))) (λ files a b. a.stops (refused name (refusal.Layer kind command at)) b) carries h
-lift held S T C D before mid now lost (fault.NotYet name) carries le h =
-    told held _ (λ files. IsNotYet (S files) name) (λ files. IsNotYet (T files) name) (λ files a b. (b.0, b.1, a.stops (refused name (refusal.NotYet b.0 b.1)) b.2)) carries h
 lift held S T C D before mid now lost (fault.Drill name kind line at) carries le h =
     told held _ (λ files. S files (refused name (refusal.Drill kind line at))) (λ files. T files (refused name (refusal.Drill kind line at))) (λ files a b. a.stops (refused name (refusal.Drill kind line at)) b) carries h
 lift held S T C D before mid now lost (fault.Netlist name kind line) carries le h =
@@ -57,9 +55,6 @@ pub refusal_cause : (held : Option Files) (S : Files → Stop → Type 0) (C : F
     → IfSome held (λ files. S files (refused name why)) → HasRefusal name why given → HasCause held S C before now lost given
 refusal_cause held S C before now lost name (refusal.Layer kind command at) given h (inl e) = subst (λ f. HasCause held S C before now lost f) (sym e) h
 refusal_cause held S C before now lost name (refusal.Layer kind command at) given h (inr e) = subst (λ f. HasCause held S C before now lost f) (sym e) tt
-refusal_cause held S C before now lost name (refusal.NotYet command at) given h (inl e) =
-    subst (λ f. HasCause held S C before now lost f) (sym e) (told_of held (λ files. S files (refused name (refusal.NotYet command at))) (λ files. IsNotYet (S files) name) (λ files s. (command, at, s)) h)
-refusal_cause held S C before now lost name (refusal.NotYet command at) given h (inr e) = subst (λ f. HasCause held S C before now lost f) (sym e) tt
 refusal_cause held S C before now lost name (refusal.Drill kind line at) given h (inl e) = subst (λ f. HasCause held S C before now lost f) (sym e) h
 refusal_cause held S C before now lost name (refusal.Drill kind line at) given h (inr e) = subst (λ f. HasCause held S C before now lost f) (sym e) tt
 refusal_cause held S C before now lost name (refusal.Netlist kind line) given h (inl e) = subst (λ f. HasCause held S C before now lost f) (sym e) h
@@ -73,7 +68,6 @@ frame_cause held S C before now lost board fault.BadManifest h e = absurd e
 frame_cause held S C before now lost board (fault.Longer name) h e = absurd e
 frame_cause held S C before now lost board (fault.CannotRead name) h e = absurd e
 frame_cause held S C before now lost board (fault.Layer name kind command at) h e = absurd e
-frame_cause held S C before now lost board (fault.NotYet name) h e = absurd e
 frame_cause held S C before now lost board (fault.Drill name kind line at) h e = absurd e
 frame_cause held S C before now lost board (fault.Netlist name kind line) h e = absurd e
 frame_cause held S C before now lost board (fault.FrameTooLarge box) h e =

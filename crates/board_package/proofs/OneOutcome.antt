@@ -6,7 +6,6 @@ use Rattle.board_shapes.specs.declared.probe.Probe.{Probe}
 use Rattle.contact.specs.declared.Bounds.{Bounds}
 use Rattle.gerber_layer.specs.Table.{Place as LayerPlace}
 use Rattle.gerber_layer.specs.Layer as layer_file
-use Rattle.gerber_layer.specs.declared.kind.Fault.TheVariants as gerber
 use Rattle.xnc.specs.Place.{Place as DrillPlace}
 use Rattle.xnc.specs.DrillFile as drill_file
 use Rattle.ipc356_records.specs.NetlistFile as netlist_file
@@ -43,47 +42,32 @@ reads_one all role.Netlist n bytes before x y (a, names, read, is) (b, names', r
     same p q = rw (p, q) refl
 
 reads_not_refused : HaveAnswers → (r : Role) (n : ℕ) (bytes : List ℕ) (before x : PlainBoard) (why : Refusal) → Reads r n bytes before x → Refuses r n bytes before why → ⊥
-reads_not_refused all (role.Copper layer) n bytes before x (refusal.Layer kind command at) (a, read, is) no' = (all.layer bytes (layer_place layer n before)).not_both a (gerber.Kind kind) command at read no'
-reads_not_refused all (role.Copper layer) n bytes before x (refusal.NotYet command at) (a, read, is) no' = (all.layer bytes (layer_place layer n before)).not_both a gerber.NotYet command at read no'
+reads_not_refused all (role.Copper layer) n bytes before x (refusal.Layer kind command at) (a, read, is) no' = (all.layer bytes (layer_place layer n before)).not_both a kind command at read no'
 reads_not_refused all (role.Copper layer) n bytes before x (refusal.Drill kind line at) read no' = no'
 reads_not_refused all (role.Copper layer) n bytes before x (refusal.Netlist kind line) read no' = no'
 reads_not_refused all (role.Drill from to) n bytes before x (refusal.Layer kind command at) read no' = no'
-reads_not_refused all (role.Drill from to) n bytes before x (refusal.NotYet command at) read no' = no'
 reads_not_refused all (role.Drill from to) n bytes before x (refusal.Drill kind line at) (a, read, is) no' = (all.drill bytes (drill_place from to n before)).not_both a kind line at read no'
 reads_not_refused all (role.Drill from to) n bytes before x (refusal.Netlist kind line) read no' = no'
 reads_not_refused all role.Netlist n bytes before x (refusal.Layer kind command at) read no' = no'
-reads_not_refused all role.Netlist n bytes before x (refusal.NotYet command at) read no' = no'
 reads_not_refused all role.Netlist n bytes before x (refusal.Drill kind line at) read no' = no'
 reads_not_refused all role.Netlist n bytes before x (refusal.Netlist kind line) (a, names, read, is) no' = (all.netlist bytes before.layers).not_both a names kind line read no'
 
 refuses_one : HaveAnswers → (r : Role) (n : ℕ) (bytes : List ℕ) (before : PlainBoard) (why other : Refusal) → Refuses r n bytes before why → Refuses r n bytes before other → why ≡ other
 refuses_one all (role.Copper layer) n bytes before (refusal.Layer kind command at) (refusal.Layer kind' command' at') p q =
-    let e = (all.layer bytes (layer_place layer n before)).one_fault (gerber.Kind kind) (gerber.Kind kind') command command' at at' p q in cc (e.0, e.1, e.2)
-refuses_one all (role.Copper layer) n bytes before (refusal.Layer kind command at) (refusal.NotYet command' at') p q =
-    let e = (all.layer bytes (layer_place layer n before)).one_fault (gerber.Kind kind) gerber.NotYet command command' at at' p q in cc (e.0)
+    let e = (all.layer bytes (layer_place layer n before)).one_fault kind kind' command command' at at' p q in cc (e.0, e.1, e.2)
 refuses_one all (role.Copper layer) n bytes before (refusal.Layer kind command at) (refusal.Drill kind' line at') p q = absurd q
 refuses_one all (role.Copper layer) n bytes before (refusal.Layer kind command at) (refusal.Netlist kind' line) p q = absurd q
-refuses_one all (role.Copper layer) n bytes before (refusal.NotYet command at) (refusal.Layer kind' command' at') p q =
-    let e = (all.layer bytes (layer_place layer n before)).one_fault gerber.NotYet (gerber.Kind kind') command command' at at' p q in cc (e.0)
-refuses_one all (role.Copper layer) n bytes before (refusal.NotYet command at) (refusal.NotYet command' at') p q =
-    let e = (all.layer bytes (layer_place layer n before)).one_fault gerber.NotYet gerber.NotYet command command' at at' p q in cc (e.1, e.2)
-refuses_one all (role.Copper layer) n bytes before (refusal.NotYet command at) (refusal.Drill kind' line at') p q = absurd q
-refuses_one all (role.Copper layer) n bytes before (refusal.NotYet command at) (refusal.Netlist kind' line) p q = absurd q
 refuses_one all (role.Copper layer) n bytes before (refusal.Drill kind line at) other p q = absurd p
 refuses_one all (role.Copper layer) n bytes before (refusal.Netlist kind line) other p q = absurd p
 refuses_one all (role.Drill from to) n bytes before (refusal.Layer kind command at) other p q = absurd p
-refuses_one all (role.Drill from to) n bytes before (refusal.NotYet command at) other p q = absurd p
 refuses_one all (role.Drill from to) n bytes before (refusal.Drill kind line at) (refusal.Layer kind' command at') p q = absurd q
-refuses_one all (role.Drill from to) n bytes before (refusal.Drill kind line at) (refusal.NotYet command at') p q = absurd q
 refuses_one all (role.Drill from to) n bytes before (refusal.Drill kind line at) (refusal.Drill kind' line' at') p q =
     let e = (all.drill bytes (drill_place from to n before)).one_fault kind kind' line line' at at' p q in cc (e.0, e.1, e.2)
 refuses_one all (role.Drill from to) n bytes before (refusal.Drill kind line at) (refusal.Netlist kind' line') p q = absurd q
 refuses_one all (role.Drill from to) n bytes before (refusal.Netlist kind line) other p q = absurd p
 refuses_one all role.Netlist n bytes before (refusal.Layer kind command at) other p q = absurd p
-refuses_one all role.Netlist n bytes before (refusal.NotYet command at) other p q = absurd p
 refuses_one all role.Netlist n bytes before (refusal.Drill kind line at) other p q = absurd p
 refuses_one all role.Netlist n bytes before (refusal.Netlist kind line) (refusal.Layer kind' command at') p q = absurd q
-refuses_one all role.Netlist n bytes before (refusal.Netlist kind line) (refusal.NotYet command at') p q = absurd q
 refuses_one all role.Netlist n bytes before (refusal.Netlist kind line) (refusal.Drill kind' line' at') p q = absurd q
 refuses_one all role.Netlist n bytes before (refusal.Netlist kind line) (refusal.Netlist kind' line') p q =
     let e = (all.netlist bytes before.layers).one_fault kind kind' line line' p q in cc (e.0, e.1)

@@ -15,14 +15,9 @@ pub record IsUnread (held : Option Files) (Comes : Files → List ℕ → Type 0
   pub lost_is : lost ≡ name
   pub comes : IfSome held (λ files. Comes files name)
 
--- a form of copper file that is not read yet
-abbrev pub IsNotYet : (Stop → Type 0) → List ℕ → Type 0
-IsNotYet Stops name = (command : ℕ) × (at : ℕ) × Stops (refused name (refusal.NotYet command at))
-
 -- the fault is this refusal of the file, or want of memory
 abbrev pub HasRefusal : List ℕ → Refusal → BuildFault → Type 0
 HasRefusal name (refusal.Layer kind command at) given = (given ≡ fault.Layer name kind command at) ⊎ (given ≡ fault.NoMemory)
-HasRefusal name (refusal.NotYet command at) given = (given ≡ fault.NotYet name) ⊎ (given ≡ fault.NoMemory)
 HasRefusal name (refusal.Drill kind line at) given = (given ≡ fault.Drill name kind line at) ⊎ (given ≡ fault.NoMemory)
 HasRefusal name (refusal.Netlist kind line) given = (given ≡ fault.Netlist name kind line) ⊎ (given ≡ fault.NoMemory)
 
@@ -33,7 +28,6 @@ HasCause held Stops Comes before now lost fault.BadManifest = IfSome held (λ fi
 HasCause held Stops Comes before now lost (fault.Longer name) = IfSome held (λ files. Stops files (longer name))
 HasCause held Stops Comes before now lost (fault.CannotRead name) = IsUnread held Comes before now lost name
 HasCause held Stops Comes before now lost (fault.Layer name kind command at) = IfSome held (λ files. Stops files (refused name (refusal.Layer kind command at)))
-HasCause held Stops Comes before now lost (fault.NotYet name) = IfSome held (λ files. IsNotYet (Stops files) name)
 HasCause held Stops Comes before now lost (fault.Drill name kind line at) = IfSome held (λ files. Stops files (refused name (refusal.Drill kind line at)))
 HasCause held Stops Comes before now lost (fault.Netlist name kind line) = IfSome held (λ files. Stops files (refused name (refusal.Netlist kind line)))
 HasCause held Stops Comes before now lost (fault.FrameTooLarge box) = IfSome held (λ files. Stops files (frame_too_large box))
@@ -46,7 +40,6 @@ IsFrameFault board fault.BadManifest = ⊥
 IsFrameFault board (fault.Longer name) = ⊥
 IsFrameFault board (fault.CannotRead name) = ⊥
 IsFrameFault board (fault.Layer name kind command at) = ⊥
-IsFrameFault board (fault.NotYet name) = ⊥
 IsFrameFault board (fault.Drill name kind line at) = ⊥
 IsFrameFault board (fault.Netlist name kind line) = ⊥
 IsFrameFault board (fault.FrameTooLarge box) = StopsAtFrame board (frame_too_large box)

@@ -4,7 +4,6 @@ use Rattle.board_shapes.specs.Plain.{PlainBoard, PlainPiece}
 use Rattle.board_shapes.specs.declared.probe.Probe.{Probe}
 use Rattle.gerber_layer.specs.Table.{Place as LayerPlace}
 use Rattle.gerber_layer.specs.Layer as layer_file
-use Rattle.gerber_layer.specs.declared.kind.Fault.TheVariants as gerber
 use Rattle.xnc.specs.Place.{Place as DrillPlace}
 use Rattle.xnc.specs.DrillFile as drill_file
 use Rattle.ipc356_records.specs.NetlistFile as netlist_file
@@ -32,16 +31,13 @@ Reads role.Netlist number bytes before after = (probes : List Probe) × (names :
 
 -- the file of this role and number is refused
 abbrev pub Refuses : Role → ℕ → List ℕ → PlainBoard → Refusal → Type 0
-Refuses (role.Copper layer) number bytes before (refusal.Layer kind command at) = layer_file.IsRefused bytes (layer_place layer number before) (gerber.Kind kind) command at
-Refuses (role.Copper layer) number bytes before (refusal.NotYet command at) = layer_file.IsRefused bytes (layer_place layer number before) gerber.NotYet command at
+Refuses (role.Copper layer) number bytes before (refusal.Layer kind command at) = layer_file.IsRefused bytes (layer_place layer number before) kind command at
 Refuses (role.Copper layer) number bytes before (refusal.Drill kind line at) = ⊥
 Refuses (role.Copper layer) number bytes before (refusal.Netlist kind line) = ⊥
 Refuses (role.Drill from to) number bytes before (refusal.Layer kind command at) = ⊥
-Refuses (role.Drill from to) number bytes before (refusal.NotYet command at) = ⊥
 Refuses (role.Drill from to) number bytes before (refusal.Drill kind line at) = drill_file.IsRefused bytes (drill_place from to number before) kind line at
 Refuses (role.Drill from to) number bytes before (refusal.Netlist kind line) = ⊥
 Refuses role.Netlist number bytes before (refusal.Layer kind command at) = ⊥
-Refuses role.Netlist number bytes before (refusal.NotYet command at) = ⊥
 Refuses role.Netlist number bytes before (refusal.Drill kind line at) = ⊥
 Refuses role.Netlist number bytes before (refusal.Netlist kind line) = netlist_file.IsRefused bytes before.layers kind line
 

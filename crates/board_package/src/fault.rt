@@ -29,8 +29,6 @@ pub enum BuildFault {
         command: u32,
         at: usize,
     },
-    /// The copper file has a form that is not read yet.
-    NotYet(Text),
     /// The drill file is refused, by the first faulty line, from 1, and the place of its first byte, from 0.
     Drill {
         file: Text,
@@ -75,7 +73,6 @@ pub fn refused(alloc: Global, name: &Text, refusal: Refusal) -> BuildFault
                 at,
             }
         }
-        Refusal::NotYet { .. } => BuildFault::NotYet(file),
         Refusal::Drill { kind, line, at } => {
             BuildFault::Drill {
                 file,

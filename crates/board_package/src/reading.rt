@@ -20,11 +20,6 @@ pub enum Refusal {
         command: u32,
         at: usize,
     },
-    /// A form of copper file that is not read yet.
-    NotYet {
-        command: u32,
-        at: usize,
-    },
     Drill {
         kind: DrillKind,
         line: u32,
@@ -91,9 +86,6 @@ fn read_copper(
         },
         Err(LayerFault::Refused { kind, command, at }) => {
             Err(Halt::Refused(Refusal::Layer { kind, command, at }))
-        }
-        Err(LayerFault::NotYet { command, at }) => {
-            Err(Halt::Refused(Refusal::NotYet { command, at }))
         }
         Err(LayerFault::NoMemory) => Err(Halt::NoMemory),
     }
