@@ -28,19 +28,19 @@ entry_cause held after entries i entry start mid before between now lost why bel
     let T : Files → Stop → Type 0 = λ files stop. StopsAmong files entries start stop in
     let D : Files → List ℕ → Type 0 = λ files name. ComesAmong files entries start name in
     lift held S T C D before between now lost why
-      (told_of held (λ files. Walks files (take i entries) start mid) (λ files. Carries (S files) (T files) (C files) (D files))
-        (λ files w. record {
-            stops = λ stop s. at_one files entries i entry start mid (λ e b. StopsAt files e b stop) below w (subst (λ e. StopsAt files e mid stop) here s);
-            comes = λ name s. at_one files entries i entry start mid (λ e b. e.name ≡ name) below w (subst (λ (e : Entry). e.name ≡ name) here s);
-        }) walked)
-      later (subst (λ h. HasCause h S C between now lost why) same cause)
+    (told_of held (λ files. Walks files (take i entries) start mid) (λ files. Carries (S files) (T files) (C files) (D files))
+    (λ files w. record {
+      stops = λ stop s. at_one files entries i entry start mid (λ e b. StopsAt files e b stop) below w (subst (λ e. StopsAt files e mid stop) here s);
+      comes = λ name s. at_one files entries i entry start mid (λ e b. e.name ≡ name) below w (subst (λ (e : Entry). e.name ≡ name) here s);
+    }) walked)
+    later (subst (λ h. HasCause h S C between now lost why) same cause)
 
 -- one file more is read
 pub entry_walked : (held after : Option Files) (entries : List Entry) (i : ℕ) (entry : Entry) (start mid end : PlainBoard) → i < length entries → entry ≡ get_or entries i entry → after ≡ held
     → IfSome held (λ files. Walks files (take i entries) start mid) → IfSome after (λ files. Goes files entry mid end) → IfSome held (λ files. Walks files (take (i + 1) entries) start end)
 entry_walked held after entries i entry start mid end below here same walked goes =
     told held (λ files. Walks files (take i entries) start mid) (λ files. Goes files entry mid end) (λ files. Walks files (take (i + 1) entries) start end)
-      (λ files w g. walk_more files entries i entry start mid end below w (subst (λ e. Goes files e mid end) here g)) walked (subst (λ h. IfSome h (λ files. Goes files entry mid end)) same goes)
+    (λ files w g. walk_more files entries i entry start mid end below w (subst (λ e. Goes files e mid end) here g)) walked (subst (λ h. IfSome h (λ files. Goes files entry mid end)) same goes)
 
 -- a cause of the manifest's stage is one of the package
 pub manifest_cause : (held : Option Files) (manifest : List ℕ) (before now : ℕ) (lost : List ℕ) (why : BuildFault) → before ≤ before
@@ -48,8 +48,8 @@ pub manifest_cause : (held : Option Files) (manifest : List ℕ) (before now : �
     → HasCause held (λ files stop. IsFirstStop files manifest stop) (λ files name. Comes files manifest name) before now lost why
 manifest_cause held manifest before now lost why le cause =
     lift held (λ files stop. StopsAtManifest files manifest stop) (λ files stop. IsFirstStop files manifest stop) (λ files name. name ≡ manifest) (λ files name. Comes files manifest name) before before now lost why
-      (told_all held (λ files. Carries (λ stop. StopsAtManifest files manifest stop) (λ stop. IsFirstStop files manifest stop) (λ name. name ≡ manifest) (λ name. Comes files manifest name)) (λ files. record { stops = λ stop s. inl s; comes = λ name s. inl s }))
-      le cause
+    (told_all held (λ files. Carries (λ stop. StopsAtManifest files manifest stop) (λ stop. IsFirstStop files manifest stop) (λ name. name ≡ manifest) (λ name. Comes files manifest name)) (λ files. record { stops = λ stop s. inl s; comes = λ name s. inl s }))
+    le cause
 
 -- a cause of the files is one of the package
 pub files_cause : (held after : Option Files) (manifest : List ℕ) (listed : Manifest) (start : PlainBoard) (before between now : ℕ) (lost : List ℕ) (why : BuildFault) → after ≡ held → start ≡ empty_board listed.layers → before ≤ between
@@ -62,12 +62,12 @@ files_cause held after manifest listed start before between now lost why same em
     let T : Files → Stop → Type 0 = λ files stop. IsFirstStop files manifest stop in
     let D : Files → List ℕ → Type 0 = λ files name. Comes files manifest name in
     lift held S T C D before between now lost why
-      (told_of held (λ files. IsManifestFile files manifest listed) (λ files. Carries (S files) (T files) (C files) (D files))
-        (λ files m. record {
-            stops = λ stop s. inr (record { listed = listed; manifest = m; stops = inl (subst (λ b. StopsAmong files listed.files b stop) empty s) });
-            comes = λ name s. inr (record { listed = listed; manifest_file = m; comes = subst (λ b. ComesAmong files listed.files b name) empty s });
-        }) is)
-      later (subst (λ h. HasCause h S C between now lost why) same cause)
+    (told_of held (λ files. IsManifestFile files manifest listed) (λ files. Carries (S files) (T files) (C files) (D files))
+    (λ files m. record {
+      stops = λ stop s. inr (record { listed = listed; manifest = m; stops = inl (subst (λ b. StopsAmong files listed.files b stop) empty s) });
+      comes = λ name s. inr (record { listed = listed; manifest_file = m; comes = subst (λ b. ComesAmong files listed.files b name) empty s });
+    }) is)
+    later (subst (λ h. HasCause h S C between now lost why) same cause)
 
 -- a frame that is too large is a cause of the package
 pub framed_cause : (held after : Option Files) (manifest : List ℕ) (listed : Manifest) (start board : PlainBoard) (before now : ℕ) (lost : List ℕ) (why : BuildFault) → after ≡ held → start ≡ empty_board listed.layers
@@ -75,10 +75,10 @@ pub framed_cause : (held after : Option Files) (manifest : List ℕ) (listed : M
     → HasCause held (λ files stop. IsFirstStop files manifest stop) (λ files name. Comes files manifest name) before now lost why
 framed_cause held after manifest listed start board before now lost why same empty is walked fault =
     frame_cause held (λ files stop. IsFirstStop files manifest stop) (λ files name. Comes files manifest name) before now lost board why
-      (told held (λ files. IsManifestFile files manifest listed) (λ files. Walks files listed.files start board) (λ files. (stop : Stop) → StopsAtFrame board stop → IsFirstStop files manifest stop)
-        (λ files m w stop s. inr (record { listed = listed; manifest = m; stops = inr (record { board = board; walked = subst (λ b. Walks files listed.files b board) empty w; frame = s }) }))
-        is (subst (λ h. IfSome h (λ files. Walks files listed.files start board)) same walked))
-      fault
+    (told held (λ files. IsManifestFile files manifest listed) (λ files. Walks files listed.files start board) (λ files. (stop : Stop) → StopsAtFrame board stop → IsFirstStop files manifest stop)
+    (λ files m w stop s. inr (record { listed = listed; manifest = m; stops = inr (record { board = board; walked = subst (λ b. Walks files listed.files b board) empty w; frame = s }) }))
+    is (subst (λ h. IfSome h (λ files. Walks files listed.files start board)) same walked))
+    fault
 
 -- the board of the package
 pub board_is : (held after : Option Files) (manifest : List ℕ) (listed : Manifest) (start end board : PlainBoard) → after ≡ held → start ≡ empty_board listed.layers
@@ -86,5 +86,5 @@ pub board_is : (held after : Option Files) (manifest : List ℕ) (listed : Manif
     → IfSome held (λ files. IsBoardOf files manifest board)
 board_is held after manifest listed start end board same empty is walked fits made =
     told held (λ files. IsManifestFile files manifest listed) (λ files. Walks files listed.files start end) (λ files. IsBoardOf files manifest board)
-      (λ files m w. subst (λ b. IsBoardOf files manifest b) (sym made) (record { listed = listed; manifest = m; walked = subst (λ b. Walks files listed.files b end) empty w; frame = fits }))
-      is (subst (λ h. IfSome h (λ files. Walks files listed.files start end)) same walked)
+    (λ files m w. subst (λ b. IsBoardOf files manifest b) (sym made) (record { listed = listed; manifest = m; walked = subst (λ b. Walks files listed.files b end) empty w; frame = fits }))
+    is (subst (λ h. IfSome h (λ files. Walks files listed.files start end)) same walked)

@@ -79,7 +79,7 @@ each_from f number (x ∷ xs) = option_and_then (λ y. option_map (λ ys. y ∷ 
 abbrev pub files_of : List Data → List Data → List ℕ → Option (List Entry)
 files_of copper drills netlist =
     option_and_then (λ front. option_map (λ back. front ++ back ++ record { name = netlist; number = length copper + length drills; role = Netlist } ∷ [])
-      (each_from (drill_entry (length copper)) (length copper) drills))
+    (each_from (drill_entry (length copper)) (length copper) drills))
     (each_from copper_entry 0 copper)
 
 -- 1 to 32 copper files and 0 to 64 drill files

@@ -5,20 +5,20 @@
 //! gives the board of the package or says what stops it first (`fault`). The law over the definitions stands in `laws`.
 #![tactic(auto)]
 
-pub mod stages;
 pub mod entry;
 pub mod fault;
 pub mod laws;
 pub mod manifest;
 mod parts;
 pub mod reading;
+pub mod stages;
 mod values;
 
-pub use stages::build;
 pub use entry::{Entry, Role};
 pub use fault::BuildFault;
 pub use manifest::{Manifest, ManifestFault, read_manifest};
 pub use reading::Refusal;
+pub use stages::build;
 
 #[cfg(test)]
 mod tests;

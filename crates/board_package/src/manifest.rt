@@ -131,11 +131,7 @@ fn files_of(
 }
 
 // Adds the entries of the copper files.
-fn add_copper(
-    alloc: Global,
-    copper: &[Value],
-    files: &mut Rows<Entry>,
-) -> Result<(), ManifestFault>
+fn add_copper(alloc: Global, copper: &[Value], files: &mut Rows<Entry>) -> Result<(), ManifestFault>
     requires few { length copper.now ≤ 32 }
     ensures ok { OnOk result ((added : List Entry) × (each_from copper_entry 0 (map view copper.now) ≡ Some added) × (files.new ≡ files.old ++ added)) }
     ensures lawful { OnOk result (All (λ e. IsOnBoard (length copper.now) e.role) files.old → All (λ e. IsOnBoard (length copper.now) e.role) files.new) }
@@ -172,12 +168,7 @@ fn add_drills(
 }
 
 // The entry of a drill file.
-fn drill_of(
-    alloc: Global,
-    value: &Value,
-    layers: u8,
-    number: u32,
-) -> Result<Entry, ManifestFault>
+fn drill_of(alloc: Global, value: &Value, layers: u8, number: u32) -> Result<Entry, ManifestFault>
     ensures ok { IfOk result (λ e. drill_entry layers number (view value.now) ≡ Some e) }
     ensures lawful { IfOk result (λ e. IsOnBoard layers e.role) }
     ensures fault { IfErr result (Misses (drill_entry layers number (view value.now))) }
@@ -193,13 +184,7 @@ fn drill_of(
 }
 
 // The same, with what stands in the value.
-fn spanned(
-    name: Text,
-    from: u64,
-    to: u64,
-    layers: u8,
-    number: u32,
-) -> Result<Entry, ManifestFault>
+fn spanned(name: Text, from: u64, to: u64, layers: u8, number: u32) -> Result<Entry, ManifestFault>
     ensures ok { IfOk result (λ e. drill_from layers number (Some name) (Some from) (Some to) ≡ Some e) }
     ensures lawful { IfOk result (λ e. IsOnBoard layers e.role) }
     ensures fault { IfErr result (Misses (drill_from layers number (Some name) (Some from) (Some to))) }

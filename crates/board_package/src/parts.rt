@@ -11,6 +11,7 @@ use lengths::{NoMemory, Rows, Text};
 use std::alloc::Global;
 
 const MOST_PIECES: u32 = 200_000;
+
 const MOST_EDGES: u64 = 2_000_000;
 
 // What the files so far give.

@@ -37,7 +37,13 @@ pub fn build<P: Package>(
     let mut file = Vec::new(alloc);
     let listed = take_manifest(alloc, manifest, package, &mut file)?;
     let mut parts = Parts::new(alloc, listed.layers);
-    take_files(alloc, package, listed.files.as_slice(), &mut parts, &mut file)?;
+    take_files(
+        alloc,
+        package,
+        listed.files.as_slice(),
+        &mut parts,
+        &mut file,
+    )?;
     framed(parts)
 }
 

@@ -8,7 +8,9 @@ use std::alloc::{AllocError, Global};
 use std::test::Fail;
 
 const COPPER: &[u8] = b"%FSLAX46Y46*%\n%MOMM*%\n%ADD10C,1.0*%\nD10*\nX0Y0D03*\nM02*\n";
+
 const BARRELS: &[u8] = b"M48\nMETRIC\nT1C0.4\n%\nT1\nX0.0Y0.0\nM30\n";
+
 const NETLIST: &[u8] =
     b"P  UNITS CUST 1\n317A                                  A00X+000000Y+000000\n999\n";
 
@@ -31,29 +33,69 @@ fn manifests(rt: HostRuntime) -> Result<(), Fail> {
     let refused: [(&[u8], ManifestFault); 14] = [
         (b"", ManifestFault::NotJson),
         (b"{\"copper\":[\"t.gbr\"]", ManifestFault::NotJson),
-        (b"{\"copper\":[\"\xff\"],\"drills\":[],\"netlist\":\"n\"}", ManifestFault::NotJson),
+        (
+            b"{\"copper\":[\"\xff\"],\"drills\":[],\"netlist\":\"n\"}",
+            ManifestFault::NotJson,
+        ),
         (b"[]", ManifestFault::BadManifest),
-        (b"{\"copper\":[],\"drills\":[],\"netlist\":\"n\"}", ManifestFault::BadManifest),
-        (b"{\"copper\":[\"\"],\"drills\":[],\"netlist\":\"n\"}", ManifestFault::BadManifest),
-        (b"{\"copper\":[\"t\"],\"drills\":[],\"netlist\":1}", ManifestFault::BadManifest),
-        (b"{\"copper\":[\"t\"],\"drills\":[]}", ManifestFault::BadManifest),
-        (b"{\"copper\":[\"t\"],\"drills\":[],\"netlist\":\"n\",\"more\":1}", ManifestFault::BadManifest),
-        (b"{\"copper\":[\"t\"],\"drills\":[{\"file\":\"d\",\"from\":1.0,\"to\":1}],\"netlist\":\"n\"}", ManifestFault::BadManifest),
-        (b"{\"copper\":[\"t\"],\"drills\":[{\"file\":\"d\",\"from\":1,\"to\":1e0}],\"netlist\":\"n\"}", ManifestFault::BadManifest),
-        (b"{\"copper\":[\"t\"],\"drills\":[{\"file\":\"d\",\"from\":0,\"to\":1}],\"netlist\":\"n\"}", ManifestFault::BadManifest),
-        (b"{\"copper\":[\"t\",\"b\"],\"drills\":[{\"file\":\"d\",\"from\":2,\"to\":1}],\"netlist\":\"n\"}", ManifestFault::BadManifest),
-        (b"{\"copper\":[\"t\"],\"drills\":[{\"file\":\"d\",\"from\":1,\"to\":2}],\"netlist\":\"n\"}", ManifestFault::BadManifest),
+        (
+            b"{\"copper\":[],\"drills\":[],\"netlist\":\"n\"}",
+            ManifestFault::BadManifest,
+        ),
+        (
+            b"{\"copper\":[\"\"],\"drills\":[],\"netlist\":\"n\"}",
+            ManifestFault::BadManifest,
+        ),
+        (
+            b"{\"copper\":[\"t\"],\"drills\":[],\"netlist\":1}",
+            ManifestFault::BadManifest,
+        ),
+        (
+            b"{\"copper\":[\"t\"],\"drills\":[]}",
+            ManifestFault::BadManifest,
+        ),
+        (
+            b"{\"copper\":[\"t\"],\"drills\":[],\"netlist\":\"n\",\"more\":1}",
+            ManifestFault::BadManifest,
+        ),
+        (
+            b"{\"copper\":[\"t\"],\"drills\":[{\"file\":\"d\",\"from\":1.0,\"to\":1}],\"netlist\":\"n\"}",
+            ManifestFault::BadManifest,
+        ),
+        (
+            b"{\"copper\":[\"t\"],\"drills\":[{\"file\":\"d\",\"from\":1,\"to\":1e0}],\"netlist\":\"n\"}",
+            ManifestFault::BadManifest,
+        ),
+        (
+            b"{\"copper\":[\"t\"],\"drills\":[{\"file\":\"d\",\"from\":0,\"to\":1}],\"netlist\":\"n\"}",
+            ManifestFault::BadManifest,
+        ),
+        (
+            b"{\"copper\":[\"t\",\"b\"],\"drills\":[{\"file\":\"d\",\"from\":2,\"to\":1}],\"netlist\":\"n\"}",
+            ManifestFault::BadManifest,
+        ),
+        (
+            b"{\"copper\":[\"t\"],\"drills\":[{\"file\":\"d\",\"from\":1,\"to\":2}],\"netlist\":\"n\"}",
+            ManifestFault::BadManifest,
+        ),
     ];
     for (i, (bytes, want)) in refused.iter().enumerate() {
         assert_eq!(rt; manifest_fault(alloc, *bytes), Some(*want), "row {i}");
     }
     let mut deep = vec![in alloc; b'['; 200]?;
     deep.append(&mut vec![in alloc; b']'; 200]?)?;
-    assert_eq!(rt; manifest_fault(alloc, deep.as_slice()), Some(ManifestFault::NotJson));
+    assert_eq!(rt;
+        manifest_fault(alloc, deep.as_slice()),
+        Some(ManifestFault::NotJson)
+    );
     assert_eq!(rt; manifest_fault(alloc, named(alloc, 200)?.as_slice()), None);
-    assert_eq!(rt; manifest_fault(alloc, named(alloc, 201)?.as_slice()), Some(ManifestFault::BadManifest));
+    assert_eq!(rt;
+        manifest_fault(alloc, named(alloc, 201)?.as_slice()),
+        Some(ManifestFault::BadManifest)
+    );
 
-    let twice = b"{\"copper\":[],\"drills\":[{\"file\":\"d\",\"to\":2,\"from\":1}],\"netlist\":\"n\",\"copper\":[\"t\",\"b\"]}";
+    let twice =
+        b"{\"copper\":[],\"drills\":[{\"file\":\"d\",\"to\":2,\"from\":1}],\"netlist\":\"n\",\"copper\":[\"t\",\"b\"]}";
     let listed = read_manifest(alloc, twice)?;
     let roles = [
         ("t", Role::Copper { layer: 1 }),
@@ -61,7 +103,10 @@ fn manifests(rt: HostRuntime) -> Result<(), Fail> {
         ("d", Role::Drill { from: 1, to: 2 }),
         ("n", Role::Netlist),
     ];
-    assert_eq!(rt; (listed.layers, listed.files.as_slice().len()), (2, roles.len()));
+    assert_eq!(rt;
+        (listed.layers, listed.files.as_slice().len()),
+        (2, roles.len())
+    );
     for (i, (file, (name, role))) in listed.files.as_slice().iter().zip(&roles).enumerate() {
         assert_eq!(rt; file.name.as_str(), *name);
         assert_eq!(rt; (file.number as usize, file.role), (i, *role));
@@ -72,7 +117,8 @@ fn manifests(rt: HostRuntime) -> Result<(), Fail> {
 // Four copper layers under a barrel from the second to the third, without the copper files named.
 fn buried(alloc: Global, without: &str) -> Result<MemoryPackage, Fail> {
     let mut package = MemoryPackage::new(alloc);
-    let manifest = b"{\"copper\":[\"l1.gbr\",\"l2.gbr\",\"l3.gbr\",\"l4.gbr\"],\"drills\":[{\"file\":\"d.drl\",\"from\":2,\"to\":3}],\"netlist\":\"n.ipc\"}";
+    let manifest =
+        b"{\"copper\":[\"l1.gbr\",\"l2.gbr\",\"l3.gbr\",\"l4.gbr\"],\"drills\":[{\"file\":\"d.drl\",\"from\":2,\"to\":3}],\"netlist\":\"n.ipc\"}";
     package.hold("m.json", manifest)?;
     for name in ["l1.gbr", "l2.gbr", "l3.gbr", "l4.gbr"] {
         if name != without {
@@ -88,7 +134,12 @@ fn buried(alloc: Global, without: &str) -> Result<MemoryPackage, Fail> {
 fn outcome(alloc: Global, package: &mut MemoryPackage) -> Result<String, Fail> {
     let manifest = Text::new(alloc, b"m.json")?;
     Ok(match build(alloc, &manifest, package) {
-        Ok(board) => format!(in alloc; "layers {} pieces {} probes {}", board.layers(), board.pieces().len(), board.probes().len())?,
+        Ok(board) => format!(in alloc;
+            "layers {} pieces {} probes {}",
+            board.layers(),
+            board.pieces().len(),
+            board.probes().len()
+        )?,
         Err(fault) => format!(in alloc; "{fault:?}")?,
     })
 }
@@ -97,10 +148,16 @@ fn outcome(alloc: Global, package: &mut MemoryPackage) -> Result<String, Fail> {
 fn packages(rt: HostRuntime) -> Result<(), Fail> {
     let alloc = rt.alloc();
     let mut package = buried(alloc, "")?;
-    assert_eq!(rt; outcome(alloc, &mut package)?.as_str(), "layers 4 pieces 5 probes 2");
+    assert_eq!(rt;
+        outcome(alloc, &mut package)?.as_str(),
+        "layers 4 pieces 5 probes 2"
+    );
     assert_eq!(rt; package.calls(), 7);
     package.hold("m.json", widest(alloc)?.as_slice())?;
-    assert_eq!(rt; outcome(alloc, &mut package)?.as_str(), "layers 32 pieces 96 probes 2");
+    assert_eq!(rt;
+        outcome(alloc, &mut package)?.as_str(),
+        "layers 32 pieces 96 probes 2"
+    );
     let mut package = buried(alloc, "l2.gbr")?;
     let manifest = Text::new(alloc, b"m.json")?;
     match build(alloc, &manifest, &mut package) {
@@ -110,7 +167,14 @@ fn packages(rt: HostRuntime) -> Result<(), Fail> {
     assert_eq!(rt; package.calls(), 3);
     package.hold("l2.gbr", b"M02*X*")?;
     match build(alloc, &manifest, &mut package) {
-        Err(BuildFault::Layer { file, kind, command, at }) => {
+        Err(
+            BuildFault::Layer {
+                file,
+                kind,
+                command,
+                at,
+            },
+        ) => {
             assert_eq!(rt; file.as_str(), "l2.gbr");
             assert_eq!(rt; (kind.number(), command, at), (4, 2, 4));
         }

@@ -47,7 +47,7 @@ right_on b (Ok v) one consistent joins numbers h =
       tables_are = one.are;
       right = right;
       joins = λ k l.
-        let n = numbers one.tables v (consistent b one.tables one.are) right k l in
-        let j = joins b one.tables one.are k l in
-        ((λ x. j.1 (n.0 x)), (λ y. n.1 (j.0 y)));
+          let n = numbers one.tables v (consistent b one.tables one.are) right k l in
+          let j = joins b one.tables one.are k l in
+          ((λ x. j.1 (n.0 x)), (λ y. n.1 (j.0 y)));
     }

@@ -7,10 +7,9 @@
 pub mod judged;
 pub mod lines;
 pub mod run;
-pub mod words;
-
 #[cfg(test)]
 mod tests;
+pub mod words;
 
 use board_io::{FolderPackage, StreamSink};
 use run::run;

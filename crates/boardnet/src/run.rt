@@ -162,18 +162,37 @@ fn refuse<N: Sink>(manifest: &str, fault: &BuildFault, notes: &mut N) -> u8
             lines::about_file(notes, file.as_bytes(), b"cannot be read");
             4
         }
-        BuildFault::Layer { file, kind, command, at } => {
-            let kind = Kind { number: kind.number(), name: kind.name() };
+        BuildFault::Layer {
+            file,
+            kind,
+            command,
+            at,
+        } => {
+            let kind = Kind {
+                number: kind.number(),
+                name: kind.name(),
+            };
             lines::copper_refused(notes, file.as_bytes(), kind, *command, *at);
             3
         }
-        BuildFault::Drill { file, kind, line, at } => {
-            let kind = Kind { number: kind.number(), name: kind.name() };
+        BuildFault::Drill {
+            file,
+            kind,
+            line,
+            at,
+        } => {
+            let kind = Kind {
+                number: kind.number(),
+                name: kind.name(),
+            };
             lines::drill_refused(notes, file.as_bytes(), kind, *line, *at);
             3
         }
         BuildFault::Netlist { file, kind, line } => {
-            let kind = Kind { number: kind.number(), name: kind.name() };
+            let kind = Kind {
+                number: kind.number(),
+                name: kind.name(),
+            };
             lines::netlist_refused(notes, file.as_bytes(), kind, *line);
             3
         }

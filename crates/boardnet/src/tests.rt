@@ -80,6 +80,7 @@ fn shown(sink: &MemorySink) -> &str {
 type Row<'a> = (&'a [&'a str], &'a [&'a str], u8, &'a str, &'a str);
 
 const A_AT_0: &str = "327A                                  A01X+000000Y+000000";
+
 const A_AT_1: &str = "327A                                  A01X+001000Y+000000";
 
 #[test]
@@ -104,38 +105,89 @@ fn worked_boards(rt: HostRuntime) -> Result<(), Fail> {
         ),
         // a slanting tangent
         (
-            &["%ADD10C,10.0*%", "%ADD11C,20.0*%", "D10*", "X0Y0D03*", "D11*", "X9000000Y12000000D03*"],
-            &[A_AT_0, "327A                                  A01X+009000Y+012000"],
+            &[
+                "%ADD10C,10.0*%",
+                "%ADD11C,20.0*%",
+                "D10*",
+                "X0Y0D03*",
+                "D11*",
+                "X9000000Y12000000D03*",
+            ],
+            &[
+                A_AT_0,
+                "327A                                  A01X+009000Y+012000",
+            ],
             0,
             "boardnet: agrees\n",
             "nets 1\nnet 0 0 1:0\n",
         ),
         // no length and no width
         (
-            &["%ADD10C,1.0*%", "%ADD11C,0*%", "D10*", "X0Y0D02*", "X0Y0D01*", "D11*", "X5000000Y0D03*", "X9000000Y0D01*"],
-            &[A_AT_0, "327B                                  A01X+005000Y+000000"],
+            &[
+                "%ADD10C,1.0*%",
+                "%ADD11C,0*%",
+                "D10*",
+                "X0Y0D02*",
+                "X0Y0D01*",
+                "D11*",
+                "X5000000Y0D03*",
+                "X9000000Y0D01*",
+            ],
+            &[
+                A_AT_0,
+                "327B                                  A01X+005000Y+000000",
+            ],
             1,
             "boardnet: differs, opens 0, shorts 0, missing 1\n",
             "point 0 1 1 0 0\npoint 1 2 1 1 -\nopens 0\nshorts 0\nmissing 1\nbare 1\ndiffers\n",
         ),
         // a round end
         (
-            &["%ADD10O,2.0X1.0*%", "%ADD11C,0.2*%", "D10*", "X0Y0D03*", "D11*", "X3000000Y0D02*", "X1100000Y0D01*"],
-            &[A_AT_0, "327A                                  A01X+003000Y+000000"],
+            &[
+                "%ADD10O,2.0X1.0*%",
+                "%ADD11C,0.2*%",
+                "D10*",
+                "X0Y0D03*",
+                "D11*",
+                "X3000000Y0D02*",
+                "X1100000Y0D01*",
+            ],
+            &[
+                A_AT_0,
+                "327A                                  A01X+003000Y+000000",
+            ],
             0,
             "boardnet: agrees\n",
             "nets 1\n",
         ),
         (
-            &["%ADD10O,2.0X1.0*%", "%ADD11C,0.2*%", "D10*", "X0Y0D03*", "D11*", "X3000000Y0D02*", "X1100001Y0D01*"],
-            &[A_AT_0, "327A                                  A01X+003000Y+000000"],
+            &[
+                "%ADD10O,2.0X1.0*%",
+                "%ADD11C,0.2*%",
+                "D10*",
+                "X0Y0D03*",
+                "D11*",
+                "X3000000Y0D02*",
+                "X1100001Y0D01*",
+            ],
+            &[
+                A_AT_0,
+                "327A                                  A01X+003000Y+000000",
+            ],
             1,
             "boardnet: differs, opens 1, shorts 0, missing 0\n",
             "opens 1\nopen 0 0 1 1\n",
         ),
         // crossing bars
         (
-            &["%ADD10R,4.0X1.0*%", "%ADD11R,1.0X4.0*%", "D10*", "X0Y0D03*", "D11*", "X0Y0D03*"],
+            &[
+                "%ADD10R,4.0X1.0*%",
+                "%ADD11R,1.0X4.0*%",
+                "D10*",
+                "X0Y0D03*",
+                "D11*",
+                "X0Y0D03*",
+            ],
             &[],
             0,
             "boardnet: agrees\n",
@@ -144,10 +196,25 @@ fn worked_boards(rt: HostRuntime) -> Result<(), Fail> {
         // a plate with a hole by a cut-in
         (
             &[
-                "G36*", "X0Y0D02*", "X10000000Y0D01*", "X10000000Y10000000D01*", "X0Y10000000D01*",
-                "X0Y5000000D01*", "X3000000Y5000000D01*", "X3000000Y7000000D01*", "X7000000Y7000000D01*",
-                "X7000000Y3000000D01*", "X3000000Y3000000D01*", "X3000000Y5000000D01*", "X0Y5000000D01*",
-                "X0Y0D01*", "G37*", "%ADD10C,1.0*%", "D10*", "X1500000Y8000000D03*", "X5000000Y5000000D03*",
+                "G36*",
+                "X0Y0D02*",
+                "X10000000Y0D01*",
+                "X10000000Y10000000D01*",
+                "X0Y10000000D01*",
+                "X0Y5000000D01*",
+                "X3000000Y5000000D01*",
+                "X3000000Y7000000D01*",
+                "X7000000Y7000000D01*",
+                "X7000000Y3000000D01*",
+                "X3000000Y3000000D01*",
+                "X3000000Y5000000D01*",
+                "X0Y5000000D01*",
+                "X0Y0D01*",
+                "G37*",
+                "%ADD10C,1.0*%",
+                "D10*",
+                "X1500000Y8000000D03*",
+                "X5000000Y5000000D03*",
             ],
             &[
                 "327G                                  A01X+001000Y+001000",
@@ -161,8 +228,17 @@ fn worked_boards(rt: HostRuntime) -> Result<(), Fail> {
         // twice round
         (
             &[
-                "G36*", "X0Y0D02*", "X10000000Y0D01*", "X10000000Y10000000D01*", "X0Y10000000D01*", "X0Y0D01*",
-                "X10000000Y0D01*", "X10000000Y10000000D01*", "X0Y10000000D01*", "X0Y0D01*", "G37*",
+                "G36*",
+                "X0Y0D02*",
+                "X10000000Y0D01*",
+                "X10000000Y10000000D01*",
+                "X0Y10000000D01*",
+                "X0Y0D01*",
+                "X10000000Y0D01*",
+                "X10000000Y10000000D01*",
+                "X0Y10000000D01*",
+                "X0Y0D01*",
+                "G37*",
             ],
             &[
                 "327A                                  A01X+005000Y+005000",
@@ -174,7 +250,14 @@ fn worked_boards(rt: HostRuntime) -> Result<(), Fail> {
         ),
         // bad contours
         (
-            &["G36*", "X0Y0D02*", "X1000000Y0D01*", "X1000000Y1000000D01*", "X0Y1000000D01*", "G37*"],
+            &[
+                "G36*",
+                "X0Y0D02*",
+                "X1000000Y0D01*",
+                "X1000000Y1000000D01*",
+                "X0Y1000000D01*",
+                "G37*",
+            ],
             &[],
             3,
             "boardnet: t.gbr: Gerber 21 OpenContour at command 8, byte 87\n",
@@ -189,14 +272,26 @@ fn worked_boards(rt: HostRuntime) -> Result<(), Fail> {
         ),
         // step and repeat
         (
-            &["%ADD10C,1.0*%", "D10*", "%SRX3Y2I1.0J1.0*%", "X0Y0D03*", "%SR*%"],
+            &[
+                "%ADD10C,1.0*%",
+                "D10*",
+                "%SRX3Y2I1.0J1.0*%",
+                "X0Y0D03*",
+                "%SR*%",
+            ],
             &[],
             0,
             "boardnet: agrees\n",
             "pieces 6\nnets 1\nnet 0 0 1:0 2:0 3:1 4:2 5:3\n",
         ),
         (
-            &["%ADD10C,1.0*%", "D10*", "%SRX1000000Y1000000I1.0J1.0*%", "X0Y0D03*", "%SR*%"],
+            &[
+                "%ADD10C,1.0*%",
+                "D10*",
+                "%SRX1000000Y1000000I1.0J1.0*%",
+                "X0Y0D03*",
+                "%SR*%",
+            ],
             &[],
             3,
             "boardnet: t.gbr: Gerber 27 TooManyPieces at command 7, byte 81\n",
@@ -234,8 +329,13 @@ fn worked_boards(rt: HostRuntime) -> Result<(), Fail> {
         // a short of three names
         (
             &[
-                "%ADD10C,1.0*%", "D10*", "X0Y0D03*", "X1000000Y0D03*", "X2000000Y0D03*",
-                "X1000000Y1000000D03*", "X2000000Y1000000D03*",
+                "%ADD10C,1.0*%",
+                "D10*",
+                "X0Y0D03*",
+                "X1000000Y0D03*",
+                "X2000000Y0D03*",
+                "X1000000Y1000000D03*",
+                "X2000000Y1000000D03*",
             ],
             &[
                 A_AT_0,
@@ -248,7 +348,15 @@ fn worked_boards(rt: HostRuntime) -> Result<(), Fail> {
         ),
         // order and truncation
         (
-            &["%ADD10C,1.0*%", "D10*", "X0Y0D03*", "X0Y0D02*", "G02*", "X1000000Y0D01*", "%LPC*%"],
+            &[
+                "%ADD10C,1.0*%",
+                "D10*",
+                "X0Y0D03*",
+                "X0Y0D02*",
+                "G02*",
+                "X1000000Y0D01*",
+                "%LPC*%",
+            ],
             &[],
             3,
             "boardnet: t.gbr: Gerber 11 Arc at command 7, byte 59\n",
@@ -256,14 +364,24 @@ fn worked_boards(rt: HostRuntime) -> Result<(), Fail> {
         ),
         // the frame
         (
-            &["%ADD10C,1.0*%", "D10*", "X500000Y500000D03*", "X299500000Y299500000D03*"],
+            &[
+                "%ADD10C,1.0*%",
+                "D10*",
+                "X500000Y500000D03*",
+                "X299500000Y299500000D03*",
+            ],
             &[],
             0,
             "boardnet: agrees\n",
             "nets 2\n",
         ),
         (
-            &["%ADD10C,1.0*%", "D10*", "X500000Y500000D03*", "X299500001Y500000D03*"],
+            &[
+                "%ADD10C,1.0*%",
+                "D10*",
+                "X500000Y500000D03*",
+                "X299500001Y500000D03*",
+            ],
             &[],
             3,
             "boardnet: frame too large: 0 0 3000000010 10000000\n",
@@ -277,7 +395,13 @@ fn worked_boards(rt: HostRuntime) -> Result<(), Fail> {
             "boardnet: n.ipc: netlist 6 BadAccess at line 2\n",
             "",
         ),
-        (&[], &["017"], 3, "boardnet: n.ipc: netlist 2 Continuation at line 2\n", ""),
+        (
+            &[],
+            &["017"],
+            3,
+            "boardnet: n.ipc: netlist 2 Continuation at line 2\n",
+            "",
+        ),
     ];
     for (copper, points, status, line, part) in rows {
         let (copper, points) = (gerber(alloc, copper)?, netlist(alloc, points)?);
@@ -293,50 +417,150 @@ fn worked_boards(rt: HostRuntime) -> Result<(), Fail> {
 
 const BURIED: &str =
     "{\"copper\":[\"l1.gbr\",\"l2.gbr\",\"l3.gbr\",\"l4.gbr\"],\"drills\":[{\"file\":\"d.drl\",\"from\":2,\"to\":3}],\"netlist\":\"n.ipc\"}";
+
 const ROUTED: &str =
     "{\"copper\":[\"t.gbr\"],\"drills\":[{\"file\":\"d.drl\",\"from\":1,\"to\":1}],\"netlist\":\"n.ipc\"}";
-const DISC: &[&str] = &["%FSLAX46Y46*%", "%MOMM*%", "%ADD10C,1.0*%", "D10*", "X0Y0D03*", "M02*"];
-const TWO_DISCS: &[&str] =
-    &["%FSLAX46Y46*%", "%MOMM*%", "%ADD10C,1.0*%", "D10*", "X0Y0D03*", "X5000000Y0D03*", "M02*"];
-const BARREL: &[&str] = &["M48", "METRIC", "T1C0.4", "%", "T1", "X0.0Y0.0", "M30"];
-const NO_POINTS: &[&str] = &["P  UNITS CUST 1", "999"];
-const THROUGH_POINT: &[&str] =
-    &["P  UNITS CUST 1", "317A                                  A00X+000000Y+000000", "999"];
-const KICAD_MANIFEST: &[&str] = &[
 
+const DISC: &[&str] = &[
+    "%FSLAX46Y46*%",
+    "%MOMM*%",
+    "%ADD10C,1.0*%",
+    "D10*",
+    "X0Y0D03*",
+    "M02*",
+];
+
+const TWO_DISCS: &[&str] = &[
+    "%FSLAX46Y46*%",
+    "%MOMM*%",
+    "%ADD10C,1.0*%",
+    "D10*",
+    "X0Y0D03*",
+    "X5000000Y0D03*",
+    "M02*",
+];
+
+const BARREL: &[&str] = &["M48", "METRIC", "T1C0.4", "%", "T1", "X0.0Y0.0", "M30"];
+
+const NO_POINTS: &[&str] = &["P  UNITS CUST 1", "999"];
+
+const THROUGH_POINT: &[&str] = &[
+    "P  UNITS CUST 1",
+    "317A                                  A00X+000000Y+000000",
+    "999",
+];
+
+const KICAD_MANIFEST: &[&str] = &[
     "{\"copper\":[\"F_Cu.gbr\",\"B_Cu.gbr\"],\"drills\":[{\"file\":\"PTH.drl\",\"from\":1,\"to\":2}],\"netlist\":\"n.d356\"}",
 ];
+
 const KICAD_TOP: &[&str] = &[
-    "%TF.GenerationSoftware,KiCad,Pcbnew,7.0.1*%", "%TF.CreationDate,2024-03-01T10:00:00+01:00*%",
-    "%TF.SameCoordinates,Original*%", "%TF.FileFunction,Copper,L1,Top*%", "%TF.FilePolarity,Positive*%",
-    "%FSLAX46Y46*%", "G04 Gerber Fmt 4.6, Leading zero omitted, Abs format (unit mm)*", "%MOMM*%", "%LPD*%",
-    "G01*", "G04 APERTURE LIST*", "%TA.AperFunction,ComponentPad*%", "%ADD10C,1.600000*%",
-    "%ADD11R,1.600000X1.600000*%", "%TD*%", "%TA.AperFunction,SMDPad,CuDef*%", "%ADD12O,1.200000X0.600000*%",
-    "%TD*%", "%TA.AperFunction,Conductor*%", "%ADD13C,0.250000*%", "%TD*%", "G04 APERTURE END LIST*",
-    "%TO.P,J1,1*%", "%TO.N,GND*%", "D11*", "X100000000Y-50000000D03*", "%TO.P,J1,2*%", "%TO.N,/SIG*%", "D10*",
-    "X102540000Y-50000000D03*", "%TO.P,R1,1*%", "D12*", "X106000000Y-50000000D03*", "%TO.P,R1,2*%", "%TO.N,VCC*%",
-    "X108000000Y-50000000D03*", "%TD*%", "%TO.N,/SIG*%", "D13*", "X102540000Y-50000000D02*",
-    "X106000000Y-50000000D01*", "%TD*%", "M02*",
+    "%TF.GenerationSoftware,KiCad,Pcbnew,7.0.1*%",
+    "%TF.CreationDate,2024-03-01T10:00:00+01:00*%",
+    "%TF.SameCoordinates,Original*%",
+    "%TF.FileFunction,Copper,L1,Top*%",
+    "%TF.FilePolarity,Positive*%",
+    "%FSLAX46Y46*%",
+    "G04 Gerber Fmt 4.6, Leading zero omitted, Abs format (unit mm)*",
+    "%MOMM*%",
+    "%LPD*%",
+    "G01*",
+    "G04 APERTURE LIST*",
+    "%TA.AperFunction,ComponentPad*%",
+    "%ADD10C,1.600000*%",
+    "%ADD11R,1.600000X1.600000*%",
+    "%TD*%",
+    "%TA.AperFunction,SMDPad,CuDef*%",
+    "%ADD12O,1.200000X0.600000*%",
+    "%TD*%",
+    "%TA.AperFunction,Conductor*%",
+    "%ADD13C,0.250000*%",
+    "%TD*%",
+    "G04 APERTURE END LIST*",
+    "%TO.P,J1,1*%",
+    "%TO.N,GND*%",
+    "D11*",
+    "X100000000Y-50000000D03*",
+    "%TO.P,J1,2*%",
+    "%TO.N,/SIG*%",
+    "D10*",
+    "X102540000Y-50000000D03*",
+    "%TO.P,R1,1*%",
+    "D12*",
+    "X106000000Y-50000000D03*",
+    "%TO.P,R1,2*%",
+    "%TO.N,VCC*%",
+    "X108000000Y-50000000D03*",
+    "%TD*%",
+    "%TO.N,/SIG*%",
+    "D13*",
+    "X102540000Y-50000000D02*",
+    "X106000000Y-50000000D01*",
+    "%TD*%",
+    "M02*",
 ];
+
 const KICAD_BOTTOM: &[&str] = &[
-    "%TF.FileFunction,Copper,L2,Bot*%", "%TF.FilePolarity,Positive*%", "%FSLAX46Y46*%", "%MOMM*%", "%LPD*%",
-    "G01*", "%ADD10C,1.600000*%", "%ADD11R,1.600000X1.600000*%", "%TO.N,GND*%", "G36*", "X95000000Y-55000000D02*",
-    "X110000000Y-55000000D01*", "X110000000Y-50000000D01*", "X104040000Y-50000000D01*", "X104040000Y-51500000D01*",
-    "X101040000Y-51500000D01*", "X101040000Y-48500000D01*", "X104040000Y-48500000D01*", "X104040000Y-50000000D01*",
-    "X110000000Y-50000000D01*", "X110000000Y-45000000D01*", "X95000000Y-45000000D01*", "X95000000Y-55000000D01*",
-    "G37*", "D11*", "X100000000Y-50000000D03*", "D10*", "X102540000Y-50000000D03*", "M02*",
+    "%TF.FileFunction,Copper,L2,Bot*%",
+    "%TF.FilePolarity,Positive*%",
+    "%FSLAX46Y46*%",
+    "%MOMM*%",
+    "%LPD*%",
+    "G01*",
+    "%ADD10C,1.600000*%",
+    "%ADD11R,1.600000X1.600000*%",
+    "%TO.N,GND*%",
+    "G36*",
+    "X95000000Y-55000000D02*",
+    "X110000000Y-55000000D01*",
+    "X110000000Y-50000000D01*",
+    "X104040000Y-50000000D01*",
+    "X104040000Y-51500000D01*",
+    "X101040000Y-51500000D01*",
+    "X101040000Y-48500000D01*",
+    "X104040000Y-48500000D01*",
+    "X104040000Y-50000000D01*",
+    "X110000000Y-50000000D01*",
+    "X110000000Y-45000000D01*",
+    "X95000000Y-45000000D01*",
+    "X95000000Y-55000000D01*",
+    "G37*",
+    "D11*",
+    "X100000000Y-50000000D03*",
+    "D10*",
+    "X102540000Y-50000000D03*",
+    "M02*",
 ];
+
 const KICAD_DRILL: &[&str] = &[
-    "M48", "; DRILL file {KiCad 7.0.1} date 2024-03-01T10:00:00", "; FORMAT={-:-/ absolute / metric / decimal}",
-    "; #@! TF.FileFunction,Plated,1,2,PTH", "FMAT,2", "METRIC", "; #@! TA.AperFunction,Plated,PTH,ComponentDrill",
-    "T1C1.000", "%", "G90", "G05", "T1", "X100.0Y-50.0", "X102.54Y-50.0", "T0", "M30",
+    "M48",
+    "; DRILL file {KiCad 7.0.1} date 2024-03-01T10:00:00",
+    "; FORMAT={-:-/ absolute / metric / decimal}",
+    "; #@! TF.FileFunction,Plated,1,2,PTH",
+    "FMAT,2",
+    "METRIC",
+    "; #@! TA.AperFunction,Plated,PTH,ComponentDrill",
+    "T1C1.000",
+    "%",
+    "G90",
+    "G05",
+    "T1",
+    "X100.0Y-50.0",
+    "X102.54Y-50.0",
+    "T0",
+    "M30",
 ];
+
 const KICAD_NETLIST: &[&str] = &[
-    "P  CODE 00", "P  UNITS CUST 0", "317GND                                A00X+039370Y-019685",
+    "P  CODE 00",
+    "P  UNITS CUST 0",
+    "317GND                                A00X+039370Y-019685",
     "317/SIG                               A00X+040370Y-019685",
     "327/SIG                               A01X+041732Y-019685",
-    "327VCC                                A01X+042520Y-019685", "999",
+    "327VCC                                A01X+042520Y-019685",
+    "999",
 ];
+
 const KICAD_REPORT: &str =
     "boardnet 1\npieces 10\nnets 3\nnet 0 0 8:0 5:8 6:8\nnet 1 1 4:1 9:1 2:4 7:9\nnet 2 3\nnames 3\nname 0 GND\nname 1 /SIG\nname 2 VCC\npoints 6\npoint 0 1 1 0 0\npoint 1 1 2 0 0\npoint 2 2 1 1 1\npoint 3 2 2 1 1\npoint 4 3 1 1 1\npoint 5 4 1 2 2\nopens 0\nshorts 0\nmissing 0\nagrees\n";
 
@@ -349,55 +573,136 @@ fn worked_packages(rt: HostRuntime) -> Result<(), Fail> {
     let rows: [Files; 9] = [
         // a buried barrel
         (
-            &[("m.json", &[BURIED]), ("l1.gbr", DISC), ("l2.gbr", DISC), ("l3.gbr", DISC), ("l4.gbr", DISC), ("d.drl", BARREL), ("n.ipc", THROUGH_POINT)],
+            &[
+                ("m.json", &[BURIED]),
+                ("l1.gbr", DISC),
+                ("l2.gbr", DISC),
+                ("l3.gbr", DISC),
+                ("l4.gbr", DISC),
+                ("d.drl", BARREL),
+                ("n.ipc", THROUGH_POINT),
+            ],
             1,
             "boardnet: differs, opens 1, shorts 0, missing 0\n",
             "boardnet 1\npieces 5\nnets 3\nnet 0 0\nnet 1 1 4:1 2:4\nnet 2 3\nnames 1\nname 0 A\npoints 2\npoint 0 1 1 0 0\npoint 1 1 4 0 2\nopens 1\nopen 0 0 2 1\nshorts 0\nmissing 0\ndiffers\n",
         ),
         // a file that is not held
         (
-            &[("m.json", &[BURIED]), ("l1.gbr", DISC), ("l3.gbr", DISC), ("l4.gbr", DISC), ("d.drl", BARREL), ("n.ipc", THROUGH_POINT)],
+            &[
+                ("m.json", &[BURIED]),
+                ("l1.gbr", DISC),
+                ("l3.gbr", DISC),
+                ("l4.gbr", DISC),
+                ("d.drl", BARREL),
+                ("n.ipc", THROUGH_POINT),
+            ],
             4,
             "boardnet: l2.gbr: cannot be read\n",
             "",
         ),
         // routs
         (
-            &[("m.json", &[ROUTED]), ("t.gbr", TWO_DISCS), ("d.drl", &["M48", "METRIC", "T1C0.5", "%", "T1", "G00X0.0Y0.0", "M15", "G01X5.0Y0.0", "M16", "G05", "M30"]), ("n.ipc", NO_POINTS)],
+            &[
+                ("m.json", &[ROUTED]),
+                ("t.gbr", TWO_DISCS),
+                (
+                    "d.drl",
+                    &[
+                        "M48",
+                        "METRIC",
+                        "T1C0.5",
+                        "%",
+                        "T1",
+                        "G00X0.0Y0.0",
+                        "M15",
+                        "G01X5.0Y0.0",
+                        "M16",
+                        "G05",
+                        "M30",
+                    ],
+                ),
+                ("n.ipc", NO_POINTS),
+            ],
             0,
             "boardnet: agrees\n",
             "nets 1\nnet 0 0 2:0 1:2\n",
         ),
         (
-            &[("m.json", &[ROUTED]), ("t.gbr", TWO_DISCS), ("d.drl", &["M48", "METRIC", "T1C0.5", "%", "T1", "G00X0.0Y0.0", "M15", "G02X5.0Y0.0A2.5", "M16", "G05", "M30"]), ("n.ipc", NO_POINTS)],
+            &[
+                ("m.json", &[ROUTED]),
+                ("t.gbr", TWO_DISCS),
+                (
+                    "d.drl",
+                    &[
+                        "M48",
+                        "METRIC",
+                        "T1C0.5",
+                        "%",
+                        "T1",
+                        "G00X0.0Y0.0",
+                        "M15",
+                        "G02X5.0Y0.0A2.5",
+                        "M16",
+                        "G05",
+                        "M30",
+                    ],
+                ),
+                ("n.ipc", NO_POINTS),
+            ],
             3,
             "boardnet: d.drl: drill 9 ArcRout at line 8, byte 39\n",
             "",
         ),
         (
-            &[("m.json", &[ROUTED]), ("t.gbr", TWO_DISCS), ("d.drl", &["M48", "METRIC", "T1C0.5", "%", "T1", "X0Y0", "M30"]), ("n.ipc", NO_POINTS)],
+            &[
+                ("m.json", &[ROUTED]),
+                ("t.gbr", TWO_DISCS),
+                (
+                    "d.drl",
+                    &["M48", "METRIC", "T1C0.5", "%", "T1", "X0Y0", "M30"],
+                ),
+                ("n.ipc", NO_POINTS),
+            ],
             3,
             "boardnet: d.drl: drill 6 ImpliedDecimals at line 6, byte 23\n",
             "",
         ),
         // nothing at all
         (
-            &[("m.json", &[MANIFEST]), ("t.gbr", &["%FSLAX46Y46*%", "%MOMM*%", "M02*"]), ("n.ipc", &["999"])],
+            &[
+                ("m.json", &[MANIFEST]),
+                ("t.gbr", &["%FSLAX46Y46*%", "%MOMM*%", "M02*"]),
+                ("n.ipc", &["999"]),
+            ],
             0,
             "boardnet: agrees\n",
             "boardnet 1\npieces 0\nnets 0\nnames 0\npoints 0\nopens 0\nshorts 0\nmissing 0\nagrees\n",
         ),
         // manifests that are none
-        (&[("m.json", &["{\"copper\":[\"t.gbr\"]"])], 3, "boardnet: m.json: not JSON\n", ""),
         (
-            &[("m.json", &["{\"copper\":[],\"drills\":[],\"netlist\":\"n.ipc\"}"])],
+            &[("m.json", &["{\"copper\":[\"t.gbr\"]"])],
+            3,
+            "boardnet: m.json: not JSON\n",
+            "",
+        ),
+        (
+            &[(
+                "m.json",
+                &["{\"copper\":[],\"drills\":[],\"netlist\":\"n.ipc\"}"],
+            )],
             3,
             "boardnet: m.json: not a manifest\n",
             "",
         ),
         // ordinary use
         (
-            &[("m.json", KICAD_MANIFEST), ("F_Cu.gbr", KICAD_TOP), ("B_Cu.gbr", KICAD_BOTTOM), ("PTH.drl", KICAD_DRILL), ("n.d356", KICAD_NETLIST)],
+            &[
+                ("m.json", KICAD_MANIFEST),
+                ("F_Cu.gbr", KICAD_TOP),
+                ("B_Cu.gbr", KICAD_BOTTOM),
+                ("PTH.drl", KICAD_DRILL),
+                ("n.d356", KICAD_NETLIST),
+            ],
             0,
             "boardnet: agrees\n",
             KICAD_REPORT,
@@ -417,8 +722,17 @@ fn worked_packages(rt: HostRuntime) -> Result<(), Fail> {
 #[test]
 fn words_and_faults(rt: HostRuntime) -> Result<(), Fail> {
     let alloc = rt.alloc();
-    let wrong: [&[&str]; 5] = [&[], &["check"], &["check", "m.json", "x"], &["trial", "01", "5"], &["check", ""]];
-    let tie = gerber(alloc, &["%ADD10C,1.0*%", "D10*", "X0Y0D03*", "X1000000Y0D03*"])?;
+    let wrong: [&[&str]; 5] = [
+        &[],
+        &["check"],
+        &["check", "m.json", "x"],
+        &["trial", "01", "5"],
+        &["check", ""],
+    ];
+    let tie = gerber(
+        alloc,
+        &["%ADD10C,1.0*%", "D10*", "X0Y0D03*", "X1000000Y0D03*"],
+    )?;
     let points = netlist(alloc, &[A_AT_0, A_AT_1])?;
     for given in wrong {
         let mut package = package(alloc, tie.as_slice(), points.as_slice())?;

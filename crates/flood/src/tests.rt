@@ -178,7 +178,10 @@ fn nets_are_what_chains_join(rt: HostRuntime) -> Result<(), Fail> {
         let trees = search::<Pairs, Brand>(rt.alloc(), &field, Blank::new(1))?;
         let least = least_joined(rt.alloc(), 5, pairs.as_slice())?;
         for net in trees.as_slice() {
-            assert!(rt; is_joined(net.as_slice(), least.as_slice(), &field), "at {number}");
+            assert!(rt;
+                is_joined(net.as_slice(), least.as_slice(), &field),
+                "at {number}"
+            );
         }
         assert_eq!(rt; twigs(rt.alloc(), &trees)?.len(), 5, "at {number}");
     }
@@ -192,13 +195,31 @@ fn the_order_of_nets(rt: HostRuntime) -> Result<(), Fail> {
         (0, &[], &[]),
         (1, &[], &[(0, None)]),
         (3, &[], &[(0, None), (1, None), (2, None)]),
-        (4, &[(2, 3), (1, 2), (0, 1)], &[(0, None), (1, Some(0)), (2, Some(1)), (3, Some(2))]),
-        (4, &[(2, 0), (2, 1), (2, 3)], &[(0, None), (2, Some(0)), (1, Some(2)), (3, Some(2))]),
-        (4, &[(0, 1), (1, 2), (2, 3), (3, 0)], &[(0, None), (1, Some(0)), (3, Some(0)), (2, Some(1))]),
+        (
+            4,
+            &[(2, 3), (1, 2), (0, 1)],
+            &[(0, None), (1, Some(0)), (2, Some(1)), (3, Some(2))],
+        ),
+        (
+            4,
+            &[(2, 0), (2, 1), (2, 3)],
+            &[(0, None), (2, Some(0)), (1, Some(2)), (3, Some(2))],
+        ),
+        (
+            4,
+            &[(0, 1), (1, 2), (2, 3), (3, 0)],
+            &[(0, None), (1, Some(0)), (3, Some(0)), (2, Some(1))],
+        ),
         (
             5,
             &[(0, 1), (1, 2), (1, 3), (2, 4), (3, 4)],
-            &[(0, None), (1, Some(0)), (2, Some(1)), (3, Some(1)), (4, Some(2))],
+            &[
+                (0, None),
+                (1, Some(0)),
+                (2, Some(1)),
+                (3, Some(1)),
+                (4, Some(2)),
+            ],
         ),
     ];
     for (count, pairs, want) in table {

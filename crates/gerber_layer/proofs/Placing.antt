@@ -40,9 +40,9 @@ copies_on : (p : Place) (r : Repeat) (block : List PlainPiece) → All (OnLayer 
 unfolding copies_of
 copies_on p r block h =
     All-flat_map (OnLayer p) (column_of r block)
-      (λ column. All-flat_map (OnLayer p) (block_at r block column)
-          (λ row. moved_on p (pos column *ℤ r.dx) (pos row *ℤ r.dy) (column * r.up + row) block h) (range_with_len 0 r.up))
-      (range_with_len 0 r.across)
+    (λ column. All-flat_map (OnLayer p) (block_at r block column)
+    (λ row. moved_on p (pos column *ℤ r.dx) (pos row *ℤ r.dy) (column * r.up + row) block h) (range_with_len 0 r.up))
+    (range_with_len 0 r.across)
 
 placed_on : (p : Place) (copies : List PlainPiece) (fault : Option CopyFault) (all : List PlainPiece) → All (OnLayer p) copies → placed_copies copies fault ≡ Ok all → All (OnLayer p) all
 placed_on p copies (Some fault) all h e = absurd (cc)
@@ -64,7 +64,7 @@ with_copies_on : (p : Place) (k : Known) (block : Option Repeat) (all : List Pla
 with_copies_on p k None all h e = let same : k.pieces ≡ all = cc in subst (λ xs. All (OnLayer p) xs) same h
 with_copies_on p k (Some block) all h e =
     joined_on p (take k.start k.pieces) (copies_at block (left k) (drop k.start k.pieces)) all (All-take (OnLayer p) k.start k.pieces h)
-      (λ some is. copied_on p block (left k) (drop k.start k.pieces) some (All-drop (OnLayer p) k.start k.pieces h) is) e
+    (λ some is. copied_on p block (left k) (drop k.start k.pieces) some (All-drop (OnLayer p) k.start k.pieces h) is) e
 
 ended_on : (p : Place) (k : Known) (all : List PlainPiece) → All (OnLayer p) k.pieces → ended_block k ≡ Ok all → All (OnLayer p) all
 unfolding ended_block

@@ -51,7 +51,11 @@ fn opens_and_bare_points(rt: HostRuntime) -> Result<(), Fail> {
     let names = names_of(rt.alloc(), &[b"A", b"N/C", b"B"])?;
     let table: [(&[PointLine], &[Open], &[u32]); 4] = [
         (&[], &[], &[]),
-        (&[line(0, Some(0)), line(0, Some(1))], &[open(0, 0, 1, 1)], &[]),
+        (
+            &[line(0, Some(0)), line(0, Some(1))],
+            &[open(0, 0, 1, 1)],
+            &[],
+        ),
         (
             &[
                 line(0, None),

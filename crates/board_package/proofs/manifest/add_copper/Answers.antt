@@ -14,8 +14,7 @@ returns-in_err-name-clause-fault c =
 
 pub loop-i-preserved : goal.loop-i-preserved
 loop-i-preserved c =
-    let made = copper_made c.loop-i.i (view c.index-copper-i.result) c.in_ok-name.name c.in_ok-name.ensures.ok in
-    (
+    let made = copper_made c.loop-i.i (view c.index-copper-i.result) c.in_ok-name.name c.in_ok-name.ensures.ok in (
       more_entries copper_entry 0 c.loop-i.i c.args.copper.now c.loop-i.i c.index-copper-i.result _ c.args.files.now c.loop-i.files c.push.new.self c.loop-i-test.true c.index-copper-i.is (omega arith) made c.in_ok-push.ensures.ok c.loop-i.invariant.0,
       more_lawful (λ e. IsOnBoard (length c.args.copper.now) e.role) c.args.files.now c.loop-i.files c.push.new.self _ c.in_ok-push.ensures.ok (omega arith, omega arith) c.loop-i.invariant.1,
     )

@@ -12,8 +12,7 @@ returns-in_err-entry-clause-fault c =
     search (rules, fact)
 
 pub loop-i-preserved : goal.loop-i-preserved
-loop-i-preserved c =
-    (
-      more_entries (drill_entry c.args.layers) c.args.layers _ c.args.drills.now c.loop-i.i c.index-drills-i.result _ c.args.files.now c.loop-i.files c.push.new.self c.loop-i-test.true c.index-drills-i.is (omega arith) c.in_ok-entry.ensures.ok c.in_ok-push.ensures.ok c.loop-i.invariant.0,
-      more_lawful (λ e. IsOnBoard c.args.layers e.role) c.args.files.now c.loop-i.files c.push.new.self _ c.in_ok-push.ensures.ok c.in_ok-entry.ensures.lawful c.loop-i.invariant.1,
-    )
+loop-i-preserved c = (
+  more_entries (drill_entry c.args.layers) c.args.layers _ c.args.drills.now c.loop-i.i c.index-drills-i.result _ c.args.files.now c.loop-i.files c.push.new.self c.loop-i-test.true c.index-drills-i.is (omega arith) c.in_ok-entry.ensures.ok c.in_ok-push.ensures.ok c.loop-i.invariant.0,
+  more_lawful (λ e. IsOnBoard c.args.layers e.role) c.args.files.now c.loop-i.files c.push.new.self _ c.in_ok-push.ensures.ok c.in_ok-entry.ensures.lawful c.loop-i.invariant.1,
+)

@@ -21,11 +21,11 @@ returns-in_err-netlist-clause-fault c =
 pub returns-clause-ok : goal.returns-clause-ok
 returns-clause-ok c =
     subst (λ o. IfOk c.manifest_from.result (λ m. o ≡ Some m))
-      (manifest_parts (view c.args.value.now) (map view c.in-Some.copper.now) (map view c.in-Some-list_at.drills.now) c.in_ok-netlist.netlist c.if-not-has_members.ensures c.in-Some.ensures c.in-Some-list_at.ensures c.in_ok-netlist.ensures.ok)
-      c.manifest_from.ensures.ok
+    (manifest_parts (view c.args.value.now) (map view c.in-Some.copper.now) (map view c.in-Some-list_at.drills.now) c.in_ok-netlist.netlist c.if-not-has_members.ensures c.in-Some.ensures c.in-Some-list_at.ensures c.in_ok-netlist.ensures.ok)
+    c.manifest_from.ensures.ok
 
 pub returns-clause-fault : goal.returns-clause-fault
 returns-clause-fault c =
     subst (λ o. IfErr c.manifest_from.result (Misses o))
-      (manifest_parts (view c.args.value.now) (map view c.in-Some.copper.now) (map view c.in-Some-list_at.drills.now) c.in_ok-netlist.netlist c.if-not-has_members.ensures c.in-Some.ensures c.in-Some-list_at.ensures c.in_ok-netlist.ensures.ok)
-      c.manifest_from.ensures.fault
+    (manifest_parts (view c.args.value.now) (map view c.in-Some.copper.now) (map view c.in-Some-list_at.drills.now) c.in_ok-netlist.netlist c.if-not-has_members.ensures c.in-Some.ensures c.in-Some-list_at.ensures c.in_ok-netlist.ensures.ok)
+    c.manifest_from.ensures.fault

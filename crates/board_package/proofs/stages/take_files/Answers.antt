@@ -9,10 +9,10 @@ use Rattle.board_package.proofs.stages.take_files.Goals as goal
 pub returns-in_err-take_entry-clause-cause : goal.returns-in_err-take_entry-clause-cause
 returns-in_err-take_entry-clause-cause g c =
     let fact : HasCause (g.P.Package.held c.args.package.now) (λ files stop. StopsAmong files c.args.entries.now (board_so_far c.args.parts.now) stop) (λ files name. ComesAmong files c.args.entries.now (board_so_far c.args.parts.now) name)
-        (g.P.Package.faults c.args.package.now) (g.P.Package.faults c.take_entry.new.package) (g.P.Package.lost c.take_entry.new.package) c.in_err-take_entry.field-0.0 =
+    (g.P.Package.faults c.args.package.now) (g.P.Package.faults c.take_entry.new.package) (g.P.Package.lost c.take_entry.new.package) c.in_err-take_entry.field-0.0 =
     entry_cause (g.P.Package.held c.args.package.now) (g.P.Package.held c.loop-entry.package) c.args.entries.now c.loop-entry.entry-index c.entry-item.result (board_so_far c.args.parts.now) (board_so_far c.loop-entry.parts)
-      (g.P.Package.faults c.args.package.now) (g.P.Package.faults c.loop-entry.package) (g.P.Package.faults c.take_entry.new.package) (g.P.Package.lost c.take_entry.new.package) c.in_err-take_entry.field-0.0
-      c.loop-entry-test.true c.entry-item.is c.loop-entry.invariant.held c.loop-entry.invariant.later c.loop-entry.invariant.walked c.in_err-take_entry.ensures.cause in
+    (g.P.Package.faults c.args.package.now) (g.P.Package.faults c.loop-entry.package) (g.P.Package.faults c.take_entry.new.package) (g.P.Package.lost c.take_entry.new.package) c.in_err-take_entry.field-0.0
+    c.loop-entry-test.true c.entry-item.is c.loop-entry.invariant.held c.loop-entry.invariant.later c.loop-entry.invariant.walked c.in_err-take_entry.ensures.cause in
     search (rules, fact)
 
 pub loop-entry-preserved : goal.loop-entry-preserved
@@ -20,7 +20,7 @@ loop-entry-preserved g c = record {
   held = c.take_entry.ensures.held ∙ c.loop-entry.invariant.held;
   later = omega (arith, c.take_entry.ensures.later, c.loop-entry.invariant.later);
   walked = entry_walked (g.P.Package.held c.args.package.now) (g.P.Package.held c.loop-entry.package) c.args.entries.now c.loop-entry.entry-index c.entry-item.result (board_so_far c.args.parts.now) (board_so_far c.loop-entry.parts) (board_so_far c.take_entry.new.parts)
-    c.loop-entry-test.true c.entry-item.is c.loop-entry.invariant.held c.loop-entry.invariant.walked c.in_ok-take_entry.ensures.found;
+      c.loop-entry-test.true c.entry-item.is c.loop-entry.invariant.held c.loop-entry.invariant.walked c.in_ok-take_entry.ensures.found;
   parts = c.in_ok-take_entry.ensures.parts;
   layers = c.in_ok-take_entry.ensures.layers ∙ c.loop-entry.invariant.layers;
 }
