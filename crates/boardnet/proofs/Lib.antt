@@ -1,3 +1,4 @@
+pub mod Complete
 pub mod OnBoard
 pub mod Reports
 pub mod Says

@@ -16,7 +16,7 @@ use crate::judged::judged;
 use crate::lines::{self, Kind};
 use crate::words::manifest_of;
 use board_io::{Package, Put, Sink};
-use board_package::{BuildFault, build};
+use board_package::{BuildFault, build, laws};
 use lengths::{NoMemory, Text};
 use std::alloc::Global;
 use verdict::Verdict;
@@ -113,7 +113,10 @@ fn check<P: Package, S: Sink, N: Sink>(
 {
     match report(alloc, manifest, package) {
         Ok((verdict, text)) => finish(&verdict, text.as_slice(), out, notes),
-        Err(fault) => refuse(manifest, &fault, notes),
+        Err(fault) => {
+            laws::one_outcome();
+            refuse(manifest, &fault, notes)
+        }
     }
 }
 
