@@ -76,8 +76,27 @@ fn shown(sink: &MemorySink) -> &str {
     str::from_utf8(sink.bytes()).unwrap_or("no text")
 }
 
-// A row: copper, records of the netlist, the status, the line, and a part of the report.
-type Row<'a> = (&'a [&'a str], &'a [&'a str], u8, &'a str, &'a str);
+// A package of files by their lines, the status, the line, and a part of the report.
+type Files<'a> = (&'a [(&'a str, &'a [&'a str])], u8, &'a [u8], &'a [u8]);
+
+// Whether the bytes have this part.
+fn has(bytes: &[u8], part: &[u8]) -> bool {
+    part.is_empty() || bytes.windows(part.len()).any(|window| window == part)
+}
+
+// Whether `check` over these files gives the status, the line, and a report with this part, or none where it is empty.
+fn answers(
+    alloc: Global,
+    given: &[(&str, &[&str])],
+    status: u8,
+    line: &[u8],
+    part: &[u8],
+) -> Result<bool, Fail> {
+    let mut package = files(alloc, given)?;
+    let (found, out, notes) = answer(alloc, &["check", "m.json"], &mut package)?;
+    let silent = out.bytes().is_empty() == part.is_empty();
+    Ok(found == status && notes.bytes() == line && has(out.bytes(), part) && silent)
+}
 
 const A_AT_0: &str = "327A                                  A01X+000000Y+000000";
 
@@ -86,331 +105,591 @@ const A_AT_1: &str = "327A                                  A01X+001000Y+000000"
 #[test]
 fn worked_boards(rt: HostRuntime) -> Result<(), Fail> {
     let alloc = rt.alloc();
-    let rows: [Row; 22] = [
+    let rows: [Files; 22] = [
         // the tie
         (
-            &["%ADD10C,1.0*%", "D10*", "X0Y0D03*", "X1000000Y0D03*"],
-            &[A_AT_0, A_AT_1],
+            &[
+                ("m.json", &[MANIFEST]),
+                (
+                    "t.gbr",
+                    &[
+                        "%FSLAX46Y46*%",
+                        "%MOMM*%",
+                        "%ADD10C,1.0*%",
+                        "D10*",
+                        "X0Y0D03*",
+                        "X1000000Y0D03*",
+                        "M02*",
+                    ],
+                ),
+                ("n.ipc", &["P  UNITS CUST 1", A_AT_0, A_AT_1, "999"]),
+            ],
             0,
-            "boardnet: agrees\n",
-            "boardnet 1\npieces 2\nnets 1\nnet 0 0 1:0\nnames 1\nname 0 A\npoints 2\npoint 0 1 1 0 0\npoint 1 2 1 0 0\nopens 0\nshorts 0\nmissing 0\nagrees\n",
+            b"boardnet: agrees\n",
+            b"boardnet 1\npieces 2\nnets 1\nnet 0 0 1:0\nnames 1\nname 0 A\npoints 2\npoint 0 1 1 0 0\npoint 1 2 1 0 0\nopens 0\nshorts 0\nmissing 0\nagrees\n",
         ),
         // apart by one nanometre
         (
-            &["%ADD10C,1.0*%", "D10*", "X0Y0D03*", "X1000001Y0D03*"],
-            &[A_AT_0, A_AT_1],
+            &[
+                ("m.json", &[MANIFEST]),
+                (
+                    "t.gbr",
+                    &[
+                        "%FSLAX46Y46*%",
+                        "%MOMM*%",
+                        "%ADD10C,1.0*%",
+                        "D10*",
+                        "X0Y0D03*",
+                        "X1000001Y0D03*",
+                        "M02*",
+                    ],
+                ),
+                ("n.ipc", &["P  UNITS CUST 1", A_AT_0, A_AT_1, "999"]),
+            ],
             1,
-            "boardnet: differs, opens 1, shorts 0, missing 0\n",
-            "boardnet 1\npieces 2\nnets 2\nnet 0 0\nnet 1 1\nnames 1\nname 0 A\npoints 2\npoint 0 1 1 0 0\npoint 1 2 1 0 1\nopens 1\nopen 0 0 1 1\nshorts 0\nmissing 0\ndiffers\n",
+            b"boardnet: differs, opens 1, shorts 0, missing 0\n",
+            b"boardnet 1\npieces 2\nnets 2\nnet 0 0\nnet 1 1\nnames 1\nname 0 A\npoints 2\npoint 0 1 1 0 0\npoint 1 2 1 0 1\nopens 1\nopen 0 0 1 1\nshorts 0\nmissing 0\ndiffers\n",
         ),
         // a slanting tangent
         (
             &[
-                "%ADD10C,10.0*%",
-                "%ADD11C,20.0*%",
-                "D10*",
-                "X0Y0D03*",
-                "D11*",
-                "X9000000Y12000000D03*",
-            ],
-            &[
-                A_AT_0,
-                "327A                                  A01X+009000Y+012000",
+                ("m.json", &[MANIFEST]),
+                (
+                    "t.gbr",
+                    &[
+                        "%FSLAX46Y46*%",
+                        "%MOMM*%",
+                        "%ADD10C,10.0*%",
+                        "%ADD11C,20.0*%",
+                        "D10*",
+                        "X0Y0D03*",
+                        "D11*",
+                        "X9000000Y12000000D03*",
+                        "M02*",
+                    ],
+                ),
+                (
+                    "n.ipc",
+                    &[
+                        "P  UNITS CUST 1",
+                        A_AT_0,
+                        "327A                                  A01X+009000Y+012000",
+                        "999",
+                    ],
+                ),
             ],
             0,
-            "boardnet: agrees\n",
-            "nets 1\nnet 0 0 1:0\n",
+            b"boardnet: agrees\n",
+            b"nets 1\nnet 0 0 1:0\n",
         ),
         // no length and no width
         (
             &[
-                "%ADD10C,1.0*%",
-                "%ADD11C,0*%",
-                "D10*",
-                "X0Y0D02*",
-                "X0Y0D01*",
-                "D11*",
-                "X5000000Y0D03*",
-                "X9000000Y0D01*",
-            ],
-            &[
-                A_AT_0,
-                "327B                                  A01X+005000Y+000000",
+                ("m.json", &[MANIFEST]),
+                (
+                    "t.gbr",
+                    &[
+                        "%FSLAX46Y46*%",
+                        "%MOMM*%",
+                        "%ADD10C,1.0*%",
+                        "%ADD11C,0*%",
+                        "D10*",
+                        "X0Y0D02*",
+                        "X0Y0D01*",
+                        "D11*",
+                        "X5000000Y0D03*",
+                        "X9000000Y0D01*",
+                        "M02*",
+                    ],
+                ),
+                (
+                    "n.ipc",
+                    &[
+                        "P  UNITS CUST 1",
+                        A_AT_0,
+                        "327B                                  A01X+005000Y+000000",
+                        "999",
+                    ],
+                ),
             ],
             1,
-            "boardnet: differs, opens 0, shorts 0, missing 1\n",
-            "point 0 1 1 0 0\npoint 1 2 1 1 -\nopens 0\nshorts 0\nmissing 1\nbare 1\ndiffers\n",
+            b"boardnet: differs, opens 0, shorts 0, missing 1\n",
+            b"point 0 1 1 0 0\npoint 1 2 1 1 -\nopens 0\nshorts 0\nmissing 1\nbare 1\ndiffers\n",
         ),
         // a round end
         (
             &[
-                "%ADD10O,2.0X1.0*%",
-                "%ADD11C,0.2*%",
-                "D10*",
-                "X0Y0D03*",
-                "D11*",
-                "X3000000Y0D02*",
-                "X1100000Y0D01*",
-            ],
-            &[
-                A_AT_0,
-                "327A                                  A01X+003000Y+000000",
+                ("m.json", &[MANIFEST]),
+                (
+                    "t.gbr",
+                    &[
+                        "%FSLAX46Y46*%",
+                        "%MOMM*%",
+                        "%ADD10O,2.0X1.0*%",
+                        "%ADD11C,0.2*%",
+                        "D10*",
+                        "X0Y0D03*",
+                        "D11*",
+                        "X3000000Y0D02*",
+                        "X1100000Y0D01*",
+                        "M02*",
+                    ],
+                ),
+                (
+                    "n.ipc",
+                    &[
+                        "P  UNITS CUST 1",
+                        A_AT_0,
+                        "327A                                  A01X+003000Y+000000",
+                        "999",
+                    ],
+                ),
             ],
             0,
-            "boardnet: agrees\n",
-            "nets 1\n",
+            b"boardnet: agrees\n",
+            b"nets 1\n",
         ),
         (
             &[
-                "%ADD10O,2.0X1.0*%",
-                "%ADD11C,0.2*%",
-                "D10*",
-                "X0Y0D03*",
-                "D11*",
-                "X3000000Y0D02*",
-                "X1100001Y0D01*",
-            ],
-            &[
-                A_AT_0,
-                "327A                                  A01X+003000Y+000000",
+                ("m.json", &[MANIFEST]),
+                (
+                    "t.gbr",
+                    &[
+                        "%FSLAX46Y46*%",
+                        "%MOMM*%",
+                        "%ADD10O,2.0X1.0*%",
+                        "%ADD11C,0.2*%",
+                        "D10*",
+                        "X0Y0D03*",
+                        "D11*",
+                        "X3000000Y0D02*",
+                        "X1100001Y0D01*",
+                        "M02*",
+                    ],
+                ),
+                (
+                    "n.ipc",
+                    &[
+                        "P  UNITS CUST 1",
+                        A_AT_0,
+                        "327A                                  A01X+003000Y+000000",
+                        "999",
+                    ],
+                ),
             ],
             1,
-            "boardnet: differs, opens 1, shorts 0, missing 0\n",
-            "opens 1\nopen 0 0 1 1\n",
+            b"boardnet: differs, opens 1, shorts 0, missing 0\n",
+            b"opens 1\nopen 0 0 1 1\n",
         ),
         // crossing bars
         (
             &[
-                "%ADD10R,4.0X1.0*%",
-                "%ADD11R,1.0X4.0*%",
-                "D10*",
-                "X0Y0D03*",
-                "D11*",
-                "X0Y0D03*",
+                ("m.json", &[MANIFEST]),
+                (
+                    "t.gbr",
+                    &[
+                        "%FSLAX46Y46*%",
+                        "%MOMM*%",
+                        "%ADD10R,4.0X1.0*%",
+                        "%ADD11R,1.0X4.0*%",
+                        "D10*",
+                        "X0Y0D03*",
+                        "D11*",
+                        "X0Y0D03*",
+                        "M02*",
+                    ],
+                ),
+                ("n.ipc", &["P  UNITS CUST 1", "999"]),
             ],
-            &[],
             0,
-            "boardnet: agrees\n",
-            "nets 1\nnet 0 0 1:0\n",
+            b"boardnet: agrees\n",
+            b"nets 1\nnet 0 0 1:0\n",
         ),
         // a plate with a hole by a cut-in
         (
             &[
-                "G36*",
-                "X0Y0D02*",
-                "X10000000Y0D01*",
-                "X10000000Y10000000D01*",
-                "X0Y10000000D01*",
-                "X0Y5000000D01*",
-                "X3000000Y5000000D01*",
-                "X3000000Y7000000D01*",
-                "X7000000Y7000000D01*",
-                "X7000000Y3000000D01*",
-                "X3000000Y3000000D01*",
-                "X3000000Y5000000D01*",
-                "X0Y5000000D01*",
-                "X0Y0D01*",
-                "G37*",
-                "%ADD10C,1.0*%",
-                "D10*",
-                "X1500000Y8000000D03*",
-                "X5000000Y5000000D03*",
-            ],
-            &[
-                "327G                                  A01X+001000Y+001000",
-                "327G                                  A01X+001500Y+008000",
-                "327G                                  A01X+005000Y+005000",
+                ("m.json", &[MANIFEST]),
+                (
+                    "t.gbr",
+                    &[
+                        "%FSLAX46Y46*%",
+                        "%MOMM*%",
+                        "G36*",
+                        "X0Y0D02*",
+                        "X10000000Y0D01*",
+                        "X10000000Y10000000D01*",
+                        "X0Y10000000D01*",
+                        "X0Y5000000D01*",
+                        "X3000000Y5000000D01*",
+                        "X3000000Y7000000D01*",
+                        "X7000000Y7000000D01*",
+                        "X7000000Y3000000D01*",
+                        "X3000000Y3000000D01*",
+                        "X3000000Y5000000D01*",
+                        "X0Y5000000D01*",
+                        "X0Y0D01*",
+                        "G37*",
+                        "%ADD10C,1.0*%",
+                        "D10*",
+                        "X1500000Y8000000D03*",
+                        "X5000000Y5000000D03*",
+                        "M02*",
+                    ],
+                ),
+                (
+                    "n.ipc",
+                    &[
+                        "P  UNITS CUST 1",
+                        "327G                                  A01X+001000Y+001000",
+                        "327G                                  A01X+001500Y+008000",
+                        "327G                                  A01X+005000Y+005000",
+                        "999",
+                    ],
+                ),
             ],
             1,
-            "boardnet: differs, opens 1, shorts 0, missing 0\n",
-            "net 0 0 1:0\nnet 1 2\nnames 1\nname 0 G\npoints 3\npoint 0 1 1 0 0\npoint 1 2 1 0 0\npoint 2 3 1 0 1\nopens 1\nopen 0 0 1 2\n",
+            b"boardnet: differs, opens 1, shorts 0, missing 0\n",
+            b"net 0 0 1:0\nnet 1 2\nnames 1\nname 0 G\npoints 3\npoint 0 1 1 0 0\npoint 1 2 1 0 0\npoint 2 3 1 0 1\nopens 1\nopen 0 0 1 2\n",
         ),
         // twice round
         (
             &[
-                "G36*",
-                "X0Y0D02*",
-                "X10000000Y0D01*",
-                "X10000000Y10000000D01*",
-                "X0Y10000000D01*",
-                "X0Y0D01*",
-                "X10000000Y0D01*",
-                "X10000000Y10000000D01*",
-                "X0Y10000000D01*",
-                "X0Y0D01*",
-                "G37*",
-            ],
-            &[
-                "327A                                  A01X+005000Y+005000",
-                "327B                                  A01X+000000Y+005000",
+                ("m.json", &[MANIFEST]),
+                (
+                    "t.gbr",
+                    &[
+                        "%FSLAX46Y46*%",
+                        "%MOMM*%",
+                        "G36*",
+                        "X0Y0D02*",
+                        "X10000000Y0D01*",
+                        "X10000000Y10000000D01*",
+                        "X0Y10000000D01*",
+                        "X0Y0D01*",
+                        "X10000000Y0D01*",
+                        "X10000000Y10000000D01*",
+                        "X0Y10000000D01*",
+                        "X0Y0D01*",
+                        "G37*",
+                        "M02*",
+                    ],
+                ),
+                (
+                    "n.ipc",
+                    &[
+                        "P  UNITS CUST 1",
+                        "327A                                  A01X+005000Y+005000",
+                        "327B                                  A01X+000000Y+005000",
+                        "999",
+                    ],
+                ),
             ],
             1,
-            "boardnet: differs, opens 0, shorts 0, missing 1\n",
-            "point 0 1 1 0 -\npoint 1 2 1 1 0\nopens 0\nshorts 0\nmissing 1\nbare 0\n",
+            b"boardnet: differs, opens 0, shorts 0, missing 1\n",
+            b"point 0 1 1 0 -\npoint 1 2 1 1 0\nopens 0\nshorts 0\nmissing 1\nbare 0\n",
         ),
         // bad contours
         (
             &[
-                "G36*",
-                "X0Y0D02*",
-                "X1000000Y0D01*",
-                "X1000000Y1000000D01*",
-                "X0Y1000000D01*",
-                "G37*",
+                ("m.json", &[MANIFEST]),
+                (
+                    "t.gbr",
+                    &[
+                        "%FSLAX46Y46*%",
+                        "%MOMM*%",
+                        "G36*",
+                        "X0Y0D02*",
+                        "X1000000Y0D01*",
+                        "X1000000Y1000000D01*",
+                        "X0Y1000000D01*",
+                        "G37*",
+                        "M02*",
+                    ],
+                ),
+                ("n.ipc", &["P  UNITS CUST 1", "999"]),
             ],
-            &[],
             3,
-            "boardnet: t.gbr: Gerber 21 OpenContour at command 8, byte 87\n",
-            "",
+            b"boardnet: t.gbr: Gerber 21 OpenContour at command 8, byte 87\n",
+            b"",
         ),
         (
-            &["G36*", "X0Y0D02*", "X1000000Y0D01*", "X0Y0D01*", "G37*"],
-            &[],
+            &[
+                ("m.json", &[MANIFEST]),
+                (
+                    "t.gbr",
+                    &[
+                        "%FSLAX46Y46*%",
+                        "%MOMM*%",
+                        "G36*",
+                        "X0Y0D02*",
+                        "X1000000Y0D01*",
+                        "X0Y0D01*",
+                        "G37*",
+                        "M02*",
+                    ],
+                ),
+                ("n.ipc", &["P  UNITS CUST 1", "999"]),
+            ],
             3,
-            "boardnet: t.gbr: Gerber 22 ShortContour at command 7, byte 60\n",
-            "",
+            b"boardnet: t.gbr: Gerber 22 ShortContour at command 7, byte 60\n",
+            b"",
         ),
         // step and repeat
         (
             &[
-                "%ADD10C,1.0*%",
-                "D10*",
-                "%SRX3Y2I1.0J1.0*%",
-                "X0Y0D03*",
-                "%SR*%",
+                ("m.json", &[MANIFEST]),
+                (
+                    "t.gbr",
+                    &[
+                        "%FSLAX46Y46*%",
+                        "%MOMM*%",
+                        "%ADD10C,1.0*%",
+                        "D10*",
+                        "%SRX3Y2I1.0J1.0*%",
+                        "X0Y0D03*",
+                        "%SR*%",
+                        "M02*",
+                    ],
+                ),
+                ("n.ipc", &["P  UNITS CUST 1", "999"]),
             ],
-            &[],
             0,
-            "boardnet: agrees\n",
-            "pieces 6\nnets 1\nnet 0 0 1:0 2:0 3:1 4:2 5:3\n",
+            b"boardnet: agrees\n",
+            b"pieces 6\nnets 1\nnet 0 0 1:0 2:0 3:1 4:2 5:3\n",
         ),
         (
             &[
-                "%ADD10C,1.0*%",
-                "D10*",
-                "%SRX1000000Y1000000I1.0J1.0*%",
-                "X0Y0D03*",
-                "%SR*%",
+                ("m.json", &[MANIFEST]),
+                (
+                    "t.gbr",
+                    &[
+                        "%FSLAX46Y46*%",
+                        "%MOMM*%",
+                        "%ADD10C,1.0*%",
+                        "D10*",
+                        "%SRX1000000Y1000000I1.0J1.0*%",
+                        "X0Y0D03*",
+                        "%SR*%",
+                        "M02*",
+                    ],
+                ),
+                ("n.ipc", &["P  UNITS CUST 1", "999"]),
             ],
-            &[],
             3,
-            "boardnet: t.gbr: Gerber 27 TooManyPieces at command 7, byte 81\n",
-            "",
+            b"boardnet: t.gbr: Gerber 27 TooManyPieces at command 7, byte 81\n",
+            b"",
         ),
         // the grid
         (
-            &["%ADD10C,1.0000001*%", "D10*", "X0Y0D03*"],
-            &[],
+            &[
+                ("m.json", &[MANIFEST]),
+                (
+                    "t.gbr",
+                    &[
+                        "%FSLAX46Y46*%",
+                        "%MOMM*%",
+                        "%ADD10C,1.0000001*%",
+                        "D10*",
+                        "X0Y0D03*",
+                        "M02*",
+                    ],
+                ),
+                ("n.ipc", &["P  UNITS CUST 1", "999"]),
+            ],
             3,
-            "boardnet: t.gbr: Gerber 23 OffGrid at command 3, byte 23\n",
-            "",
+            b"boardnet: t.gbr: Gerber 23 OffGrid at command 3, byte 23\n",
+            b"",
         ),
         // points that are joined to nothing
         (
-            &["%ADD10C,1.0*%", "D10*", "X0Y0D03*"],
             &[
-                "327GND                                A01X+000000Y+000000",
-                "327N/C                                A01X+000100Y+000000",
+                ("m.json", &[MANIFEST]),
+                (
+                    "t.gbr",
+                    &[
+                        "%FSLAX46Y46*%",
+                        "%MOMM*%",
+                        "%ADD10C,1.0*%",
+                        "D10*",
+                        "X0Y0D03*",
+                        "M02*",
+                    ],
+                ),
+                (
+                    "n.ipc",
+                    &[
+                        "P  UNITS CUST 1",
+                        "327GND                                A01X+000000Y+000000",
+                        "327N/C                                A01X+000100Y+000000",
+                        "999",
+                    ],
+                ),
             ],
             1,
-            "boardnet: differs, opens 0, shorts 1, missing 0\n",
-            "name 0 GND\nname 1 N/C\npoints 2\npoint 0 1 1 0 0\npoint 1 2 1 1 0\nopens 0\nshorts 1\nshort 0 2\nbranch 0 0 0\nbranch 1 1 0\nmissing 0\ndiffers\n",
+            b"boardnet: differs, opens 0, shorts 1, missing 0\n",
+            b"name 0 GND\nname 1 N/C\npoints 2\npoint 0 1 1 0 0\npoint 1 2 1 1 0\nopens 0\nshorts 1\nshort 0 2\nbranch 0 0 0\nbranch 1 1 0\nmissing 0\ndiffers\n",
         ),
         (
-            &["%ADD10C,1.0*%", "D10*", "X0Y0D03*"],
             &[
-                "327N/C                                A01X+000000Y+000000",
-                "327                                   A01X+000100Y+000000",
+                ("m.json", &[MANIFEST]),
+                (
+                    "t.gbr",
+                    &[
+                        "%FSLAX46Y46*%",
+                        "%MOMM*%",
+                        "%ADD10C,1.0*%",
+                        "D10*",
+                        "X0Y0D03*",
+                        "M02*",
+                    ],
+                ),
+                (
+                    "n.ipc",
+                    &[
+                        "P  UNITS CUST 1",
+                        "327N/C                                A01X+000000Y+000000",
+                        "327                                   A01X+000100Y+000000",
+                        "999",
+                    ],
+                ),
             ],
             0,
-            "boardnet: agrees\n",
-            "names 1\nname 0 N/C\n",
+            b"boardnet: agrees\n",
+            b"names 1\nname 0 N/C\n",
         ),
         // a short of three names
         (
             &[
-                "%ADD10C,1.0*%",
-                "D10*",
-                "X0Y0D03*",
-                "X1000000Y0D03*",
-                "X2000000Y0D03*",
-                "X1000000Y1000000D03*",
-                "X2000000Y1000000D03*",
-            ],
-            &[
-                A_AT_0,
-                "327B                                  A01X+002000Y+000000",
-                "327C                                  A01X+002000Y+001000",
+                ("m.json", &[MANIFEST]),
+                (
+                    "t.gbr",
+                    &[
+                        "%FSLAX46Y46*%",
+                        "%MOMM*%",
+                        "%ADD10C,1.0*%",
+                        "D10*",
+                        "X0Y0D03*",
+                        "X1000000Y0D03*",
+                        "X2000000Y0D03*",
+                        "X1000000Y1000000D03*",
+                        "X2000000Y1000000D03*",
+                        "M02*",
+                    ],
+                ),
+                (
+                    "n.ipc",
+                    &[
+                        "P  UNITS CUST 1",
+                        A_AT_0,
+                        "327B                                  A01X+002000Y+000000",
+                        "327C                                  A01X+002000Y+001000",
+                        "999",
+                    ],
+                ),
             ],
             1,
-            "boardnet: differs, opens 0, shorts 1, missing 0\n",
-            "boardnet 1\npieces 5\nnets 1\nnet 0 0 1:0 2:1 3:1 4:2\nnames 3\nname 0 A\nname 1 B\nname 2 C\npoints 3\npoint 0 1 1 0 0\npoint 1 2 1 1 0\npoint 2 3 1 2 0\nopens 0\nshorts 1\nshort 0 3\nbranch 0 0 0\nbranch 1 1 2 1 0\nbranch 2 2 4 2\nmissing 0\ndiffers\n",
+            b"boardnet: differs, opens 0, shorts 1, missing 0\n",
+            b"boardnet 1\npieces 5\nnets 1\nnet 0 0 1:0 2:1 3:1 4:2\nnames 3\nname 0 A\nname 1 B\nname 2 C\npoints 3\npoint 0 1 1 0 0\npoint 1 2 1 1 0\npoint 2 3 1 2 0\nopens 0\nshorts 1\nshort 0 3\nbranch 0 0 0\nbranch 1 1 2 1 0\nbranch 2 2 4 2\nmissing 0\ndiffers\n",
         ),
         // order and truncation
         (
             &[
-                "%ADD10C,1.0*%",
-                "D10*",
-                "X0Y0D03*",
-                "X0Y0D02*",
-                "G02*",
-                "X1000000Y0D01*",
-                "%LPC*%",
+                ("m.json", &[MANIFEST]),
+                (
+                    "t.gbr",
+                    &[
+                        "%FSLAX46Y46*%",
+                        "%MOMM*%",
+                        "%ADD10C,1.0*%",
+                        "D10*",
+                        "X0Y0D03*",
+                        "X0Y0D02*",
+                        "G02*",
+                        "X1000000Y0D01*",
+                        "%LPC*%",
+                        "M02*",
+                    ],
+                ),
+                ("n.ipc", &["P  UNITS CUST 1", "999"]),
             ],
-            &[],
             3,
-            "boardnet: t.gbr: Gerber 11 Arc at command 7, byte 59\n",
-            "",
+            b"boardnet: t.gbr: Gerber 11 Arc at command 7, byte 59\n",
+            b"",
         ),
         // the frame
         (
             &[
-                "%ADD10C,1.0*%",
-                "D10*",
-                "X500000Y500000D03*",
-                "X299500000Y299500000D03*",
+                ("m.json", &[MANIFEST]),
+                (
+                    "t.gbr",
+                    &[
+                        "%FSLAX46Y46*%",
+                        "%MOMM*%",
+                        "%ADD10C,1.0*%",
+                        "D10*",
+                        "X500000Y500000D03*",
+                        "X299500000Y299500000D03*",
+                        "M02*",
+                    ],
+                ),
+                ("n.ipc", &["P  UNITS CUST 1", "999"]),
             ],
-            &[],
             0,
-            "boardnet: agrees\n",
-            "nets 2\n",
+            b"boardnet: agrees\n",
+            b"nets 2\n",
         ),
         (
             &[
-                "%ADD10C,1.0*%",
-                "D10*",
-                "X500000Y500000D03*",
-                "X299500001Y500000D03*",
+                ("m.json", &[MANIFEST]),
+                (
+                    "t.gbr",
+                    &[
+                        "%FSLAX46Y46*%",
+                        "%MOMM*%",
+                        "%ADD10C,1.0*%",
+                        "D10*",
+                        "X500000Y500000D03*",
+                        "X299500001Y500000D03*",
+                        "M02*",
+                    ],
+                ),
+                ("n.ipc", &["P  UNITS CUST 1", "999"]),
             ],
-            &[],
             3,
-            "boardnet: frame too large: 0 0 3000000010 10000000\n",
-            "",
+            b"boardnet: frame too large: 0 0 3000000010 10000000\n",
+            b"",
         ),
         // netlist refusals
         (
-            &[],
-            &["327A                                  A02X+000000Y+000000"],
+            &[
+                ("m.json", &[MANIFEST]),
+                ("t.gbr", &["%FSLAX46Y46*%", "%MOMM*%", "M02*"]),
+                (
+                    "n.ipc",
+                    &[
+                        "P  UNITS CUST 1",
+                        "327A                                  A02X+000000Y+000000",
+                        "999",
+                    ],
+                ),
+            ],
             3,
-            "boardnet: n.ipc: netlist 6 BadAccess at line 2\n",
-            "",
+            b"boardnet: n.ipc: netlist 6 BadAccess at line 2\n",
+            b"",
         ),
         (
-            &[],
-            &["017"],
+            &[
+                ("m.json", &[MANIFEST]),
+                ("t.gbr", &["%FSLAX46Y46*%", "%MOMM*%", "M02*"]),
+                ("n.ipc", &["P  UNITS CUST 1", "017", "999"]),
+            ],
             3,
-            "boardnet: n.ipc: netlist 2 Continuation at line 2\n",
-            "",
+            b"boardnet: n.ipc: netlist 2 Continuation at line 2\n",
+            b"",
         ),
     ];
-    for (copper, points, status, line, part) in rows {
-        let (copper, points) = (gerber(alloc, copper)?, netlist(alloc, points)?);
-        let mut package = package(alloc, copper.as_slice(), points.as_slice())?;
-        let (found, out, notes) = answer(alloc, &["check", "m.json"], &mut package)?;
-        assert_eq!(rt; found, status, "{line}");
-        assert_eq!(rt; shown(&notes), line);
-        assert!(rt; shown(&out).contains(part), "{part}");
-        assert_eq!(rt; out.bytes().is_empty(), part.is_empty(), "{line}");
+    for (given, status, line, part) in rows {
+        assert!(rt; answers(alloc, given, status, line, part)?);
     }
     Ok(())
 }
@@ -561,11 +840,8 @@ const KICAD_NETLIST: &[&str] = &[
     "999",
 ];
 
-const KICAD_REPORT: &str =
-    "boardnet 1\npieces 10\nnets 3\nnet 0 0 8:0 5:8 6:8\nnet 1 1 4:1 9:1 2:4 7:9\nnet 2 3\nnames 3\nname 0 GND\nname 1 /SIG\nname 2 VCC\npoints 6\npoint 0 1 1 0 0\npoint 1 1 2 0 0\npoint 2 2 1 1 1\npoint 3 2 2 1 1\npoint 4 3 1 1 1\npoint 5 4 1 2 2\nopens 0\nshorts 0\nmissing 0\nagrees\n";
-
-// A package of several files: their lines, the status, the line, and a part of the report.
-type Files<'a> = (&'a [(&'a str, &'a [&'a str])], u8, &'a str, &'a str);
+const KICAD_REPORT: &[u8] =
+    b"boardnet 1\npieces 10\nnets 3\nnet 0 0 8:0 5:8 6:8\nnet 1 1 4:1 9:1 2:4 7:9\nnet 2 3\nnames 3\nname 0 GND\nname 1 /SIG\nname 2 VCC\npoints 6\npoint 0 1 1 0 0\npoint 1 1 2 0 0\npoint 2 2 1 1 1\npoint 3 2 2 1 1\npoint 4 3 1 1 1\npoint 5 4 1 2 2\nopens 0\nshorts 0\nmissing 0\nagrees\n";
 
 #[test]
 fn worked_packages(rt: HostRuntime) -> Result<(), Fail> {
@@ -583,8 +859,8 @@ fn worked_packages(rt: HostRuntime) -> Result<(), Fail> {
                 ("n.ipc", THROUGH_POINT),
             ],
             1,
-            "boardnet: differs, opens 1, shorts 0, missing 0\n",
-            "boardnet 1\npieces 5\nnets 3\nnet 0 0\nnet 1 1 4:1 2:4\nnet 2 3\nnames 1\nname 0 A\npoints 2\npoint 0 1 1 0 0\npoint 1 1 4 0 2\nopens 1\nopen 0 0 2 1\nshorts 0\nmissing 0\ndiffers\n",
+            b"boardnet: differs, opens 1, shorts 0, missing 0\n",
+            b"boardnet 1\npieces 5\nnets 3\nnet 0 0\nnet 1 1 4:1 2:4\nnet 2 3\nnames 1\nname 0 A\npoints 2\npoint 0 1 1 0 0\npoint 1 1 4 0 2\nopens 1\nopen 0 0 2 1\nshorts 0\nmissing 0\ndiffers\n",
         ),
         // a file that is not held
         (
@@ -597,8 +873,8 @@ fn worked_packages(rt: HostRuntime) -> Result<(), Fail> {
                 ("n.ipc", THROUGH_POINT),
             ],
             4,
-            "boardnet: l2.gbr: cannot be read\n",
-            "",
+            b"boardnet: l2.gbr: cannot be read\n",
+            b"",
         ),
         // routs
         (
@@ -624,8 +900,8 @@ fn worked_packages(rt: HostRuntime) -> Result<(), Fail> {
                 ("n.ipc", NO_POINTS),
             ],
             0,
-            "boardnet: agrees\n",
-            "nets 1\nnet 0 0 2:0 1:2\n",
+            b"boardnet: agrees\n",
+            b"nets 1\nnet 0 0 2:0 1:2\n",
         ),
         (
             &[
@@ -650,8 +926,8 @@ fn worked_packages(rt: HostRuntime) -> Result<(), Fail> {
                 ("n.ipc", NO_POINTS),
             ],
             3,
-            "boardnet: d.drl: drill 9 ArcRout at line 8, byte 39\n",
-            "",
+            b"boardnet: d.drl: drill 9 ArcRout at line 8, byte 39\n",
+            b"",
         ),
         (
             &[
@@ -664,8 +940,8 @@ fn worked_packages(rt: HostRuntime) -> Result<(), Fail> {
                 ("n.ipc", NO_POINTS),
             ],
             3,
-            "boardnet: d.drl: drill 6 ImpliedDecimals at line 6, byte 23\n",
-            "",
+            b"boardnet: d.drl: drill 6 ImpliedDecimals at line 6, byte 23\n",
+            b"",
         ),
         // nothing at all
         (
@@ -675,15 +951,15 @@ fn worked_packages(rt: HostRuntime) -> Result<(), Fail> {
                 ("n.ipc", &["999"]),
             ],
             0,
-            "boardnet: agrees\n",
-            "boardnet 1\npieces 0\nnets 0\nnames 0\npoints 0\nopens 0\nshorts 0\nmissing 0\nagrees\n",
+            b"boardnet: agrees\n",
+            b"boardnet 1\npieces 0\nnets 0\nnames 0\npoints 0\nopens 0\nshorts 0\nmissing 0\nagrees\n",
         ),
         // manifests that are none
         (
             &[("m.json", &["{\"copper\":[\"t.gbr\"]"])],
             3,
-            "boardnet: m.json: not JSON\n",
-            "",
+            b"boardnet: m.json: not JSON\n",
+            b"",
         ),
         (
             &[(
@@ -691,8 +967,8 @@ fn worked_packages(rt: HostRuntime) -> Result<(), Fail> {
                 &["{\"copper\":[],\"drills\":[],\"netlist\":\"n.ipc\"}"],
             )],
             3,
-            "boardnet: m.json: not a manifest\n",
-            "",
+            b"boardnet: m.json: not a manifest\n",
+            b"",
         ),
         // ordinary use
         (
@@ -704,17 +980,12 @@ fn worked_packages(rt: HostRuntime) -> Result<(), Fail> {
                 ("n.d356", KICAD_NETLIST),
             ],
             0,
-            "boardnet: agrees\n",
+            b"boardnet: agrees\n",
             KICAD_REPORT,
         ),
     ];
     for (given, status, line, part) in rows {
-        let mut package = files(alloc, given)?;
-        let (found, out, notes) = answer(alloc, &["check", "m.json"], &mut package)?;
-        assert_eq!(rt; shown(&notes), line);
-        assert_eq!(rt; found, status);
-        assert!(rt; shown(&out).contains(part), "{part}");
-        assert_eq!(rt; out.bytes().is_empty(), part.is_empty(), "{line}");
+        assert!(rt; answers(alloc, given, status, line, part)?);
     }
     Ok(())
 }
