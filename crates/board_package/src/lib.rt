@@ -18,7 +18,7 @@ pub use entry::{Entry, Role};
 pub use fault::BuildFault;
 pub use manifest::{Manifest, ManifestFault, read_manifest};
 pub use reading::Refusal;
-pub use stages::build;
+pub use stages::{build, take_file};
 
 #[cfg(test)]
 mod tests;

@@ -116,8 +116,10 @@ fn take_entry<P: Package>(
     }
 }
 
-// Takes a file.
-fn take_file<P: Package>(
+/// Takes the file of this name into `file`, if it has at most 67,108,864 bytes.
+///
+/// `Longer` and `CannotRead` carry the name; `CannotRead` comes only where the package's count of faults rose in this call.
+pub fn take_file<P: Package>(
     alloc: Global,
     name: &Text,
     package: &mut P,
