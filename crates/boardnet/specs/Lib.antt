@@ -1,4 +1,5 @@
 pub mod Answers
+pub mod Asked
 pub mod Lines
 pub mod Outcome
 pub mod Words

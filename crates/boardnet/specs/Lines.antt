@@ -41,3 +41,6 @@ differs_line opens shorts missing = concat (begin ∷ codes "differs, opens " �
 
 abbrev pub frame_line : Bounds → List ℕ
 frame_line b = concat (begin ∷ codes "frame too large: " ∷ signed_decimal b.left ∷ codes " " ∷ signed_decimal b.low ∷ codes " " ∷ signed_decimal b.right ∷ codes " " ∷ signed_decimal b.high ∷ end ∷ [])
+
+abbrev pub untrue_line : ℕ → List ℕ
+untrue_line n = concat (begin ∷ codes "audit untrue " ∷ decimal n ∷ end ∷ [])

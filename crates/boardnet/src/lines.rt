@@ -1,5 +1,5 @@
 // The line to the notes, put in pieces and without memory.
-ghost use Rattle.boardnet.specs.Lines.{Says, copper_line, differs_line, drill_line, file_line, frame_line, netlist_line, plain_line};
+ghost use Rattle.boardnet.specs.Lines.{Says, copper_line, differs_line, drill_line, file_line, frame_line, netlist_line, plain_line, untrue_line};
 ghost use Rattle.std.specs.List.{flat_map};
 
 use board_io::{Put, Sink};
@@ -38,6 +38,21 @@ pub fn differs<N: Sink>(notes: &mut N, opens: usize, shorts: usize, missing: usi
             Numeral::of(shorts as u64).as_bytes(),
             b", missing ",
             Numeral::of(missing as u64).as_bytes(),
+            b"\n",
+        ],
+    );
+}
+
+/// Puts the line of a report that is not that of a right verdict, by the first clause that does not hold.
+pub fn untrue<N: Sink>(notes: &mut N, clause: u8)
+    ensures { Says N.got N.faults notes.old notes.new (untrue_line clause) }
+{
+    put_all(
+        notes,
+        &[
+            b"boardnet: ",
+            b"audit untrue ",
+            Numeral::of(u64::from(clause)).as_bytes(),
             b"\n",
         ],
     );

@@ -1,11 +1,15 @@
 //! boardnet: does the copper of a bare board join exactly the points that its netlist joins?
 //!
-//! The words of the command line are judged (`words`), the package's board is built, judged and printed (`run`, `judged`),
-//! and a line about the outcome goes to the notes (`lines`).
+//! The words of the command line are judged (`words`). For `check` the package's board is built, judged and printed
+//! (`checking`, `judged`); for `audit` a report on it is read and audited (`auditing`). A line about the outcome goes to the
+//! notes (`lines`, `refusing`).
 #![tactic(auto)]
 
+pub mod auditing;
+pub mod checking;
 pub mod judged;
 pub mod lines;
+pub mod refusing;
 pub mod run;
 #[cfg(test)]
 mod tests;

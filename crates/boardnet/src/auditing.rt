@@ -1,0 +1,154 @@
+// The command `audit`.
+ghost use Rattle.board_io.specs.Causes.{Rose};
+ghost use Rattle.board_io.specs.Sink.{Gains, GainsFrontOf};
+ghost use Rattle.boardnet.specs.Answers.{Answers, HasAuditCause, IsRuled};
+ghost use Rattle.boardnet.specs.Lines.{Says, end, file_line, plain_line};
+ghost use Rattle.boardnet.specs.Outcome.{AuditOutcome, ComesFor, IsAnswer, Refused};
+ghost use Rattle.boardnet.specs.Words.{Audit};
+ghost use Rattle.lengths.specs.Text.{IsText};
+ghost use Rattle.std.specs.Prelude.{IfErr, IfOk, IfSome, List, ◌++◌, codes, decimal, ℕ, ◌≡◌, ◌≢◌, ◌≤◌, ◌⊎◌};
+
+use crate::lines;
+use crate::refusing::{name_of, refuse};
+use board_io::{Package, Put, Sink};
+use board_package::{BuildFault, build, laws, take_file};
+use board_shapes::laws as shapes;
+use lengths::NoMemory;
+use numerals::Numeral;
+use std::alloc::Global;
+use verdict::{ReadFault, laws as verdicts, read_report};
+use witness_check::{Ruling, audit};
+
+/// Why there is no ruling on a report.
+#[derive(Debug, Drop)]
+pub enum AuditFault {
+    /// The package is refused or cannot be read, or the report is longer than a file may be or cannot be read, or memory
+    /// is wanted.
+    Stopped(BuildFault),
+    /// The report is the text of no verdict.
+    NotAReport,
+}
+
+/// Audits a report on the package of a manifest.
+pub fn audit_report<P: Package, S: Sink, N: Sink>(
+    alloc: Global,
+    manifest: &str,
+    report: &str,
+    package: &mut P,
+    out: &mut S,
+    notes: &mut N,
+) -> u8
+    requires manifest { IsText manifest.now }
+    requires report { IsText report.now }
+    ensures status { result ≤ 6 }
+    ensures understood { result ≢ 2 }
+    ensures audited { result ≤ 1 → IfSome (P.held «package».old) (λ files.
+        (text line : List ℕ) × IsAnswer files manifest.now report.now text result line
+        × Gains (S.got out.old) text (S.got out.new) × Says N.got N.faults notes.old notes.new line) }
+    ensures refused { result ≡ 3 → IfSome (P.held «package».old) (λ files.
+        (line : List ℕ) × AuditOutcome files manifest.now report.now (Refused line) × Says N.got N.faults notes.old notes.new line) }
+    ensures unreadable { result ≡ 4 → Rose (P.faults «package».old) (P.faults «package».new)
+        × Says N.got N.faults notes.old notes.new (file_line (P.lost «package».new) (codes "cannot be read")) }
+    ensures unread { result ≡ 4 → IfSome (P.held «package».old) (λ files. ComesFor files (Audit manifest.now report.now) (P.lost «package».new)) }
+    ensures unwritable { result ≡ 5 → Rose (S.faults out.old) (S.faults out.new)
+        × Says N.got N.faults notes.old notes.new (plain_line (codes "output cannot be written")) }
+    ensures front { result ≡ 5 → IfSome (P.held «package».old) (λ files.
+        (text line : List ℕ) × (status : ℕ) × IsAnswer files manifest.now report.now text status line × GainsFrontOf (S.got out.old) text (S.got out.new)) }
+    ensures silent { 2 ≤ result → result ≢ 5 → S.got out.new ≡ S.got out.old }
+    ensures memory { result ≡ 6 → Says N.got N.faults notes.old notes.new (plain_line (codes "out of memory")) }
+    ensures answered { IfSome (P.held «package».old) (λ files. (text line : List ℕ) (status : ℕ) → IsAnswer files manifest.now report.now text status line
+        → (Rose (P.faults «package».old) (P.faults «package».new) → ⊥) → (Rose (S.faults out.old) (S.faults out.new) → ⊥) → (result ≡ status) ⊎ (result ≡ 6)) }
+{
+    laws::one_outcome();
+    verdicts::report_text_is_injective();
+    match ruling_of(alloc, manifest, report, package) {
+        Ok(ruling) => answer(alloc, ruling, out, notes),
+        Err(AuditFault::Stopped(fault)) => refuse(manifest, &fault, notes),
+        Err(AuditFault::NotAReport) => {
+            lines::about_file(notes, report.as_bytes(), b"not a report");
+            3
+        }
+    }
+}
+
+// Puts the answer of an audit, and the line about it.
+fn answer<S: Sink, N: Sink>(alloc: Global, ruling: Ruling, out: &mut S, notes: &mut N) -> u8
+    ensures status { (result ≤ 1) ⊎ (result ≡ 5) ⊎ (result ≡ 6) }
+    ensures written { result ≤ 1 → (text line : List ℕ) × Answers ruling text result line
+        × Gains (S.got out.old) text (S.got out.new) × Says N.got N.faults notes.old notes.new line }
+    ensures unwritten { result ≡ 5 → Rose (S.faults out.old) (S.faults out.new)
+        × ((text line : List ℕ) × (status : ℕ) × Answers ruling text status line × GainsFrontOf (S.got out.old) text (S.got out.new))
+        × Says N.got N.faults notes.old notes.new (plain_line (codes "output cannot be written")) }
+    ensures memory { result ≡ 6 → (S.got out.new ≡ S.got out.old) × Says N.got N.faults notes.old notes.new (plain_line (codes "out of memory")) }
+{
+    match ruling {
+        Ruling::True => {
+            if out.put(b"audit true\n") == Put::Failed {
+                lines::plain(notes, b"output cannot be written");
+                return 5;
+            }
+            lines::plain(notes, b"audit true");
+            0
+        }
+        Ruling::Untrue(clause) => {
+            let Ok(text) = untrue_text(alloc, clause) else {
+                lines::plain(notes, b"out of memory");
+                return 6;
+            };
+            if out.put(text.as_slice()) == Put::Failed {
+                lines::plain(notes, b"output cannot be written");
+                return 5;
+            }
+            lines::untrue(notes, clause);
+            1
+        }
+    }
+}
+
+// The answer that names a clause.
+fn untrue_text(alloc: Global, clause: u8) -> Result<Vec<u8>, NoMemory>
+    ensures { IfOk result (λ text. text.items ≡ codes "audit untrue " ++ decimal clause ++ end) }
+{
+    let mut text = Vec::new(alloc);
+    text.extend_from_slice(b"audit untrue ")?;
+    text.extend_from_slice(Numeral::of(u64::from(clause)).as_bytes())?;
+    text.extend_from_slice(b"\n")?;
+    Ok(text)
+}
+
+// The ruling on a report, which is taken after the package's board is built.
+fn ruling_of<P: Package>(
+    alloc: Global,
+    manifest: &str,
+    report: &str,
+    package: &mut P,
+) -> Result<Ruling, AuditFault>
+    requires manifest { IsText manifest.now }
+    requires report { IsText report.now }
+    ensures ok { IfOk result (λ ruling. IfSome (P.held «package».old) (λ files. IsRuled files manifest.now report.now ruling)) }
+    ensures fault { IfErr result (HasAuditCause (P.held «package».old) manifest.now report.now (P.faults «package».old) (P.faults «package».new) (P.lost «package».new)) }
+{
+    shapes::boards_are_lawful();
+    shapes::tables_are_unique();
+    let manifest = name_of(alloc, manifest)?;
+    let report = name_of(alloc, report)?;
+    let board = build(alloc, &manifest, package)?;
+    let mut file = Vec::new(alloc);
+    take_file(alloc, &report, package, &mut file)?;
+    match read_report(alloc, file.as_slice()) {
+        Ok(verdict) => match audit(alloc, &board, &verdict) {
+            Ok(ruling) => Ok(ruling),
+            Err(NoMemory) => Err(AuditFault::Stopped(BuildFault::NoMemory)),
+        },
+        Err(ReadFault::NotAReport) => Err(AuditFault::NotAReport),
+        Err(ReadFault::NoMemory) => Err(AuditFault::Stopped(BuildFault::NoMemory)),
+    }
+}
+
+impl From<BuildFault> for AuditFault {
+    fn from(fault: BuildFault) -> AuditFault
+        ensures { result ≡ AuditFault.Stopped fault }
+    {
+        AuditFault::Stopped(fault)
+    }
+}

@@ -1,0 +1,99 @@
+// The command `check`.
+ghost use Rattle.board_io.specs.Causes.{Rose};
+ghost use Rattle.board_io.specs.Sink.{Gains, GainsFrontOf};
+ghost use Rattle.board_package.specs.Causes.{HasCause};
+ghost use Rattle.board_package.specs.PackageBoard.{Comes, IsBoardOf, IsFirstStop};
+ghost use Rattle.board_shapes.specs.Plain.{PlainBoard};
+ghost use Rattle.boardnet.specs.Lines.{Says, file_line, plain_line};
+ghost use Rattle.boardnet.specs.Outcome.{HasStatus, IsRefusal, IsReport, IsRightOn};
+ghost use Rattle.lengths.specs.Text.{IsText};
+ghost use Rattle.std.specs.Prelude.{IfErr, IfOk, IfSome, List, codes, ℕ, ◌≡◌, ◌≢◌, ◌≤◌, ◌⊎◌};
+ghost use Rattle.verdict.specs.ReportText.{report_text};
+
+use crate::judged::judged;
+use crate::lines;
+use crate::refusing::{name_of, refuse};
+use board_io::{Package, Put, Sink};
+use board_package::{BuildFault, build, laws};
+use lengths::NoMemory;
+use std::alloc::Global;
+use verdict::Verdict;
+
+// Checks the package of a manifest.
+pub fn check<P: Package, S: Sink, N: Sink>(
+    alloc: Global,
+    manifest: &str,
+    package: &mut P,
+    out: &mut S,
+    notes: &mut N,
+) -> u8
+    requires { IsText manifest.now }
+    ensures status { result ≤ 6 }
+    ensures understood { result ≢ 2 }
+    ensures right { result ≤ 1 → IfSome (P.held «package».old) (λ files.
+        (text line : List ℕ) × IsReport files manifest.now text result line
+        × Gains (S.got out.old) text (S.got out.new) × Says N.got N.faults notes.old notes.new line) }
+    ensures refused { result ≡ 3 → IfSome (P.held «package».old) (λ files.
+        (line : List ℕ) × IsRefusal files manifest.now line × Says N.got N.faults notes.old notes.new line) }
+    ensures unreadable { result ≡ 4 → Rose (P.faults «package».old) (P.faults «package».new)
+        × Says N.got N.faults notes.old notes.new (file_line (P.lost «package».new) (codes "cannot be read")) }
+    ensures unread { result ≡ 4 → IfSome (P.held «package».old) (λ files. Comes files manifest.now (P.lost «package».new)) }
+    ensures unwritable { result ≡ 5 → Rose (S.faults out.old) (S.faults out.new)
+        × Says N.got N.faults notes.old notes.new (plain_line (codes "output cannot be written")) }
+    ensures front { result ≡ 5 → IfSome (P.held «package».old) (λ files.
+        (text line : List ℕ) × (status : ℕ) × IsReport files manifest.now text status line × GainsFrontOf (S.got out.old) text (S.got out.new)) }
+    ensures silent { 2 ≤ result → result ≢ 5 → S.got out.new ≡ S.got out.old }
+    ensures memory { result ≡ 6 → Says N.got N.faults notes.old notes.new (plain_line (codes "out of memory")) }
+    ensures complete { IfSome (P.held «package».old) (λ files. (board : PlainBoard) → IsBoardOf files manifest.now board
+        → (Rose (P.faults «package».old) (P.faults «package».new) → ⊥) → (Rose (S.faults out.old) (S.faults out.new) → ⊥) → (result ≤ 1) ⊎ (result ≡ 6)) }
+{
+    match report(alloc, manifest, package) {
+        Ok((verdict, text)) => finish(&verdict, text.as_slice(), out, notes),
+        Err(fault) => {
+            laws::one_outcome();
+            refuse(manifest, &fault, notes)
+        }
+    }
+}
+
+// Puts the report, and the line about it.
+fn finish<S: Sink, N: Sink>(verdict: &Verdict, text: &[u8], out: &mut S, notes: &mut N) -> u8
+    ensures status { (result ≤ 1) ⊎ (result ≡ 5) }
+    ensures written { result ≤ 1 → Gains (S.got out.old) text.now (S.got out.new) × (line : List ℕ) × HasStatus verdict.now result line × Says N.got N.faults notes.old notes.new line }
+    ensures unwritten { result ≡ 5 → Rose (S.faults out.old) (S.faults out.new) × GainsFrontOf (S.got out.old) text.now (S.got out.new)
+        × Says N.got N.faults notes.old notes.new (plain_line (codes "output cannot be written")) }
+{
+    if out.put(text) == Put::Failed {
+        lines::plain(notes, b"output cannot be written");
+        return 5;
+    }
+    if verdict.agrees() {
+        lines::plain(notes, b"agrees");
+        return 0;
+    }
+    lines::differs(
+        notes,
+        verdict.opens.as_slice().len(),
+        verdict.shorts.as_slice().len(),
+        verdict.bare.as_slice().len(),
+    );
+    1
+}
+
+// The verdict on the board of a package, and its text.
+fn report<P: Package>(
+    alloc: Global,
+    manifest: &str,
+    package: &mut P,
+) -> Result<(Verdict, Vec<u8>), BuildFault>
+    requires { IsText manifest.now }
+    ensures ok { IfOk result (λ r. IfSome (P.held «package».old) (λ files. (board : PlainBoard) × IsBoardOf files manifest.now board × IsRightOn board r.0 × (r.1.items ≡ report_text r.0))) }
+    ensures fault { IfErr result (HasCause (P.held «package».old) (λ files stop. IsFirstStop files manifest.now stop) (λ files name. Comes files manifest.now name) (P.faults «package».old) (P.faults «package».new) (P.lost «package».new)) }
+{
+    let name = name_of(alloc, manifest)?;
+    let board = build(alloc, &name, package)?;
+    match judged(alloc, &board) {
+        Ok(found) => Ok(found),
+        Err(NoMemory) => Err(BuildFault::NoMemory),
+    }
+}
