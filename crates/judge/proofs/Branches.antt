@@ -11,6 +11,8 @@ use Rattle.verdict.specs.Forest.{first_piece}
 use Rattle.verdict.specs.Right.{IsWay, BeginsAt, IsBranch, AreBranches, HasBranches, all_shorts, names_on, outline, short_of, Outline, BeginsAtHome}
 use Rattle.judge.specs.Judged.{AreFlags}
 use Rattle.verdict.proofs.Lines.{turn}
+use Rattle.verdict.proofs.Shorted.{short_few, short_many}
+use Rattle.std.proofs.lemmas.Option.{slice_get-get_or}
 use Rattle.verdict.specs.declared.verdict.Short.{Short}
 use Rattle.verdict.specs.Places.{twig_at, HasPlaces}
 use Rattle.verdict.specs.Seats.{AreFirst, AreNamed, IsFirst, mark_name, marks_at, branch_name}
@@ -112,7 +114,7 @@ pub shorted_more : (nets : List (List Twig)) (table : List (List Mark)) (homes :
     → AreShorted nets table homes (n + 1) shorts'
 shorted_more nets table homes n shorts shorts' net row below long here named done outlined branched = record {
   outlines = λ names lines given. shorts_turn nets table n (map outline shorts) (map outline shorts') names lines below long given (done.outlines names lines given) (outlined ∙ ap (λ (ms : List Mark). map outline shorts ++ short_of n (map mark_name ms)) named);
-  branches = λ lines firsts. branched nets lines (get_some nets n [] below ∙ ap Some (sym here)) (subst (λ (ms : List Mark). All (IsFirst n lines) ms) (sym named) (firsts n (omega arith))) (done.branches lines firsts);
+  branches = λ lines firsts. branched nets lines (slice_get-get_or nets n [] below ∙ ap Some (sym here)) (subst (λ (ms : List Mark). All (IsFirst n lines) ms) (sym named) (firsts n (omega arith))) (done.branches lines firsts);
 }
 
 pub shorted_skip : (nets : List (List Twig)) (table : List (List Mark)) (homes : List (Option ℕ)) (n : ℕ) (shorts : List Short) (row : List Mark) → n < length nets → length table ≡ length nets → row ≡ marks_at table n → length row < 2 → AreShorted nets table homes n shorts → AreShorted nets table homes (n + 1) shorts

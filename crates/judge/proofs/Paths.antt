@@ -6,6 +6,7 @@ use Rattle.std.proofs.lemmas.Bool.{cases_eq}
 use Rattle.verdict.specs.declared.verdict.Twig.{Twig}
 use Rattle.verdict.specs.Forest.{pieces_of}
 use Rattle.verdict.specs.Right.{IsWay, HasParent, BeginsAt}
+use Rattle.verdict.proofs.Placing.{placed, twig_inside}
 use Rattle.judge.specs.Judged.{HangAbove, AreFlags}
 use Rattle.verdict.specs.Places.{twig_at, HasPlaces}
 

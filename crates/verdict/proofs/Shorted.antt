@@ -1,11 +1,6 @@
 -- When a net is short.
-use Rattle.std.proofs.Common.{◌≡◌, ℕ, zero, suc, ◌<◌, ◌≤◌, List, [], ◌∷◌, length, get_or, Some, slice_get, refl, arith}
+use Rattle.std.proofs.Common.{◌≡◌, ℕ, ◌<◌, ◌≤◌, List, [], ◌∷◌, length, refl, arith}
 use Rattle.verdict.specs.Right.{short_of}
-
-pub get_some : {X : Type 0} (xs : List X) (i : ℕ) (d : X) → i < length xs → slice_get xs i ≡ Some (get_or xs i d)
-get_some [] i d below = absurd (omega arith)
-get_some (x ∷ xs) zero d below = refl
-get_some (x ∷ xs) (suc i) d below = get_some xs i d (omega arith)
 
 pub short_few : (n : ℕ) (names : List ℕ) → length names < 2 → short_of n names ≡ []
 short_few n [] few = refl
