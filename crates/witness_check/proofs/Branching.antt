@@ -1,0 +1,105 @@
+-- Branches one by one, and the shorts that have them.
+use Rattle.std.proofs.Common.{◌≡◌, ◌↔◌, inl, inr, ℕ, zero, suc, ◌+◌, ◌<◌, ◌≤◌, List, [], ◌∷◌, ◌++◌, length, get_or, set, take, drop, All, Option, Some, None, refl, sym, ap, subst, ◌∙◌, arith, slice_get}
+use Rattle.std.proofs.lemmas.List.{drop_all, drop_more, take_all, take_more, length-set}
+use Rattle.std.proofs.lemmas.List.Elements.{All-get_or, All-nil, All-push}
+use Rattle.std.proofs.lemmas.Option.{slice_get-get_or}
+use Rattle.verdict.specs.declared.verdict.Branch.{Branch}
+use Rattle.verdict.specs.declared.verdict.PointLine.{PointLine}
+use Rattle.verdict.specs.declared.verdict.Short.{Short}
+use Rattle.verdict.specs.declared.verdict.Twig.{Twig}
+use Rattle.verdict.specs.declared.marks.Mark.{Mark}
+use Rattle.verdict.specs.Forest.{first_piece, net_at}
+use Rattle.verdict.specs.Right.{AreBranches, BeginsAt, BeginsAtHome, HasBranches, IsBranch, IsWay, first_on}
+use Rattle.verdict.specs.Seats.{AreFirst, IsFirst, marks_at}
+use Rattle.witness_check.specs.Marked.{AreStamped, AreUpTo, HasMarks}
+use Rattle.witness_check.proofs.Told.{through}
+
+-- ---- A branch
+
+-- What is asked of a branch by its mark is that it is right.
+pub branch_is : (net : List Twig) (homes : List (Option ℕ)) (mark : Mark) (b : Branch) (number : ℕ) (lines : List PointLine) (ends : List ℕ) → b.name ≡ mark.name → IsFirst number lines mark → ((b.probe ≡ mark.probe) × BeginsAt (BeginsAtHome homes mark.probe) b.pieces × IsWay net ends b.pieces) ↔ IsBranch net (BeginsAtHome homes) lines number ends b
+branch_is net homes mark b number lines ends named first = (
+  (λ p. record {
+    probe = ap (λ (n : ℕ). first_on number n lines) named ∙ (first ∙ ap Some (sym p.0));
+    start = subst (λ (probe : ℕ). BeginsAt (BeginsAtHome homes probe) b.pieces) (sym p.0) p.1;
+    way = p.2;
+  }),
+  λ is. let same : b.probe ≡ mark.probe = some_same (sym is.probe ∙ (ap (λ (n : ℕ). first_on number n lines) named ∙ first)) in (same, subst (λ (probe : ℕ). BeginsAt (BeginsAtHome homes probe) b.pieces) same is.start, is.way),
+) where
+  some_same : {a b : ℕ} → Some a ≡ Some b → a ≡ b
+  some_same e = cc
+
+-- ---- The branches of a short
+
+-- The branches before i are right, and the rest decides: the pieces with the stamp are its ends.
+pub record AreBranchedTo (net : List Twig) (homes : List (Option ℕ)) (marks : List Mark) (branches : List Branch) (stamp room i : ℕ) (stamps : List ℕ) : Type 0 where
+  pub long : length stamps ≡ room
+  pub highest : AreUpTo stamp stamps
+  pub ends : List ℕ
+  pub stamped : AreStamped ends stamp stamps
+  pub right : (number : ℕ) (lines : List PointLine) → All (IsFirst number lines) marks → AreBranches net (BeginsAtHome homes) lines number (first_piece net ∷ []) branches ↔ AreBranches net (BeginsAtHome homes) lines number ends (drop i branches)
+
+pub branched_start : (net : List Twig) (homes : List (Option ℕ)) (marks : List Mark) (branches : List Branch) (stamp : ℕ) (stamps : List ℕ) → AreStamped (first_piece net ∷ []) stamp stamps → AreUpTo stamp stamps → AreBranchedTo net homes marks branches stamp (length stamps) 0 stamps
+branched_start net homes marks branches stamp stamps stamped up = record { long = refl; highest = up; ends = first_piece net ∷ []; stamped = stamped; right = λ number lines firsts. ((λ b. b), λ b. b) }
+
+pub branched_more : (net : List Twig) (homes : List (Option ℕ)) (marks : List Mark) (branches : List Branch) (stamp room i : ℕ) (stamps stamps' : List ℕ) (b : Branch) (m : Mark) → i < length branches → i < length marks → length stamps' ≡ length stamps → AreUpTo stamp stamps'
+    → ((number : ℕ) (lines : List PointLine) (ends : List ℕ) → IsFirst number lines (get_or marks i m) → AreStamped ends stamp stamps → IsBranch net (BeginsAtHome homes) lines number ends (get_or branches i b))
+    → ((ends : List ℕ) → AreStamped ends stamp stamps → AreStamped (ends ++ (get_or branches i b).pieces) stamp stamps') → AreBranchedTo net homes marks branches stamp room i stamps → AreBranchedTo net homes marks branches stamp room (i + 1) stamps'
+branched_more net homes marks branches stamp room i stamps stamps' b m below within long up is more to =
+    let c : Branch = get_or branches i b in
+    record {
+      long = long ∙ to.long;
+      highest = up;
+      ends = to.ends ++ c.pieces;
+      stamped = more to.ends to.stamped;
+      right = λ number lines firsts. (
+        (λ whole. (subst (AreBranches net (BeginsAtHome homes) lines number to.ends) (drop_more branches i b below) ((to.right number lines firsts).0 whole)).1),
+        λ rest. (to.right number lines firsts).1 (subst (AreBranches net (BeginsAtHome homes) lines number to.ends) (sym (drop_more branches i b below)) (is number lines to.ends (All-get_or (IsFirst number lines) marks i m within firsts) to.stamped, rest)),
+      );
+    }
+
+pub branched_stops : (net : List Twig) (homes : List (Option ℕ)) (marks : List Mark) (branches : List Branch) (stamp room i : ℕ) (stamps : List ℕ) (b : Branch) (m : Mark) → i < length branches → i < length marks
+    → ((number : ℕ) (lines : List PointLine) (ends : List ℕ) → IsFirst number lines (get_or marks i m) → AreStamped ends stamp stamps → IsBranch net (BeginsAtHome homes) lines number ends (get_or branches i b) → ⊥)
+    → AreBranchedTo net homes marks branches stamp room i stamps → (number : ℕ) (lines : List PointLine) → All (IsFirst number lines) marks → AreBranches net (BeginsAtHome homes) lines number (first_piece net ∷ []) branches → ⊥
+branched_stops net homes marks branches stamp room i stamps b m below within not to number lines firsts whole =
+    not number lines to.ends (All-get_or (IsFirst number lines) marks i m within firsts) to.stamped (subst (AreBranches net (BeginsAtHome homes) lines number to.ends) (drop_more branches i b below) ((to.right number lines firsts).0 whole)).0
+
+pub branched_done : (net : List Twig) (homes : List (Option ℕ)) (marks : List Mark) (branches : List Branch) (stamp room i : ℕ) (stamps : List ℕ) → length branches ≤ i → AreBranchedTo net homes marks branches stamp room i stamps → (number : ℕ) (lines : List PointLine) → All (IsFirst number lines) marks → AreBranches net (BeginsAtHome homes) lines number (first_piece net ∷ []) branches
+branched_done net homes marks branches stamp room i stamps past to number lines firsts = (to.right number lines firsts).1 (subst (AreBranches net (BeginsAtHome homes) lines number to.ends) (sym (drop_all i branches past)) tt)
+
+-- ---- All shorts
+
+-- The shorts before i have right branches.
+pub record AreRightTo (nets : List (List Twig)) (table : List (List Mark)) (homes : List (Option ℕ)) (shorts : List Short) (room i : ℕ) (stamps : List ℕ) : Type 0 where
+  pub long : length stamps ≡ room
+  pub highest : AreUpTo i stamps
+  pub right : (lines : List PointLine) → AreFirst lines table → All (HasBranches nets (BeginsAtHome homes) lines) (take i shorts)
+
+-- A short of a net that is there has its branches exactly where they are right in that net.
+short_is : (nets : List (List Twig)) (starts : ℕ → ℕ → Type 0) (lines : List PointLine) (s : Short) (net : List Twig) → slice_get nets s.net ≡ Some net → AreBranches net starts lines s.net (first_piece net ∷ []) s.branches ↔ HasBranches nets starts lines s
+short_is nets starts lines s net there = (
+  (λ all. record { net = net; there = there; branches = all }),
+  λ has. subst (λ (n : List Twig). AreBranches n starts lines s.net (first_piece n ∷ []) s.branches) (some_net (sym has.there ∙ there)) has.branches,
+) where
+  some_net : {a b : List Twig} → Some a ≡ Some b → a ≡ b
+  some_net e = cc
+
+pub right_more : (nets : List (List Twig)) (table : List (List Mark)) (homes : List (Option ℕ)) (shorts : List Short) (room i : ℕ) (stamps stamps' : List ℕ) (s : Short) (net : List Twig) (row : List Mark) → i < length shorts → slice_get nets (get_or shorts i s).net ≡ Some net → row ≡ marks_at table (get_or shorts i s).net → (get_or shorts i s).net < length table
+    → length stamps' ≡ length stamps → AreUpTo (i + 1) stamps' → ((number : ℕ) (lines : List PointLine) → All (IsFirst number lines) row → AreBranches net (BeginsAtHome homes) lines number (first_piece net ∷ []) (get_or shorts i s).branches)
+    → AreRightTo nets table homes shorts room i stamps → AreRightTo nets table homes shorts room (i + 1) stamps'
+right_more nets table homes shorts room i stamps stamps' s net row below there named within long up all to = record {
+  long = long ∙ to.long;
+  highest = up;
+  right = λ lines firsts. subst (All (HasBranches nets (BeginsAtHome homes) lines)) (sym (take_more shorts i s below)) (All-push (HasBranches nets (BeginsAtHome homes) lines) (take i shorts) (get_or shorts i s) (to.right lines firsts)
+      ((short_is nets (BeginsAtHome homes) lines (get_or shorts i s) net there).0 (all (get_or shorts i s).net lines (subst (All (IsFirst (get_or shorts i s).net lines)) (sym named) (firsts (get_or shorts i s).net within)))));
+}
+
+pub right_stops : (nets : List (List Twig)) (table : List (List Mark)) (homes : List (Option ℕ)) (shorts : List Short) (i : ℕ) (s : Short) (net : List Twig) (row : List Mark) → i < length shorts → slice_get nets (get_or shorts i s).net ≡ Some net → row ≡ marks_at table (get_or shorts i s).net → (get_or shorts i s).net < length table
+    → ((number : ℕ) (lines : List PointLine) → All (IsFirst number lines) row → AreBranches net (BeginsAtHome homes) lines number (first_piece net ∷ []) (get_or shorts i s).branches → ⊥)
+    → (lines : List PointLine) → AreFirst lines table → All (HasBranches nets (BeginsAtHome homes) lines) shorts → ⊥
+right_stops nets table homes shorts i s net row below there named within not lines firsts all =
+    not (get_or shorts i s).net lines (subst (All (IsFirst (get_or shorts i s).net lines)) (sym named) (firsts (get_or shorts i s).net within))
+    ((short_is nets (BeginsAtHome homes) lines (get_or shorts i s) net there).1 (All-get_or (HasBranches nets (BeginsAtHome homes) lines) shorts i s below all))
+
+pub right_done : (nets : List (List Twig)) (table : List (List Mark)) (homes : List (Option ℕ)) (shorts : List Short) (room i : ℕ) (stamps : List ℕ) → length shorts ≤ i → AreRightTo nets table homes shorts room i stamps → (lines : List PointLine) → AreFirst lines table → All (HasBranches nets (BeginsAtHome homes) lines) shorts
+right_done nets table homes shorts room i stamps past to lines firsts = subst (All (HasBranches nets (BeginsAtHome homes) lines)) (take_all i shorts past) (to.right lines firsts)

@@ -1,0 +1,160 @@
+-- Branches with the names of marks, and shorts with those of nets.
+use Rattle.std.proofs.Common.{◌≡◌, ◌↔◌, inl, inr, ℕ, zero, suc, ◌+◌, ◌<◌, ◌≤◌, List, [], ◌∷◌, ◌++◌, length, map, get_or, drop, All, refl, sym, ap, subst, ◌∙◌, arith}
+use Rattle.std.proofs.lemmas.List.{at_drop_all, drop_more, length-map}
+use Rattle.std.proofs.lemmas.List.Elements.{All-append, All-cons, All-head, All-nil, All-tail, All-weaker}
+use Rattle.verdict.specs.declared.verdict.Branch.{Branch}
+use Rattle.verdict.specs.declared.verdict.PointLine.{PointLine}
+use Rattle.verdict.specs.declared.verdict.Short.{Short}
+use Rattle.verdict.specs.declared.verdict.Twig.{Twig}
+use Rattle.verdict.specs.declared.marks.Mark.{Mark}
+use Rattle.verdict.specs.Right.{Outline, all_shorts, names_on, outline, short_of}
+use Rattle.verdict.specs.Seats.{AreNamed, branch_name, mark_name, marks_at}
+use Rattle.verdict.proofs.Numbering.{le_or_lt}
+use Rattle.verdict.proofs.Shorted.{short_few, short_many}
+use Rattle.witness_check.specs.Marked.{HasMarks, outline_of, outlines_from}
+
+cons_same : {X : Type 0} (x y : X) (xs ys : List X) → x ∷ xs ≡ y ∷ ys → (x ≡ y) × (xs ≡ ys)
+cons_same x y xs ys e = (cc, cc)
+
+cons_of : {X : Type 0} (x y : X) (xs ys : List X) → x ≡ y → xs ≡ ys → x ∷ xs ≡ y ∷ ys
+cons_of x y xs ys e f = cc
+
+-- ---- Names of branches
+
+-- The names are the same exactly where those from i on are.
+abbrev pub AreNamedTo : List Branch → List Mark → ℕ → Type 0
+AreNamedTo branches marks i = (map branch_name branches ≡ map mark_name marks) ↔ (map branch_name (drop i branches) ≡ map mark_name (drop i marks))
+
+branch_next : (branches : List Branch) (i : ℕ) (d : Branch) → i < length branches → map branch_name (drop i branches) ≡ (get_or branches i d).name ∷ map branch_name (drop (i + 1) branches)
+branch_next branches i d below = ap (map branch_name) (drop_more branches i d below)
+
+mark_next : (marks : List Mark) (i : ℕ) (d : Mark) → i < length marks → map mark_name (drop i marks) ≡ (get_or marks i d).name ∷ map mark_name (drop (i + 1) marks)
+mark_next marks i d below = ap (map mark_name) (drop_more marks i d below)
+
+pub named_more : (branches : List Branch) (marks : List Mark) (i : ℕ) (b : Branch) (m : Mark) → i < length branches → i < length marks → (get_or branches i b).name ≡ (get_or marks i m).name → AreNamedTo branches marks i → AreNamedTo branches marks (i + 1)
+named_more branches marks i b m first last same to = (
+  (λ whole. (cons_same (get_or branches i b).name (get_or marks i m).name (map branch_name (drop (i + 1) branches)) (map mark_name (drop (i + 1) marks)) (sym (branch_next branches i b first) ∙ (to.0 whole ∙ mark_next marks i m last))).1),
+  λ rest. to.1 (branch_next branches i b first ∙ (cons_of (get_or branches i b).name (get_or marks i m).name (map branch_name (drop (i + 1) branches)) (map mark_name (drop (i + 1) marks)) same rest ∙ sym (mark_next marks i m last))),
+)
+
+pub named_stops : (branches : List Branch) (marks : List Mark) (i : ℕ) (b : Branch) (m : Mark) → i < length branches → i < length marks → ((get_or branches i b).name ≡ (get_or marks i m).name → ⊥) → AreNamedTo branches marks i → map branch_name branches ≡ map mark_name marks → ⊥
+named_stops branches marks i b m first last other to whole =
+    other (cons_same (get_or branches i b).name (get_or marks i m).name (map branch_name (drop (i + 1) branches)) (map mark_name (drop (i + 1) marks)) (sym (branch_next branches i b first) ∙ (to.0 whole ∙ mark_next marks i m last))).0
+
+pub named_done : (branches : List Branch) (marks : List Mark) (i : ℕ) → length branches ≤ i → length marks ≤ i → AreNamedTo branches marks i → map branch_name branches ≡ map mark_name marks
+named_done branches marks i first last to = to.1 (at_drop_all (map branch_name) branches i first ∙ sym (at_drop_all (map mark_name) marks i last))
+
+pub named_long : (branches : List Branch) (marks : List Mark) → map branch_name branches ≡ map mark_name marks → length branches ≡ length marks
+named_long branches marks same = sym (length-map branches branch_name) ∙ (ap length same ∙ length-map marks mark_name)
+
+-- ---- Shorts
+
+outline_same : (s : Short) (net : ℕ) (marks : List Mark) → s.net ≡ net → map branch_name s.branches ≡ map mark_name marks → outline s ≡ outline_of net marks
+outline_same s net marks e f = ap (λ (n : ℕ). let o : Outline = record { net = n; names = map branch_name s.branches } in o) e ∙ ap (λ (names : List ℕ). let o : Outline = record { net = net; names = names } in o) f
+
+pub outline_is : (s : Short) (net : ℕ) (marks : List Mark) → (s.net ≡ net) × (map branch_name s.branches ≡ map mark_name marks) ↔ (outline s ≡ outline_of net marks)
+outline_is s net marks = ((λ p. outline_same s net marks p.0 p.1), λ e. (ap (λ (o : Outline). o.net) e, ap (λ (o : Outline). o.names) e))
+
+-- The shorts are those of the nets exactly where those from `next` on are those of the nets from n on.
+pub record AreShortTo (shorts : List Short) (table : List (List Mark)) (next n : ℕ) : Type 0 where
+  pub within : next ≤ length shorts
+  pub same : (map outline shorts ≡ outlines_from 0 table) ↔ (map outline (drop next shorts) ≡ outlines_from n (drop n table))
+
+row_next : (table : List (List Mark)) (n : ℕ) → n < length table → outlines_from n (drop n table) ≡ short_of n (map mark_name (get_or table n [])) ++ outlines_from (n + 1) (drop (n + 1) table)
+row_next table n below = ap (outlines_from n) (drop_more table n [] below)
+
+few_next : (table : List (List Mark)) (n : ℕ) (row : List Mark) → n < length table → row ≡ get_or table n [] → length row < 2 → outlines_from n (drop n table) ≡ outlines_from (n + 1) (drop (n + 1) table)
+few_next table n row below same few =
+    row_next table n below ∙ (ap (λ (r : List Mark). short_of n (map mark_name r) ++ outlines_from (n + 1) (drop (n + 1) table)) (sym same) ∙
+    ap (λ (os : List Outline). os ++ outlines_from (n + 1) (drop (n + 1) table)) (short_few n (map mark_name row) (let e = length-map row mark_name in omega arith)))
+
+many_next : (table : List (List Mark)) (n : ℕ) (row : List Mark) → n < length table → row ≡ get_or table n [] → 2 ≤ length row → outlines_from n (drop n table) ≡ outline_of n row ∷ outlines_from (n + 1) (drop (n + 1) table)
+many_next table n row below same many =
+    row_next table n below ∙ (ap (λ (r : List Mark). short_of n (map mark_name r) ++ outlines_from (n + 1) (drop (n + 1) table)) (sym same) ∙
+    ap (λ (os : List Outline). os ++ outlines_from (n + 1) (drop (n + 1) table)) (short_many n (map mark_name row) (let e = length-map row mark_name in omega arith)))
+
+short_next : (shorts : List Short) (next : ℕ) (d : Short) → next < length shorts → map outline (drop next shorts) ≡ outline (get_or shorts next d) ∷ map outline (drop (next + 1) shorts)
+short_next shorts next d below = ap (map outline) (drop_more shorts next d below)
+
+pub shorts_skip : (shorts : List Short) (table : List (List Mark)) (next n : ℕ) (row : List Mark) → n < length table → row ≡ get_or table n [] → length row < 2 → AreShortTo shorts table next n → AreShortTo shorts table next (n + 1)
+shorts_skip shorts table next n row below same few to = record {
+  within = to.within;
+  same = ((λ whole. to.same.0 whole ∙ few_next table n row below same few), λ rest. to.same.1 (rest ∙ sym (few_next table n row below same few)));
+}
+
+pub shorts_more : (shorts : List Short) (table : List (List Mark)) (next n : ℕ) (row : List Mark) (d : Short) → n < length table → row ≡ get_or table n [] → 2 ≤ length row → next < length shorts → outline (get_or shorts next d) ≡ outline_of n row → AreShortTo shorts table next n → AreShortTo shorts table (next + 1) (n + 1)
+shorts_more shorts table next n row d below same many there here to = record {
+  within = omega arith;
+  same = (
+    (λ whole. (cons_same (outline (get_or shorts next d)) (outline_of n row) (map outline (drop (next + 1) shorts)) (outlines_from (n + 1) (drop (n + 1) table)) (sym (short_next shorts next d there) ∙ (to.same.0 whole ∙ many_next table n row below same many))).1),
+    λ rest. to.same.1 (short_next shorts next d there ∙ (cons_of (outline (get_or shorts next d)) (outline_of n row) (map outline (drop (next + 1) shorts)) (outlines_from (n + 1) (drop (n + 1) table)) here rest ∙ sym (many_next table n row below same many))),
+  );
+}
+
+none_cons : {X : Type 0} (x : X) (xs : List X) → [] ≡ x ∷ xs → ⊥
+none_cons x xs e = cc
+
+pub shorts_lack : (shorts : List Short) (table : List (List Mark)) (next n : ℕ) (row : List Mark) → n < length table → row ≡ get_or table n [] → 2 ≤ length row → length shorts ≤ next → AreShortTo shorts table next n → map outline shorts ≡ outlines_from 0 table → ⊥
+shorts_lack shorts table next n row below same many past to whole =
+    none_cons (outline_of n row) (outlines_from (n + 1) (drop (n + 1) table)) (sym (at_drop_all (map outline) shorts next past) ∙ (to.same.0 whole ∙ many_next table n row below same many))
+
+pub shorts_stop : (shorts : List Short) (table : List (List Mark)) (next n : ℕ) (row : List Mark) (d : Short) → n < length table → row ≡ get_or table n [] → 2 ≤ length row → next < length shorts → (outline (get_or shorts next d) ≡ outline_of n row → ⊥) → AreShortTo shorts table next n → map outline shorts ≡ outlines_from 0 table → ⊥
+shorts_stop shorts table next n row d below same many there other to whole =
+    other (cons_same (outline (get_or shorts next d)) (outline_of n row) (map outline (drop (next + 1) shorts)) (outlines_from (n + 1) (drop (n + 1) table)) (sym (short_next shorts next d there) ∙ (to.same.0 whole ∙ many_next table n row below same many))).0
+
+pub shorts_done : (shorts : List Short) (table : List (List Mark)) (next n : ℕ) (d : Short) → length table ≤ n → AreShortTo shorts table next n → (next ≡ length shorts) ↔ (map outline shorts ≡ outlines_from 0 table)
+shorts_done shorts table next n d past to =
+    let none : outlines_from n (drop n table) ≡ [] = at_drop_all (outlines_from n) table n past in
+    ((λ e. to.same.1 (at_drop_all (map outline) shorts next (omega arith) ∙ sym none)), λ whole. all (to.same.0 whole ∙ none))
+  where
+    all : map outline (drop next shorts) ≡ [] → next ≡ length shorts
+    all e = elim (le_or_lt (length shorts) next) [
+      | inl past ↦ let w = to.within in omega arith
+      | inr there ↦ absurd (none_cons (outline (get_or shorts next d)) (map outline (drop (next + 1) shorts)) (sym e ∙ short_next shorts next d there))
+    ]
+
+-- ---- The marks of nets
+
+-- The outline is that of a row of marks, numbered from n.
+abbrev IsOfRow : ℕ → List (List Mark) → Outline → Type 0
+IsOfRow n table o = (k : ℕ) × (k < length table) × (o.net ≡ n + k) × (o.names ≡ map mark_name (marks_at table k))
+
+later : (n : ℕ) (row : List Mark) (rest : List (List Mark)) (o : Outline) → IsOfRow (n + 1) rest o → IsOfRow n (row ∷ rest) o
+later n row rest o (k, below, net, names) = (suc k, omega arith, omega arith, names)
+
+short_row : (n : ℕ) (names : List ℕ) (row : List Mark) (rest : List (List Mark)) → names ≡ map mark_name row → All (IsOfRow n (row ∷ rest)) (short_of n names)
+short_row n [] row rest same = All-nil (IsOfRow n (row ∷ rest))
+short_row n (a ∷ []) row rest same = All-nil (IsOfRow n (row ∷ rest))
+short_row n (a ∷ b ∷ more) row rest same = All-cons (IsOfRow n (row ∷ rest)) (record { net = n; names = a ∷ b ∷ more }) [] (0, omega arith, omega arith, same) (All-nil (IsOfRow n (row ∷ rest)))
+
+rows_of : (n : ℕ) (table : List (List Mark)) → All (IsOfRow n table) (outlines_from n table)
+rows_of n [] = All-nil (IsOfRow n [])
+rows_of n (row ∷ rest) =
+    All-append (IsOfRow n (row ∷ rest)) (short_of n (map mark_name row)) (outlines_from (n + 1) rest) (short_row n (map mark_name row) row rest refl)
+    (All-weaker (IsOfRow (n + 1) rest) (IsOfRow n (row ∷ rest)) (later n row rest) (outlines_from (n + 1) rest) (rows_of (n + 1) rest))
+
+marked_one : (table : List (List Mark)) (s : Short) → IsOfRow 0 table (outline s) → HasMarks table s
+marked_one table s (k, below, net, names) =
+    let at : s.net ≡ k = omega arith in
+    record { within = omega arith; names = names ∙ ap (λ (j : ℕ). map mark_name (marks_at table j)) (sym at) }
+
+unmap : (table : List (List Mark)) (shorts : List Short) → All (IsOfRow 0 table) (map outline shorts) → All (HasMarks table) shorts
+unmap table [] all = All-nil (HasMarks table)
+unmap table (s ∷ rest) all = All-cons (HasMarks table) s rest (marked_one table s (All-head (IsOfRow 0 table) (outline s) (map outline rest) all)) (unmap table rest (All-tail (IsOfRow 0 table) (outline s) (map outline rest) all))
+
+pub shorts_marked : (table : List (List Mark)) (shorts : List Short) → map outline shorts ≡ outlines_from 0 table → All (HasMarks table) shorts
+shorts_marked table shorts same = unmap table shorts (subst (All (IsOfRow 0 table)) (sym same) (rows_of 0 table))
+
+-- the rows from n on have the names on the nets
+from_rows : (n : ℕ) (table : List (List Mark)) (nets : List (List Twig)) (names : List (List ℕ)) (lines : List PointLine) → length table ≡ length nets → ((k : ℕ) → k < length table → map mark_name (marks_at table k) ≡ names_on (n + k) 0 names lines) → outlines_from n table ≡ all_shorts n nets names lines
+from_rows n [] [] names lines long named = refl
+from_rows n [] (net ∷ nets) names lines long named = absurd (omega arith)
+from_rows n (row ∷ rest) [] names lines long named = absurd (omega arith)
+from_rows n (row ∷ rest) (net ∷ nets) names lines long named =
+    let zeroth : n + 0 ≡ n = omega arith in
+    let here : map mark_name row ≡ names_on n 0 names lines = named 0 (omega arith) ∙ ap (λ (k : ℕ). names_on k 0 names lines) zeroth in
+    ap (λ (xs : List ℕ). short_of n xs ++ outlines_from (n + 1) rest) here ∙
+    ap (λ (os : List Outline). short_of n (names_on n 0 names lines) ++ os) (from_rows (n + 1) rest nets names lines (omega arith) (λ k below. let next : n + suc k ≡ n + 1 + k = omega arith in named (suc k) (omega arith) ∙ ap (λ (j : ℕ). names_on j 0 names lines) next))
+
+pub outlines_named : (table : List (List Mark)) (nets : List (List Twig)) (names : List (List ℕ)) (lines : List PointLine) → length table ≡ length nets → AreNamed names lines table → outlines_from 0 table ≡ all_shorts 0 nets names lines
+outlines_named table nets names lines long named = from_rows 0 table nets names lines long named
