@@ -1,6 +1,6 @@
 -- Branches with the names of marks, and shorts with those of nets.
-use Rattle.std.proofs.Common.{◌≡◌, ◌↔◌, inl, inr, ℕ, zero, suc, ◌+◌, ◌<◌, ◌≤◌, List, [], ◌∷◌, ◌++◌, length, map, get_or, drop, All, refl, sym, ap, subst, ◌∙◌, arith}
-use Rattle.std.proofs.lemmas.List.{at_drop_all, drop_more, length-map}
+use Rattle.std.proofs.Common.{◌≡◌, ◌↔◌, inl, inr, ℕ, suc, ◌+◌, ◌<◌, ◌≤◌, List, [], ◌∷◌, ◌++◌, length, map, get_or, drop, All, refl, sym, ap, subst, ◌∙◌, arith}
+use Rattle.std.proofs.lemmas.List.{at_drop_all, drop_more, get_or-map, length-map}
 use Rattle.std.proofs.lemmas.List.Elements.{All-append, All-cons, All-head, All-nil, All-tail, All-weaker}
 use Rattle.verdict.specs.declared.verdict.Branch.{Branch}
 use Rattle.verdict.specs.declared.verdict.PointLine.{PointLine}
@@ -46,6 +46,11 @@ named_done branches marks i first last to = to.1 (at_drop_all (map branch_name) 
 
 pub named_long : (branches : List Branch) (marks : List Mark) → map branch_name branches ≡ map mark_name marks → length branches ≡ length marks
 named_long branches marks same = sym (length-map branches branch_name) ∙ (ap length same ∙ length-map marks mark_name)
+
+pub name_at : (branches : List Branch) (marks : List Mark) (i : ℕ) (b : Branch) (m : Mark) → map branch_name branches ≡ map mark_name marks → i < length branches → b ≡ get_or branches i b → b.name ≡ (get_or marks i m).name
+name_at branches marks i b m same below item =
+    let long = named_long branches marks same in
+    ap (λ (x : Branch). x.name) item ∙ (sym (get_or-map branch_name branches i b 0 below) ∙ (ap (λ (xs : List ℕ). get_or xs i 0) same ∙ get_or-map mark_name marks i m 0 (omega arith)))
 
 -- ---- Shorts
 
@@ -157,4 +162,4 @@ from_rows n (row ∷ rest) (net ∷ nets) names lines long named =
     ap (λ (os : List Outline). short_of n (names_on n 0 names lines) ++ os) (from_rows (n + 1) rest nets names lines (omega arith) (λ k below. let next : n + suc k ≡ n + 1 + k = omega arith in named (suc k) (omega arith) ∙ ap (λ (j : ℕ). names_on j 0 names lines) next))
 
 pub outlines_named : (table : List (List Mark)) (nets : List (List Twig)) (names : List (List ℕ)) (lines : List PointLine) → length table ≡ length nets → AreNamed names lines table → outlines_from 0 table ≡ all_shorts 0 nets names lines
-outlines_named table nets names lines long named = from_rows 0 table nets names lines long named
+outlines_named table nets names lines long named = from_rows 0 table nets names lines long (λ k below. let same : k ≡ 0 + k = omega arith in named k below ∙ ap (λ (j : ℕ). names_on j 0 names lines) same)

@@ -1,5 +1,6 @@
 -- Answers of tests, and what they tell.
-use Rattle.std.proofs.Common.{◌≡◌, ◌↔◌, Bool, true, false, IsTrue, refl, ◌⊎◌, inl, inr}
+use Rattle.std.proofs.Common.{◌≡◌, ◌↔◌, Bool, true, false, IsTrue, ℕ, zero, suc, ◌<◌, ◌==◌, nat_eq, refl, arith}
+use Rattle.std.proofs.lemmas.Bool.{eqb-true, eq-eqb}
 
 pub no_true : IsTrue false → ⊥
 no_true t = cc
@@ -20,3 +21,11 @@ denied false P tells e p = no_true (tells.1 p)
 
 pub through : (X Y Z : Type 0) → X ↔ Y → Y ↔ Z → X ↔ Z
 through X Y Z a b = ((λ x. b.0 (a.0 x)), λ z. a.1 (b.1 z))
+
+pub tested : (a b : ℕ) → IsTrue (nat_eq a b) ↔ (a ≡ b)
+tested a b = ((λ yes. eqb-true a b yes), λ same. eq-eqb a b same)
+
+-- what a test for emptiness tells
+pub some_left : (n : ℕ) (b : Bool) → b ≡ (n == 0) → b ≡ false → 0 < n
+some_left zero b e none = cc
+some_left (suc n) b e none = omega arith

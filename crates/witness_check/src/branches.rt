@@ -32,10 +32,10 @@ pub fn branches_hold(
     let places = table.as_mut_slice();
     let stamps = ends.as_mut_slice();
     for i in 0..shorts.len() {
-        let number = shorts[i].net as usize;
-        let net = nets[number].as_slice();
-        let names = marks[number].as_slice();
-        let branches = shorts[i].branches.as_slice();
+        let short = &shorts[i];
+        let net = nets[short.net as usize].as_slice();
+        let names = marks[short.net as usize].as_slice();
+        let branches = short.branches.as_slice();
         place_net(net, places);
         stamps[first_of(net) as usize] = i + 1;
         if !are_branches(net, places, homes, names, branches, i + 1, stamps) {
@@ -75,10 +75,11 @@ fn are_branches(
     ensures highest { AreUpTo stamp stamps.new }
 {
     for i in 0..branches.len() {
-        if !is_branch(net, places, homes, marks[i], &branches[i], stamp, stamps) {
+        let branch = &branches[i];
+        if !is_branch(net, places, homes, marks[i], branch, stamp, stamps) {
             return false;
         }
-        stamp_all(branches[i].pieces.as_slice(), stamp, stamps);
+        stamp_all(branch.pieces.as_slice(), stamp, stamps);
     }
     true
 }

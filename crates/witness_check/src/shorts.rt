@@ -1,5 +1,5 @@
 // The clause on shorts.
-ghost use Rattle.std.specs.Prelude.{◌≡◌, ℕ, ◌<◌, ◌^◌, ◌↔◌, IsTrue, length, map};
+ghost use Rattle.std.specs.Prelude.{◌≡◌, ◌<◌, ◌^◌, ◌↔◌, IsTrue, length, map};
 ghost use Rattle.verdict.specs.Right.{outline};
 ghost use Rattle.verdict.specs.Seats.{branch_name, mark_name};
 ghost use Rattle.witness_check.specs.Marked.{outline_of, outlines_from};

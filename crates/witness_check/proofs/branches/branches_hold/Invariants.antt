@@ -1,4 +1,4 @@
-use Rattle.std.proofs.Common.{◌≡◌, length}
+use Rattle.std.proofs.Common.{length}
 use Rattle.witness_check.proofs.Branching.{AreRightTo}
 use Rattle.witness_check.proofs.branches.branches_hold.Given as goal
 
