@@ -53,8 +53,8 @@ branched_more net homes marks branches stamp room i stamps stamps' b m below wit
   ends = to.ends ++ b.pieces;
   stamped = more to.ends to.stamped;
   right = λ number lines firsts. (
-      (λ whole. (subst (AreBranches net (BeginsAtHome homes) lines number to.ends) (branch_next branches i b below item) ((to.right number lines firsts).0 whole)).1),
-      λ rest. (to.right number lines firsts).1 (subst (AreBranches net (BeginsAtHome homes) lines number to.ends) (sym (branch_next branches i b below item)) (is number lines to.ends (All-get_or (IsFirst number lines) marks i m within firsts) to.stamped, rest)),
+    (λ whole. (subst (AreBranches net (BeginsAtHome homes) lines number to.ends) (branch_next branches i b below item) ((to.right number lines firsts).0 whole)).1),
+    λ rest. (to.right number lines firsts).1 (subst (AreBranches net (BeginsAtHome homes) lines number to.ends) (sym (branch_next branches i b below item)) (is number lines to.ends (All-get_or (IsFirst number lines) marks i m within firsts) to.stamped, rest)),
   );
 }
 

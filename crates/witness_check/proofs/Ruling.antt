@@ -1,12 +1,12 @@
 -- The ruling on opens, shorts and branches.
-use Rattle.std.proofs.Common.{◌≡◌, ◌↔◌, ℕ, ◌<◌, List, length, map, All, IfSome, Option, refl, sym, ap, subst, ◌∙◌, arith}
+use Rattle.std.proofs.Common.{◌≡◌, ◌↔◌, ℕ, ◌<◌, List, length, map, All, Option, refl, sym, ap, subst, ◌∙◌, arith}
 use Rattle.verdict.specs.declared.verdict.PointLine.{PointLine}
 use Rattle.verdict.specs.declared.verdict.Seat.{Seat}
 use Rattle.verdict.specs.declared.verdict.Short.{Short}
 use Rattle.verdict.specs.declared.verdict.Twig.{Twig}
 use Rattle.verdict.specs.declared.verdict.Verdict.{Verdict}
 use Rattle.verdict.specs.declared.marks.Mark.{Mark}
-use Rattle.verdict.specs.Right.{Clause, Trees, Covers, Apart, Points, Opens, Shorts, Branches, Bare, Counts, BeginsAtHome, HasBranches, all_opens, all_shorts, number_of, outline}
+use Rattle.verdict.specs.Right.{Clause, Trees, Covers, Apart, Points, Opens, Shorts, Branches, Bare, Counts, BeginsAtHome, HasBranches, all_shorts, number_of, outline}
 use Rattle.verdict.specs.Seats.{AreFirst, AreFirstSeats, AreNamed, marks_at, marks_from}
 use Rattle.verdict.proofs.Marking.{table_first, table_named}
 use Rattle.witness_check.specs.Findings.{FindingsFail, FindingsSay}

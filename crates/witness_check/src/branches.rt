@@ -9,7 +9,7 @@ ghost use Rattle.witness_check.specs.Marked.{AreStamped, AreUpTo, HasMarks};
 
 use lengths::{NoMemory, Rows};
 use std::alloc::Global;
-use verdict::{place_net, Branch, Mark, Short, Tree, Twig};
+use verdict::{Branch, Mark, Short, Tree, Twig, place_net};
 
 /// Whether the branches of all shorts are right. The shorts have the names of the marks on their nets, and each mark
 /// says which point its branch has.

@@ -1,4 +1,4 @@
-use Rattle.std.proofs.Common.{◌≡◌, ℕ, ◌-◌, ◌+◌, ◌↔◌, length, arith, subst, sym, ◌∙◌}
+use Rattle.std.proofs.Common.{◌≡◌, ℕ, ◌-◌, ◌↔◌, length, arith, subst, sym, ◌∙◌}
 use Rattle.verdict.specs.Right.{IsWay}
 use Rattle.witness_check.proofs.Told.{some_left, refuted, told, denied, tested, through}
 use Rattle.witness_check.proofs.Walking.{IsWalked, walk_done, walk_ended, walk_inside, walk_more, walk_strays}

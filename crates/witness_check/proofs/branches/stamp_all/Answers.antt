@@ -1,4 +1,4 @@
-use Rattle.std.proofs.Common.{ℕ, ◌+◌, ◌<◌, ◌++◌, List, length, get_or, set, take, arith, sym, subst}
+use Rattle.std.proofs.Common.{ℕ, ◌<◌, ◌++◌, List, length, get_or, set, take, arith, sym, subst}
 use Rattle.std.proofs.lemmas.List.{take_all, take_more}
 use Rattle.std.proofs.lemmas.List.Elements.{All-get_or}
 use Rattle.witness_check.specs.Marked.{AreStamped}
