@@ -1,6 +1,6 @@
 -- Branches one by one, and the shorts that have them.
 use Rattle.std.proofs.Common.{◌≡◌, ◌↔◌, ℕ, ◌+◌, ◌<◌, ◌≤◌, max, List, [], ◌∷◌, ◌++◌, length, get_or, take, drop, Contains, All, Option, Some, refl, sym, ap, subst, ◌∙◌, arith, slice_get}
-use Rattle.std.proofs.lemmas.List.{drop_all, drop_more, take_all, take_more}
+use Rattle.std.proofs.lemmas.List.{drop_more, take_all, take_more}
 use Rattle.std.proofs.lemmas.List.Elements.{All-get_or, All-push}
 use Rattle.std.proofs.lemmas.Option.{slice_get-get_or}
 use Rattle.verdict.specs.declared.verdict.Branch.{Branch}
@@ -9,24 +9,11 @@ use Rattle.verdict.specs.declared.verdict.Short.{Short}
 use Rattle.verdict.specs.declared.verdict.Twig.{Twig}
 use Rattle.verdict.specs.declared.marks.Mark.{Mark}
 use Rattle.verdict.specs.Forest.{Holds, first_piece, net_at, pieces_of}
-use Rattle.verdict.specs.Right.{AreBranches, BeginsAt, BeginsAtHome, HasBranches, IsBranch, IsWay, first_on}
+use Rattle.verdict.specs.Right.{AreBranches, BeginsAtHome, HasBranches, IsBranch}
 use Rattle.verdict.specs.Seats.{AreFirst, IsFirst, marks_at}
 use Rattle.witness_check.specs.Marked.{AreStamped, AreUpTo, HasMarks}
 
 -- ---- A branch
-
--- What is asked of a branch by its mark is that it is right.
-pub branch_is : (net : List Twig) (homes : List (Option ℕ)) (mark : Mark) (b : Branch) (number : ℕ) (lines : List PointLine) (ends : List ℕ) → b.name ≡ mark.name → IsFirst number lines mark → ((b.probe ≡ mark.probe) × BeginsAt (BeginsAtHome homes mark.probe) b.pieces × IsWay net ends b.pieces) ↔ IsBranch net (BeginsAtHome homes) lines number ends b
-branch_is net homes mark b number lines ends named first = (
-  (λ p. record {
-    probe = ap (λ (n : ℕ). first_on number n lines) named ∙ (first ∙ ap Some (sym p.0));
-    start = subst (λ (probe : ℕ). BeginsAt (BeginsAtHome homes probe) b.pieces) (sym p.0) p.1;
-    way = p.2;
-  }),
-  λ is. let same : b.probe ≡ mark.probe = some_same (sym is.probe ∙ (ap (λ (n : ℕ). first_on number n lines) named ∙ first)) in (same, subst (λ (probe : ℕ). BeginsAt (BeginsAtHome homes probe) b.pieces) same is.start, is.way),
-) where
-  some_same : {a b : ℕ} → Some a ≡ Some b → a ≡ b
-  some_same e = cc
 
 -- ---- The branches of a short
 
@@ -37,9 +24,6 @@ pub record AreBranchedTo (net : List Twig) (homes : List (Option ℕ)) (marks : 
   pub ends : List ℕ
   pub stamped : AreStamped ends stamp stamps
   pub right : (number : ℕ) (lines : List PointLine) → All (IsFirst number lines) marks → AreBranches net (BeginsAtHome homes) lines number (first_piece net ∷ []) branches ↔ AreBranches net (BeginsAtHome homes) lines number ends (drop i branches)
-
-pub branched_start : (net : List Twig) (homes : List (Option ℕ)) (marks : List Mark) (branches : List Branch) (stamp : ℕ) (stamps : List ℕ) → AreStamped (first_piece net ∷ []) stamp stamps → AreUpTo stamp stamps → AreBranchedTo net homes marks branches stamp (length stamps) 0 stamps
-branched_start net homes marks branches stamp stamps stamped up = record { long = refl; highest = up; ends = first_piece net ∷ []; stamped = stamped; right = λ number lines firsts. ((λ b. b), λ b. b) }
 
 branch_next : (branches : List Branch) (i : ℕ) (b : Branch) → i < length branches → b ≡ get_or branches i b → drop i branches ≡ b ∷ drop (i + 1) branches
 branch_next branches i b below item = drop_more branches i b below ∙ ap (λ (x : Branch). x ∷ drop (i + 1) branches) (sym item)
@@ -63,9 +47,6 @@ pub branched_stops : (net : List Twig) (homes : List (Option ℕ)) (marks : List
     → AreBranchedTo net homes marks branches stamp room i stamps → (number : ℕ) (lines : List PointLine) → All (IsFirst number lines) marks → AreBranches net (BeginsAtHome homes) lines number (first_piece net ∷ []) branches → ⊥
 branched_stops net homes marks branches stamp room i stamps b m below within item not to number lines firsts whole =
     not number lines to.ends (All-get_or (IsFirst number lines) marks i m within firsts) to.stamped (subst (AreBranches net (BeginsAtHome homes) lines number to.ends) (branch_next branches i b below item) ((to.right number lines firsts).0 whole)).0
-
-pub branched_done : (net : List Twig) (homes : List (Option ℕ)) (marks : List Mark) (branches : List Branch) (stamp room i : ℕ) (stamps : List ℕ) → length branches ≤ i → AreBranchedTo net homes marks branches stamp room i stamps → (number : ℕ) (lines : List PointLine) → All (IsFirst number lines) marks → AreBranches net (BeginsAtHome homes) lines number (first_piece net ∷ []) branches
-branched_done net homes marks branches stamp room i stamps past to number lines firsts = (to.right number lines firsts).1 (subst (AreBranches net (BeginsAtHome homes) lines number to.ends) (sym (drop_all i branches past)) tt)
 
 -- ---- All shorts
 

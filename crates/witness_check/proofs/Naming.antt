@@ -31,19 +31,6 @@ branch_next branches i d below = ap (map branch_name) (drop_more branches i d be
 mark_next : (marks : List Mark) (i : ℕ) (d : Mark) → i < length marks → map mark_name (drop i marks) ≡ (get_or marks i d).name ∷ map mark_name (drop (i + 1) marks)
 mark_next marks i d below = ap (map mark_name) (drop_more marks i d below)
 
-pub named_more : (branches : List Branch) (marks : List Mark) (i : ℕ) (b : Branch) (m : Mark) → i < length branches → i < length marks → (get_or branches i b).name ≡ (get_or marks i m).name → AreNamedTo branches marks i → AreNamedTo branches marks (i + 1)
-named_more branches marks i b m first last same to = (
-  (λ whole. (cons_same (get_or branches i b).name (get_or marks i m).name (map branch_name (drop (i + 1) branches)) (map mark_name (drop (i + 1) marks)) (sym (branch_next branches i b first) ∙ (to.0 whole ∙ mark_next marks i m last))).1),
-  λ rest. to.1 (branch_next branches i b first ∙ (cons_of (get_or branches i b).name (get_or marks i m).name (map branch_name (drop (i + 1) branches)) (map mark_name (drop (i + 1) marks)) same rest ∙ sym (mark_next marks i m last))),
-)
-
-pub named_stops : (branches : List Branch) (marks : List Mark) (i : ℕ) (b : Branch) (m : Mark) → i < length branches → i < length marks → ((get_or branches i b).name ≡ (get_or marks i m).name → ⊥) → AreNamedTo branches marks i → map branch_name branches ≡ map mark_name marks → ⊥
-named_stops branches marks i b m first last other to whole =
-    other (cons_same (get_or branches i b).name (get_or marks i m).name (map branch_name (drop (i + 1) branches)) (map mark_name (drop (i + 1) marks)) (sym (branch_next branches i b first) ∙ (to.0 whole ∙ mark_next marks i m last))).0
-
-pub named_done : (branches : List Branch) (marks : List Mark) (i : ℕ) → length branches ≤ i → length marks ≤ i → AreNamedTo branches marks i → map branch_name branches ≡ map mark_name marks
-named_done branches marks i first last to = to.1 (at_drop_all (map branch_name) branches i first ∙ sym (at_drop_all (map mark_name) marks i last))
-
 pub named_long : (branches : List Branch) (marks : List Mark) → map branch_name branches ≡ map mark_name marks → length branches ≡ length marks
 named_long branches marks same = sym (length-map branches branch_name) ∙ (ap length same ∙ length-map marks mark_name)
 
@@ -56,9 +43,6 @@ name_at branches marks i b m same below item =
 
 outline_same : (s : Short) (net : ℕ) (marks : List Mark) → s.net ≡ net → map branch_name s.branches ≡ map mark_name marks → outline s ≡ outline_of net marks
 outline_same s net marks e f = ap (λ (n : ℕ). let o : Outline = record { net = n; names = map branch_name s.branches } in o) e ∙ ap (λ (names : List ℕ). let o : Outline = record { net = net; names = names } in o) f
-
-pub outline_is : (s : Short) (net : ℕ) (marks : List Mark) → (s.net ≡ net) × (map branch_name s.branches ≡ map mark_name marks) ↔ (outline s ≡ outline_of net marks)
-outline_is s net marks = ((λ p. outline_same s net marks p.0 p.1), λ e. (ap (λ (o : Outline). o.net) e, ap (λ (o : Outline). o.names) e))
 
 -- The shorts are those of the nets exactly where those from `next` on are those of the nets from n on.
 pub record AreShortTo (shorts : List Short) (table : List (List Mark)) (next n : ℕ) : Type 0 where
@@ -81,31 +65,8 @@ many_next table n row below same many =
 short_next : (shorts : List Short) (next : ℕ) (d : Short) → next < length shorts → map outline (drop next shorts) ≡ outline (get_or shorts next d) ∷ map outline (drop (next + 1) shorts)
 short_next shorts next d below = ap (map outline) (drop_more shorts next d below)
 
-pub shorts_skip : (shorts : List Short) (table : List (List Mark)) (next n : ℕ) (row : List Mark) → n < length table → row ≡ get_or table n [] → length row < 2 → AreShortTo shorts table next n → AreShortTo shorts table next (n + 1)
-shorts_skip shorts table next n row below same few to = record {
-  within = to.within;
-  same = ((λ whole. to.same.0 whole ∙ few_next table n row below same few), λ rest. to.same.1 (rest ∙ sym (few_next table n row below same few)));
-}
-
-pub shorts_more : (shorts : List Short) (table : List (List Mark)) (next n : ℕ) (row : List Mark) (d : Short) → n < length table → row ≡ get_or table n [] → 2 ≤ length row → next < length shorts → outline (get_or shorts next d) ≡ outline_of n row → AreShortTo shorts table next n → AreShortTo shorts table (next + 1) (n + 1)
-shorts_more shorts table next n row d below same many there here to = record {
-  within = omega arith;
-  same = (
-    (λ whole. (cons_same (outline (get_or shorts next d)) (outline_of n row) (map outline (drop (next + 1) shorts)) (outlines_from (n + 1) (drop (n + 1) table)) (sym (short_next shorts next d there) ∙ (to.same.0 whole ∙ many_next table n row below same many))).1),
-    λ rest. to.same.1 (short_next shorts next d there ∙ (cons_of (outline (get_or shorts next d)) (outline_of n row) (map outline (drop (next + 1) shorts)) (outlines_from (n + 1) (drop (n + 1) table)) here rest ∙ sym (many_next table n row below same many))),
-  );
-}
-
 none_cons : {X : Type 0} (x : X) (xs : List X) → [] ≡ x ∷ xs → ⊥
 none_cons x xs e = cc
-
-pub shorts_lack : (shorts : List Short) (table : List (List Mark)) (next n : ℕ) (row : List Mark) → n < length table → row ≡ get_or table n [] → 2 ≤ length row → length shorts ≤ next → AreShortTo shorts table next n → map outline shorts ≡ outlines_from 0 table → ⊥
-shorts_lack shorts table next n row below same many past to whole =
-    none_cons (outline_of n row) (outlines_from (n + 1) (drop (n + 1) table)) (sym (at_drop_all (map outline) shorts next past) ∙ (to.same.0 whole ∙ many_next table n row below same many))
-
-pub shorts_stop : (shorts : List Short) (table : List (List Mark)) (next n : ℕ) (row : List Mark) (d : Short) → n < length table → row ≡ get_or table n [] → 2 ≤ length row → next < length shorts → (outline (get_or shorts next d) ≡ outline_of n row → ⊥) → AreShortTo shorts table next n → map outline shorts ≡ outlines_from 0 table → ⊥
-shorts_stop shorts table next n row d below same many there other to whole =
-    other (cons_same (outline (get_or shorts next d)) (outline_of n row) (map outline (drop (next + 1) shorts)) (outlines_from (n + 1) (drop (n + 1) table)) (sym (short_next shorts next d there) ∙ (to.same.0 whole ∙ many_next table n row below same many))).0
 
 pub shorts_done : (shorts : List Short) (table : List (List Mark)) (next n : ℕ) (d : Short) → length table ≤ n → AreShortTo shorts table next n → (next ≡ length shorts) ↔ (map outline shorts ≡ outlines_from 0 table)
 shorts_done shorts table next n d past to =

@@ -1,5 +1,5 @@
 -- Pieces with a stamp.
-use Rattle.std.proofs.Common.{◌≡◌, inl, inr, ℕ, ◌<◌, ◌≤◌, List, [], ◌∷◌, ◌++◌, length, get_or, set, Contains, refl, sym, ap, subst, ◌∙◌, append_assoc, append-nil, arith}
+use Rattle.std.proofs.Common.{◌≡◌, inl, inr, ℕ, ◌<◌, ◌≤◌, List, [], ◌∷◌, ◌++◌, length, get_or, set, Contains, sym, ap, subst, ◌∙◌, append_assoc, arith}
 use Rattle.std.proofs.lemmas.List.{length-set, get_or-set_same, get_or-set_other, get_or_past}
 use Rattle.std.proofs.lemmas.List.Elements.{Contains-append_left, Contains-push, Contains-push_cases}
 use Rattle.std.proofs.lemmas.Bool.{cases_eq}
@@ -39,9 +39,6 @@ pub record AreStampedTo (stamp : ℕ) (old : List ℕ) (done : List ℕ) (stamps
   pub long : length stamps ≡ length old
   pub highest : AreUpTo stamp stamps
   pub stamped : (ends : List ℕ) → AreStamped ends stamp old → AreStamped (ends ++ done) stamp stamps
-
-pub stamping_start : (stamp : ℕ) (old : List ℕ) → AreUpTo stamp old → AreStampedTo stamp old [] old
-stamping_start stamp old up = record { long = refl; highest = up; stamped = λ ends are. subst (λ (xs : List ℕ). AreStamped xs stamp old) (sym (append-nil ends)) are }
 
 pub stamping_more : (stamp : ℕ) (old done stamps : List ℕ) (q : ℕ) → q < length old → AreStampedTo stamp old done stamps → AreStampedTo stamp old (done ++ q ∷ []) (set stamps q stamp)
 stamping_more stamp old done stamps q below to =

@@ -1,8 +1,8 @@
 -- Ways by the places of pieces and by their stamps.
 use Rattle.std.proofs.Common.{◌≡◌, ◌↔◌, ℕ, ◌+◌, ◌<◌, ◌≤◌, List, [], ◌∷◌, length, get_or, take, drop, All, Option, Some, None, sym, ap, subst, ◌∙◌, arith, slice_get}
 use Rattle.std.proofs.lemmas.List.{drop_all, drop_more, get_or_default, take_all, take_more}
-use Rattle.std.proofs.lemmas.List.Elements.{All-nil, All-push}
-use Rattle.std.proofs.lemmas.Option.{slice_get_within, slice_get-get_or, get_or_from_slice_get}
+use Rattle.std.proofs.lemmas.List.Elements.{All-push}
+use Rattle.std.proofs.lemmas.Option.{slice_get-get_or}
 use Rattle.verdict.specs.declared.verdict.Twig.{Twig}
 use Rattle.verdict.specs.Places.{HasPlaces, twig_at}
 use Rattle.verdict.specs.Right.{HasParent, IsWay}
@@ -10,9 +10,6 @@ use Rattle.witness_check.specs.Marked.{AreStamped}
 use Rattle.witness_check.proofs.Stamping.{stamped_within}
 
 -- ---- Parents
-
-twig_with : ℕ → ℕ → Twig
-twig_with piece parent = record { piece = piece; parent = Some parent }
 
 same_twig : (t : Twig) (piece parent : ℕ) → t.piece ≡ piece → t.parent ≡ Some parent → t ≡ record { piece = piece; parent = Some parent }
 same_twig t piece parent e f =
@@ -27,21 +24,8 @@ parent_place net places piece parent all (k, below, same) =
     let place : get_or places piece 0 ≡ k = ap (λ (x : ℕ). get_or places x 0) (sym of) ∙ (all k below).1 in
     (subst (λ (x : ℕ). x < length places) of (all k below).0, ap (slice_get net) place ∙ (slice_get-get_or net k (record { piece = 0; parent = None }) below ∙ ap Some here))
 
-pub parent_there : (net : List Twig) (place : ℕ) (t : Twig) (piece parent : ℕ) → slice_get net place ≡ Some t → t.piece ≡ piece → t.parent ≡ Some parent → HasParent net piece parent
-parent_there net place t piece parent there e f =
-    let u : Twig = record { piece = piece; parent = Some parent } in
-    (place, slice_get_within net place t there, get_or_from_slice_get net place t u there ∙ same_twig t piece parent e f)
-
 some_twig : (a b : Twig) → Some a ≡ Some b → a ≡ b
 some_twig a b e = cc
-
-pub parent_read : (net : List Twig) (places : List ℕ) (t : Twig) (piece parent : ℕ) → HasPlaces net places → slice_get net (get_or places piece 0) ≡ Some t → HasParent net piece parent → (t.piece ≡ piece) × (t.parent ≡ Some parent)
-parent_read net places t piece parent all there has =
-    let same : t ≡ record { piece = piece; parent = Some parent } = some_twig t (record { piece = piece; parent = Some parent }) (sym there ∙ (parent_place net places piece parent all has).1) in
-    (ap (λ (u : Twig). u.piece) same, ap (λ (u : Twig). u.parent) same)
-
-pub parent_none : (net : List Twig) (places : List ℕ) (piece parent : ℕ) → HasPlaces net places → slice_get net (get_or places piece 0) ≡ None → HasParent net piece parent → ⊥
-parent_none net places piece parent all none has = let e = sym none ∙ (parent_place net places piece parent all has).1 in cc
 
 -- ---- Ways
 
@@ -49,9 +33,6 @@ parent_none net places piece parent all none has = let e = sym none ∙ (parent_
 pub record IsWalked (net : List Twig) (stamp : ℕ) (stamps pieces : List ℕ) (i : ℕ) : Type 0 where
   pub way : (ends : List ℕ) → AreStamped ends stamp stamps → IsWay net ends pieces ↔ IsWay net ends (drop i pieces)
   pub inside : All (λ piece. piece < length stamps) (take i pieces)
-
-pub walk_start : (net : List Twig) (stamp : ℕ) (stamps pieces : List ℕ) → IsWalked net stamp stamps pieces 0
-walk_start net stamp stamps pieces = record { way = λ ends are. ((λ w. w), λ w. w); inside = All-nil (λ piece. piece < length stamps) }
 
 two_next : (pieces : List ℕ) (i : ℕ) → i + 1 < length pieces → drop i pieces ≡ get_or pieces i 0 ∷ get_or pieces (i + 1) 0 ∷ drop (i + 1 + 1) pieces
 two_next pieces i below = drop_more pieces i 0 (omega arith) ∙ ap (λ (xs : List ℕ). get_or pieces i 0 ∷ xs) (drop_more pieces (i + 1) 0 below)
