@@ -11,7 +11,6 @@ use Rattle.verdict.specs.Forest.{first_piece}
 use Rattle.verdict.specs.Right.{IsWay, BeginsAt, IsBranch, AreBranches, HasBranches, all_shorts, names_on, outline, short_of, Outline, BeginsAtHome}
 use Rattle.judge.specs.Judged.{AreFlags}
 use Rattle.verdict.proofs.Lines.{turn}
-use Rattle.verdict.proofs.Shorted.{short_few, short_many}
 use Rattle.std.proofs.lemmas.Option.{slice_get-get_or}
 use Rattle.verdict.specs.declared.verdict.Short.{Short}
 use Rattle.verdict.specs.Places.{twig_at, HasPlaces}
@@ -90,6 +89,16 @@ branched_more net homes marks i d branches branches' flags flags' home pieces be
     begun : (pieces : List ℕ) → BeginsAt (λ piece. piece ≡ home) pieces → BeginsAt (BeginsAtHome homes (get_or marks i d).probe) pieces
     begun [] h = absurd h
     begun (p ∷ rest) h = start ∙ ap Some (sym h)
+
+pub short_few : (n : ℕ) (names : List ℕ) → length names < 2 → short_of n names ≡ []
+short_few n [] few = refl
+short_few n (a ∷ []) few = refl
+short_few n (a ∷ b ∷ rest) few = absurd (omega arith)
+
+pub short_many : (n : ℕ) (names : List ℕ) → 2 ≤ length names → short_of n names ≡ record { net = n; names = names } ∷ []
+short_many n [] many = absurd (omega arith)
+short_many n (a ∷ []) many = absurd (omega arith)
+short_many n (a ∷ b ∷ rest) many = refl
 
 pub short_pushed : (n : ℕ) (names : List ℕ) (shorts shorts' : List Short) (branches : List Branch) (marks : List Mark) → 2 ≤ length marks → map mark_name marks ≡ names → map branch_name branches ≡ map mark_name marks → shorts' ≡ shorts ++ record { net = n; branches = branches } ∷ [] → map outline shorts' ≡ map outline shorts ++ short_of n names
 short_pushed n names shorts shorts' branches marks many named same now =

@@ -10,26 +10,13 @@ use Rattle.verdict.specs.declared.marks.Mark.{Mark}
 use Rattle.verdict.specs.Right.{Outline, all_shorts, names_on, outline, short_of}
 use Rattle.verdict.specs.Seats.{AreNamed, branch_name, mark_name, marks_at}
 use Rattle.verdict.proofs.Numbering.{le_or_lt}
-use Rattle.verdict.proofs.Shorted.{short_few, short_many}
-use Rattle.witness_check.specs.Marked.{HasMarks, outline_of, outlines_from}
-
-cons_same : {X : Type 0} (x y : X) (xs ys : List X) → x ∷ xs ≡ y ∷ ys → (x ≡ y) × (xs ≡ ys)
-cons_same x y xs ys e = (cc, cc)
-
-cons_of : {X : Type 0} (x y : X) (xs ys : List X) → x ≡ y → xs ≡ ys → x ∷ xs ≡ y ∷ ys
-cons_of x y xs ys e f = cc
+use Rattle.witness_check.specs.Marked.{HasMarks, outlines_from}
 
 -- ---- Names of branches
 
 -- The names are the same exactly where those from i on are.
 abbrev pub AreNamedTo : List Branch → List Mark → ℕ → Type 0
 AreNamedTo branches marks i = (map branch_name branches ≡ map mark_name marks) ↔ (map branch_name (drop i branches) ≡ map mark_name (drop i marks))
-
-branch_next : (branches : List Branch) (i : ℕ) (d : Branch) → i < length branches → map branch_name (drop i branches) ≡ (get_or branches i d).name ∷ map branch_name (drop (i + 1) branches)
-branch_next branches i d below = ap (map branch_name) (drop_more branches i d below)
-
-mark_next : (marks : List Mark) (i : ℕ) (d : Mark) → i < length marks → map mark_name (drop i marks) ≡ (get_or marks i d).name ∷ map mark_name (drop (i + 1) marks)
-mark_next marks i d below = ap (map mark_name) (drop_more marks i d below)
 
 pub named_long : (branches : List Branch) (marks : List Mark) → map branch_name branches ≡ map mark_name marks → length branches ≡ length marks
 named_long branches marks same = sym (length-map branches branch_name) ∙ (ap length same ∙ length-map marks mark_name)
@@ -41,26 +28,10 @@ name_at branches marks i b m same below item =
 
 -- ---- Shorts
 
-outline_same : (s : Short) (net : ℕ) (marks : List Mark) → s.net ≡ net → map branch_name s.branches ≡ map mark_name marks → outline s ≡ outline_of net marks
-outline_same s net marks e f = ap (λ (n : ℕ). let o : Outline = record { net = n; names = map branch_name s.branches } in o) e ∙ ap (λ (names : List ℕ). let o : Outline = record { net = net; names = names } in o) f
-
 -- The shorts are those of the nets exactly where those from `next` on are those of the nets from n on.
 pub record AreShortTo (shorts : List Short) (table : List (List Mark)) (next n : ℕ) : Type 0 where
   pub within : next ≤ length shorts
   pub same : (map outline shorts ≡ outlines_from 0 table) ↔ (map outline (drop next shorts) ≡ outlines_from n (drop n table))
-
-row_next : (table : List (List Mark)) (n : ℕ) → n < length table → outlines_from n (drop n table) ≡ short_of n (map mark_name (get_or table n [])) ++ outlines_from (n + 1) (drop (n + 1) table)
-row_next table n below = ap (outlines_from n) (drop_more table n [] below)
-
-few_next : (table : List (List Mark)) (n : ℕ) (row : List Mark) → n < length table → row ≡ get_or table n [] → length row < 2 → outlines_from n (drop n table) ≡ outlines_from (n + 1) (drop (n + 1) table)
-few_next table n row below same few =
-    row_next table n below ∙ (ap (λ (r : List Mark). short_of n (map mark_name r) ++ outlines_from (n + 1) (drop (n + 1) table)) (sym same) ∙
-    ap (λ (os : List Outline). os ++ outlines_from (n + 1) (drop (n + 1) table)) (short_few n (map mark_name row) (let e = length-map row mark_name in omega arith)))
-
-many_next : (table : List (List Mark)) (n : ℕ) (row : List Mark) → n < length table → row ≡ get_or table n [] → 2 ≤ length row → outlines_from n (drop n table) ≡ outline_of n row ∷ outlines_from (n + 1) (drop (n + 1) table)
-many_next table n row below same many =
-    row_next table n below ∙ (ap (λ (r : List Mark). short_of n (map mark_name r) ++ outlines_from (n + 1) (drop (n + 1) table)) (sym same) ∙
-    ap (λ (os : List Outline). os ++ outlines_from (n + 1) (drop (n + 1) table)) (short_many n (map mark_name row) (let e = length-map row mark_name in omega arith)))
 
 short_next : (shorts : List Short) (next : ℕ) (d : Short) → next < length shorts → map outline (drop next shorts) ≡ outline (get_or shorts next d) ∷ map outline (drop (next + 1) shorts)
 short_next shorts next d below = ap (map outline) (drop_more shorts next d below)

@@ -1,5 +1,5 @@
 -- Ways by the places of pieces and by their stamps.
-use Rattle.std.proofs.Common.{◌≡◌, ◌↔◌, ℕ, ◌+◌, ◌<◌, ◌≤◌, List, [], ◌∷◌, length, get_or, take, drop, All, Option, Some, None, sym, ap, subst, ◌∙◌, arith, slice_get}
+use Rattle.std.proofs.Common.{◌≡◌, ◌↔◌, ℕ, ◌+◌, ◌<◌, ◌≤◌, List, [], ◌∷◌, length, get_or, take, drop, All, Some, None, sym, ap, subst, ◌∙◌, arith, slice_get}
 use Rattle.std.proofs.lemmas.List.{drop_all, drop_more, get_or_default, take_all, take_more}
 use Rattle.std.proofs.lemmas.List.Elements.{All-push}
 use Rattle.std.proofs.lemmas.Option.{slice_get-get_or}
@@ -11,10 +11,6 @@ use Rattle.witness_check.proofs.Stamping.{stamped_within}
 
 -- ---- Parents
 
-same_twig : (t : Twig) (piece parent : ℕ) → t.piece ≡ piece → t.parent ≡ Some parent → t ≡ record { piece = piece; parent = Some parent }
-same_twig t piece parent e f =
-    ap (λ (x : ℕ). let u : Twig = record { piece = x; parent = t.parent } in u) e ∙ ap (λ (o : Option ℕ). let u : Twig = record { piece = piece; parent = o } in u) f
-
 -- the place of a piece with a parent
 pub parent_place : (net : List Twig) (places : List ℕ) (piece parent : ℕ) → HasPlaces net places → HasParent net piece parent → (piece < length places) × (slice_get net (get_or places piece 0) ≡ Some (record { piece = piece; parent = Some parent }))
 parent_place net places piece parent all (k, below, same) =
@@ -23,9 +19,6 @@ parent_place net places piece parent all (k, below, same) =
     let of : (twig_at net k).piece ≡ piece = ap (λ (u : Twig). u.piece) here in
     let place : get_or places piece 0 ≡ k = ap (λ (x : ℕ). get_or places x 0) (sym of) ∙ (all k below).1 in
     (subst (λ (x : ℕ). x < length places) of (all k below).0, ap (slice_get net) place ∙ (slice_get-get_or net k (record { piece = 0; parent = None }) below ∙ ap Some here))
-
-some_twig : (a b : Twig) → Some a ≡ Some b → a ≡ b
-some_twig a b e = cc
 
 -- ---- Ways
 

@@ -19,7 +19,7 @@ returns-then-not-same_opens c =
     let points : lines ≡ c.args.v.now.points = c.as_slice-lines.ensures in
     let groups : List (List Seat) = c.as_slice-groups.result.now in
     let firsts : AreFirstSeats groups lines = subst (λ (gs : List (List Seat)). AreFirstSeats gs lines) (sym c.as_slice-groups.ensures.value) c.in_ok-seats.ensures.seats in
-    let right : c.as_slice.result.now ≡ all_opens 0 c.args.names.now c.args.v.now.points = c.as_slice.ensures ∙ (c.in_ok-opens.ensures lines firsts ∙ ap (all_opens 0 c.args.names.now) points) in
+    let right : c.as_slice-wanted.result.now ≡ all_opens 0 c.args.names.now c.args.v.now.points = c.as_slice-wanted.ensures ∙ (c.in_ok-opens.ensures lines firsts ∙ ap (all_opens 0 c.args.names.now) points) in
     fails_opens c.args.names.now c.args.homes.now c.args.v.now (λ says. denied c.same_opens.result _ c.same_opens.ensures c.if-not-same_opens.true (c.as_slice-listed.ensures ∙ (says ∙ sym right)))
 
 pub marks_of-requires-clause-nets : goal.marks_of-requires-clause-nets
@@ -39,7 +39,7 @@ returns-then-not-shorts_hold c =
     let points : lines ≡ c.args.v.now.points = c.as_slice-lines.ensures in
     let groups : List (List Seat) = c.as_slice-groups.result.now in
     let firsts : AreFirstSeats groups lines = subst (λ (gs : List (List Seat)). AreFirstSeats gs lines) (sym c.as_slice-groups.ensures.value) c.in_ok-seats.ensures.seats in
-    let right : c.as_slice.result.now ≡ all_opens 0 c.args.names.now c.args.v.now.points = c.as_slice.ensures ∙ (c.in_ok-opens.ensures lines firsts ∙ ap (all_opens 0 c.args.names.now) points) in
+    let right : c.as_slice-wanted.result.now ≡ all_opens 0 c.args.names.now c.args.v.now.points = c.as_slice-wanted.ensures ∙ (c.in_ok-opens.ensures lines firsts ∙ ap (all_opens 0 c.args.names.now) points) in
     let opens : c.args.v.now.opens ≡ all_opens 0 c.args.names.now c.args.v.now.points = sym c.as_slice-listed.ensures ∙ (told c.same_opens.result _ c.same_opens.ensures c.if-not-same_opens.false ∙ right) in
     let table : List (List Mark) = c.as_slice-rows.result.now in
     let rows : HasRows c.args.names.now c.args.v.now table =
@@ -59,7 +59,7 @@ returns-then-not-branch c =
     let points : lines ≡ c.args.v.now.points = c.as_slice-lines.ensures in
     let groups : List (List Seat) = c.as_slice-groups.result.now in
     let firsts : AreFirstSeats groups lines = subst (λ (gs : List (List Seat)). AreFirstSeats gs lines) (sym c.as_slice-groups.ensures.value) c.in_ok-seats.ensures.seats in
-    let right : c.as_slice.result.now ≡ all_opens 0 c.args.names.now c.args.v.now.points = c.as_slice.ensures ∙ (c.in_ok-opens.ensures lines firsts ∙ ap (all_opens 0 c.args.names.now) points) in
+    let right : c.as_slice-wanted.result.now ≡ all_opens 0 c.args.names.now c.args.v.now.points = c.as_slice-wanted.ensures ∙ (c.in_ok-opens.ensures lines firsts ∙ ap (all_opens 0 c.args.names.now) points) in
     let opens : c.args.v.now.opens ≡ all_opens 0 c.args.names.now c.args.v.now.points = sym c.as_slice-listed.ensures ∙ (told c.same_opens.result _ c.same_opens.ensures c.if-not-same_opens.false ∙ right) in
     let table : List (List Mark) = c.as_slice-rows.result.now in
     let rows : HasRows c.args.names.now c.args.v.now table =
@@ -75,7 +75,7 @@ returns c =
     let points : lines ≡ c.args.v.now.points = c.as_slice-lines.ensures in
     let groups : List (List Seat) = c.as_slice-groups.result.now in
     let firsts : AreFirstSeats groups lines = subst (λ (gs : List (List Seat)). AreFirstSeats gs lines) (sym c.as_slice-groups.ensures.value) c.in_ok-seats.ensures.seats in
-    let right : c.as_slice.result.now ≡ all_opens 0 c.args.names.now c.args.v.now.points = c.as_slice.ensures ∙ (c.in_ok-opens.ensures lines firsts ∙ ap (all_opens 0 c.args.names.now) points) in
+    let right : c.as_slice-wanted.result.now ≡ all_opens 0 c.args.names.now c.args.v.now.points = c.as_slice-wanted.ensures ∙ (c.in_ok-opens.ensures lines firsts ∙ ap (all_opens 0 c.args.names.now) points) in
     let opens : c.args.v.now.opens ≡ all_opens 0 c.args.names.now c.args.v.now.points = sym c.as_slice-listed.ensures ∙ (told c.same_opens.result _ c.same_opens.ensures c.if-not-same_opens.false ∙ right) in
     let table : List (List Mark) = c.as_slice-rows.result.now in
     let rows : HasRows c.args.names.now c.args.v.now table =
