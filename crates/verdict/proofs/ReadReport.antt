@@ -37,10 +37,10 @@ counted_takes lawful text at is bytes count xs h k =
 
 -- ---- Shorts
 
-short_parts : (s : Short) (rest : List ℕ) → short_lines s ++ rest ≡ codes "short" ++ (word s.net ++ (word (length s.branches) ++ (end ++ (flat_map branch_line s.branches ++ rest))))
+pub short_parts : (s : Short) (rest : List ℕ) → short_lines s ++ rest ≡ codes "short" ++ (word s.net ++ (word (length s.branches) ++ (end ++ (flat_map branch_line s.branches ++ rest))))
 short_parts s rest = simp append_assoc
 
-flat_branches : (bs : List Branch) → numbered (λ k b. branch_line b) 0 bs ≡ flat_map branch_line bs
+pub flat_branches : (bs : List Branch) → numbered (λ k b. branch_line b) 0 bs ≡ flat_map branch_line bs
 flat_branches bs = numbered-flat branch_line 0 bs
 
 short_takes : (n : ℕ) (bytes : List ℕ) (s : Short) (rest : List ℕ) → short_at n bytes ≡ Some (s, rest) → (bytes ≡ short_lines s ++ rest) × IsShort s
@@ -81,10 +81,10 @@ short_is = record {
 
 -- ---- Sections
 
-abbrev section_text : {X : Type 0} → List ℕ → (ℕ → X → List ℕ) → List X → List ℕ
+abbrev pub section_text : {X : Type 0} → List ℕ → (ℕ → X → List ℕ) → List X → List ℕ
 section_text title text xs = count_line title (length xs) ++ numbered text 0 xs
 
-section_parts : {X : Type 0} (title : List ℕ) (text : ℕ → X → List ℕ) (xs : List X) (rest : List ℕ) → section_text title text xs ++ rest ≡ title ++ (word (length xs) ++ (end ++ (numbered text 0 xs ++ rest)))
+pub section_parts : {X : Type 0} (title : List ℕ) (text : ℕ → X → List ℕ) (xs : List X) (rest : List ℕ) → section_text title text xs ++ rest ≡ title ++ (word (length xs) ++ (end ++ (numbered text 0 xs ++ rest)))
 section_parts title text xs rest = simp append_assoc
 
 section_takes : {X : Type 0} (lawful : X → Type 0) (text : ℕ → X → List ℕ) (at : ℕ → List ℕ → Option (X × List ℕ)) → IsLine lawful text at → (title bytes : List ℕ) (xs : List X) (rest : List ℕ) → section_at at title bytes ≡ Some (xs, rest)
@@ -131,38 +131,38 @@ pieces_again n rest h =
 
 -- ---- The whole
 
-abbrev line_of : {X : Type 0} → (X → List ℕ) → ℕ → X → List ℕ
+abbrev pub line_of : {X : Type 0} → (X → List ℕ) → ℕ → X → List ℕ
 line_of text n x = text x
 
 flat_section : {X : Type 0} (title : List ℕ) (text : X → List ℕ) (xs : List X) → section_text title (line_of text) xs ≡ count_line title (length xs) ++ flat_map text xs
 flat_section title text xs = ap (λ (t : List ℕ). count_line title (length xs) ++ t) (numbered-flat text 0 xs)
 
 -- the text of a verdict part by part, as it is read
-abbrev last_of : Verdict → List ℕ
+abbrev pub last_of : Verdict → List ℕ
 last_of v = last_line v.opens v.shorts v.bare
 
-abbrev from_bare : Verdict → List ℕ
+abbrev pub from_bare : Verdict → List ℕ
 from_bare v = section_text (codes "missing") (line_of bare_line) v.bare ++ last_of v
 
-abbrev from_shorts : Verdict → List ℕ
+abbrev pub from_shorts : Verdict → List ℕ
 from_shorts v = section_text (codes "shorts") (line_of short_lines) v.shorts ++ from_bare v
 
-abbrev from_opens : Verdict → List ℕ
+abbrev pub from_opens : Verdict → List ℕ
 from_opens v = section_text (codes "opens") (line_of open_line) v.opens ++ from_shorts v
 
-abbrev from_points : Verdict → List ℕ
+abbrev pub from_points : Verdict → List ℕ
 from_points v = section_text (codes "points") point_line v.points ++ from_opens v
 
-abbrev from_names : Verdict → List ℕ
+abbrev pub from_names : Verdict → List ℕ
 from_names v = section_text (codes "names") name_line v.names ++ from_points v
 
-abbrev from_nets : Verdict → List ℕ
+abbrev pub from_nets : Verdict → List ℕ
 from_nets v = section_text (codes "nets") net_line v.nets ++ from_names v
 
-abbrev from_pieces : Verdict → List ℕ
+abbrev pub from_pieces : Verdict → List ℕ
 from_pieces v = count_line (codes "pieces") v.pieces ++ from_nets v
 
-report_parts : (v : Verdict) → report_text v ≡ (codes "boardnet 1" ++ (10 ∷ [])) ++ from_pieces v
+pub report_parts : (v : Verdict) → report_text v ≡ (codes "boardnet 1" ++ (10 ∷ [])) ++ from_pieces v
 report_parts v =
     let bare : section_text (codes "missing") (line_of bare_line) v.bare ≡ bare_text v.bare = flat_section (codes "missing") bare_line v.bare in
     let shorts : section_text (codes "shorts") (line_of short_lines) v.shorts ≡ shorts_text v.shorts = flat_section (codes "shorts") short_lines v.shorts in

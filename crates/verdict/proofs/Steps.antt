@@ -287,14 +287,20 @@ any_feed (b ∷ bs) rest = by (eqb b 10) (any_feed bs rest)
     by true k = refl
     by false k = k
 
+-- what stands after the first feed, where there is none before it
+pub after_feed : (bs rest : List ℕ) → list_all (λ b. not (is_feed b)) bs ≡ true → after_first is_feed (bs ++ (end ++ rest)) ≡ rest
+after_feed bs rest all =
+    let len : position_or_len is_feed (bs ++ (10 ∷ rest)) ≡ length bs = run_len (λ b. not (is_feed b)) bs (10 ∷ rest) all refl in
+    let long : length (bs ++ end) ≡ length bs + 1 = length-append bs end in
+    ap (λ (k : ℕ). drop (k + 1) (bs ++ (10 ∷ rest))) len ∙ (ap (λ (t : List ℕ). drop (length bs + 1) t) (sym (append_assoc bs end rest)) ∙ drop_at (bs ++ end) rest (length bs + 1) long)
+
 pub text_again : (name rest : List ℕ) → IsText name → text_at (name ++ (end ++ rest)) ≡ Some (name, rest)
 unfolding text_at
 text_again name rest h =
     let all = recursion_from_All IsPrintable name h.printable in
     let len : position_or_len is_feed (name ++ (10 ∷ rest)) ≡ length name = run_len (λ b. not (is_feed b)) name (10 ∷ rest) (no_feed name all) refl in
     let before : before_first is_feed (name ++ (10 ∷ rest)) ≡ name = ap (λ (k : ℕ). take k (name ++ (10 ∷ rest))) len ∙ take_at name (10 ∷ rest) (length name) refl in
-    let long : length (name ++ end) ≡ length name + 1 = length-append name end in
-    let after : after_first is_feed (name ++ (10 ∷ rest)) ≡ rest = ap (λ (k : ℕ). drop (k + 1) (name ++ (10 ∷ rest))) len ∙ (ap (λ (t : List ℕ). drop (length name + 1) t) (sym (append_assoc name end rest)) ∙ drop_at (name ++ end) rest (length name + 1) long) in
+    let after : after_first is_feed (name ++ (10 ∷ rest)) ≡ rest = after_feed name rest (no_feed name all) in
     let any : list_any is_feed (name ++ (10 ∷ rest)) ≡ true = any_feed name rest in
     let lawful : is_name (before_first is_feed (name ++ (10 ∷ rest))) ≡ true = ap is_name before ∙ name_again name h in
     let test : (list_any is_feed (name ++ (10 ∷ rest)) && is_name (before_first is_feed (name ++ (10 ∷ rest)))) ≡ true = both_true _ _ any lawful in
