@@ -10,7 +10,7 @@ use Rattle.verdict.specs.declared.marks.Mark.{Mark}
 use Rattle.verdict.specs.Forest.{first_piece}
 use Rattle.verdict.specs.Right.{IsWay, BeginsAt, IsBranch, AreBranches, HasBranches, all_shorts, names_on, outline, short_of, Outline, BeginsAtHome}
 use Rattle.judge.specs.Judged.{AreFlags}
-use Rattle.verdict.proofs.Lines.{turn}
+use Rattle.verdict.proofs.PointLines.{turn}
 use Rattle.std.proofs.lemmas.Option.{slice_get-get_or}
 use Rattle.verdict.specs.declared.verdict.Short.{Short}
 use Rattle.verdict.specs.Places.{twig_at, HasPlaces}

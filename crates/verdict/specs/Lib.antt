@@ -3,3 +3,6 @@ pub mod Right
 pub mod Forest
 pub mod Places
 pub mod Seats
+pub mod Lawful
+pub mod Laws
+pub mod Reading

@@ -1,4 +1,5 @@
 // Laws of verdicts.
+ghost use Rattle.verdict.specs.Laws.{ReportTextIsInjective};
 ghost use Rattle.verdict.specs.Right.{IsRight, NetNumbersAreJoins, OpensCoverSplitNames};
 ghost use Rattle.tables.specs.Consistent.{AreConsistent};
 ghost use Rattle.tables.specs.Tables.{Tables};
@@ -12,4 +13,9 @@ pub fn net_numbers_are_joins()
 /// In a right verdict two points of one name on different nets have listed opens.
 pub fn opens_cover_split_names()
     ensures { (board : Tables) (v : Verdict) → IsRight board v → OpensCoverSplitNames board v }
+{}
+
+/// Two verdicts with the same text are equal.
+pub fn report_text_is_injective()
+    ensures { ReportTextIsInjective }
 {}

@@ -1,5 +1,5 @@
 use Rattle.std.proofs.Common.{◌≡◌, ◌++◌, map, take}
-use Rattle.verdict.proofs.Lines.{open_by}
+use Rattle.verdict.proofs.PointLines.{open_by}
 use Rattle.verdict.proofs.opens.push_opens.Given as goal
 
 abbrev pub invariant-loop-seat : goal.invariant-loop-seat
