@@ -35,19 +35,19 @@ pub near_is : (b : PlainBoard) (p q : ℕ) (one two : PlainPiece) (is : Bool) �
 near_is b p q one two is here there other told = (
   λ h. (other, record { first = one; second = two; first_is = here; second_is = there; touch = told.0 h }),
   λ n. told.1 (
-    let t = n.1 in
-    let first : t.first ≡ one = some_one t.first one (sym t.first_is ∙ here) in
-    let second : t.second ≡ two = some_one t.second two (sym t.second_is ∙ there) in
-    subst (λ (x : PlainPiece). Touch x two) first (subst (λ (x : PlainPiece). Touch t.first x) second t.touch)
-  ),
+      let t = n.1 in
+      let first : t.first ≡ one = some_one t.first one (sym t.first_is ∙ here) in
+      let second : t.second ≡ two = some_one t.second two (sym t.second_is ∙ there) in
+      subst (λ (x : PlainPiece). Touch x two) first (subst (λ (x : PlainPiece). Touch t.first x) second t.touch)
+      ),
 )
 
 pub under_is : (b : PlainBoard) (k p : ℕ) (piece : PlainPiece) (probe : Probe) (is : Bool) → slice_get b.pieces p ≡ Some piece → slice_get b.probes k ≡ Some probe → IsTrue is ↔ IsUnder piece probe → IsTrue is ↔ UnderAt b k p
 under_is b k p piece probe is here there told = (
   λ h. record { piece = piece; probe = probe; piece_is = here; probe_is = there; under = told.0 h },
   λ u. told.1 (
-    let first : u.piece ≡ piece = some_one u.piece piece (sym u.piece_is ∙ here) in
-    let second : u.probe ≡ probe = some_one u.probe probe (sym u.probe_is ∙ there) in
-    subst (λ (x : PlainPiece). IsUnder x probe) first (subst (λ (x : Probe). IsUnder u.piece x) second u.under)
-  ),
+      let first : u.piece ≡ piece = some_one u.piece piece (sym u.piece_is ∙ here) in
+      let second : u.probe ≡ probe = some_one u.probe probe (sym u.probe_is ∙ there) in
+      subst (λ (x : PlainPiece). IsUnder x probe) first (subst (λ (x : Probe). IsUnder u.piece x) second u.under)
+      ),
 )

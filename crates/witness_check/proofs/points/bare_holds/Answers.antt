@@ -12,9 +12,9 @@ returns-then-not-stands_at c =
 pub loop-i-preserved : goal.loop-i-preserved
 loop-i-preserved c = elim c.if-is_none.branch [
   | then-is_none+else-not-stands_at w ↦
-    subst (λ (at : ℕ). IsBareTo c.args.bare.now c.args.lines.now at (c.loop-i.i + 1)) (sym w.at-is)
-    (bare_more c.args.bare.now c.args.lines.now c.loop-i.at c.loop-i.i _ c.loop-i.invariant (omega arith) (none_when _ c.is_none.result c.is_none.ensures w.if-is_none.true) (told w.stands_at.result _ w.stands_at.ensures w.if-not-stands_at.false))
+      subst (λ (at : ℕ). IsBareTo c.args.bare.now c.args.lines.now at (c.loop-i.i + 1)) (sym w.at-is)
+      (bare_more c.args.bare.now c.args.lines.now c.loop-i.at c.loop-i.i _ c.loop-i.invariant (omega arith) (none_when _ c.is_none.result c.is_none.ensures w.if-is_none.true) (told w.stands_at.result _ w.stands_at.ensures w.if-not-stands_at.false))
   | else-is_none w ↦
-    subst (λ (at : ℕ). IsBareTo c.args.bare.now c.args.lines.now at (c.loop-i.i + 1)) (sym w.at-is)
-    (let some = some_when _ c.is_none.result c.is_none.ensures w.if-is_none.false in bare_skip c.args.bare.now c.args.lines.now c.loop-i.at c.loop-i.i some.0 _ c.loop-i.invariant (omega arith) some.1)
+      subst (λ (at : ℕ). IsBareTo c.args.bare.now c.args.lines.now at (c.loop-i.i + 1)) (sym w.at-is)
+      (let some = some_when _ c.is_none.result c.is_none.ensures w.if-is_none.false in bare_skip c.args.bare.now c.args.lines.now c.loop-i.at c.loop-i.i some.0 _ c.loop-i.invariant (omega arith) some.1)
 ]
