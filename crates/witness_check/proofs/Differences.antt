@@ -1,18 +1,18 @@
 -- Two right verdicts of one board differ in witnesses only.
-use Rattle.std.proofs.Common.{◌≡◌, ◌≢◌, ◌⊎◌, ◌↔◌, inl, inr, ℕ, zero, suc, ◌+◌, ◌<◌, ◌≤◌, List, [], ◌∷◌, ◌++◌, length, map, get_or, All, AllPairs, Contains, Option, Some, None, MatchOption, slice_get, refl, sym, ap, subst, ◌∙◌, arith}
+use Rattle.std.proofs.Common.{◌≡◌, inl, inr, ℕ, zero, suc, ◌+◌, ◌<◌, ◌≤◌, List, [], ◌∷◌, ◌++◌, length, map, get_or, All, AllPairs, Contains, Option, Some, None, MatchOption, refl, sym, ap, subst, ◌∙◌, arith}
 use Rattle.std.proofs.lemmas.Bool.{cases_lt}
-use Rattle.std.proofs.lemmas.List.{get_or-map, get_or_default, get_or_past, length-map}
-use Rattle.std.proofs.lemmas.List.Elements.{All-get_or, All-head, All-tail, Contains-append_cases, Contains-get_or}
+use Rattle.std.proofs.lemmas.List.{get_or-map, get_or_past, length-map}
+use Rattle.std.proofs.lemmas.List.Elements.{All-get_or, All-head, All-tail}
 use Rattle.std.proofs.lemmas.List.Sorted.{IsPermutation-refl}
-use Rattle.std.specs.List.Sorted.{IsPermutation, IsStrictlyIncreasing}
+use Rattle.std.proofs.lemmas.Option.{same_Some}
+use Rattle.std.specs.List.Sorted.{IsStrictlyIncreasing}
 use Rattle.tables.proofs.Listing.{same_members}
 use Rattle.tables.specs.Consistent.{AreConsistent}
 use Rattle.tables.specs.Tables.{Tables, TestPoint, Stands, row_at}
-use Rattle.verdict.specs.Forest.{Holds, IsForest, IsTree, first_piece, net_at, pieces_of}
+use Rattle.verdict.specs.Forest.{Holds, IsTree, first_piece, net_at, pieces_of}
 use Rattle.verdict.specs.ReportText.{Agrees}
-use Rattle.verdict.specs.Right.{IsRight, Trees, Covers, Apart, Points, Opens, Shorts, Branches, Bare, Counts, AreBranches, AreLines, BeginsBeneath, HasBranches, IsBranch, IsLineOf, Outline, all_opens, all_shorts, bare_from, first_on, names_on, outline, short_of}
+use Rattle.verdict.specs.Right.{IsRight, Trees, Covers, Apart, Points, Opens, Shorts, Branches, Bare, Counts, AreBranches, AreLines, BeginsBeneath, HasBranches, Outline, all_opens, all_shorts, bare_from, first_on, names_on, outline, short_of}
 use Rattle.verdict.specs.declared.verdict.Branch.{Branch}
-use Rattle.verdict.specs.declared.verdict.Open.{Open}
 use Rattle.verdict.specs.declared.verdict.PointLine.{PointLine}
 use Rattle.verdict.specs.declared.verdict.Short.{Short}
 use Rattle.verdict.specs.declared.verdict.Twig.{Twig}
@@ -20,7 +20,7 @@ use Rattle.verdict.specs.declared.verdict.Verdict.{Verdict}
 use Rattle.witness_check.specs.Laws.{AreOneNet, BranchPoint, DifferInWitnessesOnly, ShortPoints, branch_point, short_points}
 use Rattle.witness_check.proofs.Chains.{AreJoined-back, from_first, holds_within, stays}
 use Rattle.witness_check.proofs.Joins.{right_nets}
-use Rattle.witness_check.proofs.Rearranged.{rearranged}
+use Rattle.witness_check.proofs.Members.{AreDistinct, none_inside, rearranged}
 
 -- ---- First pieces
 
@@ -52,9 +52,6 @@ rises nets rising k below =
     let next : get_or (firsts_of nets) (k + 1) 0 ≡ first_piece (net_at nets (k + 1)) = get_or-map first_piece nets (k + 1) [] 0 (omega arith) in
     let fact : first_piece (net_at nets k) < first_piece (net_at nets (k + 1)) = rising k (k + 1) [] (omega arith) (omega arith) in
     omega arith
-
-none_inside : (p : ℕ) → Contains [] p → ⊥
-none_inside p (k, below, same) = omega arith
 
 -- The first piece of a net of the one verdict is the first piece of the net that holds it in the other.
 first_in : (board : Tables) (v w : Verdict) → AreConsistent board → IsRight board v → IsRight board w → (p : ℕ) → Contains (firsts_of v.nets) p → Contains (firsts_of w.nets) p
@@ -103,8 +100,8 @@ held_too board v w tables right other i p held =
     let start : Holds w.nets i q = subst (λ (x : ℕ). Holds w.nets i x) (sym (first_same board v w tables right other i below)) (first_inside near (net_at w.nets i) (tree_at board w other i there)) in
     stays (length board.near) near w.nets (right_nets board w other) tables.known i q p chain.0 start chain.1
 
-distinct_net : (board : Tables) (v : Verdict) → IsRight board v → (i : ℕ) → i < length v.nets → AllPairs (λ p q. p ≢ q) (pieces_of (net_at v.nets i))
-distinct_net board v right i below = All-get_or (λ net. AllPairs (λ p q. p ≢ q) (pieces_of net)) v.nets i [] below (right Covers).one_place
+distinct_net : (board : Tables) (v : Verdict) → IsRight board v → (i : ℕ) → i < length v.nets → AreDistinct (pieces_of (net_at v.nets i))
+distinct_net board v right i below = All-get_or (λ net. AreDistinct (pieces_of net)) v.nets i [] below (right Covers).one_place
 
 one_net : (board : Tables) (v w : Verdict) → AreConsistent board → IsRight board v → IsRight board w → (i : ℕ) → AreOneNet (net_at v.nets i) (net_at w.nets i)
 one_net board v w tables right other i =
@@ -175,9 +172,6 @@ shorts_by_count n (t ∷ nets) (o ∷ others) names lines e = ap (λ (xs : List 
 abbrev name_of : Branch → ℕ
 name_of b = b.name
 
-some_same : (a b : ℕ) → Some a ≡ Some b → a ≡ b
-some_same a b e = cc
-
 point_same : (b c : Branch) → b.name ≡ c.name → b.probe ≡ c.probe → branch_point b ≡ branch_point c
 point_same b c e f =
     let make : ℕ → ℕ → BranchPoint = λ name probe. record { name = name; probe = probe } in
@@ -191,7 +185,7 @@ branches_same net twin starts lines number ends stops (b ∷ branches) [] a c e 
 branches_same net twin starts lines number ends stops (b ∷ branches) (c ∷ twins) (a, more) (d, rest) e =
     let name : b.name ≡ c.name = cc in
     let names : map name_of branches ≡ map name_of twins = cc in
-    let probe : b.probe ≡ c.probe = some_same b.probe c.probe (sym a.probe ∙ (ap (λ (x : ℕ). first_on number x lines) name ∙ d.probe)) in
+    let probe : b.probe ≡ c.probe = same_Some b.probe c.probe (sym a.probe ∙ (ap (λ (x : ℕ). first_on number x lines) name ∙ d.probe)) in
     let tail = branches_same net twin starts lines number (ends ++ b.pieces) (stops ++ c.pieces) branches twins more rest names in
     ap (λ (x : BranchPoint). x ∷ map branch_point branches) (point_same b c name probe) ∙ ap (λ (xs : List BranchPoint). branch_point c ∷ xs) tail
 
@@ -233,7 +227,7 @@ verdicts_differ_in_witnesses_only board v w tables right other =
     let opens : v.opens ≡ w.opens = right Opens ∙ (ap (all_opens 0 board.names) points ∙ sym (other Opens)) in
     let bare : v.bare ≡ w.bare = right Bare ∙ (ap (bare_from 0) points ∙ sym (other Bare)) in
     let outlines : map outline v.shorts ≡ map outline w.shorts =
-        right Shorts ∙ (ap (all_shorts 0 v.nets board.names) points ∙ (shorts_by_count 0 v.nets w.nets board.names w.points many ∙ sym (other Shorts))) in
+    right Shorts ∙ (ap (all_shorts 0 v.nets board.names) points ∙ (shorts_by_count 0 v.nets w.nets board.names w.points many ∙ sym (other Shorts))) in
     let branches : All (HasBranches v.nets starts w.points) v.shorts = subst (λ (ls : List PointLine). All (HasBranches v.nets starts ls) v.shorts) points (right Branches) in
     let shorts : map short_points v.shorts ≡ map short_points w.shorts = shorts_same v.nets w.nets starts w.points v.shorts w.shorts branches (other Branches) outlines in
     record {

@@ -1,6 +1,7 @@
 -- Two points have the same net number exactly where a chain joins them.
 use Rattle.std.proofs.Common.{◌≡◌, inl, inr, ℕ, zero, suc, List, [], ◌∷◌, length, Contains, Option, Some, None, MatchOption, refl, subst, sym, ap, ◌∙◌, arith, slice_get}
 use Rattle.std.proofs.lemmas.List.Elements.{All-get_or}
+use Rattle.std.proofs.lemmas.Option.{none-some, same_Some}
 use Rattle.verdict.specs.declared.verdict.Twig.{Twig}
 use Rattle.verdict.specs.declared.verdict.PointLine.{PointLine}
 use Rattle.verdict.specs.declared.verdict.Verdict.{Verdict}
@@ -89,12 +90,9 @@ back board v tables right a b j =
 none_under : (board : Tables) (v : Verdict) → IsRight board v → (k p : ℕ) → IsWithoutNet v k → Stands board.beneath k p → ⊥
 none_under board v right k p (line, there, none) inside =
     let on = point_on board v right k p inside in
-    let same : on.1.0 ≡ line = some_same on.1.0 line (sym on.1.1 ∙ there) in
+    let same : on.1.0 ≡ line = same_Some on.1.0 line (sym on.1.1 ∙ there) in
     let net : Some on.0 ≡ None = sym on.1.2 ∙ (ap (λ (l : PointLine). l.net) same ∙ none) in
-    cc
-  where
-    some_same : (l m : PointLine) → Some l ≡ Some m → l ≡ m
-    some_same l m e = cc
+    none-some on.0 (sym net)
 
 pub net_numbers_are_joins : (board : Tables) (v : Verdict) → AreConsistent board → IsRight board v → NetNumbersAreJoins board v
 net_numbers_are_joins board v tables right = record {

@@ -14,10 +14,7 @@ use Rattle.tables.specs.Tables.{Tables, Stands}
 use Rattle.witness_check.specs.Laws.{HasEnd, HasOther, IsSeated, OpensCoverSplitNames}
 use Rattle.witness_check.proofs.Chains.{stays}
 use Rattle.witness_check.proofs.Joins.{right_nets}
-
-one_of : (x q : ℕ) → Contains (x ∷ []) q → x ≡ q
-one_of x q (zero, below, same) = same
-one_of x q (suc k, below, same) = absurd (omega arith)
+use Rattle.witness_check.proofs.Members.{one_of}
 
 -- a seat of the point
 seat_has : (o : Option ℕ) (i net : ℕ) → o ≡ Some net → Contains (map net_of (seat o i)) net

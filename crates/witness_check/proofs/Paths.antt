@@ -1,15 +1,14 @@
 -- Two joined points of different names have a listed short, and a path of pieces of its branches.
-use Rattle.std.proofs.Common.{◌≡◌, ◌≢◌, ◌⊎◌, inl, inr, ℕ, zero, suc, ◌+◌, ◌<◌, Bool, true, false, ◌==◌, ◌&&◌, List, [], ◌∷◌, ◌++◌, length, map, get_or, All, Contains, Option, Some, None, slice_get, refl, sym, ap, subst, ◌∙◌, arith}
+use Rattle.std.proofs.Common.{◌≡◌, ◌≢◌, inl, inr, ℕ, zero, suc, ◌+◌, ◌<◌, Bool, true, false, ◌&&◌, List, [], ◌∷◌, ◌++◌, length, map, All, Contains, Option, Some, None, slice_get, refl, sym, ap, subst, ◌∙◌, arith}
 use Rattle.std.proofs.lemmas.Bool.{eq-eqb}
-use Rattle.std.proofs.lemmas.List.{length-map}
-use Rattle.std.proofs.lemmas.List.Elements.{All-append, All-cons, All-contains, All-nil, All-tail, Contains-append_cases, Contains-append_left, Contains-append_right}
-use Rattle.std.proofs.lemmas.Option.{get_or_from_slice_get, slice_get_within}
+use Rattle.std.proofs.lemmas.List.Elements.{All-cons, All-contains, All-nil, All-tail, Contains-append_cases, Contains-append_left, Contains-append_right}
+use Rattle.std.proofs.lemmas.Option.{get_or_from_slice_get, same_Some, slice_get_within}
 use Rattle.std.specs.List.{flat_map}
 use Rattle.tables.specs.Chains.{IsChain}
-use Rattle.tables.specs.Consistent.{AreConsistent, ArePointsJoined}
-use Rattle.tables.specs.Tables.{Tables, TestPoint, Stands, row_at}
-use Rattle.verdict.specs.Forest.{Hang, IsTree, first_piece, net_at, pieces_of}
-use Rattle.verdict.specs.Right.{IsRight, Trees, Points, Shorts, Branches, AreBranches, AreLines, BeginsAt, BeginsBeneath, HasBranches, HasParent, IsBranch, IsLeastOf, IsLineOf, IsOn, IsWay, Outline, all_shorts, first_from, first_on, is_on, marks, names_on, outline, short_of, where_some}
+use Rattle.tables.specs.Consistent.{AreConsistent}
+use Rattle.tables.specs.Tables.{Tables, TestPoint, Stands}
+use Rattle.verdict.specs.Forest.{Hang, IsTree, first_piece}
+use Rattle.verdict.specs.Right.{IsRight, Trees, Points, Shorts, Branches, AreBranches, AreLines, BeginsAt, BeginsBeneath, HasBranches, HasParent, IsOn, IsWay, Outline, all_shorts, first_from, first_on, is_on, marks, names_on, outline, short_of, where_some}
 use Rattle.verdict.specs.declared.verdict.Branch.{Branch}
 use Rattle.verdict.specs.declared.verdict.PointLine.{PointLine}
 use Rattle.verdict.specs.declared.verdict.Short.{Short}
@@ -18,12 +17,9 @@ use Rattle.verdict.specs.declared.verdict.Verdict.{Verdict}
 use Rattle.witness_check.specs.Laws.{AreJoinedWithin, HasBranchFrom, HasPath, IsNamed, ShortsHavePaths, branch_pieces}
 use Rattle.witness_check.proofs.Chains.{holds_within}
 use Rattle.witness_check.proofs.Joins.{net_numbers_are_joins, piece_on}
+use Rattle.witness_check.proofs.Members.{one_of}
 
 -- ---- Chains of pieces of a list
-
-one_of : {X : Type 0} (x q : X) → Contains (x ∷ []) q → x ≡ q
-one_of x q (zero, below, same) = same
-one_of x q (suc k, below, same) = absurd (omega arith)
 
 pub within_itself : (near : ℕ → ℕ → Type 0) (pieces : List ℕ) (p : ℕ) → Contains pieces p → AreJoinedWithin near pieces p p
 within_itself near pieces p inside = record { chain = []; leads = refl; within = All-cons (λ x. Contains pieces x) p [] inside (All-nil (λ x. Contains pieces x)) }
@@ -56,12 +52,10 @@ hung : (near : ℕ → ℕ → Type 0) (earlier : List ℕ) (rest : List Twig) (
 hung near earlier [] t parent hang (k, below, same) named = absurd (omega arith)
 hung near earlier (s ∷ rest) t parent (here, hang) inside named = elim (Contains-append_cases (s ∷ []) rest t inside) [
   | inl first ↦ (let same : s ≡ t = one_of s t first in
-  let up : here.parent ≡ parent = some_same here.parent parent (sym here.named ∙ (ap (λ (x : Twig). x.parent) same ∙ named)) in
-  subst (λ (x : Twig). near parent x.piece) same (subst (λ (x : ℕ). near x s.piece) up here.touches))
+      let up : here.parent ≡ parent = same_Some here.parent parent (sym here.named ∙ (ap (λ (x : Twig). x.parent) same ∙ named)) in
+      subst (λ (x : Twig). near parent x.piece) same (subst (λ (x : ℕ). near x s.piece) up here.touches))
   | inr later ↦ hung near (earlier ++ s.piece ∷ []) rest t parent hang later named
-] where
-  some_same : (a b : ℕ) → Some a ≡ Some b → a ≡ b
-  some_same a b e = cc
+]
 
 parent_near : (near : ℕ → ℕ → Type 0) (net : List Twig) (piece parent : ℕ) → IsTree near net → HasParent net piece parent → near parent piece
 parent_near near [] piece parent tree has = absurd tree
@@ -76,7 +70,7 @@ parent_near near (t ∷ rest) piece parent (root, least, hang) has =
 way_joined : (near : ℕ → ℕ → Type 0) → ((p q : ℕ) → near p q → near q p) → (net : List Twig) → IsTree near net → (among ends pieces : List ℕ) (root : ℕ) → IsWay net ends pieces → ((p : ℕ) → Contains pieces p → Contains among p) → ((p : ℕ) → Contains ends p → AreJoinedWithin near among p root) → (p : ℕ) → Contains pieces p → AreJoinedWithin near among p root
 way_joined near both net tree among ends [] root way inside known p here = absurd way
 way_joined near both net tree among ends (x ∷ []) root way inside known p here = subst (λ (y : ℕ). AreJoinedWithin near among y root) (one_of x p here) (known x way)
-way_joined near both net tree among ends (x ∷ y ∷ rest) root (open', up, way) inside known p here =
+way_joined near both net tree among ends (x ∷ y ∷ rest) root (going, up, way) inside known p here =
     let further : (q : ℕ) → Contains (y ∷ rest) q → AreJoinedWithin near among q root = way_joined near both net tree among ends (y ∷ rest) root way (λ q h. inside q (Contains-append_right (x ∷ []) (y ∷ rest) q h)) known in
     elim (Contains-append_cases (x ∷ []) (y ∷ rest) p here) [
       | inl first ↦ subst (λ (z : ℕ). AreJoinedWithin near among z root) (one_of x p first) (within_step near among x y root (inside x (0, omega arith, refl)) (both y x (parent_near near net x y tree up)) (further y (0, omega arith, refl)))
@@ -88,7 +82,7 @@ branches_joined : (near : ℕ → ℕ → Type 0) → ((p q : ℕ) → near p q 
 branches_joined near both net tree among root starts lines number ends [] all inside known b (k, below, same) p here = absurd (omega arith)
 branches_joined near both net tree among root starts lines number ends (c ∷ rest) (first, all) inside known b listed p here =
     let mine : (q : ℕ) → Contains c.pieces q → AreJoinedWithin near among q root =
-        way_joined near both net tree among ends c.pieces root first.way (λ q h. inside q (Contains-append_left c.pieces (flat_map (λ b. b.pieces) rest) q h)) known in
+    way_joined near both net tree among ends c.pieces root first.way (λ q h. inside q (Contains-append_left c.pieces (flat_map (λ b. b.pieces) rest) q h)) known in
     let more : (q : ℕ) → Contains (ends ++ c.pieces) q → AreJoinedWithin near among q root = λ q h. elim (Contains-append_cases ends c.pieces q h) [ inl old ↦ known q old | inr new ↦ mine q new ] in
     elim (Contains-append_cases (c ∷ []) rest b listed) [
       | inl same ↦ mine p (subst (λ (x : Branch). Contains x.pieces p) (sym (one_of c b same)) here)
@@ -99,7 +93,7 @@ branches_joined near both net tree among root starts lines number ends (c ∷ re
 way_end : (net : List Twig) (ends pieces : List ℕ) → IsWay net ends pieces → (p : ℕ) × Contains ends p × Contains pieces p
 way_end net ends [] way = absurd way
 way_end net ends (x ∷ []) way = (x, way, (0, omega arith, refl))
-way_end net ends (x ∷ y ∷ rest) (open', up, way) = let e = way_end net ends (y ∷ rest) way in (e.0, e.1, Contains-append_right (x ∷ []) (y ∷ rest) e.0 e.2)
+way_end net ends (x ∷ y ∷ rest) (going, up, way) = let e = way_end net ends (y ∷ rest) way in (e.0, e.1, Contains-append_right (x ∷ []) (y ∷ rest) e.0 e.2)
 
 -- The first branch holds the first piece of the net.
 root_inside : (net : List Twig) (root : ℕ) (starts : ℕ → ℕ → Type 0) (lines : List PointLine) (number : ℕ) (branches : List Branch) (b : Branch) → Contains branches b → AreBranches net starts lines number (root ∷ []) branches → Contains (flat_map (λ b. b.pieces) branches) root

@@ -1,7 +1,7 @@
 -- Laws of right verdicts: what a verdict that is right tells of its board.
 use Rattle.std.specs.List.{flat_map}
 use Rattle.std.specs.List.Sorted.{IsPermutation}
-use Rattle.std.specs.Prelude.{◌≡◌, ◌≢◌, ◌⊎◌, ◌↔◌, ◌<◌, ℕ, false, List, ◌∷◌, length, map, All, Contains, None, Option, Some, slice_get}
+use Rattle.std.specs.Prelude.{◌≡◌, ◌≢◌, ◌⊎◌, ◌↔◌, ◌<◌, ℕ, false, List, ◌∷◌, length, map, All, Contains, None, Some, slice_get}
 use Rattle.tables.specs.Chains.{IsChain}
 use Rattle.tables.specs.Consistent.{ArePointsJoined}
 use Rattle.tables.specs.Tables.{Tables, TestPoint, Stands, row_at}
