@@ -50,7 +50,7 @@ pub record HasEnd (v : Verdict) (name net : ℕ) : Type 0 where
 
 -- Opens tell which names are split.
 pub record OpensCoverSplitNames (board : Tables) (v : Verdict) : Type 0 where
-  -- Of two points of a name on different nets, one net at least is listed against, and both stand in an open.
+  -- Of two points of a name other than `N/C` on different nets, one net at least is listed against, and both stand in an open.
   pub listed : (a b name n m : ℕ) (text : List ℕ) → slice_get board.names name ≡ Some text → is_unconnected text ≡ false → IsSeated v a name n → IsSeated v b name m → n ≢ m
       → (HasOther v name n ⊎ HasOther v name m) × HasEnd v name n × HasEnd v name m
   -- A piece that touches a piece of a net is in the net, so none outside a net touches it.

@@ -11,14 +11,15 @@ pub fn net_numbers_are_joins()
     ensures { (board : Tables) (v : Verdict) → AreConsistent board → IsRight board v → NetNumbersAreJoins board v }
 {}
 
-/// In a right verdict two test points of one name on different nets have listed opens, and no piece
-/// outside a net touches a piece of it.
+/// In a right verdict, of two test points of one name other than `N/C` on different nets, one net at least
+/// is listed against, and both nets stand in an open of the name. No piece outside a net touches a
+/// piece of it.
 pub fn opens_cover_split_names()
     ensures { (board : Tables) (v : Verdict) → AreConsistent board → IsRight board v → OpensCoverSplitNames board v }
 {}
 
 /// Two right verdicts of one board differ at most in parents, in the order of a net's pieces after the
-/// first, and in the pieces of branches.
+/// first, and in the pieces of branches. So the status and all counts belong to the board.
 pub fn verdicts_differ_in_witnesses_only()
     ensures { (board : Tables) (v w : Verdict) → AreConsistent board → IsRight board v → IsRight board w → DifferInWitnessesOnly v w }
 {}
