@@ -1,5 +1,5 @@
 -- Points of one name on different nets have listed opens.
-use Rattle.std.proofs.Common.{◌≡◌, ◌≢◌, ◌⊎◌, inl, inr, ℕ, zero, suc, ◌+◌, Bool, true, false, ◌==◌, ◌||◌, if◌then◌else◌, List, [], ◌∷◌, ◌++◌, map, Contains, Option, Some, None, slice_get, refl, subst, sym, ap, ◌∙◌, arith}
+use Rattle.std.proofs.Common.{◌≡◌, ◌≢◌, ◌⊎◌, inl, inr, ℕ, zero, suc, ◌+◌, Bool, true, false, ◌==◌, ◌||◌, if◌then◌else◌, List, [], ◌∷◌, ◌++◌, length, map, Contains, Option, Some, None, slice_get, refl, subst, sym, ap, ◌∙◌, arith}
 use Rattle.std.specs.List.{list_any}
 use Rattle.std.proofs.lemmas.List.{map-append}
 use Rattle.std.proofs.lemmas.List.Elements.{Contains-append_left, Contains-append_right, Contains-append_cases}
@@ -8,12 +8,13 @@ use Rattle.verdict.specs.declared.verdict.PointLine.{PointLine}
 use Rattle.verdict.specs.declared.verdict.Seat.{Seat}
 use Rattle.verdict.specs.declared.verdict.Open.{Open}
 use Rattle.verdict.specs.declared.verdict.Verdict.{Verdict}
-use Rattle.verdict.specs.Right.{IsRight, Opens, IsSeated, HasOther, HasEnd, OpensCoverSplitNames, net_of, seat, seats_from, fresh, opens_against, opens_of, all_opens, is_unconnected}
-use Rattle.tables.specs.Tables.{Tables}
-
-one_of : (x q : ℕ) → Contains (x ∷ []) q → x ≡ q
-one_of x q (zero, below, same) = same
-one_of x q (suc k, below, same) = absurd (omega arith)
+use Rattle.verdict.specs.Right.{IsRight, Opens, net_of, seat, seats_from, fresh, opens_against, opens_of, all_opens, is_unconnected}
+use Rattle.tables.specs.Consistent.{AreConsistent}
+use Rattle.tables.specs.Tables.{Tables, Stands}
+use Rattle.witness_check.specs.Laws.{HasEnd, HasOther, IsSeated, OpensCoverSplitNames}
+use Rattle.witness_check.proofs.Chains.{stays}
+use Rattle.witness_check.proofs.Joins.{right_nets}
+use Rattle.witness_check.proofs.Members.{one_of}
 
 -- a seat of the point
 seat_has : (o : Option ℕ) (i net : ℕ) → o ≡ Some net → Contains (map net_of (seat o i)) net
@@ -113,8 +114,11 @@ first_has v k name net (line, there, named, on) = elim (kept [] (seats_from name
   | inr found ↦ found
 ]
 
-pub opens_cover_split_names : (board : Tables) (v : Verdict) → IsRight board v → OpensCoverSplitNames board v
-opens_cover_split_names board v right a b name n m text there joined on other differ =
-    listed v name (fresh [] (seats_from name 0 v.points)) n m
-    (λ o inside. subst (λ (xs : List Open). Contains xs o) (sym (right Opens)) (in_all 0 name board.names v.points name text o there joined (omega arith) inside))
-    (first_has v a name n on) (first_has v b name m other) differ
+pub opens_cover_split_names : (board : Tables) (v : Verdict) → AreConsistent board → IsRight board v → OpensCoverSplitNames board v
+opens_cover_split_names board v tables right = record {
+  listed = λ a b name n m text there joined on other differ.
+      listed v name (fresh [] (seats_from name 0 v.points)) n m
+      (λ o inside. subst (λ (xs : List Open). Contains xs o) (sym (right Opens)) (in_all 0 name board.names v.points name text o there joined (omega arith) inside))
+      (first_has v a name n on) (first_has v b name m other) differ;
+  apart = λ i p q held touches. stays (length board.near) (Stands board.near) v.nets (right_nets board v right) tables.known i p q (q ∷ []) held (tables.both q p touches, refl);
+}

@@ -1,15 +1,17 @@
 -- Two points have the same net number exactly where a chain joins them.
-use Rattle.std.proofs.Common.{◌≡◌, inl, inr, ℕ, zero, suc, List, [], ◌∷◌, length, Contains, Option, Some, None, MatchOption, refl, subst, sym, ap, arith, slice_get}
+use Rattle.std.proofs.Common.{◌≡◌, inl, inr, ℕ, zero, suc, List, [], ◌∷◌, length, Contains, Option, Some, None, MatchOption, refl, subst, sym, ap, ◌∙◌, arith, slice_get}
 use Rattle.std.proofs.lemmas.List.Elements.{All-get_or}
+use Rattle.std.proofs.lemmas.Option.{none-some, same_Some}
 use Rattle.verdict.specs.declared.verdict.Twig.{Twig}
 use Rattle.verdict.specs.declared.verdict.PointLine.{PointLine}
 use Rattle.verdict.specs.declared.verdict.Verdict.{Verdict}
 use Rattle.tables.specs.Chains.{AreJoined}
 use Rattle.verdict.specs.Forest.{IsForest, IsTree, Holds, net_at, first_piece}
 use Rattle.tables.specs.Consistent.{AreConsistent, ArePointsJoined}
-use Rattle.verdict.specs.Right.{HaveOneNet, IsOn, NetNumbersAreJoins, IsRight, Trees, Covers, Apart, Points, AreLines}
+use Rattle.verdict.specs.Right.{HaveOneNet, IsOn, IsRight, Trees, Covers, Apart, Points, AreLines}
 use Rattle.tables.specs.Tables.{Tables, TestPoint, Stands, row_at}
-use Rattle.verdict.proofs.Chains.{stays, from_first, AreJoined-trans, AreJoined-back, holds_within}
+use Rattle.witness_check.specs.Laws.{IsWithoutNet, NetNumbersAreJoins}
+use Rattle.witness_check.proofs.Chains.{stays, from_first, AreJoined-trans, AreJoined-back, holds_within}
 
 -- the nets of a right verdict
 pub right_nets : (board : Tables) (v : Verdict) → IsRight board v → IsForest (length board.near) (Stands board.near) v.nets
@@ -84,5 +86,16 @@ back board v tables right a b j =
     let same : here.0 ≡ there.0 = (right Covers).one_net here.0 there.0 j.q reached other in
     (here.0, here.1, subst (λ (n : ℕ). IsOn v b n) (sym same) there.1)
 
+-- A point without a net has no piece under it.
+none_under : (board : Tables) (v : Verdict) → IsRight board v → (k p : ℕ) → IsWithoutNet v k → Stands board.beneath k p → ⊥
+none_under board v right k p (line, there, none) inside =
+    let on = point_on board v right k p inside in
+    let same : on.1.0 ≡ line = same_Some on.1.0 line (sym on.1.1 ∙ there) in
+    let net : Some on.0 ≡ None = sym on.1.2 ∙ (ap (λ (l : PointLine). l.net) same ∙ none) in
+    none-some on.0 (sym net)
+
 pub net_numbers_are_joins : (board : Tables) (v : Verdict) → AreConsistent board → IsRight board v → NetNumbersAreJoins board v
-net_numbers_are_joins board v tables right a b = (forth board v tables right a b, back board v tables right a b)
+net_numbers_are_joins board v tables right = record {
+  joined = λ a b. (forth board v tables right a b, back board v tables right a b);
+  unjoined = λ a b without joined. none_under board v right a joined.p without joined.first;
+}

@@ -1,15 +1,12 @@
 -- Chains of touching pieces.
-use Rattle.std.proofs.Common.{◌≡◌, ◌⊎◌, inl, inr, ℕ, zero, suc, ◌<◌, ◌≤◌, List, [], ◌∷◌, ◌++◌, length, Contains, refl, subst, sym, arith}
+use Rattle.std.proofs.Common.{◌≡◌, inl, inr, ℕ, ◌<◌, List, [], ◌∷◌, ◌++◌, length, Contains, refl, subst, sym, arith}
+use Rattle.std.proofs.lemmas.Bool.{cases_lt}
 use Rattle.std.proofs.lemmas.List.{get_or_past}
 use Rattle.std.proofs.lemmas.List.Elements.{Contains-append_cases}
 use Rattle.verdict.specs.declared.verdict.Twig.{Twig}
 use Rattle.tables.specs.Chains.{IsChain, AreJoined}
 use Rattle.verdict.specs.Forest.{IsForest, IsTree, Hang, Holds, pieces_of, first_piece}
-
--- a list of one has that one
-only : (x q : ℕ) → Contains (x ∷ []) q → x ≡ q
-only x q (zero, below, same) = same
-only x q (suc k, below, same) = absurd (omega arith)
+use Rattle.witness_check.proofs.Members.{none_inside, one_of}
 
 -- no chain leads out of a net
 pub stays : (count : ℕ) (near : ℕ → ℕ → Type 0) (nets : List (List Twig)) → IsForest count near nets → ((p q : ℕ) → near p q → q < count) → (i p q : ℕ) (chain : List ℕ) → Holds nets i p → IsChain near p chain q → Holds nets i q
@@ -36,7 +33,7 @@ down : (near : ℕ → ℕ → Type 0) (root : ℕ) (earlier : List ℕ) (rest :
 down near root earlier [] know hang p (k, below, same) = absurd (omega arith)
 down near root earlier (t ∷ rest) know (here, hang) p inside =
     let first : AreJoined near root t.piece = AreJoined-trans near root here.parent t.piece (know here.parent here.stands) (t.piece ∷ [], (here.touches, refl)) in
-    let one : (q : ℕ) → Contains (t.piece ∷ []) q → AreJoined near root q = λ q h. subst (λ (x : ℕ). AreJoined near root x) (only t.piece q h) first in
+    let one : (q : ℕ) → Contains (t.piece ∷ []) q → AreJoined near root q = λ q h. subst (λ (x : ℕ). AreJoined near root x) (one_of t.piece q h) first in
     let all : (q : ℕ) → Contains (earlier ++ t.piece ∷ []) q → AreJoined near root q = λ q h. elim (Contains-append_cases earlier (t.piece ∷ []) q h) [ inl old ↦ know q old | inr new ↦ one q new ] in
     elim (Contains-append_cases (t.piece ∷ []) (pieces_of rest) p inside) [
       | inl new ↦ one p new
@@ -47,22 +44,15 @@ down near root earlier (t ∷ rest) know (here, hang) p inside =
 pub from_first : (near : ℕ → ℕ → Type 0) (net : List Twig) → IsTree near net → (p : ℕ) → Contains (pieces_of net) p → AreJoined near (first_piece net) p
 from_first near [] tree p inside = absurd tree
 from_first near (t ∷ rest) (root, least, hang) p inside =
-    let here : (q : ℕ) → Contains (t.piece ∷ []) q → AreJoined near t.piece q = λ q h. ([], only t.piece q h) in
+    let here : (q : ℕ) → Contains (t.piece ∷ []) q → AreJoined near t.piece q = λ q h. ([], one_of t.piece q h) in
     elim (Contains-append_cases (t.piece ∷ []) (pieces_of rest) p inside) [
       | inl new ↦ here p new
       | inr later ↦ down near t.piece (t.piece ∷ []) rest here hang p later
     ]
 
-none_inside : (p : ℕ) → Contains [] p → ⊥
-none_inside p (k, below, same) = omega arith
-
-pub le_or_lt : (m n : ℕ) → (m ≤ n) ⊎ (n < m)
-le_or_lt zero n = inl (omega arith)
-le_or_lt (suc m) zero = inr (omega arith)
-le_or_lt (suc m) (suc n) = elim (le_or_lt m n) [ inl l ↦ inl (omega arith) | inr l ↦ inr (omega arith) ]
-
+-- a net that holds a piece is there
 pub holds_within : (nets : List (List Twig)) (i p : ℕ) → Holds nets i p → i < length nets
-holds_within nets i p inside = elim (le_or_lt (length nets) i) [
-  | inl past ↦ absurd (none_inside p (subst (λ (net : List Twig). Contains (pieces_of net) p) (get_or_past nets i [] past) inside))
-  | inr within ↦ within
+holds_within nets i p inside = elim (cases_lt i (length nets)) [
+  | inl within ↦ within
+  | inr past ↦ absurd (none_inside p (subst (λ (net : List Twig). Contains (pieces_of net) p) (get_or_past nets i [] past) inside))
 ]
