@@ -18,9 +18,10 @@ use Rattle.tables.specs.Consistent.{AreConsistent}
 use Rattle.tables.specs.Lists.{AreLeast}
 use Rattle.tables.specs.Tables.{Tables}
 use Rattle.verdict.specs.Forest.{IsForest}
-use Rattle.verdict.specs.Right.{IsRight, NetNumbersAreJoins}
+use Rattle.verdict.specs.Right.{IsRight}
 use Rattle.verdict.specs.declared.verdict.Twig.{Twig}
 use Rattle.verdict.specs.declared.verdict.Verdict.{Verdict}
+use Rattle.witness_check.specs.Laws.{NetNumbersAreJoins}
 
 pub trees_on : ((b : PlainBoard) (items : List (Placed Shape)) (nets : List (List Twig)) → NetsAreOfTheBoard b items nets)
     → (b : PlainBoard) (items field : List (Placed Shape)) (nets : List (List Twig)) → field ≡ items → plain_pieces items ≡ b.pieces
@@ -47,7 +48,7 @@ right_on b (Ok v) one consistent joins numbers h =
       tables_are = one.are;
       right = right;
       joins = λ k l.
-          let n = numbers one.tables v (consistent b one.tables one.are) right k l in
+          let n = (numbers one.tables v (consistent b one.tables one.are) right).joined k l in
           let j = joins b one.tables one.are k l in
           ((λ x. j.1 (n.0 x)), (λ y. n.1 (j.0 y)));
     }

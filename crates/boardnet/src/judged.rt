@@ -13,7 +13,8 @@ use std::alloc::Global;
 use std::marker::Brand;
 use std::sync::ledger::{Blank, Ledger};
 use steps::Steps;
-use verdict::{Verdict, laws as verdicts, write_report};
+use verdict::{Verdict, write_report};
+use witness_check::laws as verdicts;
 
 /// The right verdict on a board, and its text.
 pub fn judged(alloc: Global, board: &Board) -> Result<(Verdict, Vec<u8>), NoMemory>

@@ -1,6 +1,6 @@
 -- When a verdict on a board is right. A board is here its tables: for each piece the other pieces that touch it, for
 -- each point the pieces under it, and the points and the names themselves.
-use Rattle.std.specs.Prelude.{◌≡◌, ◌≢◌, ◌⊎◌, ◌↔◌, ℕ, ◌+◌, ◌<◌, ◌≤◌, Bool, false, ◌==◌, ◌&&◌, if◌then◌else◌, List, [], ◌∷◌, ◌++◌, length, map, slice_get, All, Contains, Option, Some, None, MatchOption, codes}
+use Rattle.std.specs.Prelude.{◌≡◌, ℕ, ◌+◌, ◌<◌, ◌≤◌, Bool, false, ◌==◌, ◌&&◌, if◌then◌else◌, List, [], ◌∷◌, ◌++◌, length, map, slice_get, slice_index_or, All, Contains, Option, Some, None, MatchOption, codes}
 use Rattle.std.specs.List.{list_any}
 use Rattle.std.specs.Cmp.Lexicographic.{pointwise}
 use Rattle.verdict.specs.declared.verdict.Twig.{Twig}
@@ -10,7 +10,6 @@ use Rattle.verdict.specs.declared.verdict.Branch.{Branch}
 use Rattle.verdict.specs.declared.verdict.Seat.{Seat}
 use Rattle.verdict.specs.declared.verdict.Short.{Short}
 use Rattle.verdict.specs.declared.verdict.Verdict.{Verdict}
-use Rattle.tables.specs.Consistent.{ArePointsJoined}
 use Rattle.tables.specs.Tables.{TestPoint, Tables, row_at, Stands}
 use Rattle.verdict.specs.Forest.{AreTrees, StandOnce, StandApart, Holds, first_piece}
 
@@ -156,6 +155,10 @@ pub record HasBranches (nets : List (List Twig)) (starts : ℕ → ℕ → Type 
 abbrev pub BeginsBeneath : List (List ℕ) → ℕ → ℕ → Type 0
 BeginsBeneath beneath probe piece = IsLeastOf (row_at beneath probe) piece
 
+-- The branch of a point begins at its home.
+abbrev pub BeginsAtHome : List (Option ℕ) → ℕ → ℕ → Type 0
+BeginsAtHome homes probe piece = slice_index_or homes probe None ≡ Some piece
+
 -- ---- The verdict
 
 -- The clauses of a right verdict.
@@ -204,31 +207,3 @@ IsOn v k net = (line : PointLine) × (slice_get v.points k ≡ Some line) × (li
 -- Two points have the same net number.
 abbrev pub HaveOneNet : Verdict → ℕ → ℕ → Type 0
 HaveOneNet v a b = (net : ℕ) × IsOn v a net × IsOn v b net
-
-abbrev pub NetNumbersAreJoins : Tables → Verdict → Type 0
-NetNumbersAreJoins board v = (a b : ℕ) → HaveOneNet v a b ↔ ArePointsJoined board a b
-
--- ---- Opens are listed
-
--- Point k has the name and is on the net.
-abbrev pub IsSeated : Verdict → ℕ → ℕ → ℕ → Type 0
-IsSeated v k name net = (line : PointLine) × (slice_get v.points k ≡ Some line) × (line.name ≡ name) × (line.net ≡ Some net)
-
--- An open of the name is listed against the net.
-pub record HasOther (v : Verdict) (name net : ℕ) : Type 0 where
-  pub entry : Open
-  pub listed : Contains v.opens entry
-  pub named : entry.name ≡ name
-  pub against : entry.other ≡ net
-
--- An open of the name is listed that has the net as its home or is against it.
-pub record HasEnd (v : Verdict) (name net : ℕ) : Type 0 where
-  pub entry : Open
-  pub listed : Contains v.opens entry
-  pub named : entry.name ≡ name
-  pub end : (entry.home ≡ net) ⊎ (entry.other ≡ net)
-
--- Of two points of a name on different nets, one net at least is listed against, and both stand in an open.
-abbrev pub OpensCoverSplitNames : Tables → Verdict → Type 0
-OpensCoverSplitNames board v = (a b name n m : ℕ) (text : List ℕ) → slice_get board.names name ≡ Some text → is_unconnected text ≡ false → IsSeated v a name n → IsSeated v b name m → n ≢ m
-    → (HasOther v name n ⊎ HasOther v name m) × HasEnd v name n × HasEnd v name m

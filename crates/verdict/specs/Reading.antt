@@ -1,0 +1,224 @@
+-- Reading the text of a verdict from left to right: what stands in front, and the bytes behind it, or nothing where
+-- the bytes are no such text.
+use Rattle.std.specs.Prelude.{◌≡◌, ℕ, zero, suc, ◌+◌, ◌^◌, nat_lt, nat_le, Bool, true, false, not, ◌&&◌, ◌==◌, if◌then◌else◌, List, [], ◌∷◌, ◌++◌, length, take, drop, Option, Some, None, Result, Ok, Err, codes, decimal}
+use Rattle.std.specs.Cmp.Lexicographic.{pointwise}
+use Rattle.std.specs.List.{after_first, before_first, list_all, list_any, prefix_len, take_while}
+use Rattle.std.specs.Str.Parse.{digits_value}
+use Rattle.texts.specs.Digits.{is_decimal_digit}
+use Rattle.verdict.specs.ReportText.{last_line}
+use Rattle.verdict.specs.declared.reading.ReadFault.{ReadFault}
+use Rattle.verdict.specs.declared.reading.ReadFault.TheVariants.{NotAReport, NoMemory}
+use Rattle.verdict.specs.declared.verdict.Twig.{Twig}
+use Rattle.verdict.specs.declared.verdict.PointLine.{PointLine}
+use Rattle.verdict.specs.declared.verdict.Open.{Open}
+use Rattle.verdict.specs.declared.verdict.Branch.{Branch}
+use Rattle.verdict.specs.declared.verdict.Short.{Short}
+use Rattle.verdict.specs.declared.verdict.Verdict.{Verdict}
+
+infixl 10 ◌>>=◌
+abbrev pub ◌>>=◌ : {A B : Type 0} → Option A → (A → Option B) → Option B
+None >>= f = None
+(Some x) >>= f = f x
+
+-- What a function returned, seen by view, is what reading gives, unless memory ran out.
+abbrev pub Fails : {Y : Type 0} → ReadFault → Option Y → Type 0
+Fails NotAReport read = read ≡ None
+Fails NoMemory read = Unit {0}
+
+abbrev pub Gives : {X Y : Type 0} → (X → Y) → Result X ReadFault → Option Y → Type 0
+Gives view (Ok x) read = read ≡ Some (view x)
+Gives view (Err fault) read = Fails fault read
+
+-- ---- Fields
+
+-- the bytes behind a text
+unfoldable pub behind : List ℕ → List ℕ → Option (List ℕ)
+behind front bytes = if pointwise ◌==◌ (take (length front) bytes) front then Some (drop (length front) bytes) else None
+
+abbrev pub run_of : List ℕ → List ℕ
+run_of bytes = take_while is_decimal_digit bytes
+
+-- no zero leads a number but 0 itself
+abbrev pub is_numeral : List ℕ → Bool
+is_numeral [] = false
+is_numeral (c ∷ []) = true
+is_numeral (c ∷ d ∷ rest) = not (c == 48)
+
+-- the value of digits, if it is below 2^64
+unfoldable pub value_of : List ℕ → Option ℕ
+value_of digits = if nat_lt (digits_value 10 digits) (2 ^ 64) then Some (digits_value 10 digits) else None
+
+unfoldable pub wide_at : List ℕ → Option (ℕ × List ℕ)
+wide_at bytes =
+    if is_numeral (run_of bytes) then (value_of (run_of bytes) >>= λ n. Some (n, drop (prefix_len is_decimal_digit bytes) bytes)) else None
+
+unfoldable pub number_at : List ℕ → Option (ℕ × List ℕ)
+number_at bytes = do
+  n ← wide_at bytes
+  if nat_lt n.0 (2 ^ 32) then Some n else None
+
+-- a blank and a number below 2^32, 2^8 or 2^64
+unfoldable pub word_at : List ℕ → Option (ℕ × List ℕ)
+word_at bytes = do
+  rest ← behind (32 ∷ []) bytes
+  number_at rest
+
+unfoldable pub layer_at : List ℕ → Option (ℕ × List ℕ)
+layer_at bytes = do
+  n ← word_at bytes
+  if nat_lt n.0 (2 ^ 8) then Some n else None
+
+-- a blank, a count and the end of the line
+unfoldable pub count_at : List ℕ → Option (ℕ × List ℕ)
+count_at bytes = do
+  rest ← behind (32 ∷ []) bytes
+  n ← wide_at rest
+  after ← behind (10 ∷ []) n.1
+  Some (n.0, after)
+
+abbrev pub parent_behind : Option (List ℕ) → List ℕ → Option (Option ℕ × List ℕ)
+parent_behind None bytes = Some (None, bytes)
+parent_behind (Some rest) bytes = number_at rest >>= λ n. Some (Some n.0, n.1)
+
+unfoldable pub parent_at : List ℕ → Option (Option ℕ × List ℕ)
+parent_at bytes = parent_behind (behind (58 ∷ []) bytes) bytes
+
+unfoldable pub twig_at : List ℕ → Option (Twig × List ℕ)
+twig_at bytes = do
+  piece ← word_at bytes
+  parent ← parent_at piece.1
+  Some (record { piece = piece.0; parent = parent.0 }, parent.1)
+
+abbrev pub net_behind : Option (List ℕ) → List ℕ → Option (Option ℕ × List ℕ)
+net_behind (Some rest) bytes = Some (None, rest)
+net_behind None bytes = word_at bytes >>= λ n. Some (Some n.0, n.1)
+
+unfoldable pub net_number_at : List ℕ → Option (Option ℕ × List ℕ)
+net_number_at bytes = net_behind (behind (codes " -") bytes) bytes
+
+abbrev pub begins_blank : List ℕ → Bool
+begins_blank [] = false
+begins_blank (b ∷ bytes) = b == 32
+
+abbrev pub with_first : {X : Type 0} → X → Option (List X × List ℕ) → Option (List X × List ℕ)
+with_first x read = read >>= λ xs. Some (x ∷ xs.0, xs.1)
+
+-- items up to the byte that is no blank, fewer than a number
+unfoldable pub words_at : {X : Type 0} → (List ℕ → Option (X × List ℕ)) → ℕ → List ℕ → Option (List X × List ℕ)
+words_at at zero bytes = None
+words_at at (suc k) bytes = if begins_blank bytes then (at bytes >>= λ x. with_first x.0 (words_at at k x.1)) else Some ([], bytes)
+
+abbrev pub is_feed : ℕ → Bool
+is_feed b = b == 10
+
+-- 1 to 200 bytes from the blank to the tilde
+unfoldable pub is_name : List ℕ → Bool
+is_name bytes = nat_le 1 (length bytes) && (nat_le (length bytes) 200 && list_all (λ b. nat_le 32 b && nat_le b 126) bytes)
+
+-- a name and the end of its line
+unfoldable pub text_at : List ℕ → Option (List ℕ × List ℕ)
+text_at bytes =
+    if list_any is_feed bytes && is_name (before_first is_feed bytes) then Some (before_first is_feed bytes, after_first is_feed bytes) else None
+
+-- ---- Lines
+
+-- a title and the number of a line
+unfoldable pub heading_at : List ℕ → ℕ → List ℕ → Option (List ℕ)
+heading_at title n bytes = do
+  rest ← behind title bytes
+  number ← behind (32 ∷ []) rest
+  behind (decimal n) number
+
+unfoldable pub net_at : ℕ → List ℕ → Option (List Twig × List ℕ)
+net_at n bytes = do
+  rest ← heading_at (codes "net") n bytes
+  net ← words_at twig_at (length rest) rest
+  after ← behind (10 ∷ []) net.1
+  Some (net.0, after)
+
+unfoldable pub name_at : ℕ → List ℕ → Option (List ℕ × List ℕ)
+name_at n bytes = do
+  rest ← heading_at (codes "name") n bytes
+  text ← behind (32 ∷ []) rest
+  text_at text
+
+unfoldable pub point_at : ℕ → List ℕ → Option (PointLine × List ℕ)
+point_at n bytes = do
+  rest ← heading_at (codes "point") n bytes
+  number ← word_at rest
+  layer ← layer_at number.1
+  name ← word_at layer.1
+  net ← net_number_at name.1
+  after ← behind (10 ∷ []) net.1
+  Some (record { number = number.0; layer = layer.0; name = name.0; net = net.0 }, after)
+
+unfoldable pub open_at : ℕ → List ℕ → Option (Open × List ℕ)
+open_at n bytes = do
+  rest ← behind (codes "open") bytes
+  name ← word_at rest
+  home ← word_at name.1
+  other ← word_at home.1
+  probe ← word_at other.1
+  after ← behind (10 ∷ []) probe.1
+  Some (record { name = name.0; home = home.0; other = other.0; probe = probe.0 }, after)
+
+unfoldable pub branch_at : ℕ → List ℕ → Option (Branch × List ℕ)
+branch_at n bytes = do
+  rest ← behind (codes "branch") bytes
+  name ← word_at rest
+  probe ← word_at name.1
+  pieces ← words_at word_at (length probe.1) probe.1
+  after ← behind (10 ∷ []) pieces.1
+  Some (record { name = name.0; probe = probe.0; pieces = pieces.0 }, after)
+
+-- so many items, numbered from n
+unfoldable pub items_at : {X : Type 0} → (ℕ → List ℕ → Option (X × List ℕ)) → ℕ → ℕ → List ℕ → Option (List X × List ℕ)
+items_at at zero n bytes = Some ([], bytes)
+items_at at (suc k) n bytes = at n bytes >>= λ x. with_first x.0 (items_at at k (n + 1) x.1)
+
+unfoldable pub short_at : ℕ → List ℕ → Option (Short × List ℕ)
+short_at n bytes = do
+  rest ← behind (codes "short") bytes
+  net ← word_at rest
+  count ← count_at net.1
+  branches ← items_at branch_at count.0 0 count.1
+  Some (record { net = net.0; branches = branches.0 }, branches.1)
+
+unfoldable pub bare_at : ℕ → List ℕ → Option (ℕ × List ℕ)
+bare_at n bytes = do
+  rest ← behind (codes "bare") bytes
+  probe ← word_at rest
+  after ← behind (10 ∷ []) probe.1
+  Some (probe.0, after)
+
+-- ---- Parts
+
+-- a title, a count and so many items
+unfoldable pub section_at : {X : Type 0} → (ℕ → List ℕ → Option (X × List ℕ)) → List ℕ → List ℕ → Option (List X × List ℕ)
+section_at at title bytes = do
+  rest ← behind title bytes
+  count ← count_at rest
+  items_at at count.0 0 count.1
+
+unfoldable pub pieces_at : List ℕ → Option (ℕ × List ℕ)
+pieces_at bytes = do
+  rest ← behind (codes "pieces") bytes
+  pieces ← word_at rest
+  after ← behind (10 ∷ []) pieces.1
+  Some (pieces.0, after)
+
+-- the last line and the end
+abbrev pub ended : Verdict → List ℕ → Option Verdict
+ended v rest = if pointwise ◌==◌ rest (last_line v.opens v.shorts v.bare) then Some v else None
+
+unfoldable pub report_at : List ℕ → Option Verdict
+report_at text = do
+  rest ← behind (codes "boardnet 1" ++ 10 ∷ []) text
+  pieces ← pieces_at rest
+  nets ← section_at net_at (codes "nets") pieces.1
+  names ← section_at name_at (codes "names") nets.1
+  points ← section_at point_at (codes "points") names.1
+  opens ← section_at open_at (codes "opens") points.1
+  shorts ← section_at short_at (codes "shorts") opens.1
+  bare ← section_at bare_at (codes "missing") shorts.1
+  ended (record { pieces = pieces.0; names = names.0; nets = nets.0; points = points.0; opens = opens.0; shorts = shorts.0; bare = bare.0 }) bare.1

@@ -1,0 +1,148 @@
+// The fields of a report: fixed words and numbers, each read from the front of the bytes.
+ghost use Rattle.std.specs.Prelude.{◌≡◌, List, Option, true};
+ghost use Rattle.std.specs.List.{list_all};
+ghost use Rattle.std.specs.Option.{option_map};
+ghost use Rattle.texts.specs.Digits.{is_decimal_digit};
+ghost use Rattle.verdict.specs.Reading as spec;
+
+use crate::reading::ReadFault;
+use std::str;
+use texts::digits_len;
+
+// The bytes behind a text, where it stands in front.
+#[tactic(auto, unfolding(crate::specs::Reading::behind))]
+pub fn behind<'a>(bytes: &'a [u8], front: &[u8]) -> Option<&'a [u8]>
+    ensures { option_map (λ rest. rest.now) result ≡ spec.behind front.now bytes.now }
+{
+    bytes.strip_prefix(front)
+}
+
+// The same, where the text has to stand there.
+pub fn expect<'a>(bytes: &'a [u8], front: &[u8]) -> Result<&'a [u8], ReadFault>
+    ensures { spec.Gives (λ rest. rest.now) result (spec.behind front.now bytes.now) }
+{
+    match behind(bytes, front) {
+        Some(rest) => Ok(rest),
+        None => Err(ReadFault::NotAReport),
+    }
+}
+
+// Whether digits are a number without leading zeros.
+fn is_numeral(digits: &[u8]) -> bool
+    ensures { result ≡ spec.is_numeral digits.now }
+{
+    match digits {
+        [] => false,
+        [_] => true,
+        [first, ..] => *first != b'0',
+    }
+}
+
+#[tactic(auto, unfolding(crate::specs::Reading::value_of))]
+fn value_of(digits: &[u8]) -> Option<u64>
+    requires digits { list_all is_decimal_digit digits.now ≡ true }
+    requires some { spec.is_numeral digits.now ≡ true }
+    ensures { result ≡ spec.value_of digits.now }
+{
+    match str::from_utf8(digits) {
+        Ok(text) => text.parse::<u64>().ok(),
+        Err(_) => None,
+    }
+}
+
+// A number below 2^64.
+#[tactic(auto, unfolding(crate::specs::Reading::wide_at))]
+pub fn wide(bytes: &[u8]) -> Result<(u64, &[u8]), ReadFault>
+    ensures { spec.Gives (λ x. (x.0, x.1.now)) result (spec.wide_at bytes.now) }
+{
+    let (digits, rest) = bytes.split_at(digits_len(bytes));
+    if !is_numeral(digits) {
+        return Err(ReadFault::NotAReport);
+    }
+    match value_of(digits) {
+        Some(n) => Ok((n, rest)),
+        None => Err(ReadFault::NotAReport),
+    }
+}
+
+// A number below 2^32.
+#[tactic(auto, unfolding(crate::specs::Reading::number_at))]
+pub fn number(bytes: &[u8]) -> Result<(u32, &[u8]), ReadFault>
+    ensures { spec.Gives (λ x. (x.0, x.1.now)) result (spec.number_at bytes.now) }
+{
+    let (n, rest) = wide(bytes)?;
+    match u32::try_from(n) {
+        Ok(n) => Ok((n, rest)),
+        Err(_) => Err(ReadFault::NotAReport),
+    }
+}
+
+// A blank and a number below 2^32.
+#[tactic(auto, unfolding(crate::specs::Reading::word_at))]
+pub fn word(bytes: &[u8]) -> Result<(u32, &[u8]), ReadFault>
+    ensures { spec.Gives (λ x. (x.0, x.1.now)) result (spec.word_at bytes.now) }
+{
+    let rest = expect(bytes, b" ")?;
+    number(rest)
+}
+
+// A blank and a number below 2^8.
+#[tactic(auto, unfolding(crate::specs::Reading::layer_at))]
+pub fn layer(bytes: &[u8]) -> Result<(u8, &[u8]), ReadFault>
+    ensures { spec.Gives (λ x. (x.0, x.1.now)) result (spec.layer_at bytes.now) }
+{
+    let (n, rest) = word(bytes)?;
+    match u8::try_from(n) {
+        Ok(n) => Ok((n, rest)),
+        Err(_) => Err(ReadFault::NotAReport),
+    }
+}
+
+// A blank, a count and the end of the line.
+#[tactic(auto, unfolding(crate::specs::Reading::count_at))]
+pub fn count(bytes: &[u8]) -> Result<(u64, &[u8]), ReadFault>
+    ensures { spec.Gives (λ x. (x.0, x.1.now)) result (spec.count_at bytes.now) }
+{
+    let rest = expect(bytes, b" ")?;
+    let (n, rest) = wide(rest)?;
+    let rest = expect(rest, b"\n")?;
+    Ok((n, rest))
+}
+
+// The parent of a twig, where a colon follows its piece.
+#[tactic(auto, unfolding(crate::specs::Reading::parent_at))]
+pub fn parent(bytes: &[u8]) -> Result<(Option<u32>, &[u8]), ReadFault>
+    ensures { spec.Gives (λ x. (x.0, x.1.now)) result (spec.parent_at bytes.now) }
+{
+    match behind(bytes, b":") {
+        None => Ok((None, bytes)),
+        Some(rest) => {
+            let (parent, rest) = number(rest)?;
+            Ok((Some(parent), rest))
+        }
+    }
+}
+
+// The net of a point, or a minus for none.
+#[tactic(auto, unfolding(crate::specs::Reading::net_number_at))]
+pub fn net_number(bytes: &[u8]) -> Result<(Option<u32>, &[u8]), ReadFault>
+    ensures { spec.Gives (λ x. (x.0, x.1.now)) result (spec.net_number_at bytes.now) }
+{
+    match behind(bytes, b" -") {
+        Some(rest) => Ok((None, rest)),
+        None => {
+            let (net, rest) = word(bytes)?;
+            Ok((Some(net), rest))
+        }
+    }
+}
+
+// Whether a blank stands in front.
+pub fn begins_blank(bytes: &[u8]) -> bool
+    ensures { result ≡ spec.begins_blank bytes.now }
+{
+    match bytes {
+        [first, ..] => *first == b' ',
+        [] => false,
+    }
+}

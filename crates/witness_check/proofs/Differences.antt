@@ -1,0 +1,247 @@
+-- Two right verdicts of one board differ in witnesses only.
+use Rattle.std.proofs.Common.{◌≡◌, inl, inr, ℕ, zero, suc, ◌+◌, ◌<◌, ◌≤◌, List, [], ◌∷◌, ◌++◌, length, map, get_or, All, AllPairs, Contains, Option, Some, None, MatchOption, refl, sym, ap, subst, ◌∙◌, arith}
+use Rattle.std.proofs.lemmas.Bool.{cases_lt}
+use Rattle.std.proofs.lemmas.List.{get_or-map, get_or_past, length-map}
+use Rattle.std.proofs.lemmas.List.Elements.{All-get_or, All-head, All-tail}
+use Rattle.std.proofs.lemmas.List.Sorted.{IsPermutation-refl}
+use Rattle.std.proofs.lemmas.Option.{same_Some}
+use Rattle.std.specs.List.Sorted.{IsStrictlyIncreasing}
+use Rattle.tables.proofs.Listing.{same_members}
+use Rattle.tables.specs.Consistent.{AreConsistent}
+use Rattle.tables.specs.Tables.{Tables, TestPoint, Stands, row_at}
+use Rattle.verdict.specs.Forest.{Holds, IsTree, first_piece, net_at, pieces_of}
+use Rattle.verdict.specs.ReportText.{Agrees}
+use Rattle.verdict.specs.Right.{IsRight, Trees, Covers, Apart, Points, Opens, Shorts, Branches, Bare, Counts, AreBranches, AreLines, BeginsBeneath, HasBranches, Outline, all_opens, all_shorts, bare_from, first_on, names_on, outline, short_of}
+use Rattle.verdict.specs.declared.verdict.Branch.{Branch}
+use Rattle.verdict.specs.declared.verdict.PointLine.{PointLine}
+use Rattle.verdict.specs.declared.verdict.Short.{Short}
+use Rattle.verdict.specs.declared.verdict.Twig.{Twig}
+use Rattle.verdict.specs.declared.verdict.Verdict.{Verdict}
+use Rattle.witness_check.specs.Laws.{AreOneNet, BranchPoint, DifferInWitnessesOnly, ShortPoints, branch_point, short_points}
+use Rattle.witness_check.proofs.Chains.{AreJoined-back, from_first, holds_within, stays}
+use Rattle.witness_check.proofs.Joins.{right_nets}
+use Rattle.witness_check.proofs.Members.{AreDistinct, none_inside, rearranged}
+
+-- ---- First pieces
+
+abbrev firsts_of : List (List Twig) → List ℕ
+firsts_of nets = map first_piece nets
+
+tree_at : (board : Tables) (v : Verdict) → IsRight board v → (i : ℕ) → i < length v.nets → IsTree (Stands board.near) (net_at v.nets i)
+tree_at board v right i below = All-get_or (IsTree (Stands board.near)) v.nets i [] below (right Trees).trees
+
+first_inside : (near : ℕ → ℕ → Type 0) (net : List Twig) → IsTree near net → Contains (pieces_of net) (first_piece net)
+first_inside near [] tree = absurd tree
+first_inside near (t ∷ rest) tree = (0, omega arith, refl)
+
+-- the first piece of a tree is its least
+first_least : (near : ℕ → ℕ → Type 0) (net : List Twig) → IsTree near net → (p : ℕ) → Contains (pieces_of net) p → first_piece net ≤ p
+first_least near [] tree p inside = absurd tree
+first_least near (t ∷ rest) (root, least, hang) p (zero, below, same) = omega arith
+first_least near (t ∷ rest) (root, least, hang) p (suc k, below, same) =
+    let long = length-map rest (λ (s : Twig). s.piece) in
+    let here : k < length rest = omega arith in
+    let low : t.piece ≤ (get_or rest k t).piece = least k t here in
+    let piece : get_or (pieces_of rest) k p ≡ (get_or rest k t).piece = get_or-map (λ (s : Twig). s.piece) rest k t p here in
+    omega arith
+
+rises : (nets : List (List Twig)) → AllPairs (λ net later. first_piece net < first_piece later) nets → IsStrictlyIncreasing (firsts_of nets)
+rises nets rising k below =
+    let long = length-map nets first_piece in
+    let here : get_or (firsts_of nets) k 0 ≡ first_piece (net_at nets k) = get_or-map first_piece nets k [] 0 (omega arith) in
+    let next : get_or (firsts_of nets) (k + 1) 0 ≡ first_piece (net_at nets (k + 1)) = get_or-map first_piece nets (k + 1) [] 0 (omega arith) in
+    let fact : first_piece (net_at nets k) < first_piece (net_at nets (k + 1)) = rising k (k + 1) [] (omega arith) (omega arith) in
+    omega arith
+
+-- The first piece of a net of the one verdict is the first piece of the net that holds it in the other.
+first_in : (board : Tables) (v w : Verdict) → AreConsistent board → IsRight board v → IsRight board w → (p : ℕ) → Contains (firsts_of v.nets) p → Contains (firsts_of w.nets) p
+first_in board v w tables right other p (i, below, same) =
+    let near : ℕ → ℕ → Type 0 = Stands board.near in
+    let long = length-map v.nets first_piece in
+    let within : i < length v.nets = omega arith in
+    let tree = tree_at board v right i within in
+    let is_first : first_piece (net_at v.nets i) ≡ p = sym (get_or-map first_piece v.nets i [] p within) ∙ same in
+    let held : Holds v.nets i p = subst (λ (x : ℕ). Holds v.nets i x) is_first (first_inside near (net_at v.nets i) tree) in
+    let home = (other Covers).held p ((right Trees).known i p held) in
+    let there : home.0 < length w.nets = holds_within w.nets home.0 p home.1 in
+    let their = tree_at board w other home.0 there in
+    let q : ℕ = first_piece (net_at w.nets home.0) in
+    let low : q ≤ p = first_least near (net_at w.nets home.0) their p home.1 in
+    let chain = from_first near (net_at w.nets home.0) their p home.1 in
+    let way = AreJoined-back near tables.both q p chain.0 chain.1 in
+    let back : Holds v.nets i q = stays (length board.near) near v.nets (right_nets board v right) tables.known i p q way.0 held way.1 in
+    let high : first_piece (net_at v.nets i) ≤ q = first_least near (net_at v.nets i) tree q back in
+    let both : q ≡ p = omega arith in
+    let size = length-map w.nets first_piece in
+    (home.0, omega arith, get_or-map first_piece w.nets home.0 [] p there ∙ both)
+
+firsts_same : (board : Tables) (v w : Verdict) → AreConsistent board → IsRight board v → IsRight board w → firsts_of v.nets ≡ firsts_of w.nets
+firsts_same board v w tables right other =
+    same_members (firsts_of v.nets) (firsts_of w.nets) (rises v.nets (right Trees).rising) (rises w.nets (other Trees).rising) (first_in board v w tables right other) (first_in board w v tables other right)
+
+pub nets_as_many : (board : Tables) (v w : Verdict) → AreConsistent board → IsRight board v → IsRight board w → length v.nets ≡ length w.nets
+nets_as_many board v w tables right other = sym (length-map v.nets first_piece) ∙ (ap length (firsts_same board v w tables right other) ∙ length-map w.nets first_piece)
+
+-- ---- Nets
+
+first_same : (board : Tables) (v w : Verdict) → AreConsistent board → IsRight board v → IsRight board w → (i : ℕ) → i < length v.nets → first_piece (net_at v.nets i) ≡ first_piece (net_at w.nets i)
+first_same board v w tables right other i below =
+    let many = nets_as_many board v w tables right other in
+    sym (get_or-map first_piece v.nets i [] 0 below) ∙ (ap (λ (xs : List ℕ). get_or xs i 0) (firsts_same board v w tables right other) ∙ get_or-map first_piece w.nets i [] 0 (omega arith))
+
+pub held_too : (board : Tables) (v w : Verdict) → AreConsistent board → IsRight board v → IsRight board w → (i p : ℕ) → Holds v.nets i p → Holds w.nets i p
+held_too board v w tables right other i p held =
+    let near : ℕ → ℕ → Type 0 = Stands board.near in
+    let below = holds_within v.nets i p held in
+    let many = nets_as_many board v w tables right other in
+    let there : i < length w.nets = omega arith in
+    let q : ℕ = first_piece (net_at v.nets i) in
+    let chain = from_first near (net_at v.nets i) (tree_at board v right i below) p held in
+    let start : Holds w.nets i q = subst (λ (x : ℕ). Holds w.nets i x) (sym (first_same board v w tables right other i below)) (first_inside near (net_at w.nets i) (tree_at board w other i there)) in
+    stays (length board.near) near w.nets (right_nets board w other) tables.known i q p chain.0 start chain.1
+
+distinct_net : (board : Tables) (v : Verdict) → IsRight board v → (i : ℕ) → i < length v.nets → AreDistinct (pieces_of (net_at v.nets i))
+distinct_net board v right i below = All-get_or (λ net. AreDistinct (pieces_of net)) v.nets i [] below (right Covers).one_place
+
+one_net : (board : Tables) (v w : Verdict) → AreConsistent board → IsRight board v → IsRight board w → (i : ℕ) → AreOneNet (net_at v.nets i) (net_at w.nets i)
+one_net board v w tables right other i =
+    let many = nets_as_many board v w tables right other in
+    elim (cases_lt i (length v.nets)) [
+      | inl below ↦ record {
+        first = first_same board v w tables right other i below;
+        order = rearranged (pieces_of (net_at v.nets i)) (pieces_of (net_at w.nets i)) (distinct_net board v right i below) (distinct_net board w other i (omega arith)) (held_too board v w tables right other i) (held_too board w v tables other right i);
+      }
+      | inr past ↦ none (net_at v.nets i) (net_at w.nets i) (get_or_past v.nets i [] past) (get_or_past w.nets i [] (omega arith))
+    ]
+  where
+    none : (net twin : List Twig) → net ≡ [] → twin ≡ [] → AreOneNet net twin
+    none net twin e f =
+        let empty : AreOneNet [] [] = record { first = refl; order = IsPermutation-refl [] } in
+        subst (λ (x : List Twig). AreOneNet x twin) (sym e) (subst (λ (x : List Twig). AreOneNet [] x) (sym f) empty)
+
+-- ---- Lines
+
+-- Two pieces under one point are in one net.
+abbrev AreTogether : List (List Twig) → List (List Twig) → List (List ℕ) → Type 0
+AreTogether nets others beneath = (k p q n m : ℕ) → Contains (row_at beneath k) p → Contains (row_at beneath k) q → Holds nets n p → Holds others m q → n ≡ m
+
+together : (board : Tables) (v w : Verdict) → AreConsistent board → IsRight board v → IsRight board w → AreTogether v.nets w.nets board.beneath
+together board v w tables right other k p q n m here there holds held =
+    let also : Holds v.nets m q = held_too board w v tables other right m q held in
+    elim (tables.close k p q here there) [
+      | inl same ↦ (right Covers).one_net n m q (subst (λ (x : ℕ). Holds v.nets n x) same holds) also
+      | inr touches ↦ right Apart n m p q holds also touches
+    ]
+
+net_same : (nets others : List (List Twig)) (under : List ℕ) → ((p q n m : ℕ) → Contains under p → Contains under q → Holds nets n p → Holds others m q → n ≡ m) → (o t : Option ℕ)
+    → MatchOption o (under ≡ []) (λ net. (piece : ℕ) × Contains under piece × Holds nets net piece) → MatchOption t (under ≡ []) (λ net. (piece : ℕ) × Contains under piece × Holds others net piece) → o ≡ t
+net_same nets others under one None None h k = refl
+net_same nets others under one None (Some m) h (q, inside, held) = absurd (none_inside q (subst (λ (xs : List ℕ). Contains xs q) h inside))
+net_same nets others under one (Some n) None (p, inside, held) k = absurd (none_inside p (subst (λ (xs : List ℕ). Contains xs p) k inside))
+net_same nets others under one (Some n) (Some m) (p, inside, held) (q, within, holds) = ap Some (one p q n m inside within held holds)
+
+abbrev line_of : ℕ → ℕ → ℕ → Option ℕ → PointLine
+line_of number layer name net = record { number = number; layer = layer; name = name; net = net }
+
+line_same : (l m : PointLine) → l.number ≡ m.number → l.layer ≡ m.layer → l.name ≡ m.name → l.net ≡ m.net → l ≡ m
+line_same l m a b c d =
+    ap (λ (x : ℕ). line_of x l.layer l.name l.net) a ∙ (ap (λ (x : ℕ). line_of m.number x l.name l.net) b ∙ (ap (λ (x : ℕ). line_of m.number m.layer x l.net) c ∙ ap (line_of m.number m.layer m.name) d))
+
+lines_same : (nets others : List (List Twig)) (beneath : List (List ℕ)) (points : List TestPoint) (lines twins : List PointLine) → AreTogether nets others beneath → AreLines nets beneath points lines → AreLines others beneath points twins → lines ≡ twins
+lines_same nets others [] [] [] [] one a b = refl
+lines_same nets others [] [] [] (t ∷ twins) one a b = absurd b
+lines_same nets others [] [] (l ∷ lines) twins one a b = absurd a
+lines_same nets others [] (p ∷ points) lines twins one a b = absurd a
+lines_same nets others (u ∷ beneath) [] lines twins one a b = absurd a
+lines_same nets others (u ∷ beneath) (p ∷ points) [] twins one a b = absurd a
+lines_same nets others (u ∷ beneath) (p ∷ points) (l ∷ lines) [] one a b = absurd b
+lines_same nets others (u ∷ beneath) (p ∷ points) (l ∷ lines) (t ∷ twins) one (a, more) (b, rest) =
+    let net = net_same nets others u (one 0) l.net t.net a.net b.net in
+    let head : l ≡ t = line_same l t (a.number ∙ sym b.number) (a.layer ∙ sym b.layer) (a.name ∙ sym b.name) net in
+    let tail : lines ≡ twins = lines_same nets others beneath points lines twins (λ k. one (suc k)) more rest in
+    ap (λ (x : PointLine). x ∷ lines) head ∙ ap (λ (xs : List PointLine). t ∷ xs) tail
+
+-- ---- Shorts
+
+shorts_by_count : (n : ℕ) (nets others : List (List Twig)) (names : List (List ℕ)) (lines : List PointLine) → length nets ≡ length others → all_shorts n nets names lines ≡ all_shorts n others names lines
+shorts_by_count n [] [] names lines e = refl
+shorts_by_count n [] (o ∷ others) names lines e = absurd (omega arith)
+shorts_by_count n (t ∷ nets) [] names lines e = absurd (omega arith)
+shorts_by_count n (t ∷ nets) (o ∷ others) names lines e = ap (λ (xs : List Outline). short_of n (names_on n 0 names lines) ++ xs) (shorts_by_count (n + 1) nets others names lines (omega arith))
+
+abbrev name_of : Branch → ℕ
+name_of b = b.name
+
+point_same : (b c : Branch) → b.name ≡ c.name → b.probe ≡ c.probe → branch_point b ≡ branch_point c
+point_same b c e f =
+    let make : ℕ → ℕ → BranchPoint = λ name probe. record { name = name; probe = probe } in
+    ap (λ (x : ℕ). make x b.probe) e ∙ ap (make c.name) f
+
+-- Branches of one net with the same names have the same points.
+branches_same : (net twin : List Twig) (starts : ℕ → ℕ → Type 0) (lines : List PointLine) (number : ℕ) (ends stops : List ℕ) (branches twins : List Branch) → AreBranches net starts lines number ends branches → AreBranches twin starts lines number stops twins → map name_of branches ≡ map name_of twins → map branch_point branches ≡ map branch_point twins
+branches_same net twin starts lines number ends stops [] [] a b e = refl
+branches_same net twin starts lines number ends stops [] (c ∷ twins) a b e = cc
+branches_same net twin starts lines number ends stops (b ∷ branches) [] a c e = cc
+branches_same net twin starts lines number ends stops (b ∷ branches) (c ∷ twins) (a, more) (d, rest) e =
+    let name : b.name ≡ c.name = cc in
+    let names : map name_of branches ≡ map name_of twins = cc in
+    let probe : b.probe ≡ c.probe = same_Some b.probe c.probe (sym a.probe ∙ (ap (λ (x : ℕ). first_on number x lines) name ∙ d.probe)) in
+    let tail = branches_same net twin starts lines number (ends ++ b.pieces) (stops ++ c.pieces) branches twins more rest names in
+    ap (λ (x : BranchPoint). x ∷ map branch_point branches) (point_same b c name probe) ∙ ap (λ (xs : List BranchPoint). branch_point c ∷ xs) tail
+
+short_same : (nets others : List (List Twig)) (starts : ℕ → ℕ → Type 0) (lines : List PointLine) (s t : Short) → HasBranches nets starts lines s → HasBranches others starts lines t → outline s ≡ outline t → short_points s ≡ short_points t
+short_same nets others starts lines s t a b e =
+    let make : ℕ → List BranchPoint → ShortPoints = λ net branches. record { net = net; branches = branches } in
+    let net : s.net ≡ t.net = ap (λ (o : Outline). o.net) e in
+    let names : map name_of s.branches ≡ map name_of t.branches = ap (λ (o : Outline). o.names) e in
+    let theirs : AreBranches b.net starts lines s.net (first_piece b.net ∷ []) t.branches = subst (λ (n : ℕ). AreBranches b.net starts lines n (first_piece b.net ∷ []) t.branches) (sym net) b.branches in
+    let points = branches_same a.net b.net starts lines s.net (first_piece a.net ∷ []) (first_piece b.net ∷ []) s.branches t.branches a.branches theirs names in
+    ap (λ (n : ℕ). make n (map branch_point s.branches)) net ∙ ap (make t.net) points
+
+shorts_same : (nets others : List (List Twig)) (starts : ℕ → ℕ → Type 0) (lines : List PointLine) (shorts twins : List Short) → All (HasBranches nets starts lines) shorts → All (HasBranches others starts lines) twins → map outline shorts ≡ map outline twins → map short_points shorts ≡ map short_points twins
+shorts_same nets others starts lines [] [] a b e = refl
+shorts_same nets others starts lines [] (t ∷ twins) a b e = cc
+shorts_same nets others starts lines (s ∷ shorts) [] a b e = cc
+shorts_same nets others starts lines (s ∷ shorts) (t ∷ twins) a b e =
+    let head : outline s ≡ outline t = cc in
+    let names : map outline shorts ≡ map outline twins = cc in
+    let first = short_same nets others starts lines s t (All-head (HasBranches nets starts lines) s shorts a) (All-head (HasBranches others starts lines) t twins b) head in
+    let tail = shorts_same nets others starts lines shorts twins (All-tail (HasBranches nets starts lines) s shorts a) (All-tail (HasBranches others starts lines) t twins b) names in
+    ap (λ (x : ShortPoints). x ∷ map short_points shorts) first ∙ ap (λ (xs : List ShortPoints). short_points t ∷ xs) tail
+
+-- ---- The whole
+
+none_mapped : (shorts twins : List Short) → map short_points shorts ≡ map short_points twins → shorts ≡ [] → twins ≡ []
+none_mapped shorts [] e none = refl
+none_mapped [] (t ∷ twins) e none = cc
+none_mapped (s ∷ shorts) (t ∷ twins) e none = cc
+
+agrees_too : (v w : Verdict) → v.opens ≡ w.opens → map short_points v.shorts ≡ map short_points w.shorts → v.bare ≡ w.bare → Agrees v → Agrees w
+agrees_too v w opens shorts bare a = record { opens = sym opens ∙ a.opens; shorts = none_mapped v.shorts w.shorts shorts a.shorts; bare = sym bare ∙ a.bare }
+
+pub verdicts_differ_in_witnesses_only : (board : Tables) (v w : Verdict) → AreConsistent board → IsRight board v → IsRight board w → DifferInWitnessesOnly v w
+verdicts_differ_in_witnesses_only board v w tables right other =
+    let many = nets_as_many board v w tables right other in
+    let starts : ℕ → ℕ → Type 0 = BeginsBeneath board.beneath in
+    let points : v.points ≡ w.points = lines_same v.nets w.nets board.beneath board.points v.points w.points (together board v w tables right other) (right Points) (other Points) in
+    let opens : v.opens ≡ w.opens = right Opens ∙ (ap (all_opens 0 board.names) points ∙ sym (other Opens)) in
+    let bare : v.bare ≡ w.bare = right Bare ∙ (ap (bare_from 0) points ∙ sym (other Bare)) in
+    let outlines : map outline v.shorts ≡ map outline w.shorts =
+    right Shorts ∙ (ap (all_shorts 0 v.nets board.names) points ∙ (shorts_by_count 0 v.nets w.nets board.names w.points many ∙ sym (other Shorts))) in
+    let branches : All (HasBranches v.nets starts w.points) v.shorts = subst (λ (ls : List PointLine). All (HasBranches v.nets starts ls) v.shorts) points (right Branches) in
+    let shorts : map short_points v.shorts ≡ map short_points w.shorts = shorts_same v.nets w.nets starts w.points v.shorts w.shorts branches (other Branches) outlines in
+    record {
+      pieces = (right Counts).0 ∙ sym (other Counts).0;
+      names = (right Counts).1 ∙ sym (other Counts).1;
+      points = points;
+      opens = opens;
+      bare = bare;
+      net_count = many;
+      nets = one_net board v w tables right other;
+      holds = λ i p. (held_too board v w tables right other i p, held_too board w v tables other right i p);
+      shorts = shorts;
+      status = (agrees_too v w opens shorts bare, agrees_too w v (sym opens) (sym shorts) (sym bare));
+      open_count = ap length opens;
+      short_count = sym (length-map v.shorts short_points) ∙ (ap length shorts ∙ length-map w.shorts short_points);
+      bare_count = ap length bare;
+    }

@@ -1,0 +1,80 @@
+// The tests of a verdict, in the order of its clauses.
+ghost use Rattle.board_shapes.specs.Plain.{plain_board};
+ghost use Rattle.board_shapes.specs.Tables.{IsTables};
+ghost use Rattle.std.specs.Prelude.{◌≡◌, ◌<◌, IfOk};
+ghost use Rattle.tables.specs.Tables.{Tables};
+ghost use Rattle.witness_check.specs.Ruled.{Rules};
+
+use crate::counts::counts_hold;
+use crate::findings::findings_ruling;
+use crate::least::least_under;
+use crate::nets::{are_trees, stand_apart, stand_once};
+use crate::points::{bare_holds, points_hold};
+use board_shapes::{Board, laws as shapes};
+use lengths::NoMemory;
+use std::alloc::Global;
+use std::marker::Brand;
+use std::sync::ledger::{Blank, Ledger};
+use steps::Steps;
+use verdict::{Verdict, numbers_of};
+
+/// What an audit says.
+#[derive(Clone, Copy, Debug, PartialEq, Eq)]
+pub enum Ruling {
+    /// The verdict is right.
+    True,
+    /// The verdict is not right: the number, from 1 to 9, of the first clause that does not hold.
+    Untrue(u8),
+}
+
+/// Whether a verdict, of which nothing need hold, is right for the board. A clause that speaks of a part that is not
+/// there does not hold.
+pub fn audit(alloc: Global, board: &Board, v: &Verdict) -> Result<Ruling, NoMemory>
+    ensures { IfOk result (λ ruling. (t : Tables) → IsTables (plain_board board.now) t → Rules t v.now ruling) }
+{
+    ruling_of::<Brand>(alloc, board, v, Blank::new(1))
+}
+
+// The ruling, found with a counter of contact tests. The calls of laws do nothing when the program runs.
+fn ruling_of<L: Ledger>(
+    alloc: Global,
+    board: &Board,
+    v: &Verdict,
+    blank: Blank,
+) -> Result<Ruling, NoMemory>
+    requires name { blank.name ≡ L.name }
+    requires parts { blank.parts ≡ L.parts }
+    requires some { 0 < blank.parts }
+    ensures { IfOk result (λ ruling. (t : Tables) → IsTables (plain_board board.now) t → Rules t v.now ruling) }
+{
+    let mut tests = Steps::<L>::new(blank);
+    shapes::tables_are_unique();
+    shapes::tables_tell_joins();
+    let nets = v.nets.as_slice();
+    let lines = v.points.as_slice();
+    let pieces = board.pieces().len();
+    if !are_trees(alloc, board, nets, &mut tests)? {
+        return Ok(Ruling::Untrue(1));
+    }
+    if !stand_once(alloc, nets, pieces)? {
+        return Ok(Ruling::Untrue(2));
+    }
+    let numbers = numbers_of(alloc, nets, pieces)?;
+    if !stand_apart(board, nets, numbers.as_slice(), &mut tests) {
+        return Ok(Ruling::Untrue(3));
+    }
+    let homes = least_under(alloc, board)?;
+    if !points_hold(board.probes(), homes.as_slice(), numbers.as_slice(), lines) {
+        return Ok(Ruling::Untrue(4));
+    }
+    if let Some(number) = findings_ruling(alloc, board.names(), pieces, homes.as_slice(), v)? {
+        return Ok(Ruling::Untrue(number));
+    }
+    if !bare_holds(lines, v.bare.as_slice()) {
+        return Ok(Ruling::Untrue(8));
+    }
+    if !counts_hold(pieces, board.names(), v.pieces, v.names.as_slice()) {
+        return Ok(Ruling::Untrue(9));
+    }
+    Ok(Ruling::True)
+}

@@ -1,0 +1,255 @@
+// Verdicts that nobody made with care, on a board of two discs that touch and one that stands apart.
+ghost use Rattle.board_shapes.specs.Lawful.{IsOnLayers, IsProbe};
+ghost use Rattle.contact.specs.Round.{IsCapsuleRadius};
+ghost use Rattle.planar.specs.Plane.{IsPlaced};
+ghost use Rattle.std.specs.Prelude.{◌≡◌, ◌+◌, All, IfOk, length, pos};
+
+use crate::{Ruling, audit};
+use Word::{End, On, Root};
+use board_shapes::{Board, Origin, Piece, Placed, Probe, Shape};
+use contact::Capsule;
+use lengths::{NoMemory, Rows, Text};
+use planar::Spot;
+use std::alloc::Global;
+use std::test::Fail;
+use verdict::{PointLine, Tree, Trees, Twig, Verdict};
+
+fn disc(at: Spot, r: i64) -> Piece
+    requires placed { IsPlaced at }
+    requires radius { IsCapsuleRadius r }
+    ensures top { result.top ≡ 1 }
+    ensures bottom { result.bottom ≡ 1 }
+{
+    Placed {
+        shape: Shape::Round(Capsule::new(at, at, r)),
+        top: 1,
+        bottom: 1,
+        origin: Origin {
+            file: 0,
+            command: 1,
+            copy: 0,
+        },
+    }
+}
+
+// One disc more, of 10,000,000 u round (x, 0).
+fn with_disc(mut pieces: Vec<Piece>, x: i64) -> Result<Vec<Piece>, NoMemory>
+    requires placed { IsPlaced (record { x = x; y = pos 0 }) }
+    requires spans { All (IsOnLayers 1) pieces.items }
+    ensures many { IfOk result (λ more. length more.items ≡ length pieces.items + 1) }
+    ensures spans { IfOk result (λ more. All (IsOnLayers 1) more.items) }
+{
+    pieces.push(disc(Spot { x, y: 0 }, 10_000_000))?;
+    Ok(pieces)
+}
+
+// Discs round (0, 0), (20,000,000, 0) and (50,000,000, 0).
+fn discs(alloc: Global) -> Result<Vec<Piece>, NoMemory>
+    ensures many { IfOk result (λ pieces. length pieces.items ≡ 3) }
+    ensures spans { IfOk result (λ pieces. All (IsOnLayers 1) pieces.items) }
+{
+    let one = with_disc(Vec::new(alloc), 0)?;
+    let two = with_disc(one, 20_000_000)?;
+    with_disc(two, 50_000_000)
+}
+
+// A probe where the first two discs touch, and one where no copper is.
+fn probes(alloc: Global) -> Result<Rows<Probe>, NoMemory>
+    ensures many { IfOk result (λ probes. length probes ≡ 2) }
+    ensures known { IfOk result (All (IsProbe 1 1)) }
+{
+    let mut probes = Rows::new(alloc);
+    probes.push(Probe {
+        number: 1,
+        at: Spot {
+            x: 10_000_000,
+            y: 0,
+        },
+        layer: 1,
+        name: 0,
+    })?;
+    probes.push(Probe {
+        number: 2,
+        at: Spot {
+            x: 90_000_000,
+            y: 0,
+        },
+        layer: 1,
+        name: 0,
+    })?;
+    Ok(probes)
+}
+
+fn names(alloc: Global) -> Result<Rows<Text>, NoMemory>
+    ensures { IfOk result (λ names. length names ≡ 1) }
+{
+    let mut names = Rows::new(alloc);
+    let Ok(name) = Text::new(alloc, b"A") else {
+        return Err(NoMemory);
+    };
+    names.push(name)?;
+    Ok(names)
+}
+
+// A piece without a parent, a piece on its parent, and the end of a net.
+#[derive(Clone, Copy)]
+enum Word {
+    Root(u32),
+    On(u32, u32),
+    End,
+}
+
+fn trees(alloc: Global, words: &[Word]) -> Result<Trees, NoMemory> {
+    let mut trees = Rows::new(alloc);
+    let mut tree: Tree = Rows::new(alloc);
+    for word in words {
+        match *word {
+            Word::Root(piece) => tree.push(Twig {
+                piece,
+                parent: None,
+            })?,
+            Word::On(piece, parent) => tree.push(Twig {
+                piece,
+                parent: Some(parent),
+            })?,
+            Word::End => {
+                trees.push(tree)?;
+                tree = Rows::new(alloc);
+            }
+        }
+    }
+    Ok(trees)
+}
+
+fn lines(alloc: Global, nets: &[Option<u32>]) -> Result<Rows<PointLine>, NoMemory> {
+    let mut lines = Rows::new(alloc);
+    let mut number = 1;
+    for net in nets {
+        lines.push(PointLine {
+            number,
+            layer: 1,
+            name: 0,
+            net: *net,
+        })?;
+        number = if number < 9 { number + 1 } else { number };
+    }
+    Ok(lines)
+}
+
+fn verdict(alloc: Global, words: &[Word], points: &[Option<u32>]) -> Result<Verdict, NoMemory> {
+    Ok(Verdict {
+        pieces: 3,
+        names: names(alloc)?,
+        nets: trees(alloc, words)?,
+        points: lines(alloc, points)?,
+        opens: Rows::new(alloc),
+        shorts: Rows::new(alloc),
+        bare: Rows::new(alloc),
+    })
+}
+
+#[test]
+fn verdicts_from_anywhere(rt: HostRuntime) -> Result<(), Fail> {
+    let alloc = rt.alloc();
+    let board = Board::new(discs(alloc)?, probes(alloc)?, names(alloc)?, 1).expect(&rt, "a board");
+    let rows: [(&str, &[Word], &[Option<u32>], u8); 18] = [
+        ("no nets", &[], &[], 2),
+        (
+            "an empty net",
+            &[End, Root(0), On(1, 0), End, Root(2), End],
+            &[],
+            1,
+        ),
+        (
+            "parents in a circle",
+            &[Root(0), On(1, 2), On(2, 1), End],
+            &[],
+            1,
+        ),
+        (
+            "its own parent",
+            &[Root(0), On(1, 1), End, Root(2), End],
+            &[],
+            1,
+        ),
+        (
+            "its own parent again",
+            &[Root(0), On(1, 0), On(1, 1), End, Root(2), End],
+            &[],
+            1,
+        ),
+        (
+            "a parent of another net",
+            &[Root(0), End, Root(1), On(1, 0), End, Root(2), End],
+            &[],
+            1,
+        ),
+        (
+            "a parent that does not touch",
+            &[Root(0), On(1, 0), On(2, 1), End],
+            &[],
+            1,
+        ),
+        ("past the board", &[Root(0), On(3, 0), End], &[], 1),
+        ("far past the board", &[Root(u32::MAX), End], &[], 1),
+        (
+            "a parent past the board",
+            &[Root(0), On(1, u32::MAX), End],
+            &[],
+            1,
+        ),
+        (
+            "the first is not the least",
+            &[Root(1), On(0, 1), End, Root(2), End],
+            &[],
+            1,
+        ),
+        (
+            "equal first pieces",
+            &[Root(0), On(1, 0), End, Root(0), End, Root(2), End],
+            &[],
+            1,
+        ),
+        (
+            "a piece twice",
+            &[Root(0), On(1, 0), On(1, 0), End, Root(2), End],
+            &[],
+            2,
+        ),
+        (
+            "the first piece twice",
+            &[Root(0), On(1, 0), On(0, 1), End, Root(2), End],
+            &[],
+            2,
+        ),
+        (
+            "a piece of two nets",
+            &[Root(0), On(1, 0), End, Root(1), End, Root(2), End],
+            &[],
+            2,
+        ),
+        (
+            "a net in two",
+            &[Root(0), End, Root(1), End, Root(2), End],
+            &[],
+            3,
+        ),
+        (
+            "a net that is not there",
+            &[Root(0), On(1, 0), End, Root(2), End],
+            &[Some(9), None],
+            4,
+        ),
+        (
+            "a line too few",
+            &[Root(0), On(1, 0), End, Root(2), End],
+            &[Some(0)],
+            4,
+        ),
+    ];
+    for (what, words, points, clause) in rows {
+        let v = verdict(alloc, words, points)?;
+        assert_eq!(rt; audit(alloc, &board, &v)?, Ruling::Untrue(clause), "{what}");
+    }
+    Ok(())
+}
