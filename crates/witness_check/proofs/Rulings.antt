@@ -14,8 +14,8 @@ use Rattle.verdict.specs.declared.verdict.PointLine.{PointLine}
 use Rattle.verdict.specs.declared.verdict.Twig.{Twig}
 use Rattle.verdict.specs.declared.verdict.Verdict.{Verdict}
 use Rattle.verdict.specs.Forest.{AreTrees, IsForest, Holds, StandApart, StandOnce}
-use Rattle.verdict.specs.Right.{Clause, Trees, Covers, Apart, Points, Opens, Shorts, Branches, Bare, Counts, AreLines, BeginsBeneath, FailsFirst, HasBranches, IsRight, Says, all_opens, all_shorts, bare_from, number_of, outline}
-use Rattle.witness_check.specs.Findings.{BeginsAtHome, FindingsFail, FindingsSay}
+use Rattle.verdict.specs.Right.{Clause, Trees, Covers, Apart, Points, Opens, Shorts, Branches, Bare, Counts, AreLines, BeginsAtHome, BeginsBeneath, FailsFirst, HasBranches, IsRight, Says, all_opens, all_shorts, bare_from, number_of, outline}
+use Rattle.witness_check.specs.Findings.{FindingsFail, FindingsSay}
 use Rattle.witness_check.specs.Lines.{AreLinesBy}
 use Rattle.witness_check.proofs.Lines.{at_home, from_home, home_known, lines_each, lines_many, lines_right, shorts_along}
 use Rattle.witness_check.proofs.Tables.{apart_as, apart_where, once_as, once_where, trees_as, trees_where, under_close}
