@@ -1,17 +1,11 @@
 -- Trees tested twig by twig, net by net.
-use Rattle.std.proofs.Common.{◌≡◌, ◌≢◌, ◌⊎◌, inl, inr, ℕ, zero, suc, ◌+◌, ◌<◌, ◌≤◌, Bool, true, false, IsTrue, List, [], ◌∷◌, ◌++◌, length, get_or, set, take, drop, Contains, All, AllPairs, None, refl, sym, ap, subst, ◌∙◌, append_assoc, append-nil, arith}
+use Rattle.std.proofs.Common.{◌≡◌, ◌≢◌, ◌⊎◌, inl, inr, ℕ, zero, suc, ◌+◌, ◌<◌, ◌≤◌, List, [], ◌∷◌, ◌++◌, length, get_or, set, take, drop, Contains, All, AllPairs, None, refl, sym, ap, subst, ◌∙◌, append_assoc, append-nil, arith}
 use Rattle.std.proofs.lemmas.List.{length-set, map-append, get_or-set_same, get_or-set_other, get_or_default, get_or-map, get_or_past, length-map, take_all, take_more, take-append-drop}
 use Rattle.std.proofs.lemmas.List.Elements.{All-push, All-get_or, All-from_get_or, Contains-push, Contains-push_cases, Contains-append_left, Contains-get_or}
 use Rattle.std.proofs.lemmas.Bool.{cases_eq}
 use Rattle.verdict.specs.declared.verdict.Twig.{Twig}
 use Rattle.verdict.specs.Forest.{IsTree, Hang, HangsOn, AreTrees, Holds, net_at, pieces_of, piece_of, first_piece}
 use Rattle.witness_check.specs.Nets.{IsKnownTree, HangsByStamp}
-
-pub no_true : IsTrue false → ⊥
-no_true t = cc
-
-pub refuted : (X : Type 0) → (X → ⊥) → (IsTrue false → X) × (X → IsTrue false)
-refuted X not = ((λ t. absurd (no_true t)), λ x. absurd (not x))
 
 pub hang_more : (near : ℕ → ℕ → Type 0) (earlier : List ℕ) (rest : List Twig) (t : Twig) → Hang near earlier rest → HangsOn near (earlier ++ pieces_of rest) t → Hang near earlier (rest ++ t ∷ [])
 hang_more near earlier [] t hang h = (record { parent = h.parent; named = h.named; stands = subst (λ (xs : List ℕ). Contains xs h.parent) (append-nil earlier) h.stands; touches = h.touches }, tt)
@@ -202,17 +196,6 @@ not_rising count near nets i floor stamps a within low t = elim a.from [
   | inl none ↦ omega arith
   | inr (k, before, is) ↦ let e = t.rising k i [] before within in omega arith
 ]
-
-pub proved : (X : Type 0) → X → (IsTrue true → X) × (X → IsTrue true)
-proved X x = ((λ t. x), λ y. refl)
-
-pub told : (b : Bool) (P : Type 0) → (IsTrue b → P) × (P → IsTrue b) → b ≡ true → P
-told true P tells e = tells.0 refl
-told false P tells e = cc
-
-pub denied : (b : Bool) (P : Type 0) → (IsTrue b → P) × (P → IsTrue b) → b ≡ false → P → ⊥
-denied true P tells e p = cc
-denied false P tells e p = no_true (tells.1 p)
 
 none_inside : (p : ℕ) → Contains [] p → ⊥
 none_inside p (k, below, same) = omega arith

@@ -4,7 +4,7 @@ use Rattle.std.proofs.lemmas.List.Elements.{Contains-get_or}
 use Rattle.verdict.specs.declared.verdict.Twig.{Twig}
 use Rattle.verdict.specs.Forest.{pieces_of, piece_of}
 use Rattle.witness_check.proofs.Once.{at_place, marking_more, marking_stops, marking_done, marking_marks}
-use Rattle.witness_check.proofs.Trees.{refuted, proved}
+use Rattle.witness_check.proofs.Told.{refuted, proved}
 use Rattle.witness_check.proofs.nets.mark_new.Goals as goal
 
 read : (net : List Twig) (i : ℕ) → i < length net → (get_or net i (record { piece = 0; parent = None })).piece ≡ at_place net i
