@@ -73,22 +73,6 @@ set_cases P stamps p stamp q below here there = elim (cases_eq q p) [
   | inr other ↦ subst (λ (v : ℕ). P q v) (sym (get_or-set_other stamps p q stamp 0 other)) (there other)
 ]
 
-pub judging_start : (count : ℕ) (near : ℕ → ℕ → Type 0) (net : List Twig) (stamp : ℕ) (stamps : List ℕ) → 0 < length net → length stamps ≡ count → ((q : ℕ) → get_or stamps q 0 < stamp) → (get_or net 0 (record { piece = 0; parent = None })).piece < count → (get_or net 0 (record { piece = 0; parent = None })).parent ≡ None → IsJudging count near net stamp 1 (set stamps (get_or net 0 (record { piece = 0; parent = None })).piece stamp)
-judging_start count near [] stamp stamps some long fresh below root = absurd (omega arith)
-judging_start count near (t ∷ rest) stamp stamps some long fresh below root = record {
-  some = omega arith;
-  within = omega arith;
-  long = length-set stamps t.piece stamp ∙ long;
-  tree = (root, (λ k d h. absurd (omega arith)), tt);
-  known = λ p h. subst (λ (x : ℕ). x < count) (one_of t.piece p h) below;
-  stamped = λ p on. elim (cases_eq p t.piece) [
-    | inl same ↦ (0, omega arith, sym same)
-    | inr other ↦ absurd (let e = get_or-set_other stamps t.piece p stamp 0 other in let f = fresh p in omega arith)
-  ];
-  stamps_of = λ p h. ap (λ (x : ℕ). get_or (set stamps t.piece stamp) x 0) (sym (one_of t.piece p h)) ∙ get_or-set_same stamps t.piece stamp 0 (omega arith);
-  most = λ q. set_cases (λ k v. v ≤ stamp) stamps t.piece stamp q (omega arith) (omega arith) (λ other. let f = fresh q in omega arith);
-}
-
 pieces_push : (net : List Twig) (t : Twig) → pieces_of (net ++ t ∷ []) ≡ pieces_of net ++ t.piece ∷ []
 pieces_push net t = map-append piece_of net (t ∷ [])
 
@@ -144,10 +128,6 @@ judging_done count near net stamp j stamps g all =
     let same = take_all j net all in
     record { known = λ p h. g.known p (subst (λ (n : List Twig). Contains (pieces_of n) p) (sym same) h); tree = subst (λ (n : List Twig). IsTree near n) same g.tree }
 
-pub no_net : (count : ℕ) (near : ℕ → ℕ → Type 0) (net : List Twig) → length net ≡ 0 → IsKnownTree count near net → ⊥
-no_net count near [] e whole = whole.tree
-no_net count near (t ∷ rest) e whole = omega arith
-
 pub root_known : (count : ℕ) (near : ℕ → ℕ → Type 0) (net : List Twig) → IsKnownTree count near net → ((get_or net 0 (record { piece = 0; parent = None })).piece < count) × ((get_or net 0 (record { piece = 0; parent = None })).parent ≡ None)
 root_known count near [] whole = absurd whole.tree
 root_known count near (t ∷ rest) whole = (whole.known t.piece (0, omega arith, refl), whole.tree.0)
@@ -190,12 +170,6 @@ judged_all count near nets i floor stamps a all within = record {
 
 pub tree_at : (count : ℕ) (near : ℕ → ℕ → Type 0) (nets : List (List Twig)) (i : ℕ) → AreTrees count near nets → i < length nets → IsKnownTree count near (net_at nets i)
 tree_at count near nets i t below = record { known = λ p h. t.known i p h; tree = All-get_or (IsTree near) nets i [] below t.trees }
-
-pub not_rising : (count : ℕ) (near : ℕ → ℕ → Type 0) (nets : List (List Twig)) (i floor : ℕ) (stamps : List ℕ) → AreJudged count near nets i floor stamps → i < length nets → first_piece (net_at nets i) < floor → AreTrees count near nets → ⊥
-not_rising count near nets i floor stamps a within low t = elim a.from [
-  | inl none ↦ omega arith
-  | inr (k, before, is) ↦ let e = t.rising k i [] before within in omega arith
-]
 
 none_inside : (p : ℕ) → Contains [] p → ⊥
 none_inside p (k, below, same) = omega arith
