@@ -7,7 +7,8 @@ use Rattle.verdict.specs.declared.verdict.Branch.{Branch}
 use Rattle.verdict.specs.declared.verdict.PointLine.{PointLine}
 use Rattle.verdict.specs.Forest.{IsTree, IsForest, Hang, pieces_of, piece_of, first_piece, net_at}
 use Rattle.verdict.specs.Right.{AreBranches, BeginsAt}
-use Rattle.judge.specs.Judged.{twig_at, HangAbove}
+use Rattle.judge.specs.Judged.{HangAbove}
+use Rattle.verdict.specs.Places.{twig_at}
 
 hang_along : (near more : ℕ → ℕ → Type 0) → ((p q : ℕ) → near p q → more p q) → (earlier : List ℕ) (rest : List Twig) → Hang near earlier rest → Hang more earlier rest
 hang_along near more along earlier [] hang = tt

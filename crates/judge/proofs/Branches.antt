@@ -1,31 +1,20 @@
 -- The branches of shorts.
-use Rattle.std.proofs.Common.{◌≡◌, ◌≢◌, inl, inr, ℕ, zero, suc, ◌+◌, ◌<◌, ◌≤◌, Bool, true, false, List, [], ◌∷◌, ◌++◌, length, map, get_or, set, take, drop, replicate, Contains, All, AllPairs, Option, Some, None, refl, sym, ap, subst, ◌∙◌, append-nil, arith, slice_get}
+use Rattle.std.proofs.Common.{◌≡◌, inl, inr, ℕ, zero, suc, ◌+◌, ◌<◌, ◌≤◌, Bool, true, false, List, [], ◌∷◌, ◌++◌, length, map, get_or, set, take, drop, replicate, Contains, All, Option, Some, None, refl, sym, ap, subst, ◌∙◌, append-nil, arith, slice_get}
 use Rattle.std.proofs.lemmas.List.{drop_all, length-set, get_or-set_same, get_or-set_other, length-map, get_or-replicate, length-replicate, map-append, take_more}
 use Rattle.std.proofs.lemmas.List.Elements.{All-get_or, Contains-append_left}
 use Rattle.std.proofs.lemmas.Bool.{cases_eq}
 use Rattle.verdict.specs.declared.verdict.Twig.{Twig}
 use Rattle.verdict.specs.declared.verdict.Branch.{Branch}
 use Rattle.verdict.specs.declared.verdict.PointLine.{PointLine}
-use Rattle.judge.specs.declared.marks.Mark.{Mark}
-use Rattle.verdict.specs.Forest.{pieces_of, piece_of, first_piece}
-use Rattle.verdict.specs.Right.{IsWay, BeginsAt, IsBranch, AreBranches, HasBranches, all_shorts, names_on, outline, short_of, Outline}
-use Rattle.judge.specs.Judged.{twig_at, HasPlaces, AreFlags, AreFirst, AreNamed, BeginsAtHome, IsFirst, mark_name, marks_at, branch_name}
-use Rattle.judge.proofs.Lines.{turn}
+use Rattle.verdict.specs.declared.marks.Mark.{Mark}
+use Rattle.verdict.specs.Forest.{first_piece}
+use Rattle.verdict.specs.Right.{IsWay, BeginsAt, IsBranch, AreBranches, HasBranches, all_shorts, names_on, outline, short_of, Outline, BeginsAtHome}
+use Rattle.judge.specs.Judged.{AreFlags}
+use Rattle.verdict.proofs.Lines.{turn}
+use Rattle.std.proofs.lemmas.Option.{slice_get-get_or}
 use Rattle.verdict.specs.declared.verdict.Short.{Short}
-use Rattle.judge.proofs.Paths.{twig_piece}
-
-pub record ArePlaced (net : List Twig) (long : ℕ) (i : ℕ) (places : List ℕ) : Type 0 where
-  pub room : length places ≡ long
-  pub done : (k : ℕ) → k < i → get_or places (twig_at net k).piece 0 ≡ k
-
-pub placed_more : (net : List Twig) (long i : ℕ) (places : List ℕ) → AllPairs (λ p q. p ≢ q) (pieces_of net) → i < length net → (twig_at net i).piece < length places → ArePlaced net long i places → ArePlaced net long (i + 1) (set places (twig_at net i).piece i)
-placed_more net long i places once within below a = record {
-  room = length-set places (twig_at net i).piece i ∙ a.room;
-  done = λ k h. elim (cases_eq k i) [
-    | inl same ↦ ap (λ (x : ℕ). get_or (set places (twig_at net i).piece i) (twig_at net x).piece 0) same ∙ (get_or-set_same places (twig_at net i).piece i 0 below ∙ sym same)
-    | inr other ↦ get_or-set_other places (twig_at net i).piece (twig_at net k).piece i 0 (λ same. once k i 0 (omega arith) (let e = length-map net piece_of in omega arith) (twig_piece net k (omega arith) ∙ (same ∙ sym (twig_piece net i within)))) ∙ a.done k (omega arith)
-  ];
-}
+use Rattle.verdict.specs.Places.{twig_at, HasPlaces}
+use Rattle.verdict.specs.Seats.{AreFirst, AreNamed, IsFirst, mark_name, marks_at, branch_name}
 
 -- the ends of a way that follows these branches
 abbrev pub held : List ℕ → List Branch → List ℕ
@@ -118,11 +107,6 @@ short_pushed n names shorts shorts' branches marks many named same now =
     let long : length names ≡ length marks = sym (ap length named) ∙ length-map marks mark_name in
     ap (map outline) now ∙ (map-append outline shorts (s ∷ []) ∙ ap (λ (xs : List Outline). map outline shorts ++ xs) (ap (λ (xs : List ℕ). o n xs ∷ []) (same ∙ named) ∙ sym (short_many n names (omega arith))))
 
-pub get_some : {X : Type 0} (xs : List X) (i : ℕ) (d : X) → i < length xs → slice_get xs i ≡ Some (get_or xs i d)
-get_some [] i d below = absurd (omega arith)
-get_some (x ∷ xs) zero d below = refl
-get_some (x ∷ xs) (suc i) d below = get_some xs i d (omega arith)
-
 -- The shorts of the nets before n stand.
 pub record AreShorted (nets : List (List Twig)) (table : List (List Mark)) (homes : List (Option ℕ)) (n : ℕ) (shorts : List Short) : Type 0 where
   pub outlines : (names : List (List ℕ)) (lines : List PointLine) → AreNamed names lines table → map outline shorts ++ all_shorts n (drop n nets) names lines ≡ all_shorts 0 nets names lines
@@ -139,7 +123,7 @@ pub shorted_more : (nets : List (List Twig)) (table : List (List Mark)) (homes :
     → AreShorted nets table homes (n + 1) shorts'
 shorted_more nets table homes n shorts shorts' net row below long here named done outlined branched = record {
   outlines = λ names lines given. shorts_turn nets table n (map outline shorts) (map outline shorts') names lines below long given (done.outlines names lines given) (outlined ∙ ap (λ (ms : List Mark). map outline shorts ++ short_of n (map mark_name ms)) named);
-  branches = λ lines firsts. branched nets lines (get_some nets n [] below ∙ ap Some (sym here)) (subst (λ (ms : List Mark). All (IsFirst n lines) ms) (sym named) (firsts n (omega arith))) (done.branches lines firsts);
+  branches = λ lines firsts. branched nets lines (slice_get-get_or nets n [] below ∙ ap Some (sym here)) (subst (λ (ms : List Mark). All (IsFirst n lines) ms) (sym named) (firsts n (omega arith))) (done.branches lines firsts);
 }
 
 pub shorted_skip : (nets : List (List Twig)) (table : List (List Mark)) (homes : List (Option ℕ)) (n : ℕ) (shorts : List Short) (row : List Mark) → n < length nets → length table ≡ length nets → row ≡ marks_at table n → length row < 2 → AreShorted nets table homes n shorts → AreShorted nets table homes (n + 1) shorts

@@ -1,12 +1,14 @@
 -- Ways up a tree.
 use Rattle.std.proofs.Common.{◌≡◌, inl, inr, ℕ, zero, suc, ◌<◌, Bool, true, false, List, [], ◌∷◌, ◌++◌, length, get_or, set, Contains, All, Option, Some, None, refl, sym, ap, subst, ◌∙◌, append_assoc, append-nil, arith}
-use Rattle.std.proofs.lemmas.List.{length-set, get_or-set_same, get_or-set_other, get_or_default, get_or-map, length-map}
-use Rattle.std.proofs.lemmas.List.Elements.{All-push, Contains-get_or, Contains-append_left, Contains-append_cases, Contains-push}
+use Rattle.std.proofs.lemmas.List.{length-set, get_or-set_same, get_or-set_other, get_or_default}
+use Rattle.std.proofs.lemmas.List.Elements.{All-push, Contains-append_left, Contains-append_cases, Contains-push}
 use Rattle.std.proofs.lemmas.Bool.{cases_eq}
 use Rattle.verdict.specs.declared.verdict.Twig.{Twig}
-use Rattle.verdict.specs.Forest.{pieces_of, piece_of}
+use Rattle.verdict.specs.Forest.{pieces_of}
 use Rattle.verdict.specs.Right.{IsWay, HasParent, BeginsAt}
-use Rattle.judge.specs.Judged.{twig_at, HangAbove, HasPlaces, AreFlags}
+use Rattle.verdict.proofs.Placing.{placed, twig_inside}
+use Rattle.judge.specs.Judged.{HangAbove, AreFlags}
+use Rattle.verdict.specs.Places.{twig_at, HasPlaces}
 
 -- a way that has not ended: its last piece has `next` as its parent
 abbrev pub IsOpenWay : List Twig → List ℕ → List ℕ → ℕ → Type 0
@@ -30,22 +32,6 @@ pub record IsUp (net : List Twig) (flags : List Bool) (from : ℕ) (pieces : Lis
   pub start : BeginsAt (λ piece. piece ≡ from) (pieces ++ (twig_at net k).piece ∷ [])
   pub way : (ends : List ℕ) → AreFlags net ends flags → IsOpenWay net ends pieces (twig_at net k).piece
   pub inside : All (λ piece. Contains (pieces_of net) piece) pieces
-
-pub twig_piece : (net : List Twig) (k : ℕ) → k < length net → get_or (pieces_of net) k 0 ≡ (twig_at net k).piece
-twig_piece net k below = get_or-map piece_of net k (record { piece = 0; parent = None }) 0 below
-
--- a piece of the net, by its place
-pub placed : (net : List Twig) (places : List ℕ) (q : ℕ) → HasPlaces net places → Contains (pieces_of net) q → (get_or places q 0 < length net) × (q < length places) × ((twig_at net (get_or places q 0)).piece ≡ q)
-placed net places q all (k, below, same) =
-    let long = length-map net piece_of in
-    let within : k < length net = omega arith in
-    let here : (twig_at net k).piece ≡ q = sym (twig_piece net k within) ∙ (get_or_default (pieces_of net) k 0 q below ∙ same) in
-    let fact = all k within in
-    let place : get_or places q 0 ≡ k = ap (λ (x : ℕ). get_or places x 0) (sym here) ∙ fact.1 in
-    ((omega arith), subst (λ (x : ℕ). x < length places) here fact.0, ap (λ (x : ℕ). (twig_at net x).piece) place ∙ here)
-
-pub twig_inside : (net : List Twig) (k : ℕ) → k < length net → Contains (pieces_of net) (twig_at net k).piece
-twig_inside net k below = subst (λ (x : ℕ). Contains (pieces_of net) x) (twig_piece net k below) (Contains-get_or (pieces_of net) k 0 (let long = length-map net piece_of in omega arith))
 
 some_same : (a b : ℕ) → Some a ≡ Some b → a ≡ b
 some_same a b e = cc

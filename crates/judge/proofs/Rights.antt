@@ -1,5 +1,5 @@
 -- The parts that `judge` makes are a right verdict.
-use Rattle.std.proofs.Common.{◌≡◌, ℕ, zero, suc, ◌+◌, ◌<◌, ◌≤◌, ◌^◌, Bool, true, false, ◌==◌, ◌&&◌, if◌then◌else◌, inl, inr, List, [], ◌∷◌, length, map, get_or, Contains, All, Option, Some, None, MatchOption, IfSome, slice_get, refl, sym, ap, subst, ◌∙◌, arith}
+use Rattle.std.proofs.Common.{◌≡◌, ℕ, zero, suc, ◌+◌, ◌<◌, ◌^◌, Bool, true, false, ◌==◌, ◌&&◌, if◌then◌else◌, inl, inr, List, [], ◌∷◌, length, map, get_or, Contains, All, Option, Some, None, MatchOption, IfSome, slice_get, refl, sym, ap, subst, ◌∙◌, arith}
 use Rattle.std.proofs.lemmas.List.{get_or_past, length-map}
 use Rattle.std.proofs.lemmas.List.Elements.{All-cons, All-from_get_or, All-get_or, All-head, All-nil, All-tail, All-weaker}
 use Rattle.std.proofs.lemmas.Bool.{eqb-true}
@@ -16,12 +16,13 @@ use Rattle.verdict.specs.declared.verdict.Twig.{Twig}
 use Rattle.verdict.specs.declared.verdict.Short.{Short}
 use Rattle.verdict.specs.declared.verdict.Open.{Open}
 use Rattle.verdict.specs.declared.verdict.PointLine.{PointLine}
-use Rattle.judge.specs.declared.marks.Mark.{Mark}
+use Rattle.verdict.specs.declared.marks.Mark.{Mark}
 use Rattle.verdict.specs.Forest.{IsTree, IsForest, Holds, net_at, first_piece}
-use Rattle.verdict.specs.Right.{IsRight, Trees, Covers, Apart, Points, Opens, Shorts, Branches, Bare, Counts, AreLines, bare_from, all_opens, all_shorts, outline, HasBranches, BeginsBeneath, IsLeastOf, first_from, marks, is_on}
-use Rattle.judge.specs.Judged.{net_by, line_by, lines_by, BeginsAtHome, IsFirst, HasHome}
+use Rattle.verdict.specs.Right.{IsRight, Trees, Covers, Apart, Points, Opens, Shorts, Branches, Bare, Counts, AreLines, bare_from, all_opens, all_shorts, outline, HasBranches, BeginsBeneath, IsLeastOf, first_from, marks, is_on, BeginsAtHome}
+use Rattle.judge.specs.Judged.{net_by, line_by, lines_by, HasHome}
 use Rattle.judge.proofs.Along.{tree_along, branches_along, nets_few}
-use Rattle.judge.proofs.Numbers.{held_within, le_or_lt}
+use Rattle.verdict.proofs.Numbering.{held_within, le_or_lt}
+use Rattle.verdict.specs.Seats.{IsFirst}
 
 -- ---- Points
 

@@ -1,14 +1,11 @@
--- Lines by the numbers of nets, seats by names, marks by nets, and ways in a net.
-use Rattle.std.specs.Prelude.{◌≡◌, ◌↔◌, ℕ, ◌+◌, ◌<◌, Bool, true, false, ◌==◌, ◌&&◌, if◌then◌else◌, List, [], ◌∷◌, ◌++◌, length, map, slice_index_or, All, Contains, Option, Some, None}
-use Rattle.std.specs.List.{list_any}
+-- Lines by the numbers of nets, and ways in a net.
+use Rattle.std.specs.Prelude.{◌≡◌, ◌↔◌, ℕ, ◌<◌, Bool, true, false, List, [], ◌∷◌, length, slice_index_or, Contains, Option, Some, None}
 use Rattle.verdict.specs.declared.verdict.Twig.{Twig}
 use Rattle.board_shapes.specs.declared.probe.Probe.{Probe}
 use Rattle.verdict.specs.declared.verdict.PointLine.{PointLine}
-use Rattle.judge.specs.declared.marks.Mark.{Mark}
-use Rattle.verdict.specs.declared.verdict.Branch.{Branch}
-use Rattle.verdict.specs.declared.verdict.Seat.{Seat}
+use Rattle.verdict.specs.declared.marks.Mark.{Mark}
 use Rattle.verdict.specs.Forest.{pieces_of}
-use Rattle.verdict.specs.Right.{first_on, fresh, names_on, net_of, seats_from}
+use Rattle.verdict.specs.Places.{twig_at}
 
 abbrev pub net_by : List ℕ → Option ℕ → Option ℕ
 net_by numbers None = None
@@ -24,9 +21,6 @@ lines_by numbers probes homes = []
 
 -- ---- Ways
 
-abbrev pub twig_at : List Twig → ℕ → Twig
-twig_at net k = slice_index_or net k (record { piece = 0; parent = None })
-
 -- The twig at place k has a parent before it.
 pub record HasAbove (net : List Twig) (k : ℕ) : Type 0 where
   pub place : ℕ
@@ -36,23 +30,11 @@ pub record HasAbove (net : List Twig) (k : ℕ) : Type 0 where
 abbrev pub HangAbove : List Twig → Type 0
 HangAbove net = (k : ℕ) → 0 < k → k < length net → HasAbove net k
 
--- The table has the place of each piece of the net.
-abbrev pub HasPlaces : List Twig → List ℕ → Type 0
-HasPlaces net places = (k : ℕ) → k < length net → ((twig_at net k).piece < length places) × (slice_index_or places (twig_at net k).piece 0 ≡ k)
-
 -- The flags of a net's places say which pieces are ends.
 abbrev pub AreFlags : List Twig → List ℕ → List Bool → Type 0
 AreFlags net ends flags = (k : ℕ) → k < length net → Contains ends (twig_at net k).piece ↔ (slice_index_or flags k false ≡ true)
 
 -- ---- Shorts
-
--- The branch of a point begins at its home.
-abbrev pub BeginsAtHome : List (Option ℕ) → ℕ → ℕ → Type 0
-BeginsAtHome homes probe piece = slice_index_or homes probe None ≡ Some piece
-
--- The mark names the first point of its name on the net.
-abbrev pub IsFirst : ℕ → List PointLine → Mark → Type 0
-IsFirst number lines m = first_on number m.name lines ≡ Some m.probe
 
 -- The point of a mark has a home in the net.
 pub record HasHome (net : List Twig) (homes : List (Option ℕ)) (m : Mark) : Type 0 where
@@ -60,56 +42,3 @@ pub record HasHome (net : List Twig) (homes : List (Option ℕ)) (m : Mark) : Ty
   pub within : m.probe < length homes
   pub home : slice_index_or homes m.probe None ≡ Some piece
   pub inside : Contains (pieces_of net) piece
-
-abbrev pub mark_name : Mark → ℕ
-mark_name m = m.name
-
-abbrev pub branch_name : Branch → ℕ
-branch_name b = b.name
-
--- ---- Seats and marks
-
--- the seats of a name
-abbrev pub seats_at : List (List Seat) → ℕ → List Seat
-seats_at groups name = slice_index_or groups name []
-
--- the marks on a net
-abbrev pub marks_at : List (List Mark) → ℕ → List Mark
-marks_at marks net = slice_index_or marks net []
-
--- One of the seats is on the net.
-abbrev pub has_seat : List Seat → ℕ → Bool
-has_seat seats net = list_any (λ n. n == net) (map net_of seats)
-
--- The pairs of a name and a net are those of the seats.
-abbrev pub AreSeated : List (ℕ × ℕ) → List (List Seat) → Type 0
-AreSeated pairs groups = (name net : ℕ) → list_any (λ p. name == p.0 && net == p.1) pairs ≡ has_seat (seats_at groups name) net
-
--- the seats, and one more where none of them is on its net
-abbrev pub with_seat : List Seat → Seat → List Seat
-with_seat seats s = if has_seat seats s.net then seats else seats ++ s ∷ []
-
--- For each name its first seat on each net, in the order of the points.
-abbrev pub AreFirstSeats : List (List Seat) → List PointLine → Type 0
-AreFirstSeats groups lines = (name : ℕ) → name < length groups → seats_at groups name ≡ fresh [] (seats_from name 0 lines)
-
--- the marks that a seat of a name leaves on a net
-abbrev pub mark_of : ℕ → ℕ → Seat → List Mark
-mark_of name net s = if s.net == net then record { name = name; probe = s.probe } ∷ [] else []
-
-abbrev pub marks_of_seats : ℕ → ℕ → List Seat → List Mark
-marks_of_seats name net [] = []
-marks_of_seats name net (s ∷ rest) = mark_of name net s ++ marks_of_seats name net rest
-
--- the marks on a net of the seats of all names, numbered from n
-abbrev pub marks_from : ℕ → ℕ → List (List Seat) → List Mark
-marks_from net n [] = []
-marks_from net n (seats ∷ rest) = marks_of_seats n net seats ++ marks_from net (n + 1) rest
-
--- The marks on each net are those of the names on it.
-abbrev pub AreNamed : List (List ℕ) → List PointLine → List (List Mark) → Type 0
-AreNamed names lines marks = (net : ℕ) → net < length marks → map mark_name (marks_at marks net) ≡ names_on net 0 names lines
-
--- Each mark on a net names the first point of its name there.
-abbrev pub AreFirst : List PointLine → List (List Mark) → Type 0
-AreFirst lines marks = (net : ℕ) → net < length marks → All (IsFirst net lines) (marks_at marks net)

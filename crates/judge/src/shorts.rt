@@ -1,16 +1,17 @@
 // Nets with points of several names.
 ghost use Rattle.std.specs.Prelude.{◌≡◌, ◌≢◌, ℕ, ◌+◌, ◌<◌, ◌≤◌, ◌^◌, length, map, List, Option, Some, None, [], ◌∷◌, ◌++◌, All, AllPairs, Contains, slice_index_or, slice_get, IfOk, OnOk};
 ghost use Rattle.verdict.specs.Forest.{Holds, net_at, pieces_of, first_piece};
-ghost use Rattle.verdict.specs.Right.{outline, short_of, all_shorts, AreBranches, HasBranches};
+ghost use Rattle.verdict.specs.Right.{outline, short_of, all_shorts, AreBranches, HasBranches, BeginsAtHome};
 ghost use Rattle.verdict.specs.declared.verdict.PointLine.{PointLine};
 ghost use Rattle.verdict.specs.declared.verdict.Twig.{Twig};
-ghost use Rattle.judge.specs.Judged.{AreFirst, AreNamed, twig_at, HangAbove, HasPlaces, BeginsAtHome, IsFirst, HasHome, mark_name, marks_at, branch_name};
+ghost use Rattle.judge.specs.Judged.{HangAbove, HasHome};
+ghost use Rattle.verdict.specs.Places.{HasPlaces};
+ghost use Rattle.verdict.specs.Seats.{AreFirst, AreNamed, IsFirst, mark_name, marks_at, branch_name};
 
-use crate::marks::Mark;
 use crate::ways::{flag_way, way_of};
 use lengths::{NoMemory, Rows};
 use std::alloc::Global;
-use verdict::{Branch, Short, Tree, Twig};
+use verdict::{place_net, Branch, Mark, Short, Tree, Twig};
 
 /// The shorts of all nets, from the names on each net.
 pub fn shorts_of(
@@ -70,17 +71,6 @@ fn push_short(
         branches,
     })?;
     Ok(())
-}
-
-// Writes the place of each piece of a net.
-fn place_net(net: &[Twig], places: &mut [usize])
-    requires inside { (k : ℕ) → k < length net.now → (twig_at net.now k).piece < length places.old }
-    requires once { AllPairs (λ p q. p ≢ q) (pieces_of net.now) }
-    ensures { HasPlaces net.now places.new }
-{
-    for k in 0..net.len() {
-        places[net[k].piece as usize] = k;
-    }
 }
 
 // The branches of a short.

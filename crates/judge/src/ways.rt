@@ -1,8 +1,9 @@
 // Ways from a piece to its parent and on.
-ghost use Rattle.std.specs.Prelude.{◌≡◌, ℕ, ◌+◌, ◌<◌, ◌^◌, length, List, [], ◌∷◌, ◌++◌, Some, true, false, All, Contains, slice_index_or, IfOk};
+ghost use Rattle.std.specs.Prelude.{◌≡◌, ℕ, ◌+◌, ◌<◌, length, List, ◌++◌, Some, true, false, All, Contains, slice_index_or, IfOk};
 ghost use Rattle.verdict.specs.Forest.{pieces_of};
 ghost use Rattle.verdict.specs.Right.{IsWay, BeginsAt};
-ghost use Rattle.judge.specs.Judged.{twig_at, HangAbove, HasPlaces, AreFlags};
+ghost use Rattle.judge.specs.Judged.{HangAbove, AreFlags};
+ghost use Rattle.verdict.specs.Places.{twig_at, HasPlaces};
 
 use lengths::{NoMemory, Rows};
 use std::alloc::Global;

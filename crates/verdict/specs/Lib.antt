@@ -1,3 +1,5 @@
 pub mod ReportText
 pub mod Right
 pub mod Forest
+pub mod Places
+pub mod Seats

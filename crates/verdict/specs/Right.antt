@@ -1,6 +1,6 @@
 -- When a verdict on a board is right. A board is here its tables: for each piece the other pieces that touch it, for
 -- each point the pieces under it, and the points and the names themselves.
-use Rattle.std.specs.Prelude.{◌≡◌, ◌≢◌, ◌⊎◌, ◌↔◌, ℕ, ◌+◌, ◌<◌, ◌≤◌, Bool, false, ◌==◌, ◌&&◌, if◌then◌else◌, List, [], ◌∷◌, ◌++◌, length, map, slice_get, All, Contains, Option, Some, None, MatchOption, codes}
+use Rattle.std.specs.Prelude.{◌≡◌, ◌≢◌, ◌⊎◌, ◌↔◌, ℕ, ◌+◌, ◌<◌, ◌≤◌, Bool, false, ◌==◌, ◌&&◌, if◌then◌else◌, List, [], ◌∷◌, ◌++◌, length, map, slice_get, slice_index_or, All, Contains, Option, Some, None, MatchOption, codes}
 use Rattle.std.specs.List.{list_any}
 use Rattle.std.specs.Cmp.Lexicographic.{pointwise}
 use Rattle.verdict.specs.declared.verdict.Twig.{Twig}
@@ -155,6 +155,10 @@ pub record HasBranches (nets : List (List Twig)) (starts : ℕ → ℕ → Type 
 -- The branch of a point begins at the least piece under it.
 abbrev pub BeginsBeneath : List (List ℕ) → ℕ → ℕ → Type 0
 BeginsBeneath beneath probe piece = IsLeastOf (row_at beneath probe) piece
+
+-- The branch of a point begins at its home.
+abbrev pub BeginsAtHome : List (Option ℕ) → ℕ → ℕ → Type 0
+BeginsAtHome homes probe piece = slice_index_or homes probe None ≡ Some piece
 
 -- ---- The verdict
 

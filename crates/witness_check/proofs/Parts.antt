@@ -16,7 +16,7 @@ use Rattle.verdict.specs.Right.{Clause, bare_from}
 use Rattle.witness_check.specs.Findings.{FindingsFail, FindingsRuled, FindingsSay}
 use Rattle.witness_check.specs.Lines.{AreLinesBy}
 use Rattle.witness_check.proofs.Lines.{home_known, homes_known, lines_named, lines_netted}
-use Rattle.witness_check.proofs.Rulings.{AreNetted, ArePointed}
+use Rattle.witness_check.proofs.Clauses.{AreNetted, ArePointed}
 use Rattle.witness_check.proofs.Touching.{long_as}
 use Rattle.witness_check.proofs.Trees.{nets_few}
 use Rattle.witness_check.proofs.Told.{denied, told}

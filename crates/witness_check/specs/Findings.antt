@@ -1,11 +1,7 @@
 -- the clauses on opens, shorts and branches, where each point's branch begins at its home
-use Rattle.std.specs.Prelude.{◌≡◌, ℕ, ◌<◌, List, map, slice_index_or, All, Option, Some, None}
+use Rattle.std.specs.Prelude.{◌≡◌, ℕ, ◌<◌, List, map, All, Option, Some, None}
 use Rattle.verdict.specs.declared.verdict.Verdict.{Verdict}
-use Rattle.verdict.specs.Right.{Clause, Opens, Shorts, Branches, HasBranches, all_opens, all_shorts, number_of, outline}
-
--- The branch of a point begins at its home.
-abbrev pub BeginsAtHome : List (Option ℕ) → ℕ → ℕ → Type 0
-BeginsAtHome homes probe piece = slice_index_or homes probe None ≡ Some piece
+use Rattle.verdict.specs.Right.{Clause, Opens, Shorts, Branches, HasBranches, BeginsAtHome, all_opens, all_shorts, number_of, outline}
 
 -- What a clause on opens, shorts or branches says; the others say nothing here.
 abbrev pub FindingsSay : List (List ℕ) → List (Option ℕ) → Verdict → Clause → Type 0

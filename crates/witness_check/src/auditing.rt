@@ -9,7 +9,6 @@ use crate::counts::counts_hold;
 use crate::findings::findings_ruling;
 use crate::least::least_under;
 use crate::nets::{are_trees, stand_apart, stand_once};
-use crate::numbers::numbers_of;
 use crate::points::{bare_holds, points_hold};
 use board_shapes::{Board, laws as shapes};
 use lengths::NoMemory;
@@ -17,7 +16,7 @@ use std::alloc::Global;
 use std::marker::Brand;
 use std::sync::ledger::{Blank, Ledger};
 use steps::Steps;
-use verdict::Verdict;
+use verdict::{Verdict, numbers_of};
 
 /// What an audit says.
 #[derive(Clone, Copy, Debug, PartialEq, Eq)]

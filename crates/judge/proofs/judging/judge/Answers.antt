@@ -1,4 +1,4 @@
-use Rattle.std.proofs.Common.{◌≡◌, ℕ, ◌<◌, List, Option, All, IfSome, arith, refl, sym, ap, ◌∙◌, subst, length, get_or}
+use Rattle.std.proofs.Common.{◌≡◌, ℕ, ◌<◌, List, Option, All, IfSome, arith, sym, ap, ◌∙◌, subst, length, get_or}
 use Rattle.std.proofs.lemmas.List.Elements.{All-weaker}
 use Rattle.board_shapes.specs.Lawful.{IsProbe}
 use Rattle.board_shapes.specs.Plain.{PlainBoard, plain_board}
@@ -8,14 +8,15 @@ use Rattle.verdict.specs.declared.verdict.Seat.{Seat}
 use Rattle.verdict.specs.declared.verdict.Twig.{Twig}
 use Rattle.verdict.specs.declared.verdict.PointLine.{PointLine}
 use Rattle.verdict.specs.Forest.{IsForest, Holds, IsTree, net_at}
-use Rattle.verdict.specs.Right.{bare_from, all_opens, all_shorts, HasBranches}
-use Rattle.judge.specs.declared.marks.Mark.{Mark}
-use Rattle.judge.specs.Judged.{AreFirst, AreFirstSeats, AreNamed, HasHome, lines_by, HangAbove, IsFirst, BeginsAtHome, marks_at, marks_from, seats_at}
-use Rattle.judge.proofs.Along.{tree_hangs, tree_some}
-use Rattle.judge.proofs.Marking.{table_first, table_named}
+use Rattle.verdict.specs.Right.{bare_from, all_opens, all_shorts, HasBranches, BeginsAtHome}
+use Rattle.verdict.specs.declared.marks.Mark.{Mark}
+use Rattle.judge.specs.Judged.{HasHome, lines_by, HangAbove}
+use Rattle.judge.proofs.Along.{tree_hangs}
+use Rattle.verdict.proofs.Marking.{table_first, table_named}
 use Rattle.judge.proofs.Rights.{homes_held, homes_known, judged_right, lines_count, lines_named, lines_netted, nets_short, pieces_long, pieces_within}
-use Rattle.judge.proofs.Seating.{seats_netted}
+use Rattle.verdict.proofs.Seating.{seats_netted}
 use Rattle.judge.proofs.judging.judge.Goals as goal
+use Rattle.verdict.specs.Seats.{AreFirst, AreFirstSeats, AreNamed, IsFirst, marks_at, marks_from}
 
 pub numbers_of-requires-clause-few : goal.numbers_of-requires-clause-few
 numbers_of-requires-clause-few c = nets_short (plain_board c.args.board.now) c.pieces-pieces.result.now c.as_slice-nets.result.now c.args.trees c.pieces-pieces.ensures.plain c.pieces-pieces.ensures.few c.as_slice-nets.ensures c.requires.trees

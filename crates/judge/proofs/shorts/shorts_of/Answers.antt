@@ -1,12 +1,13 @@
-use Rattle.std.proofs.Common.{◌≡◌, ℕ, ◌+◌, [], List, All, Contains, Some, arith, length, refl, sym, ap, ◌∙◌, subst}
+use Rattle.std.proofs.Common.{◌≡◌, ◌+◌, [], List, All, Contains, arith, sym, ◌∙◌, subst}
 use Rattle.std.proofs.lemmas.List.{get_or_read}
 use Rattle.verdict.specs.declared.verdict.Twig.{Twig}
 use Rattle.verdict.specs.Forest.{pieces_of, net_at}
-use Rattle.judge.specs.declared.marks.Mark.{Mark}
-use Rattle.judge.specs.Judged.{HasHome, marks_at}
+use Rattle.verdict.specs.declared.marks.Mark.{Mark}
+use Rattle.judge.specs.Judged.{HasHome}
 use Rattle.judge.proofs.Branches.{shorted_all, shorted_more, shorted_skip}
 use Rattle.judge.proofs.shorts.shorts_of.Goals.{then-names-gt1+in_ok-push_short, else-names-gt1}
 use Rattle.judge.proofs.shorts.shorts_of.Goals as goal
+use Rattle.verdict.specs.Seats.{marks_at}
 
 pub push_short-requires-clause-known : goal.push_short-requires-clause-known
 push_short-requires-clause-known c = λ p h.

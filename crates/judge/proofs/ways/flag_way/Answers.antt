@@ -3,8 +3,9 @@ use Rattle.std.proofs.lemmas.List.{take_all, take_more}
 use Rattle.std.proofs.lemmas.List.Elements.{All-get_or}
 use Rattle.verdict.specs.Forest.{pieces_of}
 use Rattle.judge.specs.Judged.{AreFlags}
-use Rattle.judge.proofs.Paths.{AreFlagged, placed, flagged_more}
+use Rattle.judge.proofs.Paths.{AreFlagged, flagged_more}
 use Rattle.judge.proofs.ways.flag_way.Goals as goal
+use Rattle.verdict.proofs.Placing.{placed}
 
 pub bounds-places-piece : goal.bounds-places-piece
 bounds-places-piece c = (placed c.args.net.now c.args.places.now _ c.requires.places (All-get_or (λ piece. Contains (pieces_of c.args.net.now) piece) c.args.pieces.now c.loop-piece.piece-index 0 (omega arith) c.requires.inside)).1

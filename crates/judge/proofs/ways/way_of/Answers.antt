@@ -1,7 +1,8 @@
 use Rattle.std.proofs.Common.{ℕ, List, Contains, All, subst, sym}
 use Rattle.verdict.specs.Forest.{pieces_of}
-use Rattle.judge.proofs.Paths.{placed, up_start, up_more, up_done, up_inside}
+use Rattle.judge.proofs.Paths.{up_start, up_more, up_done, up_inside}
 use Rattle.judge.proofs.ways.way_of.Goals as goal
+use Rattle.verdict.proofs.Placing.{placed}
 
 pub bounds-places-start : goal.bounds-places-start
 bounds-places-start c = (placed c.args.net.now c.args.places.now c.args.start c.requires.places c.requires.start).1

@@ -1,6 +1,0 @@
-use Rattle.judge.specs.Judged.{AreSeated}
-use Rattle.judge.proofs.Seating.{AreSeatedTo}
-use Rattle.judge.proofs.seats.seat_points.Given as goal
-
-abbrev pub invariant-loop-i : goal.invariant-loop-i
-invariant-loop-i l = AreSeated l.pairs.keys l.groups × AreSeatedTo l.lines l.i l.groups

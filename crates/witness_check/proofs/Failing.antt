@@ -1,0 +1,99 @@
+-- The ruling on opens, shorts and branches.
+use Rattle.std.proofs.Common.{◌≡◌, ◌↔◌, ℕ, ◌<◌, List, length, map, All, Option, refl, sym, ap, subst, ◌∙◌, arith}
+use Rattle.verdict.specs.declared.verdict.PointLine.{PointLine}
+use Rattle.verdict.specs.declared.verdict.Seat.{Seat}
+use Rattle.verdict.specs.declared.verdict.Short.{Short}
+use Rattle.verdict.specs.declared.verdict.Twig.{Twig}
+use Rattle.verdict.specs.declared.verdict.Verdict.{Verdict}
+use Rattle.verdict.specs.declared.marks.Mark.{Mark}
+use Rattle.verdict.specs.Right.{Clause, Trees, Covers, Apart, Points, Opens, Shorts, Branches, Bare, Counts, BeginsAtHome, HasBranches, all_shorts, number_of, outline}
+use Rattle.verdict.specs.Seats.{AreFirst, AreFirstSeats, AreNamed, marks_at, marks_from}
+use Rattle.verdict.proofs.Marking.{table_first, table_named}
+use Rattle.witness_check.specs.Findings.{FindingsFail, FindingsSay}
+use Rattle.witness_check.specs.Marked.{outlines_from}
+use Rattle.witness_check.proofs.Naming.{outlines_named}
+
+-- ---- The first clause that fails
+
+before_opens : (names : List (List ℕ)) (homes : List (Option ℕ)) (v : Verdict) (earlier : Clause) → number_of earlier < 5 → FindingsSay names homes v earlier
+before_opens names homes v Trees low = tt
+before_opens names homes v Covers low = tt
+before_opens names homes v Apart low = tt
+before_opens names homes v Points low = tt
+before_opens names homes v Opens low = absurd (omega arith)
+before_opens names homes v Shorts low = absurd (omega arith)
+before_opens names homes v Branches low = absurd (omega arith)
+before_opens names homes v Bare low = tt
+before_opens names homes v Counts low = tt
+
+pub fails_opens : (names : List (List ℕ)) (homes : List (Option ℕ)) (v : Verdict) → (FindingsSay names homes v Opens → ⊥) → FindingsFail names homes v 5
+fails_opens names homes v not = record { clause = Opens; number = refl; fails = not; before = before_opens names homes v }
+
+before_shorts : (names : List (List ℕ)) (homes : List (Option ℕ)) (v : Verdict) → FindingsSay names homes v Opens → (earlier : Clause) → number_of earlier < 6 → FindingsSay names homes v earlier
+before_shorts names homes v opens Trees low = tt
+before_shorts names homes v opens Covers low = tt
+before_shorts names homes v opens Apart low = tt
+before_shorts names homes v opens Points low = tt
+before_shorts names homes v opens Opens low = opens
+before_shorts names homes v opens Shorts low = absurd (omega arith)
+before_shorts names homes v opens Branches low = absurd (omega arith)
+before_shorts names homes v opens Bare low = tt
+before_shorts names homes v opens Counts low = tt
+
+pub fails_shorts : (names : List (List ℕ)) (homes : List (Option ℕ)) (v : Verdict) → FindingsSay names homes v Opens → (FindingsSay names homes v Shorts → ⊥) → FindingsFail names homes v 6
+fails_shorts names homes v opens not = record { clause = Shorts; number = refl; fails = not; before = before_shorts names homes v opens }
+
+before_branches : (names : List (List ℕ)) (homes : List (Option ℕ)) (v : Verdict) → FindingsSay names homes v Opens → FindingsSay names homes v Shorts → (earlier : Clause) → number_of earlier < 7 → FindingsSay names homes v earlier
+before_branches names homes v opens shorts Trees low = tt
+before_branches names homes v opens shorts Covers low = tt
+before_branches names homes v opens shorts Apart low = tt
+before_branches names homes v opens shorts Points low = tt
+before_branches names homes v opens shorts Opens low = opens
+before_branches names homes v opens shorts Shorts low = shorts
+before_branches names homes v opens shorts Branches low = absurd (omega arith)
+before_branches names homes v opens shorts Bare low = tt
+before_branches names homes v opens shorts Counts low = tt
+
+pub fails_branches : (names : List (List ℕ)) (homes : List (Option ℕ)) (v : Verdict) → FindingsSay names homes v Opens → FindingsSay names homes v Shorts → (FindingsSay names homes v Branches → ⊥) → FindingsFail names homes v 7
+fails_branches names homes v opens shorts not = record { clause = Branches; number = refl; fails = not; before = before_branches names homes v opens shorts }
+
+pub all_say : (names : List (List ℕ)) (homes : List (Option ℕ)) (v : Verdict) → FindingsSay names homes v Opens → FindingsSay names homes v Shorts → FindingsSay names homes v Branches → (clause : Clause) → FindingsSay names homes v clause
+all_say names homes v opens shorts branches Trees = tt
+all_say names homes v opens shorts branches Covers = tt
+all_say names homes v opens shorts branches Apart = tt
+all_say names homes v opens shorts branches Points = tt
+all_say names homes v opens shorts branches Opens = opens
+all_say names homes v opens shorts branches Shorts = shorts
+all_say names homes v opens shorts branches Branches = branches
+all_say names homes v opens shorts branches Bare = tt
+all_say names homes v opens shorts branches Counts = tt
+
+-- ---- What the tests tell of the verdict
+
+-- The rows of a table are the marks on the verdict's nets.
+pub record HasRows (names : List (List ℕ)) (v : Verdict) (table : List (List Mark)) : Type 0 where
+  pub long : length table ≡ length v.nets
+  pub named : AreNamed names v.points table
+  pub first : AreFirst v.points table
+
+pub rows_made : (names : List (List ℕ)) (v : Verdict) (nets : List (List Twig)) (lines : List PointLine) (groups : List (List Seat)) (items table : List (List Mark)) → nets ≡ v.nets → lines ≡ v.points → length groups ≡ length names → AreFirstSeats groups lines
+    → length items ≡ length nets → ((net : ℕ) → net < length nets → marks_at items net ≡ marks_from net 0 groups) → table ≡ items → HasRows names v table
+rows_made names v nets lines groups items table has points grouped firsts long filled same =
+    let many : length table ≡ length nets = ap length same ∙ long in
+    let made : (net : ℕ) → net < length nets → marks_at table net ≡ marks_from net 0 groups = λ net below. ap (λ (xs : List (List Mark)). marks_at xs net) same ∙ filled net below in
+    record {
+      long = many ∙ ap length has;
+      named = subst (λ (ls : List PointLine). AreNamed names ls table) points (table_named (length nets) table groups names lines many made grouped firsts);
+      first = subst (λ (ls : List PointLine). AreFirst ls table) points (table_first (length nets) table groups lines many made firsts);
+    }
+
+pub shorts_said : (names : List (List ℕ)) (homes : List (Option ℕ)) (v : Verdict) (table : List (List Mark)) (shorts : List Short) → shorts ≡ v.shorts → HasRows names v table → (map outline shorts ≡ outlines_from 0 table) ↔ FindingsSay names homes v Shorts
+shorts_said names homes v table shorts same rows =
+    let right : outlines_from 0 table ≡ all_shorts 0 v.nets names v.points = outlines_named table v.nets names v.points rows.long rows.named in
+    ((λ e. sym (ap (map outline) same) ∙ (e ∙ right)), λ says. ap (map outline) same ∙ (says ∙ sym right))
+
+pub branches_said : (names : List (List ℕ)) (homes : List (Option ℕ)) (v : Verdict) (nets : List (List Twig)) (shorts : List Short) → nets ≡ v.nets → shorts ≡ v.shorts → All (HasBranches nets (BeginsAtHome homes) v.points) shorts ↔ FindingsSay names homes v Branches
+branches_said names homes v nets shorts has same = (
+  (λ all. subst (λ (ns : List (List Twig)). All (HasBranches ns (BeginsAtHome homes) v.points) v.shorts) has (subst (All (HasBranches nets (BeginsAtHome homes) v.points)) same all)),
+  λ says. subst (All (HasBranches nets (BeginsAtHome homes) v.points)) (sym same) (subst (λ (ns : List (List Twig)). All (HasBranches ns (BeginsAtHome homes) v.points) v.shorts) (sym has) says),
+)
