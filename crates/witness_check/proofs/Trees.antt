@@ -1,6 +1,6 @@
 -- Trees tested twig by twig, net by net.
 use Rattle.std.proofs.Common.{◌≡◌, ◌≢◌, ◌⊎◌, inl, inr, ℕ, zero, suc, ◌+◌, ◌<◌, ◌≤◌, List, [], ◌∷◌, ◌++◌, length, get_or, set, take, drop, Contains, All, AllPairs, None, refl, sym, ap, subst, ◌∙◌, append_assoc, append-nil, arith}
-use Rattle.std.proofs.lemmas.List.{length-set, map-append, get_or-set_same, get_or-set_other, get_or_default, get_or-map, get_or_past, length-map, take_all, take_more, take-append-drop}
+use Rattle.std.proofs.lemmas.List.{length-set, map-append, get_or-set_same, get_or-set_other, get_or_default, get_or-map, length-map, take_all, take_more, take-append-drop}
 use Rattle.std.proofs.lemmas.List.Elements.{All-push, All-get_or, All-from_get_or, Contains-push, Contains-push_cases, Contains-append_left, Contains-get_or}
 use Rattle.std.proofs.lemmas.Bool.{cases_eq}
 use Rattle.verdict.specs.declared.verdict.Twig.{Twig}
@@ -170,20 +170,6 @@ judged_all count near nets i floor stamps a all within = record {
 
 pub tree_at : (count : ℕ) (near : ℕ → ℕ → Type 0) (nets : List (List Twig)) (i : ℕ) → AreTrees count near nets → i < length nets → IsKnownTree count near (net_at nets i)
 tree_at count near nets i t below = record { known = λ p h. t.known i p h; tree = All-get_or (IsTree near) nets i [] below t.trees }
-
-none_inside : (p : ℕ) → Contains [] p → ⊥
-none_inside p (k, below, same) = omega arith
-
-le_or_lt : (m n : ℕ) → (m ≤ n) ⊎ (n < m)
-le_or_lt zero n = inl (omega arith)
-le_or_lt (suc m) zero = inr (omega arith)
-le_or_lt (suc m) (suc n) = elim (le_or_lt m n) [ inl l ↦ inl (omega arith) | inr l ↦ inr (omega arith) ]
-
-pub held_within : (nets : List (List Twig)) (i p : ℕ) → Holds nets i p → i < length nets
-held_within nets i p inside = elim (le_or_lt (length nets) i) [
-  | inl past ↦ absurd (none_inside p (subst (λ (net : List Twig). Contains (pieces_of net) p) (get_or_past nets i [] past) inside))
-  | inr within ↦ within
-]
 
 nets_rise : (nets : List (List Twig)) → AllPairs (λ net later. first_piece net < first_piece later) nets → (i : ℕ) → i < length nets → i ≤ first_piece (net_at nets i)
 nets_rise nets rising zero below = omega arith
