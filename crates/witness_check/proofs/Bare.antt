@@ -1,7 +1,7 @@
 -- The points without a net, found one after another.
-use Rattle.std.proofs.Common.{◌≡◌, ℕ, zero, suc, Bool, true, false, not, ◌+◌, ◌<◌, ◌≤◌, List, [], ◌∷◌, ◌++◌, length, get_or, take, drop, Option, Some, None, slice_get, refl, sym, ap, ◌∙◌, append_assoc, append-nil, arith, length-append}
-use Rattle.std.proofs.lemmas.List.{drop_more, take_more, take-append-drop, append_cancel_left, take_all, length-take-le}
-use Rattle.std.proofs.lemmas.Option.{slice_get-get_or, get_or_from_slice_get, slice_get_within}
+use Rattle.std.proofs.Common.{◌≡◌, ℕ, zero, suc, Bool, true, false, not, ◌+◌, ◌<◌, ◌≤◌, List, [], ◌∷◌, ◌++◌, length, get_or, take, drop, Option, Some, None, slice_get, refl, sym, ap, ◌∙◌, append_assoc, arith}
+use Rattle.std.proofs.lemmas.List.{drop_more, take_more, take-append-drop, append_cancel_left}
+use Rattle.std.proofs.lemmas.Option.{get_or_from_slice_get, slice_get_within}
 use Rattle.std.specs.Option.{is_some}
 use Rattle.verdict.specs.declared.verdict.PointLine.{PointLine}
 use Rattle.verdict.specs.Right.{bare_from}
@@ -27,9 +27,6 @@ pub record IsBareTo (bare : List ℕ) (lines : List PointLine) (at i : ℕ) : Ty
   pub within : at ≤ length bare
   pub few : at ≤ i
   pub same : bare_from 0 lines ≡ take at bare ++ bare_from i (drop i lines)
-
-pub bare_start : (bare : List ℕ) (lines : List PointLine) → IsBareTo bare lines 0 0
-bare_start bare lines = record { within = omega arith; few = omega arith; same = refl }
 
 rest_none : (lines : List PointLine) (i : ℕ) (d : PointLine) → i < length lines → (get_or lines i d).net ≡ None → bare_from i (drop i lines) ≡ i ∷ bare_from (i + 1) (drop (i + 1) lines)
 rest_none lines i d below none = ap (bare_from i) (drop_more lines i d below) ∙ opened_none i (get_or lines i d) (drop (i + 1) lines) none
@@ -67,23 +64,3 @@ pub bare_stops : (bare : List ℕ) (lines : List PointLine) (at i : ℕ) (d : Po
 bare_stops bare lines at i d b below none not whole =
     let rest : drop at bare ≡ bare_from i (drop i lines) = append_cancel_left (take at bare) (drop at bare) (bare_from i (drop i lines)) (take-append-drop at bare ∙ (whole ∙ b.same)) in
     not (dropped bare at i (bare_from (i + 1) (drop (i + 1) lines)) (rest ∙ rest_none lines i d below none))
-
-drop_past : (lines : List PointLine) (i : ℕ) → length lines ≤ i → drop i lines ≡ []
-drop_past [] i h = drop_none i where
-  drop_none : (k : ℕ) → drop {A = PointLine} k [] ≡ []
-  drop_none zero = refl
-  drop_none (suc k) = refl
-drop_past (x ∷ xs) zero h = absurd (omega arith)
-drop_past (x ∷ xs) (suc i) h = drop_past xs i (omega arith)
-
-bare_end : (bare : List ℕ) (lines : List PointLine) (at i : ℕ) → IsBareTo bare lines at i → length lines ≤ i → bare_from 0 lines ≡ take at bare
-bare_end bare lines at i b all = b.same ∙ (ap (λ (ls : List PointLine). take at bare ++ bare_from i ls) (drop_past lines i all) ∙ append-nil (take at bare))
-
-pub bare_done : (bare : List ℕ) (lines : List PointLine) (at i : ℕ) → IsBareTo bare lines at i → length lines ≤ i → at ≡ length bare → bare ≡ bare_from 0 lines
-bare_done bare lines at i b all same = sym (bare_end bare lines at i b all ∙ take_all at bare (omega arith))
-
-pub bare_short : (bare : List ℕ) (lines : List PointLine) (at i : ℕ) → IsBareTo bare lines at i → length lines ≤ i → bare ≡ bare_from 0 lines → at ≡ length bare
-bare_short bare lines at i b all whole =
-    let long = length-take-le at bare b.within in
-    let e : length bare ≡ length (take at bare) = ap (λ (xs : List ℕ). length xs) (whole ∙ bare_end bare lines at i b all) in
-    omega arith

@@ -1,6 +1,5 @@
 -- The lines of points by homes and by tables.
-use Rattle.std.proofs.Common.{◌≡◌, ◌⊎◌, inl, inr, ℕ, zero, suc, ◌+◌, ◌<◌, ◌≤◌, ◌^◌, Bool, true, false, if◌then◌else◌, List, [], ◌∷◌, ◌++◌, length, map, get_or, Contains, All, Option, Some, None, MatchOption, IfSome, slice_get, refl, sym, ap, subst, ◌∙◌, arith}
-use Rattle.std.proofs.lemmas.List.{get_or_past}
+use Rattle.std.proofs.Common.{◌≡◌, ◌⊎◌, inl, inr, ℕ, zero, suc, ◌+◌, ◌<◌, Bool, true, false, if◌then◌else◌, List, [], ◌∷◌, ◌++◌, length, map, get_or, Contains, All, Option, Some, None, MatchOption, IfSome, refl, sym, ap, subst, ◌∙◌, arith}
 use Rattle.std.proofs.lemmas.List.Elements.{All-from_get_or, All-weaker}
 use Rattle.std.proofs.lemmas.Option.{slice_get_cases, slice_get_within, slice_get-get_or}
 use Rattle.board_shapes.specs.Lawful.{IsProbe}
@@ -15,9 +14,9 @@ use Rattle.verdict.specs.declared.verdict.Branch.{Branch}
 use Rattle.verdict.specs.declared.verdict.PointLine.{PointLine}
 use Rattle.verdict.specs.declared.verdict.Short.{Short}
 use Rattle.verdict.specs.Forest.{IsForest, Holds, first_piece}
-use Rattle.verdict.specs.Right.{AreBranches, AreLines, BeginsAt, BeginsBeneath, HasBranches, IsLeastOf, IsLineOf, first_from, first_on, marks, BeginsAtHome}
+use Rattle.verdict.specs.Right.{AreBranches, AreLines, BeginsAt, BeginsAtHome, BeginsBeneath, HasBranches, IsLeastOf, first_from, marks}
+use Rattle.verdict.proofs.Numbering.{held_within}
 use Rattle.witness_check.specs.Lines.{AreLinesBy, IsLineAt, IsLineBy, net_by}
-use Rattle.witness_check.proofs.Trees.{held_within}
 
 -- ---- One line
 

@@ -1,6 +1,6 @@
 -- Pieces that stand once.
-use Rattle.std.proofs.Common.{◌≡◌, ◌≢◌, ◌⊎◌, ◌↔◌, inl, inr, ℕ, zero, suc, ◌+◌, ◌<◌, ◌≤◌, Bool, true, false, List, [], length, get_or, set, replicate, Contains, AllPairs, refl, sym, ap, subst, ◌∙◌, arith}
-use Rattle.std.proofs.lemmas.List.{length-set, get_or-set_same, get_or-set_other, get_or_default, length-map, length-replicate}
+use Rattle.std.proofs.Common.{◌≡◌, ◌≢◌, ◌⊎◌, ◌↔◌, inl, inr, ℕ, ◌+◌, ◌<◌, ◌≤◌, Bool, true, false, List, [], length, get_or, set, Contains, AllPairs, sym, ap, subst, ◌∙◌, arith}
+use Rattle.std.proofs.lemmas.List.{length-set, get_or-set_same, get_or-set_other, get_or_default, length-map}
 use Rattle.std.proofs.lemmas.List.Elements.{All-get_or, All-from_get_or, Contains-get_or}
 use Rattle.std.proofs.lemmas.Bool.{cases_eq}
 use Rattle.verdict.specs.declared.verdict.Twig.{Twig}
@@ -18,9 +18,6 @@ pub record IsMarking (net : List Twig) (old : List Bool) (i : ℕ) (seen : List 
   pub kept : (p : ℕ) → get_or old p false ≡ true → get_or seen p false ≡ true
   pub marked : (k : ℕ) → k < i → get_or seen (at_place net k) false ≡ true
   pub only : (p : ℕ) → get_or seen p false ≡ true → (get_or old p false ≡ true) ⊎ ((k : ℕ) × (k < i) × (at_place net k ≡ p))
-
-pub marking_start : (net : List Twig) (old : List Bool) → IsMarking net old 0 old
-marking_start net old = record { long = refl; differ = λ k l h b. absurd (omega arith); fresh = λ k h. absurd (omega arith); kept = λ p h. h; marked = λ k h. absurd (omega arith); only = λ p h. inl h }
 
 set_true : (seen : List Bool) (q p : ℕ) → q < length seen → get_or seen p false ≡ true → get_or (set seen q true) p false ≡ true
 set_true seen q p below was = elim (cases_eq p q) [
@@ -83,20 +80,6 @@ pub record AreMarked (nets : List (List Twig)) (count i : ℕ) (seen : List Bool
   pub only : (p : ℕ) → get_or seen p false ≡ true → (k : ℕ) × (k < i) × Holds nets k p
   pub apart : (k l p : ℕ) → k < i → l < i → Holds nets k p → Holds nets l p → k ≡ l
   pub differ : (k : ℕ) → k < i → AllPairs (λ p q. p ≢ q) (pieces_of (net_at nets k))
-
-marked_off : (n p : ℕ) → get_or (replicate n false) p false ≡ true → ⊥
-marked_off zero p on = cc
-marked_off (suc n) zero on = cc
-marked_off (suc n) (suc p) on = marked_off n p on
-
-pub marked_start : (nets : List (List Twig)) (count : ℕ) → AreMarked nets count 0 (replicate count false)
-marked_start nets count = record {
-  long = length-replicate count false;
-  marked = λ k p h. absurd (omega arith);
-  only = λ p on. absurd (marked_off count p on);
-  apart = λ k l p h. absurd (omega arith);
-  differ = λ k h. absurd (omega arith);
-}
 
 pub marked_more : (nets : List (List Twig)) (count i : ℕ) (old seen : List Bool) → AreMarked nets count i old → length seen ≡ length old → IsNew (net_at nets i) old → ((p : ℕ) → (get_or seen p false ≡ true) ↔ ((get_or old p false ≡ true) ⊎ Contains (pieces_of (net_at nets i)) p)) → AreMarked nets count (i + 1) seen
 marked_more nets count i old seen m long (differ, fresh) marks = record {

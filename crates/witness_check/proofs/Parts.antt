@@ -1,5 +1,5 @@
 -- What the tests have told, said of the board and the verdict and not of their slices.
-use Rattle.std.proofs.Common.{◌≡◌, ◌↔◌, IsTrue, ℕ, ◌<◌, ◌≤◌, ◌^◌, Bool, true, false, List, length, get_or, All, Option, Some, None, IfSome, sym, ap, subst, ◌∙◌, arith, refl}
+use Rattle.std.proofs.Common.{◌≡◌, ◌↔◌, IsTrue, ℕ, ◌<◌, ◌^◌, Bool, true, false, List, length, get_or, All, Option, Some, None, IfSome, sym, ap, subst, ◌∙◌, arith, refl}
 use Rattle.board_shapes.specs.Lawful.{IsProbe}
 use Rattle.board_shapes.specs.Plain.{PlainBoard, plain_pieces}
 use Rattle.board_shapes.specs.Tables.{IsNear}
@@ -16,9 +16,10 @@ use Rattle.verdict.specs.Right.{Clause, bare_from}
 use Rattle.witness_check.specs.Findings.{FindingsFail, FindingsRuled, FindingsSay}
 use Rattle.witness_check.specs.Lines.{AreLinesBy}
 use Rattle.witness_check.proofs.Lines.{home_known, homes_known, lines_named, lines_netted}
-use Rattle.witness_check.proofs.Rulings.{AreNetted, ArePointed}
+use Rattle.witness_check.proofs.Clauses.{AreNetted, ArePointed}
 use Rattle.witness_check.proofs.Touching.{long_as}
-use Rattle.witness_check.proofs.Trees.{denied, nets_few, told}
+use Rattle.witness_check.proofs.Trees.{nets_few}
+use Rattle.witness_check.proofs.Told.{denied, told}
 
 pub trees_told : (b : PlainBoard) (nets own : List (List Twig)) (test : Bool) → nets ≡ own → IsTrue test ↔ AreTrees (length b.pieces) (IsNear b) nets → test ≡ true → AreTrees (length b.pieces) (IsNear b) own
 trees_told b nets own test same tells e = subst (λ (n : List (List Twig)). AreTrees (length b.pieces) (IsNear b) n) same (told test (AreTrees (length b.pieces) (IsNear b) nets) tells e)

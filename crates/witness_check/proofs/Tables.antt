@@ -1,5 +1,5 @@
 -- What a board's tables say, by the pieces that touch and the pieces under its probes.
-use Rattle.std.proofs.Common.{◌≡◌, ◌≢◌, ◌⊎◌, inl, inr, ℕ, ◌<◌, List, [], ◌∷◌, ◌++◌, length, All, AllPairs, Contains, sym, subst, arith}
+use Rattle.std.proofs.Common.{◌≡◌, ◌⊎◌, inl, inr, ℕ, List, [], ◌∷◌, ◌++◌, length, sym, subst, arith}
 use Rattle.std.proofs.lemmas.Bool.{cases_eq}
 use Rattle.std.proofs.lemmas.List.Elements.{All-weaker}
 use Rattle.std.proofs.lemmas.Option.{slice_get_within}
@@ -10,7 +10,7 @@ use Rattle.board_shapes.specs.Touching.{UnderAt}
 use Rattle.tables.proofs.Listing.{stands_as, stands_where}
 use Rattle.tables.specs.Tables.{Tables, Stands}
 use Rattle.verdict.specs.declared.verdict.Twig.{Twig}
-use Rattle.verdict.specs.Forest.{AreTrees, Hang, Holds, IsTree, StandApart, StandOnce, first_piece}
+use Rattle.verdict.specs.Forest.{AreTrees, Hang, IsTree, StandApart, StandOnce}
 
 pub near_as : (b : PlainBoard) (t : Tables) → IsTables b t → (p q : ℕ) → Stands t.near p q → IsNear b p q
 near_as b t is p q s = stands_as (length b.pieces) (IsNear b) t.near is.near p q s

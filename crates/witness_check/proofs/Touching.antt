@@ -1,13 +1,12 @@
 -- Pieces of a board that touch, and pieces under its probes.
-use Rattle.std.proofs.Common.{◌≡◌, ◌≢◌, ◌↔◌, ℕ, ◌<◌, IsTrue, Bool, List, Some, length, get_or, slice_get, sym, ap, subst, ◌∙◌, arith}
+use Rattle.std.proofs.Common.{◌≡◌, ◌↔◌, ℕ, ◌<◌, IsTrue, Bool, List, Some, length, get_or, slice_get, sym, ap, subst, ◌∙◌, arith}
 use Rattle.std.proofs.lemmas.List.{length-map}
 use Rattle.std.proofs.lemmas.Option.{slice_get-get_or, slice_get-map}
 use Rattle.std.specs.Option.{option_map}
-use Rattle.board_shapes.specs.Figures.{InFigure}
 use Rattle.board_shapes.specs.Plain.{PlainBoard, PlainPiece, plain_piece, plain_pieces}
-use Rattle.board_shapes.specs.Spans.{CommonLayer, InSpan}
+use Rattle.board_shapes.specs.Spans.{CommonLayer}
 use Rattle.board_shapes.specs.Tables.{IsNear}
-use Rattle.board_shapes.specs.Touching.{IsUnder, Touch, TouchAt, UnderAt}
+use Rattle.board_shapes.specs.Touching.{IsUnder, Touch, UnderAt}
 use Rattle.board_shapes.specs.declared.placed.Placed.{Placed}
 use Rattle.board_shapes.specs.declared.probe.Probe.{Probe}
 use Rattle.board_shapes.specs.declared.shape.Shape.{Shape}

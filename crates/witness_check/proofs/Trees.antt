@@ -1,17 +1,11 @@
 -- Trees tested twig by twig, net by net.
-use Rattle.std.proofs.Common.{◌≡◌, ◌≢◌, ◌⊎◌, inl, inr, ℕ, zero, suc, ◌+◌, ◌<◌, ◌≤◌, Bool, true, false, IsTrue, List, [], ◌∷◌, ◌++◌, length, get_or, set, take, drop, Contains, All, AllPairs, None, refl, sym, ap, subst, ◌∙◌, append_assoc, append-nil, arith}
-use Rattle.std.proofs.lemmas.List.{length-set, map-append, get_or-set_same, get_or-set_other, get_or_default, get_or-map, get_or_past, length-map, take_all, take_more, take-append-drop}
+use Rattle.std.proofs.Common.{◌≡◌, ◌≢◌, ◌⊎◌, inl, inr, ℕ, zero, suc, ◌+◌, ◌<◌, ◌≤◌, List, [], ◌∷◌, ◌++◌, length, get_or, set, take, drop, Contains, All, AllPairs, None, refl, sym, ap, subst, ◌∙◌, append_assoc, append-nil, arith}
+use Rattle.std.proofs.lemmas.List.{length-set, map-append, get_or-set_same, get_or-set_other, get_or_default, get_or-map, length-map, take_all, take_more, take-append-drop}
 use Rattle.std.proofs.lemmas.List.Elements.{All-push, All-get_or, All-from_get_or, Contains-push, Contains-push_cases, Contains-append_left, Contains-get_or}
 use Rattle.std.proofs.lemmas.Bool.{cases_eq}
 use Rattle.verdict.specs.declared.verdict.Twig.{Twig}
 use Rattle.verdict.specs.Forest.{IsTree, Hang, HangsOn, AreTrees, Holds, net_at, pieces_of, piece_of, first_piece}
 use Rattle.witness_check.specs.Nets.{IsKnownTree, HangsByStamp}
-
-pub no_true : IsTrue false → ⊥
-no_true t = cc
-
-pub refuted : (X : Type 0) → (X → ⊥) → (IsTrue false → X) × (X → IsTrue false)
-refuted X not = ((λ t. absurd (no_true t)), λ x. absurd (not x))
 
 pub hang_more : (near : ℕ → ℕ → Type 0) (earlier : List ℕ) (rest : List Twig) (t : Twig) → Hang near earlier rest → HangsOn near (earlier ++ pieces_of rest) t → Hang near earlier (rest ++ t ∷ [])
 hang_more near earlier [] t hang h = (record { parent = h.parent; named = h.named; stands = subst (λ (xs : List ℕ). Contains xs h.parent) (append-nil earlier) h.stands; touches = h.touches }, tt)
@@ -79,22 +73,6 @@ set_cases P stamps p stamp q below here there = elim (cases_eq q p) [
   | inr other ↦ subst (λ (v : ℕ). P q v) (sym (get_or-set_other stamps p q stamp 0 other)) (there other)
 ]
 
-pub judging_start : (count : ℕ) (near : ℕ → ℕ → Type 0) (net : List Twig) (stamp : ℕ) (stamps : List ℕ) → 0 < length net → length stamps ≡ count → ((q : ℕ) → get_or stamps q 0 < stamp) → (get_or net 0 (record { piece = 0; parent = None })).piece < count → (get_or net 0 (record { piece = 0; parent = None })).parent ≡ None → IsJudging count near net stamp 1 (set stamps (get_or net 0 (record { piece = 0; parent = None })).piece stamp)
-judging_start count near [] stamp stamps some long fresh below root = absurd (omega arith)
-judging_start count near (t ∷ rest) stamp stamps some long fresh below root = record {
-  some = omega arith;
-  within = omega arith;
-  long = length-set stamps t.piece stamp ∙ long;
-  tree = (root, (λ k d h. absurd (omega arith)), tt);
-  known = λ p h. subst (λ (x : ℕ). x < count) (one_of t.piece p h) below;
-  stamped = λ p on. elim (cases_eq p t.piece) [
-    | inl same ↦ (0, omega arith, sym same)
-    | inr other ↦ absurd (let e = get_or-set_other stamps t.piece p stamp 0 other in let f = fresh p in omega arith)
-  ];
-  stamps_of = λ p h. ap (λ (x : ℕ). get_or (set stamps t.piece stamp) x 0) (sym (one_of t.piece p h)) ∙ get_or-set_same stamps t.piece stamp 0 (omega arith);
-  most = λ q. set_cases (λ k v. v ≤ stamp) stamps t.piece stamp q (omega arith) (omega arith) (λ other. let f = fresh q in omega arith);
-}
-
 pieces_push : (net : List Twig) (t : Twig) → pieces_of (net ++ t ∷ []) ≡ pieces_of net ++ t.piece ∷ []
 pieces_push net t = map-append piece_of net (t ∷ [])
 
@@ -150,10 +128,6 @@ judging_done count near net stamp j stamps g all =
     let same = take_all j net all in
     record { known = λ p h. g.known p (subst (λ (n : List Twig). Contains (pieces_of n) p) (sym same) h); tree = subst (λ (n : List Twig). IsTree near n) same g.tree }
 
-pub no_net : (count : ℕ) (near : ℕ → ℕ → Type 0) (net : List Twig) → length net ≡ 0 → IsKnownTree count near net → ⊥
-no_net count near [] e whole = whole.tree
-no_net count near (t ∷ rest) e whole = omega arith
-
 pub root_known : (count : ℕ) (near : ℕ → ℕ → Type 0) (net : List Twig) → IsKnownTree count near net → ((get_or net 0 (record { piece = 0; parent = None })).piece < count) × ((get_or net 0 (record { piece = 0; parent = None })).parent ≡ None)
 root_known count near [] whole = absurd whole.tree
 root_known count near (t ∷ rest) whole = (whole.known t.piece (0, omega arith, refl), whole.tree.0)
@@ -196,37 +170,6 @@ judged_all count near nets i floor stamps a all within = record {
 
 pub tree_at : (count : ℕ) (near : ℕ → ℕ → Type 0) (nets : List (List Twig)) (i : ℕ) → AreTrees count near nets → i < length nets → IsKnownTree count near (net_at nets i)
 tree_at count near nets i t below = record { known = λ p h. t.known i p h; tree = All-get_or (IsTree near) nets i [] below t.trees }
-
-pub not_rising : (count : ℕ) (near : ℕ → ℕ → Type 0) (nets : List (List Twig)) (i floor : ℕ) (stamps : List ℕ) → AreJudged count near nets i floor stamps → i < length nets → first_piece (net_at nets i) < floor → AreTrees count near nets → ⊥
-not_rising count near nets i floor stamps a within low t = elim a.from [
-  | inl none ↦ omega arith
-  | inr (k, before, is) ↦ let e = t.rising k i [] before within in omega arith
-]
-
-pub proved : (X : Type 0) → X → (IsTrue true → X) × (X → IsTrue true)
-proved X x = ((λ t. x), λ y. refl)
-
-pub told : (b : Bool) (P : Type 0) → (IsTrue b → P) × (P → IsTrue b) → b ≡ true → P
-told true P tells e = tells.0 refl
-told false P tells e = cc
-
-pub denied : (b : Bool) (P : Type 0) → (IsTrue b → P) × (P → IsTrue b) → b ≡ false → P → ⊥
-denied true P tells e p = cc
-denied false P tells e p = no_true (tells.1 p)
-
-none_inside : (p : ℕ) → Contains [] p → ⊥
-none_inside p (k, below, same) = omega arith
-
-le_or_lt : (m n : ℕ) → (m ≤ n) ⊎ (n < m)
-le_or_lt zero n = inl (omega arith)
-le_or_lt (suc m) zero = inr (omega arith)
-le_or_lt (suc m) (suc n) = elim (le_or_lt m n) [ inl l ↦ inl (omega arith) | inr l ↦ inr (omega arith) ]
-
-pub held_within : (nets : List (List Twig)) (i p : ℕ) → Holds nets i p → i < length nets
-held_within nets i p inside = elim (le_or_lt (length nets) i) [
-  | inl past ↦ absurd (none_inside p (subst (λ (net : List Twig). Contains (pieces_of net) p) (get_or_past nets i [] past) inside))
-  | inr within ↦ within
-]
 
 nets_rise : (nets : List (List Twig)) → AllPairs (λ net later. first_piece net < first_piece later) nets → (i : ℕ) → i < length nets → i ≤ first_piece (net_at nets i)
 nets_rise nets rising zero below = omega arith

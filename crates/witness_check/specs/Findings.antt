@@ -1,4 +1,4 @@
--- the clauses on opens, shorts and branches, where each point's branch begins at its home
+-- The clauses on opens, shorts and branches, where each point's branch begins at its home
 use Rattle.std.specs.Prelude.{◌≡◌, ℕ, ◌<◌, List, map, All, Option, Some, None}
 use Rattle.verdict.specs.declared.verdict.Verdict.{Verdict}
 use Rattle.verdict.specs.Right.{Clause, Opens, Shorts, Branches, HasBranches, BeginsAtHome, all_opens, all_shorts, number_of, outline}

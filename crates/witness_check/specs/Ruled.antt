@@ -1,5 +1,4 @@
 -- What an audit says of a verdict.
-use Rattle.std.specs.Prelude.{ℕ}
 use Rattle.tables.specs.Tables.{Tables}
 use Rattle.verdict.specs.declared.verdict.Verdict.{Verdict}
 use Rattle.verdict.specs.Right.{FailsFirst, IsRight}

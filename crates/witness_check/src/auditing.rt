@@ -35,7 +35,7 @@ pub fn audit(alloc: Global, board: &Board, v: &Verdict) -> Result<Ruling, NoMemo
     ruling_of::<Brand>(alloc, board, v, Blank::new(1))
 }
 
-// The ruling, found with a counter of contact tests. The calls of laws do nothing when the program runs.
+// The ruling, found with a counter of contact tests. The call of a law does nothing when the program runs.
 fn ruling_of<L: Ledger>(
     alloc: Global,
     board: &Board,
@@ -49,7 +49,6 @@ fn ruling_of<L: Ledger>(
 {
     let mut tests = Steps::<L>::new(blank);
     shapes::tables_are_unique();
-    shapes::tables_tell_joins();
     let nets = v.nets.as_slice();
     let lines = v.points.as_slice();
     let pieces = board.pieces().len();

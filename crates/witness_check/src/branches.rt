@@ -12,7 +12,8 @@ use std::alloc::Global;
 use verdict::{Branch, Mark, Short, Tree, Twig, place_net};
 
 /// Whether the branches of all shorts are right. The shorts have the names of the marks on their nets, and each mark
-/// says which point its branch has.
+/// says which point its branch has; points and pieces of branches may be any numbers. The ends of a short's branches are
+/// the pieces with its stamp, so one table serves all shorts. The one error is want of memory.
 pub fn branches_hold(
     alloc: Global,
     nets: &[Tree],
@@ -148,7 +149,7 @@ fn is_way(net: &[Twig], places: &[usize], pieces: &[u32], stamp: usize, stamps: 
     value_of(stamps, pieces[last]) == stamp
 }
 
-// What the table has for a piece, or nothing past its end.
+// What the table has for a piece, or 0 past its end.
 fn value_of(table: &[usize], piece: u32) -> usize
     ensures { result ≡ slice_index_or table.now piece 0 }
 {

@@ -2,7 +2,7 @@
 ghost use Rattle.board_shapes.specs.Lawful.{IsOnLayers, IsProbe};
 ghost use Rattle.contact.specs.Round.{IsCapsuleRadius};
 ghost use Rattle.planar.specs.Plane.{IsPlaced};
-ghost use Rattle.std.specs.Prelude.{◌≡◌, ◌+◌, All, IfOk, length, pos};
+ghost use Rattle.std.specs.Prelude.{◌≡◌, ◌+◌, ◌<◌, All, IfOk, length, pos};
 
 use crate::{Ruling, audit};
 use Word::{End, On, Root};
@@ -12,7 +12,7 @@ use lengths::{NoMemory, Rows, Text};
 use planar::Spot;
 use std::alloc::Global;
 use std::test::Fail;
-use verdict::{PointLine, Tree, Trees, Twig, Verdict};
+use verdict::{Branch, Open, PointLine, Short, Tree, Trees, Twig, Verdict};
 
 fn disc(at: Spot, r: i64) -> Piece
     requires placed { IsPlaced at }
@@ -53,41 +53,44 @@ fn discs(alloc: Global) -> Result<Vec<Piece>, NoMemory>
     with_disc(two, 50_000_000)
 }
 
-// A probe where the first two discs touch, and one where no copper is.
+fn probe(number: u32, x: i64, name: u32) -> Probe
+    requires placed { IsPlaced (record { x = x; y = pos 0 }) }
+    requires named { name < 2 }
+    ensures { IsProbe 2 1 result }
+{
+    Probe {
+        number,
+        at: Spot { x, y: 0 },
+        layer: 1,
+        name,
+    }
+}
+
+// A probe where the first two discs touch, one of another name in the second, and one where no copper is.
 fn probes(alloc: Global) -> Result<Rows<Probe>, NoMemory>
-    ensures many { IfOk result (λ probes. length probes ≡ 2) }
-    ensures known { IfOk result (All (IsProbe 1 1)) }
+    ensures many { IfOk result (λ probes. length probes ≡ 3) }
+    ensures known { IfOk result (All (IsProbe 2 1)) }
 {
     let mut probes = Rows::new(alloc);
-    probes.push(Probe {
-        number: 1,
-        at: Spot {
-            x: 10_000_000,
-            y: 0,
-        },
-        layer: 1,
-        name: 0,
-    })?;
-    probes.push(Probe {
-        number: 2,
-        at: Spot {
-            x: 90_000_000,
-            y: 0,
-        },
-        layer: 1,
-        name: 0,
-    })?;
+    probes.push(probe(1, 10_000_000, 0))?;
+    probes.push(probe(2, 25_000_000, 1))?;
+    probes.push(probe(3, 90_000_000, 0))?;
     Ok(probes)
 }
 
+fn text(alloc: Global, bytes: &[u8]) -> Result<Text, NoMemory> {
+    match Text::new(alloc, bytes) {
+        Ok(text) => Ok(text),
+        Err(_) => Err(NoMemory),
+    }
+}
+
 fn names(alloc: Global) -> Result<Rows<Text>, NoMemory>
-    ensures { IfOk result (λ names. length names ≡ 1) }
+    ensures { IfOk result (λ names. length names ≡ 2) }
 {
     let mut names = Rows::new(alloc);
-    let Ok(name) = Text::new(alloc, b"A") else {
-        return Err(NoMemory);
-    };
-    names.push(name)?;
+    names.push(text(alloc, b"A")?)?;
+    names.push(text(alloc, b"B")?)?;
     Ok(names)
 }
 
@@ -121,6 +124,7 @@ fn trees(alloc: Global, words: &[Word]) -> Result<Trees, NoMemory> {
     Ok(trees)
 }
 
+// The lines of the probes, on these nets.
 fn lines(alloc: Global, nets: &[Option<u32>]) -> Result<Rows<PointLine>, NoMemory> {
     let mut lines = Rows::new(alloc);
     let mut number = 1;
@@ -128,7 +132,7 @@ fn lines(alloc: Global, nets: &[Option<u32>]) -> Result<Rows<PointLine>, NoMemor
         lines.push(PointLine {
             number,
             layer: 1,
-            name: 0,
+            name: if number == 2 { 1 } else { 0 },
             net: *net,
         })?;
         number = if number < 9 { number + 1 } else { number };
@@ -136,6 +140,33 @@ fn lines(alloc: Global, nets: &[Option<u32>]) -> Result<Rows<PointLine>, NoMemor
     Ok(lines)
 }
 
+fn numbers(alloc: Global, items: &[u32]) -> Result<Rows<u32>, NoMemory> {
+    let mut rows = Rows::new(alloc);
+    for item in items {
+        rows.push(*item)?;
+    }
+    Ok(rows)
+}
+
+// The short of the first net, with these ways from the probes of the two names.
+fn short(alloc: Global, first: &[u32], second: &[u32]) -> Result<Rows<Short>, NoMemory> {
+    let mut branches = Rows::new(alloc);
+    branches.push(Branch {
+        name: 0,
+        probe: 0,
+        pieces: numbers(alloc, first)?,
+    })?;
+    branches.push(Branch {
+        name: 1,
+        probe: 1,
+        pieces: numbers(alloc, second)?,
+    })?;
+    let mut shorts = Rows::new(alloc);
+    shorts.push(Short { net: 0, branches })?;
+    Ok(shorts)
+}
+
+// A verdict with the short of the board and its bare probe.
 fn verdict(alloc: Global, words: &[Word], points: &[Option<u32>]) -> Result<Verdict, NoMemory> {
     Ok(Verdict {
         pieces: 3,
@@ -143,8 +174,8 @@ fn verdict(alloc: Global, words: &[Word], points: &[Option<u32>]) -> Result<Verd
         nets: trees(alloc, words)?,
         points: lines(alloc, points)?,
         opens: Rows::new(alloc),
-        shorts: Rows::new(alloc),
-        bare: Rows::new(alloc),
+        shorts: short(alloc, &[0], &[1, 0])?,
+        bare: numbers(alloc, &[2])?,
     })
 }
 
@@ -237,13 +268,13 @@ fn verdicts_from_anywhere(rt: HostRuntime) -> Result<(), Fail> {
         (
             "a net that is not there",
             &[Root(0), On(1, 0), End, Root(2), End],
-            &[Some(9), None],
+            &[Some(9), Some(0), None],
             4,
         ),
         (
             "a line too few",
             &[Root(0), On(1, 0), End, Root(2), End],
-            &[Some(0)],
+            &[Some(0), Some(0)],
             4,
         ),
     ];
@@ -251,5 +282,44 @@ fn verdicts_from_anywhere(rt: HostRuntime) -> Result<(), Fail> {
         let v = verdict(alloc, words, points)?;
         assert_eq!(rt; audit(alloc, &board, &v)?, Ruling::Untrue(clause), "{what}");
     }
+    Ok(())
+}
+
+// The right verdict of the board.
+fn right(alloc: Global) -> Result<Verdict, NoMemory> {
+    verdict(
+        alloc,
+        &[Root(0), On(1, 0), End, Root(2), End],
+        &[Some(0), Some(0), None],
+    )
+}
+
+fn one_open(alloc: Global) -> Result<Rows<Open>, NoMemory> {
+    let mut opens = Rows::new(alloc);
+    opens.push(Open {
+        name: 0,
+        home: 0,
+        other: 1,
+        probe: 2,
+    })?;
+    Ok(opens)
+}
+
+#[test]
+fn right_but_for_one_part(rt: HostRuntime) -> Result<(), Fail> {
+    let alloc = rt.alloc();
+    let board = Board::new(discs(alloc)?, probes(alloc)?, names(alloc)?, 1).expect(&rt, "a board");
+    let mut v = right(alloc)?;
+    assert_eq!(rt; audit(alloc, &board, &v)?, Ruling::True);
+    v.pieces = 4;
+    assert_eq!(rt; audit(alloc, &board, &v)?, Ruling::Untrue(9));
+    v.bare = numbers(alloc, &[0, 2])?;
+    assert_eq!(rt; audit(alloc, &board, &v)?, Ruling::Untrue(8));
+    v.shorts = short(alloc, &[0], &[1])?;
+    assert_eq!(rt; audit(alloc, &board, &v)?, Ruling::Untrue(7));
+    v.shorts = Rows::new(alloc);
+    assert_eq!(rt; audit(alloc, &board, &v)?, Ruling::Untrue(6));
+    v.opens = one_open(alloc)?;
+    assert_eq!(rt; audit(alloc, &board, &v)?, Ruling::Untrue(5));
     Ok(())
 }

@@ -1,10 +1,10 @@
-use Rattle.std.proofs.Common.{◌≡◌, ◌<◌, ◌^◌, ℕ, List, length, get_or, sym, ap, subst, ◌∙◌, arith}
+use Rattle.std.proofs.Common.{◌<◌, ◌^◌, ℕ, List, length, get_or, sym, ap, subst, ◌∙◌}
 use Rattle.board_shapes.specs.Plain.{plain_board}
 use Rattle.verdict.specs.declared.verdict.Twig.{Twig}
 use Rattle.verdict.specs.Forest.{Holds}
 use Rattle.witness_check.proofs.Parts.{apart_denied, apart_told, bare_denied, bare_told, counts_denied, counts_told, few_in, found_all, found_fail, homes_in, known_in, lines_denied, named_in, netted, netted_in, once_denied, once_told, pointed, trees_denied, trees_told}
-use Rattle.witness_check.proofs.Rulings.{trees_fail, covers_fail, apart_fail, points_fail, findings_fail, bare_fails, counts_fail, all_right}
-use Rattle.witness_check.proofs.Trees.{told}
+use Rattle.witness_check.proofs.Clauses.{trees_fail, covers_fail, apart_fail, points_fail, findings_fail, bare_fails, counts_fail, all_right}
+use Rattle.witness_check.proofs.Told.{told}
 use Rattle.witness_check.proofs.auditing.ruling_of.Goals as goal
 
 pub returns-then-not-branch : goal.returns-then-not-branch

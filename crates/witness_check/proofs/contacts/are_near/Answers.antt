@@ -1,7 +1,5 @@
-use Rattle.std.proofs.Common.{◌≡◌, length, arith}
-use Rattle.std.proofs.lemmas.List.{length-map}
 use Rattle.std.proofs.lemmas.Option.{slice_get_read}
-use Rattle.board_shapes.specs.Plain.{plain_board, plain_piece, plain_pieces}
+use Rattle.board_shapes.specs.Plain.{plain_board, plain_piece}
 use Rattle.witness_check.proofs.Touching.{near_is, piece_there, long_as}
 use Rattle.witness_check.proofs.contacts.are_near.Goals as goal
 

@@ -1,4 +1,4 @@
-use Rattle.std.proofs.Common.{rules, ◌≡◌, true, refl, sym, ap, subst, ◌∙◌, ℕ, List, ◌==◌}
+use Rattle.std.proofs.Common.{refl, sym, ap, ◌∙◌, ◌==◌}
 use Rattle.std.specs.Cmp.Lexicographic.{pointwise}
 use Rattle.std.proofs.lemmas.Bool.{eqb-true, eq-eqb}
 use Rattle.witness_check.proofs.Same.{lists_same, lists_equal}

@@ -10,7 +10,7 @@ use Rattle.verdict.proofs.Seating.{seats_netted}
 use Rattle.witness_check.specs.Marked.{outlines_from}
 use Rattle.witness_check.proofs.Told.{told, denied}
 use Rattle.witness_check.proofs.Naming.{shorts_marked}
-use Rattle.witness_check.proofs.Judging.{HasRows, all_say, branches_said, fails_branches, fails_opens, fails_shorts, rows_made, shorts_said}
+use Rattle.witness_check.proofs.Failing.{HasRows, all_say, branches_said, fails_branches, fails_opens, fails_shorts, rows_made, shorts_said}
 use Rattle.witness_check.proofs.findings.findings_ruling.Goals as goal
 
 pub returns-then-not-same_opens : goal.returns-then-not-same_opens

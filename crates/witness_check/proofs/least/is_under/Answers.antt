@@ -1,7 +1,5 @@
-use Rattle.std.proofs.Common.{◌≡◌, Some, slice_get, ap, ◌∙◌, sym, length, List, ℕ, arith}
-use Rattle.std.proofs.lemmas.Option.{slice_get-get_or, slice_get_read}
+use Rattle.std.proofs.lemmas.Option.{slice_get_read}
 use Rattle.board_shapes.specs.Plain.{plain_board, plain_piece}
-use Rattle.board_shapes.specs.declared.probe.Probe.{Probe}
 use Rattle.witness_check.proofs.Touching.{under_is, piece_there, probe_there, long_as}
 use Rattle.witness_check.proofs.least.is_under.Goals as goal
 

@@ -4,8 +4,10 @@ use Rattle.std.proofs.Common.{length, ◌≡◌, ℕ, ◌+◌, ◌≤◌, List, 
 use Rattle.std.proofs.lemmas.List.{get_or_read}
 use Rattle.verdict.specs.declared.verdict.Twig.{Twig}
 use Rattle.verdict.specs.Forest.{first_piece, net_at}
+use Rattle.verdict.proofs.Numbering.{held_within}
 use Rattle.witness_check.specs.Nets.{IsKnownTree}
-use Rattle.witness_check.proofs.Trees.{AreJudged, judged_more, judged_all, tree_at, held_within, refuted, proved, told, denied}
+use Rattle.witness_check.proofs.Trees.{AreJudged, judged_more, judged_all, tree_at}
+use Rattle.witness_check.proofs.Told.{refuted, proved, told, denied}
 use Rattle.witness_check.proofs.nets.are_trees.Goals as goal
 
 pub returns-then-not-is_tree : goal.returns-then-not-is_tree

@@ -2,8 +2,9 @@ use Rattle.std.proofs.Common.{◌≡◌, ◌⊎◌, ◌↔◌, ℕ, true, false,
 use Rattle.std.proofs.lemmas.List.{get_or_read}
 use Rattle.verdict.specs.declared.verdict.Twig.{Twig}
 use Rattle.verdict.specs.Forest.{net_at, pieces_of}
+use Rattle.verdict.proofs.Numbering.{held_within}
 use Rattle.witness_check.proofs.Once.{IsNew, marked_more, marked_stops, marked_all, marked_missing}
-use Rattle.witness_check.proofs.Trees.{held_within, refuted, told, denied}
+use Rattle.witness_check.proofs.Told.{refuted, told, denied}
 use Rattle.witness_check.proofs.nets.stand_once.Goals as goal
 
 pub mark_new-requires : goal.mark_new-requires

@@ -1,7 +1,6 @@
-use Rattle.std.proofs.Common.{◌≡◌, ◌+◌, arith, get_or, subst, sym, ℕ, slice_get, Some}
-use Rattle.verdict.specs.declared.verdict.PointLine.{PointLine}
-use Rattle.witness_check.proofs.Bare.{IsBareTo, bare_more, bare_skip, bare_stops, bare_done, bare_short, none_when, some_when}
-use Rattle.witness_check.proofs.Trees.{refuted, denied, told}
+use Rattle.std.proofs.Common.{◌+◌, arith, subst, sym, ℕ}
+use Rattle.witness_check.proofs.Bare.{IsBareTo, bare_more, bare_skip, bare_stops, none_when, some_when}
+use Rattle.witness_check.proofs.Told.{refuted, denied, told}
 use Rattle.witness_check.proofs.points.bare_holds.Goals.{then-is_none+else-not-stands_at, else-is_none}
 use Rattle.witness_check.proofs.points.bare_holds.Goals as goal
 

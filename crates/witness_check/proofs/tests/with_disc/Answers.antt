@@ -9,5 +9,5 @@ pub returns-clause-spans : goal.returns-clause-spans
 returns-clause-spans c =
     let top = c.disc.ensures.top in
     let bottom = c.disc.ensures.bottom in
-    subst (λ (pieces : List (Placed Shape)). All (IsOnLayers 1) pieces) (sym c.in_ok-push.ensures.items)
+    subst (λ (pieces : List (Placed Shape)). All (IsOnLayers 1) pieces) (sym {A = List (Placed Shape)} c.in_ok-push.ensures.items)
     (All-push (IsOnLayers 1) c.args.pieces.items c.disc.result c.requires.spans (omega arith, omega arith, omega arith))

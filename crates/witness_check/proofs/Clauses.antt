@@ -1,16 +1,11 @@
 -- From the tests of a verdict to its ruling.
-use Rattle.std.proofs.Common.{◌≡◌, ◌↔◌, IsTrue, ℕ, ◌+◌, ◌<◌, ◌≤◌, ◌^◌, Bool, true, false, List, length, map, get_or, All, Option, Some, None, IfSome, refl, sym, ap, subst, ◌∙◌, arith}
-use Rattle.board_shapes.specs.Lawful.{IsProbe}
+use Rattle.std.proofs.Common.{◌≡◌, ℕ, ◌<◌, List, length, map, get_or, All, Option, refl, sym, subst, ◌∙◌, arith}
 use Rattle.board_shapes.specs.Laws.{PiecesUnderOneProbeTouch}
-use Rattle.board_shapes.specs.Plain.{PlainBoard, plain_pieces}
+use Rattle.board_shapes.specs.Plain.{PlainBoard}
 use Rattle.board_shapes.specs.Tables.{IsNear, IsTables, point_of}
 use Rattle.board_shapes.specs.Touching.{UnderAt}
-use Rattle.board_shapes.specs.declared.placed.Placed.{Placed}
-use Rattle.board_shapes.specs.declared.probe.Probe.{Probe}
-use Rattle.board_shapes.specs.declared.shape.Shape.{Shape}
-use Rattle.tables.specs.Lists.{AreLeast, IsLeast, Lists}
-use Rattle.tables.specs.Tables.{Tables, TestPoint, row_at}
-use Rattle.verdict.specs.declared.verdict.PointLine.{PointLine}
+use Rattle.tables.specs.Lists.{AreLeast}
+use Rattle.tables.specs.Tables.{Tables, TestPoint}
 use Rattle.verdict.specs.declared.verdict.Twig.{Twig}
 use Rattle.verdict.specs.declared.verdict.Verdict.{Verdict}
 use Rattle.verdict.specs.Forest.{AreTrees, IsForest, Holds, StandApart, StandOnce}
@@ -19,8 +14,6 @@ use Rattle.witness_check.specs.Findings.{FindingsFail, FindingsSay}
 use Rattle.witness_check.specs.Lines.{AreLinesBy}
 use Rattle.witness_check.proofs.Lines.{at_home, from_home, home_known, lines_each, lines_many, lines_right, shorts_along}
 use Rattle.witness_check.proofs.Tables.{apart_as, apart_where, once_as, once_where, trees_as, trees_where, under_close}
-use Rattle.witness_check.proofs.Touching.{long_as}
-use Rattle.witness_check.proofs.Trees.{told}
 
 -- The nets are a forest, and the table has the number of each piece's net.
 pub record AreNetted (b : PlainBoard) (nets : List (List Twig)) (numbers : List ℕ) : Type 0 where
