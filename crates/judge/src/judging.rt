@@ -13,7 +13,7 @@ use crate::shorts::shorts_of;
 use board_shapes::Board;
 use lengths::{NoMemory, Rows, Text};
 use std::alloc::Global;
-use verdict::{marks_of, numbers_of, opens_of, seats_of, Trees, Verdict};
+use verdict::{Trees, Verdict, marks_of, numbers_of, opens_of, seats_of};
 
 /// The verdict on a board, with the handed-in trees as its nets. The trees are spanning trees of the board's nets, and
 /// the homes are for each of its probes the least piece under it. A refusal drops what was handed in.

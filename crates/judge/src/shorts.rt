@@ -11,7 +11,7 @@ ghost use Rattle.verdict.specs.Seats.{AreFirst, AreNamed, IsFirst, mark_name, ma
 use crate::ways::{flag_way, way_of};
 use lengths::{NoMemory, Rows};
 use std::alloc::Global;
-use verdict::{place_net, Branch, Mark, Short, Tree, Twig};
+use verdict::{Branch, Mark, Short, Tree, Twig, place_net};
 
 /// The shorts of all nets, from the names on each net.
 pub fn shorts_of(

@@ -5,7 +5,7 @@ use crate::points::bare_of;
 use lengths::{Rows, Text, TextFault};
 use std::alloc::Global;
 use std::test::Fail;
-use verdict::{opens_of, seats_of, Open, PointLine};
+use verdict::{Open, PointLine, opens_of, seats_of};
 
 fn names_of(alloc: Global, names: &[&[u8]]) -> Result<Rows<Text>, TextFault> {
     let mut rows = Rows::new(alloc);

@@ -3,9 +3,9 @@ ghost use Rattle.verdict.specs.Seats.{marks_at, marks_from, marks_of_seats, seat
 ghost use Rattle.std.specs.Prelude.{◌≡◌, ℕ, ◌<◌, ◌^◌, ◌++◌, length, All, IfOk, OnOk};
 
 use crate::seats::empty_rows;
+use crate::verdict::Seat;
 use lengths::{NoMemory, Rows};
 use std::alloc::Global;
-use crate::verdict::Seat;
 
 /// A name on a net, and its first point there.
 #[derive(Clone, Copy, Debug, PartialEq, Eq)]

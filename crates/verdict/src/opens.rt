@@ -4,9 +4,9 @@ ghost use Rattle.std.specs.Prelude.{◌≡◌, ◌<◌, ◌^◌, length, List, �
 ghost use Rattle.verdict.specs.Right.{opens_against, all_opens, is_unconnected};
 ghost use Rattle.verdict.specs.declared.verdict.PointLine.{PointLine};
 
+use crate::verdict::{Open, Seat};
 use lengths::{NoMemory, Rows, Text};
 use std::alloc::Global;
-use crate::verdict::{Open, Seat};
 
 /// The opens of all names, from the first seat of each on each net.
 pub fn opens_of(

@@ -2,10 +2,10 @@
 ghost use Rattle.verdict.specs.Seats.{AreFirstSeats, AreSeated, seats_at, with_seat};
 ghost use Rattle.std.specs.Prelude.{◌≡◌, ◌≢◌, ℕ, ◌<◌, ◌^◌, [], length, All, IfOk, OnOk};
 
+use crate::verdict::{PointLine, Seat};
 use indexmap::IndexSet;
 use lengths::{NoMemory, Rows};
 use std::alloc::Global;
-use crate::verdict::{PointLine, Seat};
 
 /// For each of so many names its first point on each net, in the order of the points.
 pub fn seats_of(
