@@ -8,7 +8,7 @@ use Rattle.verdict.specs.declared.reading.ReadFault.TheVariants.{NotAReport, NoM
 use Rattle.verdict.specs.Reading.{◌>>=◌, Fails, begins_blank, with_first, words_at, items_at}
 use Rattle.verdict.specs.ReportText.{numbered}
 use Rattle.std.proofs.lemmas.Bool.{eqb-true}
-use Rattle.verdict.proofs.Steps.{bind_some, step, some_is, front_then, starts}
+use Rattle.verdict.proofs.Steps.{bind_some, some_is, front_then, starts}
 
 -- what was read before, and what is still read
 abbrev pub with_front : {X : Type 0} → List X → Option (List X × List ℕ) → Option (List X × List ℕ)
