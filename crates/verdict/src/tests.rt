@@ -3,21 +3,29 @@ use super::*;
 use std::alloc::Global;
 use std::test::*;
 
-const THREE_NAMES: &[u8] = b"boardnet 1\npieces 5\nnets 1\nnet 0 0 1:0 2:1 3:1 4:2\nnames 3\nname 0 A\nname 1 B\nname 2 C\npoints 3\npoint 0 1 1 0 0\npoint 1 2 1 1 0\npoint 2 3 1 2 0\nopens 0\nshorts 1\nshort 0 3\nbranch 0 0 0\nbranch 1 1 2 1 0\nbranch 2 2 4 2\nmissing 0\ndiffers\n";
+const THREE_NAMES: &[u8] =
+    b"boardnet 1\npieces 5\nnets 1\nnet 0 0 1:0 2:1 3:1 4:2\nnames 3\nname 0 A\nname 1 B\nname 2 C\npoints 3\npoint 0 1 1 0 0\npoint 1 2 1 1 0\npoint 2 3 1 2 0\nopens 0\nshorts 1\nshort 0 3\nbranch 0 0 0\nbranch 1 1 2 1 0\nbranch 2 2 4 2\nmissing 0\ndiffers\n";
 
-// What is written of what was read.
-fn again(alloc: Global, text: &[u8]) -> Result<Vec<u8>, Fail> {
+// The verdict that was read, or nothing.
+fn verdict_of(alloc: Global, text: &[u8]) -> Result<Option<Verdict>, Fail> {
     match read_report(alloc, text) {
-        Ok(verdict) => match write_report(alloc, &verdict) {
-            Ok(written) => Ok(written),
-            Err(_) => Err("memory is wanted".into()),
-        },
-        Err(_) => Err("the text is a report".into()),
+        Ok(verdict) => Ok(Some(verdict)),
+        Err(ReadFault::NotAReport) => Ok(None),
+        Err(ReadFault::NoMemory) => Err("memory is wanted".into()),
     }
 }
 
-fn is_no_report(alloc: Global, text: &[u8]) -> bool {
-    matches!(read_report(alloc, text), Err(ReadFault::NotAReport))
+// What is written of what was read.
+fn again(alloc: Global, text: &[u8]) -> Result<Vec<u8>, Fail> {
+    let verdict = verdict_of(alloc, text)?.ok_or("the text is a report")?;
+    match write_report(alloc, &verdict) {
+        Ok(written) => Ok(written),
+        Err(_) => Err("memory is wanted".into()),
+    }
+}
+
+fn is_no_report(alloc: Global, text: &[u8]) -> Result<bool, Fail> {
+    Ok(verdict_of(alloc, text)?.is_none())
 }
 
 fn reports() -> [&'static [u8]; 8] {
@@ -133,32 +141,33 @@ fn reports_are_read_and_written_again(rt: HostRuntime) -> Result<(), Fail> {
 }
 
 #[test]
-fn near_misses(rt: HostRuntime) {
+fn near_misses(rt: HostRuntime) -> Result<(), Fail> {
     let alloc = rt.alloc();
     for text in wrong_frames() {
-        assert!(rt; is_no_report(alloc, text));
+        assert!(rt; is_no_report(alloc, text)?);
     }
     for text in wrong_numbers() {
-        assert!(rt; is_no_report(alloc, text));
+        assert!(rt; is_no_report(alloc, text)?);
     }
     for text in wrong_lines() {
-        assert!(rt; is_no_report(alloc, text));
+        assert!(rt; is_no_report(alloc, text)?);
     }
     for text in wrong_findings() {
-        assert!(rt; is_no_report(alloc, text));
+        assert!(rt; is_no_report(alloc, text)?);
     }
+    Ok(())
 }
 
 // The report of three names without its short, and without its last line feed.
 #[test]
-fn changed_reports(rt: HostRuntime) {
+fn changed_reports(rt: HostRuntime) -> Result<(), Fail> {
     let alloc = rt.alloc();
-    let short = b"boardnet 1\npieces 5\nnets 1\nnet 0 0 1:0 2:1 3:1 4:2\nnames 3\nname 0 A\nname 1 B\nname 2 C\npoints 3\npoint 0 1 1 0 0\npoint 1 2 1 1 0\npoint 2 3 1 2 0\nopens 0\nshorts 0\nmissing 0\ndiffers\n";
-    assert!(rt; is_no_report(alloc, short));
-    let Some((_, without_feed)) = THREE_NAMES.split_last() else {
-        return;
-    };
-    assert!(rt; is_no_report(alloc, without_feed));
+    let short =
+        b"boardnet 1\npieces 5\nnets 1\nnet 0 0 1:0 2:1 3:1 4:2\nnames 3\nname 0 A\nname 1 B\nname 2 C\npoints 3\npoint 0 1 1 0 0\npoint 1 2 1 1 0\npoint 2 3 1 2 0\nopens 0\nshorts 0\nmissing 0\ndiffers\n";
+    assert!(rt; is_no_report(alloc, short)?);
+    let (_, without_feed) = THREE_NAMES.split_last().ok_or("the report has bytes")?;
+    assert!(rt; is_no_report(alloc, without_feed)?);
+    Ok(())
 }
 
 // Names of 200 bytes and of 201.
@@ -174,6 +183,6 @@ fn long_names(rt: HostRuntime) -> Result<(), Fail> {
     let mut longer = Vec::from_slice(alloc, front)?;
     longer.extend_from_slice(&[b'x'; 201])?;
     longer.extend_from_slice(back)?;
-    assert!(rt; is_no_report(alloc, &longer));
+    assert!(rt; is_no_report(alloc, &longer)?);
     Ok(())
 }
