@@ -18,10 +18,6 @@ regroup : {X : Type 0} (front : List X) (x : X) (read : Option (List X × List �
 regroup front x (Some y) = ap (λ (xs : List _). Some (xs, y.1)) (sym (append_assoc front (x ∷ []) y.0))
 regroup front x None = refl
 
-pub start : {X : Type 0} (read : Option (List X × List ℕ)) → with_front [] read ≡ read
-start (Some y) = refl
-start None = refl
-
 -- ---- Numbered items
 
 pub items_go_on : {X : Type 0} (at : ℕ → List ℕ → Option (X × List ℕ)) (front : List X) (count n : ℕ) (bytes : List ℕ) (x : X) (after : List ℕ) (total : Option (List X × List ℕ)) → n < count → at n bytes ≡ Some (x, after)
