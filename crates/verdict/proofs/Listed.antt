@@ -1,5 +1,5 @@
 -- Points of one name on different nets have listed opens.
-use Rattle.std.proofs.Common.{◌≡◌, ◌≢◌, ◌⊎◌, inl, inr, ℕ, zero, suc, ◌+◌, Bool, true, false, ◌==◌, ◌||◌, if◌then◌else◌, List, [], ◌∷◌, ◌++◌, map, Contains, Option, Some, None, slice_get, refl, subst, sym, ap, ◌∙◌, arith}
+use Rattle.std.proofs.Common.{◌≡◌, ◌≢◌, ◌⊎◌, inl, inr, ℕ, zero, suc, ◌+◌, ◌<◌, ◌≤◌, Bool, true, false, ◌==◌, ◌||◌, if◌then◌else◌, List, [], ◌∷◌, ◌++◌, length, map, get_or, Contains, Option, Some, None, slice_get, refl, subst, sym, ap, ◌∙◌, arith}
 use Rattle.std.specs.List.{list_any}
 use Rattle.std.proofs.lemmas.List.{map-append}
 use Rattle.std.proofs.lemmas.List.Elements.{Contains-append_left, Contains-append_right, Contains-append_cases}
@@ -8,7 +8,7 @@ use Rattle.verdict.specs.declared.verdict.PointLine.{PointLine}
 use Rattle.verdict.specs.declared.verdict.Seat.{Seat}
 use Rattle.verdict.specs.declared.verdict.Open.{Open}
 use Rattle.verdict.specs.declared.verdict.Verdict.{Verdict}
-use Rattle.verdict.specs.Right.{IsRight, Opens, IsSeated, HasOther, HasEnd, OpensCoverSplitNames, net_of, seat, seats_from, fresh, opens_against, opens_of, all_opens, is_unconnected}
+use Rattle.verdict.specs.Right.{IsRight, Clause, Opens, IsSeated, HasOther, HasEnd, OpensCoverSplitNames, net_of, seat, seats_from, fresh, opens_against, opens_of, all_opens, is_unconnected}
 use Rattle.tables.specs.Tables.{Tables}
 
 one_of : (x q : ℕ) → Contains (x ∷ []) q → x ≡ q
