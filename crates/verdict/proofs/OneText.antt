@@ -1,9 +1,9 @@
 -- Two verdicts with the same text are equal. The titles tell where each list ends, so that no count is needed.
-use Rattle.std.proofs.Common.{◌≡◌, ℕ, zero, suc, ◌+◌, ◌/◌, ◌%◌, ◌^◌, ◌<◌, Bool, true, false, not, cond, eqb, ltb, List, [], ◌∷◌, ◌++◌, length, get_or, Option, Some, codes, refl, sym, ap, subst, ◌∙◌, append_assoc, arith}
+use Rattle.std.proofs.Common.{◌≡◌, ℕ, zero, suc, ◌+◌, ◌/◌, ◌%◌, ◌<◌, Bool, true, false, not, cond, eqb, ltb, List, [], ◌∷◌, ◌++◌, length, get_or, Option, Some, codes, refl, sym, ap, ◌∙◌, append_assoc, arith}
 use Rattle.std.specs.Prelude.{decimal}
 use Rattle.std.specs.Fmt.{digits, digits_onto, digit_glyph}
 use Rattle.std.specs.List.{AllByRecursion, flat_map, list_all, after_first}
-use Rattle.std.proofs.lemmas.Bool.{cases_lt, eqb-true, ltb-true, ltb-false}
+use Rattle.std.proofs.lemmas.Bool.{eqb-true}
 use Rattle.texts.specs.Digits.{is_decimal_digit}
 use Rattle.lengths.specs.Text.{IsText}
 use Rattle.verdict.specs.declared.verdict.Short.{Short}
@@ -12,7 +12,7 @@ use Rattle.verdict.specs.declared.verdict.Verdict.{Verdict}
 use Rattle.verdict.specs.Lawful.{IsNumber, IsTwig, IsPointLine, IsOpen, IsBranchLine, IsShort, IsVerdict}
 use Rattle.verdict.specs.Reading.{is_feed, word_at, net_at, name_at, point_at, open_at, branch_at, bare_at}
 use Rattle.verdict.specs.ReportText.{word, end, count_line, numbered, net_line, name_line, point_line, open_line, branch_line, short_lines, bare_line, last_line, report_text}
-use Rattle.verdict.proofs.Steps.{some_is, starts, word_again, behind_again, after_feed}
+use Rattle.verdict.proofs.Steps.{some_is, starts, word_again, after_feed}
 use Rattle.verdict.proofs.ReadLines.{net_again, name_again, point_again, open_again, branch_again, bare_again}
 use Rattle.verdict.proofs.ReadReport.{short_parts, flat_branches, section_text, section_parts, line_of, last_of, from_bare, from_shorts, from_opens, from_points, from_names, from_nets, from_pieces, report_parts}
 
@@ -41,6 +41,7 @@ glyph d = by (ltb d 10) refl
         test : (t : Bool) → eqb b 10 ≡ t → not t ≡ true
         test false e = refl
         test true e = let same : b ≡ 10 = eqb-true b 10 e in absurd (omega (arith, same, h))
+
     by : (t : Bool) → ltb d 10 ≡ t → no_feed (cond t (48 + d) (87 + d)) ≡ true
     by true e = high (48 + d) (omega arith)
     by false e = high (87 + d) (omega arith)
@@ -51,6 +52,7 @@ digits_feedless (suc k) n acc h = by (eqb (n / 10) 0) (digits_feedless k (n / 10
   where
     first : list_all no_feed (digit_glyph false (n % 10) ∷ acc) ≡ true
     first = let g : no_feed (digit_glyph false (n % 10)) ≡ true = glyph (n % 10) in rw (g, h) refl
+
     by : (t : Bool) → list_all no_feed (digits_onto k 10 false (n / 10) (digit_glyph false (n % 10) ∷ acc)) ≡ true
         → list_all no_feed (cond t (digit_glyph false (n % 10) ∷ acc) (digits_onto k 10 false (n / 10) (digit_glyph false (n % 10) ∷ acc))) ≡ true
     by true more = first

@@ -1,22 +1,20 @@
 -- Each line of a report: what is read stood in front, and what stands in front is read.
-use Rattle.std.proofs.Common.{◌≡◌, ℕ, ◌+◌, ◌^◌, ◌<◌, ◌≤◌, Bool, true, false, eqb, List, [], ◌∷◌, ◌++◌, length, Option, Some, None, codes, refl, sym, ap, subst, ◌∙◌, append_assoc, arith}
+use Rattle.std.proofs.Common.{◌≡◌, ℕ, ◌^◌, ◌<◌, Bool, true, false, eqb, List, [], ◌∷◌, ◌++◌, length, Option, Some, None, codes, refl, sym, ap, subst, ◌∙◌, append_assoc, arith}
 use Rattle.std.specs.Prelude.{IfSome, decimal}
 use Rattle.std.specs.List.{AllByRecursion, flat_map, list_all}
 use Rattle.std.proofs.lemmas.Bool.{eqb-true}
 use Rattle.std.proofs.lemmas.Fmt.{decimal_nonempty, digits_decimal}
-use Rattle.std.proofs.lemmas.List.{length-append}
 use Rattle.texts.specs.Digits.{is_decimal_digit}
 use Rattle.lengths.specs.Text.{IsText}
 use Rattle.verdict.specs.declared.verdict.Twig.{Twig}
 use Rattle.verdict.specs.declared.verdict.PointLine.{PointLine}
 use Rattle.verdict.specs.declared.verdict.Open.{Open}
 use Rattle.verdict.specs.declared.verdict.Branch.{Branch}
-use Rattle.verdict.specs.declared.verdict.Short.{Short}
-use Rattle.verdict.specs.Lawful.{IsNumber, IsTwig, IsPointLine, IsOpen, IsBranchLine, IsShort}
-use Rattle.verdict.specs.Reading.{◌>>=◌, behind, begins_blank, number_at, word_at, layer_at, count_at, parent_behind, parent_at, twig_at, net_behind, net_number_at, words_at, text_at, heading_at, net_at, name_at, point_at, open_at, branch_at, items_at, short_at, bare_at}
-use Rattle.verdict.specs.ReportText.{word, end, numbered, parent_text, twig_text, net_line, name_line, net_text, point_line, open_line, branch_line, short_lines, bare_line}
-use Rattle.verdict.proofs.Steps.{step, some_is, and_both, front_then, starts, own, behind_takes, behind_again, number_takes, number_again, word_takes, word_again, layer_takes, layer_again, count_takes, count_again, text_takes, text_again}
-use Rattle.verdict.proofs.ReadLists.{IsWord, IsLine, ends, ends_by, words_take, words_again, words_few, items_take, items_again, items_few, numbered-flat}
+use Rattle.verdict.specs.Lawful.{IsNumber, IsTwig, IsPointLine, IsOpen, IsBranchLine}
+use Rattle.verdict.specs.Reading.{◌>>=◌, behind, number_at, word_at, layer_at, parent_behind, parent_at, twig_at, net_behind, net_number_at, words_at, heading_at, net_at, name_at, point_at, open_at, branch_at, bare_at}
+use Rattle.verdict.specs.ReportText.{word, end, parent_text, twig_text, net_line, name_line, net_text, point_line, open_line, branch_line, bare_line}
+use Rattle.verdict.proofs.Steps.{step, some_is, and_both, front_then, starts, own, behind_takes, behind_again, number_takes, number_again, word_takes, word_again, layer_takes, layer_again, text_takes, text_again}
+use Rattle.verdict.proofs.ReadLists.{IsWord, IsLine, ends, ends_by, words_take, words_again, words_few}
 
 -- what follows from a step that did not fail
 pub bind_then : {A B C : Type 0} (r : Option A) (f : A → Option B) (y : B) → (r >>= f) ≡ Some y → ((x : A) → r ≡ Some x → f x ≡ Some y → C) → C

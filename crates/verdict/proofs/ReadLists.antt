@@ -8,7 +8,7 @@ use Rattle.verdict.specs.declared.reading.ReadFault.TheVariants.{NotAReport, NoM
 use Rattle.verdict.specs.Reading.{◌>>=◌, Fails, begins_blank, with_first, words_at, items_at}
 use Rattle.verdict.specs.ReportText.{numbered}
 use Rattle.std.proofs.lemmas.Bool.{eqb-true}
-use Rattle.verdict.proofs.Steps.{bind_some, step, some_is, front_then, starts}
+use Rattle.verdict.proofs.Steps.{bind_some, some_is, front_then, starts}
 
 -- what was read before, and what is still read
 abbrev pub with_front : {X : Type 0} → List X → Option (List X × List ℕ) → Option (List X × List ℕ)
@@ -17,10 +17,6 @@ with_front front read = read >>= λ x. Some (front ++ x.0, x.1)
 regroup : {X : Type 0} (front : List X) (x : X) (read : Option (List X × List ℕ)) → with_front front (with_first x read) ≡ with_front (front ++ x ∷ []) read
 regroup front x (Some y) = ap (λ (xs : List _). Some (xs, y.1)) (sym (append_assoc front (x ∷ []) y.0))
 regroup front x None = refl
-
-pub start : {X : Type 0} (read : Option (List X × List ℕ)) → with_front [] read ≡ read
-start (Some y) = refl
-start None = refl
 
 -- ---- Numbered items
 

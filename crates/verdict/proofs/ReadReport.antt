@@ -1,6 +1,6 @@
 -- The parts of a report, and the whole: what is read stood there, and what stands there is read.
-use Rattle.std.proofs.Common.{◌≡◌, ℕ, ◌+◌, ◌^◌, ◌<◌, ◌≤◌, Bool, true, false, cond, eqb, List, [], ◌∷◌, ◌++◌, length, Option, Some, None, Result, Ok, Err, codes, refl, sym, ap, subst, ◌∙◌, append_assoc, append-nil, arith}
-use Rattle.std.specs.Prelude.{IfOk, IfErr, decimal}
+use Rattle.std.proofs.Common.{◌≡◌, ℕ, ◌^◌, ◌<◌, Bool, true, cond, eqb, List, [], ◌∷◌, ◌++◌, length, Option, Some, None, Result, Ok, Err, codes, refl, sym, ap, subst, ◌∙◌, append_assoc, arith}
+use Rattle.std.specs.Prelude.{IfOk, IfErr}
 use Rattle.std.specs.List.{AllByRecursion, flat_map}
 use Rattle.std.specs.Cmp.Lexicographic.{pointwise}
 use Rattle.std.proofs.lemmas.List.{length-append}
@@ -8,12 +8,11 @@ use Rattle.std.proofs.lemmas.Slice.Eq.{bytes_eq-Decides}
 use Rattle.lengths.specs.Text.{IsText}
 use Rattle.verdict.specs.declared.reading.ReadFault.{ReadFault}
 use Rattle.verdict.specs.declared.reading.ReadFault.TheVariants.{NotAReport, NoMemory}
-use Rattle.verdict.specs.declared.verdict.Twig.{Twig}
 use Rattle.verdict.specs.declared.verdict.Branch.{Branch}
 use Rattle.verdict.specs.declared.verdict.Short.{Short}
 use Rattle.verdict.specs.declared.verdict.Verdict.{Verdict}
 use Rattle.verdict.specs.Lawful.{IsNumber, IsTwig, IsPointLine, IsOpen, IsBranchLine, IsShort, IsVerdict}
-use Rattle.verdict.specs.Reading.{◌>>=◌, Gives, behind, word_at, count_at, net_at, name_at, point_at, open_at, branch_at, items_at, short_at, bare_at, section_at, pieces_at, ended, report_at}
+use Rattle.verdict.specs.Reading.{Gives, behind, word_at, count_at, net_at, name_at, point_at, open_at, branch_at, items_at, short_at, bare_at, section_at, pieces_at, ended, report_at}
 use Rattle.verdict.specs.ReportText.{word, end, count_line, numbered, net_line, name_line, point_line, open_line, branch_line, short_lines, bare_line, last_line, nets_text, names_text, points_text, opens_text, shorts_text, bare_text, report_text}
 use Rattle.verdict.proofs.Steps.{step, some_is, guard_some, front_then, behind_takes, behind_again, word_takes, word_again, count_takes, count_again}
 use Rattle.verdict.proofs.ReadLists.{IsLine, items_take, items_again, items_few, numbered-flat}

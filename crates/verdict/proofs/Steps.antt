@@ -1,8 +1,8 @@
 -- Steps of reading, and the fields of a report: what is read stood in front, and what stands in front is read.
-use Rattle.std.proofs.Common.{◌≡◌, ℕ, zero, suc, ◌+◌, ◌^◌, ◌<◌, ◌≤◌, Bool, true, false, not, ◌&&◌, ◌||◌, cond, eqb, ltb, leb, List, [], ◌∷◌, ◌++◌, length, take, drop, get_or, Option, Some, None, Result, Ok, Err, codes, refl, sym, ap, subst, ◌∙◌, append_assoc, arith, rules, inl, inr}
-use Rattle.std.specs.Prelude.{IfSome, decimal}
+use Rattle.std.proofs.Common.{◌≡◌, ℕ, ◌+◌, ◌^◌, ◌<◌, Bool, true, false, not, ◌&&◌, ◌||◌, cond, eqb, ltb, leb, List, [], ◌∷◌, ◌++◌, length, take, drop, get_or, Option, Some, None, Result, Ok, Err, refl, sym, ap, subst, ◌∙◌, append_assoc, arith, rules, inl, inr}
+use Rattle.std.specs.Prelude.{decimal}
 use Rattle.std.specs.Cmp.Lexicographic.{pointwise}
-use Rattle.std.specs.List.{list_all, list_any, prefix_len, take_while, before_first, after_first, position_or_len, All, AllByRecursion}
+use Rattle.std.specs.List.{list_all, list_any, prefix_len, take_while, before_first, after_first, position_or_len, AllByRecursion}
 use Rattle.std.specs.Result.{OkIff, result_ok}
 use Rattle.std.specs.Str.Parse.{digits_value, ParsesUnsigned}
 use Rattle.std.proofs.lemmas.Bool.{cases_lt, ltb-true, lt-ltb, le-ltb, leb-true, le-leb, eq-eqb, eqb-true}
@@ -193,7 +193,6 @@ layer_again n rest small none =
     let fits : n < 2 ^ 32 = omega arith in
     step (word_at (word n ++ rest)) (λ x. cond (ltb x.0 (2 ^ 8)) (Some x) None) (n, rest) (Some (n, rest)) (word_again n rest fits none) (rw below refl)
 
-
 pub count_takes : (bytes : List ℕ) (n : ℕ) (rest : List ℕ) → count_at bytes ≡ Some (n, rest) → bytes ≡ word n ++ (end ++ rest)
 unfolding count_at
 count_takes bytes n rest e =
@@ -308,6 +307,7 @@ text_again name rest h =
   where
     both_true : (a b : Bool) → a ≡ true → b ≡ true → (a && b) ≡ true
     both_true a b p q = rw (p, q) refl
+
     pair_is : {a b c d : List ℕ} → a ≡ c → b ≡ d → ◌≡◌ {A = List ℕ × List ℕ} (a, b) (c, d)
     pair_is p q = cc
 

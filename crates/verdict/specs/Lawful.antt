@@ -1,5 +1,5 @@
 -- Verdicts whose numbers and texts are in the ranges of their types.
-use Rattle.std.specs.Prelude.{ℕ, ◌<◌, ◌^◌, List, IfSome}
+use Rattle.std.specs.Prelude.{ℕ, ◌<◌, ◌^◌, IfSome}
 use Rattle.std.specs.List.{AllByRecursion}
 use Rattle.lengths.specs.Text.{IsText}
 use Rattle.verdict.specs.declared.verdict.Twig.{Twig}

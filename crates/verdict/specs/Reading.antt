@@ -1,5 +1,6 @@
 -- Reading the text of a verdict from left to right: what stands in front, and the bytes behind it, or nothing where
--- the bytes are no such text.
+-- the bytes are no such text. Only private contracts cite this module: that it reads the texts of verdicts and
+-- nothing else is proved over report_text (proofs/ReadReport).
 use Rattle.std.specs.Prelude.{◌≡◌, ℕ, zero, suc, ◌+◌, ◌^◌, nat_lt, nat_le, Bool, true, false, not, ◌&&◌, ◌==◌, if◌then◌else◌, List, [], ◌∷◌, ◌++◌, length, take, drop, Option, Some, None, Result, Ok, Err, codes, decimal}
 use Rattle.std.specs.Cmp.Lexicographic.{pointwise}
 use Rattle.std.specs.List.{after_first, before_first, list_all, list_any, prefix_len, take_while}

@@ -1,7 +1,6 @@
-use Rattle.std.proofs.Common.{◌≡◌, ◌++◌, ◌∷◌, [], sym, ap, subst}
 use Rattle.std.proofs.lemmas.Result.{err_from_is_err_and}
 use Rattle.verdict.specs.Reading.{items_at}
-use Rattle.verdict.proofs.ReadLists.{with_front, items_go_on, items_end, items_done}
+use Rattle.verdict.proofs.ReadLists.{items_go_on, items_end, items_done}
 use Rattle.verdict.proofs.lines.items.Goals as goal
 
 pub returns-in_err-item : goal.returns-in_err-item

@@ -1,7 +1,7 @@
-use Rattle.std.proofs.Common.{◌≡◌, ◌++◌, ◌∷◌, [], length, true, false, sym, ap, ◌∙◌, rules}
+use Rattle.std.proofs.Common.{◌≡◌, length, true, false, rules}
 use Rattle.std.proofs.lemmas.Result.{err_from_is_err_and}
 use Rattle.verdict.specs.Reading.{words_at, begins_blank}
-use Rattle.verdict.proofs.ReadLists.{with_front, words_go_on, words_end, words_stop, words_run_out}
+use Rattle.verdict.proofs.ReadLists.{words_go_on, words_end, words_stop, words_run_out}
 use Rattle.verdict.proofs.lines.words.Goals as goal
 
 pub returns-then-not-begins_blank : goal.returns-then-not-begins_blank

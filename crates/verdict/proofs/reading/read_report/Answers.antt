@@ -1,4 +1,4 @@
-use Rattle.std.proofs.Common.{length, ◌^◌, ◌<◌, arith}
+use Rattle.std.proofs.Common.{arith}
 use Rattle.verdict.proofs.ReadReport.{found, refused}
 use Rattle.verdict.proofs.reading.read_report.Goals as goal
 
