@@ -33,7 +33,7 @@ fn has_two_layers(k: u8) -> bool {
 }
 
 // Two discs that stand one millimetre apart touch where both are wide. Whether disc i of board k is, two bits of a number
-// say, which is another for each board.
+// say, which is another for each board: on odd boards about every second disc is wide, on even ones three of four.
 fn is_wide(k: u8, i: u8) -> bool {
     let number = u32::from(k) * 37 % 256;
     let bits = match i {
@@ -45,7 +45,7 @@ fn is_wide(k: u8, i: u8) -> bool {
         5 => number / 32,
         _ => number / 64,
     };
-    bits % 4 != 0
+    bits % 4 > u32::from(k % 2)
 }
 
 // Disc i, three in a row.
@@ -120,7 +120,11 @@ fn points(alloc: Global, k: u8) -> Result<Vec<u8>, NoMemory> {
 
 fn board(alloc: Global, k: u8) -> Result<MemoryPackage, NoMemory> {
     let mut package = MemoryPackage::new(alloc);
-    let manifest = if has_two_layers(k) { TWO_LAYERS } else { ONE_LAYER };
+    let manifest = if has_two_layers(k) {
+        TWO_LAYERS
+    } else {
+        ONE_LAYER
+    };
     package.hold("m.json", manifest.as_bytes())?;
     package.hold("t.gbr", first(alloc, k)?.as_slice())?;
     package.hold("b.gbr", text(alloc, SECOND)?.as_slice())?;
