@@ -1,4 +1,4 @@
-// Calls of `run` over memory: worked boards and packages, audits of their reports, and words and faults.
+// Calls of `run` over memory: worked boards and packages, audits of their reports, made boards, and words and faults.
 mod audits;
 mod boards;
 mod faults;
