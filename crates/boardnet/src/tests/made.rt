@@ -1,5 +1,5 @@
-// A hundred made boards. `audit` takes the report that `check` puts on each, with its nets listed in another lawful order
-// too, and one change of each kind is untrue at the clause that it breaks.
+// A hundred made boards. `audit` takes the report that `check` puts on each, also with its nets listed in another lawful
+// order, and one change of each kind is untrue at the clause that it breaks.
 use crate::tests::{answer, has, text};
 use board_io::MemoryPackage;
 use lengths::{NoMemory, Rows, Text};
@@ -32,8 +32,8 @@ fn has_two_layers(k: u8) -> bool {
     k % 4 == 3
 }
 
-// Two discs that stand one millimetre apart touch where both are wide. Whether disc i of board k is, two bits of a number
-// say, which is another for each board: on odd boards about every second disc is wide, on even ones three of four.
+// Two discs that stand one millimetre apart touch where both are wide. Whether disc i of board k is wide is told by two
+// bits of a number that each board has for itself: on odd boards about every second is, on even ones three of four.
 fn is_wide(k: u8, i: u8) -> bool {
     let number = u32::from(k) * 37 % 256;
     let bits = match i {
