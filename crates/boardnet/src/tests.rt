@@ -1,8 +1,9 @@
-// Calls of `run` over memory: worked boards and packages, audits of their reports, and words and faults.
+// Calls of `run` over memory: worked boards and packages, audits of their reports, made boards, and words and faults.
 mod audits;
 mod boards;
+mod faults;
+mod made;
 mod packages;
-mod words;
 
 use crate::run::run;
 use board_io::{MemoryPackage, MemorySink};
