@@ -1,9 +1,9 @@
 -- From what the parts of an audit give to its outcome.
-use Rattle.std.proofs.Common.{◌≡◌, ◌⊎◌, ◌×◌, ◌<◌, ◌≤◌, inl, inr, ℕ, List, length, Option, Some, None, IfSome, IsSomeAnd, refl, subst, sym, ◌∙◌, arith}
+use Rattle.std.proofs.Common.{◌≡◌, ◌⊎◌, ◌<◌, ◌≤◌, inl, inr, ℕ, List, length, Option, Some, None, IfSome, IsSomeAnd, codes, refl, subst, sym, ◌∙◌, arith}
 use Rattle.board_io.specs.Causes.{Rose}
 use Rattle.board_io.specs.Package.{Files}
 use Rattle.board_io.specs.Sink.{Gains, GainsFrontOf}
-use Rattle.board_package.proofs.Lift.{Carries}
+use Rattle.board_package.proofs.Lift.{Carries, lift}
 use Rattle.board_package.specs.Causes.{HasCause}
 use Rattle.board_package.specs.Laws.{HasOneOutcome}
 use Rattle.board_package.specs.PackageBoard.{Comes, IsBoardOf, IsFirstStop, IsHeld, IsHeldWith, StopsTaking, Stop, absent, longer, not_json, bad_manifest, refused, frame_too_large}
@@ -13,7 +13,8 @@ use Rattle.board_package.specs.declared.reading.Refusal.TheVariants as refusal
 use Rattle.board_shapes.specs.Laws.{HasOneTables}
 use Rattle.board_shapes.specs.Plain.{PlainBoard}
 use Rattle.board_shapes.specs.Tables.{IsTables}
-use Rattle.boardnet.specs.Answers.{Answers, IsNoText, IsRuled, Refuses}
+use Rattle.boardnet.specs.Answers.{Answers, IsNoText, IsRuled, IsRuledOn, Refuses}
+use Rattle.boardnet.specs.Lines.{file_line}
 use Rattle.boardnet.specs.Outcome.{AuditOutcome, ComesFor, HasRuling, IsAnswer, IsAuditStop, IsNoReport, IsTextOf, Refused, StopsAtReport}
 use Rattle.boardnet.specs.Words.{Audit}
 use Rattle.tables.specs.Tables.{Tables}
@@ -155,31 +156,50 @@ report_carries (Some files) manifest report board is = record {
   comes = λ name c. inr (record { board = board; board_is = is; name_is = c });
 }
 
-pub ruled_by : (held other : Option Files) (manifest report : List ℕ) (board : PlainBoard) (bytes text : List ℕ) (v : Verdict) (ruling : Ruling) → other ≡ held
-    → IfSome held (λ files. IsBoardOf files manifest board) → HasOneTables board → IfSome other (λ files. IsHeld files report bytes) → text ≡ bytes → IsTextOf text v
-    → ((t : Tables) → IsTables board t → Rules t v ruling) → IfSome held (λ files. IsRuled files manifest report ruling)
-ruled_by None None manifest report board bytes text v ruling same is one held e good rules = tt
-ruled_by (Some files) (Some files') manifest report board bytes text v ruling same is one held e good rules =
-    let one_package : files' ≡ files = cc same in record {
-      board = board;
-      board_is = is;
-      one = one;
-      verdict = v;
-      read = record { bytes = bytes; held = subst (λ (z : Files). IsHeld z report bytes) one_package held; good = subst (λ (z : List ℕ). IsTextOf z v) e good };
-      rules = rules;
-    }
-ruled_by None (Some files) manifest report board bytes text v ruling same is one held e good rules = tt
-ruled_by (Some files) None manifest report board bytes text v ruling same is one held e good rules = absurd (cc same)
+pub ruled_by : (held : Option Files) (manifest report : List ℕ) (board : PlainBoard) (bytes text : List ℕ) (ruling : Ruling)
+    → IfSome held (λ files. IsBoardOf files manifest board × IsHeld files report bytes) → HasOneTables board → text ≡ bytes → IsRuledOn board text ruling
+    → IfSome held (λ files. IsRuled files manifest report ruling)
+ruled_by None manifest report board bytes text ruling is one e on = tt
+ruled_by (Some files) manifest report board bytes text ruling (is, held) one e on = record {
+  board = board;
+  board_is = is;
+  one = one;
+  verdict = on.verdict;
+  read = record { bytes = bytes; held = held; good = subst (λ (z : List ℕ). IsTextOf z on.verdict) e on.text };
+  rules = on.rules;
+}
 
-pub misread_by : (held other : Option Files) (manifest report : List ℕ) (board : PlainBoard) (bytes text : List ℕ) → other ≡ held
-    → IfSome held (λ files. IsBoardOf files manifest board) → IfSome other (λ files. IsHeld files report bytes) → text ≡ bytes → IsNoReport text
+pub misread_by : (held : Option Files) (manifest report : List ℕ) (board : PlainBoard) (bytes text : List ℕ)
+    → IfSome held (λ files. IsBoardOf files manifest board × IsHeld files report bytes) → text ≡ bytes → IsNoReport text
     → IfSome held (λ files. IsNoText files manifest report)
-misread_by None None manifest report board bytes text same is held e none = tt
-misread_by (Some files) (Some files') manifest report board bytes text same is held e none =
-    let one_package : files' ≡ files = cc same in record {
-      board = board;
-      board_is = is;
-      held = record { bytes = bytes; held = subst (λ (z : Files). IsHeld z report bytes) one_package held; good = subst (λ (z : List ℕ). IsNoReport z) e none };
-    }
-misread_by None (Some files) manifest report board bytes text same is held e none = tt
-misread_by (Some files) None manifest report board bytes text same is held e none = absurd (cc same)
+misread_by None manifest report board bytes text is e none = tt
+misread_by (Some files) manifest report board bytes text (is, held) e none = record {
+  board = board;
+  board_is = is;
+  held = record { bytes = bytes; held = held; good = subst (λ (z : List ℕ). IsNoReport z) e none };
+}
+
+-- the causes of the parts are causes of the audit
+pub package_cause : (held : Option Files) (manifest name report : List ℕ) (before now : ℕ) (lost : List ℕ) (why : BuildFault) → name ≡ manifest
+    → HasCause held (λ files stop. IsFirstStop files name stop) (λ files other. Comes files name other) before now lost why
+    → HasCause held (StopsFor manifest report) (NameFor manifest report) before now lost why
+package_cause held manifest name report before now lost why same h =
+    lift held (λ files stop. IsFirstStop files manifest stop) (StopsFor manifest report) (λ files other. Comes files manifest other) (NameFor manifest report) before before now lost why
+    (package_carries held manifest report) (omega arith) (subst (λ (z : List ℕ). HasCause held (λ files stop. IsFirstStop files z stop) (λ files other. Comes files z other) before now lost why) same h)
+
+pub report_cause : (held other : Option Files) (manifest first report second : List ℕ) (board : PlainBoard) (before mid now : ℕ) (lost : List ℕ) (why : BuildFault) → other ≡ held → first ≡ manifest → second ≡ report → before ≤ mid
+    → IfSome held (λ files. IsBoardOf files first board)
+    → HasCause other (λ files stop. StopsTaking files second stop) (λ files name. name ≡ second) mid now lost why
+    → HasCause held (StopsFor manifest report) (NameFor manifest report) before now lost why
+report_cause held other manifest first report second board before mid now lost why same one two le is h =
+    lift held (λ files stop. StopsTaking files report stop) (StopsFor manifest report) (λ files name. name ≡ report) (NameFor manifest report) before mid now lost why
+    (report_carries held manifest report board (subst (λ (z : List ℕ). IfSome held (λ files. IsBoardOf files z board)) one is)) le
+    (subst (λ (z : List ℕ). HasCause held (λ files stop. StopsTaking files z stop) (λ files name. name ≡ z) mid now lost why) two
+    (subst (λ (z : Option Files). HasCause z (λ files stop. StopsTaking files second stop) (λ files name. name ≡ second) mid now lost why) same h))
+
+-- a report that is no text is a refusal
+pub misread_refused : (held : Option Files) (manifest report name : List ℕ) (L : List ℕ → Type 0) → name ≡ report → IfSome held (λ files. IsNoText files manifest report)
+    → L (file_line name (codes "not a report")) → IfSome held (λ files. (line : List ℕ) × AuditOutcome files manifest report (Refused line) × L line)
+misread_refused None manifest report name L same h l = tt
+misread_refused (Some files) manifest report name L same h l =
+    (file_line report (codes "not a report"), inr (record { board = h.board; board_is = h.board_is; held = h.held; line_is = refl }), subst (λ (z : List ℕ). L (file_line z (codes "not a report"))) same l)

@@ -1,5 +1,5 @@
 -- What holds under the command that the words ask for holds under each that they ask for.
-use Rattle.std.proofs.Common.{◌≡◌, ℕ, List, [], ◌∷◌, Option, Some, None, IfSome, String, codes, map, string_bytes, subst, sym, ap}
+use Rattle.std.proofs.Common.{◌≡◌, ℕ, List, [], ◌∷◌, Option, Some, None, IfSome, String, codes, map, string_bytes, refl, subst, sym, ap}
 use Rattle.board_io.specs.Package.{Files}
 use Rattle.boardnet.specs.Words.{Asks, Command, Check, Audit, IsAudit, IsCheck}
 use Rattle.std.specs.declared.alloc.Global.{Global}
@@ -39,3 +39,14 @@ pub no_audit : (held : Option Files) (words : List (String Global)) (manifest : 
     → IfSome held (λ files. (m r : List ℕ) → IsAudit words m r → P files m r)
 no_audit None words manifest P is = tt
 no_audit (Some files) words manifest P is = λ m r other. absurd (cc (is.spelled, other.spelled))
+
+-- words that ask for nothing
+pub asked_no_check : (held : Option Files) (words : List (String Global)) (P : Files → List ℕ → Type 0) → ((c : Command) → Asks words c → ⊥)
+    → IfSome held (λ files. (name : List ℕ) → IsCheck words name → P files name)
+asked_no_check None words P h = tt
+asked_no_check (Some files) words P h = λ name is. absurd (h (Check name) is)
+
+pub asked_no_audit : (held : Option Files) (words : List (String Global)) (P : Files → List ℕ → List ℕ → Type 0) → ((c : Command) → Asks words c → ⊥)
+    → IfSome held (λ files. (m r : List ℕ) → IsAudit words m r → P files m r)
+asked_no_audit None words P h = tt
+asked_no_audit (Some files) words P h = λ m r is. absurd (h (Audit m r) is)

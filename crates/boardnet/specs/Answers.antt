@@ -34,6 +34,12 @@ Refuses manifest fault.NoMemory status Line = (status ≡ 6) × Line (plain_line
 
 -- ---- Audits
 
+-- The bytes are the text of a verdict, and this is the ruling on it.
+pub record IsRuledOn (board : PlainBoard) (bytes : List ℕ) (ruling : Ruling) : Type 0 where
+  pub verdict : Verdict
+  pub text : IsTextOf bytes verdict
+  pub rules : (t : Tables) → IsTables board t → Rules t verdict ruling
+
 -- The package fits, the report is the text of a verdict, and this is the ruling on it.
 pub record IsRuled (files : Files) (manifest report : List ℕ) (ruling : Ruling) : Type 0 where
   pub board : PlainBoard

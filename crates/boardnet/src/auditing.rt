@@ -1,9 +1,13 @@
 // The command `audit`.
 ghost use Rattle.board_io.specs.Causes.{Rose};
 ghost use Rattle.board_io.specs.Sink.{Gains, GainsFrontOf};
-ghost use Rattle.boardnet.specs.Answers.{Answers, HasAuditCause, IsRuled};
+ghost use Rattle.board_package.specs.Causes.{HasCause};
+ghost use Rattle.board_package.specs.PackageBoard.{IsBoardOf, IsHeld};
+ghost use Rattle.board_shapes.specs.Laws.{HasOneTables};
+ghost use Rattle.board_shapes.specs.Plain.{plain_board};
+ghost use Rattle.boardnet.specs.Answers.{Answers, HasAuditCause, IsRuled, IsRuledOn};
 ghost use Rattle.boardnet.specs.Lines.{Says, end, file_line, plain_line};
-ghost use Rattle.boardnet.specs.Outcome.{AuditOutcome, ComesFor, IsAnswer, Refused};
+ghost use Rattle.boardnet.specs.Outcome.{AuditOutcome, ComesFor, IsAnswer, IsAuditStop, IsNoReport, Refused};
 ghost use Rattle.boardnet.specs.Words.{Audit};
 ghost use Rattle.lengths.specs.Text.{IsText};
 ghost use Rattle.std.specs.Prelude.{IfErr, IfOk, IfSome, List, ◌++◌, codes, decimal, ℕ, ◌≡◌, ◌≢◌, ◌≤◌, ◌⊎◌};
@@ -12,7 +16,7 @@ use crate::lines;
 use crate::refusing::{name_of, refuse};
 use board_io::{Package, Put, Sink};
 use board_package::{BuildFault, build, laws, take_file};
-use board_shapes::laws as shapes;
+use board_shapes::{Board, laws as shapes};
 use lengths::NoMemory;
 use numerals::Numeral;
 use std::alloc::Global;
@@ -116,7 +120,7 @@ fn untrue_text(alloc: Global, clause: u8) -> Result<Vec<u8>, NoMemory>
     Ok(text)
 }
 
-// The ruling on a report, which is taken after the package's board is built.
+// The ruling on a report on the package of a manifest.
 fn ruling_of<P: Package>(
     alloc: Global,
     manifest: &str,
@@ -128,27 +132,48 @@ fn ruling_of<P: Package>(
     ensures ok { IfOk result (λ ruling. IfSome (P.held «package».old) (λ files. IsRuled files manifest.now report.now ruling)) }
     ensures fault { IfErr result (HasAuditCause (P.held «package».old) manifest.now report.now (P.faults «package».old) (P.faults «package».new) (P.lost «package».new)) }
 {
-    shapes::boards_are_lawful();
-    shapes::tables_are_unique();
-    let manifest = name_of(alloc, manifest)?;
-    let report = name_of(alloc, report)?;
-    let board = build(alloc, &manifest, package)?;
     let mut file = Vec::new(alloc);
-    take_file(alloc, &report, package, &mut file)?;
-    match read_report(alloc, file.as_slice()) {
-        Ok(verdict) => match audit(alloc, &board, &verdict) {
+    match taken(alloc, manifest, report, package, &mut file) {
+        Ok(board) => match ruling_on(alloc, &board, file.as_slice()) {
             Ok(ruling) => Ok(ruling),
-            Err(NoMemory) => Err(AuditFault::Stopped(BuildFault::NoMemory)),
+            Err(ReadFault::NotAReport) => Err(AuditFault::NotAReport),
+            Err(ReadFault::NoMemory) => Err(AuditFault::Stopped(BuildFault::NoMemory)),
         },
-        Err(ReadFault::NotAReport) => Err(AuditFault::NotAReport),
-        Err(ReadFault::NoMemory) => Err(AuditFault::Stopped(BuildFault::NoMemory)),
+        Err(fault) => Err(AuditFault::Stopped(fault)),
     }
 }
 
-impl From<BuildFault> for AuditFault {
-    fn from(fault: BuildFault) -> AuditFault
-        ensures { result ≡ AuditFault.Stopped fault }
-    {
-        AuditFault::Stopped(fault)
+// Builds the board, and then takes the report.
+fn taken<P: Package>(
+    alloc: Global,
+    manifest: &str,
+    report: &str,
+    package: &mut P,
+    file: &mut Vec<u8>,
+) -> Result<Board, BuildFault>
+    requires manifest { IsText manifest.now }
+    requires report { IsText report.now }
+    ensures ok { IfOk result (λ board. IfSome (P.held «package».old) (λ files. IsBoardOf files manifest.now (plain_board board) × IsHeld files report.now file.new.items)) }
+    ensures fault { IfErr result (HasCause (P.held «package».old) (λ files stop. IsAuditStop files manifest.now report.now stop) (λ files name. ComesFor files (Audit manifest.now report.now) name) (P.faults «package».old) (P.faults «package».new) (P.lost «package».new)) }
+{
+    let manifest = name_of(alloc, manifest)?;
+    let report = name_of(alloc, report)?;
+    let board = build(alloc, &manifest, package)?;
+    take_file(alloc, &report, package, file)?;
+    Ok(board)
+}
+
+// The ruling on the verdict whose text this is. The calls of laws do nothing when the program runs.
+fn ruling_on(alloc: Global, board: &Board, text: &[u8]) -> Result<Ruling, ReadFault>
+    ensures one { HasOneTables (plain_board board.now) }
+    ensures ok { IfOk result (λ ruling. IsRuledOn (plain_board board.now) text.now ruling) }
+    ensures fault { IfErr result (λ why. why ≡ ReadFault.NotAReport → IsNoReport text.now) }
+{
+    shapes::boards_are_lawful();
+    shapes::tables_are_unique();
+    let verdict = read_report(alloc, text)?;
+    match audit(alloc, board, &verdict) {
+        Ok(ruling) => Ok(ruling),
+        Err(NoMemory) => Err(ReadFault::NoMemory),
     }
 }

@@ -157,7 +157,12 @@ fn audits_of_a_report(rt: HostRuntime) -> Result<(), Fail> {
             none.1,
             none.2,
         ),
-        ([(b"boardnet 1", b"boardnet 2"), NOTHING], none.0, none.1, none.2),
+        (
+            [(b"boardnet 1", b"boardnet 2"), NOTHING],
+            none.0,
+            none.1,
+            none.2,
+        ),
     ];
     assert!(rt; audits(rt.alloc(), &changes)?);
     Ok(())
@@ -234,11 +239,17 @@ fn reports_that_are_taken(rt: HostRuntime) -> Result<(), Fail> {
     assert_eq!(rt; missing.calls(), 4);
     assert!(rt; out.bytes().is_empty());
 
-    let mut refused = files(alloc, &[("m.json", &[MANIFEST]), ("t.gbr", &["M02*", "G04*"])])?;
+    let mut refused = files(
+        alloc,
+        &[("m.json", &[MANIFEST]), ("t.gbr", &["M02*", "G04*"])],
+    )?;
     refused.hold("r.txt", SHORT)?;
     let (status, _out, notes) = answer(alloc, AUDIT, &mut refused)?;
     assert_eq!(rt; status, 3);
-    assert_eq!(rt; shown(&notes), "boardnet: t.gbr: Gerber 4 AfterEnd at command 2, byte 5\n");
+    assert_eq!(rt;
+        shown(&notes),
+        "boardnet: t.gbr: Gerber 4 AfterEnd at command 2, byte 5\n"
+    );
     assert_eq!(rt; refused.calls(), 2);
 
     let mut long = shorted(alloc)?;
@@ -246,6 +257,9 @@ fn reports_that_are_taken(rt: HostRuntime) -> Result<(), Fail> {
     long.hold("r.txt", bytes.as_slice())?;
     let (status, _out, notes) = answer(alloc, AUDIT, &mut long)?;
     assert_eq!(rt; status, 3);
-    assert_eq!(rt; shown(&notes), "boardnet: r.txt: longer than 67108864 bytes\n");
+    assert_eq!(rt;
+        shown(&notes),
+        "boardnet: r.txt: longer than 67108864 bytes\n"
+    );
     Ok(())
 }
