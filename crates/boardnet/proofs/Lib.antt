@@ -4,3 +4,4 @@ pub mod Reports
 pub mod Says
 pub mod Audits
 pub mod Commands
+pub mod Passes

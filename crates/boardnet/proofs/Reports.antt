@@ -6,6 +6,7 @@ use Rattle.board_package.specs.PackageBoard.{IsBoardOf}
 use Rattle.board_shapes.specs.Plain.{PlainBoard}
 use Rattle.boardnet.specs.Lines.{plain_line, differs_line}
 use Rattle.boardnet.specs.Outcome.{HasStatus, IsReport, IsRightOn}
+use Rattle.verdict.specs.Lawful.{IsVerdict}
 use Rattle.verdict.specs.ReportText.{report_text}
 use Rattle.verdict.specs.declared.verdict.Verdict.{Verdict}
 
@@ -20,10 +21,10 @@ has_status v = by_lists v.opens v.shorts v.bare refl refl refl where
 
 -- a text of which a front was written is that of a report
 pub front_of_report : (held : Option Files) (manifest text text' : List ℕ) (v : Verdict) (old new : Option (List ℕ)) → text' ≡ text
-    → IfSome held (λ files. (board : PlainBoard) × IsBoardOf files manifest board × IsRightOn board v × (text ≡ report_text v))
+    → IfSome held (λ files. (board : PlainBoard) × IsBoardOf files manifest board × IsRightOn board v × IsVerdict v × (text ≡ report_text v))
     → GainsFrontOf old text' new
     → IfSome held (λ files. (t line : List ℕ) × (status : ℕ) × IsReport files manifest t status line × GainsFrontOf old t new)
 front_of_report None manifest text text' v old new same found gains = tt
-front_of_report (Some files) manifest text text' v old new same (board, is, right, text_is) gains =
+front_of_report (Some files) manifest text text' v old new same (board, is, right, lawful, text_is) gains =
     let h = has_status v in
-    (text', h.1, h.0, record { board = board; board_is = is; verdict = v; right = right; text_is = same ∙ text_is; status_is = h.2 }, gains)
+    (text', h.1, h.0, record { board = board; board_is = is; verdict = v; lawful = lawful; right = right; text_is = same ∙ text_is; status_is = h.2 }, gains)

@@ -1,5 +1,6 @@
 pub mod Answers
 pub mod Asked
+pub mod Laws
 pub mod Lines
 pub mod Outcome
 pub mod Words

@@ -37,6 +37,7 @@ pub record IsReport (files : Files) (manifest text : List ℕ) (status : ℕ) (l
   pub board : PlainBoard
   pub board_is : IsBoardOf files manifest board
   pub verdict : Verdict
+  pub lawful : IsVerdict verdict
   pub right : IsRightOn board verdict
   pub text_is : text ≡ report_text verdict
   pub status_is : HasStatus verdict status line

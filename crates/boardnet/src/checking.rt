@@ -8,6 +8,7 @@ ghost use Rattle.boardnet.specs.Lines.{Says, file_line, plain_line};
 ghost use Rattle.boardnet.specs.Outcome.{HasStatus, IsRefusal, IsReport, IsRightOn};
 ghost use Rattle.lengths.specs.Text.{IsText};
 ghost use Rattle.std.specs.Prelude.{IfErr, IfOk, IfSome, List, codes, ℕ, ◌≡◌, ◌≢◌, ◌≤◌, ◌⊎◌};
+ghost use Rattle.verdict.specs.Lawful.{IsVerdict};
 ghost use Rattle.verdict.specs.ReportText.{report_text};
 
 use crate::judged::judged;
@@ -87,7 +88,7 @@ fn report<P: Package>(
     package: &mut P,
 ) -> Result<(Verdict, Vec<u8>), BuildFault>
     requires { IsText manifest.now }
-    ensures ok { IfOk result (λ r. IfSome (P.held «package».old) (λ files. (board : PlainBoard) × IsBoardOf files manifest.now board × IsRightOn board r.0 × (r.1.items ≡ report_text r.0))) }
+    ensures ok { IfOk result (λ r. IfSome (P.held «package».old) (λ files. (board : PlainBoard) × IsBoardOf files manifest.now board × IsRightOn board r.0 × IsVerdict r.0 × (r.1.items ≡ report_text r.0))) }
     ensures fault { IfErr result (HasCause (P.held «package».old) (λ files stop. IsFirstStop files manifest.now stop) (λ files name. Comes files manifest.now name) (P.faults «package».old) (P.faults «package».new) (P.lost «package».new)) }
 {
     let name = name_of(alloc, manifest)?;

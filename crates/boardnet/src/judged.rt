@@ -2,6 +2,7 @@
 ghost use Rattle.board_shapes.specs.Plain.{plain_board};
 ghost use Rattle.boardnet.specs.Outcome.{IsRightOn};
 ghost use Rattle.std.specs.Prelude.{IfOk, ◌<◌, ◌≡◌};
+ghost use Rattle.verdict.specs.Lawful.{IsVerdict};
 ghost use Rattle.verdict.specs.ReportText.{report_text};
 
 use board_shapes::{Board, laws as shapes};
@@ -18,7 +19,7 @@ use witness_check::laws as verdicts;
 
 /// The right verdict on a board, and its text.
 pub fn judged(alloc: Global, board: &Board) -> Result<(Verdict, Vec<u8>), NoMemory>
-    ensures { IfOk result (λ r. IsRightOn (plain_board board.now) r.0 × (r.1.items ≡ report_text r.0)) }
+    ensures { IfOk result (λ r. IsRightOn (plain_board board.now) r.0 × IsVerdict r.0 × (r.1.items ≡ report_text r.0)) }
 {
     let verdict = verdict_of::<Brand>(alloc, board, Blank::new(1))?;
     let text = write_report(alloc, &verdict)?;

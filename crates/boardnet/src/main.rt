@@ -8,6 +8,7 @@
 pub mod auditing;
 pub mod checking;
 pub mod judged;
+pub mod laws;
 pub mod lines;
 pub mod refusing;
 pub mod run;

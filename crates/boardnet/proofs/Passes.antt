@@ -1,0 +1,35 @@
+-- A report that was written passes the audit of a package that also holds it.
+use Rattle.std.proofs.Common.{◌≡◌, ◌≤◌, inl, ℕ, List, [], ◌∷◌, length, Some, codes, refl}
+use Rattle.board_io.specs.Package.{Files}
+use Rattle.board_package.specs.PackageBoard.{Goes, IsBoardOf, IsHeld, Walks}
+use Rattle.board_package.specs.declared.entry.Entry.{Entry}
+use Rattle.board_shapes.specs.Plain.{PlainBoard}
+use Rattle.boardnet.specs.Laws.{HoldsReport, ReportsPass}
+
+still_held : (before after : Files) (report text name bytes : List ℕ) → HoldsReport before after report text → IsHeld before name bytes → IsHeld after name bytes
+still_held before after report text name bytes h i = record { held = h.still name bytes i.held; short = i.short }
+
+-- what the files gave they give still
+still_walks : (before after : Files) (report text : List ℕ) (entries : List Entry) (from to : PlainBoard) → HoldsReport before after report text → Walks before entries from to → Walks after entries from to
+still_walks before after report text [] from to h w = w
+still_walks before after report text (e ∷ rest) from to h (next, goes, w) =
+    (next, record { bytes = goes.bytes; held = still_held before after report text e.name goes.bytes h goes.held; read = goes.read }, still_walks before after report text rest next to h w)
+
+still_board : (before after : Files) (report text manifest : List ℕ) (board : PlainBoard) → HoldsReport before after report text → IsBoardOf before manifest board → IsBoardOf after manifest board
+still_board before after report text manifest board h b = record {
+  listed = b.listed;
+  manifest = record { bytes = b.manifest.bytes; held = still_held before after report text manifest b.manifest.bytes h b.manifest.held; good = b.manifest.good };
+  walked = still_walks before after report text _ _ _ h b.walked;
+  frame = b.frame;
+}
+
+pub reports_pass : ReportsPass
+reports_pass before after manifest report text line status r h = record {
+  board = r.board;
+  board_is = still_board before after report text manifest r.board h r.board_is;
+  tables = r.right.tables;
+  tables_are = r.right.tables_are;
+  verdict = r.verdict;
+  read = record { bytes = text; held = record { held = h.held; short = h.short }; good = record { lawful = r.lawful; text_is = r.text_is } };
+  ruling = inl (r.right.right, refl, refl, refl);
+}
