@@ -1,6 +1,8 @@
 // The text of a verdict.
-ghost use Rattle.std.specs.Prelude.{◌≡◌, ◌∷◌, ◌++◌, ◌+◌, ℕ, List, OnOk, IfOk, length, codes, decimal, Option};
-ghost use Rattle.std.specs.List.{flat_map};
+ghost use Rattle.std.specs.Prelude.{◌≡◌, ◌∷◌, ◌++◌, ◌+◌, ℕ, List, OnOk, IfOk, IfSome, length, codes, decimal, Option};
+ghost use Rattle.std.specs.List.{flat_map, AllByRecursion};
+ghost use Rattle.lengths.specs.Text.{IsText};
+ghost use Rattle.verdict.specs.Lawful.{IsNumber, IsTwig, IsPointLine, IsOpen, IsBranchLine, IsShort};
 ghost use Rattle.verdict.specs.ReportText as spec;
 
 use crate::verdict::{Branch, Open, PointLine, Short, Tree, Twig, Verdict};
@@ -41,7 +43,8 @@ fn push_count(out: &mut Vec<u8>, title: &[u8], n: u64) -> Result<(), NoMemory>
 }
 
 fn push_twig(out: &mut Vec<u8>, twig: &Twig) -> Result<(), NoMemory>
-    ensures { OnOk result (out.new.items ≡ out.old.items ++ spec.twig_text twig.now) }
+    ensures text { OnOk result (out.new.items ≡ out.old.items ++ spec.twig_text twig.now) }
+    ensures lawful { OnOk result (IsTwig twig.now) }
 {
     push_word(out, u64::from(twig.piece))?;
     match twig.parent {
@@ -54,7 +57,8 @@ fn push_twig(out: &mut Vec<u8>, twig: &Twig) -> Result<(), NoMemory>
 }
 
 fn push_twigs(out: &mut Vec<u8>, net: &[Twig]) -> Result<(), NoMemory>
-    ensures { OnOk result (out.new.items ≡ out.old.items ++ flat_map spec.twig_text net.now) }
+    ensures text { OnOk result (out.new.items ≡ out.old.items ++ flat_map spec.twig_text net.now) }
+    ensures lawful { OnOk result (AllByRecursion IsTwig net.now) }
 {
     for twig in net {
         push_twig(out, twig)?;
@@ -63,7 +67,8 @@ fn push_twigs(out: &mut Vec<u8>, net: &[Twig]) -> Result<(), NoMemory>
 }
 
 fn push_net(out: &mut Vec<u8>, number: u64, net: &[Twig]) -> Result<(), NoMemory>
-    ensures { OnOk result (out.new.items ≡ out.old.items ++ spec.net_line number net.now) }
+    ensures text { OnOk result (out.new.items ≡ out.old.items ++ spec.net_line number net.now) }
+    ensures lawful { OnOk result (AllByRecursion IsTwig net.now) }
 {
     push_bytes(out, b"net")?;
     push_word(out, number)?;
@@ -73,7 +78,8 @@ fn push_net(out: &mut Vec<u8>, number: u64, net: &[Twig]) -> Result<(), NoMemory
 
 #[tactic(auto, using(crate::proofs::Numbered::numbered_turn))]
 fn push_nets(out: &mut Vec<u8>, nets: &[Tree]) -> Result<(), NoMemory>
-    ensures { OnOk result (out.new.items ≡ out.old.items ++ spec.nets_text nets.now) }
+    ensures text { OnOk result (out.new.items ≡ out.old.items ++ spec.nets_text nets.now) }
+    ensures lawful { OnOk result (AllByRecursion (AllByRecursion IsTwig) nets.now) }
 {
     push_count(out, b"nets", nets.len() as u64)?;
     for (number, net) in nets.iter().enumerate() {
@@ -83,7 +89,8 @@ fn push_nets(out: &mut Vec<u8>, nets: &[Tree]) -> Result<(), NoMemory>
 }
 
 fn push_name(out: &mut Vec<u8>, number: u64, name: &Text) -> Result<(), NoMemory>
-    ensures { OnOk result (out.new.items ≡ out.old.items ++ spec.name_line number name.now) }
+    ensures text { OnOk result (out.new.items ≡ out.old.items ++ spec.name_line number name.now) }
+    ensures lawful { OnOk result (IsText name.now) }
 {
     push_bytes(out, b"name")?;
     push_word(out, number)?;
@@ -94,7 +101,8 @@ fn push_name(out: &mut Vec<u8>, number: u64, name: &Text) -> Result<(), NoMemory
 
 #[tactic(auto, using(crate::proofs::Numbered::numbered_turn))]
 fn push_names(out: &mut Vec<u8>, names: &[Text]) -> Result<(), NoMemory>
-    ensures { OnOk result (out.new.items ≡ out.old.items ++ spec.names_text names.now) }
+    ensures text { OnOk result (out.new.items ≡ out.old.items ++ spec.names_text names.now) }
+    ensures lawful { OnOk result (AllByRecursion IsText names.now) }
 {
     push_count(out, b"names", names.len() as u64)?;
     for (number, name) in names.iter().enumerate() {
@@ -104,7 +112,8 @@ fn push_names(out: &mut Vec<u8>, names: &[Text]) -> Result<(), NoMemory>
 }
 
 fn push_net_of(out: &mut Vec<u8>, net: Option<u32>) -> Result<(), NoMemory>
-    ensures { OnOk result (out.new.items ≡ out.old.items ++ spec.net_text net) }
+    ensures text { OnOk result (out.new.items ≡ out.old.items ++ spec.net_text net) }
+    ensures lawful { OnOk result (IfSome net IsNumber) }
 {
     match net {
         None => push_bytes(out, b" -"),
@@ -113,7 +122,8 @@ fn push_net_of(out: &mut Vec<u8>, net: Option<u32>) -> Result<(), NoMemory>
 }
 
 fn push_point(out: &mut Vec<u8>, number: u64, point: &PointLine) -> Result<(), NoMemory>
-    ensures { OnOk result (out.new.items ≡ out.old.items ++ spec.point_line number point.now) }
+    ensures text { OnOk result (out.new.items ≡ out.old.items ++ spec.point_line number point.now) }
+    ensures lawful { OnOk result (IsPointLine point.now) }
 {
     push_bytes(out, b"point")?;
     push_word(out, number)?;
@@ -126,7 +136,8 @@ fn push_point(out: &mut Vec<u8>, number: u64, point: &PointLine) -> Result<(), N
 
 #[tactic(auto, using(crate::proofs::Numbered::numbered_turn))]
 fn push_points(out: &mut Vec<u8>, points: &[PointLine]) -> Result<(), NoMemory>
-    ensures { OnOk result (out.new.items ≡ out.old.items ++ spec.points_text points.now) }
+    ensures text { OnOk result (out.new.items ≡ out.old.items ++ spec.points_text points.now) }
+    ensures lawful { OnOk result (AllByRecursion IsPointLine points.now) }
 {
     push_count(out, b"points", points.len() as u64)?;
     for (number, point) in points.iter().enumerate() {
@@ -136,7 +147,8 @@ fn push_points(out: &mut Vec<u8>, points: &[PointLine]) -> Result<(), NoMemory>
 }
 
 fn push_open(out: &mut Vec<u8>, found: &Open) -> Result<(), NoMemory>
-    ensures { OnOk result (out.new.items ≡ out.old.items ++ spec.open_line found.now) }
+    ensures text { OnOk result (out.new.items ≡ out.old.items ++ spec.open_line found.now) }
+    ensures lawful { OnOk result (IsOpen found.now) }
 {
     push_bytes(out, b"open")?;
     push_word(out, u64::from(found.name))?;
@@ -147,7 +159,8 @@ fn push_open(out: &mut Vec<u8>, found: &Open) -> Result<(), NoMemory>
 }
 
 fn push_opens(out: &mut Vec<u8>, opens: &[Open]) -> Result<(), NoMemory>
-    ensures { OnOk result (out.new.items ≡ out.old.items ++ spec.opens_text opens.now) }
+    ensures text { OnOk result (out.new.items ≡ out.old.items ++ spec.opens_text opens.now) }
+    ensures lawful { OnOk result (AllByRecursion IsOpen opens.now) }
 {
     push_count(out, b"opens", opens.len() as u64)?;
     for found in opens {
@@ -157,7 +170,8 @@ fn push_opens(out: &mut Vec<u8>, opens: &[Open]) -> Result<(), NoMemory>
 }
 
 fn push_pieces(out: &mut Vec<u8>, pieces: &[u32]) -> Result<(), NoMemory>
-    ensures { OnOk result (out.new.items ≡ out.old.items ++ flat_map spec.word pieces.now) }
+    ensures text { OnOk result (out.new.items ≡ out.old.items ++ flat_map spec.word pieces.now) }
+    ensures lawful { OnOk result (AllByRecursion IsNumber pieces.now) }
 {
     for piece in pieces {
         push_word(out, u64::from(*piece))?;
@@ -166,7 +180,8 @@ fn push_pieces(out: &mut Vec<u8>, pieces: &[u32]) -> Result<(), NoMemory>
 }
 
 fn push_branch(out: &mut Vec<u8>, branch: &Branch) -> Result<(), NoMemory>
-    ensures { OnOk result (out.new.items ≡ out.old.items ++ spec.branch_line branch.now) }
+    ensures text { OnOk result (out.new.items ≡ out.old.items ++ spec.branch_line branch.now) }
+    ensures lawful { OnOk result (IsBranchLine branch.now) }
 {
     push_bytes(out, b"branch")?;
     push_word(out, u64::from(branch.name))?;
@@ -176,7 +191,8 @@ fn push_branch(out: &mut Vec<u8>, branch: &Branch) -> Result<(), NoMemory>
 }
 
 fn push_branches(out: &mut Vec<u8>, branches: &[Branch]) -> Result<(), NoMemory>
-    ensures { OnOk result (out.new.items ≡ out.old.items ++ flat_map spec.branch_line branches.now) }
+    ensures text { OnOk result (out.new.items ≡ out.old.items ++ flat_map spec.branch_line branches.now) }
+    ensures lawful { OnOk result (AllByRecursion IsBranchLine branches.now) }
 {
     for branch in branches {
         push_branch(out, branch)?;
@@ -185,7 +201,8 @@ fn push_branches(out: &mut Vec<u8>, branches: &[Branch]) -> Result<(), NoMemory>
 }
 
 fn push_short(out: &mut Vec<u8>, short: &Short) -> Result<(), NoMemory>
-    ensures { OnOk result (out.new.items ≡ out.old.items ++ spec.short_lines short.now) }
+    ensures text { OnOk result (out.new.items ≡ out.old.items ++ spec.short_lines short.now) }
+    ensures lawful { OnOk result (IsShort short.now) }
 {
     push_bytes(out, b"short")?;
     push_word(out, u64::from(short.net))?;
@@ -195,7 +212,8 @@ fn push_short(out: &mut Vec<u8>, short: &Short) -> Result<(), NoMemory>
 }
 
 fn push_shorts(out: &mut Vec<u8>, shorts: &[Short]) -> Result<(), NoMemory>
-    ensures { OnOk result (out.new.items ≡ out.old.items ++ spec.shorts_text shorts.now) }
+    ensures text { OnOk result (out.new.items ≡ out.old.items ++ spec.shorts_text shorts.now) }
+    ensures lawful { OnOk result (AllByRecursion IsShort shorts.now) }
 {
     push_count(out, b"shorts", shorts.len() as u64)?;
     for short in shorts {
@@ -205,7 +223,8 @@ fn push_shorts(out: &mut Vec<u8>, shorts: &[Short]) -> Result<(), NoMemory>
 }
 
 fn push_bare(out: &mut Vec<u8>, bare: &[u32]) -> Result<(), NoMemory>
-    ensures { OnOk result (out.new.items ≡ out.old.items ++ spec.bare_text bare.now) }
+    ensures text { OnOk result (out.new.items ≡ out.old.items ++ spec.bare_text bare.now) }
+    ensures lawful { OnOk result (AllByRecursion IsNumber bare.now) }
 {
     push_count(out, b"missing", bare.len() as u64)?;
     for probe in bare {
@@ -234,7 +253,10 @@ fn push_last(out: &mut Vec<u8>, v: &Verdict) -> Result<(), NoMemory>
 
 // Appends the parts up to the points.
 fn push_tables(out: &mut Vec<u8>, v: &Verdict) -> Result<(), NoMemory>
-    ensures { OnOk result (out.new.items ≡ out.old.items ++ spec.tables_text v.now) }
+    ensures text { OnOk result (out.new.items ≡ out.old.items ++ spec.tables_text v.now) }
+    ensures nets { OnOk result (AllByRecursion (AllByRecursion IsTwig) v.now.nets) }
+    ensures names { OnOk result (AllByRecursion IsText v.now.names) }
+    ensures points { OnOk result (AllByRecursion IsPointLine v.now.points) }
 {
     push_count(out, b"pieces", u64::from(v.pieces))?;
     push_nets(out, v.nets.as_slice())?;
@@ -244,7 +266,10 @@ fn push_tables(out: &mut Vec<u8>, v: &Verdict) -> Result<(), NoMemory>
 
 // Appends the parts behind the points.
 fn push_findings(out: &mut Vec<u8>, v: &Verdict) -> Result<(), NoMemory>
-    ensures { OnOk result (out.new.items ≡ out.old.items ++ spec.findings_text v.now) }
+    ensures text { OnOk result (out.new.items ≡ out.old.items ++ spec.findings_text v.now) }
+    ensures opens { OnOk result (AllByRecursion IsOpen v.now.opens) }
+    ensures shorts { OnOk result (AllByRecursion IsShort v.now.shorts) }
+    ensures bare { OnOk result (AllByRecursion IsNumber v.now.bare) }
 {
     push_opens(out, v.opens.as_slice())?;
     push_shorts(out, v.shorts.as_slice())?;
