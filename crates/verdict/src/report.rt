@@ -2,7 +2,7 @@
 ghost use Rattle.std.specs.Prelude.{◌≡◌, ◌∷◌, ◌++◌, ◌+◌, ℕ, List, OnOk, IfOk, IfSome, length, codes, decimal, Option};
 ghost use Rattle.std.specs.List.{flat_map, AllByRecursion};
 ghost use Rattle.lengths.specs.Text.{IsText};
-ghost use Rattle.verdict.specs.Lawful.{IsNumber, IsTwig, IsPointLine, IsOpen, IsBranchLine, IsShort};
+ghost use Rattle.verdict.specs.Lawful.{IsVerdict, IsNumber, IsTwig, IsPointLine, IsOpen, IsBranchLine, IsShort};
 ghost use Rattle.verdict.specs.ReportText as spec;
 
 use crate::verdict::{Branch, Open, PointLine, Short, Tree, Twig, Verdict};
@@ -254,11 +254,13 @@ fn push_last(out: &mut Vec<u8>, v: &Verdict) -> Result<(), NoMemory>
 // Appends the parts up to the points.
 fn push_tables(out: &mut Vec<u8>, v: &Verdict) -> Result<(), NoMemory>
     ensures text { OnOk result (out.new.items ≡ out.old.items ++ spec.tables_text v.now) }
+    ensures pieces { OnOk result (IsNumber v.now.pieces) }
     ensures nets { OnOk result (AllByRecursion (AllByRecursion IsTwig) v.now.nets) }
     ensures names { OnOk result (AllByRecursion IsText v.now.names) }
     ensures points { OnOk result (AllByRecursion IsPointLine v.now.points) }
 {
-    push_count(out, b"pieces", u64::from(v.pieces))?;
+    let pieces = v.pieces;
+    push_count(out, b"pieces", u64::from(pieces))?;
     push_nets(out, v.nets.as_slice())?;
     push_names(out, v.names.as_slice())?;
     push_points(out, v.points.as_slice())
@@ -279,7 +281,8 @@ fn push_findings(out: &mut Vec<u8>, v: &Verdict) -> Result<(), NoMemory>
 
 /// The text of a verdict.
 pub fn write_report(alloc: Global, v: &Verdict) -> Result<Vec<u8>, NoMemory>
-    ensures { IfOk result (λ text. text.items ≡ spec.report_text v.now) }
+    ensures text { IfOk result (λ text. text.items ≡ spec.report_text v.now) }
+    ensures lawful { IfOk result (λ text. IsVerdict v.now) }
 {
     let mut out = Vec::new(alloc);
     push_bytes(&mut out, b"boardnet 1\n")?;
