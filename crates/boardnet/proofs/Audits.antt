@@ -2,11 +2,10 @@
 use Rattle.std.proofs.Common.{◌≡◌, ◌⊎◌, ◌<◌, ◌≤◌, inl, inr, ℕ, List, length, Option, Some, None, IfSome, IsSomeAnd, codes, refl, subst, sym, ◌∙◌, arith}
 use Rattle.board_io.specs.Causes.{Rose}
 use Rattle.board_io.specs.Package.{Files}
-use Rattle.board_io.specs.Sink.{Gains, GainsFrontOf}
 use Rattle.board_package.proofs.Lift.{Carries, lift}
 use Rattle.board_package.specs.Causes.{HasCause}
 use Rattle.board_package.specs.Laws.{HasOneOutcome}
-use Rattle.board_package.specs.PackageBoard.{Comes, IsBoardOf, IsFirstStop, IsHeld, IsHeldWith, StopsTaking, Stop, absent, longer, not_json, bad_manifest, refused, frame_too_large}
+use Rattle.board_package.specs.PackageBoard.{Comes, IsBoardOf, IsFirstStop, IsHeld, StopsTaking, Stop, absent, longer, not_json, bad_manifest, refused, frame_too_large}
 use Rattle.board_package.specs.declared.fault.BuildFault.{BuildFault}
 use Rattle.board_package.specs.declared.fault.BuildFault.TheVariants as fault
 use Rattle.board_package.specs.declared.reading.Refusal.TheVariants as refusal
@@ -15,7 +14,7 @@ use Rattle.board_shapes.specs.Plain.{PlainBoard}
 use Rattle.board_shapes.specs.Tables.{IsTables}
 use Rattle.boardnet.specs.Answers.{Answers, IsNoText, IsRuled, IsRuledOn, Refuses}
 use Rattle.boardnet.specs.Lines.{file_line}
-use Rattle.boardnet.specs.Outcome.{AuditOutcome, ComesFor, HasRuling, IsAnswer, IsAuditStop, IsNoReport, IsTextOf, Refused, StopsAtReport}
+use Rattle.boardnet.specs.Outcome.{AuditOutcome, ComesFor, HasRuling, IsAnswer, IsAuditStop, IsNoReport, IsTextOf, Refused}
 use Rattle.boardnet.specs.Words.{Audit}
 use Rattle.tables.specs.Tables.{Tables}
 use Rattle.verdict.specs.Laws.{ReportTextIsInjective}

@@ -1,5 +1,5 @@
 -- What holds under the command that the words ask for holds under each that they ask for.
-use Rattle.std.proofs.Common.{◌≡◌, ℕ, List, [], ◌∷◌, Option, Some, None, IfSome, String, codes, map, string_bytes, refl, subst, sym, ap}
+use Rattle.std.proofs.Common.{◌≡◌, ℕ, List, Option, Some, None, IfSome, String, refl, subst, sym, ap}
 use Rattle.board_io.specs.Package.{Files}
 use Rattle.boardnet.specs.Words.{Asks, Command, Check, Audit, IsAudit, IsCheck}
 use Rattle.std.specs.declared.alloc.Global.{Global}

@@ -1,5 +1,5 @@
 -- A package that fits has its verdict.
-use Rattle.std.proofs.Common.{◌≡◌, ◌⊎◌, ◌≤◌, ℕ, List, [], ◌∷◌, Option, Some, None, IfSome, String, codes, inr, map, string_bytes, subst, sym}
+use Rattle.std.proofs.Common.{◌≡◌, ◌⊎◌, ◌≤◌, ℕ, List, Option, Some, None, IfSome, String, inr, subst}
 use Rattle.board_io.specs.Causes.{Rose}
 use Rattle.board_io.specs.Package.{Files}
 use Rattle.board_package.specs.Causes.{HasCause}

@@ -1,7 +1,7 @@
 -- A report that was written passes the audit of a package that also holds it.
-use Rattle.std.proofs.Common.{◌≡◌, ◌≤◌, inl, ℕ, List, [], ◌∷◌, length, Some, codes, refl}
+use Rattle.std.proofs.Common.{inl, ℕ, List, [], ◌∷◌, refl}
 use Rattle.board_io.specs.Package.{Files}
-use Rattle.board_package.specs.PackageBoard.{Goes, IsBoardOf, IsHeld, Walks}
+use Rattle.board_package.specs.PackageBoard.{IsBoardOf, IsHeld, Walks}
 use Rattle.board_package.specs.declared.entry.Entry.{Entry}
 use Rattle.board_shapes.specs.Plain.{PlainBoard}
 use Rattle.boardnet.specs.Laws.{HoldsReport, ReportsPass}

@@ -1,5 +1,5 @@
 -- The outcomes of the commands.
-use Rattle.std.specs.Prelude.{◌≡◌, ◌⊎◌, ◌↔◌, ℕ, List, ◌++◌, length, Option, IfSome, codes, decimal}
+use Rattle.std.specs.Prelude.{◌≡◌, ◌⊎◌, ◌↔◌, ℕ, List, ◌++◌, length, codes, decimal}
 use Rattle.board_io.specs.Package.{Files}
 use Rattle.board_package.specs.PackageBoard.{Stop, absent, longer, not_json, bad_manifest, refused, frame_too_large, Comes, IsBoardOf, IsFirstStop, IsHeldWith, StopsTaking}
 use Rattle.board_package.specs.declared.reading.Refusal.{Refusal}

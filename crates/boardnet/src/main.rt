@@ -19,6 +19,7 @@ pub mod words;
 use board_io::{FolderPackage, StreamSink};
 use run::run;
 use std::env;
+use std::io::ErrorKind;
 use std::process::ExitCode;
 
 /// The status where the system does not give the words of the command line.
@@ -31,6 +32,7 @@ const NO_MEMORY: u8 = 6;
 fn words_of(rt: &HostRuntime) -> Result<Vec<String>, u8> {
     let args = match env::args(rt) {
         Ok(args) => args,
+        Err(error) if error.kind() == ErrorKind::OutOfMemory => return Err(NO_MEMORY),
         Err(_) => return Err(NO_WORDS),
     };
     args.skip(1).collect(rt.alloc()).map_err(|_| NO_MEMORY)

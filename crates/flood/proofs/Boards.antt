@@ -1,22 +1,19 @@
 -- A list of placed shapes and the plain pieces of a board: what touches and what is under is the same.
-use Rattle.std.proofs.Common.{◌≡◌, ◌≢◌, ℕ, ◌<◌, List, [], ◌∷◌, ◌++◌, length, map, All, Option, Some, None, slice_get, slice_index_or, option_map, refl, sym, ap, subst, ◌∙◌}
+use Rattle.std.proofs.Common.{◌≡◌, ℕ, List, [], ◌∷◌, ◌++◌, length, Option, Some, None, slice_get, slice_index_or, option_map, refl, sym, ap, subst, ◌∙◌}
 use Rattle.std.proofs.lemmas.List.{length-map}
 use Rattle.std.proofs.lemmas.List.Elements.{All-weaker}
 use Rattle.std.proofs.lemmas.Option.{slice_get-map, slice_get_within}
-use Rattle.board_shapes.specs.Figures.{InFigure}
 use Rattle.board_shapes.specs.Plain.{PlainBoard, PlainPiece, plain_piece, plain_pieces}
 use Rattle.board_shapes.specs.Shapes.{InShape}
 use Rattle.board_shapes.specs.Tables.{IsNear as IsNearOn}
-use Rattle.board_shapes.specs.Touching.{IsUnder, Touch, TouchAt, UnderAt}
+use Rattle.board_shapes.specs.Touching.{IsUnder, Touch, UnderAt}
 use Rattle.board_shapes.specs.declared.placed.Placed.{Placed}
-use Rattle.board_shapes.specs.declared.probe.Probe.{Probe}
 use Rattle.board_shapes.specs.declared.shape.Shape.{Shape}
 use Rattle.cell_index.specs.Among.{TouchAmong, UnderAmong}
 use Rattle.cell_index.specs.Field.{IsNear}
 use Rattle.cell_index.specs.Homes.{UnderProbe}
 use Rattle.flood.proofs.Points.{least_along}
 use Rattle.flood.specs.Laws.{HomesAreOfTheBoard, NetsAreOfTheBoard}
-use Rattle.tables.specs.Lists.{AreLeast}
 use Rattle.verdict.specs.Forest.{Hang, IsForest, IsTree}
 use Rattle.verdict.specs.declared.verdict.Twig.{Twig}
 

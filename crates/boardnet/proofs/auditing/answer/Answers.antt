@@ -1,4 +1,4 @@
-use Rattle.std.proofs.Common.{◌≡◌, ◌++◌, ◌∙◌, List, ℕ, codes, decimal, refl, rules, subst, sym}
+use Rattle.std.proofs.Common.{◌≡◌, ◌++◌, ◌∙◌, codes, decimal, refl, rules, subst, sym}
 use Rattle.board_io.specs.Causes.{Rose}
 use Rattle.board_io.specs.Sink.{GainsFrontOf}
 use Rattle.boardnet.specs.Answers.{Answers}

@@ -1,4 +1,4 @@
-use Rattle.std.proofs.Common.{◌≡◌, ℕ, List, [], suc, subst, sym, rules}
+use Rattle.std.proofs.Common.{◌≡◌, ℕ, List, [], subst, sym, rules}
 use denote.Ref.{Bor}
 use Rattle.board_io.specs.declared.sink.Put.TheVariants.{Failed}
 use Rattle.boardnet.specs.Lines.{Says}

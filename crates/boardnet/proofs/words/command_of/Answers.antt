@@ -1,4 +1,4 @@
-use Rattle.std.proofs.Common.{◌≡◌, ◌<◌, ◌≤◌, ℕ, List, [], ◌∷◌, length, get_or, map, codes, string_bytes, arith, rules, refl, sym, ap, ◌∙◌}
+use Rattle.std.proofs.Common.{◌≡◌, ◌<◌, ◌≤◌, List, [], ◌∷◌, length, get_or, map, codes, string_bytes, arith, rules, refl, sym, ap, ◌∙◌}
 use Rattle.boardnet.proofs.words.command_of.Goals as goal
 
 -- a list of two items, and one of three

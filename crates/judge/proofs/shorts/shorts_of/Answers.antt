@@ -1,4 +1,4 @@
-use Rattle.std.proofs.Common.{◌≡◌, ◌+◌, [], List, All, Contains, arith, sym, ◌∙◌, subst}
+use Rattle.std.proofs.Common.{◌≡◌, [], List, All, Contains, arith, sym, ◌∙◌, subst}
 use Rattle.std.proofs.lemmas.List.{get_or_read}
 use Rattle.verdict.specs.declared.verdict.Twig.{Twig}
 use Rattle.verdict.specs.Forest.{pieces_of, net_at}
