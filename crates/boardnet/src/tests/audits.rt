@@ -52,16 +52,27 @@ fn shorted(alloc: Global) -> Result<MemoryPackage, Fail> {
     Ok(package)
 }
 
+// Where the part first stands in the text, or the text's end.
+fn place_of(text: &[u8], part: &[u8]) -> usize {
+    for i in 0..text.len() {
+        if text[i..].starts_with(part) {
+            return i;
+        }
+    }
+    text.len()
+}
+
 // A text with the first place of a part replaced.
 fn replaced(alloc: Global, text: &[u8], part: &[u8], by: &[u8]) -> Result<Vec<u8>, Fail> {
-    let at = text
-        .windows(part.len())
-        .position(|window| window == part)
-        .unwrap_or(text.len());
-    let mut changed = Vec::from_slice(alloc, &text[..at])?;
-    changed.extend_from_slice(by)?;
-    if at < text.len() {
-        changed.extend_from_slice(&text[at + part.len()..])?;
+    let at = place_of(text, part);
+    let mut changed = Vec::new(alloc);
+    for (i, byte) in text.iter().enumerate() {
+        if i == at {
+            changed.extend_from_slice(by)?;
+        }
+        if i < at || i.saturating_sub(at) >= part.len() {
+            changed.push(*byte)?;
+        }
     }
     Ok(changed)
 }
