@@ -1,0 +1,10 @@
+-- Whether a text is a word, or begins with one.
+use Rattle.std.specs.Prelude.{ℕ, Bool, nat_eq, List}
+use Rattle.std.specs.List.{starts_with}
+use Rattle.std.specs.Cmp.Lexicographic.{pointwise}
+
+abbrev pub is : List ℕ → List ℕ → Bool
+is text word = pointwise nat_eq text word
+
+abbrev pub begins : List ℕ → List ℕ → Bool
+begins text front = starts_with nat_eq text front

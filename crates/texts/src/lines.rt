@@ -1,0 +1,94 @@
+// The lines of a file, one after another.
+ghost use Rattle.std.specs.Prelude.{◌≡◌, ◌≤◌, ◌+◌, length};
+ghost use Rattle.texts.specs.Lines as spec;
+
+use crate::parts::place_of;
+
+/// A line of a file: its number, from 1, the place of its first byte, and its bytes without the line end.
+#[derive(Clone, Copy, Debug)]
+pub struct Line<'a> {
+    pub number: u32,
+    pub at: usize,
+    pub text: &'a [u8],
+}
+
+/// A file that is read line by line.
+#[derive(Drop)]
+pub struct Lines<'a> {
+    number: u32,
+    at: usize,
+    rest: &'a [u8],
+    ghost fits: { at + length rest.now ≤ 67108864 },
+    ghost counts: { number ≤ at + 1 },
+}
+
+// The text without a carriage return at its end.
+fn without_return(text: &[u8]) -> &[u8]
+    ensures { result.now ≡ spec.without_return text.now }
+{
+    if text.ends_with(b"\r") {
+        &text[..text.len() - 1]
+    } else {
+        text
+    }
+}
+
+impl<'a> Lines<'a> {
+    ghost use Rattle.texts.specs.Lines.{start};
+    ghost use Rattle.texts.specs.Stepping.{Gives, Shortens, ahead};
+
+    /// A file of at most 67,108,864 bytes, before its first line.
+    pub fn new(file: &'a [u8]) -> Lines<'a>
+        requires { length file.now ≤ 67108864 }
+        ensures { ahead result ≡ start file.now }
+    {
+        Lines {
+            number: 1,
+            at: 0,
+            rest: file,
+        }
+    }
+
+    /// The number of the line that comes next, or that would come after the last.
+    pub fn number(&self) -> u32
+        ensures { result ≡ (ahead self.now).number }
+    {
+        self.number
+    }
+
+    /// The next line, or `None` after the last.
+    pub fn next_line(&mut self) -> Option<Line<'a>>
+        ensures next { Gives (ahead self.old) result (ahead self.new) }
+        ensures shorter { Shortens (ahead self.old) result (ahead self.new) }
+    {
+        let number = self.number;
+        let at = self.at;
+        let rest = self.rest;
+        if rest.is_empty() {
+            return None;
+        }
+        let len = place_of(rest, b'\n');
+        if len == rest.len() {
+            *self = Lines {
+                number: number + 1,
+                at: at + len,
+                rest: &[],
+            };
+            return Some(Line {
+                number,
+                at,
+                text: rest,
+            });
+        }
+        *self = Lines {
+            number: number + 1,
+            at: at + len + 1,
+            rest: &rest[len + 1..],
+        };
+        Some(Line {
+            number,
+            at,
+            text: without_return(&rest[..len]),
+        })
+    }
+}
