@@ -1,12 +1,12 @@
 //! Areas with areas, capsules and spots. The answers were worked out by exact fractions: every cell of
 //! the plane that the edges cut out was asked, by rays upwards.
-ghost use Rattle.planar.specs.Plane.{IsPlaced};
-ghost use Rattle.std.specs.Prelude.{◌<◌, ◌≡◌};
+ghost use Rattle.planar.specs.Plane.{IsPlaced, IsWithin};
+ghost use Rattle.std.specs.Prelude.{pos, ◌<◌, ◌≡◌, ◌≤ℤ◌};
 
 use super::*;
 use Outline::*;
 use contact::{Capsule, Closed, Meets};
-use planar::Frame;
+use planar::{Frame, ray_crosses, segments_meet, segments_within};
 use std::alloc::{AllocError, Global};
 use std::marker::Brand;
 use std::sync::ledger::{Blank, Ledger};
@@ -245,56 +245,239 @@ fn placed(x: i64, y: i64) -> Spot
     }
 }
 
-/// The spot moved, and where wanted turned and five times as far out: no answer changes by that.
-fn spot(at: (i16, i16), by: (i16, i16), turn: bool) -> Spot
-    ensures { IsPlaced result }
-{
-    let x = at.0 as i64 + by.0 as i64;
-    let y = at.1 as i64 + by.1 as i64;
-    if turn {
-        let (across, up) = (x.wrapping_mul(3), y.wrapping_mul(3));
-        placed(
-            across.wrapping_sub(y.wrapping_mul(4)),
-            up.wrapping_add(x.wrapping_mul(4)),
+/// A spot well inside the frame.
+#[derive(Clone, Copy)]
+struct Corner {
+    at: Spot,
+    ghost across: { IsWithin 1_000_000 at.x },
+    ghost up: { IsWithin 1_000_000 at.y },
+}
+
+/// How a figure is drawn: its edges cut into parts, all of them or the first alone, and the whole as
+/// many times as large; and turned, five times as far out. No answer changes by that. Where only the
+/// first is cut, others reach over many bands.
+#[derive(Clone, Copy)]
+struct View {
+    parts: u8,
+    all: bool,
+    turn: bool,
+}
+
+const VIEWS: [View; 6] = [
+    View {
+        parts: 1,
+        all: true,
+        turn: false,
+    },
+    View {
+        parts: 1,
+        all: true,
+        turn: true,
+    },
+    View {
+        parts: 22,
+        all: true,
+        turn: false,
+    },
+    View {
+        parts: 22,
+        all: true,
+        turn: true,
+    },
+    View {
+        parts: 66,
+        all: false,
+        turn: false,
+    },
+    View {
+        parts: 66,
+        all: false,
+        turn: true,
+    },
+];
+
+/// The place after `k` parts of the way from a spot to another, both moved.
+fn part(from: (i16, i16), to: (i16, i16), by: (i16, i16), k: u8, view: View) -> Corner {
+    let (parts, k) = (view.parts as i64, k as i64);
+    let across = (to.0 as i64).wrapping_sub(from.0 as i64).wrapping_mul(k);
+    let up = (to.1 as i64).wrapping_sub(from.1 as i64).wrapping_mul(k);
+    let x = (from.0 as i64 + by.0 as i64)
+        .wrapping_mul(parts)
+        .wrapping_add(across);
+    let y = (from.1 as i64 + by.1 as i64)
+        .wrapping_mul(parts)
+        .wrapping_add(up);
+    let (x, y) = if view.turn {
+        (
+            x.wrapping_mul(3).wrapping_sub(y.wrapping_mul(4)),
+            y.wrapping_mul(3).wrapping_add(x.wrapping_mul(4)),
         )
     } else {
-        placed(x, y)
+        (x, y)
+    };
+    Corner {
+        at: Spot {
+            x: x.clamp(-1_000_000, 1_000_000),
+            y: y.clamp(-1_000_000, 1_000_000),
+        },
     }
 }
 
-fn radius(r: i16, turn: bool) -> i64 {
-    if turn {
-        (r as i64).wrapping_mul(5)
-    } else {
-        r as i64
+fn spot(at: (i16, i16), view: View) -> Corner {
+    part(at, at, (0, 0), 0, view)
+}
+
+/// A capsule by its ends and its radius.
+#[derive(Clone, Copy)]
+struct Track {
+    a: Corner,
+    b: Corner,
+    r: i64,
+    ghost from_zero: { IsWithin 1_000_000 r × pos 0 ≤ℤ r },
+}
+
+fn track_of(a: (i16, i16), b: (i16, i16), r: i16, view: View) -> Track {
+    let scale = if view.turn { 5_i64 } else { 1 };
+    let r = (r as i64)
+        .wrapping_mul(scale)
+        .wrapping_mul(view.parts as i64);
+    Track {
+        a: spot(a, view),
+        b: spot(b, view),
+        r: r.clamp(0, 1_000_000),
     }
 }
 
-fn round(a: (i16, i16), b: (i16, i16), r: i16, turn: bool) -> Capsule {
-    let (start, end) = (spot(a, (0, 0), turn), spot(b, (0, 0), turn));
-    Capsule::new(start, end, radius(r, turn).clamp(0, METRE))
+/// The corners of a contour, with those that the view puts between them.
+fn corners_of(
+    alloc: Global,
+    outline: &[(i16, i16)],
+    by: (i16, i16),
+    view: View,
+) -> Result<Vec<Corner>, AllocError> {
+    let mut corners = Vec::new(alloc);
+    let mut from = None;
+    let mut cut = true;
+    for to in outline {
+        if let Some(from) = from {
+            for k in 0..if cut { view.parts } else { 1 } {
+                corners.push(part(from, *to, by, k, view))?;
+            }
+            cut = view.all;
+        }
+        from = Some(*to);
+    }
+    if let Some(last) = from {
+        corners.push(part(last, last, by, 0, view))?;
+    }
+    Ok(corners)
+}
+
+fn area_of(alloc: Global, corners: &[Corner]) -> Result<Result<Area, AreaFault>, AllocError> {
+    let mut points = Vec::new(alloc);
+    for corner in corners {
+        points.push(corner.at)?;
+    }
+    Ok(Area::new(alloc, points))
 }
 
 fn contour(
     alloc: Global,
-    corners: &[(i16, i16)],
+    outline: &[(i16, i16)],
     by: (i16, i16),
-    turn: bool,
+    view: View,
 ) -> Result<Result<Area, AreaFault>, AllocError> {
-    let mut points = Vec::new(alloc);
-    for at in corners {
-        points.push(spot(*at, by, turn))?;
+    area_of(alloc, &corners_of(alloc, outline, by, view)?)
+}
+
+/// Whether the edge comes into the capsule.
+fn edge_reaches(from: Corner, to: Corner, track: Track) -> bool {
+    segments_within(from.at, to.at, track.a.at, track.b.at, track.r, FRAME)
+}
+
+/// Whether an edge comes into the capsule, by a walk over all edges.
+fn walk_reaches(corners: &[Corner], track: Track) -> bool {
+    for i in 1..corners.len() {
+        if edge_reaches(corners[i - 1], corners[i], track) {
+            return true;
+        }
     }
-    Ok(Area::new(alloc, points))
+    false
+}
+
+/// Whether the ray from the spot to the right crosses an odd number of edges, by a walk over all.
+fn walk_crossed(corners: &[Corner], p: Corner) -> bool {
+    let mut odd = false;
+    for i in 1..corners.len() {
+        odd = odd != ray_crosses(corners[i - 1].at, corners[i].at, p.at);
+    }
+    odd
+}
+
+fn walk_track(corners: &[Corner], track: Track) -> bool {
+    walk_reaches(corners, track) || walk_crossed(corners, track.a)
+}
+
+/// Whether an edge shares a point with the edge, by a walk over all.
+fn walk_meets(corners: &[Corner], from: Corner, to: Corner) -> bool {
+    for i in 1..corners.len() {
+        if segments_meet(corners[i - 1].at, corners[i].at, from.at, to.at) {
+            return true;
+        }
+    }
+    false
+}
+
+/// Whether areas share a point, by a walk over all pairs of edges.
+fn walk_areas(corners: &[Corner], others: &[Corner]) -> bool {
+    for i in 1..others.len() {
+        if walk_meets(corners, others[i - 1], others[i]) {
+            return true;
+        }
+    }
+    match (corners.first(), others.first()) {
+        (Some(c), Some(o)) => walk_crossed(others, *c) || walk_crossed(corners, *o),
+        _ => false,
+    }
 }
 
 /// A contour of so many points, all one spot.
 fn many(alloc: Global, count: usize) -> Result<Result<Area, AreaFault>, AllocError> {
-    let mut points = Vec::new(alloc);
+    let mut corners = Vec::new(alloc);
     for _ in 0..count {
-        points.push(spot((7, 7), (0, 0), false))?;
+        corners.push(spot((7, 7), VIEWS[0]))?;
+    }
+    area_of(alloc, &corners)
+}
+
+/// Corner `i` of a strip of 10 by 64, whose right side goes up in 64 steps: 67 edges, the last of them
+/// down the left side.
+fn rung(i: u8) -> Spot
+    ensures { IsPlaced result }
+{
+    match i {
+        0 | 67 => placed(0, 0),
+        66 => placed(0, 64),
+        _ => placed(10, i.wrapping_sub(1) as i64),
+    }
+}
+
+fn rungs(alloc: Global) -> Result<Result<Area, AreaFault>, AllocError> {
+    let mut points = Vec::new(alloc);
+    for i in 0..68 {
+        points.push(rung(i))?;
     }
     Ok(Area::new(alloc, points))
+}
+
+/// The edges in the band of a height, or nothing where the box does not reach it.
+fn banded(area: &Area, y: i64) -> Option<&[u32]> {
+    let b = area.bounds();
+    if b.low <= y && y <= b.high {
+        Some(area.banded(y))
+    } else {
+        None
+    }
 }
 
 /// Whether two solids share a point, asked through the bounds of the traits alone; nothing where they
@@ -316,19 +499,19 @@ fn areas_share(first: &Area, second: &Area) -> Option<bool> {
     share::<Area, Area, Brand>(first, second, Blank::new(1))
 }
 
-fn area_shares(area: &Area, capsule: &Capsule) -> Option<bool> {
-    share::<Area, Capsule, Brand>(area, capsule, Blank::new(1))
+fn area_shares(area: &Area, track: Track) -> Option<bool> {
+    let capsule = Capsule::new(track.a.at, track.b.at, track.r);
+    share::<Area, Capsule, Brand>(area, &capsule, Blank::new(1))
 }
 
-fn capsule_shares(capsule: &Capsule, area: &Area) -> Option<bool> {
-    share::<Capsule, Area, Brand>(capsule, area, Blank::new(1))
+fn capsule_shares(track: Track, area: &Area) -> Option<bool> {
+    let capsule = Capsule::new(track.a.at, track.b.at, track.r);
+    share::<Capsule, Area, Brand>(&capsule, area, Blank::new(1))
 }
 
-fn holds(area: &Area, p: Spot) -> Option<bool>
-    requires { IsPlaced p }
-{
+fn holds(area: &Area, p: Corner) -> Option<bool> {
     if area.bounds().inside(FRAME) {
-        Some(area.has(p, FRAME))
+        Some(area.has(p.at, FRAME))
     } else {
         None
     }
@@ -337,9 +520,12 @@ fn holds(area: &Area, p: Spot) -> Option<bool>
 #[test]
 fn pairs_of_areas(rt: HostRuntime) -> Result<(), Fail> {
     for (first, second, by, want) in pairs() {
-        for turn in [false, true] {
-            let first = contour(rt.alloc(), first.corners(), (0, 0), turn)?.expect(&rt, "first");
-            let second = contour(rt.alloc(), second.corners(), by, turn)?.expect(&rt, "second");
+        for view in VIEWS {
+            let corners = corners_of(rt.alloc(), first.corners(), (0, 0), view)?;
+            let others = corners_of(rt.alloc(), second.corners(), by, view)?;
+            let first = area_of(rt.alloc(), &corners)?.expect(&rt, "first");
+            let second = area_of(rt.alloc(), &others)?.expect(&rt, "second");
+            assert!(rt; walk_areas(&corners, &others) == want);
             assert!(rt; areas_share(&first, &second) == Some(want));
             assert!(rt; areas_share(&second, &first) == Some(want));
         }
@@ -349,17 +535,20 @@ fn pairs_of_areas(rt: HostRuntime) -> Result<(), Fail> {
 
 #[test]
 fn areas_with_capsules_and_spots(rt: HostRuntime) -> Result<(), Fail> {
-    for (outline, a, b, r, want) in rounds() {
-        for turn in [false, true] {
-            let area = contour(rt.alloc(), outline.corners(), (0, 0), turn)?.expect(&rt, "area");
-            assert!(rt; area_shares(&area, &round(a, b, r, turn)) == Some(want));
-            assert!(rt; capsule_shares(&round(a, b, r, turn), &area) == Some(want));
+    for view in VIEWS {
+        for (outline, a, b, r, want) in rounds() {
+            let corners = corners_of(rt.alloc(), outline.corners(), (0, 0), view)?;
+            let area = area_of(rt.alloc(), &corners)?.expect(&rt, "area");
+            let track = track_of(a, b, r, view);
+            assert!(rt; walk_track(&corners, track) == want);
+            assert!(rt; area_shares(&area, track) == Some(want));
+            assert!(rt; capsule_shares(track, &area) == Some(want));
         }
-    }
-    for (outline, p, want) in holdings() {
-        for turn in [false, true] {
-            let area = contour(rt.alloc(), outline.corners(), (0, 0), turn)?.expect(&rt, "area");
-            assert!(rt; holds(&area, spot(p, (0, 0), turn)) == Some(want));
+        for (outline, p, want) in holdings() {
+            let corners = corners_of(rt.alloc(), outline.corners(), (0, 0), view)?;
+            let area = area_of(rt.alloc(), &corners)?.expect(&rt, "area");
+            assert!(rt; walk_track(&corners, track_of(p, p, 0, view)) == want);
+            assert!(rt; holds(&area, spot(p, view)) == Some(want));
         }
     }
     Ok(())
@@ -374,15 +563,77 @@ fn fault_of(made: Result<Area, AreaFault>) -> Option<AreaFault> {
 
 #[test]
 fn faults(rt: HostRuntime) -> Result<(), Fail> {
-    let open = contour(rt.alloc(), &[(0, 0), (1, 0), (1, 1), (0, 1)], (0, 0), false)?;
+    let open = contour(
+        rt.alloc(),
+        &[(0, 0), (1, 0), (1, 1), (0, 1)],
+        (0, 0),
+        VIEWS[0],
+    )?;
     assert!(rt; fault_of(open) == Some(AreaFault::Open));
-    let open = contour(rt.alloc(), &[(0, 0), (1, 0)], (0, 0), false)?;
+    let open = contour(rt.alloc(), &[(0, 0), (1, 0)], (0, 0), VIEWS[0])?;
     assert!(rt; fault_of(open) == Some(AreaFault::Open));
-    let short = contour(rt.alloc(), &[(0, 0), (1, 0), (0, 0)], (0, 0), false)?;
+    let short = contour(rt.alloc(), &[(0, 0), (1, 0), (0, 0)], (0, 0), VIEWS[0])?;
     assert!(rt; fault_of(short) == Some(AreaFault::Short));
-    assert!(rt; fault_of(contour(rt.alloc(), &[], (0, 0), false)?) == Some(AreaFault::Short));
+    assert!(rt; fault_of(contour(rt.alloc(), &[], (0, 0), VIEWS[0])?) == Some(AreaFault::Short));
     assert!(rt; fault_of(many(rt.alloc(), 100_002)?) == Some(AreaFault::TooLong));
     let full = many(rt.alloc(), 100_001)?.expect(&rt, "full");
     assert_eq!(rt; full.edges(), 100_000);
+    Ok(())
+}
+
+#[test]
+fn bands_of_few_edges(rt: HostRuntime) -> Result<(), Fail> {
+    let plate = contour(rt.alloc(), Outline::Plate.corners(), (0, 0), VIEWS[0])?.expect(
+        &rt, "plate",
+    );
+    assert!(rt; banded(&plate, 7) == Some([0, 1, 2, 3, 4, 5, 6, 7, 8, 9, 10, 11].as_slice()));
+    assert!(rt; plate.tall().is_empty());
+    Ok(())
+}
+
+#[test]
+fn bands_of_many_edges(rt: HostRuntime) -> Result<(), Fail> {
+    let plate = contour(rt.alloc(), Outline::Plate.corners(), (0, 0), VIEWS[4])?.expect(
+        &rt, "plate",
+    );
+    assert!(rt; banded(&plate, 660) == Some([69, 75].as_slice()));
+    assert!(rt; plate.tall() == [66, 68, 70, 72, 74, 76].as_slice());
+    let area = rungs(rt.alloc())?.expect(&rt, "rungs");
+    assert!(rt; banded(&area, 0) == Some([0, 1, 2].as_slice()));
+    assert!(rt; banded(&area, 3) == Some([2, 3, 4].as_slice()));
+    assert!(rt; banded(&area, 64) == Some([64, 65].as_slice()));
+    assert!(rt; banded(&area, 65) == None);
+    assert!(rt; area.tall() == [66].as_slice());
+    for (p, want) in [
+        ((5, 5), true),
+        ((11, 5), false),
+        ((10, 33), true),
+        ((0, 40), true),
+        ((-1, 40), false),
+    ] {
+        assert!(rt; holds(&area, spot(p, VIEWS[0])) == Some(want));
+    }
+    for (a, r, want) in [
+        ((12, 33), 2, true),
+        ((12, 33), 1, false),
+        ((-3, 9), 3, true),
+        ((-3, 9), 2, false),
+        ((4, 30), 1, true),
+    ] {
+        assert!(rt; area_shares(&area, track_of(a, a, r, VIEWS[0])) == Some(want));
+    }
+    for (by, want) in [
+        ((10, 20), true),
+        ((11, 20), false),
+        ((-2, 63), true),
+        ((4, 30), true),
+        ((4, 65), false),
+    ] {
+        let square = contour(rt.alloc(), Outline::Square.corners(), by, VIEWS[0])?.expect(
+            &rt, "square",
+        );
+        assert!(rt; areas_share(&area, &square) == Some(want));
+        assert!(rt; areas_share(&square, &area) == Some(want));
+    }
     Ok(())
 }
