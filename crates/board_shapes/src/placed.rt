@@ -21,13 +21,14 @@ pub struct Origin {
     pub copy: u32,
 }
 
-/// A solid with its span of layers, 1 <= top <= bottom.
+/// A solid with its span of layers, from its top layer to its bottom one: 1 <= top <= bottom.
 #[derive(Drop)]
 pub struct Placed<S> {
     pub shape: S,
     pub top: u8,
     pub bottom: u8,
     pub origin: Origin,
+    ghost span: { (1 ≤ top) × (top ≤ bottom) },
 }
 
 /// A piece of copper or a plated barrel.

@@ -2,7 +2,7 @@
 ghost use Rattle.board_shapes.specs.Lawful.{IsOnLayers};
 ghost use Rattle.contact.specs.Round.{IsCapsuleRadius};
 ghost use Rattle.planar.specs.Plane.{IsPlaced};
-ghost use Rattle.std.specs.Prelude.{All, IfOk, length, ◌<◌, ◌≡◌};
+ghost use Rattle.std.specs.Prelude.{All, IfOk, length, ◌<◌, ◌≡◌, ◌≤◌};
 
 use crate::{Board, BoardFault, MoveFault, Origin, Piece, Placed, Shape};
 use area_contact::{Area, AreaFault};
@@ -26,6 +26,7 @@ const ORIGIN: Origin = Origin {
 fn disc(at: Spot, r: i64, top: u8, bottom: u8) -> Piece
     requires placed { IsPlaced at }
     requires radius { IsCapsuleRadius r }
+    requires span { (1 ≤ top) × (top ≤ bottom) }
     ensures top { result.top ≡ top }
     ensures bottom { result.bottom ≡ bottom }
 {
@@ -78,6 +79,8 @@ fn spans(rt: HostRuntime) {
         (2, 3, 1, 4, 1, true, false),
         (3, 4, 1, 2, 4, false, true),
     ] {
+        assert!(rt; 1 <= top && top <= bottom, "a span");
+        assert!(rt; 1 <= other_top && other_top <= other_bottom, "a span");
         let first = disc(at, 5_000_000, top, bottom);
         let second = disc(at, 1_000_000, other_top, other_bottom);
         let asked = touch_and_under::<Shape, Brand>(&first, &second, layer, Blank::new(1));
