@@ -50,10 +50,14 @@ count_at digits =
 unfoldable pub decimal_at : List ℕ → Result Fraction RepeatFault
 decimal_at text = if is_decimal text then Ok (fraction text) else Err BadText
 
+-- how a step that is no position is refused
+abbrev pub fault_of : GridFault → RepeatFault
+fault_of grid.OffGrid = OffGrid
+fault_of grid.OutOfRange = OutOfRange
+
 abbrev pub as_fault : Result ℤ GridFault → Result ℤ RepeatFault
 as_fault (Ok u) = Ok u
-as_fault (Err grid.OffGrid) = Err OffGrid
-as_fault (Err grid.OutOfRange) = Err OutOfRange
+as_fault (Err fault) = Err (fault_of fault)
 
 -- the position that a decimal is
 unfoldable pub step_at : Fraction → Measure → Result ℤ RepeatFault

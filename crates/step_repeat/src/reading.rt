@@ -9,7 +9,7 @@ ghost use Rattle.step_repeat.specs.Repeats.{IsLawful, repeat_at};
 
 use crate::fault::RepeatFault;
 use crate::repeat::Repeat;
-use lengths::{Decimal, GridFault, Unit, digits_value, read_decimal};
+use lengths::{Decimal, Unit, digits_value, read_decimal};
 use texts::{after, all_digits, before, has};
 
 impl Repeat {
@@ -122,9 +122,6 @@ fn step(decimal: Decimal, unit: Unit) -> Result<i64, RepeatFault>
     ensures value { result ≡ spec.step_at decimal unit }
     ensures short { IfOk result IsReached }
 {
-    match decimal.position(unit) {
-        Ok(len) => Ok(len.u()),
-        Err(GridFault::OffGrid) => Err(RepeatFault::OffGrid),
-        Err(GridFault::OutOfRange) => Err(RepeatFault::OutOfRange),
-    }
+    let len = decimal.position(unit)?;
+    Ok(len.u())
 }

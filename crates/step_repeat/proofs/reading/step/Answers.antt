@@ -1,18 +1,17 @@
 use Rattle.std.proofs.Common.{◌∙◌, ap, Ok, Err, rules}
 use Rattle.std.proofs.lemmas.Int.{to_z-of_z}
+use Rattle.std.proofs.lemmas.Result.{err_from_is_err_and}
 use mir.Val.{SFits}
 use Rattle.std.specs.Int.{w64}
-use Rattle.lengths.specs.declared.decimal.GridFault.TheVariants as grid
 use Rattle.step_repeat.proofs.Steps.{step_is}
 use Rattle.step_repeat.proofs.reading.step.Goals as goal
 
-pub returns-in-Ok-clause-value : goal.returns-in-Ok-clause-value
-returns-in-Ok-clause-value c =
+pub returns-clause-value : goal.returns-clause-value
+returns-clause-value c =
     let fits : SFits w64 c.u.result = search rules in
-    ap Ok (to_z-of_z w64 c.u.result fits ∙ c.u.ensures.value) ∙ step_is c.args.decimal c.args.unit (Ok c.in-Ok.len) c.in-Ok.ensures
+    ap Ok (to_z-of_z w64 c.u.result fits ∙ c.u.ensures.value) ∙ step_is c.args.decimal c.args.unit (Ok c.in_ok-len.len) c.in_ok-len.ensures
 
-pub returns-in-Err-OffGrid-clause-value : goal.returns-in-Err-OffGrid-clause-value
-returns-in-Err-OffGrid-clause-value c = step_is c.args.decimal c.args.unit (Err grid.OffGrid) (rw c.in-Err-OffGrid.field-0-is at c.in-Err-OffGrid.ensures)
-
-pub returns-in-Err-OutOfRange-clause-value : goal.returns-in-Err-OutOfRange-clause-value
-returns-in-Err-OutOfRange-clause-value c = step_is c.args.decimal c.args.unit (Err grid.OutOfRange) (rw c.in-Err-OutOfRange.field-0-is at c.in-Err-OutOfRange.ensures)
+pub returns-in_err-len-clause-value : goal.returns-in_err-len-clause-value
+returns-in_err-len-clause-value c =
+    let p = err_from_is_err_and c.from_residual.result c.from_residual.ensures.1 in
+    rw (p.1, p.2) (step_is c.args.decimal c.args.unit (Err c.in_err-len.field-0.0) c.in_err-len.ensures)
