@@ -1,5 +1,5 @@
 -- The state of the reader is what looking back finds.
-use Rattle.std.proofs.Common.{◌≡◌, ℕ, ◌+◌, Bool, true, false, cond, eqb, List, [], ◌∷◌, ◌++◌, length, ℤ, Option, Some, None, Result, Ok, refl, sym, ap, ◌∙◌, subst, arith}
+use Rattle.std.proofs.Common.{◌≡◌, ℕ, ◌+◌, Bool, true, false, cond, eqb, List, ◌∷◌, length, ℤ, Option, Some, None, Result, Ok, refl, sym, ap, ◌∙◌, subst, arith}
 use mathlib.Core.Path.{fun_ext}
 use Rattle.lengths.specs.declared.decimal.Unit.{Unit as Measure}
 use Rattle.planar.specs.declared.Spot.{Spot}
@@ -13,12 +13,12 @@ use Rattle.gerber_layer.specs.declared.command.Code.TheVariants.{Draw, Move, Fla
 use Rattle.gerber_layer.specs.declared.settings.Settings.{Settings}
 use Rattle.gerber_layer.specs.declared.dictionary.Dictionary.{Dictionary}
 use Rattle.gerber_layer.specs.declared.reader.Reader.{Reader}
-use Rattle.gerber_layer.specs.Table.{Place, Known, Effect, stays, makes, performs, extends, closes, opens, leaves, steps, concludes, code_of, coordinate, effect}
+use Rattle.gerber_layer.specs.Table.{Place, Known, Effect, stays, makes, steps, concludes, code_of, coordinate, effect}
 use Rattle.gerber_layer.specs.After.{after, contour_after, heads, opened}
 use Rattle.gerber_layer.specs.Settings.{or_else, value_or, value_in, settings_before, format_before, unit_before, x_before, y_before, point_before, region_open, drawn, contour_before, defined_before, definitions_before, ok_block}
 use Rattle.gerber_layer.specs.Image.{Image, with_effect, known_with, known_before, image_of}
 use Rattle.gerber_layer.specs.Reader.{defined_in, size_of, Adds, Turns, contour_of, known_of, place_of, Obeys}
-use Rattle.gerber_layer.proofs.Outcome.{Outcome, outcome, Goes, IsEffect}
+use Rattle.gerber_layer.proofs.Outcome.{Outcome, outcome, IsEffect}
 
 -- a coordinate's value
 value_is : (x : Option (List ℕ)) (format : Format) (unit : Measure) (here to : ℤ) → coordinate format unit here x ≡ Ok to → value_in x (Some format) (Some unit) here ≡ to

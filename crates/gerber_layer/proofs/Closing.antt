@@ -1,11 +1,12 @@
 -- What closing a contour comes to.
-use Rattle.std.proofs.Common.{◌≡◌, ℕ, ◌+◌, List, [], ◌++◌, Option, Some, None, Result, Ok, Err, refl, sym, ap, ◌∙◌, subst, append-nil}
+use Rattle.std.proofs.Common.{◌≡◌, ℕ, ◌+◌, List, [], ◌++◌, Option, Some, None, Result, Ok, Err, refl, sym, ap, ◌∙◌, subst}
 use Rattle.std.specs.Prelude.{OnOk, IfErr}
 use Rattle.planar.specs.declared.Spot.{Spot}
 use Rattle.board_shapes.specs.Figures.{Figure, filled}
-use Rattle.board_shapes.specs.Pieces.{PlainPiece, plain_pieces}
+use Rattle.board_shapes.specs.Pieces.{plain_pieces}
 use Rattle.regions.specs.Contours.{close_of}
-use Rattle.gerber_layer.specs.declared.kind.Halt.{Halt}
+use Rattle.file_reading.specs.declared.halt.Halt.{Halt}
+use Rattle.gerber_layer.specs.declared.kind.GerberKind.{GerberKind}
 use Rattle.gerber_layer.specs.declared.reader.Reader.{Reader}
 use Rattle.gerber_layer.specs.Table.{Place, Known, room_for, closing, area_if}
 use Rattle.gerber_layer.specs.Image.{made}
@@ -50,7 +51,7 @@ closes_after (Ok done) old bare new points a b c d e f g h p r = record {
   place = p.place ∙ f;
 }
 
-pub stops_after : {E : Type 0} (result : Result E Halt) (old bare : Reader) (points : List Spot) → bare.pieces ≡ old.pieces → place_of bare ≡ place_of old → close_of (contour_of old.contour) ≡ Ok (Some points) → IfErr result (Stops (room_for (known_of bare) (Some (filled points)))) → IfErr result (Stops (closing (known_of old)))
+pub stops_after : {E : Type 0} (result : Result E (Halt GerberKind)) (old bare : Reader) (points : List Spot) → bare.pieces ≡ old.pieces → place_of bare ≡ place_of old → close_of (contour_of old.contour) ≡ Ok (Some points) → IfErr result (Stops (room_for (known_of bare) (Some (filled points)))) → IfErr result (Stops (closing (known_of old)))
 stops_after result old bare points d f h s =
     let same : closing (known_of old) ≡ room_for (known_of bare) (Some (filled points)) = closing_is (known_of old) (Some points) h ∙ same_room (known_of old) (known_of bare) (Some (filled points)) (sym f) (ap (λ v. plain_pieces v.items) (sym d)) in
     subst (λ (r : Result (Option Figure) _). IfErr result (Stops r)) (sym same) s

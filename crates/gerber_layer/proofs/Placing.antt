@@ -1,5 +1,5 @@
 -- The pieces of a file stand on its layer.
-use Rattle.std.proofs.Common.{◌≡◌, ℕ, ◌+◌, ◌*◌, ℤ, pos, ◌*ℤ◌, ◌<◌, ◌≤◌, Bool, true, false, not, cond, List, [], ◌∷◌, ◌++◌, length, map, take, drop, All, Option, Some, None, Result, Ok, Err, IfOk, refl, sym, ap, subst, ◌∙◌}
+use Rattle.std.proofs.Common.{◌≡◌, ℕ, ◌+◌, ◌*◌, ℤ, pos, ◌*ℤ◌, ◌≤◌, Bool, true, false, cond, List, [], ◌∷◌, ◌++◌, length, map, take, drop, All, Option, Some, None, Result, Ok, Err, IfOk, refl, sym, subst}
 use Rattle.std.specs.List.{flat_map, range_with_len}
 use Rattle.std.proofs.lemmas.List.{length-map, get_or-map}
 use Rattle.std.proofs.lemmas.List.Elements.{All-append, All-cons, All-nil, All-take, All-drop, All-map, All-weaker}
@@ -13,14 +13,15 @@ use Rattle.step_repeat.specs.Copies.{copies_at, copies_of, placed_copies, are_pl
 use Rattle.step_repeat.specs.declared.repeat.Repeat.{Repeat}
 use Rattle.step_repeat.specs.declared.fault.CopyFault.{CopyFault}
 use Rattle.step_repeat.specs.declared.fault.CopyFault.TheVariants.{OutOfRange}
-use Rattle.gerber_layer.specs.Command.{Command, nothing, refused, formats, counts_in, defines, selects, repeats, functions, opens_region, closes_region, operates, ends, breaks, finishes}
+use Rattle.file_reading.specs.Reading.{said}
+use Rattle.gerber_layer.specs.Command.{Command, defines, repeats, opens_region, closes_region, operates, ends}
 use Rattle.gerber_layer.specs.declared.kind.GerberKind.{GerberKind}
 use Rattle.gerber_layer.specs.declared.kind.GerberKind.TheVariants as kind
 use Rattle.gerber_layer.specs.declared.command.Code.{Code}
 use Rattle.gerber_layer.specs.declared.command.Code.TheVariants.{Draw, Move, Flash}
-use Rattle.gerber_layer.specs.Table.{Place, Known, Effect, stays, makes, performs, extends, closes, opens, leaves, steps, concludes, ◌>>=◌, as_copies, kind_of_copy, with_copies, left, ended_block, next_block, repeat, row, effect, code_of}
+use Rattle.gerber_layer.specs.Table.{Place, Known, Effect, stays, makes, performs, extends, closes, opens, leaves, steps, concludes, ◌>>=◌, as_copies, with_copies, left, ended_block, next_block, repeat, row, effect, code_of}
 use Rattle.gerber_layer.specs.Image.{image_of, pieces_of, known_before, made, pieces_after, with_effect}
-use Rattle.gerber_layer.specs.Layer.{IsRead, commands}
+use Rattle.gerber_layer.specs.Layer.{IsRead}
 use Rattle.gerber_layer.proofs.Outcome.{bind_ok, past_test, outcome, IsEffect}
 
 -- the piece is on the layer
@@ -77,7 +78,7 @@ made_on p n None = All-nil (OnLayer p)
 made_on p n (Some figure) = All-cons (OnLayer p) _ [] (refl, refl) (All-nil (OnLayer p))
 
 -- it ends no block
-abbrev IsSimple : Effect → Type 0
+abbrev pub IsSimple : Effect → Type 0
 IsSimple (steps next all) = ⊥
 IsSimple (concludes all) = ⊥
 IsSimple other = Unit {0}
@@ -93,10 +94,10 @@ simple_on p n pieces (makes m aperture) simple h = h
 simple_on p n pieces (extends to) simple h = h
 simple_on p n pieces opens simple h = h
 
-simple_by : (e made' : Effect) → e ≡ made' → IsSimple made' → IsSimple e
+pub simple_by : (e made' : Effect) → e ≡ made' → IsSimple made' → IsSimple e
 simple_by e made' same simple = subst IsSimple (sym same) simple
 
-simple_effect : (e : Effect) (inside : Bool) (code : Code) (to : _) → IsEffect inside code to e → IsSimple e
+pub simple_effect : (e : Effect) (inside : Bool) (code : Code) (to : _) → IsEffect inside code to e → IsSimple e
 simple_effect e false code to h = simple_by e (performs to h.figure) h.is tt
 simple_effect e true Draw to h = simple_by e (extends to) h tt
 simple_effect e true Move to h = simple_by e (closes to h.0) h.1 tt
@@ -145,7 +146,7 @@ each_piece : (p : Place) (pieces : List (Placed Shape)) → All (OnLayer p) (pla
 each_piece p pieces h = λ i d below. subst (OnLayer p) (get_or-map plain_piece pieces i d (plain_piece d) below) (h i (plain_piece d) (rw (length-map pieces plain_piece) below))
 
 pub layer_read : {E V : Type 0} (items : V → List (Placed Shape)) (r : Result V E) (file : List ℕ) (p : Place) → IfOk r (λ v. IsRead file p (plain_pieces (items v))) → IfOk r (λ v. All (λ q. (q.top ≡ p.layer) × (q.bottom ≡ p.layer)) (items v))
-layer_read items (Ok v) file p read = each_piece p (items v) (subst (λ xs. All (OnLayer p) xs) (sym read.are) (pieces_on p (commands read.earlier)))
+layer_read items (Ok v) file p read = each_piece p (items v) (subst (λ xs. All (OnLayer p) xs) (sym read.2.is) (pieces_on p (said read.2.earlier)))
 layer_read items (Err why) file p read = tt
 
 -- the room of a place is the reader's

@@ -1,7 +1,6 @@
 -- Where an effect leads, before and after it is carried out.
-use Rattle.std.proofs.Common.{◌≡◌, ℕ, Option, Some, None, Result, Ok, Err, refl, sym, ap, ◌∙◌}
-use Rattle.planar.specs.declared.Spot.{Spot}
-use Rattle.board_shapes.specs.Figures.{Figure, figure_of}
+use Rattle.std.proofs.Common.{◌≡◌, Some, None, Result, Ok, sym, ap}
+use Rattle.board_shapes.specs.Figures.{figure_of}
 use Rattle.gerber_layer.specs.declared.kind.GerberKind.{GerberKind}
 use Rattle.gerber_layer.specs.declared.effect.Effect.{Effect as Seen}
 use Rattle.gerber_layer.specs.declared.effect.Effect.TheVariants as seen

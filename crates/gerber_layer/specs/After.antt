@@ -1,5 +1,5 @@
 -- What the reader keeps behind a command.
-use Rattle.std.specs.Prelude.{ℕ, true, false, List, [], ◌∷◌, Option, Some, None}
+use Rattle.std.specs.Prelude.{true, false, List, [], Option, Some, None}
 use Rattle.planar.specs.declared.Spot.{Spot}
 use Rattle.step_repeat.specs.declared.repeat.Repeat.{Repeat}
 use Rattle.gerber_layer.specs.Command.{Command, nothing, refused, formats, counts_in, defines, selects, repeats, functions, opens_region, closes_region, operates, ends, breaks, finishes}

@@ -1,23 +1,28 @@
 -- What the reader keeps, and how it goes on.
-use Rattle.std.specs.Prelude.{◌≡◌, ℕ, ◌+◌, ◌*◌, ◌^◌, ◌<◌, ◌≤◌, ◌==◌, false, if◌then◌else◌, List, [], ◌++◌, length, nat_eq, Option, Some, None, Result, Ok, Err, IfSome}
+use Rattle.std.specs.Prelude.{◌≡◌, ℕ, ◌+◌, ◌^◌, ◌<◌, ◌≤◌, ◌==◌, if◌then◌else◌, List, [], ◌++◌, length, nat_eq, Option, Some, None, Result, Ok, Err, IfSome}
 use Rattle.std.specs.HashMap.{get, hash_map_len}
 use Rattle.planar.specs.declared.Spot.{Spot}
 use Rattle.planar.specs.Plane.{IsPlaced}
 use Rattle.board_shapes.specs.Figures.{Figure, figure_of}
-use Rattle.board_shapes.specs.Pieces.{PlainPiece, plain_pieces}
+use Rattle.board_shapes.specs.Pieces.{plain_pieces}
 use Rattle.board_shapes.specs.declared.shape.Shape.{Shape}
 use Rattle.board_shapes.specs.declared.placed.Placed.{Placed}
 use Rattle.apertures.specs.declared.aperture.Aperture.{Aperture}
 use Rattle.apertures.specs.Flash.{IsLawful}
+use Rattle.apertures.specs.declared.fault.FlashFault.{FlashFault}
+use Rattle.apertures.specs.declared.fault.FlashFault.TheVariants as flash
+use Rattle.step_repeat.specs.declared.fault.CopyFault.{CopyFault}
+use Rattle.step_repeat.specs.declared.fault.CopyFault.TheVariants as copy
 use Rattle.step_repeat.specs.Repeats.{IsLawful as IsLawfulRepeat}
 use Rattle.step_repeat.specs.declared.repeat.Repeat.{Repeat}
 use Rattle.regions.specs.Contours.{points_of}
 use Rattle.regions.specs.declared.contour.Contour.{Contour}
 use Rattle.gerber_layer.specs.declared.kind.GerberKind.{GerberKind}
+use Rattle.gerber_layer.specs.declared.kind.GerberKind.TheVariants as kind
 use Rattle.gerber_layer.specs.declared.kind.LayerFault.{LayerFault}
 use Rattle.gerber_layer.specs.declared.kind.LayerFault.TheVariants as layer
-use Rattle.gerber_layer.specs.declared.kind.Halt.{Halt}
-use Rattle.gerber_layer.specs.declared.kind.Halt.TheVariants as halt
+use Rattle.file_reading.specs.declared.halt.Halt.{Halt}
+use Rattle.file_reading.specs.declared.halt.Halt.TheVariants as halt
 use Rattle.gerber_layer.specs.declared.effect.Effect.{Effect as Seen}
 use Rattle.gerber_layer.specs.declared.effect.Effect.TheVariants as seen
 use Rattle.gerber_layer.specs.declared.dictionary.Dictionary.{Dictionary}
@@ -164,9 +169,20 @@ pub record CarriesOut (old : Reader) (what : Result Effect GerberKind) (new : Re
   pub is : what ≡ Ok effect_is
   pub carries : Carries old effect_is new
 
+-- what stops the reader where a flash or the copies of a block fail
+abbrev pub halt_of_flash : FlashFault → Halt GerberKind
+halt_of_flash flash.OutOfRange = halt.Fault kind.OutOfRange
+halt_of_flash flash.NoMemory = halt.NoMemory
+
+abbrev pub halt_of_copy : CopyFault → Halt GerberKind
+halt_of_copy copy.TooManyPieces = halt.Fault kind.TooManyPieces
+halt_of_copy copy.TooManyEdges = halt.Fault kind.TooManyVertices
+halt_of_copy copy.OutOfRange = halt.Fault kind.OutOfRange
+halt_of_copy copy.NoMemory = halt.NoMemory
+
 -- What stops the reader is that fault, or want of memory.
-abbrev pub Stops : {A : Type 0} → Result A GerberKind → Halt → Type 0
-Stops what (halt.Refused fault) = what ≡ Err fault
+abbrev pub Stops : {A : Type 0} → Result A GerberKind → Halt GerberKind → Type 0
+Stops what (halt.Fault fault) = what ≡ Err fault
 Stops what halt.NoMemory = Unit {0}
 
 -- The reader has a piece more, if there is a figure.
@@ -212,8 +228,8 @@ pub record IsNew (p : Place) (r : Reader) : Type 0 where
   pub counts : r.commands ≡ 0
   pub place : place_of r ≡ p
 
-abbrev pub fault_at : Halt → ℕ → ℕ → LayerFault
-fault_at (halt.Refused kind) number at = layer.Refused kind number at
+abbrev pub fault_at : Halt GerberKind → ℕ → ℕ → LayerFault
+fault_at (halt.Fault kind) number at = layer.Refused kind number at
 fault_at halt.NoMemory number at = layer.NoMemory
 
 -- The reader obeys a last command, and these pieces are left.
@@ -224,6 +240,6 @@ pub record Leaves (r : Reader) (c : Command) (pieces : List (Placed Shape)) : Ty
 
 -- the fault of a command that stands at a place
 pub record Faults (r : Reader) (c : Command) (at : ℕ) (why : LayerFault) : Type 0 where
-  pub halt : Halt
+  pub halt : Halt GerberKind
   pub halts : Stops (effect (known_of r) c) halt
   pub is : why ≡ fault_at halt (r.commands + 1) at

@@ -1,5 +1,5 @@
 -- What earlier commands have set, found by looking back. A history is a list of commands, the last first.
-use Rattle.std.specs.Prelude.{ℕ, ◌+◌, Bool, true, false, ◌||◌, ◌==◌, if◌then◌else◌, List, [], ◌∷◌, ◌++◌, length, ℤ, pos, Option, Some, None, Result, Ok, Err}
+use Rattle.std.specs.Prelude.{ℕ, ◌+◌, Bool, true, false, ◌||◌, ◌==◌, if◌then◌else◌, List, [], ◌∷◌, ◌++◌, ℤ, pos, Option, Some, None, Result, Ok, Err}
 use Rattle.lengths.specs.declared.decimal.Unit.{Unit as Measure}
 use Rattle.planar.specs.declared.Spot.{Spot}
 use Rattle.apertures.specs.declared.aperture.Aperture.{Aperture}

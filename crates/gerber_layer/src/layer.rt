@@ -4,60 +4,23 @@ ghost use Rattle.board_shapes.specs.Pieces.{plain_pieces};
 ghost use Rattle.gerber_layer.specs.Command.{view};
 ghost use Rattle.gerber_layer.specs.Lawful.{IsLawfulCommand};
 ghost use Rattle.gerber_layer.specs.Layer.{IsFault, IsRead};
-ghost use Rattle.gerber_layer.specs.Reader.{Faults, IsLawfulReader, IsNew, Leaves, fault_at};
+ghost use Rattle.gerber_layer.specs.Reader.{Faults, IsLawfulReader, Leaves, fault_at};
 
 use crate::command::Command;
-use crate::dictionary::Dictionary;
-use crate::kind::{Halt, LayerFault};
+use crate::kind::{GerberKind, LayerFault};
 use crate::reader::Reader;
 use crate::reading::read_command;
-use crate::settings::Settings;
 use board_shapes::{Piece, Room};
+use file_reading::Halt;
+use gerber_words::laws::words_lie_ahead;
 use gerber_words::{Step, Words};
-use planar::Spot;
 use std::alloc::Global;
 
-impl Reader {
-    fn new(alloc: Global, layer: u8, file: u32, room: Room) -> Reader
-        requires { layer ≤ 32 }
-        ensures new { IsNew (record { layer = layer; file = file; room = room }) result }
-        ensures lawful { IsLawfulReader result }
-    {
-        Reader {
-            settings: Settings {
-                format: None,
-                unit: None,
-                selected: None,
-                at: Spot { x: 0, y: 0 },
-                last: None,
-                region: false,
-                block: None,
-                ended: false,
-            },
-            dictionary: Dictionary::new(alloc),
-            contour: None,
-            pieces: Vec::new(alloc),
-            edges: 0,
-            start: 0,
-            commands: 0,
-            layer,
-            file,
-            room,
-        }
-    }
-
-    fn into_pieces(self) -> Vec<Piece>
-        ensures { result ≡ self.pieces }
-    {
-        self.pieces
-    }
-}
-
-fn fault_at(halt: Halt, command: u32, at: usize) -> LayerFault
+fn fault_at(halt: Halt<GerberKind>, command: u32, at: usize) -> LayerFault
     ensures { result ≡ fault_at halt command at }
 {
     match halt {
-        Halt::Refused(kind) => LayerFault::Refused { kind, command, at },
+        Halt::Fault(kind) => LayerFault::Refused { kind, command, at },
         Halt::NoMemory => LayerFault::NoMemory,
     }
 }
@@ -103,6 +66,7 @@ pub fn read_layer(
     ensures layers { IfOk result (λ pieces. All (λ piece. (piece.top ≡ layer) × (piece.bottom ≡ layer)) pieces.items) }
     ensures fault { IfErr result (IsFault file.now (record { layer = layer; file = file_number; room = room })) }
 {
+    words_lie_ahead();
     let mut words = Words::new(file);
     let mut reader = Reader::new(alloc, layer, file_number, room);
     loop {

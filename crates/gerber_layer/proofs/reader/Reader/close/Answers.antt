@@ -1,4 +1,4 @@
-use Rattle.std.proofs.Common.{◌≡◌, [], Some, None, Ok, refl, sym, ap, ◌∙◌, append-nil}
+use Rattle.std.proofs.Common.{◌≡◌, [], None, refl, sym, ap, ◌∙◌, append-nil}
 use Rattle.regions.specs.Contours.{close_of, points_of}
 use Rattle.gerber_layer.specs.Reader.{contour_of, known_of}
 use Rattle.gerber_layer.proofs.Closing.{closing_none, no_contour, closes_after, stops_after}
@@ -39,7 +39,7 @@ pub returns-in-Ok-Some-clause-ok : goal.returns-in-Ok-Some-clause-ok
 returns-in-Ok-Some-clause-ok c =
     let had : contour_of c.args.self.now.contour ≡ points_of c.in-Some.contour = ap contour_of (sym c.take.ensures.value ∙ c.in-Some.is) in
     let closed = rw c.in-Ok-Some.field-0-is at c.in-Ok-Some.ensures in
-    closes_after c.place.result c.args.self.now (record (c.args.self.now) { contour = c.take.new.self }) c.place.new.self c.in-Ok-Some.area.points.items refl refl (ap contour_of c.take.ensures.after) refl refl refl refl (ap close_of had ∙ sym closed) c.place.ensures.ok c.place.ensures.room
+    closes_after c.place.result c.args.self.now (record (c.args.self.now) { contour = c.take.new.self; from_first = c.self-1.given.0 }) c.place.new.self c.in-Ok-Some.area.points.items refl refl (ap contour_of c.take.ensures.after) refl refl refl refl (ap close_of had ∙ sym closed) c.place.ensures.ok c.place.ensures.room
 
 pub returns-in-Ok-Some-clause-halt : goal.returns-in-Ok-Some-clause-halt
 returns-in-Ok-Some-clause-halt c =

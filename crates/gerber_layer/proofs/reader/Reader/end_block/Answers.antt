@@ -1,7 +1,6 @@
-use Rattle.std.proofs.Common.{◌≡◌, ◌≤◌, ◌++◌, List, length, take, Ok, refl, sym, ap, ◌∙◌, length-append, arith}
+use Rattle.std.proofs.Common.{◌≡◌, ◌++◌, List, length, take, Ok, refl, sym, ap, ◌∙◌, length-append, arith}
 use Rattle.std.proofs.lemmas.List.{length-take-le}
 use Rattle.board_shapes.specs.Pieces.{PlainPiece, plain_pieces}
-use Rattle.gerber_layer.specs.Table.{edges_of}
 use Rattle.gerber_layer.specs.Reader.{known_of}
 use Rattle.gerber_layer.proofs.Copies.{ended}
 use Rattle.gerber_layer.proofs.Edges.{edges_after, edges_few, edges_split, plain_after}

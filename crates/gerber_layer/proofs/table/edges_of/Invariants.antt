@@ -1,7 +1,7 @@
 use Rattle.std.proofs.Common.{◌≡◌, ◌*◌, ◌≤◌, take}
 use Rattle.board_shapes.specs.Pieces.{plain_pieces}
 use Rattle.gerber_layer.specs.Table.{edges_of}
-use Rattle.gerber_layer.proofs.carry.edges_of.Given as goal
+use Rattle.gerber_layer.proofs.table.edges_of.Given as goal
 
 abbrev pub invariant-loop-piece : goal.invariant-loop-piece
 invariant-loop-piece l = record {

@@ -1,0 +1,86 @@
+-- Laws of copper files: what the contour and the pieces before a block are by looking back over the commands, and that a file that is cut off is refused.
+use Rattle.std.specs.Prelude.{◌≡◌, ℕ, ◌≤◌, Bool, true, false, if◌then◌else◌, List, [], ◌∷◌, ◌++◌, map, take, drop}
+use Rattle.std.specs.List.{AllByRecursion}
+use Rattle.planar.specs.declared.Spot.{Spot}
+use Rattle.file_reading.specs.Reading.{Clean}
+use Rattle.gerber_words.specs.Words.{Entry, Stop, HasWords, start}
+use Rattle.gerber_words.specs.Laws.{star_of}
+use Rattle.gerber_layer.specs.Command.{Command, opens_region, operates, repeats, ends}
+use Rattle.gerber_layer.specs.Reading.{command_of}
+use Rattle.gerber_layer.specs.declared.command.Code.{Code}
+use Rattle.gerber_layer.specs.declared.command.Code.TheVariants.{Draw, Move, Flash}
+use Rattle.gerber_layer.specs.declared.kind.GerberKind.TheVariants as kind
+use Rattle.gerber_layer.specs.Table.{Place, code_of, is_drawing}
+use Rattle.gerber_layer.specs.Settings.{code_in, contour_before, is_end, point_before, region_open}
+use Rattle.gerber_layer.specs.Image.{effect_before, image_of, pieces_of}
+use Rattle.gerber_layer.specs.Layer.{IsRefused}
+
+-- ---- The contour by looking back (Gerber Layer Format Specification, 4.10)
+
+abbrev pub is_move : Code → Bool
+is_move Draw = false
+is_move Move = true
+is_move Flash = false
+
+-- a command that begins a contour anew: the opening of a region, or a move
+abbrev pub begins_contour : Command → Bool
+begins_contour opens_region = true
+begins_contour (operates x y code) = is_move (code_of code)
+begins_contour other = false
+
+-- the commands since the later of the last opening of a region and the last move, of which the last is first
+abbrev pub since_begun : List Command → List Command
+since_begun [] = []
+since_begun (c ∷ earlier) = if begins_contour c then [] else c ∷ since_begun earlier
+
+-- the history up to that one
+abbrev pub up_to_begun : List Command → List Command
+up_to_begun [] = []
+up_to_begun (c ∷ earlier) = if begins_contour c then c ∷ earlier else up_to_begun earlier
+
+-- the histories that end with each draw among these commands, behind those before; that of the first draw is first
+abbrev pub draws_in : List Command → List Command → List (List Command)
+draws_in [] before = []
+draws_in (c ∷ since) before = draws_in since before ++ (if is_drawing (code_in c) then (c ∷ since ++ before) ∷ [] else [])
+
+-- the current point before the first draw, and then where each leads
+abbrev pub points_along : List (List Command) → List Spot
+points_along [] = []
+points_along (first ∷ others) = point_before (drop 1 first) ∷ map point_before (first ∷ others)
+
+-- In an open region the contour that the next command may close is that of the draws since it was begun.
+abbrev pub LooksBackToItsContour : List Command → Type 0
+LooksBackToItsContour earlier = region_open earlier ≡ true → contour_before earlier ≡ points_along (draws_in (since_begun earlier) (up_to_begun earlier))
+
+-- ---- The pieces before a block by looking back (Gerber Layer Format Specification, 4.12)
+
+abbrev pub is_repeat : Command → Bool
+is_repeat (repeats text) = true
+is_repeat other = false
+
+-- the history up to the beginning of the block: the last step and repeat word
+abbrev pub up_to_block : List Command → List Command
+up_to_block [] = []
+up_to_block (c ∷ earlier) = if is_repeat c then c ∷ earlier else up_to_block earlier
+
+-- Where no command has a fault, the pieces before the block are those of the history up to its beginning.
+abbrev pub LooksBackToItsBlock : Place → List Command → Type 0
+LooksBackToItsBlock p earlier = Clean (effect_before p) earlier → take (image_of p earlier).start (pieces_of p earlier) ≡ pieces_of p (up_to_block earlier)
+
+-- ---- A file that is cut off
+
+-- the file has these words, and its end word, the first that ends it, has its star at this place
+pub record EndsAt (file : List ℕ) (star : ℕ) : Type 0 where
+  pub front : List Entry
+  pub last : Entry
+  pub back : List Entry
+  pub stop : Stop
+  pub cut : HasWords (start file) (front ++ last ∷ back) stop
+  pub ends_file : command_of last ≡ ends
+  pub first : AllByRecursion (λ w. is_end (command_of w) ≡ false) front
+  pub star_is : star ≡ star_of last
+
+-- The file has an end word, and every prefix without that word's star is refused as not ended.
+pub record PrefixesAreRefused (file : List ℕ) (p : Place) : Type 0 where
+  pub has_end : (star : ℕ) × EndsAt file star
+  pub refused : (star n : ℕ) → EndsAt file star → n ≤ star → (number : ℕ) × (place : ℕ) × IsRefused (take n file) p kind.NotEnded number place
