@@ -4,9 +4,10 @@ use Rattle.board_shapes.specs.declared.probe.Probe.{Probe}
 use Rattle.lengths.specs.declared.decimal.Unit.{Unit as Measure}
 use Rattle.ipc356_records.specs.declared.kind.RecordKind.{RecordKind}
 use Rattle.ipc356_records.specs.declared.reader.Reader.{Reader}
-use Rattle.ipc356_records.specs.Form.{Form, blank, unread, units, ends, continues, tests, unknown, finishes}
+use Rattle.ipc356_records.specs.Line.{Form, blank, unread, units, ends, continues, tests, unknown, finishes}
 use Rattle.ipc356_records.specs.Table.{Known, Effect, stays, sets, closes, set_unit, row, behind, effect, probes_of_effect}
-use Rattle.ipc356_records.specs.NetlistFile.{known_at, probes_in, probes_of}
+use Rattle.ipc356_records.specs.Settings.{known_at}
+use Rattle.ipc356_records.specs.NetlistFile.{probes_in, probes_of}
 use Rattle.ipc356_records.specs.Reader.{known_of, after, Obeys}
 use Rattle.ipc356_records.proofs.Outcome.{Tested, tested}
 

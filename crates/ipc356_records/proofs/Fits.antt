@@ -5,6 +5,7 @@ use Rattle.std.proofs.lemmas.Int.{ints}
 use Rattle.std.proofs.lemmas.Bool.{eqb-false}
 use Rattle.std.proofs.lemmas.List.Sums.{prefix_len-le-length}
 use Rattle.std.specs.Prelude.{nat_lt, All, IfOk}
+use Rattle.file_reading.specs.Reading.{Clean, said}
 use Rattle.ipc356_records.specs.declared.kind.RecordFault.{RecordFault}
 use Rattle.std.specs.List.{list_any, position_or_len}
 use Rattle.std.proofs.lemmas.List.{length-append, length-map}
@@ -14,13 +15,14 @@ use Rattle.lengths.specs.Decimal.{signed}
 use Rattle.lengths.specs.declared.decimal.Unit.{Unit as Measure}
 use Rattle.board_shapes.specs.Lawful.{IsProbe}
 use Rattle.board_shapes.specs.declared.probe.Probe.{Probe}
-use Rattle.ipc356_records.specs.declared.form.Coordinate.{Coordinate}
+use Rattle.ipc356_records.specs.declared.line.Coordinate.{Coordinate}
 use Rattle.ipc356_records.specs.declared.kind.RecordKind.{RecordKind}
 use Rattle.ipc356_records.specs.declared.kind.RecordKind.TheVariants as kind
-use Rattle.ipc356_records.specs.Form.{Form, TestFields, blank, unread, units, ends, continues, tests, unknown, finishes}
+use Rattle.ipc356_records.specs.Line.{Form, TestFields, blank, unread, units, ends, continues, tests, unknown, finishes}
 use Rattle.ipc356_records.specs.Names.{is_name, index_of, with_name}
 use Rattle.ipc356_records.specs.Table.{Known, Effect, stays, sets, closes, step_of, placed, effect, layers_of, probe_at, probes_of_effect}
-use Rattle.ipc356_records.specs.NetlistFile.{known_at, records_before, names_of, probes_in, probes_of, forms, Clean, IsRead, FitsBoard}
+use Rattle.ipc356_records.specs.Settings.{known_at, records_before, names_of}
+use Rattle.ipc356_records.specs.NetlistFile.{probes_in, probes_of, effect_at, Netlist, IsRead, FitsBoard}
 use Rattle.ipc356_records.proofs.Outcome.{Tested, past_test}
 use Rattle.ipc356_records.proofs.Bridge.{Outcome, outcome}
 
@@ -155,7 +157,7 @@ step layers earlier (tests fields) e some f ok o = tested_fit layers earlier fie
 step layers earlier unknown e some f ok o = absurd o
 step layers earlier finishes e some f ok o = still layers earlier finishes e f ok (no_probes (known_at layers earlier) e stays o refl) refl refl
 
-fit : (layers : ℕ) → 1 ≤ layers → (earlier : List Form) → Clean layers earlier → Fit layers earlier
+fit : (layers : ℕ) → 1 ≤ layers → (earlier : List Form) → Clean (effect_at layers) earlier → Fit layers earlier
 fit layers some [] clean = record { lawful = λ i d below. absurd (omega arith); records = omega arith; names = omega arith; probes = omega arith }
 fit layers some (form ∷ earlier) clean = by (effect (known_at layers earlier) form) refl clean.0 (fit layers some earlier clean.1)
   where
@@ -165,11 +167,13 @@ fit layers some (form ∷ earlier) clean = by (effect (known_at layers earlier) 
 
 pub fits_board : (file : List ℕ) (layers : ℕ) (probes : List Probe) (names : List (List ℕ)) → 1 ≤ layers → IsRead file layers probes names → FitsBoard layers probes names
 fits_board file layers probes names some read =
-    let f = fit layers some (forms read.earlier) read.whole.clean in
+    let f = fit layers some (said read.earlier) read.whole.clean in
+    let probes_are : probes ≡ probes_of layers (said read.earlier) = ap (λ (n : Netlist). n.probes) read.is in
+    let names_are : names ≡ names_of (said read.earlier) = ap (λ (n : Netlist). n.names) read.is in
     record {
-      lawful = rw (read.probes_are, read.names_are) f.lawful;
-      few_probes = rw read.probes_are (let a = f.probes in let b = f.records in omega arith);
-      few_names = rw read.names_are (let a = f.names in let b = f.records in omega arith);
+      lawful = rw (probes_are, names_are) f.lawful;
+      few_probes = rw probes_are (let a = f.probes in let b = f.records in omega arith);
+      few_names = rw names_are (let a = f.names in let b = f.records in omega arith);
     }
 
 pub if_fits_board : {V : Type 0} (probes : V → List Probe) (names : V → List (List ℕ)) (result : Result V RecordFault) (file : List ℕ) (layers : ℕ) → 1 ≤ layers → IfOk result (λ v. IsRead file layers (probes v) (names v)) → IfOk result (λ v. FitsBoard layers (probes v) (names v))

@@ -2,7 +2,7 @@
 use Rattle.std.proofs.Common.{◌≡◌, ℕ, ◌+◌, ◌-◌, ◌≤◌, suc, true, false, List, ◌∷◌, length, refl, arith}
 use Rattle.std.proofs.lemmas.List.{length-drop, length-take}
 use Rattle.std.specs.List.{prefix_len, suffix_len}
-use Rattle.text_lines.specs.Blanks.{is_blank, without_front, trimmed}
+use Rattle.texts.specs.Blanks.{is_blank, without_front, trimmed}
 
 pub front-blank : (b : ℕ) (text : List ℕ) → is_blank b ≡ true → without_front (b ∷ text) ≡ without_front text
 front-blank b text h =

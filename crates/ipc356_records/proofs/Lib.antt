@@ -4,6 +4,7 @@ mod WordLemmas
 mod NameLemmas
 mod Outcome
 mod Bridge
-mod OneAnswer
+pub mod OneAnswer
+mod Ending
 mod ReadSoFar
 mod Fits

@@ -3,10 +3,10 @@ use Rattle.std.proofs.Common.{◌≡◌, ℕ, Bool, true, false, cond, List, Opt
 use Rattle.std.specs.Prelude.{nat_le}
 use Rattle.planar.specs.declared.Spot.{Spot}
 use Rattle.lengths.specs.declared.decimal.Unit.{Unit as Measure}
-use Rattle.ipc356_records.specs.declared.form.Coordinate.{Coordinate}
+use Rattle.ipc356_records.specs.declared.line.Coordinate.{Coordinate}
 use Rattle.ipc356_records.specs.declared.kind.RecordKind.{RecordKind}
 use Rattle.ipc356_records.specs.declared.kind.RecordKind.TheVariants as kind
-use Rattle.ipc356_records.specs.Form.{TestFields}
+use Rattle.ipc356_records.specs.Line.{TestFields}
 use Rattle.ipc356_records.specs.Table.{Known, Effect, adds, ◌>>=◌, needed, within, placed, test}
 
 pub bind_ok : {A B : Type 0} (r : Result A RecordKind) (f : A → Result B RecordKind) (y : B) → (r >>= f) ≡ Ok y → (x : A) × (r ≡ Ok x) × (f x ≡ Ok y)

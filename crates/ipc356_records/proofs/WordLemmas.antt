@@ -1,7 +1,7 @@
 -- The words of a text.
 use Rattle.std.proofs.Common.{◌≡◌, ℕ, ◌+◌, ◌≤◌, suc, Bool, true, false, not, List, [], ◌∷◌, length, take, drop, filter, refl, sym, ap, subst, ◌∙◌, arith}
 use Rattle.std.specs.List.{slice_split, position_or_len}
-use Rattle.text_lines.specs.Blanks.{is_blank, without_front}
+use Rattle.texts.specs.Blanks.{is_blank, without_front}
 use Rattle.ipc356_records.specs.Columns.{is_empty, words}
 use Rattle.ipc356_records.proofs.Front.{front-blank, front-other}
 

@@ -2,7 +2,28 @@
 use Rattle.std.specs.Prelude.{◌≡◌, ℕ, ◌+◌, ◌-◌, Bool, true, false, not, List, [], ◌∷◌, ◌++◌, length, take, drop, filter, replicate, slice_index_or, Option, Some, None}
 use Rattle.std.specs.List.{slice_split}
 use Rattle.std.specs.Borrow.{Bor}
-use Rattle.text_lines.specs.Blanks.{is_blank}
+use Rattle.texts.specs.Blanks.{is_blank}
+
+-- Where the fields of a test record stand: the net name from a column to another, a letter and two columns with the access,
+-- and twice a letter, a sign and six columns with a number.
+abbrev pub name_from : ℕ
+name_from = 4
+
+abbrev pub name_to : ℕ
+name_to = 17
+
+abbrev pub access_at : ℕ
+access_at = 39
+
+abbrev pub x_at : ℕ
+x_at = 42
+
+abbrev pub y_at : ℕ
+y_at = 50
+
+-- the last column that is read
+abbrev pub line_to : ℕ
+line_to = 57
 
 abbrev pub is_empty : List ℕ → Bool
 is_empty [] = true
@@ -19,6 +40,10 @@ filled width text = text ++ replicate (width - length text) 32
 -- the columns from first to last, blank past the line's end
 abbrev pub columns : ℕ → ℕ → List ℕ → List ℕ
 columns first last text = filled (last + 1 - first) (part first last text)
+
+-- a text that is laid into a line from a column on, with blanks between
+abbrev pub laid : ℕ → List ℕ → List ℕ → List ℕ
+laid first text line = filled (first - 1) line ++ text
 
 -- one column, blank past the line's end
 abbrev pub column : ℕ → List ℕ → ℕ

@@ -1,7 +1,7 @@
 -- What the readers of lines keep.
 use Rattle.std.specs.Prelude.{ℕ, List, Option, Some, None}
 use Rattle.lengths.specs.Text.{IsText}
-use Rattle.ipc356_records.specs.Form.{Form, tests}
+use Rattle.ipc356_records.specs.Line.{Form, tests}
 
 -- a net name that is read can be kept as a text
 abbrev pub IsName : Option (List ℕ) → Type 0

@@ -1,11 +1,13 @@
 pub mod Columns
-pub mod Form
 pub mod Kind
 pub mod Lawful
+pub mod Laws
+pub mod Line
 pub mod NameTable
 pub mod Names
 pub mod NetlistFile
 pub mod Reader
 pub mod Reading
 pub mod Records
+pub mod Settings
 pub mod Table

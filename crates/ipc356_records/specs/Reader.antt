@@ -5,12 +5,12 @@ use Rattle.board_shapes.specs.declared.probe.Probe.{Probe}
 use Rattle.ipc356_records.specs.declared.kind.RecordKind.{RecordKind}
 use Rattle.ipc356_records.specs.declared.kind.RecordFault.{RecordFault}
 use Rattle.ipc356_records.specs.declared.kind.RecordFault.TheVariants as fault
-use Rattle.ipc356_records.specs.declared.kind.Halt.{Halt}
-use Rattle.ipc356_records.specs.declared.kind.Halt.TheVariants as halt
+use Rattle.file_reading.specs.declared.halt.Halt.{Halt}
+use Rattle.file_reading.specs.declared.halt.Halt.TheVariants as halt
 use Rattle.ipc356_records.specs.declared.effect.Effect.{Effect as Seen}
 use Rattle.ipc356_records.specs.declared.effect.Effect.TheVariants as seen
 use Rattle.ipc356_records.specs.declared.reader.Reader.{Reader}
-use Rattle.ipc356_records.specs.Form.{Form}
+use Rattle.ipc356_records.specs.Line.{Form}
 use Rattle.ipc356_records.specs.Names.{with_name}
 use Rattle.ipc356_records.specs.NameTable.{names_in}
 use Rattle.ipc356_records.specs.Table.{Known, Effect, stays, sets, closes, adds, effect, probes_of_effect}
@@ -70,7 +70,7 @@ IsFit r (sets unit) = Unit {0}
 IsFit r closes = Unit {0}
 IsFit r (adds name access at) = IsText name × (access ≤ r.layers) × (r.records < 200000)
 
-abbrev pub Halts : Known → Form → Halt → Type 0
+abbrev pub Halts : Known → Form → Halt RecordKind → Type 0
 Halts k form (halt.Fault why) = effect k form ≡ Err why
 Halts k form halt.NoMemory = Unit {0}
 
@@ -79,7 +79,7 @@ pub record IsNew (layers : ℕ) (r : Reader) : Type 0 where
   pub known : known_of r ≡ record { unit = None; records = 0; names = []; ended = false; layers = layers }
   pub probes : r.probes ≡ []
 
-abbrev pub fault_at : Halt → ℕ → RecordFault
+abbrev pub fault_at : Halt RecordKind → ℕ → RecordFault
 fault_at (halt.Fault why) line = fault.Refused why line
 fault_at halt.NoMemory line = fault.NoMemory
 
@@ -92,6 +92,6 @@ pub record Leaves (r : Reader) (form : Form) (probes : List Probe) (names : List
 
 -- the fault of a line
 pub record Faults (r : Reader) (form : Form) (line : ℕ) (why : RecordFault) : Type 0 where
-  pub halt : Halt
+  pub halt : Halt RecordKind
   pub halts : Halts (known_of r) form halt
   pub is : why ≡ fault_at halt line

@@ -1,22 +1,15 @@
 -- How a line is read by itself.
-use Rattle.std.specs.Prelude.{ℕ, ◌+◌, Bool, ◌&&◌, ◌||◌, not, ◌==◌, nat_eq, nat_le, if◌then◌else◌, List, [], ◌∷◌, codes, Option, Some, None}
-use Rattle.std.specs.List.{list_all, starts_with}
-use Rattle.std.specs.Cmp.Lexicographic.{pointwise}
+use Rattle.std.specs.Prelude.{ℕ, ◌+◌, Bool, ◌&&◌, ◌||◌, not, ◌==◌, nat_le, if◌then◌else◌, List, [], ◌∷◌, codes, Option, Some, None}
+use Rattle.std.specs.List.{list_all}
 use Rattle.std.specs.Str.Parse.{digits_value}
 use Rattle.texts.specs.Digits.{is_decimal_digit}
 use Rattle.lengths.specs.declared.decimal.Unit.{Unit as Measure}
 use Rattle.lengths.specs.declared.decimal.Unit.TheVariants.{Mm, Inch}
-use Rattle.ipc356_records.specs.declared.form.Coordinate.{Coordinate}
-use Rattle.text_lines.specs.Blanks.{is_blank, trimmed, without_front}
-use Rattle.ipc356_records.specs.Columns.{part, columns, column, words}
-use Rattle.ipc356_records.specs.Form.{Form, TestFields, blank, unread, units, ends, continues, tests, unknown}
-
-abbrev pub is : List ℕ → List ℕ → Bool
-is text word = pointwise nat_eq text word
-
--- the first columns are these, none of which is blank
-abbrev pub begins : List ℕ → List ℕ → Bool
-begins text front = starts_with nat_eq text front
+use Rattle.ipc356_records.specs.declared.line.Coordinate.{Coordinate}
+use Rattle.texts.specs.Blanks.{is_blank, trimmed, without_front}
+use Rattle.texts.specs.Words.{is, begins}
+use Rattle.ipc356_records.specs.Columns.{name_from, name_to, access_at, x_at, y_at, line_to, part, columns, column, words}
+use Rattle.ipc356_records.specs.Line.{Form, TestFields, blank, unread, units, ends, continues, tests, unknown}
 
 -- a printable byte that is no blank
 abbrev pub is_graphic : ℕ → Bool
@@ -38,7 +31,7 @@ number_of text = digits_in (without_front text)
 
 -- the letter `A`, and two columns with a number
 unfoldable pub access_in : List ℕ → Option ℕ
-access_in text = if column 39 text == 65 then number_of (columns 40 41 text) else None
+access_in text = if column access_at text == 65 then number_of (columns (access_at + 1) (access_at + 2) text) else None
 
 -- a blank sign is plus
 unfoldable pub signed_number : ℕ → Option ℕ → Option Coordinate
@@ -51,13 +44,13 @@ unfoldable pub coordinate_in : ℕ → ℕ → List ℕ → Option Coordinate
 coordinate_in letter at text =
     if column at text == letter then signed_number (column (at + 1) text) (number_of (columns (at + 2) (at + 7) text)) else None
 
--- the net name in columns 4 to 17, the access in 39 to 41, X from 42 on and Y from 50 on
+-- each field at its columns
 unfoldable pub fields_in : List ℕ → TestFields
 fields_in text = record {
-  name = name_of (trimmed (part 4 17 text));
+  name = name_of (trimmed (part name_from name_to text));
   access = access_in text;
-  x = coordinate_in 88 42 text;
-  y = coordinate_in 89 50 text;
+  x = coordinate_in 88 x_at text;
+  y = coordinate_in 89 y_at text;
 }
 
 -- the unit that the words after `UNITS` say: 0.0001 inch or 0.001 mm
@@ -97,10 +90,10 @@ coded text =
     else (if is_other_three text || is_other_zero text then unread
     else unknown)))
 
--- Columns past 57 are not read.
+-- Columns past the last are not read.
 unfoldable pub form_of : List ℕ → Form
 form_of text =
-    if list_all is_blank (part 1 57 text) then blank
+    if list_all is_blank (part 1 line_to text) then blank
     else (if begins text (codes "C") then unread
-    else (if begins text (codes "P") then parameter (words (part 2 57 text))
+    else (if begins text (codes "P") then parameter (words (part 2 line_to text))
     else coded text))

@@ -1,7 +1,7 @@
 -- What the records of a file are.
 use Rattle.std.specs.Prelude.{◌≡◌, ◌+◌, ◌<◌, ◌∷◌, [], length, Option, Some, None}
-use Rattle.text_lines.specs.Lines.{Ahead, PlainLine, lines_from}
-use Rattle.text_lines.specs.Stepping.{ahead as lines_ahead}
+use Rattle.texts.specs.Lines.{Ahead, PlainLine, lines_from}
+use Rattle.texts.specs.Stepping.{ahead as lines_ahead}
 use Rattle.ipc356_records.specs.declared.record.Record.{Record}
 use Rattle.ipc356_records.specs.declared.record.Records.{Records}
 

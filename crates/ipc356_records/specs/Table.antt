@@ -5,10 +5,10 @@ use Rattle.lengths.specs.Decimal.{signed}
 use Rattle.lengths.specs.declared.decimal.Unit.{Unit as Measure}
 use Rattle.lengths.specs.declared.decimal.Unit.TheVariants.{Mm, Inch}
 use Rattle.board_shapes.specs.declared.probe.Probe.{Probe}
-use Rattle.ipc356_records.specs.declared.form.Coordinate.{Coordinate}
+use Rattle.ipc356_records.specs.declared.line.Coordinate.{Coordinate}
 use Rattle.ipc356_records.specs.declared.kind.RecordKind.{RecordKind}
 use Rattle.ipc356_records.specs.declared.kind.RecordKind.TheVariants as kind
-use Rattle.ipc356_records.specs.Form.{Form, TestFields, blank, unread, units, ends, continues, tests, unknown, finishes}
+use Rattle.ipc356_records.specs.Line.{Form, TestFields, blank, unread, units, ends, continues, tests, unknown, finishes}
 use Rattle.ipc356_records.specs.Names.{index_of}
 
 -- What is known before a line: the unit, how many test records stand before it, their distinct names in first-seen order,

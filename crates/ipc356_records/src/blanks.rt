@@ -1,10 +1,10 @@
 // What stands behind blanks and between them.
 ghost use Rattle.std.specs.Prelude.{◌≡◌, ◌≤◌, length};
 ghost use Rattle.std.specs.List.{position_or_len};
-ghost use Rattle.text_lines.specs.Blanks as spec;
+ghost use Rattle.texts.specs.Blanks as spec;
 ghost use Rattle.ipc356_records.specs.Columns.{NextWord};
 
-use text_lines::is_blank;
+use texts::is_blank;
 
 /// A text without the blanks at its start.
 pub fn without_front(text: &[u8]) -> &[u8]

@@ -2,6 +2,8 @@
 ghost use Rattle.std.specs.Prelude.{◌≡◌};
 ghost use Rattle.ipc356_records.specs.Kind.{name_of_kind, number_of_kind};
 
+use file_reading::Halt;
+use lengths::NoMemory;
 use thiserror::Error;
 
 /// Why a netlist is refused.
@@ -81,9 +83,24 @@ pub enum RecordFault {
     NoMemory,
 }
 
-/// What stops the reader at a line.
-#[derive(Clone, Copy, Debug, PartialEq, Eq)]
-pub enum Halt {
-    Fault(RecordKind),
-    NoMemory,
+impl From<RecordKind> for Halt<RecordKind> {
+    ghost use Rattle.std.specs.Prelude.{◌≡◌};
+    ghost use Rattle.file_reading.specs.declared.halt.Halt.TheVariants.{Fault};
+
+    ghost from_gives = { λ kind stop. stop ≡ Fault kind };
+
+    fn from(kind: RecordKind) -> Halt<RecordKind> {
+        Halt::Fault(kind)
+    }
+}
+
+impl From<NoMemory> for RecordFault {
+    ghost use Rattle.std.specs.Prelude.{◌≡◌};
+    ghost use Rattle.ipc356_records.specs.declared.kind.RecordFault.TheVariants as fault;
+
+    ghost from_gives = { λ _ stop. stop ≡ fault.NoMemory };
+
+    fn from(_refused: NoMemory) -> RecordFault {
+        RecordFault::NoMemory
+    }
 }

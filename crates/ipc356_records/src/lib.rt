@@ -1,16 +1,17 @@
 //! Reads an IPC-D-356A netlist: its test records as probes, and the names of its nets.
 //!
 //! `record` has the lines of a file and their columns, and `blanks` the words of a parameter. Each line is read by itself
-//! as a form (`reading`, `form`); the table of lines says what a form does, or its fault, by what is known before it
+//! as a form (`reading`, `line`); the table of lines says what a form does, or its fault, by what is known before it
 //! (`table`, `effect`, `kind`). The reader takes effects on (`reader`) and numbers the names (`names`), and `netlist` reads
-//! the whole file. The law over the definitions stands in `laws`.
+//! the whole file. The definition (specs/NetlistFile.antt) keeps no state: it looks back in the list of lines, as
+//! `file_reading` says for all files. The law over the definitions stands in `laws`.
 #![tactic(auto)]
 
 mod blanks;
 mod effect;
-mod form;
 pub mod kind;
 pub mod laws;
+mod line;
 mod names;
 pub mod netlist;
 mod reader;

@@ -1,17 +1,17 @@
 // Reads a netlist.
 ghost use Rattle.std.specs.Prelude.{◌≡◌, ◌+◌, ◌^◌, ◌<◌, ◌≤◌, length, IfOk, IfErr, OnOk};
-ghost use Rattle.ipc356_records.specs.Form.{finishes};
-ghost use Rattle.ipc356_records.specs.NameTable.{names_in};
+ghost use Rattle.ipc356_records.specs.Line.{finishes};
 ghost use Rattle.ipc356_records.specs.NetlistFile.{FitsBoard, IsFault, IsRead};
 ghost use Rattle.ipc356_records.specs.Reader.{Faults, IsLawfulReader, Leaves, fault_at};
 
-use crate::form::Form;
-use crate::kind::{Halt, RecordFault};
+use crate::kind::{RecordFault, RecordKind};
+use crate::line::Form;
 use crate::reader::Reader;
 use crate::reading::read_form;
 use crate::record::Records;
 use board_shapes::Probe;
-use lengths::{NoMemory, Rows, Text};
+use file_reading::Halt;
+use lengths::{Rows, Text};
 use std::alloc::Global;
 
 /// What a netlist holds: the probes of its test records in order, and the distinct names of its nets in first-seen order.
@@ -21,22 +21,7 @@ pub struct Netlist {
     pub names: Rows<Text>,
 }
 
-impl<'a> Reader<'a> {
-    // The probes and the names as texts of their own.
-    fn into_netlist(self, alloc: Global) -> Result<Netlist, NoMemory>
-        requires lawful { IsLawfulReader self }
-        ensures probes { IfOk result (λ n. n.probes ≡ self.entry.probes) }
-        ensures names { IfOk result (λ n. n.names ≡ names_in self.entry.names) }
-    {
-        let names = self.names.texts(alloc)?;
-        Ok(Netlist {
-            probes: self.probes,
-            names,
-        })
-    }
-}
-
-fn fault_at(halt: Halt, line: u32) -> RecordFault
+fn fault_at(halt: Halt<RecordKind>, line: u32) -> RecordFault
     ensures { result ≡ fault_at halt line }
 {
     match halt {
@@ -54,10 +39,8 @@ fn finished(alloc: Global, mut reader: Reader, line: u32) -> Result<Netlist, Rec
     if let Err(halt) = reader.obey(&Form::Finish) {
         return Err(fault_at(halt, line));
     }
-    match reader.into_netlist(alloc) {
-        Ok(netlist) => Ok(netlist),
-        Err(_) => Err(RecordFault::NoMemory),
-    }
+    let netlist = reader.into_netlist(alloc)?;
+    Ok(netlist)
 }
 
 /// The probes of a netlist in record order and the distinct names of its nets, or the first faulty line.

@@ -1,9 +1,12 @@
-// What the reader of a netlist keeps.
+// What the reader of a netlist keeps, and how it obeys a line.
 use crate::effect::Effect;
-use crate::form::Form;
-use crate::kind::Halt;
+use crate::kind::RecordKind;
+use crate::line::{Form, TestFields};
 use crate::names::NameTable;
+use crate::netlist::Netlist;
+use crate::table::{behind, needed, placed, set_unit, within};
 use board_shapes::Probe;
+use file_reading::Halt;
 use lengths::{NoMemory, Rows, Unit};
 use planar::Spot;
 use std::alloc::Global;
@@ -20,9 +23,12 @@ pub struct Reader<'a> {
 
 impl<'a> Reader<'a> {
     ghost use Rattle.std.specs.Prelude.{◌≡◌, ◌+◌, ◌^◌, ◌<◌, ◌≤◌, ◌∷◌, [], length, map, IfOk, IfErr, OnOk};
-    ghost use Rattle.ipc356_records.specs.Form.{view};
-    ghost use Rattle.ipc356_records.specs.Lawful.{IsLawfulForm};
-    ghost use Rattle.ipc356_records.specs.Reader.{Applies, Halts, IsFit, IsLawfulReader, IsNew, Obeys, Pushes, known_of, shown};
+    ghost use Rattle.std.specs.Option.{option_copied};
+    ghost use Rattle.ipc356_records.specs.Lawful.{IsLawfulForm, IsName};
+    ghost use Rattle.ipc356_records.specs.Line.{view, view_fields};
+    ghost use Rattle.ipc356_records.specs.NameTable.{names_in};
+    ghost use Rattle.ipc356_records.specs.Reader.{Applies, Halts, IsFit, IsLawfulReader, IsNew, Obeys, Pushes, known_of, showing, shown};
+    ghost use Rattle.ipc356_records.specs.Table as spec;
     ghost use Rattle.ipc356_records.specs.Table.{adds, layers_of, probe_at};
 
     pub fn new(alloc: Global, layers: u8) -> Reader<'a>
@@ -37,6 +43,58 @@ impl<'a> Reader<'a> {
             ended: false,
             probes: Rows::new(alloc),
             layers,
+        }
+    }
+
+    // A test record, by its conditions in order.
+    #[tactic(auto, unfolding(crate::specs::Table::test))]
+    fn test(&self, fields: TestFields<'a>) -> Result<Effect<'a>, RecordKind>
+        requires lawful { IsName (option_copied fields.name) }
+        ensures value { showing result ≡ spec.test (known_of self.now) (view_fields fields.entry) }
+        ensures fit { IfOk result (λ e. IsFit self.now (shown e)) }
+    {
+        let unit = needed(RecordKind::MissingUnits, self.unit)?;
+        let name = needed(RecordKind::BadName, fields.name)?;
+        let access = needed(RecordKind::BadAccess, within(self.layers, fields.access))?;
+        let x = needed(RecordKind::BadNumber, fields.x)?;
+        let y = needed(RecordKind::BadNumber, fields.y)?;
+        let x = placed(unit, x)?;
+        let y = placed(unit, y)?;
+        if self.records >= 200_000 {
+            return Err(RecordKind::TooManyRecords);
+        }
+        Ok(Effect::Adds(name, access, Spot { x, y }))
+    }
+
+    #[tactic(auto, unfolding(crate::specs::Table::row))]
+    fn row(&self, form: &Form<'a>) -> Result<Effect<'a>, RecordKind>
+        requires lawful { IsLawfulForm (view form.now) }
+        ensures value { showing result ≡ spec.row (known_of self.now) (view form.now) }
+        ensures fit { IfOk result (λ e. IsFit self.now (shown e)) }
+    {
+        match *form {
+            Form::Blank => Ok(Effect::Stays),
+            Form::Unread => Ok(Effect::Stays),
+            Form::Units(unit) => set_unit(self.unit, unit),
+            Form::End => Ok(Effect::Closes),
+            Form::Continuation => Err(RecordKind::Continuation),
+            Form::Test(fields) => self.test(fields),
+            Form::Unknown => Err(RecordKind::UnknownCode),
+            Form::Finish => Err(RecordKind::NotEnded),
+        }
+    }
+
+    // What a line does, or its fault.
+    #[tactic(auto, unfolding(crate::specs::Table::effect))]
+    fn effect(&self, form: &Form<'a>) -> Result<Effect<'a>, RecordKind>
+        requires lawful { IsLawfulForm (view form.now) }
+        ensures value { showing result ≡ spec.effect (known_of self.now) (view form.now) }
+        ensures fit { IfOk result (λ e. IsFit self.now (shown e)) }
+    {
+        if self.ended {
+            behind(form)
+        } else {
+            self.row(form)
         }
     }
 
@@ -103,20 +161,30 @@ impl<'a> Reader<'a> {
     }
 
     /// Obeys a line. An `Err` leaves a reader that is of no more use.
-    pub fn obey(&mut self, form: &Form<'a>) -> Result<(), Halt>
+    pub fn obey(&mut self, form: &Form<'a>) -> Result<(), Halt<RecordKind>>
         requires lawful { IsLawfulReader self.old }
         requires form { IsLawfulForm (view form.now) }
         ensures ok { OnOk result (Obeys self.old (view form.now) self.new) }
         ensures lawful { OnOk result (IsLawfulReader self.new) }
         ensures halt { IfErr result (Halts (known_of self.old) (view form.now)) }
     {
-        let effect = match self.effect(form) {
-            Ok(effect) => effect,
-            Err(why) => return Err(Halt::Fault(why)),
-        };
+        let effect = self.effect(form)?;
         if let Err(_) = self.apply(effect) {
             return Err(Halt::NoMemory);
         }
         Ok(())
+    }
+
+    // The probes and the names as texts of their own.
+    pub fn into_netlist(self, alloc: Global) -> Result<Netlist, NoMemory>
+        requires lawful { IsLawfulReader self }
+        ensures probes { IfOk result (λ n. n.probes ≡ self.entry.probes) }
+        ensures names { IfOk result (λ n. n.names ≡ names_in self.entry.names) }
+    {
+        let names = self.names.texts(alloc)?;
+        Ok(Netlist {
+            probes: self.probes,
+            names,
+        })
     }
 }

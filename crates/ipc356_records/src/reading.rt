@@ -2,30 +2,17 @@
 ghost use Rattle.std.specs.Prelude.{◌≡◌, ◌==◌, ◌≤◌, ◌<◌, ◌^◌, length, codes, Option, Some, None, IfSome};
 ghost use Rattle.std.specs.Option.{option_copied};
 ghost use Rattle.std.specs.List.{list_all};
-ghost use Rattle.text_lines.specs.Blanks.{is_blank as blank};
+ghost use Rattle.texts.specs.Blanks.{is_blank as blank};
 ghost use Rattle.ipc356_records.specs.Columns.{column, filled, words};
-ghost use Rattle.ipc356_records.specs.Form.{view, view_fields};
+ghost use Rattle.ipc356_records.specs.Line.{view, view_fields};
 ghost use Rattle.ipc356_records.specs.Lawful.{IsLawfulForm, IsName};
 ghost use Rattle.ipc356_records.specs.Reading as spec;
 
 use crate::blanks::{next_word, without_front};
-use crate::form::{Coordinate, Form, TestFields};
+use crate::line::{Coordinate, Form, TestFields};
 use crate::record::Record;
 use lengths::{Unit, digits_value};
-use text_lines::is_blank;
-use texts::all_digits;
-
-fn is(text: &[u8], word: &[u8]) -> bool
-    ensures { result ≡ spec.is text.now word.now }
-{
-    text == word
-}
-
-fn begins(text: &[u8], front: &[u8]) -> bool
-    ensures { result ≡ spec.begins text.now front.now }
-{
-    text.starts_with(front)
-}
+use texts::{all_digits, begins, is, is_blank};
 
 fn all_blank(text: &[u8]) -> bool
     ensures { result ≡ list_all blank text.now }

@@ -1,10 +1,10 @@
 // The lines of a netlist and their columns.
 ghost use Rattle.std.specs.Prelude.{◌≡◌, ◌+◌, ◌-◌, ◌≤◌, length};
-ghost use Rattle.text_lines.specs.Blanks.{trimmed};
-ghost use Rattle.text_lines.specs.Lines.{start};
-ghost use Rattle.ipc356_records.specs.Columns.{part};
+ghost use Rattle.texts.specs.Blanks.{trimmed};
+ghost use Rattle.texts.specs.Lines.{start};
+ghost use Rattle.ipc356_records.specs.Columns.{name_from, name_to, part};
 
-use text_lines::{Lines, trimmed};
+use texts::{Lines, trimmed};
 
 /// A line of a netlist: its number, from 1, and its bytes without the line end.
 #[derive(Clone, Copy, Debug)]
@@ -28,7 +28,7 @@ impl<'a> Record<'a> {
 
     /// The net name in columns 4 to 17, without the blanks at either end.
     pub fn net(&self) -> &'a [u8]
-        ensures name { result.now ≡ trimmed (part 4 17 self.now.text.now) }
+        ensures name { result.now ≡ trimmed (part name_from name_to self.now.text.now) }
         ensures short { length result.now ≤ 14 }
     {
         trimmed(self.columns(4, 17))
@@ -56,7 +56,7 @@ pub struct Records<'a> {
 }
 
 impl<'a> Records<'a> {
-    ghost use Rattle.text_lines.specs.Stepping.{Shortens};
+    ghost use Rattle.texts.specs.Stepping.{Shortens};
     ghost use Rattle.ipc356_records.specs.Records.{ahead, Gives, IsShorter};
 
     /// A file of at most 67,108,864 bytes, before its first line.

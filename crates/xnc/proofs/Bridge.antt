@@ -7,15 +7,15 @@ use Rattle.lengths.specs.Decimal.{Fraction}
 use Rattle.lengths.specs.declared.decimal.Unit.{Unit as Measure}
 use Rattle.board_shapes.specs.Plain.{PlainPiece, plain_piece, plain_pieces}
 use Rattle.xnc.specs.declared.kind.DrillKind.{DrillKind}
-use Rattle.xnc.specs.declared.form.Coordinates.{Coordinates}
-use Rattle.xnc.specs.declared.form.Form.{Form}
-use Rattle.xnc.specs.declared.form.Form.TheVariants as form
+use Rattle.xnc.specs.declared.line.Coordinates.{Coordinates}
+use Rattle.xnc.specs.declared.line.Form.{Form}
+use Rattle.xnc.specs.declared.line.Form.TheVariants as form
 use Rattle.xnc.specs.declared.settings.Settings.{Settings}
 use Rattle.xnc.specs.declared.tools.Tools.{Tools}
 use Rattle.xnc.specs.declared.reader.Reader.{Reader}
 use Rattle.xnc.specs.Place.{Place}
 use Rattle.xnc.specs.Table.{Known, Effect, stays, makes, moves, drills, coordinate, effect, after}
-use Rattle.xnc.specs.History.{or_else, value_or, value_in, settings_at, unit_at, x_at, y_at, defined_at, tools_at, piece_of, known_with, known_at, barrels_at}
+use Rattle.xnc.specs.Settings.{or_else, value_or, value_in, settings_at, unit_at, x_at, y_at, defined_at, tools_at, piece_of, known_with, known_at, barrels_at}
 use Rattle.xnc.specs.Reader.{defined_in, count_of, Adds, Turns, known_of, place_of, Obeys}
 use Rattle.xnc.proofs.Outcome.{IsPlain, Leads, Crossed, Outcome, outcome}
 

@@ -1,8 +1,8 @@
 -- The last place stays within 1 m.
 use Rattle.planar.specs.declared.Spot.{Spot}
 use Rattle.planar.specs.Plane.{IsPlaced}
-use Rattle.xnc.specs.declared.form.Form.{Form}
-use Rattle.xnc.specs.declared.form.Form.TheVariants as form
+use Rattle.xnc.specs.declared.line.Form.{Form}
+use Rattle.xnc.specs.declared.line.Form.TheVariants as form
 use Rattle.xnc.specs.declared.settings.Settings.{Settings}
 use Rattle.xnc.specs.declared.effect.Effect.{Effect as Seen}
 use Rattle.xnc.specs.declared.effect.Effect.TheVariants as seen

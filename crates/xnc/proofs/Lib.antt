@@ -2,6 +2,7 @@ pub mod Bridge
 pub mod LawfulAfter
 pub mod Numbers
 pub mod OneAnswer
+mod Ending
 pub mod Outcome
 pub mod Placing
 pub mod ReadSoFar

@@ -6,9 +6,9 @@ use Rattle.lengths.specs.declared.decimal.Unit.{Unit as Measure}
 use Rattle.board_shapes.specs.Plain.{round}
 use Rattle.xnc.specs.declared.kind.DrillKind.{DrillKind}
 use Rattle.xnc.specs.declared.kind.DrillKind.TheVariants as kind
-use Rattle.xnc.specs.declared.form.Coordinates.{Coordinates}
-use Rattle.xnc.specs.declared.form.Form.{Form}
-use Rattle.xnc.specs.declared.form.Form.TheVariants as form
+use Rattle.xnc.specs.declared.line.Coordinates.{Coordinates}
+use Rattle.xnc.specs.declared.line.Form.{Form}
+use Rattle.xnc.specs.declared.line.Form.TheVariants as form
 use Rattle.xnc.specs.declared.settings.Stage.{Stage}
 use Rattle.xnc.specs.declared.settings.Stage.TheVariants.{Opening, Header, Body, Ended}
 use Rattle.xnc.specs.Table.{Known, Effect, stays, makes, moves, drills, ◌>>=◌, unless, needed, other_unit, is_drilling, is_start, is_ended, diameter_of, define, coordinate, target, diameter, half, barrel, rout, straight, hit, slot, header, body, staged, effect, gone}

@@ -1,5 +1,5 @@
 -- The barrels of a file have room, and stand on the layers of the span.
-use Rattle.std.proofs.Common.{◌≡◌, ℕ, ◌+◌, ◌<◌, ◌≤◌, Bool, true, false, nat_le, cond, List, [], ◌∷◌, ◌++◌, length, map, get_or, All, Result, Ok, Err, IsOk, IfOk, is_none, not, ◌||◌, refl, sym, ap, subst, ◌∙◌, arith}
+use Rattle.std.proofs.Common.{◌≡◌, ℕ, ◌+◌, ◌<◌, ◌≤◌, Bool, true, false, nat_le, cond, List, [], ◌∷◌, length, All, Result, Ok, Err, IsOk, IfOk, is_none, not, refl, sym, ap, subst, arith}
 use Rattle.std.proofs.lemmas.Bool.{leb-false}
 use Rattle.std.proofs.lemmas.List.{length-append, length-map, get_or-map}
 use Rattle.std.proofs.lemmas.List.Elements.{All-append, All-cons, All-nil}
@@ -7,15 +7,16 @@ use Rattle.planar.specs.declared.Spot.{Spot}
 use Rattle.board_shapes.specs.Plain.{PlainPiece, plain_piece, plain_pieces, round}
 use Rattle.board_shapes.specs.declared.placed.Placed.{Placed}
 use Rattle.board_shapes.specs.declared.shape.Shape.{Shape}
+use Rattle.file_reading.specs.Reading.{Clean, said}
 use Rattle.xnc.specs.declared.kind.DrillKind.{DrillKind}
 use Rattle.xnc.specs.declared.kind.DrillKind.TheVariants as kind
-use Rattle.xnc.specs.declared.form.Coordinates.{Coordinates}
-use Rattle.xnc.specs.declared.form.Form.{Form}
-use Rattle.xnc.specs.declared.form.Form.TheVariants as form
+use Rattle.xnc.specs.declared.line.Coordinates.{Coordinates}
+use Rattle.xnc.specs.declared.line.Form.{Form}
+use Rattle.xnc.specs.declared.line.Form.TheVariants as form
 use Rattle.xnc.specs.Place.{Place}
 use Rattle.xnc.specs.Table.{Known, Effect, stays, makes, moves, drills, ◌>>=◌, unless, is_drilling, target, diameter, half, barrel, rout, straight, hit, slot, header, body, effect}
-use Rattle.xnc.specs.History.{piece_of, barrels_at, known_at}
-use Rattle.xnc.specs.DrillFile.{Clean, IsRead, forms}
+use Rattle.xnc.specs.Settings.{piece_of, barrels_at, known_at, effect_at}
+use Rattle.xnc.specs.DrillFile.{IsRead}
 use Rattle.xnc.proofs.Outcome.{bind_ok, past_test, no_ok, placed, outcome}
 
 -- a barrel has room
@@ -81,7 +82,7 @@ one_more p k n (Ok (moves to)) ok room few = omega arith
 one_more p k n (Ok (drills to figure)) ok room few = let more = room (drills to figure) refl in omega (arith, more)
 one_more p k n (Err why) ok room few = omega arith
 
-few_barrels : (p : Place) (earlier : List Form) → Clean p earlier → length (barrels_at p earlier) ≤ p.room
+few_barrels : (p : Place) (earlier : List Form) → Clean (effect_at p) earlier → length (barrels_at p earlier) ≤ p.room
 unfolding barrels_at
 few_barrels p [] clean = omega arith
 few_barrels p (f ∷ earlier) clean =
@@ -111,11 +112,11 @@ each_piece p pieces h = λ i d below. subst (InSpan p) (get_or-map plain_piece p
 
 pub few_read : {E V : Type 0} (items : V → List (Placed Shape)) (r : Result V E) (file : List ℕ) (p : Place) → IfOk r (λ v. IsRead file p (plain_pieces (items v))) → IfOk r (λ v. length (items v) ≤ p.room)
 few_read items (Ok v) file p read =
-    let few = few_barrels p (forms read.earlier) read.whole.clean in
-    let are : length (plain_pieces (items v)) ≡ length (barrels_at p (forms read.earlier)) = ap (λ (xs : List PlainPiece). length xs) read.are in
+    let few = few_barrels p (said read.earlier) read.whole.clean in
+    let are : length (plain_pieces (items v)) ≡ length (barrels_at p (said read.earlier)) = ap (λ (xs : List PlainPiece). length xs) read.is in
     omega (arith, few, are, length-map (items v) plain_piece)
 few_read items (Err why) file p read = tt
 
 pub span_read : {E V : Type 0} (items : V → List (Placed Shape)) (r : Result V E) (file : List ℕ) (p : Place) → IfOk r (λ v. IsRead file p (plain_pieces (items v))) → IfOk r (λ v. All (λ q. (q.top ≡ p.from) × (q.bottom ≡ p.to)) (items v))
-span_read items (Ok v) file p read = each_piece p (items v) (subst (λ xs. All (InSpan p) xs) (sym read.are) (barrels_span p (forms read.earlier)))
+span_read items (Ok v) file p read = each_piece p (items v) (subst (λ xs. All (InSpan p) xs) (sym read.is) (barrels_span p (said read.earlier)))
 span_read items (Err why) file p read = tt

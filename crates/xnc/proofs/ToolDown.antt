@@ -2,11 +2,11 @@
 use Rattle.std.proofs.Common.{◌≡◌, ℕ, Bool, true, false, ◌||◌, cond, List, [], ◌∷◌, Option, Some, None, is_some, is_none, Result, Ok, Err, IsOk, refl}
 use Rattle.xnc.specs.declared.kind.DrillKind.{DrillKind}
 use Rattle.xnc.specs.declared.kind.DrillKind.TheVariants as kind
-use Rattle.xnc.specs.declared.form.Form.{Form}
-use Rattle.xnc.specs.declared.form.Form.TheVariants as form
+use Rattle.xnc.specs.declared.line.Form.{Form}
+use Rattle.xnc.specs.declared.line.Form.TheVariants as form
 use Rattle.xnc.specs.Place.{Place}
 use Rattle.xnc.specs.Table.{Known, Effect, stays, unless, is_drilling, diameter, lookup, header, body, effect}
-use Rattle.xnc.specs.History.{or_else, down_at, tool_at, defined_at, known_at}
+use Rattle.xnc.specs.Settings.{or_else, down_at, tool_at, defined_at, known_at}
 use Rattle.xnc.specs.Laws.{HasTool}
 use Rattle.xnc.proofs.Outcome.{no_ok, past_test, placed}
 

@@ -8,16 +8,16 @@ use Rattle.board_shapes.specs.declared.placed.Placed.{Placed}
 use Rattle.xnc.specs.declared.kind.DrillKind.{DrillKind}
 use Rattle.xnc.specs.declared.kind.DrillFault.{DrillFault}
 use Rattle.xnc.specs.declared.kind.DrillFault.TheVariants as fault
-use Rattle.xnc.specs.declared.kind.Halt.{Halt}
-use Rattle.xnc.specs.declared.kind.Halt.TheVariants as halt
-use Rattle.xnc.specs.declared.form.Form.{Form}
+use Rattle.file_reading.specs.declared.halt.Halt.{Halt}
+use Rattle.file_reading.specs.declared.halt.Halt.TheVariants as halt
+use Rattle.xnc.specs.declared.line.Form.{Form}
 use Rattle.xnc.specs.declared.effect.Effect.{Effect as Seen}
 use Rattle.xnc.specs.declared.effect.Effect.TheVariants as seen
 use Rattle.xnc.specs.declared.tools.Tools.{Tools}
 use Rattle.xnc.specs.declared.reader.Reader.{Reader}
 use Rattle.xnc.specs.Place.{Place}
 use Rattle.xnc.specs.Table.{Known, Effect, stays, makes, moves, drills, effect, after}
-use Rattle.xnc.specs.History.{piece_of, settings_at}
+use Rattle.xnc.specs.Settings.{piece_of, settings_at}
 
 abbrev pub shown : Seen → Effect
 shown seen.Stays = stays
@@ -101,7 +101,7 @@ pub record Places (old : Reader) (figure : Figure) (new : Reader) : Type 0 where
   pub counts : new.lines ≡ old.lines
   pub place : place_of new ≡ place_of old
 
-abbrev pub Halts : Known → Form → Halt → Type 0
+abbrev pub Halts : Known → Form → Halt DrillKind → Type 0
 Halts k f (halt.Fault kind) = effect k f ≡ Err kind
 Halts k f halt.NoMemory = Unit {0}
 
@@ -114,7 +114,7 @@ pub record IsNew (p : Place) (r : Reader) : Type 0 where
   pub counts : r.lines ≡ 0
   pub place : place_of r ≡ p
 
-abbrev pub fault_at : Halt → ℕ → ℕ → DrillFault
+abbrev pub fault_at : Halt DrillKind → ℕ → ℕ → DrillFault
 fault_at (halt.Fault kind) number at = fault.Refused kind number at
 fault_at halt.NoMemory number at = fault.NoMemory
 
@@ -126,6 +126,6 @@ pub record Leaves (r : Reader) (f : Form) (pieces : List (Placed Shape)) : Type 
 
 -- the fault of a line that stands at a place
 pub record Faults (r : Reader) (f : Form) (at : ℕ) (why : DrillFault) : Type 0 where
-  pub halt : Halt
+  pub halt : Halt DrillKind
   pub halts : Halts (known_of r) f halt
   pub is : why ≡ fault_at halt (r.lines + 1) at

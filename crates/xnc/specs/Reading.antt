@@ -1,22 +1,16 @@
 -- How a line is read by itself.
-use Rattle.std.specs.Prelude.{ℕ, Bool, ◌&&◌, ◌||◌, not, ◌==◌, nat_eq, nat_le, if◌then◌else◌, List, [], ◌∷◌, length, drop, codes, Option, Some, None, decimal as number_text}
-use Rattle.std.specs.List.{list_all, list_any, starts_with, before_first, after_first}
-use Rattle.std.specs.Cmp.Lexicographic.{pointwise}
+use Rattle.std.specs.Prelude.{ℕ, Bool, ◌&&◌, ◌||◌, not, ◌==◌, nat_le, if◌then◌else◌, List, [], ◌∷◌, length, drop, codes, Option, Some, None, decimal as number_text}
+use Rattle.std.specs.List.{list_all, list_any, before_first, after_first}
 use Rattle.std.specs.Str.Parse.{digits_value}
 use Rattle.texts.specs.Digits.{is_decimal_digit}
-use Rattle.text_lines.specs.Blanks.{trimmed}
+use Rattle.texts.specs.Blanks.{trimmed}
+use Rattle.texts.specs.Words.{is, begins}
 use Rattle.lengths.specs.Decimal.{Fraction, decimal}
 use Rattle.lengths.specs.declared.decimal.Unit.TheVariants.{Mm, Inch}
 use Rattle.xnc.specs.declared.kind.DrillKind.TheVariants as kind
-use Rattle.xnc.specs.declared.form.Coordinates.{Coordinates}
-use Rattle.xnc.specs.declared.form.Form.{Form}
-use Rattle.xnc.specs.declared.form.Form.TheVariants as form
-
-abbrev pub is : List ℕ → List ℕ → Bool
-is text word = pointwise nat_eq text word
-
-abbrev pub begins : List ℕ → List ℕ → Bool
-begins text front = starts_with nat_eq text front
+use Rattle.xnc.specs.declared.line.Coordinates.{Coordinates}
+use Rattle.xnc.specs.declared.line.Form.{Form}
+use Rattle.xnc.specs.declared.line.Form.TheVariants as form
 
 abbrev pub is_comma : ℕ → Bool
 is_comma b = b == 44

@@ -10,9 +10,9 @@ use Rattle.lengths.specs.declared.decimal.GridFault.TheVariants as grid
 use Rattle.board_shapes.specs.Plain.{Figure, round}
 use Rattle.xnc.specs.declared.kind.DrillKind.{DrillKind}
 use Rattle.xnc.specs.declared.kind.DrillKind.TheVariants as kind
-use Rattle.xnc.specs.declared.form.Coordinates.{Coordinates}
-use Rattle.xnc.specs.declared.form.Form.{Form}
-use Rattle.xnc.specs.declared.form.Form.TheVariants as form
+use Rattle.xnc.specs.declared.line.Coordinates.{Coordinates}
+use Rattle.xnc.specs.declared.line.Form.{Form}
+use Rattle.xnc.specs.declared.line.Form.TheVariants as form
 use Rattle.xnc.specs.declared.settings.Stage.{Stage}
 use Rattle.xnc.specs.declared.settings.Stage.TheVariants.{Opening, Header, Body, Ended}
 use Rattle.xnc.specs.declared.settings.Mode.{Mode}

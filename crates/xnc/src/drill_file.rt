@@ -2,53 +2,20 @@
 ghost use Rattle.std.specs.Prelude.{◌≡◌, ◌+◌, ◌^◌, ◌<◌, ◌≤◌, length, All, IfOk, IfErr};
 ghost use Rattle.board_shapes.specs.Plain.{plain_pieces};
 ghost use Rattle.xnc.specs.DrillFile.{IsFault, IsRead};
-ghost use Rattle.xnc.specs.declared.form.Form.TheVariants as form;
-ghost use Rattle.xnc.specs.Reader.{Faults, IsLawfulReader, IsNew, Leaves, fault_at};
+ghost use Rattle.xnc.specs.declared.line.Form.TheVariants as form;
+ghost use Rattle.xnc.specs.Reader.{Faults, IsLawfulReader, Leaves, fault_at};
 
-use crate::form::Form;
-use crate::kind::{DrillFault, Halt};
+use crate::kind::{DrillFault, DrillKind};
+use crate::line::Form;
 use crate::reader::Reader;
 use crate::reading::read_line;
-use crate::settings::{Mode, Settings, Stage};
 use crate::span::Span;
-use crate::tools::Tools;
 use board_shapes::{Piece, Room};
-use planar::Spot;
+use file_reading::Halt;
 use std::alloc::Global;
-use text_lines::Lines;
+use texts::Lines;
 
-impl Reader {
-    fn new(alloc: Global, span: Span, file: u32, room: u32) -> Reader
-        ensures new { IsNew (record { from = span.from; to = span.to; file = file; room = room }) result }
-        ensures lawful { IsLawfulReader result }
-    {
-        Reader {
-            settings: Settings {
-                stage: Stage::Opening,
-                unit: None,
-                tool: None,
-                mode: Mode::Drill,
-                down: false,
-                at: Spot { x: 0, y: 0 },
-            },
-            tools: Tools::new(alloc),
-            pieces: Vec::new(alloc),
-            lines: 0,
-            from: span.from,
-            to: span.to,
-            file,
-            room,
-        }
-    }
-
-    fn into_pieces(self) -> Vec<Piece>
-        ensures { result ≡ self.pieces }
-    {
-        self.pieces
-    }
-}
-
-fn fault_at(halt: Halt, line: u32, at: usize) -> DrillFault
+fn fault_at(halt: Halt<DrillKind>, line: u32, at: usize) -> DrillFault
     ensures { result ≡ fault_at halt line at }
 {
     match halt {

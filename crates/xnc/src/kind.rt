@@ -2,6 +2,8 @@
 ghost use Rattle.std.specs.Prelude.{◌≡◌};
 ghost use Rattle.xnc.specs.Kind.{name_of_kind, number_of_kind};
 
+use file_reading::Halt;
+use lengths::GridFault;
 use thiserror::Error;
 
 /// Why a drill file is refused. The forms of lines are this project's profile of the XNC Format
@@ -109,9 +111,27 @@ pub enum DrillFault {
     NoMemory,
 }
 
-/// What stops the reader at a line.
-#[derive(Clone, Copy, Debug, PartialEq, Eq)]
-pub enum Halt {
-    Fault(DrillKind),
-    NoMemory,
+impl From<GridFault> for DrillKind {
+    ghost use Rattle.std.specs.Prelude.{◌≡◌};
+    ghost use Rattle.xnc.specs.Table.{kind_of_grid};
+
+    ghost from_gives = { λ fault kind. kind ≡ kind_of_grid fault };
+
+    fn from(fault: GridFault) -> DrillKind {
+        match fault {
+            GridFault::OffGrid => DrillKind::OffGrid,
+            GridFault::OutOfRange => DrillKind::OutOfRange,
+        }
+    }
+}
+
+impl From<DrillKind> for Halt<DrillKind> {
+    ghost use Rattle.std.specs.Prelude.{◌≡◌};
+    ghost use Rattle.file_reading.specs.declared.halt.Halt.TheVariants.{Fault};
+
+    ghost from_gives = { λ kind halt. halt ≡ Fault kind };
+
+    fn from(kind: DrillKind) -> Halt<DrillKind> {
+        Halt::Fault(kind)
+    }
 }

@@ -1,8 +1,8 @@
 //! Laws over the definitions alone.
 ghost use Rattle.std.specs.Prelude.{ℕ, List};
-ghost use Rattle.xnc.specs.declared.form.Form.{Form};
+ghost use Rattle.xnc.specs.declared.line.Form.{Form};
 ghost use Rattle.xnc.specs.DrillFile.{HasOneAnswer};
-ghost use Rattle.xnc.specs.Laws.{HasTool};
+ghost use Rattle.xnc.specs.Laws.{HasTool, PrefixIsRefused};
 ghost use Rattle.xnc.specs.Place.{Place};
 
 /// Each file has one answer: its barrels, or its first fault.
@@ -14,4 +14,10 @@ pub fn one_answer()
 /// the half of a diameter as its radius.
 pub fn routs_have_tools()
     ensures { (p : Place) (earlier : List Form) → HasTool p earlier }
+{}
+
+/// A drill file that is read has a line `M30`, and each prefix of it without the three bytes of
+/// that line is refused.
+pub fn prefix_is_refused()
+    ensures { (file : List ℕ) (p : Place) → PrefixIsRefused file p }
 {}

@@ -1,16 +1,17 @@
 //! Reads the barrels of a drill file, by this project's profile of the XNC Format Specification.
 //!
-//! A file is its lines (`text_lines`). Each line is read by itself into a form (`reading`, `form`),
+//! A file is its lines (`texts`). Each line is read by itself into a form (`reading`, `line`),
 //! and judged by one table, which has a part for the header and one for the body (`table`), with
 //! what earlier lines have set (`settings`, `tools`, `reader`). `drill_file` has the call. The
-//! definition (specs/DrillFile.antt) keeps no state: it looks back in the list of lines.
+//! definition (specs/DrillFile.antt) keeps no state: it looks back in the list of lines, as
+//! `file_reading` says for all files.
 #![tactic(auto)]
 
 pub mod drill_file;
 mod effect;
-mod form;
 pub mod kind;
 pub mod laws;
+mod line;
 mod reader;
 mod reading;
 mod settings;

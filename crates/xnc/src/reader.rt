@@ -1,7 +1,19 @@
-// What the reader of a file keeps.
-use crate::settings::Settings;
+// What the reader of a file keeps, and how it obeys a line.
+ghost use Rattle.std.specs.Prelude.{◌≤◌};
+
+use crate::effect::Effect;
+use crate::kind::DrillKind;
+use crate::line::{Coordinates, Form};
+use crate::settings::{Mode, Settings, Stage};
+use crate::span::Span;
+use crate::table::{after, diameter, half, is_drilling, is_ended, is_start, other_unit, target};
 use crate::tools::Tools;
-use board_shapes::Piece;
+use board_shapes::{Origin, Piece, Placed, Shape};
+use contact::Capsule;
+use file_reading::Halt;
+use lengths::{Decimal, NoMemory, Unit};
+use planar::Spot;
+use std::alloc::Global;
 
 #[derive(Drop)]
 pub struct Reader {
@@ -13,4 +25,266 @@ pub struct Reader {
     pub to: u8,
     pub file: u32,
     pub room: u32,
+    pub ghost span: { (1 ≤ from) × (from ≤ to) },
+}
+
+impl Reader {
+    ghost use Rattle.std.specs.Prelude.{◌≡◌, ◌+◌, ◌^◌, ◌<◌, ◌≤◌, IfOk, IfErr, IfSome, OnOk};
+    ghost use Rattle.planar.specs.Plane.{IsPlaced};
+    ghost use Rattle.board_shapes.specs.Plain.{figure_of};
+    ghost use Rattle.xnc.specs.Reader.{Applies, AreLawful, Halts, IsFit, IsLawfulReader, IsNew, Obeys, Places, known_of, showing, shown};
+    ghost use Rattle.xnc.specs.Table as spec;
+
+    pub fn new(alloc: Global, span: Span, file: u32, room: u32) -> Reader
+        ensures new { IsNew (record { from = span.from; to = span.to; file = file; room = room }) result }
+        ensures lawful { IsLawfulReader result }
+    {
+        Reader {
+            settings: Settings {
+                stage: Stage::Opening,
+                unit: None,
+                tool: None,
+                mode: Mode::Drill,
+                down: false,
+                at: Spot { x: 0, y: 0 },
+            },
+            tools: Tools::new(alloc),
+            pieces: Vec::new(alloc),
+            lines: 0,
+            from: span.from,
+            to: span.to,
+            file,
+            room,
+        }
+    }
+
+    // The diameter of the selected tool.
+    fn diameter(&self) -> Option<u64>
+        requires { AreLawful self.now.tools }
+        ensures value { result ≡ spec.diameter (known_of self.now) }
+        ensures lawful { IfSome result (λ d. d ≤ 10000000000) }
+    {
+        match self.settings.tool {
+            None => None,
+            Some(n) => self.tools.find(n),
+        }
+    }
+
+    #[tactic(auto, unfolding(crate::specs::Table::define))]
+    fn define(&self, n: u32, d: Decimal) -> Result<Effect, DrillKind>
+        ensures value { showing result ≡ spec.define (known_of self.now) n d }
+        ensures fit { IfOk result (IsFit self.now.tools) }
+    {
+        let size = diameter(self.settings.unit, d)?;
+        if self.tools.find(n).is_some() {
+            return Err(DrillKind::ToolTwice);
+        }
+        if self.tools.len() >= 1000 {
+            return Err(DrillKind::TooManyTools);
+        }
+        Ok(Effect::Makes(n, size))
+    }
+
+    // A barrel, if there is room for it.
+    #[tactic(auto, unfolding(crate::specs::Table::barrel))]
+    fn barrel(&self, from: Spot, to: Spot) -> Result<Effect, DrillKind>
+        requires lawful { IsLawfulReader self.now }
+        requires from { IsPlaced from }
+        requires to { IsPlaced to }
+        ensures value { showing result ≡ spec.barrel (known_of self.now) from to }
+        ensures fit { IfOk result (IsFit self.now.tools) }
+    {
+        if self.room as usize <= self.pieces.len() {
+            return Err(DrillKind::TooManyPieces);
+        }
+        let barrel = Capsule::new(from, to, half(self.diameter()));
+        Ok(Effect::Drills(to, Shape::Round(barrel)))
+    }
+
+    #[tactic(auto, unfolding(crate::specs::Table::rout))]
+    fn rout(&self, to: Coordinates) -> Result<Effect, DrillKind>
+        requires lawful { IsLawfulReader self.now }
+        ensures value { showing result ≡ spec.rout (known_of self.now) to }
+        ensures fit { IfOk result (IsFit self.now.tools) }
+    {
+        let to = target(self.settings.unit, self.settings.at, to)?;
+        Ok(Effect::Moves(to))
+    }
+
+    #[tactic(auto, unfolding(crate::specs::Table::straight))]
+    fn straight(&self, to: Coordinates) -> Result<Effect, DrillKind>
+        requires lawful { IsLawfulReader self.now }
+        ensures value { showing result ≡ spec.straight (known_of self.now) to }
+        ensures fit { IfOk result (IsFit self.now.tools) }
+    {
+        let to = target(self.settings.unit, self.settings.at, to)?;
+        self.barrel(self.settings.at, to)
+    }
+
+    #[tactic(auto, unfolding(crate::specs::Table::hit))]
+    fn hit(&self, at: Coordinates) -> Result<Effect, DrillKind>
+        requires lawful { IsLawfulReader self.now }
+        ensures value { showing result ≡ spec.hit (known_of self.now) at }
+        ensures fit { IfOk result (IsFit self.now.tools) }
+    {
+        let at = target(self.settings.unit, self.settings.at, at)?;
+        self.barrel(at, at)
+    }
+
+    #[tactic(auto, unfolding(crate::specs::Table::slot))]
+    fn slot(&self, from: Coordinates, to: Coordinates) -> Result<Effect, DrillKind>
+        requires lawful { IsLawfulReader self.now }
+        ensures value { showing result ≡ spec.slot (known_of self.now) from to }
+        ensures fit { IfOk result (IsFit self.now.tools) }
+    {
+        let from = target(self.settings.unit, self.settings.at, from)?;
+        let to = target(self.settings.unit, from, to)?;
+        self.barrel(from, to)
+    }
+
+    // The rows of the header.
+    #[tactic(auto, unfolding(crate::specs::Table::header))]
+    fn header(&self, form: &Form) -> Result<Effect, DrillKind>
+        ensures value { showing result ≡ spec.header (known_of self.now) form.now }
+        ensures fit { IfOk result (IsFit self.now.tools) }
+    {
+        match *form {
+            Form::Unit(unit) => if other_unit(self.settings.unit, unit) {
+                Err(DrillKind::BadLine)
+            } else {
+                Ok(Effect::Stays)
+            },
+            Form::Format | Form::Absolute | Form::HeaderEnd => Ok(Effect::Stays),
+            Form::Tool(n, d) => self.define(n, d),
+            _ => Err(DrillKind::BadLine),
+        }
+    }
+
+    // The rows of the body.
+    #[tactic(auto, unfolding(crate::specs::Table::body))]
+    fn body(&self, form: &Form) -> Result<Effect, DrillKind>
+        requires lawful { IsLawfulReader self.now }
+        ensures value { showing result ≡ spec.body (known_of self.now) form.now }
+        ensures fit { IfOk result (IsFit self.now.tools) }
+    {
+        let down = self.settings.down;
+        let drilling = is_drilling(self.settings.mode);
+        match *form {
+            Form::Arc => Err(DrillKind::ArcRout),
+            Form::NoTool | Form::Drill | Form::End if down => Err(DrillKind::WrongMode),
+            Form::NoTool | Form::Drill | Form::End | Form::Absolute => Ok(Effect::Stays),
+            Form::Select(_) if down => Err(DrillKind::WrongMode),
+            Form::Select(n) if self.tools.find(n).is_none() => Err(DrillKind::NoTool),
+            Form::Select(_) => Ok(Effect::Stays),
+            Form::Rout(_) if down => Err(DrillKind::WrongMode),
+            Form::Rout(to) => self.rout(to),
+            Form::Lower if drilling || down => Err(DrillKind::WrongMode),
+            Form::Lower if self.diameter().is_none() => Err(DrillKind::NoTool),
+            Form::Lower => Ok(Effect::Stays),
+            Form::Raise if !down => Err(DrillKind::WrongMode),
+            Form::Raise => Ok(Effect::Stays),
+            Form::Straight(_) if !down => Err(DrillKind::WrongMode),
+            Form::Straight(to) => self.straight(to),
+            Form::Hit(_) | Form::Slot(_, _) if !drilling => Err(DrillKind::WrongMode),
+            Form::Hit(_) | Form::Slot(_, _) if self.diameter().is_none() => Err(DrillKind::NoTool),
+            Form::Hit(at) => self.hit(at),
+            Form::Slot(from, to) => self.slot(from, to),
+            _ => Err(DrillKind::BadLine),
+        }
+    }
+
+    // By where the line stands.
+    #[tactic(auto, unfolding(crate::specs::Table::staged))]
+    fn staged(&self, form: &Form) -> Result<Effect, DrillKind>
+        requires lawful { IsLawfulReader self.now }
+        ensures value { showing result ≡ spec.staged self.now.settings.stage (known_of self.now) form.now }
+        ensures fit { IfOk result (IsFit self.now.tools) }
+    {
+        match self.settings.stage {
+            Stage::Opening => if is_start(form) {
+                Ok(Effect::Stays)
+            } else {
+                Err(DrillKind::NoHeader)
+            },
+            Stage::Header => self.header(form),
+            Stage::Body => self.body(form),
+            Stage::Ended => Err(DrillKind::AfterEnd),
+        }
+    }
+
+    // What a line does, or its fault.
+    #[tactic(auto, unfolding(crate::specs::Table::effect))]
+    fn effect(&self, form: &Form) -> Result<Effect, DrillKind>
+        requires lawful { IsLawfulReader self.now }
+        ensures value { showing result ≡ spec.effect (known_of self.now) form.now }
+        ensures fit { IfOk result (IsFit self.now.tools) }
+    {
+        match *form {
+            Form::Blank => Ok(Effect::Stays),
+            Form::Misfit(kind) => Err(kind),
+            Form::Finish => if is_ended(self.settings.stage) {
+                Ok(Effect::Stays)
+            } else {
+                Err(DrillKind::NotEnded)
+            },
+            _ => self.staged(form),
+        }
+    }
+
+    // Takes an effect on. An `Err` leaves a reader that is of no more use.
+    fn apply(&mut self, effect: Effect) -> Result<(), NoMemory>
+        requires fit { IsFit self.old.tools effect }
+        requires few { self.old.lines + 1 < 2 ^ 32 }
+        ensures ok { OnOk result (Applies self.old (shown effect) self.new) }
+        ensures lawful { OnOk result (AreLawful self.old.tools → AreLawful self.new.tools) }
+    {
+        match effect {
+            Effect::Stays => Ok(()),
+            Effect::Moves(_) => Ok(()),
+            Effect::Makes(n, diameter) => self.tools.add(n, diameter),
+            Effect::Drills(_, shape) => self.place(shape),
+        }
+    }
+
+    fn place(&mut self, shape: Shape) -> Result<(), NoMemory>
+        requires few { self.old.lines + 1 < 2 ^ 32 }
+        ensures ok { OnOk result (Places self.old (figure_of shape) self.new) }
+    {
+        let origin = Origin {
+            file: self.file,
+            command: self.lines + 1,
+            copy: 0,
+        };
+        self.pieces.push(Placed {
+            shape,
+            top: self.from,
+            bottom: self.to,
+            origin,
+        })?;
+        Ok(())
+    }
+
+    /// Obeys a line. An `Err` leaves a reader that is of no more use.
+    pub fn obey(&mut self, form: &Form) -> Result<(), Halt<DrillKind>>
+        requires lawful { IsLawfulReader self.old }
+        requires few { self.old.lines + 1 < 2 ^ 32 }
+        ensures ok { OnOk result (Obeys self.old form.now self.new) }
+        ensures lawful { OnOk result (IsLawfulReader self.new) }
+        ensures halt { IfErr result (Halts (known_of self.old) form.now) }
+    {
+        let effect = self.effect(form)?;
+        let settings = after(self.settings, form, &effect);
+        if let Err(_) = self.apply(effect) {
+            return Err(Halt::NoMemory);
+        }
+        self.settings = settings;
+        self.lines += 1;
+        Ok(())
+    }
+
+    pub fn into_pieces(self) -> Vec<Piece>
+        ensures { result ≡ self.pieces }
+    {
+        self.pieces
+    }
 }

@@ -1,30 +1,18 @@
 // How a line is read by itself.
 ghost use Rattle.std.specs.Prelude.{◌≡◌, ◌<◌, ◌≤◌, decimal as number_text, Option, Some, None};
+ghost use Rattle.texts.specs.Words as words;
 ghost use Rattle.xnc.specs.Reading as spec;
 
-use crate::form::{Coordinates, Form};
 use crate::kind::DrillKind;
+use crate::line::{Coordinates, Form};
 use crate::span::Span;
 use lengths::{Decimal, Unit, digits_value, read_decimal};
-use text_lines::trimmed;
-use texts::{after, all_digits, before, has};
-
-fn is(text: &[u8], word: &[u8]) -> bool
-    ensures { result ≡ spec.is text.now word.now }
-{
-    text == word
-}
-
-fn begins(text: &[u8], front: &[u8]) -> bool
-    ensures { result ≡ spec.begins text.now front.now }
-{
-    text.starts_with(front)
-}
+use texts::{after, all_digits, before, begins, has, is, trimmed};
 
 // Whether a text is the decimal number.
 fn is_number(text: &[u8], number: u8) -> bool
     requires short { number < 100 }
-    ensures { result ≡ spec.is text.now (number_text number) }
+    ensures { result ≡ words.is text.now (number_text number) }
 {
     if number < 10 {
         is(text, &[b'0' + number])

@@ -1,5 +1,5 @@
 use Rattle.std.proofs.Common.{◌≡◌, ◌≤◌, length}
-use Rattle.text_lines.specs.Blanks.{without_front}
+use Rattle.texts.specs.Blanks.{without_front}
 use Rattle.ipc356_records.proofs.blanks.without_front.Given as goal
 
 abbrev pub invariant-loop-text : goal.invariant-loop-text

@@ -1,6 +1,6 @@
 use Rattle.std.proofs.Common.{◌≡◌, length, sym, ◌∙◌, arith}
 use Rattle.std.proofs.lemmas.List.Sums.{position_or_len_is}
-use Rattle.text_lines.specs.Blanks.{is_blank}
+use Rattle.texts.specs.Blanks.{is_blank}
 use Rattle.ipc356_records.proofs.blanks.word_len.Goals as goal
 
 pub returns-then-is_blank-clause-value : goal.returns-then-is_blank-clause-value

@@ -1,5 +1,5 @@
 use Rattle.std.proofs.Common.{◌≡◌, ℕ, ◌<◌, get_or, false}
-use Rattle.text_lines.specs.Blanks.{is_blank}
+use Rattle.texts.specs.Blanks.{is_blank}
 use Rattle.ipc356_records.proofs.blanks.word_len.Given as goal
 
 abbrev pub invariant-loop-i : goal.invariant-loop-i

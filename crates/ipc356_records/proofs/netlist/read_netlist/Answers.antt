@@ -1,8 +1,8 @@
 use Rattle.std.proofs.Common.{ap, ◌∙◌}
-use Rattle.text_lines.specs.Lines.{Ahead}
+use Rattle.texts.specs.Lines.{Ahead}
 use Rattle.ipc356_records.specs.Records.{ahead}
 use Rattle.ipc356_records.proofs.Fits.{if_fits_board}
-use Rattle.ipc356_records.proofs.ReadSoFar.{read-line, line-fault, if-read, if-fault}
+use Rattle.ipc356_records.proofs.ReadSoFar.{line-read, line-fault, if-read, if-fault}
 use Rattle.ipc356_records.proofs.netlist.read_netlist.Goals as goal
 
 pub loop-record-preserved : goal.loop-record-preserved
@@ -10,7 +10,7 @@ loop-record-preserved c =
     let given = c.in-Some.ensures.next in
     let obeys = rw (c.read_form.ensures.value, given.is.text) at c.in_default-obey.ensures.ok in
     record {
-      read = read-line c.args.file.now c.args.layers (ahead c.loop-record.records) (ahead c.next_record.new.self) given.line c.loop-record.reader c.obey.new.self c.loop-record.invariant.read given.first given.counts obeys;
+      read = line-read c.args.file.now c.args.layers (ahead c.loop-record.records) (ahead c.next_record.new.self) given.line c.loop-record.reader c.obey.new.self c.loop-record.invariant.read given.first given.counts obeys;
       lawful = c.in_default-obey.ensures.lawful;
     }
 

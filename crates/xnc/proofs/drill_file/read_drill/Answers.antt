@@ -1,9 +1,9 @@
 use Rattle.std.proofs.Common.{◌≡◌, ◌+◌, length, refl, sym, ap, subst, arith}
-use Rattle.text_lines.specs.Lines.{Ahead, start}
-use Rattle.text_lines.specs.Stepping.{ahead, plain_line}
+use Rattle.texts.specs.Lines.{Ahead, start}
+use Rattle.texts.specs.Stepping.{ahead, plain_line}
 use Rattle.xnc.specs.Place.{Place}
 use Rattle.xnc.proofs.Placing.{few_read, span_read}
-use Rattle.xnc.proofs.ReadSoFar.{ReadSoFar, read-start, read-line, line-fault, end-read, end-fault}
+use Rattle.xnc.proofs.ReadSoFar.{ReadSoFar, nothing-read, line-read, line-fault, end-read, end-fault}
 use Rattle.xnc.proofs.drill_file.read_drill.Goals as goal
 
 pub loop-reader-init : goal.loop-reader-init
@@ -13,7 +13,7 @@ loop-reader-init c =
     let size : length c.new-lines.result.rest.now ≡ length c.args.file.now = ap (λ (a : Ahead). length a.bytes) at_start in
     let none : c.new-reader.result.lines ≡ 0 = c.new-reader.ensures.new.counts in
     record {
-      read = subst (λ (a : Ahead). ReadSoFar c.args.file.now p a c.new-reader.result) (sym at_start) (read-start c.args.file.now p c.new-reader.result c.new-reader.ensures.new);
+      read = subst (λ (a : Ahead). ReadSoFar c.args.file.now p a c.new-reader.result) (sym at_start) (nothing-read c.args.file.now p c.new-reader.result c.new-reader.ensures.new);
       lawful = c.new-reader.ensures.lawful;
       few = omega (arith, size, none);
     }
@@ -23,7 +23,7 @@ loop-reader-preserved c =
     let p : Place = record { from = c.args.span.from; to = c.args.span.to; file = c.args.file_number; room = c.args.room.pieces } in
     let obeys = rw c.read_line.ensures at c.in-Ok.ensures.ok in
     record {
-      read = read-line c.args.file.now p (ahead c.loop-reader.lines) (ahead c.next_line.new.self) (plain_line c.in-Some.line) c.loop-reader.reader c.obey.new.self c.loop-reader.invariant.read c.in-Some.ensures.next.0 obeys;
+      read = line-read c.args.file.now p (ahead c.loop-reader.lines) (ahead c.next_line.new.self) (plain_line c.in-Some.line) c.loop-reader.reader c.obey.new.self c.loop-reader.invariant.read c.in-Some.ensures.next.0 obeys;
       lawful = c.in-Ok.ensures.lawful;
       few = omega (arith, c.in-Ok.ensures.ok.counts, c.in-Some.ensures.shorter, c.loop-reader.invariant.few);
     }

@@ -1,5 +1,5 @@
 use Rattle.std.proofs.Common.{◌+◌, ◌≤◌, length}
-use Rattle.text_lines.specs.Stepping.{ahead}
+use Rattle.texts.specs.Stepping.{ahead}
 use Rattle.xnc.specs.Reader.{IsLawfulReader}
 use Rattle.xnc.proofs.ReadSoFar.{ReadSoFar}
 use Rattle.xnc.proofs.drill_file.read_drill.Given as goal

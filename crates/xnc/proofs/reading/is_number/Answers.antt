@@ -1,6 +1,6 @@
 use Rattle.std.proofs.Common.{ap, ◌∙◌, sym, arith}
 use Rattle.std.proofs.lemmas.Fmt.{decimal_digit}
-use Rattle.xnc.specs.Reading.{is}
+use Rattle.texts.specs.Words.{is}
 use Rattle.xnc.proofs.Numbers.{two_digits}
 use Rattle.xnc.proofs.reading.is_number.Goals as goal
 

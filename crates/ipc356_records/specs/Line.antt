@@ -2,10 +2,10 @@
 use Rattle.std.specs.Prelude.{ℕ, List, Option}
 use Rattle.std.specs.Option.{option_copied}
 use Rattle.lengths.specs.declared.decimal.Unit.{Unit as Measure}
-use Rattle.ipc356_records.specs.declared.form.Coordinate.{Coordinate}
-use Rattle.ipc356_records.specs.declared.form.TestFields.{TestFields as SeenFields}
-use Rattle.ipc356_records.specs.declared.form.Form.{Form as Seen}
-use Rattle.ipc356_records.specs.declared.form.Form.TheVariants as seen
+use Rattle.ipc356_records.specs.declared.line.Coordinate.{Coordinate}
+use Rattle.ipc356_records.specs.declared.line.TestFields.{TestFields as SeenFields}
+use Rattle.ipc356_records.specs.declared.line.Form.{Form as Seen}
+use Rattle.ipc356_records.specs.declared.line.Form.TheVariants as seen
 
 -- the fields of a test record, each of them missing where it is amiss
 pub record TestFields : Type 0 where

@@ -4,8 +4,8 @@ use Rattle.lengths.specs.Decimal.{Fraction}
 use Rattle.lengths.specs.declared.decimal.Unit.{Unit as Measure}
 use Rattle.board_shapes.specs.Plain.{PlainPiece}
 use Rattle.xnc.specs.declared.kind.DrillKind.{DrillKind}
-use Rattle.xnc.specs.declared.form.Form.{Form}
-use Rattle.xnc.specs.declared.form.Form.TheVariants as form
+use Rattle.xnc.specs.declared.line.Form.{Form}
+use Rattle.xnc.specs.declared.line.Form.TheVariants as form
 use Rattle.xnc.specs.declared.settings.Stage.{Stage}
 use Rattle.xnc.specs.declared.settings.Stage.TheVariants.{Opening, Header, Body, Ended}
 use Rattle.xnc.specs.declared.settings.Mode.{Mode}
@@ -140,3 +140,7 @@ barrels_at p (f ∷ earlier) = barrels_at p earlier ++ piece_of p (length earlie
 
 abbrev pub known_at : Place → List Form → Known
 known_at p earlier = known_with p earlier (length (barrels_at p earlier))
+
+-- what a line does, or its fault, behind these lines
+abbrev pub effect_at : Place → List Form → Form → Result Effect DrillKind
+effect_at p earlier f = effect (known_at p earlier) f

@@ -1,0 +1,59 @@
+-- What is known before a line, found by looking back. A history is a list of lines by their forms, the last first.
+use Rattle.std.specs.Prelude.{ℕ, ◌+◌, Bool, true, false, ◌||◌, if◌then◌else◌, List, [], ◌∷◌, Option, Some, None}
+use Rattle.lengths.specs.declared.decimal.Unit.{Unit as Measure}
+use Rattle.ipc356_records.specs.Line.{Form, units, ends, tests}
+use Rattle.ipc356_records.specs.Names.{with_name}
+use Rattle.ipc356_records.specs.Table.{Known}
+
+-- the unit that a line sets
+abbrev pub unit_in : Form → Option Measure
+unit_in (units unit) = unit
+unit_in other = None
+
+abbrev pub is_end : Form → Bool
+is_end ends = true
+is_end other = false
+
+abbrev pub is_record : Form → Bool
+is_record (tests fields) = true
+is_record other = false
+
+-- the net name of a test record
+abbrev pub name_in : Form → Option (List ℕ)
+name_in (tests fields) = fields.name
+name_in other = None
+
+abbrev pub or_else : {A : Type 0} → Option A → Option A → Option A
+or_else (Some x) other = Some x
+or_else None other = other
+
+abbrev pub with_name_if : Option (List ℕ) → List (List ℕ) → List (List ℕ)
+with_name_if None names = names
+with_name_if (Some name) names = with_name name names
+
+-- the unit, how many test records, their distinct names in first-seen order, and whether the end code stands there
+abbrev pub unit_before : List Form → Option Measure
+unit_before [] = None
+unit_before (form ∷ earlier) = or_else (unit_in form) (unit_before earlier)
+
+abbrev pub records_before : List Form → ℕ
+records_before [] = 0
+records_before (form ∷ earlier) = if is_record form then records_before earlier + 1 else records_before earlier
+
+abbrev pub names_of : List Form → List (List ℕ)
+names_of [] = []
+names_of (form ∷ earlier) = with_name_if (name_in form) (names_of earlier)
+
+abbrev pub has_ended : List Form → Bool
+has_ended [] = false
+has_ended (form ∷ earlier) = is_end form || has_ended earlier
+
+-- what is known before the next line, on a board of so many layers
+abbrev pub known_at : ℕ → List Form → Known
+known_at layers earlier = record {
+  unit = unit_before earlier;
+  records = records_before earlier;
+  names = names_of earlier;
+  ended = has_ended earlier;
+  layers = layers;
+}
