@@ -1,12 +1,11 @@
 // A field that looks at every piece.
 ghost use Rattle.cell_index.specs.Among.{TouchAmong, UnderAmong, bottom_in, extent_in, top_in, turned};
-ghost use Rattle.cell_index.specs.Field.{IsNear, is_rival};
 ghost use Rattle.contact.specs.Solid.{IsInside};
-ghost use Rattle.planar.specs.Plane.{IsPlaced};
 ghost use Rattle.planar.specs.declared.Spot.{Spot};
-ghost use Rattle.std.specs.Prelude.{◌≡◌, ℕ, ◌+◌, ◌<◌, ◌≤◌, ◌^◌, ◌↔◌, if◌then◌else◌, IsTrue, All, length};
+ghost use Rattle.std.specs.Prelude.{◌≡◌, ◌<◌, ◌^◌, All, length};
 
 use crate::field::Field;
+use crate::pieces::{is_near, is_under};
 use board_shapes::Placed;
 use contact::{Closed, Meets};
 use lengths::NoMemory;
@@ -32,28 +31,6 @@ impl<'a, S: Meets<S>> AllPairs<'a, S> {
         ensures frame { result.frame ≡ frame }
     {
         AllPairs { items, frame }
-    }
-
-    // Whether q is another piece than p, and touches it.
-    fn is_near<L: Ledger>(&self, p: usize, q: usize, tests: &mut Steps<L>) -> bool
-        requires first { p < length self.now.items.now }
-        requires second { q < length self.now.items.now }
-        ensures near { IsTrue result ↔ IsNear (length self.now.items.now) (TouchAmong S.holds self.now.items.now) p q }
-        ensures ticks { tests.new ≤ tests.old + (if is_rival (extent_in S.extent self.now.items.now) (top_in self.now.items.now) (bottom_in self.now.items.now) p q then 1 else 0) }
-    {
-        if q == p {
-            return false;
-        }
-        self.items[p].touches(&self.items[q], self.frame, tests)
-    }
-
-    // Whether the piece is under the spot on the layer.
-    fn is_under(&self, p: usize, spot: Spot, layer: u8) -> bool
-        requires piece { p < length self.now.items.now }
-        requires placed { IsPlaced spot }
-        ensures { IsTrue result ↔ UnderAmong S.holds self.now.items.now spot layer p }
-    {
-        self.items[p].under(spot, layer, self.frame)
     }
 }
 
@@ -86,7 +63,7 @@ impl<'a, S: Meets<S>> Field for AllPairs<'a, S> {
     ) -> Result<(), NoMemory> {
         into.clear();
         for q in 0..self.items.len() {
-            if self.is_near(i, q, tests) {
+            if is_near(self.items, self.frame, i, q, tests) {
                 into.push(q as u32)?;
             }
         }
@@ -95,7 +72,7 @@ impl<'a, S: Meets<S>> Field for AllPairs<'a, S> {
 
     fn least_at(&self, at: Spot, layer: u8) -> Option<u32> {
         for p in 0..self.items.len() {
-            if self.is_under(p, at, layer) {
+            if is_under(self.items, self.frame, p, at, layer) {
                 return Some(p as u32);
             }
         }

@@ -1,19 +1,35 @@
 // Nets, each breadth first from its least piece.
-ghost use Rattle.std.specs.Prelude.{◌≡◌, ◌⊎◌, ℕ, ◌+◌, ◌<◌, ◌≤◌, ◌^◌, Bool, List, [], ◌∷◌, ◌++◌, length, Contains, OnOk, IfOk};
-ghost use Rattle.cell_index.specs.Field.{IsNear, rivals_of, sum_below};
+ghost use Rattle.std.specs.Prelude.{◌≡◌, ◌⊎◌, ℕ, ◌+◌, ◌*◌, ◌<◌, ◌≤◌, ◌^◌, Bool, List, [], ◌∷◌, ◌++◌, length, Contains, OnOk, IfOk};
+ghost use Rattle.cell_index.specs.Field.{IsNear, pairs_of, rivals_of, sum_below};
 ghost use Rattle.verdict.specs.Forest.{IsForest, pieces_of};
 ghost use Rattle.verdict.specs.declared.verdict.Twig.{Twig};
 ghost use Rattle.flood.specs.Flood.{IsSeen, unseen, weight, IsGrown, IsWhole};
 
 use cell_index::Field;
+use cell_index::laws::rivals_are_twice_the_pairs;
 use lengths::{NoMemory, Rows};
 use std::alloc::Global;
 use std::sync::ledger::Ledger;
 use steps::Steps;
 use verdict::{Tree, Trees, Twig};
 
-/// The nets as trees: by rising least piece, each breadth first.
+/// The nets as trees: by rising least piece, each breadth first. There are at most two contact tests for each pair of
+/// pieces whose boxes meet and whose spans have a common layer.
 pub fn flood<F: Field, L: Ledger>(
+    alloc: Global,
+    field: &F,
+    tests: &mut Steps<L>,
+) -> Result<Trees, NoMemory>
+    ensures nets { IfOk result (IsForest (F.size field.now) (IsNear (F.size field.now) (F.touch field.now))) }
+    ensures ticks { tests.new ≤ tests.old + sum_below (rivals_of (F.size field.now) (F.extent field.now) (F.top field.now) (F.bottom field.now)) (F.size field.now) }
+    ensures pairs { tests.new ≤ tests.old + 2 * pairs_of (F.size field.now) (F.extent field.now) (F.top field.now) (F.bottom field.now) }
+{
+    rivals_are_twice_the_pairs();
+    forest_of(alloc, field, tests)
+}
+
+// The same, where each piece is asked for its neighbours once.
+fn forest_of<F: Field, L: Ledger>(
     alloc: Global,
     field: &F,
     tests: &mut Steps<L>,

@@ -1,16 +1,19 @@
-// A field without geometry: a list of pairs, searched against a plain slow search.
+// A field without geometry: a list of pairs, searched against a plain slow search. And the same graphs in copper.
+ghost use Rattle.contact.specs.Solid.{IsInside};
 ghost use Rattle.contact.specs.declared.Bounds.{Bounds};
-ghost use Rattle.planar.specs.Plane.{IsPlaced};
+ghost use Rattle.flood.specs.declared.tests.TheConstants.{FRAME};
+ghost use Rattle.planar.specs.Plane.{IsPlaced, IsWithin};
 ghost use Rattle.planar.specs.declared.Spot.{Spot};
 ghost use Rattle.std.proofs.Common.{inl, inr};
 ghost use Rattle.std.specs.List.{list_any};
-ghost use Rattle.std.specs.Prelude.{◌≡◌, ◌⊎◌, ◌==◌, ◌&&◌, ◌↔◌, ℕ, ◌<◌, ◌≤◌, IsTrue, pos};
+ghost use Rattle.std.specs.Prelude.{◌≡◌, ◌⊎◌, ◌==◌, ◌&&◌, ◌↔◌, ℕ, ◌<◌, ◌≤◌, All, IsTrue, pos};
 
 use super::*;
-use board_shapes::Probe;
-use cell_index::Field;
+use board_shapes::{Origin, Placed, Probe};
+use cell_index::{Cells, Field};
+use contact::{Capsule, Closed, Meets};
 use lengths::NoMemory;
-use planar::Spot;
+use planar::{Frame, Spot};
 use std::alloc::Global;
 use std::marker::Brand;
 use std::sync::ledger::{Blank, Ledger};
@@ -96,11 +99,7 @@ fn search<F: Field, L: Ledger>(alloc: Global, field: &F, blank: Blank) -> Result
 // The twigs of all nets, one after the other.
 fn twigs(alloc: Global, trees: &Trees) -> Result<Vec<(u32, Option<u32>)>, NoMemory> {
     let mut all = Vec::new(alloc);
-    for net in trees.as_slice() {
-        for twig in net.as_slice() {
-            all.push((twig.piece, twig.parent))?;
-        }
-    }
+    add_twigs(&mut all, trees, 0)?;
     Ok(all)
 }
 
@@ -166,6 +165,17 @@ fn made(alloc: Global, number: u32) -> Result<Vec<(u32, u32)>, NoMemory> {
     Ok(pairs)
 }
 
+// Whether the nets are those of the graph.
+fn are_nets(alloc: Global, trees: &Trees, graph: &Pairs) -> Result<bool, NoMemory> {
+    let least = least_joined(alloc, graph.count, graph.pairs)?;
+    for net in trees.as_slice() {
+        if !is_joined(net.as_slice(), least.as_slice(), graph) {
+            return Ok(false);
+        }
+    }
+    Ok(twigs(alloc, trees)?.len() == graph.count as usize)
+}
+
 // All graphs of five pieces.
 #[test]
 fn nets_are_what_chains_join(rt: HostRuntime) -> Result<(), Fail> {
@@ -176,15 +186,179 @@ fn nets_are_what_chains_join(rt: HostRuntime) -> Result<(), Fail> {
             pairs: pairs.as_slice(),
         };
         let trees = search::<Pairs, Brand>(rt.alloc(), &field, Blank::new(1))?;
-        let least = least_joined(rt.alloc(), 5, pairs.as_slice())?;
-        for net in trees.as_slice() {
-            assert!(rt;
-                is_joined(net.as_slice(), least.as_slice(), &field),
-                "at {number}"
-            );
-        }
-        assert_eq!(rt; twigs(rt.alloc(), &trees)?.len(), 5, "at {number}");
+        assert!(rt; are_nets(rt.alloc(), &trees, &field)?, "at {number}");
     }
+    Ok(())
+}
+
+// A corner of a pentagon of 2 mm about 0.
+fn point(k: u32) -> Spot
+    ensures { IsWithin 10000000 result.x × IsWithin 10000000 result.y }
+{
+    match k {
+        0 => Spot {
+            x: 0,
+            y: 10_000_000,
+        },
+        1 => Spot {
+            x: 9_510_565,
+            y: 3_090_170,
+        },
+        2 => Spot {
+            x: 5_877_853,
+            y: -8_090_170,
+        },
+        3 => Spot {
+            x: -5_877_853,
+            y: -8_090_170,
+        },
+        _ => Spot {
+            x: -9_510_565,
+            y: 3_090_170,
+        },
+    }
+}
+
+// The same of one of 32 by 32 pentagons that stand side by side.
+fn corner(number: u32, k: u32) -> Spot
+    ensures { IsPlaced result }
+{
+    let at = point(k);
+    Spot {
+        x: at.x + (number % 32) as i64 * 30_000_000,
+        y: at.y + (number / 32 % 32) as i64 * 30_000_000,
+    }
+}
+
+// A barrel of five layers at each corner, and a track for each pair. Tracks of one layer are parallel, so each touches its
+// two barrels alone.
+fn add_pentagon(
+    items: &mut Vec<Placed<Capsule>>,
+    number: u32,
+    pairs: &[(u32, u32)],
+) -> Result<(), NoMemory> {
+    for k in 0..5 {
+        let barrel = Capsule::new(corner(number, k), corner(number, k), 2_000_000);
+        items.push(placed(barrel, 1, 5))?;
+    }
+    for (p, q) in pairs {
+        let layer = ((*p % 5 + *q % 5) % 5) as u8 + 1;
+        let track = Capsule::new(corner(number, *p), corner(number, *q), 500_000);
+        items.push(placed(track, layer, layer))?;
+    }
+    Ok(())
+}
+
+// A pentagon for each graph of five pieces.
+fn pentagons(alloc: Global) -> Result<Vec<Placed<Capsule>>, NoMemory> {
+    let mut items = Vec::new(alloc);
+    for number in 0..1024 {
+        let pairs = made(alloc, number)?;
+        add_pentagon(&mut items, number, pairs.as_slice())?;
+    }
+    Ok(items)
+}
+
+fn placed(shape: Capsule, top: u8, bottom: u8) -> Placed<Capsule>
+    requires { (1 ≤ top) × (top ≤ bottom) }
+{
+    Placed {
+        shape,
+        top,
+        bottom,
+        origin: Origin {
+            file: 0,
+            command: 1,
+            copy: 0,
+        },
+    }
+}
+
+// The pairs of a barrel and a track that ends there.
+fn ends(alloc: Global, pairs: &[(u32, u32)]) -> Result<Vec<(u32, u32)>, NoMemory> {
+    let mut all = Vec::new(alloc);
+    let mut track = 5u32;
+    for (p, q) in pairs {
+        all.push((*p, track))?;
+        all.push((*q, track))?;
+        track = track.wrapping_add(1);
+    }
+    Ok(all)
+}
+
+const FRAME: Frame = Frame {
+    left: -100_000_000,
+    low: -100_000_000,
+};
+
+fn is_on<S>(item: &Placed<S>, layers: u8) -> bool
+    ensures { IsTrue result ↔ ((1 ≤ item.now.top) × (item.now.top ≤ item.now.bottom) × (item.now.bottom ≤ layers)) }
+{
+    if item.top == 0 || item.bottom < item.top {
+        return false;
+    }
+    item.bottom <= layers
+}
+
+fn are_on<S>(items: &[Placed<S>], layers: u8) -> bool
+    ensures { IsTrue result ↔ All (λ p. (1 ≤ p.top) × (p.top ≤ p.bottom) × (p.bottom ≤ layers)) items.now }
+{
+    items.iter().all(|p| is_on(p, layers))
+}
+
+fn fit<S: Meets<S>>(items: &[Placed<S>]) -> bool
+    ensures { IsTrue result ↔ All (λ p. IsInside (S.extent p.shape) FRAME) items.now }
+{
+    items.iter().all(|p| p.shape.bounds().inside(FRAME))
+}
+
+fn cells_of<'a, S: Meets<S>>(
+    alloc: Global,
+    items: &'a [Placed<S>],
+) -> Result<Option<Cells<'a, S>>, NoMemory> {
+    if items.len() < 100_000 && fit(items) && are_on(items, 5) {
+        let cells = Cells::new(alloc, items, FRAME, 5)?;
+        return Ok(Some(cells));
+    }
+    Ok(None)
+}
+
+// Adds the twigs of all nets, with so much more for the number of each piece.
+fn add_twigs(into: &mut Vec<(u32, Option<u32>)>, trees: &Trees, more: u32) -> Result<(), NoMemory> {
+    for net in trees.as_slice() {
+        for twig in net.as_slice() {
+            let parent = match twig.parent {
+                Some(parent) => Some(parent.wrapping_add(more)),
+                None => None,
+            };
+            into.push((twig.piece.wrapping_add(more), parent))?;
+        }
+    }
+    Ok(())
+}
+
+// All graphs of five barrels that are joined by tracks, side by side on one board of cells: its nets are theirs in turn.
+#[test]
+fn nets_over_cells(rt: HostRuntime) -> Result<(), Fail> {
+    let items = pentagons(rt.alloc())?;
+    let cells = cells_of(rt.alloc(), items.as_slice())?.expect(&rt, "in the frame");
+    let trees = search::<Cells<Capsule>, Brand>(rt.alloc(), &cells, Blank::new(1))?;
+    let mut want = Vec::new(rt.alloc());
+    let mut before = 0u32;
+    for number in 0..1024 {
+        let pairs = made(rt.alloc(), number)?;
+        let joins = ends(rt.alloc(), pairs.as_slice())?;
+        let graph = Pairs {
+            count: pairs.len().min(10) as u32 + 5,
+            pairs: joins.as_slice(),
+        };
+        let nets = search::<Pairs, Brand>(rt.alloc(), &graph, Blank::new(1))?;
+        assert!(rt; are_nets(rt.alloc(), &nets, &graph)?, "at {number}");
+        add_twigs(&mut want, &nets, before)?;
+        before = before.wrapping_add(graph.count);
+    }
+    assert_eq!(rt; before, 10_240);
+    assert!(rt; twigs(rt.alloc(), &trees)?.as_slice() == want.as_slice());
     Ok(())
 }
 

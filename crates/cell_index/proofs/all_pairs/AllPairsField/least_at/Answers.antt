@@ -1,4 +1,4 @@
-use Rattle.std.proofs.Common.{◌<◌, ◌≤◌, ℕ, arith, length}
+use Rattle.std.proofs.Common.{arith}
 use Rattle.std.proofs.lemmas.Option.{slice_get_within}
 use Rattle.cell_index.proofs.Pairs.{not_below}
 use Rattle.cell_index.proofs.all_pairs.AllPairsField.least_at.Goals as goal

@@ -1,0 +1,126 @@
+// What a field of cells answers.
+ghost use Rattle.cell_index.specs.Among.{TouchAmong, UnderAmong, bottom_in, extent_in, top_in, turned};
+ghost use Rattle.cell_index.specs.Field.{IsNear, rivals_of};
+ghost use Rattle.cell_index.specs.Finding.{IsLesser};
+ghost use Rattle.cell_index.specs.Stretched.{spot_over};
+ghost use Rattle.contact.specs.Solid.{IsInside};
+ghost use Rattle.planar.specs.Plane.{IsPlaced};
+ghost use Rattle.planar.specs.declared.Spot.{Spot};
+ghost use Rattle.std.specs.List.Sorted.{IsStrictlyIncreasing};
+ghost use Rattle.std.specs.Prelude.{◌≡◌, ◌+◌, ◌<◌, ◌≤◌, ◌^◌, ◌↔◌, IsTrue, All, Contains, IfSome, length};
+ghost use Rattle.tables.specs.Lists.{IsLeast, Lists};
+
+use crate::cells::Cells;
+use crate::field::Field;
+use crate::pieces::{is_near, is_under};
+use board_shapes::Placed;
+use contact::{Closed, Meets};
+use lengths::NoMemory;
+use planar::Spot;
+use std::sync::ledger::Ledger;
+use steps::Steps;
+
+impl<'a, S: Meets<S>> Cells<'a, S> {
+    // Of the pieces in the list keeps those that touch piece i.
+    fn keep_near<L: Ledger>(&self, i: usize, into: &mut Vec<u32>, tests: &mut Steps<L>)
+        requires piece { i < length self.now.items.now }
+        requires known { All (λ q. q < length self.now.items.now) into.old.items }
+        requires rising { IsStrictlyIncreasing into.old.items }
+        ensures near { Lists (λ q. IsNear (length self.now.items.now) (TouchAmong S.holds self.now.items.now) i q × Contains into.old.items q) into.new.items }
+        ensures ticks { tests.new ≤ tests.old + rivals_of (length self.now.items.now) (extent_in S.extent self.now.items.now) (top_in self.now.items.now) (bottom_in self.now.items.now) i }
+    {
+        let mut kept = 0;
+        for k in 0..into.len() {
+            let q = into[k];
+            if is_near(self.items, self.frame, i, q as usize, tests) {
+                into[kept] = q;
+                kept += 1;
+            }
+        }
+        into.truncate(kept);
+    }
+
+    // Whether piece p is under the spot, which is stretched to this place. Its copy is looked at first.
+    fn is_held(&self, p: usize, at: Spot, place: Spot, layer: u8) -> bool
+        requires piece { p < length self.now.items.now }
+        requires placed { IsPlaced at }
+        requires place { place ≡ spot_over self.now.finer.stretch at }
+        ensures { IsTrue result ↔ UnderAmong S.holds self.now.items.now at layer p }
+    {
+        if !self.finer.copies[p].shape.bounds.holds(place) {
+            return false;
+        }
+        is_under(self.items, self.frame, p, at, layer)
+    }
+
+    // The first of a rising list that is under the spot.
+    fn first_under(&self, list: &[u32], at: Spot, place: Spot, layer: u8) -> Option<u32>
+        requires list { All (λ q. q < length self.now.items.now) list.now }
+        requires rising { IsStrictlyIncreasing list.now }
+        requires placed { IsPlaced at }
+        requires place { place ≡ spot_over self.now.finer.stretch at }
+        ensures least { IsLeast (λ q. UnderAmong S.holds self.now.items.now at layer q × Contains list.now q) result }
+        ensures piece { IfSome result (λ q. q < length self.now.items.now) }
+    {
+        for k in 0..list.len() {
+            let q = list[k];
+            if self.is_held(q as usize, at, place, layer) {
+                return Some(q);
+            }
+        }
+        None
+    }
+}
+
+// The lesser of two numbers that may be missing.
+fn lesser(a: Option<u32>, b: Option<u32>) -> Option<u32>
+    ensures { IsLesser a b result }
+{
+    match a {
+        None => b,
+        Some(x) => match b {
+            None => a,
+            Some(y) => Some(x.min(y)),
+        },
+    }
+}
+
+impl<'a, S: Meets<S>> Field for Cells<'a, S> {
+    ghost size = { λ f. length f.items.now };
+
+    ghost extent = { λ f. extent_in S.extent f.items.now };
+
+    ghost top = { λ f. top_in f.items.now };
+
+    ghost bottom = { λ f. bottom_in f.items.now };
+
+    ghost touch = { λ f. TouchAmong S.holds f.items.now };
+
+    ghost beneath = { λ f. UnderAmong S.holds f.items.now };
+
+    ghost is_lawful = { λ f. (length f.items.now < 2 ^ 32) × All (λ p. IsInside (S.extent p.shape) f.frame) f.items.now };
+
+    ghost symmetric = { λ f p q lawful t. turned S.holds f.items.now p q t };
+
+    fn count(&self) -> usize {
+        self.items.len()
+    }
+
+    fn neighbours<L: Ledger>(
+        &self,
+        i: usize,
+        into: &mut Vec<u32>,
+        tests: &mut Steps<L>,
+    ) -> Result<(), NoMemory> {
+        self.finer.met(i, into)?;
+        self.keep_near(i, into, tests);
+        Ok(())
+    }
+
+    fn least_at(&self, at: Spot, layer: u8) -> Option<u32> {
+        let place = self.finer.stretch.spot(at);
+        let in_cell = self.first_under(self.finer.around(place), at, place, layer);
+        let in_wide = self.first_under(self.finer.wide(), at, place, layer);
+        lesser(in_cell, in_wide)
+    }
+}
