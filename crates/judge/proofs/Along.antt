@@ -1,22 +1,13 @@
 -- Trees and branches along a relation that says no less, and what a tree says place by place.
-use Rattle.std.proofs.Common.{◌≡◌, ℕ, zero, suc, ◌<◌, ◌≤◌, List, [], ◌∷◌, ◌++◌, length, take, Contains, AllPairs, Some, None, refl, sym, ap, subst, ◌∙◌, append_assoc, append-nil, arith}
+use Rattle.std.proofs.Common.{◌≡◌, ℕ, zero, suc, ◌<◌, ◌≤◌, List, [], ◌∷◌, ◌++◌, length, take, Contains, Some, None, sym, ap, subst, ◌∙◌, append_assoc, append-nil, arith}
 use Rattle.std.proofs.lemmas.List.{get_or_default, get_or-map, length-map, get_or-take, length-take-le}
-use Rattle.std.proofs.lemmas.List.Elements.{All-get_or}
 use Rattle.verdict.specs.declared.verdict.Twig.{Twig}
 use Rattle.verdict.specs.declared.verdict.Branch.{Branch}
 use Rattle.verdict.specs.declared.verdict.PointLine.{PointLine}
-use Rattle.verdict.specs.Forest.{IsTree, IsForest, Hang, pieces_of, piece_of, first_piece, net_at}
+use Rattle.verdict.specs.Forest.{IsTree, Hang, pieces_of, piece_of}
 use Rattle.verdict.specs.Right.{AreBranches, BeginsAt}
 use Rattle.judge.specs.Judged.{HangAbove}
 use Rattle.verdict.specs.Places.{twig_at}
-
-hang_along : (near more : ℕ → ℕ → Type 0) → ((p q : ℕ) → near p q → more p q) → (earlier : List ℕ) (rest : List Twig) → Hang near earlier rest → Hang more earlier rest
-hang_along near more along earlier [] hang = tt
-hang_along near more along earlier (t ∷ rest) (here, hang) = (record { parent = here.parent; named = here.named; stands = here.stands; touches = along here.parent t.piece here.touches }, hang_along near more along (earlier ++ t.piece ∷ []) rest hang)
-
-pub tree_along : (near more : ℕ → ℕ → Type 0) → ((p q : ℕ) → near p q → more p q) → (net : List Twig) → IsTree near net → IsTree more net
-tree_along near more along [] tree = absurd tree
-tree_along near more along (t ∷ rest) (root, least, hang) = (root, least, hang_along near more along (t.piece ∷ []) rest hang)
 
 begins_along : (a b : ℕ → Type 0) → ((p : ℕ) → a p → b p) → (pieces : List ℕ) → BeginsAt a pieces → BeginsAt b pieces
 begins_along a b along [] h = absurd h
@@ -53,20 +44,3 @@ tree_hangs near (t ∷ rest) (root, least, hang) (suc k) inner within =
 pub tree_some : (near : ℕ → ℕ → Type 0) (net : List Twig) → IsTree near net → 0 < length net
 tree_some near [] tree = absurd tree
 tree_some near (t ∷ rest) tree = omega arith
-
--- Rising nets are no more than the pieces.
-pub nets_rise : (nets : List (List Twig)) → AllPairs (λ net later. first_piece net < first_piece later) nets → (i : ℕ) → i < length nets → i ≤ first_piece (net_at nets i)
-nets_rise nets rising zero below = omega arith
-nets_rise nets rising (suc i) below = let e = nets_rise nets rising i (omega arith) in let f = rising i (suc i) [] (omega arith) below in omega arith
-
-first_inside : (near : ℕ → ℕ → Type 0) (net : List Twig) → IsTree near net → Contains (pieces_of net) (first_piece net)
-first_inside near [] tree = absurd tree
-first_inside near (t ∷ rest) tree = (0, omega arith, refl)
-
-pub nets_few : (size : ℕ) (near : ℕ → ℕ → Type 0) (nets : List (List Twig)) → IsForest size near nets → (n : ℕ) → n ≡ length nets → n ≤ size
-nets_few size near nets lawful zero e = omega arith
-nets_few size near nets lawful (suc n) e =
-    let rise = nets_rise nets lawful.trees.rising n (omega arith) in
-    let tree = All-get_or (IsTree near) nets n [] (omega arith) lawful.trees.trees in
-    let below = lawful.trees.known n (first_piece (net_at nets n)) (first_inside near (net_at nets n) tree) in
-    omega arith

@@ -1,20 +1,21 @@
 -- The branches of shorts.
-use Rattle.std.proofs.Common.{◌≡◌, inl, inr, ℕ, zero, suc, ◌+◌, ◌<◌, ◌≤◌, Bool, true, false, List, [], ◌∷◌, ◌++◌, length, map, get_or, set, take, drop, replicate, Contains, All, Option, Some, None, refl, sym, ap, subst, ◌∙◌, append-nil, arith, slice_get}
+use Rattle.std.proofs.Common.{◌≡◌, inl, inr, ℕ, ◌+◌, ◌<◌, ◌≤◌, Bool, true, false, List, [], ◌∷◌, ◌++◌, length, map, get_or, set, take, drop, replicate, Contains, All, Option, Some, None, refl, sym, ap, subst, ◌∙◌, append-nil, arith, slice_get}
 use Rattle.std.proofs.lemmas.List.{drop_all, length-set, get_or-set_same, get_or-set_other, length-map, get_or-replicate, length-replicate, map-append, take_more}
 use Rattle.std.proofs.lemmas.List.Elements.{All-get_or, Contains-append_left}
 use Rattle.std.proofs.lemmas.Bool.{cases_eq}
 use Rattle.verdict.specs.declared.verdict.Twig.{Twig}
 use Rattle.verdict.specs.declared.verdict.Branch.{Branch}
 use Rattle.verdict.specs.declared.verdict.PointLine.{PointLine}
-use Rattle.verdict.specs.declared.marks.Mark.{Mark}
+use Rattle.verdict.specs.declared.verdict.Mark.{Mark}
 use Rattle.verdict.specs.Forest.{first_piece}
 use Rattle.verdict.specs.Right.{IsWay, BeginsAt, IsBranch, AreBranches, HasBranches, all_shorts, names_on, outline, short_of, Outline, BeginsAtHome}
 use Rattle.judge.specs.Judged.{AreFlags}
-use Rattle.verdict.proofs.PointLines.{turn}
+use Rattle.judge.proofs.PointLines.{turn}
 use Rattle.std.proofs.lemmas.Option.{slice_get-get_or}
 use Rattle.verdict.specs.declared.verdict.Short.{Short}
 use Rattle.verdict.specs.Places.{twig_at, HasPlaces}
 use Rattle.verdict.specs.Seats.{AreFirst, AreNamed, IsFirst, mark_name, marks_at, branch_name}
+use Rattle.verdict.proofs.Holding.{one_of}
 
 -- the ends of a way that follows these branches
 abbrev pub held : List ℕ → List Branch → List ℕ
@@ -46,10 +47,6 @@ first_is (t ∷ rest) = refl
 
 pub branched_root : (net : List Twig) (homes : List (Option ℕ)) (marks : List Mark) (i : ℕ) (branches : List Branch) (flags : List Bool) → AreBranched net homes marks i branches flags → 0 < length net → get_or flags 0 false ≡ true
 branched_root net homes marks i branches flags b some = (b.flagged 0 some).0 (held_still (first_piece net ∷ []) branches (twig_at net 0).piece (0, omega arith, sym (first_is net)))
-
-one_of : (x q : ℕ) → Contains (x ∷ []) q → x ≡ q
-one_of x q (zero, below, same) = same
-one_of x q (suc k, below, same) = absurd (omega arith)
 
 pub branched_start : (net : List Twig) (places : List ℕ) (homes : List (Option ℕ)) (marks : List Mark) (ends : List Bool) → 0 < length net → HasPlaces net places → ends ≡ replicate (length net) false → AreBranched net homes marks 0 [] (set ends 0 true)
 branched_start net places homes marks ends some all none =

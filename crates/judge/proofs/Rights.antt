@@ -16,13 +16,15 @@ use Rattle.verdict.specs.declared.verdict.Twig.{Twig}
 use Rattle.verdict.specs.declared.verdict.Short.{Short}
 use Rattle.verdict.specs.declared.verdict.Open.{Open}
 use Rattle.verdict.specs.declared.verdict.PointLine.{PointLine}
-use Rattle.verdict.specs.declared.marks.Mark.{Mark}
+use Rattle.verdict.specs.declared.verdict.Mark.{Mark}
 use Rattle.verdict.specs.Forest.{IsTree, IsForest, Holds, net_at, first_piece}
 use Rattle.verdict.specs.Right.{IsRight, Trees, Covers, Apart, Points, Opens, Shorts, Branches, Bare, Counts, AreLines, bare_from, all_opens, all_shorts, outline, HasBranches, BeginsBeneath, IsLeastOf, first_from, marks, is_on, BeginsAtHome}
-use Rattle.judge.specs.Judged.{net_by, line_by, lines_by, HasHome}
-use Rattle.judge.proofs.Along.{tree_along, branches_along, nets_few}
-use Rattle.verdict.proofs.Numbering.{held_within, le_or_lt}
+use Rattle.judge.specs.Judged.{line_by, lines_by, HasHome}
+use Rattle.verdict.specs.Seats.{net_by}
+use Rattle.judge.proofs.Along.{branches_along}
+use Rattle.verdict.proofs.Holding.{held_within, le_or_lt}
 use Rattle.verdict.specs.Seats.{IsFirst}
+use Rattle.verdict.proofs.Trees.{nets_few, tree_along}
 
 -- ---- Points
 
@@ -186,7 +188,7 @@ lines_count numbers probes homes lines same long = ap length same ∙ lines_long
 
 pub nets_short : (b : PlainBoard) (items : List (Placed Shape)) (nets trees : List (List Twig)) → plain_pieces items ≡ b.pieces → length items < 2 ^ 32 → nets ≡ trees → IsForest (length b.pieces) (IsNear b) trees → length nets < 2 ^ 32
 nets_short b items nets trees same few now lawful =
-    let e = nets_few (length b.pieces) (IsNear b) trees lawful (length trees) refl in
+    let e = nets_few (length b.pieces) (IsNear b) trees lawful.trees (length trees) refl in
     let s = ap length now in
     let k = pieces_long b items same in
     omega arith

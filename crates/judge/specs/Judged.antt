@@ -3,13 +3,10 @@ use Rattle.std.specs.Prelude.{◌≡◌, ◌↔◌, ℕ, ◌<◌, Bool, true, fa
 use Rattle.verdict.specs.declared.verdict.Twig.{Twig}
 use Rattle.board_shapes.specs.declared.probe.Probe.{Probe}
 use Rattle.verdict.specs.declared.verdict.PointLine.{PointLine}
-use Rattle.verdict.specs.declared.marks.Mark.{Mark}
+use Rattle.verdict.specs.declared.verdict.Mark.{Mark}
 use Rattle.verdict.specs.Forest.{pieces_of}
+use Rattle.verdict.specs.Seats.{net_by}
 use Rattle.verdict.specs.Places.{twig_at}
-
-abbrev pub net_by : List ℕ → Option ℕ → Option ℕ
-net_by numbers None = None
-net_by numbers (Some piece) = Some (slice_index_or numbers piece 0)
 
 abbrev pub line_by : List ℕ → Probe → Option ℕ → PointLine
 line_by numbers p home = record { number = p.number; layer = p.layer; name = p.name; net = net_by numbers home }

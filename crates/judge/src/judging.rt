@@ -8,12 +8,16 @@ ghost use Rattle.tables.specs.Tables.{Tables};
 ghost use Rattle.verdict.specs.Forest.{IsForest};
 ghost use Rattle.verdict.specs.Right.{IsRight};
 
+use crate::marks::marks_of;
+use crate::numbers::numbers_of;
+use crate::opens::opens_of;
 use crate::points::{bare_of, lines_of};
+use crate::seats::seats_of;
 use crate::shorts::shorts_of;
 use board_shapes::Board;
 use lengths::{NoMemory, Rows, Text};
 use std::alloc::Global;
-use verdict::{Trees, Verdict, marks_of, numbers_of, opens_of, seats_of};
+use verdict::{Trees, Verdict};
 
 /// The verdict on a board, with the handed-in trees as its nets. The trees are spanning trees of the board's nets, and
 /// the homes are for each of its probes the least piece under it. A refusal drops what was handed in.

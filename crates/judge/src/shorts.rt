@@ -8,10 +8,11 @@ ghost use Rattle.judge.specs.Judged.{HangAbove, HasHome};
 ghost use Rattle.verdict.specs.Places.{HasPlaces};
 ghost use Rattle.verdict.specs.Seats.{AreFirst, AreNamed, IsFirst, mark_name, marks_at, branch_name};
 
+use crate::places::place_net;
 use crate::ways::{flag_way, way_of};
 use lengths::{NoMemory, Rows};
 use std::alloc::Global;
-use verdict::{Branch, Mark, Short, Tree, Twig, place_net};
+use verdict::{Branch, Mark, Short, Tree, Twig};
 
 /// The shorts of all nets, from the names on each net.
 pub fn shorts_of(

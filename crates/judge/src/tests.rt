@@ -1,11 +1,13 @@
 // Opens and points without a net, from lines written out.
 ghost use Rattle.std.specs.Prelude.{◌<◌, ◌↔◌, All, IsTrue};
 
+use crate::opens::opens_of;
 use crate::points::bare_of;
+use crate::seats::seats_of;
 use lengths::{Rows, Text, TextFault};
 use std::alloc::Global;
 use std::test::Fail;
-use verdict::{Open, PointLine, opens_of, seats_of};
+use verdict::{Open, PointLine};
 
 fn names_of(alloc: Global, names: &[&[u8]]) -> Result<Rows<Text>, TextFault> {
     let mut rows = Rows::new(alloc);

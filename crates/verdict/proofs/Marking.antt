@@ -9,7 +9,7 @@ use Rattle.std.specs.List.{list_any}
 use Rattle.verdict.specs.declared.verdict.PointLine.{PointLine}
 use Rattle.verdict.specs.declared.verdict.Seat.{Seat}
 use Rattle.verdict.specs.Right.{first_from, first_on, fresh, is_on, marks, names_on, seats_from, where_some}
-use Rattle.verdict.specs.declared.marks.Mark.{Mark}
+use Rattle.verdict.specs.declared.verdict.Mark.{Mark}
 use Rattle.verdict.specs.Seats.{AreFirst, AreFirstSeats, AreNamed, IsFirst, mark_name, mark_of, marks_at, marks_from, marks_of_seats, seats_at}
 use Rattle.verdict.proofs.Seating.{fresh_new, fresh_old, seats_none, seats_other, seats_some}
 

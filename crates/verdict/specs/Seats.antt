@@ -1,11 +1,15 @@
--- Seats by names, and marks by nets.
-use Rattle.std.specs.Prelude.{◌≡◌, ℕ, ◌+◌, ◌<◌, Bool, ◌==◌, ◌&&◌, if◌then◌else◌, List, [], ◌∷◌, ◌++◌, length, map, slice_index_or, All, Some}
-use Rattle.std.specs.List.{list_any}
+-- Nets of homes, seats by names, and marks by nets.
+use Rattle.std.specs.Prelude.{◌≡◌, ℕ, ◌+◌, ◌<◌, ◌==◌, if◌then◌else◌, List, [], ◌∷◌, ◌++◌, length, map, slice_index_or, All, Option, None, Some}
 use Rattle.verdict.specs.declared.verdict.PointLine.{PointLine}
 use Rattle.verdict.specs.declared.verdict.Branch.{Branch}
 use Rattle.verdict.specs.declared.verdict.Seat.{Seat}
-use Rattle.verdict.specs.declared.marks.Mark.{Mark}
-use Rattle.verdict.specs.Right.{first_on, fresh, names_on, net_of, seats_from}
+use Rattle.verdict.specs.declared.verdict.Mark.{Mark}
+use Rattle.verdict.specs.Right.{first_on, fresh, names_on, seats_from}
+
+-- the net of a home, by the number of each piece's net
+abbrev pub net_by : List ℕ → Option ℕ → Option ℕ
+net_by numbers None = None
+net_by numbers (Some piece) = Some (slice_index_or numbers piece 0)
 
 abbrev pub mark_name : Mark → ℕ
 mark_name m = m.name
@@ -24,18 +28,6 @@ seats_at groups name = slice_index_or groups name []
 -- the marks on a net
 abbrev pub marks_at : List (List Mark) → ℕ → List Mark
 marks_at marks net = slice_index_or marks net []
-
--- One of the seats is on the net.
-abbrev pub has_seat : List Seat → ℕ → Bool
-has_seat seats net = list_any (λ n. n == net) (map net_of seats)
-
--- The pairs of a name and a net are those of the seats.
-abbrev pub AreSeated : List (ℕ × ℕ) → List (List Seat) → Type 0
-AreSeated pairs groups = (name net : ℕ) → list_any (λ p. name == p.0 && net == p.1) pairs ≡ has_seat (seats_at groups name) net
-
--- the seats, and one more where none of them is on its net
-abbrev pub with_seat : List Seat → Seat → List Seat
-with_seat seats s = if has_seat seats s.net then seats else seats ++ s ∷ []
 
 -- For each name its first seat on each net, in the order of the points.
 abbrev pub AreFirstSeats : List (List Seat) → List PointLine → Type 0

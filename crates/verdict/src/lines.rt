@@ -6,9 +6,8 @@ use crate::fields::{begins_blank, count, expect, layer, net_number, parent, word
 use crate::reading::ReadFault;
 use crate::verdict::{Branch, Open, PointLine, Short, Tree, Twig};
 use lengths::{Rows, Text, TextFault};
-use numerals::Numeral;
 use std::alloc::Global;
-use texts::{after, before, has};
+use texts::{Numeral, after, before, has};
 
 // What stands behind a blank as often as there are some, up to the end of a line.
 pub trait Word: Drop {

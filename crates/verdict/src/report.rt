@@ -7,8 +7,8 @@ ghost use Rattle.verdict.specs.ReportText as spec;
 
 use crate::verdict::{Branch, Open, PointLine, Short, Tree, Twig, Verdict};
 use lengths::{NoMemory, Text};
-use numerals::Numeral;
 use std::alloc::Global;
+use texts::Numeral;
 
 // Appends a word of text.
 fn push_bytes(out: &mut Vec<u8>, bytes: &[u8]) -> Result<(), NoMemory>

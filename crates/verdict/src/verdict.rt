@@ -30,6 +30,13 @@ pub struct Seat {
     pub probe: u32,
 }
 
+/// A name on a net, and its first point there.
+#[derive(Clone, Copy, Debug, PartialEq, Eq)]
+pub struct Mark {
+    pub name: u32,
+    pub probe: u32,
+}
+
 /// A name on a further net than its home.
 #[derive(Clone, Copy, Debug, PartialEq, Eq)]
 pub struct Open {

@@ -1,5 +1,5 @@
 -- Branches one by one, and the shorts that have them.
-use Rattle.std.proofs.Common.{◌≡◌, ◌↔◌, ℕ, ◌+◌, ◌<◌, ◌≤◌, max, List, [], ◌∷◌, ◌++◌, length, get_or, take, drop, Contains, All, Option, Some, refl, sym, ap, subst, ◌∙◌, arith, slice_get}
+use Rattle.std.proofs.Common.{◌≡◌, ◌↔◌, ℕ, ◌+◌, ◌<◌, ◌≤◌, max, List, [], ◌∷◌, ◌++◌, length, get_or, take, drop, All, Option, Some, sym, ap, subst, ◌∙◌, arith, slice_get}
 use Rattle.std.proofs.lemmas.List.{drop_more, take_all, take_more}
 use Rattle.std.proofs.lemmas.List.Elements.{All-get_or, All-push}
 use Rattle.std.proofs.lemmas.Option.{slice_get-get_or}
@@ -7,13 +7,12 @@ use Rattle.verdict.specs.declared.verdict.Branch.{Branch}
 use Rattle.verdict.specs.declared.verdict.PointLine.{PointLine}
 use Rattle.verdict.specs.declared.verdict.Short.{Short}
 use Rattle.verdict.specs.declared.verdict.Twig.{Twig}
-use Rattle.verdict.specs.declared.marks.Mark.{Mark}
-use Rattle.verdict.specs.Forest.{Holds, first_piece, net_at, pieces_of}
+use Rattle.verdict.specs.declared.verdict.Mark.{Mark}
+use Rattle.verdict.specs.Forest.{first_piece, net_at}
+use Rattle.verdict.specs.Places.{HasPlaces}
 use Rattle.verdict.specs.Right.{AreBranches, BeginsAtHome, HasBranches, IsBranch}
 use Rattle.verdict.specs.Seats.{AreFirst, IsFirst, marks_at}
 use Rattle.witness_check.specs.Marked.{AreStamped, AreUpTo, HasMarks}
-
--- ---- A branch
 
 -- ---- The branches of a short
 
@@ -102,13 +101,14 @@ right_stops nets table homes shorts i s net row hand not lines firsts all =
 pub right_done : (nets : List (List Twig)) (table : List (List Mark)) (homes : List (Option ℕ)) (shorts : List Short) (room i : ℕ) (stamps : List ℕ) → length shorts ≤ i → AreRightTo nets table homes shorts room i stamps → (lines : List PointLine) → AreFirst lines table → All (HasBranches nets (BeginsAtHome homes) lines) shorts
 right_done nets table homes shorts room i stamps past to lines firsts = subst (All (HasBranches nets (BeginsAtHome homes) lines)) (take_all i shorts past) (to.right lines firsts)
 
-pub inside_known : (nets : List (List Twig)) (table : List (List Mark)) (shorts : List Short) (i : ℕ) (s : Short) (net : List Twig) (row : List Mark) (pieces : ℕ) → IsInHand nets table shorts i s net row → ((n p : ℕ) → Holds nets n p → p < pieces) → (p : ℕ) → Contains (pieces_of net) p → p < pieces
-inside_known nets table shorts i s net row pieces hand known p inside = known s.net p (subst (λ (n : List Twig). Contains (pieces_of n) p) hand.has inside)
-
 -- The first piece of a net has a place in a table that is never empty.
-first_known : (net : List Twig) (pieces room : ℕ) → ((p : ℕ) → Contains (pieces_of net) p → p < pieces) → pieces ≤ room → 0 < room → first_piece net < room
-first_known [] pieces room known most some = some
-first_known (t ∷ rest) pieces room known most some = let e = known t.piece (0, omega arith, refl) in omega arith
+first_known : (net : List Twig) (places : List ℕ) (room : ℕ) → HasPlaces net places → length places ≤ room → 0 < room → first_piece net < room
+first_known [] places room placed most some = some
+first_known (t ∷ rest) places room placed most some = let e = (placed 0 (omega arith)).0 in omega arith
 
-pub first_placed : (nets : List (List Twig)) (table : List (List Mark)) (shorts : List Short) (i : ℕ) (s : Short) (net : List Twig) (row : List Mark) (pieces room : ℕ) → IsInHand nets table shorts i s net row → ((n p : ℕ) → Holds nets n p → p < pieces) → room ≡ max pieces 1 → first_piece net < room
-first_placed nets table shorts i s net row pieces room hand known most = first_known net pieces room (inside_known nets table shorts i s net row pieces hand known) (omega (arith, most)) (omega (arith, most))
+-- the places of the net in hand
+pub hand_placed : (nets : List (List Twig)) (table : List (List Mark)) (shorts : List Short) (i : ℕ) (s : Short) (net : List Twig) (row : List Mark) (places : List ℕ) → IsInHand nets table shorts i s net row → ((n : ℕ) → n < length nets → HasPlaces (net_at nets n) places) → HasPlaces net places
+hand_placed nets table shorts i s net row places hand placed = subst (λ (n : List Twig). HasPlaces n places) (sym hand.has) (placed s.net hand.there)
+
+pub first_placed : (nets : List (List Twig)) (table : List (List Mark)) (shorts : List Short) (i : ℕ) (s : Short) (net : List Twig) (row : List Mark) (places : List ℕ) (room : ℕ) → IsInHand nets table shorts i s net row → ((n : ℕ) → n < length nets → HasPlaces (net_at nets n) places) → room ≡ max (length places) 1 → first_piece net < room
+first_placed nets table shorts i s net row places room hand placed most = first_known net places room (hand_placed nets table shorts i s net row places hand placed) (omega (arith, most)) (omega (arith, most))

@@ -1,12 +1,10 @@
 -- Chains of touching pieces.
-use Rattle.std.proofs.Common.{◌≡◌, inl, inr, ℕ, ◌<◌, List, [], ◌∷◌, ◌++◌, length, Contains, refl, subst, sym, arith}
-use Rattle.std.proofs.lemmas.Bool.{cases_lt}
-use Rattle.std.proofs.lemmas.List.{get_or_past}
+use Rattle.std.proofs.Common.{◌≡◌, inl, inr, ℕ, ◌<◌, List, [], ◌∷◌, ◌++◌, Contains, refl, subst, sym, arith}
 use Rattle.std.proofs.lemmas.List.Elements.{Contains-append_cases}
 use Rattle.verdict.specs.declared.verdict.Twig.{Twig}
 use Rattle.tables.specs.Chains.{IsChain, AreJoined}
 use Rattle.verdict.specs.Forest.{IsForest, IsTree, Hang, Holds, pieces_of, first_piece}
-use Rattle.witness_check.proofs.Members.{none_inside, one_of}
+use Rattle.verdict.proofs.Holding.{one_of}
 
 -- no chain leads out of a net
 pub stays : (count : ℕ) (near : ℕ → ℕ → Type 0) (nets : List (List Twig)) → IsForest count near nets → ((p q : ℕ) → near p q → q < count) → (i p q : ℕ) (chain : List ℕ) → Holds nets i p → IsChain near p chain q → Holds nets i q
@@ -49,10 +47,3 @@ from_first near (t ∷ rest) (root, least, hang) p inside =
       | inl new ↦ here p new
       | inr later ↦ down near t.piece (t.piece ∷ []) rest here hang p later
     ]
-
--- a net that holds a piece is there
-pub holds_within : (nets : List (List Twig)) (i p : ℕ) → Holds nets i p → i < length nets
-holds_within nets i p inside = elim (cases_lt i (length nets)) [
-  | inl within ↦ within
-  | inr past ↦ absurd (none_inside p (subst (λ (net : List Twig). Contains (pieces_of net) p) (get_or_past nets i [] past) inside))
-]

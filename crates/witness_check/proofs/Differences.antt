@@ -18,9 +18,11 @@ use Rattle.verdict.specs.declared.verdict.Short.{Short}
 use Rattle.verdict.specs.declared.verdict.Twig.{Twig}
 use Rattle.verdict.specs.declared.verdict.Verdict.{Verdict}
 use Rattle.witness_check.specs.Laws.{AreOneNet, BranchPoint, DifferInWitnessesOnly, ShortPoints, branch_point, short_points}
-use Rattle.witness_check.proofs.Chains.{AreJoined-back, from_first, holds_within, stays}
+use Rattle.witness_check.proofs.Chains.{AreJoined-back, from_first, stays}
 use Rattle.witness_check.proofs.Joins.{right_nets}
-use Rattle.witness_check.proofs.Members.{AreDistinct, none_inside, rearranged}
+use Rattle.witness_check.proofs.Members.{AreDistinct, rearranged}
+use Rattle.verdict.proofs.Holding.{held_within, none_inside}
+use Rattle.verdict.proofs.Trees.{first_inside}
 
 -- ---- First pieces
 
@@ -29,10 +31,6 @@ firsts_of nets = map first_piece nets
 
 tree_at : (board : Tables) (v : Verdict) → IsRight board v → (i : ℕ) → i < length v.nets → IsTree (Stands board.near) (net_at v.nets i)
 tree_at board v right i below = All-get_or (IsTree (Stands board.near)) v.nets i [] below (right Trees).trees
-
-first_inside : (near : ℕ → ℕ → Type 0) (net : List Twig) → IsTree near net → Contains (pieces_of net) (first_piece net)
-first_inside near [] tree = absurd tree
-first_inside near (t ∷ rest) tree = (0, omega arith, refl)
 
 -- the first piece of a tree is its least
 first_least : (near : ℕ → ℕ → Type 0) (net : List Twig) → IsTree near net → (p : ℕ) → Contains (pieces_of net) p → first_piece net ≤ p
@@ -63,7 +61,7 @@ first_in board v w tables right other p (i, below, same) =
     let is_first : first_piece (net_at v.nets i) ≡ p = sym (get_or-map first_piece v.nets i [] p within) ∙ same in
     let held : Holds v.nets i p = subst (λ (x : ℕ). Holds v.nets i x) is_first (first_inside near (net_at v.nets i) tree) in
     let home = (other Covers).held p ((right Trees).known i p held) in
-    let there : home.0 < length w.nets = holds_within w.nets home.0 p home.1 in
+    let there : home.0 < length w.nets = held_within w.nets home.0 p home.1 in
     let their = tree_at board w other home.0 there in
     let q : ℕ = first_piece (net_at w.nets home.0) in
     let low : q ≤ p = first_least near (net_at w.nets home.0) their p home.1 in
@@ -92,7 +90,7 @@ first_same board v w tables right other i below =
 pub held_too : (board : Tables) (v w : Verdict) → AreConsistent board → IsRight board v → IsRight board w → (i p : ℕ) → Holds v.nets i p → Holds w.nets i p
 held_too board v w tables right other i p held =
     let near : ℕ → ℕ → Type 0 = Stands board.near in
-    let below = holds_within v.nets i p held in
+    let below = held_within v.nets i p held in
     let many = nets_as_many board v w tables right other in
     let there : i < length w.nets = omega arith in
     let q : ℕ = first_piece (net_at v.nets i) in

@@ -1,12 +1,13 @@
 -- The ruling on opens, shorts and branches.
-use Rattle.std.proofs.Common.{◌≡◌, ◌↔◌, ℕ, ◌<◌, List, length, map, All, Option, refl, sym, ap, subst, ◌∙◌, arith}
+use Rattle.std.proofs.Common.{◌≡◌, ◌↔◌, ℕ, ◌<◌, Bool, IsTrue, List, length, map, All, Option, refl, sym, ap, subst, ◌∙◌, arith}
+use Rattle.verdict.specs.declared.verdict.Open.{Open}
 use Rattle.verdict.specs.declared.verdict.PointLine.{PointLine}
 use Rattle.verdict.specs.declared.verdict.Seat.{Seat}
 use Rattle.verdict.specs.declared.verdict.Short.{Short}
 use Rattle.verdict.specs.declared.verdict.Twig.{Twig}
 use Rattle.verdict.specs.declared.verdict.Verdict.{Verdict}
-use Rattle.verdict.specs.declared.marks.Mark.{Mark}
-use Rattle.verdict.specs.Right.{Clause, Trees, Covers, Apart, Points, Opens, Shorts, Branches, Bare, Counts, BeginsAtHome, HasBranches, all_shorts, number_of, outline}
+use Rattle.verdict.specs.declared.verdict.Mark.{Mark}
+use Rattle.verdict.specs.Right.{Clause, Trees, Covers, Apart, Points, Opens, Shorts, Branches, Bare, Counts, BeginsAtHome, HasBranches, all_opens, all_shorts, number_of, outline}
 use Rattle.verdict.specs.Seats.{AreFirst, AreFirstSeats, AreNamed, marks_at, marks_from}
 use Rattle.verdict.proofs.Marking.{table_first, table_named}
 use Rattle.witness_check.specs.Findings.{FindingsFail, FindingsSay}
@@ -86,6 +87,12 @@ rows_made names v nets lines groups items table has points grouped firsts long f
       named = subst (λ (ls : List PointLine). AreNamed names ls table) points (table_named (length nets) table groups names lines many made grouped firsts);
       first = subst (λ (ls : List PointLine). AreFirst ls table) points (table_first (length nets) table groups lines many made firsts);
     }
+
+pub opens_said : (names : List (List ℕ)) (homes : List (Option ℕ)) (v : Verdict) (listed : List Open) (lines : List PointLine) (groups : List (List Seat)) (test : Bool) → listed ≡ v.opens → lines ≡ v.points → AreFirstSeats groups lines
+    → ((ls : List PointLine) → AreFirstSeats groups ls → IsTrue test ↔ (listed ≡ all_opens 0 names ls)) → IsTrue test ↔ FindingsSay names homes v Opens
+opens_said names homes v listed lines groups test same points firsts tells =
+    let t = tells lines firsts in
+    ((λ yes. sym same ∙ (t.0 yes ∙ ap (all_opens 0 names) points)), λ says. t.1 (same ∙ (says ∙ sym (ap (all_opens 0 names) points))))
 
 pub shorts_said : (names : List (List ℕ)) (homes : List (Option ℕ)) (v : Verdict) (table : List (List Mark)) (shorts : List Short) → shorts ≡ v.shorts → HasRows names v table → (map outline shorts ≡ outlines_from 0 table) ↔ FindingsSay names homes v Shorts
 shorts_said names homes v table shorts same rows =

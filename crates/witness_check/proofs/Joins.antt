@@ -11,7 +11,8 @@ use Rattle.tables.specs.Consistent.{AreConsistent, ArePointsJoined}
 use Rattle.verdict.specs.Right.{HaveOneNet, IsOn, IsRight, Trees, Covers, Apart, Points, AreLines}
 use Rattle.tables.specs.Tables.{Tables, TestPoint, Stands, row_at}
 use Rattle.witness_check.specs.Laws.{IsWithoutNet, NetNumbersAreJoins}
-use Rattle.witness_check.proofs.Chains.{stays, from_first, AreJoined-trans, AreJoined-back, holds_within}
+use Rattle.witness_check.proofs.Chains.{stays, from_first, AreJoined-trans, AreJoined-back}
+use Rattle.verdict.proofs.Holding.{held_within}
 
 -- the nets of a right verdict
 pub right_nets : (board : Tables) (v : Verdict) → IsRight board v → IsForest (length board.near) (Stands board.near) v.nets
@@ -46,7 +47,7 @@ piece_on board v right k net (line, there, named) = on_net v.nets (row_at board.
 pub one_net_joins : (board : Tables) (v : Verdict) → AreConsistent board → IsRight board v → (i p q : ℕ) → Holds v.nets i p → Holds v.nets i q → AreJoined (Stands board.near) p q
 one_net_joins board v tables right i p q h k =
     let near : ℕ → ℕ → Type 0 = Stands board.near in
-    let tree = All-get_or (IsTree near) v.nets i [] (holds_within v.nets i p h) (right Trees).trees in
+    let tree = All-get_or (IsTree near) v.nets i [] (held_within v.nets i p h) (right Trees).trees in
     let there = from_first near (net_at v.nets i) tree p h in
     AreJoined-trans near p (first_piece (net_at v.nets i)) q (AreJoined-back near tables.both (first_piece (net_at v.nets i)) p there.0 there.1) (from_first near (net_at v.nets i) tree q k)
 

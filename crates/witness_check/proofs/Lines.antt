@@ -15,8 +15,9 @@ use Rattle.verdict.specs.declared.verdict.PointLine.{PointLine}
 use Rattle.verdict.specs.declared.verdict.Short.{Short}
 use Rattle.verdict.specs.Forest.{IsForest, Holds, first_piece}
 use Rattle.verdict.specs.Right.{AreBranches, AreLines, BeginsAt, BeginsAtHome, BeginsBeneath, HasBranches, IsLeastOf, first_from, marks}
-use Rattle.verdict.proofs.Numbering.{held_within}
-use Rattle.witness_check.specs.Lines.{AreLinesBy, IsLineAt, IsLineBy, net_by}
+use Rattle.verdict.proofs.Holding.{held_within}
+use Rattle.verdict.specs.Seats.{net_by}
+use Rattle.witness_check.specs.Lines.{AreLinesBy, IsLineAt, IsLineBy}
 
 -- ---- One line
 

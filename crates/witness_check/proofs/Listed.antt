@@ -14,7 +14,7 @@ use Rattle.tables.specs.Tables.{Tables, Stands}
 use Rattle.witness_check.specs.Laws.{HasEnd, HasOther, IsSeated, OpensCoverSplitNames}
 use Rattle.witness_check.proofs.Chains.{stays}
 use Rattle.witness_check.proofs.Joins.{right_nets}
-use Rattle.witness_check.proofs.Members.{one_of}
+use Rattle.verdict.proofs.Holding.{one_of}
 
 -- a seat of the point
 seat_has : (o : Option ℕ) (i net : ℕ) → o ≡ Some net → Contains (map net_of (seat o i)) net

@@ -1,5 +1,5 @@
 -- Members of lists. Lists without repeats that have the same members are one list in two orders.
-use Rattle.std.proofs.Common.{◌≡◌, ◌≢◌, ℕ, zero, suc, ◌==◌, List, [], ◌∷◌, AllPairs, Contains, refl, sym, ◌∙◌, arith}
+use Rattle.std.proofs.Common.{◌≡◌, ◌≢◌, ℕ, suc, ◌==◌, List, [], ◌∷◌, AllPairs, Contains, refl, sym, ◌∙◌, arith}
 use Rattle.std.proofs.lemmas.Bool.Decides.{Decides-eqb, nat_tests}
 use Rattle.std.proofs.lemmas.List.Elements.{Contains-append_right}
 use Rattle.std.proofs.lemmas.List.Sorted.{Contains-permutation, IsPermutation-cons, IsPermutation-refl, IsPermutation-remove, IsPermutation-sym, IsPermutation-trans}
@@ -7,14 +7,6 @@ use Rattle.std.proofs.lemmas.Map.Keys.{IsDistinct-IsPermutation}
 use Rattle.std.proofs.lemmas.Map.Made.{AllPairs-from_IsDistinct, Contains-tail, IsDistinct-from_AllPairs}
 use Rattle.std.specs.List.{remove}
 use Rattle.std.specs.List.Sorted.{IsPermutation}
-
--- a list of one has that one
-pub one_of : {X : Type 0} (x q : X) → Contains (x ∷ []) q → x ≡ q
-one_of x q (zero, below, same) = same
-one_of x q (suc k, below, same) = absurd (omega arith)
-
-pub none_inside : (p : ℕ) → Contains [] p → ⊥
-none_inside p (k, below, same) = omega arith
 
 -- ---- Two orders of one list
 

@@ -6,10 +6,10 @@ use Rattle.verdict.specs.declared.verdict.Branch.{Branch}
 use Rattle.verdict.specs.declared.verdict.PointLine.{PointLine}
 use Rattle.verdict.specs.declared.verdict.Short.{Short}
 use Rattle.verdict.specs.declared.verdict.Twig.{Twig}
-use Rattle.verdict.specs.declared.marks.Mark.{Mark}
+use Rattle.verdict.specs.declared.verdict.Mark.{Mark}
 use Rattle.verdict.specs.Right.{Outline, all_shorts, names_on, outline, short_of}
 use Rattle.verdict.specs.Seats.{AreNamed, branch_name, mark_name, marks_at}
-use Rattle.verdict.proofs.Numbering.{le_or_lt}
+use Rattle.verdict.proofs.Holding.{le_or_lt}
 use Rattle.witness_check.specs.Marked.{HasMarks, outlines_from}
 
 -- ---- Names of branches

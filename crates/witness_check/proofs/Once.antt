@@ -1,119 +1,170 @@
--- Pieces that stand once.
-use Rattle.std.proofs.Common.{◌≡◌, ◌≢◌, ◌⊎◌, ◌↔◌, inl, inr, ℕ, ◌+◌, ◌<◌, ◌≤◌, Bool, true, false, List, [], length, get_or, set, Contains, AllPairs, sym, ap, subst, ◌∙◌, arith}
+-- Pieces that stand once, and where.
+use Rattle.std.proofs.Common.{◌≡◌, ◌≢◌, ◌⊎◌, inl, inr, ℕ, ◌+◌, ◌<◌, ◌≤◌, List, [], length, get_or, set, Contains, AllPairs, sym, ap, subst, ◌∙◌, arith}
 use Rattle.std.proofs.lemmas.List.{length-set, get_or-set_same, get_or-set_other, get_or_default, length-map}
 use Rattle.std.proofs.lemmas.List.Elements.{All-get_or, All-from_get_or, Contains-get_or}
 use Rattle.std.proofs.lemmas.Bool.{cases_eq}
 use Rattle.verdict.specs.declared.verdict.Twig.{Twig}
 use Rattle.verdict.specs.Forest.{StandOnce, Holds, net_at, pieces_of, piece_of}
+use Rattle.verdict.specs.Places.{HasPlaces, twig_at}
+use Rattle.verdict.proofs.Placing.{twig_inside, twig_piece}
+use Rattle.witness_check.specs.Nets.{AreNew, HasStanding, IsStood}
 
 -- the piece at place k
 abbrev pub at_place : List Twig → ℕ → ℕ
 at_place net k = get_or (pieces_of net) k 0
 
--- The pieces before i are new and different, and marked.
-pub record IsMarking (net : List Twig) (old : List Bool) (i : ℕ) (seen : List Bool) : Type 0 where
-  pub long : length seen ≡ length old
-  pub differ : (k l : ℕ) → k < l → l < i → at_place net k ≢ at_place net l
-  pub fresh : (k : ℕ) → k < i → get_or old (at_place net k) false ≡ true → ⊥
-  pub kept : (p : ℕ) → get_or old p false ≡ true → get_or seen p false ≡ true
-  pub marked : (k : ℕ) → k < i → get_or seen (at_place net k) false ≡ true
-  pub only : (p : ℕ) → get_or seen p false ≡ true → (get_or old p false ≡ true) ⊎ ((k : ℕ) × (k < i) × (at_place net k ≡ p))
+-- ---- A net
 
-set_true : (seen : List Bool) (q p : ℕ) → q < length seen → get_or seen p false ≡ true → get_or (set seen q true) p false ≡ true
-set_true seen q p below was = elim (cases_eq p q) [
-  | inl same ↦ ap (λ (x : ℕ). get_or (set seen q true) x false) same ∙ get_or-set_same seen q true false below
-  | inr other ↦ get_or-set_other seen q p true false other ∙ was
+-- The tables have what they had of a piece, or it stands before place i.
+abbrev IsKept : List Twig → ℕ → List ℕ → List ℕ → List ℕ → List ℕ → ℕ → Type 0
+IsKept net i numbers places numbers' places' p = ((get_or numbers' p 0 ≡ get_or numbers p 0) × (get_or places' p 0 ≡ get_or places p 0)) ⊎ ((k : ℕ) × (k < i) × (at_place net k ≡ p))
+
+-- The pieces before place i are new and different, and stand in the tables.
+pub record IsStandingTo (none number : ℕ) (net : List Twig) (numbers places : List ℕ) (i : ℕ) (numbers' places' : List ℕ) : Type 0 where
+  pub long : length numbers' ≡ length numbers
+  pub room : length places' ≡ length places
+  pub differ : (k l : ℕ) → k < l → l < i → at_place net k ≢ at_place net l
+  pub fresh : (k : ℕ) → k < i → get_or numbers (at_place net k) 0 ≡ none
+  pub inside : (k : ℕ) → k < i → get_or numbers' (at_place net k) 0 ≡ number
+  pub placed : (k : ℕ) → k < i → get_or places' (at_place net k) 0 ≡ k
+  pub outside : (p : ℕ) → IsKept net i numbers places numbers' places' p
+
+-- the next piece is another than those before it
+is_other : (none number : ℕ) (net : List Twig) (numbers places : List ℕ) (i : ℕ) (numbers' places' : List ℕ) (q k : ℕ) → number < none → IsStandingTo none number net numbers places i numbers' places' → get_or numbers' q 0 ≡ none → k < i → at_place net k ≢ q
+is_other none number net numbers places i numbers' places' q k low m off below same =
+    let e = m.inside k below in
+    let f : get_or numbers' (at_place net k) 0 ≡ none = ap (λ (x : ℕ). get_or numbers' x 0) same ∙ off in
+    omega arith
+
+-- what the next piece had at first
+had_none : (none number : ℕ) (net : List Twig) (numbers places : List ℕ) (i : ℕ) (numbers' places' : List ℕ) (q : ℕ) → number < none → IsStandingTo none number net numbers places i numbers' places' → get_or numbers' q 0 ≡ none → get_or numbers q 0 ≡ none
+had_none none number net numbers places i numbers' places' q low m off = elim (m.outside q) [
+  | inl kept ↦ sym kept.0 ∙ off
+  | inr (k, below, same) ↦ absurd (is_other none number net numbers places i numbers' places' q k low m off below same)
 ]
 
-pub marking_more : (net : List Twig) (old : List Bool) (i : ℕ) (seen : List Bool) (q : ℕ) → IsMarking net old i seen → q ≡ at_place net i → q < length seen → get_or seen q false ≡ false → IsMarking net old (i + 1) (set seen q true)
-marking_more net old i seen q m item below off = record {
-  long = length-set seen q true ∙ m.long;
+pub standing_more : (none number : ℕ) (net : List Twig) (numbers places : List ℕ) (i : ℕ) (numbers' places' : List ℕ) (q : ℕ) → number < none → IsStandingTo none number net numbers places i numbers' places' → q ≡ at_place net i → q < length numbers' → q < length places' → get_or numbers' q 0 ≡ none
+    → IsStandingTo none number net numbers places (i + 1) (set numbers' q number) (set places' q i)
+standing_more none number net numbers places i numbers' places' q low m item below within off = record {
+  long = length-set numbers' q number ∙ m.long;
+  room = length-set places' q i ∙ m.room;
   differ = λ k l h b. elim (cases_eq l i) [
-    | inl same ↦ λ e. let on = m.marked k (omega arith) in let f : at_place net k ≡ q = e ∙ (ap (at_place net) same ∙ sym item) in let g : get_or seen q false ≡ true = sym (ap (λ (x : ℕ). get_or seen x false) f) ∙ on in cc
+    | inl same ↦ λ e. is_other none number net numbers places i numbers' places' q k low m off (omega arith) (e ∙ (ap (at_place net) same ∙ sym item))
     | inr other ↦ m.differ k l h (omega arith)
   ];
-  fresh = λ k h was. elim (cases_eq k i) [
-    | inl same ↦ let on = m.kept (at_place net k) was in let f : at_place net k ≡ q = ap (at_place net) same ∙ sym item in let g : get_or seen q false ≡ true = sym (ap (λ (x : ℕ). get_or seen x false) f) ∙ on in cc
-    | inr other ↦ m.fresh k (omega arith) was
+  fresh = λ k h. elim (cases_eq k i) [
+    | inl same ↦ ap (λ (x : ℕ). get_or numbers x 0) (ap (at_place net) same ∙ sym item) ∙ had_none none number net numbers places i numbers' places' q low m off
+    | inr other ↦ m.fresh k (omega arith)
   ];
-  kept = λ p h. set_true seen q p below (m.kept p h);
-  marked = λ k h. elim (cases_eq k i) [
-    | inl same ↦ ap (λ (x : ℕ). get_or (set seen q true) x false) (ap (at_place net) same ∙ sym item) ∙ get_or-set_same seen q true false below
-    | inr other ↦ set_true seen q (at_place net k) below (m.marked k (omega arith))
+  inside = λ k h. elim (cases_eq k i) [
+    | inl same ↦ ap (λ (x : ℕ). get_or (set numbers' q number) x 0) (ap (at_place net) same ∙ sym item) ∙ get_or-set_same numbers' q number 0 below
+    | inr other ↦ get_or-set_other numbers' q (at_place net k) number 0 (is_other none number net numbers places i numbers' places' q k low m off (omega arith)) ∙ m.inside k (omega arith)
   ];
-  only = λ p h. elim (cases_eq p q) [
+  placed = λ k h. elim (cases_eq k i) [
+    | inl same ↦ ap (λ (x : ℕ). get_or (set places' q i) x 0) (ap (at_place net) same ∙ sym item) ∙ (get_or-set_same places' q i 0 within ∙ sym same)
+    | inr other ↦ get_or-set_other places' q (at_place net k) i 0 (is_other none number net numbers places i numbers' places' q k low m off (omega arith)) ∙ m.placed k (omega arith)
+  ];
+  outside = λ p. elim (cases_eq p q) [
     | inl same ↦ inr (i, omega arith, sym item ∙ sym same)
-    | inr other ↦ elim (m.only p (sym (get_or-set_other seen q p true false other) ∙ h)) [ inl old ↦ inl old | inr (k, b, e) ↦ inr (k, omega arith, e) ]
+    | inr other ↦ elim (m.outside p) [
+      | inl kept ↦ inl (get_or-set_other numbers' q p number 0 other ∙ kept.0, get_or-set_other places' q p i 0 other ∙ kept.1)
+      | inr (k, b, e) ↦ inr (k, omega arith, e)
+    ]
   ];
 }
 
--- the two facts that `mark_new` decides
-abbrev pub IsNew : List Twig → List Bool → Type 0
-IsNew net old = AllPairs (λ p q. p ≢ q) (pieces_of net) × ((p : ℕ) → Contains (pieces_of net) p → get_or old p false ≡ true → ⊥)
-
-pub marking_stops : (net : List Twig) (old : List Bool) (i : ℕ) (seen : List Bool) → IsMarking net old i seen → i < length net → get_or seen (at_place net i) false ≡ true → IsNew net old → ⊥
-marking_stops net old i seen m within on (once, fresh) =
+pub standing_stops : (none number : ℕ) (net : List Twig) (numbers places : List ℕ) (i : ℕ) (numbers' places' : List ℕ) → IsStandingTo none number net numbers places i numbers' places' → i < length net → (get_or numbers' (at_place net i) 0 ≡ none → ⊥) → AreNew none net numbers → ⊥
+standing_stops none number net numbers places i numbers' places' m within on (once, new) =
     let long = length-map net piece_of in
-    elim (m.only (at_place net i) on) [
-      | inl was ↦ fresh (at_place net i) (Contains-get_or (pieces_of net) i 0 (omega arith)) was
+    elim (m.outside (at_place net i)) [
+      | inl kept ↦ on (kept.0 ∙ new (at_place net i) (Contains-get_or (pieces_of net) i 0 (omega arith)))
       | inr (k, below, same) ↦ once k i 0 below (omega arith) same
     ]
 
-pub marking_done : (net : List Twig) (old : List Bool) (i : ℕ) (seen : List Bool) → IsMarking net old i seen → length net ≤ i → IsNew net old
-marking_done net old i seen m all =
+pub standing_done : (none number : ℕ) (net : List Twig) (numbers places : List ℕ) (i : ℕ) (numbers' places' : List ℕ) → IsStandingTo none number net numbers places i numbers' places' → length net ≤ i → AreNew none net numbers
+standing_done none number net numbers places i numbers' places' m all =
     let long = length-map net piece_of in (
       (λ k l d h b same. m.differ k l h (omega arith) (get_or_default (pieces_of net) k 0 d (omega arith) ∙ (same ∙ get_or_default (pieces_of net) l d 0 b))),
-      λ p h was. let below = h.1 in m.fresh h.0 (omega arith) (ap (λ (x : ℕ). get_or old x false) (get_or_default (pieces_of net) h.0 0 p below ∙ h.2) ∙ was),
+      λ p h. let below = h.1 in ap (λ (x : ℕ). get_or numbers x 0) (sym (get_or_default (pieces_of net) h.0 0 p below ∙ h.2)) ∙ m.fresh h.0 (omega arith),
     )
 
-pub marking_marks : (net : List Twig) (old : List Bool) (i : ℕ) (seen : List Bool) → IsMarking net old i seen → i ≡ length net → (p : ℕ) → (get_or seen p false ≡ true) ↔ ((get_or old p false ≡ true) ⊎ Contains (pieces_of net) p)
-marking_marks net old i seen m all p =
-    let long = length-map net piece_of in (
-      (λ on. elim (m.only p on) [ inl was ↦ inl was | inr (k, below, same) ↦ inr (k, omega arith, get_or_default (pieces_of net) k p 0 (omega arith) ∙ same) ]),
-      λ h. elim h [ inl was ↦ m.kept p was | inr (k, below, same) ↦ ap (λ (x : ℕ). get_or seen x false) (sym (get_or_default (pieces_of net) k 0 p below ∙ same)) ∙ m.marked k (omega arith) ],
-    )
+pub standing_stood : (none number : ℕ) (net : List Twig) (numbers places : List ℕ) (i : ℕ) (numbers' places' : List ℕ) → IsStandingTo none number net numbers places i numbers' places' → i ≡ length net → length places ≡ length numbers → ((p : ℕ) → Contains (pieces_of net) p → p < length numbers)
+    → IsStood number net numbers places numbers' places'
+standing_stood none number net numbers places i numbers' places' m all same known =
+    let long = length-map net piece_of in
+    record {
+      inside = λ p h. let below = h.1 in ap (λ (x : ℕ). get_or numbers' x 0) (sym (get_or_default (pieces_of net) h.0 0 p below ∙ h.2)) ∙ m.inside h.0 (omega arith);
+      placed = λ k below. ((let e = known (twig_at net k).piece (twig_inside net k below) in let f = m.room in omega arith), ap (λ (x : ℕ). get_or places' x 0) (sym (twig_piece net k below)) ∙ m.placed k (omega arith));
+      outside = λ p. elim (m.outside p) [ inl kept ↦ inl kept | inr (k, below, at) ↦ inr (k, omega arith, get_or_default (pieces_of net) k p 0 (omega arith) ∙ at) ];
+    }
 
--- The pieces of the nets before i are marked, and stand once.
-pub record AreMarked (nets : List (List Twig)) (count i : ℕ) (seen : List Bool) : Type 0 where
-  pub long : length seen ≡ count
-  pub marked : (k p : ℕ) → k < i → Holds nets k p → get_or seen p false ≡ true
-  pub only : (p : ℕ) → get_or seen p false ≡ true → (k : ℕ) × (k < i) × Holds nets k p
-  pub apart : (k l p : ℕ) → k < i → l < i → Holds nets k p → Holds nets l p → k ≡ l
+-- ---- All nets
+
+-- The pieces of the nets before i stand once, and stand in the tables.
+pub record AreStandingTo (none : ℕ) (nets : List (List Twig)) (count i : ℕ) (numbers places : List ℕ) : Type 0 where
+  pub long : length numbers ≡ count
+  pub room : length places ≡ count
+  pub done : (k p : ℕ) → k < i → Holds nets k p → get_or numbers p 0 ≡ k
+  pub only : (p : ℕ) → p < count → (get_or numbers p 0 ≡ none) ⊎ ((k : ℕ) × (k < i) × Holds nets k p)
   pub differ : (k : ℕ) → k < i → AllPairs (λ p q. p ≢ q) (pieces_of (net_at nets k))
+  pub placed : (k : ℕ) → k < i → HasPlaces (net_at nets k) places
 
-pub marked_more : (nets : List (List Twig)) (count i : ℕ) (old seen : List Bool) → AreMarked nets count i old → length seen ≡ length old → IsNew (net_at nets i) old → ((p : ℕ) → (get_or seen p false ≡ true) ↔ ((get_or old p false ≡ true) ⊎ Contains (pieces_of (net_at nets i)) p)) → AreMarked nets count (i + 1) seen
-marked_more nets count i old seen m long (differ, fresh) marks = record {
+-- a net before i keeps its places
+places_kept : (none : ℕ) (nets : List (List Twig)) (count i : ℕ) (numbers places numbers' places' : List ℕ) → i < none → AreStandingTo none nets count i numbers places → length places' ≡ length places → AreNew none (net_at nets i) numbers → IsStood i (net_at nets i) numbers places numbers' places'
+    → (k : ℕ) → k < i → HasPlaces (net_at nets k) places'
+places_kept none nets count i numbers places numbers' places' low m room new stood k before j below =
+    let p : ℕ = (twig_at (net_at nets k) j).piece in
+    let was = m.placed k before j below in
+    let number = m.done k p before (twig_inside (net_at nets k) j below) in (
+      (let e = was.0 in omega arith),
+      elim (stood.outside p) [
+        | inl kept ↦ kept.1 ∙ was.1
+        | inr here ↦ absurd (let e = new.1 p here in omega arith)
+      ],
+    )
+
+pub stood_more : (none : ℕ) (nets : List (List Twig)) (count i : ℕ) (numbers places numbers' places' : List ℕ) → i < none → AreStandingTo none nets count i numbers places → length numbers' ≡ length numbers → length places' ≡ length places → AreNew none (net_at nets i) numbers → IsStood i (net_at nets i) numbers places numbers' places'
+    → AreStandingTo none nets count (i + 1) numbers' places'
+stood_more none nets count i numbers places numbers' places' low m long room new stood = record {
   long = long ∙ m.long;
-  marked = λ k p h held. (marks p).1 (elim (cases_eq k i) [ inl same ↦ inr (subst (λ (x : ℕ). Holds nets x p) same held) | inr other ↦ inl (m.marked k p (omega arith) held) ]);
-  only = λ p on. elim ((marks p).0 on) [ inl was ↦ (let f = m.only p was in (f.0, (let b = f.1 in omega arith), f.2)) | inr held ↦ (i, omega arith, held) ];
-  apart = λ k l p h b a c. elim (cases_eq k i) [
-    | inl same ↦ elim (cases_eq l i) [
-      | inl other ↦ same ∙ sym other
-      | inr before ↦ absurd (fresh p (subst (λ (x : ℕ). Holds nets x p) same a) (m.marked l p (omega arith) c))
-    ]
-    | inr before ↦ elim (cases_eq l i) [
-      | inl other ↦ absurd (fresh p (subst (λ (x : ℕ). Holds nets x p) other c) (m.marked k p (omega arith) a))
-      | inr both ↦ m.apart k l p (omega arith) (omega arith) a c
+  room = room ∙ m.room;
+  done = λ k p h held. elim (cases_eq k i) [
+    | inl same ↦ stood.inside p (subst (λ (x : ℕ). Holds nets x p) same held) ∙ sym same
+    | inr other ↦ elim (stood.outside p) [
+      | inl kept ↦ kept.0 ∙ m.done k p (omega arith) held
+      | inr here ↦ absurd (let e = new.1 p here in let f = m.done k p (omega arith) held in omega arith)
     ]
   ];
-  differ = λ k h. elim (cases_eq k i) [ inl same ↦ subst (λ (x : ℕ). AllPairs (λ p q. p ≢ q) (pieces_of (net_at nets x))) (sym same) differ | inr other ↦ m.differ k (omega arith) ];
+  only = λ p b. elim (stood.outside p) [
+    | inl kept ↦ elim (m.only p b) [ inl off ↦ inl (kept.0 ∙ off) | inr (k, l, held) ↦ inr (k, omega arith, held) ]
+    | inr here ↦ inr (i, omega arith, here)
+  ];
+  differ = λ k h. elim (cases_eq k i) [ inl same ↦ subst (λ (x : ℕ). AllPairs (λ p q. p ≢ q) (pieces_of (net_at nets x))) (sym same) new.0 | inr other ↦ m.differ k (omega arith) ];
+  placed = λ k h. elim (cases_eq k i) [ inl same ↦ subst (λ (x : ℕ). HasPlaces (net_at nets x) places') (sym same) stood.placed | inr other ↦ places_kept none nets count i numbers places numbers' places' low m room new stood k (omega arith) ];
 }
 
-pub marked_stops : (nets : List (List Twig)) (count i : ℕ) (old : List Bool) → AreMarked nets count i old → i < length nets → (IsNew (net_at nets i) old → ⊥) → StandOnce count nets → ⊥
-marked_stops nets count i old m within not once =
+pub stood_stops : (none : ℕ) (nets : List (List Twig)) (count i : ℕ) (numbers places : List ℕ) → AreStandingTo none nets count i numbers places → i < length nets → ((j p : ℕ) → Holds nets j p → p < count) → (AreNew none (net_at nets i) numbers → ⊥) → StandOnce count nets → ⊥
+stood_stops none nets count i numbers places m within known not once =
     not (
       All-get_or (λ net. AllPairs (λ p q. p ≢ q) (pieces_of net)) nets i [] within once.one_place,
-      λ p held was. let f = m.only p was in let same = once.one_net f.0 i p f.2 held in let b = f.1 in omega arith,
+      λ p held. elim (m.only p (known i p held)) [ inl off ↦ off | inr (k, l, there) ↦ absurd (let same = once.one_net k i p there held in omega arith) ],
     )
 
-pub marked_all : (nets : List (List Twig)) (count i : ℕ) (seen : List Bool) → AreMarked nets count i seen → i ≡ length nets → ((j p : ℕ) → Holds nets j p → j < length nets) → ((p : ℕ) → p < length seen → get_or seen p false ≡ true) → StandOnce count nets
-marked_all nets count i seen m all within seen_all = record {
-  held = λ p h. let f = m.only p (seen_all p (let e = m.long in omega arith)) in (f.0, f.2);
-  one_net = λ k l p a c. m.apart k l p (let e = within k p a in omega arith) (let e = within l p c in omega arith) a c;
-  one_place = All-from_get_or (λ net. AllPairs (λ p q. p ≢ q) (pieces_of net)) nets [] (λ k h. m.differ k (omega arith));
+pub stood_all : (none : ℕ) (nets : List (List Twig)) (count i : ℕ) (numbers places : List ℕ) → AreStandingTo none nets count i numbers places → i ≡ length nets → ((j p : ℕ) → Holds nets j p → j < length nets) → ((p : ℕ) → p < length numbers → get_or numbers p 0 ≢ none) → HasStanding count nets numbers places
+stood_all none nets count i numbers places m all within numbered = record {
+  once = record {
+    held = λ p h. elim (m.only p h) [ inl off ↦ absurd (numbered p (let e = m.long in omega arith) off) | inr (k, l, there) ↦ (k, there) ];
+    one_net = λ k l p a c. sym (m.done k p (let e = within k p a in omega arith) a) ∙ m.done l p (let e = within l p c in omega arith) c;
+    one_place = All-from_get_or (λ net. AllPairs (λ p q. p ≢ q) (pieces_of net)) nets [] (λ k h. m.differ k (omega arith));
+  };
+  long = m.long;
+  numbered = λ k p held. m.done k p (let e = within k p held in omega arith) held;
+  placed = λ k below. m.placed k (omega arith);
 }
 
-pub marked_missing : (nets : List (List Twig)) (count i : ℕ) (seen : List Bool) → AreMarked nets count i seen → i ≡ length nets → ((j p : ℕ) → Holds nets j p → j < length nets) → StandOnce count nets → (p : ℕ) → p < length seen → get_or seen p false ≡ true
-marked_missing nets count i seen m all within once p below =
+pub stood_missing : (none : ℕ) (nets : List (List Twig)) (count i : ℕ) (numbers places : List ℕ) → AreStandingTo none nets count i numbers places → i ≡ length nets → length nets ≤ none → ((j p : ℕ) → Holds nets j p → j < length nets) → StandOnce count nets → (p : ℕ) → p < length numbers → get_or numbers p 0 ≢ none
+stood_missing none nets count i numbers places m all few within once p below off =
     let home = once.held p (let e = m.long in omega arith) in
-    m.marked home.0 p (let e = within home.0 p home.1 in omega arith) home.1
+    let h = within home.0 p home.1 in
+    let n = m.done home.0 p (omega arith) home.1 in
+    omega arith

@@ -1,5 +1,5 @@
 -- What the tests have told, said of the board and the verdict and not of their slices.
-use Rattle.std.proofs.Common.{◌≡◌, ◌↔◌, IsTrue, ℕ, ◌<◌, ◌^◌, Bool, true, false, List, length, get_or, All, Option, Some, None, IfSome, sym, ap, subst, ◌∙◌, arith, refl}
+use Rattle.std.proofs.Common.{◌≡◌, ◌↔◌, IsTrue, ℕ, ◌<◌, ◌^◌, Bool, true, false, List, length, get_or, All, Option, Some, None, IfSome, MatchOption, sym, ap, subst, ◌∙◌, arith, refl}
 use Rattle.board_shapes.specs.Lawful.{IsProbe}
 use Rattle.board_shapes.specs.Plain.{PlainBoard, plain_pieces}
 use Rattle.board_shapes.specs.Tables.{IsNear}
@@ -18,8 +18,8 @@ use Rattle.witness_check.specs.Lines.{AreLinesBy}
 use Rattle.witness_check.proofs.Lines.{home_known, homes_known, lines_named, lines_netted}
 use Rattle.witness_check.proofs.Clauses.{AreNetted, ArePointed}
 use Rattle.witness_check.proofs.Touching.{long_as}
-use Rattle.witness_check.proofs.Trees.{nets_few}
 use Rattle.witness_check.proofs.Told.{denied, told}
+use Rattle.verdict.proofs.Trees.{nets_few}
 
 pub trees_told : (b : PlainBoard) (nets own : List (List Twig)) (test : Bool) → nets ≡ own → IsTrue test ↔ AreTrees (length b.pieces) (IsNear b) nets → test ≡ true → AreTrees (length b.pieces) (IsNear b) own
 trees_told b nets own test same tells e = subst (λ (n : List (List Twig)). AreTrees (length b.pieces) (IsNear b) n) same (told test (AreTrees (length b.pieces) (IsNear b) nets) tells e)
@@ -27,13 +27,17 @@ trees_told b nets own test same tells e = subst (λ (n : List (List Twig)). AreT
 pub trees_denied : (b : PlainBoard) (nets own : List (List Twig)) (test : Bool) → nets ≡ own → IsTrue test ↔ AreTrees (length b.pieces) (IsNear b) nets → test ≡ false → AreTrees (length b.pieces) (IsNear b) own → ⊥
 trees_denied b nets own test same tells e trees = denied test (AreTrees (length b.pieces) (IsNear b) nets) tells e (subst (λ (n : List (List Twig)). AreTrees (length b.pieces) (IsNear b) n) (sym same) trees)
 
-pub once_told : (b : PlainBoard) (items : List (Placed Shape)) (nets own : List (List Twig)) (test : Bool) → plain_pieces items ≡ b.pieces → nets ≡ own → IsTrue test ↔ StandOnce (length items) nets → test ≡ true → StandOnce (length b.pieces) own
-once_told b items nets own test plain same tells e =
-    subst (λ (n : ℕ). StandOnce n own) (sym (long_as b items plain)) (subst (λ (n : List (List Twig)). StandOnce (length items) n) same (told test (StandOnce (length items) nets) tells e))
+pub some_told : {X : Type 0} (found : Option X) (x : X) (none : Type 0) (some : X → Type 0) → found ≡ Some x → MatchOption found none some → some x
+some_told found x none some e tells = subst (λ (o : Option _). MatchOption o none some) e tells
 
-pub once_denied : (b : PlainBoard) (items : List (Placed Shape)) (nets own : List (List Twig)) (test : Bool) → plain_pieces items ≡ b.pieces → nets ≡ own → IsTrue test ↔ StandOnce (length items) nets → test ≡ false → StandOnce (length b.pieces) own → ⊥
-once_denied b items nets own test plain same tells e once =
-    denied test (StandOnce (length items) nets) tells e (subst (λ (n : List (List Twig)). StandOnce (length items) n) (sym same) (subst (λ (n : ℕ). StandOnce n own) (long_as b items plain) once))
+pub none_told : {X : Type 0} (found : Option X) (none : Type 0) (some : X → Type 0) → found ≡ None → MatchOption found none some → none
+none_told found none some e tells = subst (λ (o : Option _). MatchOption o none some) e tells
+
+pub once_told : (b : PlainBoard) (items : List (Placed Shape)) (nets own : List (List Twig)) → plain_pieces items ≡ b.pieces → nets ≡ own → StandOnce (length items) nets → StandOnce (length b.pieces) own
+once_told b items nets own plain same once = subst (λ (n : ℕ). StandOnce n own) (sym (long_as b items plain)) (subst (λ (n : List (List Twig)). StandOnce (length items) n) same once)
+
+pub once_denied : (b : PlainBoard) (items : List (Placed Shape)) (nets own : List (List Twig)) → plain_pieces items ≡ b.pieces → nets ≡ own → (StandOnce (length items) nets → ⊥) → StandOnce (length b.pieces) own → ⊥
+once_denied b items nets own plain same not once = not (subst (λ (n : List (List Twig)). StandOnce (length items) n) (sym same) (subst (λ (n : ℕ). StandOnce n own) (long_as b items plain) once))
 
 pub apart_told : (b : PlainBoard) (nets own : List (List Twig)) (test : Bool) → nets ≡ own → IsTrue test ↔ StandApart (IsNear b) nets → test ≡ true → StandApart (IsNear b) own
 apart_told b nets own test same tells e = subst (λ (n : List (List Twig)). StandApart (IsNear b) n) same (told test (StandApart (IsNear b) nets) tells e)

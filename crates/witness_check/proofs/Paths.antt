@@ -15,9 +15,8 @@ use Rattle.verdict.specs.declared.verdict.Short.{Short}
 use Rattle.verdict.specs.declared.verdict.Twig.{Twig}
 use Rattle.verdict.specs.declared.verdict.Verdict.{Verdict}
 use Rattle.witness_check.specs.Laws.{AreJoinedWithin, HasBranchFrom, HasPath, IsNamed, ShortsHavePaths, branch_pieces}
-use Rattle.witness_check.proofs.Chains.{holds_within}
 use Rattle.witness_check.proofs.Joins.{net_numbers_are_joins, piece_on}
-use Rattle.witness_check.proofs.Members.{one_of}
+use Rattle.verdict.proofs.Holding.{held_within, one_of}
 
 -- ---- Chains of pieces of a list
 
@@ -248,4 +247,4 @@ pub shorts_have_paths : (board : Tables) (v : Verdict) â†’ AreConsistent board â
 shorts_have_paths board v tables right a b name other one two differ joined =
     let on = ((net_numbers_are_joins board v tables right).joined a b).1 joined in
     let held = piece_on board v right a on.0 on.1 in
-    (on.0, on.1, on.2, path board v tables right on.0 name other (holds_within v.nets on.0 held.0 held.2) differ (name_on board v right a name on.0 one on.1) (name_on board v right b other on.0 two on.2))
+    (on.0, on.1, on.2, path board v tables right on.0 name other (held_within v.nets on.0 held.0 held.2) differ (name_on board v right a name on.0 one on.1) (name_on board v right b other on.0 two on.2))

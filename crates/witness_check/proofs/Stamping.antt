@@ -3,7 +3,7 @@ use Rattle.std.proofs.Common.{◌≡◌, inl, inr, ℕ, ◌<◌, ◌≤◌, List
 use Rattle.std.proofs.lemmas.List.{length-set, get_or-set_same, get_or-set_other, get_or_past}
 use Rattle.std.proofs.lemmas.List.Elements.{Contains-append_left, Contains-push, Contains-push_cases}
 use Rattle.std.proofs.lemmas.Bool.{cases_eq}
-use Rattle.verdict.proofs.Numbering.{le_or_lt}
+use Rattle.verdict.proofs.Holding.{le_or_lt}
 use Rattle.witness_check.specs.Marked.{AreStamped, AreUpTo}
 
 pub stamped_more : (ends : List ℕ) (stamp : ℕ) (stamps : List ℕ) (q : ℕ) → q < length stamps → AreStamped ends stamp stamps → AreStamped (ends ++ q ∷ []) stamp (set stamps q stamp)

@@ -1,5 +1,5 @@
 -- What a board's tables say, by the pieces that touch and the pieces under its probes.
-use Rattle.std.proofs.Common.{◌≡◌, ◌⊎◌, inl, inr, ℕ, List, [], ◌∷◌, ◌++◌, length, sym, subst, arith}
+use Rattle.std.proofs.Common.{◌≡◌, ◌⊎◌, inl, inr, ℕ, List, length, sym, subst, arith}
 use Rattle.std.proofs.lemmas.Bool.{cases_eq}
 use Rattle.std.proofs.lemmas.List.Elements.{All-weaker}
 use Rattle.std.proofs.lemmas.Option.{slice_get_within}
@@ -10,7 +10,8 @@ use Rattle.board_shapes.specs.Touching.{UnderAt}
 use Rattle.tables.proofs.Listing.{stands_as, stands_where}
 use Rattle.tables.specs.Tables.{Tables, Stands}
 use Rattle.verdict.specs.declared.verdict.Twig.{Twig}
-use Rattle.verdict.specs.Forest.{AreTrees, Hang, IsTree, StandApart, StandOnce}
+use Rattle.verdict.specs.Forest.{AreTrees, IsTree, StandApart, StandOnce}
+use Rattle.verdict.proofs.Trees.{tree_along}
 
 pub near_as : (b : PlainBoard) (t : Tables) → IsTables b t → (p q : ℕ) → Stands t.near p q → IsNear b p q
 near_as b t is p q s = stands_as (length b.pieces) (IsNear b) t.near is.near p q s
@@ -26,14 +27,6 @@ under_close law b k p q one two = elim (cases_eq q p) [
 ]
 
 -- ---- Nets along a relation that says no less
-
-hang_along : (near more : ℕ → ℕ → Type 0) → ((p q : ℕ) → near p q → more p q) → (earlier : List ℕ) (rest : List Twig) → Hang near earlier rest → Hang more earlier rest
-hang_along near more along earlier [] hang = tt
-hang_along near more along earlier (t ∷ rest) (here, hang) = (record { parent = here.parent; named = here.named; stands = here.stands; touches = along here.parent t.piece here.touches }, hang_along near more along (earlier ++ t.piece ∷ []) rest hang)
-
-tree_along : (near more : ℕ → ℕ → Type 0) → ((p q : ℕ) → near p q → more p q) → (net : List Twig) → IsTree near net → IsTree more net
-tree_along near more along [] tree = absurd tree
-tree_along near more along (t ∷ rest) (root, least, hang) = (root, least, hang_along near more along (t.piece ∷ []) rest hang)
 
 trees_along : (near more : ℕ → ℕ → Type 0) (count size : ℕ) (nets : List (List Twig)) → ((p q : ℕ) → near p q → more p q) → count ≡ size → AreTrees count near nets → AreTrees size more nets
 trees_along near more count size nets along same trees = record {

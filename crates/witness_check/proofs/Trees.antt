@@ -1,5 +1,5 @@
 -- Trees tested twig by twig, net by net.
-use Rattle.std.proofs.Common.{◌≡◌, ◌≢◌, ◌⊎◌, inl, inr, ℕ, zero, suc, ◌+◌, ◌<◌, ◌≤◌, List, [], ◌∷◌, ◌++◌, length, get_or, set, take, drop, Contains, All, AllPairs, None, refl, sym, ap, subst, ◌∙◌, append_assoc, append-nil, arith}
+use Rattle.std.proofs.Common.{◌≡◌, ◌≢◌, ◌⊎◌, inl, inr, ℕ, zero, suc, ◌+◌, ◌<◌, ◌≤◌, List, [], ◌∷◌, ◌++◌, length, get_or, set, take, drop, Contains, All, None, refl, sym, ap, subst, ◌∙◌, append_assoc, append-nil, arith}
 use Rattle.std.proofs.lemmas.List.{length-set, map-append, get_or-set_same, get_or-set_other, get_or_default, get_or-map, length-map, take_all, take_more, take-append-drop}
 use Rattle.std.proofs.lemmas.List.Elements.{All-push, All-get_or, All-from_get_or, Contains-push, Contains-push_cases, Contains-append_left, Contains-get_or}
 use Rattle.std.proofs.lemmas.Bool.{cases_eq}
@@ -62,10 +62,6 @@ pub record IsJudging (count : ℕ) (near : ℕ → ℕ → Type 0) (net : List T
   pub stamped : (p : ℕ) → get_or stamps p 0 ≡ stamp → Contains (pieces_of (take j net)) p
   pub stamps_of : (p : ℕ) → Contains (pieces_of (take j net)) p → get_or stamps p 0 ≡ stamp
   pub most : (q : ℕ) → get_or stamps q 0 ≤ stamp
-
-one_of : (x q : ℕ) → Contains (x ∷ []) q → x ≡ q
-one_of x q (zero, below, same) = same
-one_of x q (suc k, below, same) = absurd (omega arith)
 
 set_cases : (P : ℕ → ℕ → Type 0) (stamps : List ℕ) (p stamp q : ℕ) → p < length stamps → P p stamp → (q ≢ p → P q (get_or stamps q 0)) → P q (get_or (set stamps p stamp) q 0)
 set_cases P stamps p stamp q below here there = elim (cases_eq q p) [
@@ -170,19 +166,3 @@ judged_all count near nets i floor stamps a all within = record {
 
 pub tree_at : (count : ℕ) (near : ℕ → ℕ → Type 0) (nets : List (List Twig)) (i : ℕ) → AreTrees count near nets → i < length nets → IsKnownTree count near (net_at nets i)
 tree_at count near nets i t below = record { known = λ p h. t.known i p h; tree = All-get_or (IsTree near) nets i [] below t.trees }
-
-nets_rise : (nets : List (List Twig)) → AllPairs (λ net later. first_piece net < first_piece later) nets → (i : ℕ) → i < length nets → i ≤ first_piece (net_at nets i)
-nets_rise nets rising zero below = omega arith
-nets_rise nets rising (suc i) below = let e = nets_rise nets rising i (omega arith) in let f = rising i (suc i) [] (omega arith) below in omega arith
-
-first_inside : (near : ℕ → ℕ → Type 0) (net : List Twig) → IsTree near net → Contains (pieces_of net) (first_piece net)
-first_inside near [] tree = absurd tree
-first_inside near (t ∷ rest) tree = (0, omega arith, refl)
-
-pub nets_few : (count : ℕ) (near : ℕ → ℕ → Type 0) (nets : List (List Twig)) → AreTrees count near nets → (n : ℕ) → n ≡ length nets → n ≤ count
-nets_few count near nets t zero e = omega arith
-nets_few count near nets t (suc n) e =
-    let rise = nets_rise nets t.rising n (omega arith) in
-    let tree = All-get_or (IsTree near) nets n [] (omega arith) t.trees in
-    let below = t.known n (first_piece (net_at nets n)) (first_inside near (net_at nets n) tree) in
-    omega arith

@@ -2,11 +2,7 @@
 use Rattle.std.specs.Prelude.{◌≡◌, ℕ, ◌<◌, List, length, slice_get, slice_index_or, Option, Some, None}
 use Rattle.board_shapes.specs.declared.probe.Probe.{Probe}
 use Rattle.verdict.specs.declared.verdict.PointLine.{PointLine}
-
--- the net of a home, by the number of each piece's net
-abbrev pub net_by : List ℕ → Option ℕ → Option ℕ
-net_by numbers None = None
-net_by numbers (Some piece) = Some (slice_index_or numbers piece 0)
+use Rattle.verdict.specs.Seats.{net_by}
 
 -- The line of a probe: its record, its layer and its name, with the net of its home, or without one where it has no home.
 pub record IsLineBy (numbers : List ℕ) (probe : Probe) (home : Option ℕ) (line : PointLine) : Type 0 where

@@ -1,7 +1,7 @@
 -- Shorts by the marks on nets, and pieces with a stamp.
 use Rattle.std.specs.Prelude.{◌≡◌, ◌↔◌, ℕ, ◌+◌, ◌<◌, ◌≤◌, List, [], ◌∷◌, ◌++◌, length, map, slice_index_or, Contains}
 use Rattle.verdict.specs.declared.verdict.Short.{Short}
-use Rattle.verdict.specs.declared.marks.Mark.{Mark}
+use Rattle.verdict.specs.declared.verdict.Mark.{Mark}
 use Rattle.verdict.specs.Right.{Outline, short_of}
 use Rattle.verdict.specs.Seats.{branch_name, mark_name, marks_at}
 

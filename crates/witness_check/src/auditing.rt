@@ -8,15 +8,17 @@ ghost use Rattle.witness_check.specs.Ruled.{Rules};
 use crate::counts::counts_hold;
 use crate::findings::findings_ruling;
 use crate::least::least_under;
-use crate::nets::{are_trees, stand_apart, stand_once};
+use crate::nets::{are_trees, standing_of};
 use crate::points::{bare_holds, points_hold};
+use crate::strips::strips_of;
+use crate::sweep::stand_apart;
 use board_shapes::{Board, laws as shapes};
 use lengths::NoMemory;
 use std::alloc::Global;
 use std::marker::Brand;
 use std::sync::ledger::{Blank, Ledger};
 use steps::Steps;
-use verdict::{Verdict, numbers_of};
+use verdict::Verdict;
 
 /// What an audit says.
 #[derive(Clone, Copy, Debug, PartialEq, Eq)]
@@ -55,18 +57,20 @@ fn ruling_of<L: Ledger>(
     if !are_trees(alloc, board, nets, &mut tests)? {
         return Ok(Ruling::Untrue(1));
     }
-    if !stand_once(alloc, nets, pieces)? {
+    let Some(standing) = standing_of(alloc, nets, pieces)? else {
         return Ok(Ruling::Untrue(2));
-    }
-    let numbers = numbers_of(alloc, nets, pieces)?;
-    if !stand_apart(board, nets, numbers.as_slice(), &mut tests) {
+    };
+    let numbers = standing.numbers.as_slice();
+    let places = standing.places.as_slice();
+    let strips = strips_of(alloc, board)?;
+    if !stand_apart(board, nets, numbers, &strips, &mut tests) {
         return Ok(Ruling::Untrue(3));
     }
-    let homes = least_under(alloc, board)?;
-    if !points_hold(board.probes(), homes.as_slice(), numbers.as_slice(), lines) {
+    let homes = least_under(alloc, board, &strips)?;
+    if !points_hold(board.probes(), homes.as_slice(), numbers, lines) {
         return Ok(Ruling::Untrue(4));
     }
-    if let Some(number) = findings_ruling(alloc, board.names(), pieces, homes.as_slice(), v)? {
+    if let Some(number) = findings_ruling(alloc, board.names(), places, homes.as_slice(), v)? {
         return Ok(Ruling::Untrue(number));
     }
     if !bare_holds(lines, v.bare.as_slice()) {

@@ -1,15 +1,16 @@
 // The clause on branches.
-ghost use Rattle.std.specs.Prelude.{◌≡◌, ◌≢◌, ℕ, ◌<◌, ◌≤◌, ◌↔◌, IsTrue, length, map, List, ◌∷◌, [], ◌++◌, Some, None, All, AllPairs, slice_index_or, IfOk};
-ghost use Rattle.verdict.specs.Forest.{Holds, first_piece, pieces_of};
+ghost use Rattle.std.specs.Prelude.{◌≡◌, ℕ, ◌<◌, ◌≤◌, ◌↔◌, IsTrue, length, map, List, ◌∷◌, [], ◌++◌, Some, None, All, slice_index_or, IfOk};
+ghost use Rattle.verdict.specs.Forest.{first_piece, net_at};
 ghost use Rattle.verdict.specs.Places.{HasPlaces};
 ghost use Rattle.verdict.specs.Right.{AreBranches, BeginsAt, BeginsAtHome, HasBranches, HasParent, IsBranch, IsWay};
 ghost use Rattle.verdict.specs.Seats.{AreFirst, IsFirst, branch_name, mark_name};
 ghost use Rattle.verdict.specs.declared.verdict.PointLine.{PointLine};
 ghost use Rattle.witness_check.specs.Marked.{AreStamped, AreUpTo, HasMarks};
 
+use crate::nets::first_of;
 use lengths::{NoMemory, Rows};
 use std::alloc::Global;
-use verdict::{Branch, Mark, Short, Tree, Twig, place_net};
+use verdict::{Branch, Mark, Short, Tree, Twig};
 
 /// Whether the branches of all shorts are right. The shorts have the names of the marks on their nets, and each mark
 /// says which point its branch has; points and pieces of branches may be any numbers. The ends of a short's branches are
@@ -18,42 +19,28 @@ pub fn branches_hold(
     alloc: Global,
     nets: &[Tree],
     marks: &[Rows<Mark>],
-    pieces: usize,
+    places: &[usize],
     homes: &[Option<u32>],
     shorts: &[Short],
 ) -> Result<bool, NoMemory>
-    requires known { (i piece : ℕ) → Holds nets.now i piece → piece < pieces }
-    requires once { All (λ net. AllPairs (λ p q. p ≢ q) (pieces_of net)) nets.now }
+    requires placed { (i : ℕ) → i < length nets.now → HasPlaces (net_at nets.now i) places.now }
     requires long { length marks.now ≡ length nets.now }
     requires marked { All (HasMarks marks.now) shorts.now }
     ensures { IfOk result (λ yes. (lines : List PointLine) → AreFirst lines marks.now → IsTrue yes ↔ All (HasBranches nets.now (BeginsAtHome homes.now) lines) shorts.now) }
 {
-    let mut table = vec![in alloc; 0; pieces]?;
-    let mut ends = vec![in alloc; 0; pieces.max(1)]?;
-    let places = table.as_mut_slice();
+    let mut ends = vec![in alloc; 0; places.len().max(1)]?;
     let stamps = ends.as_mut_slice();
     for i in 0..shorts.len() {
         let short = &shorts[i];
         let net = nets[short.net as usize].as_slice();
         let names = marks[short.net as usize].as_slice();
         let branches = short.branches.as_slice();
-        place_net(net, places);
-        stamps[first_of(net) as usize] = i + 1;
+        stamps[first_of(net)] = i + 1;
         if !are_branches(net, places, homes, names, branches, i + 1, stamps) {
             return Ok(false);
         }
     }
     Ok(true)
-}
-
-// The first piece of a net.
-fn first_of(net: &[Twig]) -> u32
-    ensures { result ≡ first_piece net.now }
-{
-    match net.first() {
-        Some(twig) => twig.piece,
-        None => 0,
-    }
 }
 
 // Whether the branches of a short are right. The pieces of those that are get the stamp, which its net's first piece has.

@@ -1,9 +1,15 @@
-//! Laws over the definitions: what a right verdict tells of its board. Their calls do nothing.
+//! Laws over the definitions: what a right verdict tells of its board, by the board's tables, and of the board itself.
+//! Their calls do nothing.
+ghost use Rattle.board_shapes.specs.LawfulBoard.{IsLawfulBoard};
+ghost use Rattle.board_shapes.specs.Plain.{PlainBoard};
 ghost use Rattle.tables.specs.Consistent.{AreConsistent};
 ghost use Rattle.tables.specs.Tables.{Tables};
 ghost use Rattle.verdict.specs.Right.{IsRight};
 ghost use Rattle.verdict.specs.declared.verdict.Verdict.{Verdict};
+ghost use Rattle.witness_check.specs.BoardLaws.{IsRightFor, NetNumbersJoinProbes, OpensCoverNamesOf, ShortsHavePathsOn};
 ghost use Rattle.witness_check.specs.Laws.{DifferInWitnessesOnly, NetNumbersAreJoins, OpensCoverSplitNames, ShortsHavePaths};
+
+use board_shapes::laws as shapes;
 
 /// In a right verdict two test points have the same net number exactly where a chain joins them, and
 /// a test point without a net is joined to none.
@@ -29,3 +35,16 @@ pub fn verdicts_differ_in_witnesses_only()
 pub fn shorts_have_paths()
     ensures { (board : Tables) (v : Verdict) → AreConsistent board → IsRight board v → ShortsHavePaths board v }
 {}
+
+/// The four laws, of a lawful board and of verdicts that are right for it: net numbers tell which probes touching pieces
+/// join, opens cover the board's split names, shorts have paths of touching pieces, and two verdicts differ in witnesses
+/// only.
+pub fn boards_have_the_laws()
+    ensures joins { (b : PlainBoard) (v : Verdict) → IsLawfulBoard b → IsRightFor b v → NetNumbersJoinProbes b v }
+    ensures opens { (b : PlainBoard) (v : Verdict) → IsLawfulBoard b → IsRightFor b v → OpensCoverNamesOf b v }
+    ensures shorts { (b : PlainBoard) (v : Verdict) → IsLawfulBoard b → IsRightFor b v → ShortsHavePathsOn b v }
+    ensures witnesses { (b : PlainBoard) (v w : Verdict) → IsLawfulBoard b → IsRightFor b v → IsRightFor b w → DifferInWitnessesOnly v w }
+{
+    shapes::tables_are_unique();
+    shapes::tables_tell_joins();
+}

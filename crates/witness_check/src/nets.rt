@@ -1,9 +1,9 @@
 // The clauses that speak of nets alone.
 ghost use Rattle.board_shapes.specs.Plain.{plain_board};
 ghost use Rattle.board_shapes.specs.Tables.{IsNear};
-ghost use Rattle.std.specs.Prelude.{◌≡◌, ◌≢◌, ◌⊎◌, ℕ, ◌<◌, ◌≤◌, ◌^◌, ◌↔◌, IsTrue, length, None, AllPairs, Contains, slice_index_or, true, false, IfOk};
-ghost use Rattle.verdict.specs.Forest.{AreTrees, StandOnce, StandApart, Holds, pieces_of, first_piece};
-ghost use Rattle.witness_check.specs.Nets.{IsKnownTree, HangsByStamp};
+ghost use Rattle.std.specs.Prelude.{◌≡◌, ◌≢◌, ℕ, ◌<◌, ◌≤◌, ◌^◌, ◌↔◌, IsTrue, length, None, Contains, slice_index_or, IfOk, MatchOption};
+ghost use Rattle.verdict.specs.Forest.{AreTrees, StandOnce, Holds, pieces_of, first_piece};
+ghost use Rattle.witness_check.specs.Nets.{AreNew, HangsByStamp, HasStanding, IsKnownTree, IsStood};
 
 use crate::contacts::are_near;
 use board_shapes::Board;
@@ -39,8 +39,8 @@ pub fn are_trees<L: Ledger>(
     Ok(true)
 }
 
-// The first piece of a net.
-fn first_of(net: &[Twig]) -> usize
+/// The first piece of a net.
+pub fn first_of(net: &[Twig]) -> usize
     ensures value { result ≡ first_piece net.now }
     ensures few { result < 2 ^ 32 }
 {
@@ -117,77 +117,69 @@ fn hangs<L: Ledger>(
     are_near(board, parent, piece, tests)
 }
 
-/// Whether each piece stands once in one net.
-pub fn stand_once(alloc: Global, nets: &[Tree], count: usize) -> Result<bool, NoMemory>
-    requires { (i piece : ℕ) → Holds nets.now i piece → piece < count }
-    ensures { IfOk result (λ yes. IsTrue yes ↔ StandOnce count nets.now) }
+/// Where each piece stands: the number of its net, and its place there.
+#[derive(Drop)]
+pub struct Standing {
+    pub numbers: Vec<u32>,
+    pub places: Vec<usize>,
+}
+
+/// Where each piece stands, if each stands once in one net.
+pub fn standing_of(alloc: Global, nets: &[Tree], count: usize) -> Result<Option<Standing>, NoMemory>
+    requires few { length nets.now < 2 ^ 32 }
+    requires known { (i piece : ℕ) → Holds nets.now i piece → piece < count }
+    ensures { IfOk result (λ found. MatchOption found (StandOnce count nets.now → ⊥) (λ s. HasStanding count nets.now s.numbers.items s.places.items)) }
 {
-    let mut flags = vec![in alloc; false; count]?;
-    let seen = flags.as_mut_slice();
+    let mut numbers = vec![in alloc; u32::MAX; count]?;
+    let mut places = vec![in alloc; 0; count]?;
+    if !stand_once(nets, numbers.as_mut_slice(), places.as_mut_slice()) {
+        return Ok(None);
+    }
+    Ok(Some(Standing { numbers, places }))
+}
+
+// Whether each piece stands once in one net, for pieces that have no number yet. The tables get where each stands.
+fn stand_once(nets: &[Tree], numbers: &mut [u32], places: &mut [usize]) -> bool
+    requires few { length nets.now < 2 ^ 32 }
+    requires known { (i piece : ℕ) → Holds nets.now i piece → piece < length numbers.old }
+    requires room { length places.old ≡ length numbers.old }
+    requires none { (p : ℕ) → p < length numbers.old → slice_index_or numbers.old p 0 ≡ 4294967295 }
+    ensures once { IsTrue result ↔ StandOnce (length numbers.old) nets.now }
+    ensures tables { IsTrue result → HasStanding (length numbers.old) nets.now numbers.new places.new }
+{
     for i in 0..nets.len() {
-        if !mark_new(nets[i].as_slice(), seen) {
-            return Ok(false);
-        }
-    }
-    Ok(all_seen(seen))
-}
-
-// Whether the pieces of a net are new and different. They are marked.
-fn mark_new(net: &[Twig], seen: &mut [bool]) -> bool
-    requires { (p : ℕ) → Contains (pieces_of net.now) p → p < length seen.old }
-    ensures new { IsTrue result ↔ (AllPairs (λ p q. p ≢ q) (pieces_of net.now) × ((p : ℕ) → Contains (pieces_of net.now) p → slice_index_or seen.old p false ≡ true → ⊥)) }
-    ensures marked { IsTrue result → (p : ℕ) → (slice_index_or seen.new p false ≡ true) ↔ ((slice_index_or seen.old p false ≡ true) ⊎ Contains (pieces_of net.now) p) }
-{
-    for twig in net {
-        if seen[twig.piece as usize] {
+        if !stand_net(nets[i].as_slice(), i as u32, numbers, places) {
             return false;
         }
-        seen[twig.piece as usize] = true;
+    }
+    all_numbered(numbers)
+}
+
+// Whether the pieces of a net are different and have no number. They get the net's number, and their places.
+fn stand_net(net: &[Twig], number: u32, numbers: &mut [u32], places: &mut [usize]) -> bool
+    requires known { (p : ℕ) → Contains (pieces_of net.now) p → p < length numbers.old }
+    requires room { length places.old ≡ length numbers.old }
+    requires number { number < 4294967295 }
+    ensures new { IsTrue result ↔ AreNew 4294967295 net.now numbers.old }
+    ensures tables { IsTrue result → IsStood number net.now numbers.old places.old numbers.new places.new }
+{
+    for k in 0..net.len() {
+        let piece = net[k].piece as usize;
+        if numbers[piece] != u32::MAX {
+            return false;
+        }
+        numbers[piece] = number;
+        places[piece] = k;
     }
     true
 }
 
-// Whether all flags are set.
-fn all_seen(seen: &[bool]) -> bool
-    ensures { IsTrue result ↔ ((p : ℕ) → p < length seen.now → slice_index_or seen.now p false ≡ true) }
+// Whether all pieces have a number.
+fn all_numbered(numbers: &[u32]) -> bool
+    ensures { IsTrue result ↔ ((p : ℕ) → p < length numbers.now → slice_index_or numbers.now p 0 ≢ 4294967295) }
 {
-    for flag in seen {
-        if !*flag {
-            return false;
-        }
-    }
-    true
-}
-
-/// Whether no piece of one net touches a piece of another.
-pub fn stand_apart<L: Ledger>(
-    board: &Board,
-    nets: &[Tree],
-    numbers: &[u32],
-    tests: &mut Steps<L>,
-) -> bool
-    requires long { length numbers.now ≡ length (plain_board board.now).pieces }
-    requires known { (i piece : ℕ) → Holds nets.now i piece → piece < length (plain_board board.now).pieces }
-    requires once { StandOnce (length (plain_board board.now).pieces) nets.now }
-    requires numbers { (i piece : ℕ) → Holds nets.now i piece → slice_index_or numbers.now piece 0 ≡ i }
-    ensures { IsTrue result ↔ StandApart (IsNear (plain_board board.now)) nets.now }
-{
-    for p in 0..numbers.len() {
-        if !is_apart(board, numbers, p, tests) {
-            return false;
-        }
-    }
-    true
-}
-
-// Whether no piece after p of another net touches p.
-fn is_apart<L: Ledger>(board: &Board, numbers: &[u32], p: usize, tests: &mut Steps<L>) -> bool
-    requires long { length numbers.now ≡ length (plain_board board.now).pieces }
-    requires piece { p < length numbers.now }
-    ensures { IsTrue result ↔ ((q : ℕ) → p < q → q < length numbers.now → IsNear (plain_board board.now) p q → slice_index_or numbers.now p 0 ≡ slice_index_or numbers.now q 0) }
-{
-    for q in p + 1..numbers.len() {
-        if numbers[p] != numbers[q] && are_near(board, p, q, tests) {
+    for number in numbers {
+        if *number == u32::MAX {
             return false;
         }
     }

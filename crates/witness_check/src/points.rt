@@ -1,7 +1,8 @@
 // The lines of points, and the points without a net.
 ghost use Rattle.std.specs.Prelude.{◌≡◌, ◌<◌, ◌^◌, ◌↔◌, All, IfSome, IsTrue, length, slice_get, Some};
 ghost use Rattle.verdict.specs.Right.{bare_from};
-ghost use Rattle.witness_check.specs.Lines.{AreLinesBy, IsLineAt, IsLineBy, net_by};
+ghost use Rattle.verdict.specs.Seats.{net_by};
+ghost use Rattle.witness_check.specs.Lines.{AreLinesBy, IsLineAt, IsLineBy};
 
 use board_shapes::Probe;
 use verdict::PointLine;

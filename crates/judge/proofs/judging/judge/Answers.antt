@@ -9,7 +9,7 @@ use Rattle.verdict.specs.declared.verdict.Twig.{Twig}
 use Rattle.verdict.specs.declared.verdict.PointLine.{PointLine}
 use Rattle.verdict.specs.Forest.{IsForest, Holds, IsTree, net_at}
 use Rattle.verdict.specs.Right.{bare_from, all_opens, all_shorts, HasBranches, BeginsAtHome}
-use Rattle.verdict.specs.declared.marks.Mark.{Mark}
+use Rattle.verdict.specs.declared.verdict.Mark.{Mark}
 use Rattle.judge.specs.Judged.{HasHome, lines_by, HangAbove}
 use Rattle.judge.proofs.Along.{tree_hangs}
 use Rattle.verdict.proofs.Marking.{table_first, table_named}

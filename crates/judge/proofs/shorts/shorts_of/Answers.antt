@@ -2,7 +2,7 @@ use Rattle.std.proofs.Common.{◌≡◌, [], List, All, Contains, arith, sym, �
 use Rattle.std.proofs.lemmas.List.{get_or_read}
 use Rattle.verdict.specs.declared.verdict.Twig.{Twig}
 use Rattle.verdict.specs.Forest.{pieces_of, net_at}
-use Rattle.verdict.specs.declared.marks.Mark.{Mark}
+use Rattle.verdict.specs.declared.verdict.Mark.{Mark}
 use Rattle.judge.specs.Judged.{HasHome}
 use Rattle.judge.proofs.Branches.{shorted_all, shorted_more, shorted_skip}
 use Rattle.judge.proofs.shorts.shorts_of.Goals.{then-names-gt1+in_ok-push_short, else-names-gt1}

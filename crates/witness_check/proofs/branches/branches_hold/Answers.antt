@@ -2,18 +2,17 @@ use Rattle.std.proofs.Common.{ℕ, ◌+◌, ◌<◌, ◌∷◌, [], List, length
 use Rattle.std.proofs.lemmas.List.{get_or_read, length-set}
 use Rattle.verdict.specs.declared.verdict.Branch.{Branch}
 use Rattle.verdict.specs.declared.verdict.Twig.{Twig}
-use Rattle.verdict.specs.declared.marks.Mark.{Mark}
+use Rattle.verdict.specs.declared.verdict.Mark.{Mark}
 use Rattle.verdict.specs.Forest.{first_piece}
 use Rattle.verdict.specs.Right.{AreBranches, BeginsAtHome}
-use Rattle.verdict.proofs.Placing.{twig_inside}
 use Rattle.witness_check.specs.Marked.{AreStamped}
 use Rattle.witness_check.proofs.Told.{refuted, proved, told, denied}
 use Rattle.witness_check.proofs.Stamping.{stamped_first}
-use Rattle.witness_check.proofs.Branching.{IsInHand, first_placed, in_hand, inside_known, right_done, right_more, right_stops}
+use Rattle.witness_check.proofs.Branching.{IsInHand, first_placed, hand_placed, in_hand, right_done, right_more, right_stops}
 use Rattle.witness_check.proofs.branches.branches_hold.Goals as goal
 
-pub place_net-requires-clause-inside : goal.place_net-requires-clause-inside
-place_net-requires-clause-inside c = λ k below.
+pub are_branches-requires-clause-places : goal.are_branches-requires-clause-places
+are_branches-requires-clause-places c =
     let s = c.index-shorts-i.result in
     let net : List Twig = c.as_slice-net.result.now in
     let row : List Mark = c.as_slice-names.result.now in
@@ -21,10 +20,7 @@ place_net-requires-clause-inside c = λ k below.
     in_hand c.args.nets.now c.args.marks.now c.args.shorts.now c.loop-i.i s net row c.requires.long c.requires.marked (omega arith) c.index-shorts-i.is
     (λ there. c.as_slice-net.ensures ∙ get_or_read c.args.nets.now s.net c.index-nets-short.result there c.index-nets-short.is [])
     (λ there. c.as_slice-names.ensures ∙ get_or_read c.args.marks.now s.net c.index-marks-short.result there c.index-marks-short.is []) in
-    let e = inside_known c.args.nets.now c.args.marks.now c.args.shorts.now c.loop-i.i s net row c.args.pieces hand c.requires.known _ (twig_inside net k below) in
-    let f = c.as_mut_slice-places.ensures.len in
-    let g = c.in_ok-table.ensures.len in
-    omega arith
+    hand_placed c.args.nets.now c.args.marks.now c.args.shorts.now c.loop-i.i s net row c.args.places.now hand c.requires.placed
 
 pub bounds-stamps-first_of : goal.bounds-stamps-first_of
 bounds-stamps-first_of c =
@@ -35,11 +31,11 @@ bounds-stamps-first_of c =
     in_hand c.args.nets.now c.args.marks.now c.args.shorts.now c.loop-i.i s net row c.requires.long c.requires.marked (omega arith) c.index-shorts-i.is
     (λ there. c.as_slice-net.ensures ∙ get_or_read c.args.nets.now s.net c.index-nets-short.result there c.index-nets-short.is [])
     (λ there. c.as_slice-names.ensures ∙ get_or_read c.args.marks.now s.net c.index-marks-short.result there c.index-marks-short.is []) in
-    let e = first_placed c.args.nets.now c.args.marks.now c.args.shorts.now c.loop-i.i s net row c.args.pieces c.max.result hand c.requires.known c.max.ensures in
+    let e = first_placed c.args.nets.now c.args.marks.now c.args.shorts.now c.loop-i.i s net row c.args.places.now c.max.result hand c.requires.placed c.max.ensures in
     let f = c.as_mut_slice-stamps.ensures.len in
     let g = c.in_ok-ends.ensures.len in
     let h = c.loop-i.invariant.long in
-    omega (arith, c.first_of.ensures)
+    omega (arith, c.first_of.ensures.value)
 
 pub are_branches-requires-clause-first : goal.are_branches-requires-clause-first
 are_branches-requires-clause-first c =
@@ -50,12 +46,12 @@ are_branches-requires-clause-first c =
     in_hand c.args.nets.now c.args.marks.now c.args.shorts.now c.loop-i.i s net row c.requires.long c.requires.marked (omega arith) c.index-shorts-i.is
     (λ there. c.as_slice-net.ensures ∙ get_or_read c.args.nets.now s.net c.index-nets-short.result there c.index-nets-short.is [])
     (λ there. c.as_slice-names.ensures ∙ get_or_read c.args.marks.now s.net c.index-marks-short.result there c.index-marks-short.is []) in
-    let e = first_placed c.args.nets.now c.args.marks.now c.args.shorts.now c.loop-i.i s net row c.args.pieces c.max.result hand c.requires.known c.max.ensures in
+    let e = first_placed c.args.nets.now c.args.marks.now c.args.shorts.now c.loop-i.i s net row c.args.places.now c.max.result hand c.requires.placed c.max.ensures in
     let f = c.as_mut_slice-stamps.ensures.len in
     let g = c.in_ok-ends.ensures.len in
     let h = c.loop-i.invariant.long in
-    let below : c.first_of.result < length c.loop-i.stamps = omega (arith, c.first_of.ensures) in
-    subst (λ (q : ℕ). AreStamped (q ∷ []) (c.loop-i.i + 1) (set c.loop-i.stamps c.first_of.result (c.loop-i.i + 1))) c.first_of.ensures (stamped_first c.loop-i.i (c.loop-i.i + 1) c.loop-i.stamps c.first_of.result (omega arith) below c.loop-i.invariant.highest)
+    let below : c.first_of.result < length c.loop-i.stamps = omega (arith, c.first_of.ensures.value) in
+    subst (λ (q : ℕ). AreStamped (q ∷ []) (c.loop-i.i + 1) (set c.loop-i.stamps c.first_of.result (c.loop-i.i + 1))) c.first_of.ensures.value (stamped_first c.loop-i.i (c.loop-i.i + 1) c.loop-i.stamps c.first_of.result (omega arith) below c.loop-i.invariant.highest)
 
 pub returns-then-not-are_branches : goal.returns-then-not-are_branches
 returns-then-not-are_branches c = λ lines firsts.

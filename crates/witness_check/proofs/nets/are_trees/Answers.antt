@@ -4,7 +4,7 @@ use Rattle.std.proofs.Common.{length, ◌≡◌, ℕ, ◌+◌, ◌≤◌, List, 
 use Rattle.std.proofs.lemmas.List.{get_or_read}
 use Rattle.verdict.specs.declared.verdict.Twig.{Twig}
 use Rattle.verdict.specs.Forest.{first_piece, net_at}
-use Rattle.verdict.proofs.Numbering.{held_within}
+use Rattle.verdict.proofs.Holding.{held_within}
 use Rattle.witness_check.specs.Nets.{IsKnownTree}
 use Rattle.witness_check.proofs.Trees.{AreJudged, judged_more, judged_all, tree_at}
 use Rattle.witness_check.proofs.Told.{refuted, proved, told, denied}

@@ -1,0 +1,81 @@
+// The points of each name, grouped by nets.
+ghost use Rattle.judge.specs.Seated.{AreSeated, with_seat};
+ghost use Rattle.verdict.specs.Seats.{AreFirstSeats, seats_at};
+ghost use Rattle.std.specs.Prelude.{◌≡◌, ◌≢◌, ℕ, ◌<◌, ◌^◌, [], length, All, IfOk, OnOk};
+
+use indexmap::IndexSet;
+use lengths::{NoMemory, Rows};
+use std::alloc::Global;
+use verdict::{PointLine, Seat};
+
+/// For each of so many names its first point on each net, in the order of the points.
+pub fn seats_of(
+    alloc: Global,
+    names: usize,
+    lines: &[PointLine],
+) -> Result<Vec<Rows<Seat>>, NoMemory>
+    requires few { length lines.now < 2 ^ 32 }
+    requires names { All (λ line. line.name < names) lines.now }
+    ensures long { IfOk result (λ groups. length groups.items ≡ names) }
+    ensures seats { IfOk result (λ groups. AreFirstSeats groups.items lines.now) }
+{
+    let mut groups = empty_rows(alloc, names)?;
+    seat_points(alloc, lines, groups.as_mut_slice())?;
+    Ok(groups)
+}
+
+// So many empty lists.
+pub fn empty_rows<T: Drop>(alloc: Global, count: usize) -> Result<Vec<Rows<T>>, NoMemory>
+    ensures long { IfOk result (λ rows. length rows.items ≡ count) }
+    ensures empty { IfOk result (λ rows. All (λ row. row ≡ []) rows.items) }
+{
+    let mut rows = Vec::new(alloc);
+    for _ in 0..count {
+        rows.push(Rows::new(alloc))?;
+    }
+    Ok(rows)
+}
+
+// Gives each point on a net its seat, if it is the first of its name there.
+fn seat_points(
+    alloc: Global,
+    lines: &[PointLine],
+    groups: &mut [Rows<Seat>],
+) -> Result<(), NoMemory>
+    requires few { length lines.now < 2 ^ 32 }
+    requires names { All (λ line. line.name < length groups.old) lines.now }
+    requires empty { All (λ seats. seats ≡ []) groups.old }
+    ensures { OnOk result (AreFirstSeats groups.new lines.now) }
+{
+    let mut pairs = IndexSet::new(alloc);
+    for i in 0..lines.len() {
+        if let Some(net) = lines[i].net {
+            let seat = Seat {
+                net,
+                probe: i as u32,
+            };
+            seat_point(lines[i].name, seat, &mut pairs, groups)?;
+        }
+    }
+    Ok(())
+}
+
+// Gives a point its seat, if no point of its name has one on its net.
+fn seat_point(
+    name: u32,
+    seat: Seat,
+    pairs: &mut IndexSet<(u32, u32)>,
+    groups: &mut [Rows<Seat>],
+) -> Result<(), NoMemory>
+    requires name { name < length groups.old }
+    requires agree { AreSeated pairs.old.keys groups.old }
+    ensures agree { OnOk result (AreSeated pairs.new.keys groups.new) }
+    ensures seats { OnOk result (seats_at groups.new name ≡ with_seat (seats_at groups.old name) seat) }
+    ensures others { OnOk result ((other : ℕ) → other ≢ name → seats_at groups.new other ≡ seats_at groups.old other) }
+{
+    let first = pairs.insert((name, seat.net))?;
+    if first {
+        groups[name as usize].push(seat)?;
+    }
+    Ok(())
+}

@@ -1,6 +1,0 @@
-use Rattle.std.proofs.Common.{length}
-use Rattle.verdict.proofs.Placing.{ArePlaced}
-use Rattle.verdict.proofs.places.place_net.Given as goal
-
-abbrev pub invariant-loop-k : goal.invariant-loop-k
-invariant-loop-k l = ArePlaced l.net (length l.initial.places) l.k l.places

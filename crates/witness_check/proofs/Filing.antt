@@ -1,0 +1,228 @@
+-- Extents of boxes, the stretches of pieces, and where those of two pieces that touch come together.
+use Rattle.std.proofs.Common.{FitsSigned, w64, to_z, of_z, to_z-of_z, unsigned_abs, ◌≡◌, ◌⊎◌, inl, inr, ℕ, ◌+◌, ◌/◌, ◌<◌, ◌≤◌, true, ℤ, pos, ◌+ℤ◌, ◌-ℤ◌, ◌*ℤ◌, ◌≤ℤ◌, List, [], ◌∷◌, ◌++◌, length, get_or, All, Contains, Some, slice_get, refl, sym, ap, subst, ◌∙◌, arith}
+use Rattle.std.proofs.Math.Nat.{div-mul-le_self}
+use Rattle.std.proofs.lemmas.Bool.{cases_eq, eq-eqb}
+use Rattle.std.proofs.lemmas.Int.{ints, clamps}
+use Rattle.std.proofs.lemmas.Nat.{le-div}
+use Rattle.std.proofs.lemmas.List.Elements.{All-get_or, All-push, All-weaker, Contains-append_left, Contains-push}
+use Rattle.std.proofs.lemmas.List.Sorted.{All-permutation, Contains-permutation}
+use Rattle.std.proofs.lemmas.Option.{slice_get-get_or, slice_get_within}
+use Rattle.std.specs.List.Sorted.{IsNonDecreasingBy, IsPermutation}
+use Rattle.planar.proofs.Ring.{times_cancel}
+use Rattle.planar.specs.Plane.{Point, at}
+use Rattle.planar.specs.declared.Frame.{Frame}
+use Rattle.planar.specs.declared.Spot.{Spot}
+use Rattle.contact.proofs.Boxes.{box_holds, overlap_share}
+use Rattle.contact.specs.Solid.{InBox, IsInside, Overlap, SharePoint}
+use Rattle.contact.specs.declared.Bounds.{Bounds}
+use Rattle.board_shapes.specs.Figures.{IsLawfulFigure, figure_box}
+use Rattle.board_shapes.specs.LawfulBoard.{IsLawfulBoard}
+use Rattle.board_shapes.specs.Plain.{PlainBoard, PlainPiece, frame_of}
+use Rattle.board_shapes.specs.Shapes.{boxed, boxed_figure, lawful, not_empty, shape_box}
+use Rattle.board_shapes.specs.Tables.{IsNear}
+use Rattle.board_shapes.specs.Touching.{UnderAt}
+use Rattle.board_shapes.specs.declared.probe.Probe.{Probe}
+use Rattle.board_shapes.specs.declared.shape.Shape.{Shape}
+use Rattle.verdict.proofs.Holding.{le_or_lt}
+use Rattle.witness_check.specs.Strips.{AreFiled, AreStretches, Files, IsAway, IsExtent, IsExtentAt, IsFiled, place_in, stretch_in, strip_of}
+use Rattle.witness_check.specs.declared.strips.Away.{Away}
+use Rattle.witness_check.specs.declared.strips.Extent.{Extent}
+use Rattle.witness_check.specs.declared.strips.Stretch.{Stretch}
+
+-- ---- Extents
+
+chain : (x y z : ℤ) → x ≤ℤ y → y ≤ℤ z → x ≤ℤ z
+chain x y z f g = omega (arith, ints)
+
+-- a box with a point in it
+ordered : (b box : Bounds) (p : Point) → b ≡ box → InBox box p → (b.left ≤ℤ b.right) × (b.low ≤ℤ b.high)
+ordered b box p same inside = subst (λ (x : Bounds). (x.left ≤ℤ x.right) × (x.low ≤ℤ x.high)) (sym same) (
+  times_cancel p.n box.left box.right p.positive (chain (p.n *ℤ box.left) p.x (p.n *ℤ box.right) inside.not_left inside.not_right),
+  times_cancel p.n box.low box.high p.positive (chain (p.n *ℤ box.low) p.y (p.n *ℤ box.high) inside.not_below inside.not_above),
+)
+
+pub box_ordered : (s : Shape) (b : Bounds) → b ≡ shape_box s → (b.left ≤ℤ b.right) × (b.low ≤ℤ b.high)
+box_ordered s b same = let p = not_empty s (lawful s) in ordered b (shape_box s) p.0 same (boxed s p.0 (lawful s) p.1)
+
+-- how far z lies from `from`, as the code takes it
+pub apart_is : (from z : ℤ) (along : ℕ) → FitsSigned w64 from → FitsSigned w64 z → from ≤ℤ z → along ≡ unsigned_abs (to_z w64 (of_z w64 z) -ℤ to_z w64 (of_z w64 from)) → z ≡ from +ℤ pos along
+apart_is from z along f g low is =
+    let plain : along ≡ unsigned_abs (z -ℤ from) = is ∙ rw (to_z-of_z g, to_z-of_z f) refl in
+    omega (arith, ints)
+
+pub extent_is : (frame : Frame) (box : Bounds) (left right low high : ℕ) → IsInside box frame → box.left ≤ℤ box.right → box.low ≤ℤ box.high → box.left ≡ frame.left +ℤ pos left → box.right ≡ frame.left +ℤ pos right → box.low ≡ frame.low +ℤ pos low → box.high ≡ frame.low +ℤ pos high → IsExtent frame box (record { left = left; right = right; low = low; high = high })
+extent_is frame box left right low high ((a, b), (c, d)) across up e f g h = record {
+  left = e;
+  right = f;
+  low = g;
+  high = h;
+  across = omega (arith, ints);
+  up = omega (arith, ints);
+  short = omega (arith, ints);
+  flat = omega (arith, ints);
+}
+
+pub extent_moved : (f f' : Frame) (b b' : Bounds) (e : Extent) → f ≡ f' → b ≡ b' → IsExtent f b e → IsExtent f' b' e
+extent_moved f f' b b' e p q is = subst (λ (x : Frame). IsExtent x b' e) p (subst (λ (x : Bounds). IsExtent f x e) q is)
+
+-- ---- Filing
+
+pub files_none : (e : Extent) (height piece : ℕ) (old : List Stretch) → Files e height piece (strip_of height e.low) old old
+files_none e height piece old = record { kept = λ s h. h; only = λ n all below. all; each = λ k from to. absurd (omega arith) }
+
+pub files_more : (e : Extent) (height piece k : ℕ) (old new : List Stretch) (s : Stretch) → s ≡ stretch_in e height piece k → Files e height piece k old new → Files e height piece (k + 1) old (new ++ s ∷ [])
+files_more e height piece k old new s is files = record {
+  kept = λ x h. Contains-append_left new (s ∷ []) x (files.kept x h);
+  only = λ n all below. All-push (λ (x : Stretch). x.piece < n) new s (files.only n all below) (let same = ap (λ (x : Stretch). x.piece) is in omega arith);
+  each = λ j from to. elim (cases_eq j k) [
+    | inl same ↦ subst (λ (i : ℕ). Contains (new ++ s ∷ []) (stretch_in e height piece i)) (sym same) (subst (λ (x : Stretch). Contains (new ++ s ∷ []) x) is (Contains-push new s))
+    | inr other ↦ Contains-append_left new (s ∷ []) (stretch_in e height piece j) (files.each j from (omega arith))
+  ];
+}
+
+pub filed_more : (b : PlainBoard) (height p : ℕ) (e : Extent) (old new : List Stretch) → AreFiled b height p old → IsExtentAt b p e → Files e height p (strip_of height e.high + 1) old new → AreFiled b height (p + 1) new
+filed_more b height p e old new are is files = record {
+  known = files.only (p + 1) (All-weaker (λ (s : Stretch). s.piece < p) (λ (s : Stretch). s.piece < p + 1) (λ s h. omega arith) old are.known) (omega arith);
+  filed = λ q below. elim (cases_eq q p) [
+    | inl same ↦ subst (λ (i : ℕ). IsFiled b height new i) (sym same) (record { extent = e; is = is; each = λ k from to. files.each k from (omega arith) })
+    | inr other ↦ kept q (are.filed q (omega arith))
+  ];
+}
+  where
+    kept : (q : ℕ) → IsFiled b height old q → IsFiled b height new q
+    kept q f = record { extent = f.extent; is = f.is; each = λ k from to. files.kept (stretch_in f.extent height q k) (f.each k from to) }
+
+pub stretches_sorted : (b : PlainBoard) (height : ℕ) (xs ys : List Stretch) → 0 < height → AreFiled b height (length b.pieces) xs → IsPermutation xs ys → IsNonDecreasingBy (λ (s : Stretch). s.start) ys → AreStretches b height ys
+stretches_sorted b height xs ys some are moved rising = record {
+  some = some;
+  known = All-permutation (λ (s : Stretch). s.piece < length b.pieces) xs ys moved are.known;
+  filed = λ p below. let f = are.filed p below in record { extent = f.extent; is = f.is; each = λ k from to. Contains-permutation xs ys (stretch_in f.extent height p k) moved (f.each k from to) };
+  rising = rising;
+}
+
+pub stretches_same : (b : PlainBoard) (height : ℕ) (xs ys : List Stretch) → xs ≡ ys → AreStretches b height ys → AreStretches b height xs
+stretches_same b height xs ys same are = subst (λ (zs : List Stretch). AreStretches b height zs) (sym same) are
+
+-- ---- Two pieces that touch
+
+-- Stretches of p and q meet in the lowest strip of one of them.
+pub record Comes (xs : List Stretch) (p q : ℕ) : Type 0 where
+  pub one : Stretch
+  pub two : Stretch
+  pub one_in : Contains xs one
+  pub two_in : Contains xs two
+  pub of_one : one.piece ≡ p
+  pub of_two : two.piece ≡ q
+  pub forth : two.start ≤ one.end
+  pub back : one.start ≤ two.end
+  pub lowest : (one.lowest ≡ true) ⊎ (two.lowest ≡ true)
+
+some_one : {A : Type 0} (a b : A) → Some a ≡ Some b → a ≡ b
+some_one a b e = cc
+
+piece_at : (P : PlainPiece → Type 0) (items : List PlainPiece) (p : ℕ) (a : PlainPiece) → All P items → slice_get items p ≡ Some a → P a
+piece_at P items p a all here =
+    let below : p < length items = slice_get_within items p a here in
+    let same : get_or items p a ≡ a = some_one (get_or items p a) a (sym (slice_get-get_or items p a below) ∙ here) in
+    subst P same (All-get_or P items p a below all)
+
+overlap_told : (from low high low' high' : ℤ) (a c a' c' : ℕ) → low ≡ from +ℤ pos a → high ≡ from +ℤ pos c → low' ≡ from +ℤ pos a' → high' ≡ from +ℤ pos c' → Overlap low high low' high' → (a' ≤ c) × (a ≤ c')
+overlap_told from low high low' high' a c a' c' e f g h o = (omega (arith, ints, clamps), omega (arith, ints, clamps))
+
+-- a higher place stands in no lower strip
+pub strips_rise : (height low high : ℕ) → 0 < height → low ≤ high → strip_of height low ≤ strip_of height high
+strips_rise height low high some rise = le-div (low / height) high height some (let below = div-mul-le_self low height in omega arith)
+
+comes_in : (xs : List Stretch) (height p q : ℕ) (e f : Extent) (k : ℕ) → Contains xs (stretch_in e height p k) → Contains xs (stretch_in f height q k) → f.left ≤ e.right → e.left ≤ f.right → (k ≡ strip_of height e.low) ⊎ (k ≡ strip_of height f.low) → Comes xs p q
+comes_in xs height p q e f k here there forth back lowest = record {
+  one = stretch_in e height p k;
+  two = stretch_in f height q k;
+  one_in = here;
+  two_in = there;
+  of_one = refl;
+  of_two = refl;
+  forth = omega arith;
+  back = omega arith;
+  lowest = elim lowest [ inl h ↦ inl (eq-eqb k (strip_of height e.low) h) | inr h ↦ inr (eq-eqb k (strip_of height f.low) h) ];
+}
+
+pub near_comes : (b : PlainBoard) (height p q : ℕ) (xs : List Stretch) → IsLawfulBoard b → 0 < height → IsNear b p q → IsFiled b height xs p → IsFiled b height xs q → Comes xs p q
+near_comes b height p q xs law some near one two =
+    let t = near.1 in
+    let same : t.first ≡ one.is.piece = some_one t.first one.is.piece (sym t.first_is ∙ one.is.is) in
+    let alike : t.second ≡ two.is.piece = some_one t.second two.is.piece (sym t.second_is ∙ two.is.is) in
+    let share : SharePoint (InBox (figure_box t.first.figure)) (InBox (figure_box t.second.figure)) = record {
+      point = t.touch.1.point;
+      in_first = boxed_figure t.first.figure t.touch.1.point (piece_at (λ x. IsLawfulFigure x.figure) b.pieces p t.first law.figures t.first_is) t.touch.1.in_first;
+      in_second = boxed_figure t.second.figure t.touch.1.point (piece_at (λ x. IsLawfulFigure x.figure) b.pieces q t.second law.figures t.second_is) t.touch.1.in_second;
+    } in
+    let o = (overlap_share (figure_box t.first.figure) (figure_box t.second.figure)).0 share in
+    let e : IsExtent (frame_of b) (figure_box t.first.figure) one.extent = subst (λ (x : PlainPiece). IsExtent (frame_of b) (figure_box x.figure) one.extent) (sym same) one.is.sides in
+    let f : IsExtent (frame_of b) (figure_box t.second.figure) two.extent = subst (λ (x : PlainPiece). IsExtent (frame_of b) (figure_box x.figure) two.extent) (sym alike) two.is.sides in
+    let across = overlap_told (frame_of b).left (figure_box t.first.figure).left (figure_box t.first.figure).right (figure_box t.second.figure).left (figure_box t.second.figure).right one.extent.left one.extent.right two.extent.left two.extent.right e.left e.right f.left f.right o.0 in
+    let up = overlap_told (frame_of b).low (figure_box t.first.figure).low (figure_box t.first.figure).high (figure_box t.second.figure).low (figure_box t.second.figure).high one.extent.low one.extent.high two.extent.low two.extent.high e.low e.high f.low f.high o.1 in
+    let own = strips_rise height one.extent.low one.extent.high some e.up in
+    let other = strips_rise height two.extent.low two.extent.high some f.up in
+    let forth = strips_rise height two.extent.low one.extent.high some up.0 in
+    let back = strips_rise height one.extent.low two.extent.high some up.1 in
+    elim (le_or_lt (strip_of height one.extent.low) (strip_of height two.extent.low)) [
+      | inl le ↦ comes_in xs height p q one.extent two.extent (strip_of height two.extent.low) (one.each (strip_of height two.extent.low) le forth) (two.each (strip_of height two.extent.low) (omega arith) other) across.0 across.1 (inr refl)
+      | inr less ↦ comes_in xs height p q one.extent two.extent (strip_of height one.extent.low) (one.each (strip_of height one.extent.low) (omega arith) own) (two.each (strip_of height one.extent.low) (omega arith) back) across.0 across.1 (inl refl)
+    ]
+
+-- ---- A piece under a probe
+
+-- A stretch of piece p starts from the floor on and has the place.
+pub record HasPlace (xs : List Stretch) (floor place p : ℕ) : Type 0 where
+  pub stretch : Stretch
+  pub listed : Contains xs stretch
+  pub of_it : stretch.piece ≡ p
+  pub above : floor ≤ stretch.start
+  pub starts : stretch.start ≤ place
+  pub ends : place ≤ stretch.end
+
+-- where a place z between the ends of a box's side stands
+place_told : (from low high z : ℤ) (a c along : ℕ) → low ≡ from +ℤ pos a → high ≡ from +ℤ pos c → (low ≤ℤ z) × (z ≤ℤ high) → (from ≤ℤ z → z ≡ from +ℤ pos along) → (a ≤ along) × (along ≤ c)
+place_told from low high z a c along e h (l, r) is =
+    let at_z : z ≡ from +ℤ pos along = is (omega (arith, ints)) in
+    (omega (arith, ints), omega (arith, ints))
+
+-- A spot in a box stands within its extent.
+pub record StandsWithin (e : Extent) (a : Away) : Type 0 where
+  pub not_left : e.left ≤ a.along
+  pub not_right : a.along ≤ e.right
+  pub not_below : e.low ≤ a.up
+  pub not_above : a.up ≤ e.high
+  pub along : a.along ≤ 3000000000
+  pub up : a.up ≤ 3000000000
+
+probe_spot : (probes own : List Probe) (k : ℕ) (d probe : Probe) → probes ≡ own → k < length own → slice_get own k ≡ Some probe → probe.at ≡ (get_or probes k d).at
+probe_spot probes own k d probe same below is =
+    let one : get_or own k d ≡ probe = some_one (get_or own k d) probe (sym (slice_get-get_or own k d below) ∙ is) in
+    ap (λ (x : Probe). x.at) (sym one ∙ ap (λ (xs : List Probe). get_or xs k d) (sym same))
+
+pub under_within : (b : PlainBoard) (height k p : ℕ) (xs : List Stretch) (probes : List Probe) (d : Probe) (frame : Frame) (a : Away) → IsLawfulBoard b → 0 < height → (one : IsFiled b height xs p) → frame ≡ frame_of b → probes ≡ b.probes → k < length b.probes → IsAway frame (get_or probes k d).at a → UnderAt b k p → StandsWithin one.extent a
+under_within b height k p xs probes d frame a law some one corner same_probes below away u =
+    let same : u.piece ≡ one.is.piece = some_one u.piece one.is.piece (sym u.piece_is ∙ one.is.is) in
+    let inside : InBox (figure_box u.piece.figure) (at u.probe.at) = boxed_figure u.piece.figure (at u.probe.at) (piece_at (λ x. IsLawfulFigure x.figure) b.pieces p u.piece law.figures u.piece_is) u.under.1 in
+    let held : InBox (figure_box u.piece.figure) (at (get_or probes k d).at) = subst (λ (s : Spot). InBox (figure_box u.piece.figure) (at s)) (probe_spot probes b.probes k d u.probe same_probes below u.probe_is) inside in
+    let e : IsExtent frame (figure_box u.piece.figure) one.extent = subst (λ (f : Frame). IsExtent f (figure_box u.piece.figure) one.extent) (sym corner) (subst (λ (x : PlainPiece). IsExtent (frame_of b) (figure_box x.figure) one.extent) (sym same) one.is.sides) in
+    let between = (box_holds (figure_box u.piece.figure) (get_or probes k d).at).0 held in
+    let x = place_told frame.left (figure_box u.piece.figure).left (figure_box u.piece.figure).right (get_or probes k d).at.x one.extent.left one.extent.right a.along e.left e.right between.0 away.along in
+    let y = place_told frame.low (figure_box u.piece.figure).low (figure_box u.piece.figure).high (get_or probes k d).at.y one.extent.low one.extent.high a.up e.low e.high between.1 away.up in
+    let short = e.short in
+    let flat = e.flat in
+    record { not_left = x.0; not_right = x.1; not_below = y.0; not_above = y.1; along = omega arith; up = omega arith }
+
+pub has_place : (b : PlainBoard) (height p : ℕ) (xs : List Stretch) (a : Away) → 0 < height → (one : IsFiled b height xs p) → StandsWithin one.extent a → HasPlace xs (place_in (strip_of height a.up) 0) (place_in (strip_of height a.up) a.along) p
+has_place b height p xs a some one within =
+    let l = within.not_left in
+    let r = within.not_right in
+    record {
+      stretch = stretch_in one.extent height p (strip_of height a.up);
+      listed = one.each (strip_of height a.up) (strips_rise height one.extent.low a.up some within.not_below) (strips_rise height a.up one.extent.high some within.not_above);
+      of_it = refl;
+      above = omega arith;
+      starts = omega arith;
+      ends = omega arith;
+    }

@@ -1,0 +1,119 @@
+-- What a sweep over sorted stretches tells: that nets stand apart, and the least piece under a probe.
+use Rattle.std.proofs.Common.{◌≡◌, ◌⊎◌, inl, inr, ℕ, ◌+◌, ◌<◌, ◌≤◌, List, length, get_or, All, Option, None, Some, IfSome, sym, ap, subst, ◌∙◌, arith}
+use Rattle.std.proofs.lemmas.Bool.{cases_eq}
+use Rattle.std.proofs.lemmas.List.{get_or_default}
+use Rattle.std.proofs.lemmas.List.Elements.{All-get_or}
+use Rattle.std.specs.List.Sorted.{IsNonDecreasingBy}
+use Rattle.tables.specs.Lists.{IsLeast}
+use Rattle.verdict.specs.declared.verdict.Twig.{Twig}
+use Rattle.verdict.specs.Forest.{StandOnce, StandApart, Holds}
+use Rattle.verdict.proofs.Holding.{le_or_lt}
+use Rattle.witness_check.specs.Strips.{AreAgreed, ComeTogether, IsAtMost, IsClear, IsCounted}
+use Rattle.witness_check.specs.declared.strips.Stretch.{Stretch}
+use Rattle.witness_check.proofs.Filing.{Comes, HasPlace}
+
+-- ---- Nets apart
+
+-- where nets stand apart, each stretch agrees with each later one
+pub apart_clear : (near : ℕ → ℕ → Type 0) (count : ℕ) (nets : List (List Twig)) (numbers : List ℕ) (xs : List Stretch) → StandOnce count nets → ((i p : ℕ) → Holds nets i p → get_or numbers p 0 ≡ i) → StandApart near nets → All (λ (s : Stretch). s.piece < count) xs → (i : ℕ) → IsClear near numbers xs i
+apart_clear near count nets numbers xs once numbered apart known i j d less below come touches =
+    let here = once.held (get_or xs i d).piece (All-get_or (λ (s : Stretch). s.piece < count) xs i d (omega arith) known) in
+    let there = once.held (get_or xs j d).piece (All-get_or (λ (s : Stretch). s.piece < count) xs j d below known) in
+    numbered here.0 (get_or xs i d).piece here.1 ∙ (apart here.0 there.0 (get_or xs i d).piece (get_or xs j d).piece here.1 there.1 touches ∙ sym (numbered there.0 (get_or xs j d).piece there.1))
+
+-- the later of two stretches starts no earlier
+agreed : (near : ℕ → ℕ → Type 0) (numbers : List ℕ) (one two : Stretch) (p q : ℕ) → one.piece ≡ p → two.piece ≡ q → AreAgreed near numbers one two → ComeTogether one two → near p q → get_or numbers p 0 ≡ get_or numbers q 0
+agreed near numbers one two p q e f agree come touches =
+    let h : near one.piece two.piece = subst (λ (x : ℕ). near x two.piece) (sym e) (subst (λ (x : ℕ). near p x) (sym f) touches) in
+    ap (λ (x : ℕ). get_or numbers x 0) (sym e) ∙ (agree come h ∙ ap (λ (x : ℕ). get_or numbers x 0) f)
+
+flip : {A B : Type 0} → A ⊎ B → B ⊎ A
+flip (inl a) = inr a
+flip (inr b) = inl b
+
+-- pieces that come together and touch are of one net
+pub one_net : (near : ℕ → ℕ → Type 0) (numbers : List ℕ) (xs : List Stretch) (p q : ℕ) → ((p q : ℕ) → near p q → near q p) → ((i : ℕ) → i < length xs → IsClear near numbers xs i) → Comes xs p q → (p ≡ q → ⊥) → near p q → get_or numbers p 0 ≡ get_or numbers q 0
+one_net near numbers xs p q both clear comes other touches =
+    let one = comes.one in
+    let two = comes.two in
+    let (i, i_in, i_is) = comes.one_in in
+    let (j, j_in, j_is) = comes.two_in in
+    elim (cases_eq i j) [
+      | inl same ↦ absurd (other (sym comes.of_one ∙ (ap (λ (s : Stretch). s.piece) (meets i j i_in j_in i_is j_is same) ∙ comes.of_two)))
+      | inr differ ↦ elim (le_or_lt i j) [
+        | inl le ↦ agreed near numbers one two p q comes.of_one comes.of_two (placed i j one two i_in j_in i_is j_is (clear i i_in j one (omega arith) j_in)) (record { meet = comes.forth; lowest = comes.lowest }) touches
+        | inr less ↦ sym (agreed near numbers two one q p comes.of_two comes.of_one (placed j i two one j_in i_in j_is i_is (clear j j_in i two less i_in)) (record { meet = comes.back; lowest = flip comes.lowest }) (both p q touches))
+      ]
+    ]
+  where
+    placed : (i j : ℕ) (one two : Stretch) → i < length xs → j < length xs → get_or xs i one ≡ one → get_or xs j two ≡ two → AreAgreed near numbers (get_or xs i one) (get_or xs j one) → AreAgreed near numbers one two
+    placed i j one two a b e f g = subst (λ (x : Stretch). AreAgreed near numbers x two) e (subst (λ (x : Stretch). AreAgreed near numbers (get_or xs i one) x) (get_or_default xs j one two b ∙ f) g)
+
+    meets : (i j : ℕ) → i < length xs → j < length xs → get_or xs i comes.one ≡ comes.one → get_or xs j comes.two ≡ comes.two → i ≡ j → comes.one ≡ comes.two
+    meets i j a b e f same = sym e ∙ (ap (λ (x : ℕ). get_or xs x comes.one) same ∙ (get_or_default xs j comes.one comes.two b ∙ f))
+
+pub all_apart : (near : ℕ → ℕ → Type 0) (count : ℕ) (nets : List (List Twig)) (numbers : List ℕ) → StandOnce count nets → ((i p : ℕ) → Holds nets i p → p < count) → ((i p : ℕ) → Holds nets i p → get_or numbers p 0 ≡ i) → ((p q : ℕ) → p < count → q < count → (p ≡ q → ⊥) → near p q → get_or numbers p 0 ≡ get_or numbers q 0) → StandApart near nets
+all_apart near count nets numbers once known numbered one i j p q h k touches = elim (cases_eq p q) [
+  | inl same ↦ once.one_net i j q (subst (λ (x : ℕ). Holds nets i x) same h) k
+  | inr other ↦ sym (numbered i p h) ∙ (one p q (known i p h) (known j q k) other touches ∙ numbered j q k)
+]
+
+-- what two stretches read say of them at any default
+pub agreed_at : (near : ℕ → ℕ → Type 0) (numbers : List ℕ) (xs : List Stretch) (i j : ℕ) (d e f : Stretch) → i < length xs → j < length xs → AreAgreed near numbers (get_or xs i e) (get_or xs j f) → AreAgreed near numbers (get_or xs i d) (get_or xs j d)
+agreed_at near numbers xs i j d e f here there agree = subst (λ (x : Stretch). AreAgreed near numbers x (get_or xs j d)) (get_or_default xs i e d here) (subst (λ (x : Stretch). AreAgreed near numbers (get_or xs i e) x) (get_or_default xs j f d there) agree)
+
+-- past a stretch that starts beyond the end none comes together
+pub past_end : (near : ℕ → ℕ → Type 0) (numbers : List ℕ) (xs : List Stretch) (i j : ℕ) (e f : Stretch) → IsNonDecreasingBy (λ (s : Stretch). s.start) xs → i < length xs → j < length xs → (get_or xs i e).end < (get_or xs j f).start
+    → ((k : ℕ) (d : Stretch) → i < k → k < j → AreAgreed near numbers (get_or xs i d) (get_or xs k d)) → IsClear near numbers xs i
+past_end near numbers xs i j e f rising here there past before k d less below = elim (le_or_lt j k) [
+  | inl le ↦ λ come touches. absurd (far k d le below come.meet)
+  | inr sooner ↦ before k d less sooner
+]
+  where
+    far : (k : ℕ) (d : Stretch) → j ≤ k → k < length xs → (get_or xs k d).start ≤ (get_or xs i d).end → ⊥
+    far k d le below meet =
+        let up = rising j k d le below in
+        let at_j : (get_or xs j d).start ≡ (get_or xs j f).start = ap (λ (s : Stretch). s.start) (get_or_default xs j d f there) in
+        let at_i : (get_or xs i d).end ≡ (get_or xs i e).end = ap (λ (s : Stretch). s.end) (get_or_default xs i d e here) in
+        omega arith
+
+-- ---- The least piece
+
+pub least_found : (P : ℕ → Type 0) (found : Option ℕ) → IfSome found P → ((q : ℕ) → P q → IsAtMost found q) → IsLeast P found
+least_found P None under all = all
+least_found P (Some least) under all = (under, all)
+
+-- The stretches below n that start from the floor on are counted.
+abbrev pub AreCounted : (ℕ → Type 0) → ℕ → ℕ → Option ℕ → List Stretch → ℕ → Type 0
+AreCounted P floor place found xs n = (i : ℕ) (d : Stretch) → i < n → floor ≤ (get_or xs i d).start → IsCounted P place found (get_or xs i d)
+
+pub counted_more : (P : ℕ → Type 0) (floor place : ℕ) (found next : Option ℕ) (xs : List Stretch) (n : ℕ) (e : Stretch) → n < length xs → ((p : ℕ) → IsAtMost found p → IsAtMost next p) → AreCounted P floor place found xs n → IsCounted P place next (get_or xs n e) → AreCounted P floor place next xs (n + 1)
+counted_more P floor place found next xs n e there kept are one i d below above = elim (cases_eq i n) [
+  | inl same ↦ subst (λ (k : ℕ). IsCounted P place next (get_or xs k d)) (sym same) (subst (IsCounted P place next) (get_or_default xs n e d there) one)
+  | inr other ↦ λ ends under. kept (get_or xs i d).piece (are i d (omega arith) above ends under)
+]
+
+-- past a stretch that starts beyond the place none has it
+pub counted_all : (P : ℕ → Type 0) (floor place : ℕ) (found : Option ℕ) (xs : List Stretch) (n : ℕ) (e : Stretch) → IsNonDecreasingBy (λ (s : Stretch). s.start) xs → n < length xs → place < (get_or xs n e).start → AreCounted P floor place found xs n
+    → (i : ℕ) (d : Stretch) → i < length xs → floor ≤ (get_or xs i d).start → (get_or xs i d).start ≤ place → IsCounted P place found (get_or xs i d)
+counted_all P floor place found xs n e rising there past are i d below above starts = elim (le_or_lt n i) [
+  | inl le ↦ absurd (far le)
+  | inr sooner ↦ are i d sooner above
+]
+  where
+    far : n ≤ i → ⊥
+    far le =
+        let up = rising n i d le below in
+        let at_n : (get_or xs n d).start ≡ (get_or xs n e).start = ap (λ (s : Stretch). s.start) (get_or_default xs n d e there) in
+        omega arith
+
+-- a piece that has the place in a stretch is counted
+pub place_counted : (P : ℕ → Type 0) (floor place : ℕ) (found : Option ℕ) (xs : List Stretch) (q : ℕ) → ((i : ℕ) (d : Stretch) → i < length xs → floor ≤ (get_or xs i d).start → (get_or xs i d).start ≤ place → IsCounted P place found (get_or xs i d)) → HasPlace xs floor place q → P q → IsAtMost found q
+place_counted P floor place found xs q counted has pass =
+    let (i, below, is) = has.listed in
+    let s = has.stretch in
+    let all : floor ≤ has.stretch.start → has.stretch.start ≤ place → IsCounted P place found has.stretch = subst (λ (x : Stretch). floor ≤ x.start → x.start ≤ place → IsCounted P place found x) is (counted i has.stretch below) in
+    subst (IsAtMost found) has.of_it (all has.above has.starts has.ends (subst P (sym has.of_it) pass))
+
+pub moved_place : (xs ys : List Stretch) (floor floor' place place' p : ℕ) → ys ≡ xs → floor' ≡ floor → place' ≡ place → HasPlace xs floor place p → HasPlace ys floor' place' p
+moved_place xs ys floor floor' place place' p e f g has = subst (λ (zs : List Stretch). HasPlace zs floor' place' p) (sym e) (subst (λ (n : ℕ). HasPlace xs n place' p) (sym f) (subst (λ (n : ℕ). HasPlace xs floor n p) (sym g) has))

@@ -1,0 +1,149 @@
+// The first point of each name on each net, and the names on each net, found by the audit's own way: rows of all points,
+// thinned with one stamp a name.
+ghost use Rattle.std.specs.Prelude.{◌≡◌, ◌≢◌, ℕ, ◌+◌, ◌<◌, ◌^◌, ◌++◌, [], ◌∷◌, length, All, IfOk, IfSome, OnOk};
+ghost use Rattle.verdict.specs.Right.{fresh, seats_from};
+ghost use Rattle.verdict.specs.Seats.{AreFirstSeats, marks_at, marks_from, marks_of_seats, seats_at};
+ghost use Rattle.witness_check.specs.Marked.{AreUpTo};
+ghost use Rattle.witness_check.specs.Seated.{AreAllSeats};
+
+use lengths::{NoMemory, Rows};
+use std::alloc::Global;
+use verdict::{Mark, PointLine, Seat};
+
+/// What the points say of names and nets.
+#[derive(Drop)]
+pub struct Groups {
+    /// For each name its first point on each net, in the order of the points.
+    pub seats: Vec<Rows<Seat>>,
+    /// For each net the names with a point on it, rising, and the first point of each.
+    pub marks: Vec<Rows<Mark>>,
+}
+
+/// The points grouped for so many names and nets.
+pub fn groups_of(
+    alloc: Global,
+    names: usize,
+    nets: usize,
+    lines: &[PointLine],
+) -> Result<Groups, NoMemory>
+    requires few { length lines.now < 2 ^ 32 }
+    requires few_names { names < 2 ^ 32 }
+    requires names { All (λ line. line.name < names) lines.now }
+    requires netted { All (λ line. IfSome line.net (λ net. net < nets)) lines.now }
+    ensures long { IfOk result (λ groups. length groups.seats.items ≡ names) }
+    ensures seats { IfOk result (λ groups. AreFirstSeats groups.seats.items lines.now) }
+    ensures wide { IfOk result (λ groups. length groups.marks.items ≡ nets) }
+    ensures marks { IfOk result (λ groups. (net : ℕ) → net < nets → marks_at groups.marks.items net ≡ marks_from net 0 groups.seats.items) }
+{
+    let all = all_seats(alloc, names, lines)?;
+    let mut marks = empty_rows(alloc, nets)?;
+    let seats = first_seats(alloc, all.as_slice(), lines, marks.as_mut_slice())?;
+    Ok(Groups { seats, marks })
+}
+
+// For each name its first seat on each net, of all its seats. Each leaves a mark on its net.
+fn first_seats(
+    alloc: Global,
+    rows: &[Rows<Seat>],
+    lines: &[PointLine],
+    marks: &mut [Rows<Mark>],
+) -> Result<Vec<Rows<Seat>>, NoMemory>
+    requires few { length rows.now < 2 ^ 32 }
+    requires all { AreAllSeats rows.now lines.now }
+    requires netted { All (λ line. IfSome line.net (λ net. net < length marks.old)) lines.now }
+    requires empty { All (λ row. row ≡ []) marks.old }
+    ensures long { IfOk result (λ groups. length groups.items ≡ length rows.now) }
+    ensures seats { IfOk result (λ groups. AreFirstSeats groups.items lines.now) }
+    ensures marks { IfOk result (λ groups. (net : ℕ) → marks_at marks.new net ≡ marks_from net 0 groups.items) }
+{
+    let mut table = vec![in alloc; 0; marks.len()]?;
+    let stamps = table.as_mut_slice();
+    let mut groups = Vec::new(alloc);
+    for name in 0..rows.len() {
+        groups.push(firsts(alloc, name as u32, rows[name].as_slice(), stamps, marks)?)?;
+    }
+    Ok(groups)
+}
+
+// For each of so many names all its points on nets, in their order.
+fn all_seats(alloc: Global, names: usize, lines: &[PointLine]) -> Result<Vec<Rows<Seat>>, NoMemory>
+    requires few { length lines.now < 2 ^ 32 }
+    requires names { All (λ line. line.name < names) lines.now }
+    ensures long { IfOk result (λ rows. length rows.items ≡ names) }
+    ensures seats { IfOk result (λ rows. AreAllSeats rows.items lines.now) }
+{
+    let mut table = empty_rows(alloc, names)?;
+    seat_all(lines, table.as_mut_slice())?;
+    Ok(table)
+}
+
+// So many empty lists.
+fn empty_rows<T: Drop>(alloc: Global, count: usize) -> Result<Vec<Rows<T>>, NoMemory>
+    ensures long { IfOk result (λ rows. length rows.items ≡ count) }
+    ensures empty { IfOk result (λ rows. All (λ row. row ≡ []) rows.items) }
+{
+    let mut rows = Vec::new(alloc);
+    for _ in 0..count {
+        rows.push(Rows::new(alloc))?;
+    }
+    Ok(rows)
+}
+
+// Gives each point on a net its seat.
+fn seat_all(lines: &[PointLine], rows: &mut [Rows<Seat>]) -> Result<(), NoMemory>
+    requires few { length lines.now < 2 ^ 32 }
+    requires names { All (λ line. line.name < length rows.old) lines.now }
+    requires empty { All (λ row. row ≡ []) rows.old }
+    ensures { OnOk result (AreAllSeats rows.new lines.now) }
+{
+    for i in 0..lines.len() {
+        if let Some(net) = lines[i].net {
+            let seat = Seat {
+                net,
+                probe: i as u32,
+            };
+            seat_one(lines[i].name, seat, rows)?;
+        }
+    }
+    Ok(())
+}
+
+// Gives a point its seat, behind those of its name.
+fn seat_one(name: u32, seat: Seat, rows: &mut [Rows<Seat>]) -> Result<(), NoMemory>
+    requires { name < length rows.old }
+    ensures long { OnOk result (length rows.new ≡ length rows.old) }
+    ensures seats { OnOk result (seats_at rows.new name ≡ seats_at rows.old name ++ seat ∷ []) }
+    ensures others { OnOk result ((other : ℕ) → other ≢ name → seats_at rows.new other ≡ seats_at rows.old other) }
+{
+    rows[name as usize].push(seat)
+}
+
+// The first seat of a name on each net. Their nets get a stamp, the number after the name's, and a mark of the name.
+fn firsts(
+    alloc: Global,
+    name: u32,
+    seats: &[Seat],
+    stamps: &mut [usize],
+    marks: &mut [Rows<Mark>],
+) -> Result<Rows<Seat>, NoMemory>
+    requires nets { All (λ s. s.net < length stamps.old) seats.now }
+    requires room { length stamps.old ≡ length marks.old }
+    requires lower { AreUpTo name stamps.old }
+    ensures firsts { IfOk result (λ row. row ≡ fresh [] seats.now) }
+    ensures marks { IfOk result (λ row. (net : ℕ) → marks_at marks.new net ≡ marks_at marks.old net ++ marks_of_seats name net row) }
+    ensures highest { AreUpTo (name + 1) stamps.new }
+{
+    let stamp = name as usize + 1;
+    let mut row = Rows::new(alloc);
+    for i in 0..seats.len() {
+        let seat = seats[i];
+        let net = seat.net as usize;
+        if stamps[net] != stamp {
+            stamps[net] = stamp;
+            let probe = seat.probe;
+            marks[net].push(Mark { name, probe })?;
+            row.push(seat)?;
+        }
+    }
+    Ok(row)
+}
