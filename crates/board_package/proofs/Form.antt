@@ -1,10 +1,9 @@
 -- The form of a manifest.
-use Rattle.std.proofs.Common.{◌≡◌, ℕ, nat_eq, nat_le, ◌+◌, ◌<◌, ◌≤◌, Bool, true, false, cond, ◌&&◌, not, List, length, Option, Some, None, codes, option_map, refl, sym, ap, subst, ◌∙◌}
-use Rattle.std.proofs.lemmas.Bool.{le-leb, lt-leb}
+use Rattle.std.proofs.Common.{◌≡◌, ℕ, nat_le, ◌≤◌, Bool, true, false, cond, ◌&&◌, List, length, Option, Some, None, codes, option_map, refl, ◌∙◌}
+use Rattle.std.proofs.lemmas.Bool.{le-leb}
 use Rattle.serde_json.specs.Data.{Data}
-use Rattle.board_package.specs.Manifest.{has_members, list_at, name_at, number_at, manifest_of, manifest_from, files_of, drill_entry, drill_from, Misses}
+use Rattle.board_package.specs.Manifest.{has_members, list_at, name_at, manifest_of, manifest_from, files_of, drill_entry, Misses}
 use Rattle.board_package.specs.declared.entry.Entry.{Entry}
-use Rattle.board_package.specs.declared.manifest.Manifest.{Manifest}
 use Rattle.board_package.specs.declared.manifest.ManifestFault.{ManifestFault}
 use Rattle.board_package.specs.declared.manifest.ManifestFault.TheVariants.{NotJson, BadManifest, NoMemory}
 

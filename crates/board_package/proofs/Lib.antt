@@ -1,5 +1,6 @@
 pub mod Entries
 pub mod Form
+pub mod Halting
 pub mod Lift
 pub mod Listed
 pub mod Names

@@ -1,9 +1,9 @@
 -- Causes, carried from one stage to the next.
-use Rattle.std.proofs.Common.{◌≡◌, ◌⊎◌, inl, inr, ℕ, ◌+◌, ◌-◌, ◌^◌, ◌≤◌, min, List, Option, Some, None, IfSome, refl, sym, subst, arith}
+use Rattle.std.proofs.Common.{inl, inr, ℕ, ◌≤◌, List, Option, Some, None, IfSome, Result, Ok, Err, IfErr, OnOk, sym, ◌∙◌, subst, arith}
 use Rattle.board_io.specs.Causes.{Rose}
-use Rattle.board_io.specs.Package.{Files}
+use Rattle.board_io.specs.Package.{Files, IsFaultless}
 use Rattle.board_shapes.specs.Plain.{PlainBoard}
-use Rattle.board_package.specs.Causes.{HasCause, IsUnread, HasRefusal, IsFrameFault}
+use Rattle.board_package.specs.Causes.{HasCause, HasRefusal, IsFrameFault, KeepsFaults}
 use Rattle.board_package.specs.PackageBoard.{Stop, longer, not_json, bad_manifest, refused, frame_too_large, StopsAtFrame}
 use Rattle.board_package.specs.declared.fault.BuildFault.{BuildFault}
 use Rattle.board_package.specs.declared.fault.BuildFault.TheVariants as fault
@@ -73,3 +73,40 @@ frame_cause held S C before now lost board (fault.Netlist name kind line) h e = 
 frame_cause held S C before now lost board (fault.FrameTooLarge box) h e =
     told_of held (λ files. (stop : Stop) → StopsAtFrame board stop → S files stop) (λ files. S files (frame_too_large box)) (λ files k. k (frame_too_large box) e) h
 frame_cause held S C before now lost board fault.NoMemory h e = absurd e
+
+-- ---- What a package leaves
+
+pub faultless_both : (a : ℕ) (l : List ℕ) (b : ℕ) (m : List ℕ) (c : ℕ) (n : List ℕ) → IsFaultless a l b m → IsFaultless b m c n → IsFaultless a l c n
+faultless_both a l b m c n h k = record { count_stays = k.count_stays ∙ h.count_stays; lost_stays = k.lost_stays ∙ h.lost_stays }
+
+-- where nothing changed, nothing did whatever the fault
+pub kept : (a : ℕ) (l : List ℕ) (b : ℕ) (m : List ℕ) (why : BuildFault) → IsFaultless a l b m → KeepsFaults a l b m why
+kept a l b m fault.NotJson h = h
+kept a l b m fault.BadManifest h = h
+kept a l b m (fault.Longer name) h = h
+kept a l b m (fault.CannotRead name) h = tt
+kept a l b m (fault.Layer name kind command at) h = h
+kept a l b m (fault.Drill name kind line at) h = h
+kept a l b m (fault.Netlist name kind line) h = h
+kept a l b m (fault.FrameTooLarge box) h = h
+kept a l b m fault.NoMemory h = tt
+
+-- nothing changed before, and then nothing but by such a fault
+pub kept_after : (a : ℕ) (l : List ℕ) (b : ℕ) (m : List ℕ) (c : ℕ) (n : List ℕ) (why : BuildFault) → IsFaultless a l b m → KeepsFaults b m c n why → KeepsFaults a l c n why
+kept_after a l b m c n fault.NotJson h k = faultless_both a l b m c n h k
+kept_after a l b m c n fault.BadManifest h k = faultless_both a l b m c n h k
+kept_after a l b m c n (fault.Longer name) h k = faultless_both a l b m c n h k
+kept_after a l b m c n (fault.CannotRead name) h k = tt
+kept_after a l b m c n (fault.Layer name kind command at) h k = faultless_both a l b m c n h k
+kept_after a l b m c n (fault.Drill name kind line at) h k = faultless_both a l b m c n h k
+kept_after a l b m c n (fault.Netlist name kind line) h k = faultless_both a l b m c n h k
+kept_after a l b m c n (fault.FrameTooLarge box) h k = faultless_both a l b m c n h k
+kept_after a l b m c n fault.NoMemory h k = tt
+
+pub kept_err : {B : Type 0} (r : Result B BuildFault) (a : ℕ) (l : List ℕ) (b : ℕ) (m : List ℕ) → IsFaultless a l b m → IfErr r (KeepsFaults a l b m)
+kept_err (Ok x) a l b m h = tt
+kept_err (Err why) a l b m h = kept a l b m why h
+
+pub faultless_ok : {B : Type 0} (r : Result B BuildFault) (a : ℕ) (l : List ℕ) (b : ℕ) (m : List ℕ) → IsFaultless a l b m → OnOk r (IsFaultless a l b m)
+faultless_ok (Ok x) a l b m h = h
+faultless_ok (Err why) a l b m h = tt

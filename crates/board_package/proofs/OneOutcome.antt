@@ -1,18 +1,18 @@
 -- A package has one outcome.
-use Rattle.std.proofs.Common.{◌≡◌, ◌⊎◌, inl, inr, ℕ, ◌<◌, ◌≤◌, List, [], ◌∷◌, length, Option, Some, None, IsSomeAnd, refl, sym, ap, subst, ◌∙◌, arith}
+use Rattle.std.proofs.Common.{◌≡◌, ◌⊎◌, inl, inr, ℕ, ◌<◌, List, [], ◌∷◌, length, Option, Some, None, IsSomeAnd, refl, sym, ap, subst, ◌∙◌, arith}
 use Rattle.board_io.specs.Package.{Files}
-use Rattle.board_shapes.specs.Plain.{PlainBoard, PlainPiece, common_box, FitsFrame, Fits}
-use Rattle.board_shapes.specs.declared.probe.Probe.{Probe}
+use Rattle.board_shapes.specs.Plain.{PlainBoard, common_box, Fits}
 use Rattle.contact.specs.declared.Bounds.{Bounds}
 use Rattle.gerber_layer.specs.Table.{Place as LayerPlace}
 use Rattle.gerber_layer.specs.Layer as layer_file
 use Rattle.xnc.specs.Place.{Place as DrillPlace}
 use Rattle.xnc.specs.DrillFile as drill_file
 use Rattle.ipc356_records.specs.NetlistFile as netlist_file
+use Rattle.ipc356_records.specs.NetlistFile.{Netlist}
 use Rattle.serde_json.specs.Data.{Data}
 use Rattle.board_package.specs.Laws.{HasOneOutcome}
 use Rattle.board_package.specs.Manifest.{IsManifest, IsNotJson, IsOther, IsValueOf, manifest_of}
-use Rattle.board_package.specs.PackageBoard.{Stop, absent, longer, not_json, bad_manifest, refused, frame_too_large, IsHeld, IsHeldWith, Goes, IsRefusedFor, StopsAt, StopsTaking, StopsAtManifest, StopsAtFrame, StopsAmong, IsManifestFile, IsBoardOf, IsFirstStop, IsFrameStop, IsLaterStop, Walks, AtOne, most_bytes}
+use Rattle.board_package.specs.PackageBoard.{Stop, absent, longer, not_json, bad_manifest, refused, frame_too_large, IsHeld, IsHeldWith, Goes, IsRefusedFor, StopsAt, StopsAtManifest, StopsAtFrame, StopsAmong, IsManifestFile, IsBoardOf, IsFirstStop, IsFrameStop, Walks, most_bytes}
 use Rattle.board_package.specs.Parts.{with_pieces, with_netlist, empty_board}
 use Rattle.board_package.specs.Reading.{Reads, Refuses, layer_place, drill_place}
 use Rattle.board_package.specs.declared.entry.Entry.{Entry}
@@ -32,14 +32,12 @@ pub record HaveAnswers : Type 0 where
 
 reads_one : HaveAnswers → (r : Role) (n : ℕ) (bytes : List ℕ) (before x y : PlainBoard) → Reads r n bytes before x → Reads r n bytes before y → x ≡ y
 reads_one all (role.Copper layer) n bytes before x y (a, read, is) (b, read', is') =
-    let e : a ≡ b = (all.layer bytes (layer_place layer n before)).one_list a b read read' in is ∙ (ap (with_pieces before) e ∙ sym is')
+    let e : a ≡ b = (all.layer bytes (layer_place layer n before)).one_value a b read read' in is ∙ (ap (with_pieces before) e ∙ sym is')
 reads_one all (role.Drill from to) n bytes before x y (a, read, is) (b, read', is') =
-    let e : a ≡ b = (all.drill bytes (drill_place from to n before)).one_list a b read read' in is ∙ (ap (with_pieces before) e ∙ sym is')
+    let e : a ≡ b = (all.drill bytes (drill_place from to n before)).one_value a b read read' in is ∙ (ap (with_pieces before) e ∙ sym is')
 reads_one all role.Netlist n bytes before x y (a, names, read, is) (b, names', read', is') =
-    let e = (all.netlist bytes before.layers).one_list a b names names' read read' in is ∙ (same e.0 e.1 ∙ sym is')
-  where
-    same : a ≡ b → names ≡ names' → with_netlist before a names ≡ with_netlist before b names'
-    same p q = rw (p, q) refl
+    let e = (all.netlist bytes before.layers).one_value (record { probes = a; names = names }) (record { probes = b; names = names' }) read read' in
+    is ∙ (ap (λ (l : Netlist). with_netlist before l.probes l.names) e ∙ sym is')
 
 reads_not_refused : HaveAnswers → (r : Role) (n : ℕ) (bytes : List ℕ) (before x : PlainBoard) (why : Refusal) → Reads r n bytes before x → Refuses r n bytes before why → ⊥
 reads_not_refused all (role.Copper layer) n bytes before x (refusal.Layer kind command at) (a, read, is) no' = (all.layer bytes (layer_place layer n before)).not_both a kind command at read no'
@@ -50,7 +48,7 @@ reads_not_refused all (role.Drill from to) n bytes before x (refusal.Drill kind 
 reads_not_refused all (role.Drill from to) n bytes before x (refusal.Netlist kind line) read no' = no'
 reads_not_refused all role.Netlist n bytes before x (refusal.Layer kind command at) read no' = no'
 reads_not_refused all role.Netlist n bytes before x (refusal.Drill kind line at) read no' = no'
-reads_not_refused all role.Netlist n bytes before x (refusal.Netlist kind line) (a, names, read, is) no' = (all.netlist bytes before.layers).not_both a names kind line read no'
+reads_not_refused all role.Netlist n bytes before x (refusal.Netlist kind line) (a, names, read, is) (count, no') = (all.netlist bytes before.layers).not_both (record { probes = a; names = names }) kind count line read no'
 
 refuses_one : HaveAnswers → (r : Role) (n : ℕ) (bytes : List ℕ) (before : PlainBoard) (why other : Refusal) → Refuses r n bytes before why → Refuses r n bytes before other → why ≡ other
 refuses_one all (role.Copper layer) n bytes before (refusal.Layer kind command at) (refusal.Layer kind' command' at') p q =
@@ -69,8 +67,8 @@ refuses_one all role.Netlist n bytes before (refusal.Layer kind command at) othe
 refuses_one all role.Netlist n bytes before (refusal.Drill kind line at) other p q = absurd p
 refuses_one all role.Netlist n bytes before (refusal.Netlist kind line) (refusal.Layer kind' command at') p q = absurd q
 refuses_one all role.Netlist n bytes before (refusal.Netlist kind line) (refusal.Drill kind' line' at') p q = absurd q
-refuses_one all role.Netlist n bytes before (refusal.Netlist kind line) (refusal.Netlist kind' line') p q =
-    let e = (all.netlist bytes before.layers).one_fault kind kind' line line' p q in cc (e.0, e.1)
+refuses_one all role.Netlist n bytes before (refusal.Netlist kind line) (refusal.Netlist kind' line') (count, p) (count', q) =
+    let e = (all.netlist bytes before.layers).one_fault kind kind' count count' line line' p q in cc (e.0, e.2)
 
 -- ---- One taking
 

@@ -1,12 +1,10 @@
 -- The stages of the taking.
-use Rattle.std.proofs.Common.{◌≡◌, inl, inr, ℕ, ◌+◌, ◌<◌, ◌≤◌, List, length, take, get_or, Option, Some, None, IfSome, refl, sym, ap, subst, ◌∙◌}
+use Rattle.std.proofs.Common.{◌≡◌, inl, inr, ℕ, ◌+◌, ◌<◌, ◌≤◌, List, length, take, get_or, Option, IfSome, sym, subst}
 use Rattle.board_io.specs.Package.{Files}
 use Rattle.board_shapes.specs.Plain.{PlainBoard, common_box, Fits}
 use Rattle.board_package.specs.Causes.{HasCause, IsFrameFault}
-use Rattle.board_package.specs.Manifest.{IsManifest}
 use Rattle.board_package.specs.PackageBoard.{Stop, Goes, IsHeld, IsHeldWith, IsManifestFile, IsBoardOf, IsFirstStop, Comes, StopsAt, StopsAtFrame, StopsAtManifest, StopsAmong, ComesAmong, Walks}
 use Rattle.board_package.specs.Parts.{empty_board}
-use Rattle.board_package.specs.Reading.{Reads, Refuses}
 use Rattle.board_package.specs.declared.entry.Entry.{Entry}
 use Rattle.board_package.specs.declared.fault.BuildFault.{BuildFault}
 use Rattle.board_package.specs.declared.manifest.Manifest.{Manifest}

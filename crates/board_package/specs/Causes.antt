@@ -1,7 +1,7 @@
 -- Why a package gives no board.
 use Rattle.std.specs.Prelude.{◌≡◌, ◌⊎◌, ℕ, List, Option, IfSome}
 use Rattle.board_io.specs.Causes.{Rose}
-use Rattle.board_io.specs.Package.{Files}
+use Rattle.board_io.specs.Package.{Files, IsFaultless}
 use Rattle.board_shapes.specs.Plain.{PlainBoard}
 use Rattle.board_package.specs.PackageBoard.{StopsAtFrame, Stop, longer, not_json, bad_manifest, refused, frame_too_large}
 use Rattle.board_package.specs.declared.fault.BuildFault.{BuildFault}
@@ -32,6 +32,12 @@ HasCause held Stops Comes before now lost (fault.Drill name kind line at) = IfSo
 HasCause held Stops Comes before now lost (fault.Netlist name kind line) = IfSome held (λ files. Stops files (refused name (refusal.Netlist kind line)))
 HasCause held Stops Comes before now lost (fault.FrameTooLarge box) = IfSome held (λ files. Stops files (frame_too_large box))
 HasCause held Stops Comes before now lost fault.NoMemory = Unit {0}
+
+-- Neither the count of faults nor the lost name changed, but where a file could not be read or memory was wanted.
+abbrev pub KeepsFaults : ℕ → List ℕ → ℕ → List ℕ → BuildFault → Type 0
+KeepsFaults count lost count' lost' (fault.CannotRead name) = Unit {0}
+KeepsFaults count lost count' lost' fault.NoMemory = Unit {0}
+KeepsFaults count lost count' lost' why = IsFaultless count lost count' lost'
 
 -- the common box of the board is too large
 abbrev pub IsFrameFault : PlainBoard → BuildFault → Type 0

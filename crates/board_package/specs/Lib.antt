@@ -4,3 +4,4 @@ pub mod Manifest
 pub mod PackageBoard
 pub mod Parts
 pub mod Reading
+pub mod Refusals

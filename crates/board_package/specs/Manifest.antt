@@ -1,6 +1,6 @@
 -- The manifest of a package: its value, its form, and the files that it lists.
 use Rattle.std.specs.Prelude.{◌≡◌, ℕ, ◌+◌, ◌≤◌, ◌==◌, ◌&&◌, nat_le, if◌then◌else◌, Bool, false, List, [], ◌∷◌, ◌++◌, length, All, IsUtf8, codes, Option, Some, None, option_map, option_and_then, unwrap_or}
-use Rattle.std.specs.List.{list_all}
+use Rattle.lengths.specs.Text.{is_text}
 use Rattle.serde_json.specs.Data.{Data, Items, no_items, item}
 use Rattle.serde_json.specs.Events.{members_len}
 use Rattle.serde_json.specs.Find.{get, as_array, as_number, as_object, as_str, as_u64}
@@ -36,12 +36,9 @@ list_at key value = option_map listed (option_and_then as_array (get key value))
 abbrev pub number_at : List ℕ → Data → Option ℕ
 number_at key value = option_and_then as_u64 (option_and_then as_number (get key value))
 
--- 1 to 200 bytes, each from 32 to 126
-abbrev pub is_name : List ℕ → Bool
-is_name text = nat_le 1 (length text) && (nat_le (length text) 200 && list_all (λ b. nat_le 32 b && nat_le b 126) text)
-
+-- a name is a text: 1 to 200 bytes, each from 32 to 126
 abbrev pub lawful_name : List ℕ → Option (List ℕ)
-lawful_name text = if is_name text then Some text else None
+lawful_name text = if is_text text then Some text else None
 
 -- the name of a file that a value is
 abbrev pub name_of : Data → Option (List ℕ)

@@ -1,5 +1,5 @@
 -- What the files of a package give, one after another.
-use Rattle.std.specs.Prelude.{◌≡◌, ℕ, ◌-◌, ◌≤◌, List, [], ◌++◌, length, sum_by, All}
+use Rattle.std.specs.Prelude.{ℕ, ◌-◌, ◌≤◌, List, [], ◌++◌, length, sum_by, All}
 use Rattle.board_shapes.specs.Figures.{figure_edges}
 use Rattle.board_shapes.specs.Lawful.{IsOnLayers, IsProbe}
 use Rattle.board_shapes.specs.Plain.{PlainBoard, PlainPiece, plain_parts}

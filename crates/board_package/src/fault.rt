@@ -1,13 +1,13 @@
 //! Why a package is no board.
-ghost use Rattle.std.specs.Prelude.{◌≡◌, List, ℕ, IfOk};
+ghost use Rattle.std.specs.Prelude.{◌≡◌, List, ℕ};
 ghost use Rattle.board_package.specs.Causes.{HasRefusal};
 
 use crate::reading::Refusal;
 use contact::Bounds;
 use gerber_layer::GerberKind;
 use ipc356_records::RecordKind;
-use lengths::{NoMemory, Text, TextFault};
-use std::alloc::Global;
+use lengths::Text;
+use std::alloc::AllocError;
 use xnc::DrillKind;
 
 /// Why a package gives no board: the first that stops it, in the order of its files, or a fault of reading, or want of
@@ -47,21 +47,21 @@ pub enum BuildFault {
     NoMemory,
 }
 
-// A text of its own.
-pub fn copied(alloc: Global, name: &Text) -> Result<Text, NoMemory>
-    ensures { IfOk result (λ copy. copy ≡ name.now) }
-{
-    match Text::new(alloc, name.as_bytes()) {
-        Ok(copy) => Ok(copy),
-        Err(_) => Err(NoMemory),
+impl From<AllocError> for BuildFault {
+    ghost use Rattle.board_package.specs.declared.fault.BuildFault.TheVariants as fault;
+
+    ghost from_gives = { λ _ e. e ≡ fault.NoMemory };
+
+    fn from(_: AllocError) -> BuildFault {
+        BuildFault::NoMemory
     }
 }
 
 // The fault of a file that is refused, or want of memory for its name.
-pub fn refused(alloc: Global, name: &Text, refusal: Refusal) -> BuildFault
+pub fn refused(name: &Text, refusal: Refusal) -> BuildFault
     ensures { HasRefusal name.now refusal result }
 {
-    let Ok(file) = copied(alloc, name) else {
+    let Ok(file) = name.clone() else {
         return BuildFault::NoMemory;
     };
     match refusal {

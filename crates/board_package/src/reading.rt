@@ -31,11 +31,94 @@ pub enum Refusal {
     },
 }
 
+impl Refusal {
+    ghost use Rattle.board_package.specs.Refusals.{refusal_name, refusal_number};
+
+    /// The number of its kind, from 1.
+    pub fn number(self) -> u32
+        ensures { result ≡ refusal_number self }
+    {
+        match self {
+            Refusal::Layer { kind, .. } => kind.number(),
+            Refusal::Drill { kind, .. } => kind.number(),
+            Refusal::Netlist { kind, .. } => kind.number(),
+        }
+    }
+
+    /// The name of its kind.
+    pub fn name(self) -> &'static str
+        ensures { result.now ≡ refusal_name self }
+    {
+        match self {
+            Refusal::Layer { kind, .. } => kind.name(),
+            Refusal::Drill { kind, .. } => kind.name(),
+            Refusal::Netlist { kind, .. } => kind.name(),
+        }
+    }
+}
+
 /// Why a file is not read.
 #[derive(Clone, Copy, Debug, PartialEq, Eq)]
 pub enum Halt {
     Refused(Refusal),
     NoMemory,
+}
+
+impl From<NoMemory> for Halt {
+    ghost use Rattle.board_package.specs.declared.reading.Halt.TheVariants as halt;
+
+    ghost from_gives = { λ _ h. h ≡ halt.NoMemory };
+
+    fn from(_: NoMemory) -> Halt {
+        Halt::NoMemory
+    }
+}
+
+impl From<LayerFault> for Halt {
+    ghost use Rattle.board_package.specs.Reading.{layer_halt};
+
+    ghost from_gives = { λ fault halt. halt ≡ layer_halt fault };
+
+    fn from(fault: LayerFault) -> Halt {
+        match fault {
+            LayerFault::Refused { kind, command, at } => Halt::Refused(Refusal::Layer {
+                kind,
+                command,
+                at,
+            }),
+            LayerFault::NoMemory => Halt::NoMemory,
+        }
+    }
+}
+
+impl From<DrillFault> for Halt {
+    ghost use Rattle.board_package.specs.Reading.{drill_halt};
+
+    ghost from_gives = { λ fault halt. halt ≡ drill_halt fault };
+
+    fn from(fault: DrillFault) -> Halt {
+        match fault {
+            DrillFault::Refused { kind, line, at } => Halt::Refused(Refusal::Drill {
+                kind,
+                line,
+                at,
+            }),
+            DrillFault::NoMemory => Halt::NoMemory,
+        }
+    }
+}
+
+impl From<RecordFault> for Halt {
+    ghost use Rattle.board_package.specs.Reading.{netlist_halt};
+
+    ghost from_gives = { λ fault halt. halt ≡ netlist_halt fault };
+
+    fn from(fault: RecordFault) -> Halt {
+        match fault {
+            RecordFault::Refused { kind, line } => Halt::Refused(Refusal::Netlist { kind, line }),
+            RecordFault::NoMemory => Halt::NoMemory,
+        }
+    }
 }
 
 // Reads a file, and adds what it gives.
@@ -79,16 +162,9 @@ fn read_copper(
     ensures fault { IfErr result (Halts (Role.Copper layer) number file.now (board_so_far parts.old)) }
 {
     let room = room_left(parts.pieces.as_slice());
-    match read_layer(alloc, file, layer, number, room) {
-        Ok(pieces) => match parts.add(pieces) {
-            Ok(()) => Ok(()),
-            Err(NoMemory) => Err(Halt::NoMemory),
-        },
-        Err(LayerFault::Refused { kind, command, at }) => {
-            Err(Halt::Refused(Refusal::Layer { kind, command, at }))
-        }
-        Err(LayerFault::NoMemory) => Err(Halt::NoMemory),
-    }
+    let pieces = read_layer(alloc, file, layer, number, room)?;
+    parts.add(pieces)?;
+    Ok(())
 }
 
 // Reads the barrels of a drill file.
@@ -111,16 +187,9 @@ fn read_barrels(
     ensures fault { IfErr result (Halts (Role.Drill from to) number file.now (board_so_far parts.old)) }
 {
     let room = room_left(parts.pieces.as_slice());
-    match read_drill(alloc, file, Span { from, to }, number, room) {
-        Ok(pieces) => match parts.add(pieces) {
-            Ok(()) => Ok(()),
-            Err(NoMemory) => Err(Halt::NoMemory),
-        },
-        Err(DrillFault::Refused { kind, line, at }) => {
-            Err(Halt::Refused(Refusal::Drill { kind, line, at }))
-        }
-        Err(DrillFault::NoMemory) => Err(Halt::NoMemory),
-    }
+    let pieces = read_drill(alloc, file, Span { from, to }, number, room)?;
+    parts.add(pieces)?;
+    Ok(())
 }
 
 // Reads the probes and names of the netlist.
@@ -132,15 +201,8 @@ fn read_points(alloc: Global, file: &[u8], parts: &mut Parts) -> Result<(), Halt
     ensures layers { OnOk result (parts.new.layers ≡ parts.old.layers) }
     ensures fault { (number : ℕ) → IfErr result (Halts Role.Netlist number file.now (board_so_far parts.old)) }
 {
-    match read_netlist(alloc, file, parts.layers) {
-        Ok(netlist) => {
-            parts.probes = netlist.probes;
-            parts.names = netlist.names;
-            Ok(())
-        }
-        Err(RecordFault::Refused { kind, line }) => {
-            Err(Halt::Refused(Refusal::Netlist { kind, line }))
-        }
-        Err(RecordFault::NoMemory) => Err(Halt::NoMemory),
-    }
+    let netlist = read_netlist(alloc, file, parts.layers)?;
+    parts.probes = netlist.probes;
+    parts.names = netlist.names;
+    Ok(())
 }

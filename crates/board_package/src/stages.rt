@@ -1,19 +1,20 @@
 //! The board of a package.
 ghost use Rattle.std.specs.Prelude.{◌≡◌, ◌≤◌, List, ℕ, length, All, IfSome, IfOk, IfErr, OnOk};
 ghost use Rattle.board_shapes.specs.Plain.{plain_board, common_box, Fits};
-ghost use Rattle.board_package.specs.Causes.{HasCause, IsFrameFault};
+ghost use Rattle.board_io.specs.Package.{IsFaultless};
+ghost use Rattle.board_package.specs.Causes.{HasCause, IsFrameFault, KeepsFaults};
 ghost use Rattle.board_package.specs.Manifest.{IsLawful, IsOnBoard};
 ghost use Rattle.board_package.specs.PackageBoard.{IsBoardOf, IsFirstStop, Comes, IsHeld, IsManifestFile, StopsTaking, StopsAtManifest, StopsAt, StopsAtFrame, StopsAmong, ComesAmong, Goes, Walks};
 ghost use Rattle.board_package.specs.Parts.{board_so_far, IsLawfulParts};
 
 use crate::entry::Entry;
-use crate::fault::{BuildFault, copied, refused};
+use crate::fault::{BuildFault, refused};
 use crate::manifest::{Manifest, ManifestFault, read_manifest};
 use crate::parts::Parts;
 use crate::reading::{Halt, read_file};
 use board_io::{Package, Take};
 use board_shapes::{Board, BoardFault};
-use lengths::{NoMemory, Text};
+use lengths::Text;
 use std::alloc::Global;
 
 /// The most bytes of a file.
@@ -31,6 +32,8 @@ pub fn build<P: Package>(
 ) -> Result<Board, BuildFault>
     ensures held { P.held «package».new ≡ P.held «package».old }
     ensures later { P.faults «package».old ≤ P.faults «package».new }
+    ensures faultless { OnOk result (IsFaultless (P.faults «package».old) (P.lost «package».old) (P.faults «package».new) (P.lost «package».new)) }
+    ensures kept { IfErr result (KeepsFaults (P.faults «package».old) (P.lost «package».old) (P.faults «package».new) (P.lost «package».new)) }
     ensures ok { IfOk result (λ board. IfSome (P.held «package».old) (λ files. IsBoardOf files manifest.now (plain_board board))) }
     ensures fault { IfErr result (HasCause (P.held «package».old) (λ files stop. IsFirstStop files manifest.now stop) (λ files name. Comes files manifest.now name) (P.faults «package».old) (P.faults «package».new) (P.lost «package».new)) }
 {
@@ -56,6 +59,8 @@ fn take_manifest<P: Package>(
 ) -> Result<Manifest, BuildFault>
     ensures held { P.held «package».new ≡ P.held «package».old }
     ensures later { P.faults «package».old ≤ P.faults «package».new }
+    ensures faultless { OnOk result (IsFaultless (P.faults «package».old) (P.lost «package».old) (P.faults «package».new) (P.lost «package».new)) }
+    ensures kept { IfErr result (KeepsFaults (P.faults «package».old) (P.lost «package».old) (P.faults «package».new) (P.lost «package».new)) }
     ensures found { IfOk result (λ m. IfSome (P.held «package».old) (λ files. IsManifestFile files manifest.now m)) }
     ensures lawful { IfOk result (λ m. IsLawful m) }
     ensures cause { IfErr result (HasCause (P.held «package».old) (λ files stop. StopsAtManifest files manifest.now stop) (λ files name. name ≡ manifest.now) (P.faults «package».old) (P.faults «package».new) (P.lost «package».new)) }
@@ -81,6 +86,8 @@ fn take_files<P: Package>(
     requires roles { All (λ e. IsOnBoard parts.old.layers e.role) entries.now }
     ensures held { P.held «package».new ≡ P.held «package».old }
     ensures later { P.faults «package».old ≤ P.faults «package».new }
+    ensures faultless { OnOk result (IsFaultless (P.faults «package».old) (P.lost «package».old) (P.faults «package».new) (P.lost «package».new)) }
+    ensures kept { IfErr result (KeepsFaults (P.faults «package».old) (P.lost «package».old) (P.faults «package».new) (P.lost «package».new)) }
     ensures found { OnOk result (IfSome (P.held «package».old) (λ files. Walks files entries.now (board_so_far parts.old) (board_so_far parts.new))) }
     ensures parts { OnOk result (IsLawfulParts parts.new) }
     ensures cause { IfErr result (HasCause (P.held «package».old) (λ files stop. StopsAmong files entries.now (board_so_far parts.old) stop) (λ files name. ComesAmong files entries.now (board_so_far parts.old) name) (P.faults «package».old) (P.faults «package».new) (P.lost «package».new)) }
@@ -103,6 +110,8 @@ fn take_entry<P: Package>(
     requires role { IsOnBoard parts.old.layers entry.now.role }
     ensures held { P.held «package».new ≡ P.held «package».old }
     ensures later { P.faults «package».old ≤ P.faults «package».new }
+    ensures faultless { OnOk result (IsFaultless (P.faults «package».old) (P.lost «package».old) (P.faults «package».new) (P.lost «package».new)) }
+    ensures kept { IfErr result (KeepsFaults (P.faults «package».old) (P.lost «package».old) (P.faults «package».new) (P.lost «package».new)) }
     ensures found { OnOk result (IfSome (P.held «package».old) (λ files. Goes files entry.now (board_so_far parts.old) (board_so_far parts.new))) }
     ensures parts { OnOk result (IsLawfulParts parts.new) }
     ensures layers { OnOk result (parts.new.layers ≡ parts.old.layers) }
@@ -111,7 +120,7 @@ fn take_entry<P: Package>(
     take_file(alloc, &entry.name, package, file)?;
     match read_file(alloc, entry.role, entry.number, file.as_slice(), parts) {
         Ok(()) => Ok(()),
-        Err(Halt::Refused(refusal)) => Err(refused(alloc, &entry.name, refusal)),
+        Err(Halt::Refused(refusal)) => Err(refused(&entry.name, refusal)),
         Err(Halt::NoMemory) => Err(BuildFault::NoMemory),
     }
 }
@@ -127,6 +136,8 @@ pub fn take_file<P: Package>(
 ) -> Result<(), BuildFault>
     ensures held { P.held «package».new ≡ P.held «package».old }
     ensures later { P.faults «package».old ≤ P.faults «package».new }
+    ensures faultless { OnOk result (IsFaultless (P.faults «package».old) (P.lost «package».old) (P.faults «package».new) (P.lost «package».new)) }
+    ensures kept { IfErr result (KeepsFaults (P.faults «package».old) (P.lost «package».old) (P.faults «package».new) (P.lost «package».new)) }
     ensures short { OnOk result (length file.new.items ≤ 67108864) }
     ensures found { OnOk result (IfSome (P.held «package».old) (λ files. IsHeld files name.now file.new.items)) }
     ensures cause { IfErr result (HasCause (P.held «package».old) (λ files stop. StopsTaking files name.now stop) (λ files other. other ≡ name.now) (P.faults «package».old) (P.faults «package».new) (P.lost «package».new)) }
@@ -134,14 +145,8 @@ pub fn take_file<P: Package>(
     let text = name.as_str();
     match package.take(text, MOST_BYTES, file) {
         Take::Whole => Ok(()),
-        Take::Longer => match copied(alloc, name) {
-            Ok(name) => Err(BuildFault::Longer(name)),
-            Err(NoMemory) => Err(BuildFault::NoMemory),
-        },
-        Take::Failed => match copied(alloc, name) {
-            Ok(name) => Err(BuildFault::CannotRead(name)),
-            Err(NoMemory) => Err(BuildFault::NoMemory),
-        },
+        Take::Longer => Err(BuildFault::Longer(name.clone()?)),
+        Take::Failed => Err(BuildFault::CannotRead(name.clone()?)),
         Take::NoMemory => Err(BuildFault::NoMemory),
     }
 }

@@ -1,4 +1,4 @@
-use Rattle.board_package.proofs.OneOutcome.{HaveAnswers, one_outcome}
+use Rattle.board_package.proofs.OneOutcome.{one_outcome}
 use Rattle.board_package.proofs.laws.one_outcome.Goals as goal
 
 pub returns : goal.returns

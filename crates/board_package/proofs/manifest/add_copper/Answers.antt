@@ -1,7 +1,6 @@
-use Rattle.std.proofs.Common.{◌≡◌, ◌+◌, ℕ, length, map, Some, refl, rules, arith}
+use Rattle.std.proofs.Common.{length, map, rules, arith}
 use Rattle.serde_json.specs.View.{view}
 use Rattle.board_package.specs.Manifest.{Misses, IsOnBoard, each_from, copper_entry}
-use Rattle.board_package.specs.declared.entry.Entry.{Entry}
 use Rattle.board_package.proofs.Entries.{entry_missed, copper_missed, copper_made, more_entries, more_lawful}
 use Rattle.board_package.proofs.manifest.add_copper.Goals as goal
 

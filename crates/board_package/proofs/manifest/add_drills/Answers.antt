@@ -1,7 +1,6 @@
-use Rattle.std.proofs.Common.{◌≡◌, ◌+◌, ℕ, map, Some, refl, rules, arith}
+use Rattle.std.proofs.Common.{map, rules, arith}
 use Rattle.serde_json.specs.View.{view}
 use Rattle.board_package.specs.Manifest.{Misses, IsOnBoard, each_from, drill_entry}
-use Rattle.board_package.specs.declared.entry.Entry.{Entry}
 use Rattle.board_package.proofs.Entries.{entry_missed, more_entries, more_lawful}
 use Rattle.board_package.proofs.manifest.add_drills.Goals as goal
 

@@ -1,4 +1,4 @@
-use Rattle.std.proofs.Common.{◌≡◌, OnOk, IfErr, sym, subst}
+use Rattle.std.proofs.Common.{OnOk, IfErr, sym, subst}
 use Rattle.board_package.specs.Parts.{board_so_far}
 use Rattle.board_package.specs.Reading.{Reads, Halts}
 use Rattle.board_package.proofs.reading.read_file.Goals as goal

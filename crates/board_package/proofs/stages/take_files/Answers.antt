@@ -1,8 +1,8 @@
-use Rattle.std.proofs.Common.{◌≡◌, ◌≤◌, List, ℕ, rules, arith, ◌∙◌}
-use Rattle.board_io.specs.Package.{Files}
-use Rattle.board_package.specs.Causes.{HasCause}
-use Rattle.board_package.specs.PackageBoard.{Stop, StopsAmong, ComesAmong}
+use Rattle.std.proofs.Common.{rules, arith, ◌∙◌}
+use Rattle.board_package.specs.Causes.{HasCause, KeepsFaults}
+use Rattle.board_package.specs.PackageBoard.{StopsAmong, ComesAmong}
 use Rattle.board_package.specs.Parts.{board_so_far}
+use Rattle.board_package.proofs.Lift.{faultless_both, kept_after}
 use Rattle.board_package.proofs.Taking.{entry_cause, entry_walked}
 use Rattle.board_package.proofs.stages.take_files.Goals as goal
 
@@ -19,8 +19,15 @@ pub loop-entry-preserved : goal.loop-entry-preserved
 loop-entry-preserved g c = record {
   held = c.take_entry.ensures.held ∙ c.loop-entry.invariant.held;
   later = omega (arith, c.take_entry.ensures.later, c.loop-entry.invariant.later);
+  faultless = faultless_both _ _ _ _ _ _ c.loop-entry.invariant.faultless c.in_ok-take_entry.ensures.faultless;
   walked = entry_walked (g.P.Package.held c.args.package.now) (g.P.Package.held c.loop-entry.package) c.args.entries.now c.loop-entry.entry-index c.entry-item.result (board_so_far c.args.parts.now) (board_so_far c.loop-entry.parts) (board_so_far c.take_entry.new.parts)
       c.loop-entry-test.true c.entry-item.is c.loop-entry.invariant.held c.loop-entry.invariant.walked c.in_ok-take_entry.ensures.found;
   parts = c.in_ok-take_entry.ensures.parts;
   layers = c.in_ok-take_entry.ensures.layers ∙ c.loop-entry.invariant.layers;
 }
+
+pub returns-in_err-take_entry-clause-kept : goal.returns-in_err-take_entry-clause-kept
+returns-in_err-take_entry-clause-kept g c =
+    let fact : KeepsFaults (g.P.Package.faults c.args.package.now) (g.P.Package.lost c.args.package.now) (g.P.Package.faults c.take_entry.new.package) (g.P.Package.lost c.take_entry.new.package) c.in_err-take_entry.field-0.0 =
+    kept_after _ _ _ _ _ _ c.in_err-take_entry.field-0.0 c.loop-entry.invariant.faultless c.in_err-take_entry.ensures.kept in
+    search (rules, fact)
