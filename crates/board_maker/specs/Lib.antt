@@ -1,0 +1,2 @@
+pub mod MadeBoard
+pub mod MadePackage

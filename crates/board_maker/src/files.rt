@@ -1,0 +1,241 @@
+// The five files of a made board, written cell by cell.
+ghost use Rattle.std.specs.Prelude.{◌≡◌, ◌++◌, ◌<◌, ◌≤◌, length, drop, IfOk, OnOk};
+ghost use Rattle.std.specs.List.{flat_map};
+ghost use Rattle.board_maker.specs.MadeBoard as spec;
+
+use crate::cell::{column, is_bridged, is_broken, row};
+use lengths::NoMemory;
+use std::alloc::Global;
+use texts::Numeral;
+
+// Appends the pieces of a text.
+fn push(out: &mut Vec<u8>, pieces: &[&[u8]]) -> Result<(), NoMemory>
+    ensures { OnOk result (out.new.items ≡ out.old.items ++ flat_map (λ piece. piece.now) pieces.now) }
+{
+    for piece in pieces {
+        out.extend_from_slice(*piece)?;
+    }
+    Ok(())
+}
+
+// ---- Copper
+
+fn push_operation(out: &mut Vec<u8>, x: u32, y: u32, code: &[u8]) -> Result<(), NoMemory>
+    ensures { OnOk result (out.new.items ≡ out.old.items ++ spec.operation x y code.now) }
+{
+    push(
+        out,
+        &[
+            b"X",
+            Numeral::of(u64::from(x)).as_bytes(),
+            b"Y",
+            Numeral::of(u64::from(y)).as_bytes(),
+            code,
+            b"*\n",
+        ],
+    )
+}
+
+fn push_flash(out: &mut Vec<u8>, aperture: &[u8], x: u32, y: u32) -> Result<(), NoMemory>
+    ensures { OnOk result (out.new.items ≡ out.old.items ++ spec.flash aperture.now x y) }
+{
+    push(out, &[aperture, b"*\n"])?;
+    push_operation(out, x, y, b"D03")
+}
+
+fn push_track(out: &mut Vec<u8>, aperture: &[u8], x: u32, y: u32, to_x: u32) -> Result<(), NoMemory>
+    ensures { OnOk result (out.new.items ≡ out.old.items ++ spec.track aperture.now x y to_x) }
+{
+    push(out, &[aperture, b"*\n"])?;
+    push_operation(out, x, y, b"D02")?;
+    push_operation(out, to_x, y, b"D01")
+}
+
+fn push_top_cell(out: &mut Vec<u8>, seed: u64, i: u32) -> Result<(), NoMemory>
+    requires { i < 10000 }
+    ensures { OnOk result (out.new.items ≡ out.old.items ++ spec.top_cell seed i) }
+{
+    let x = 2_500_000 * column(i);
+    let y = 2_500_000 * row(i);
+    push_flash(out, b"D10", x, y)?;
+    push_flash(out, b"D11", x + 1_200_000, y)?;
+    if is_broken(seed, i) {
+        return Ok(());
+    }
+    push_track(out, b"D12", x, y, x + 1_200_000)
+}
+
+fn push_bottom_cell(out: &mut Vec<u8>, seed: u64, size: u32, i: u32) -> Result<(), NoMemory>
+    requires { i < 10000 }
+    ensures { OnOk result (out.new.items ≡ out.old.items ++ spec.bottom_cell seed size i) }
+{
+    let x = 2_500_000 * column(i);
+    let y = 2_500_000 * row(i);
+    push_flash(out, b"D10", x, y)?;
+    if !is_bridged(seed, size, i) {
+        return Ok(());
+    }
+    push_track(out, b"D12", x, y, x + 2_500_000)
+}
+
+/// The copper of the top layer.
+#[tactic(auto, using(crate::proofs::Cells::cells_none, crate::proofs::Cells::cells_turn))]
+pub fn top_text(alloc: Global, seed: u64, size: u32) -> Result<Vec<u8>, NoMemory>
+    requires { size ≤ 10000 }
+    ensures { IfOk result (λ text. text.items ≡ spec.top_text seed size) }
+{
+    let mut out = Vec::new(alloc);
+    push(
+        &mut out,
+        &[b"%FSLAX46Y46*%\n%MOMM*%\n%ADD10C,1.0*%\n%ADD11R,0.8X0.8*%\n%ADD12C,0.2*%\n"],
+    )?;
+    for i in 0..size {
+        push_top_cell(&mut out, seed, i)?;
+    }
+    push(&mut out, &[b"M02*\n"])?;
+    Ok(out)
+}
+
+/// The copper of the bottom layer.
+#[tactic(auto, using(crate::proofs::Cells::cells_none, crate::proofs::Cells::cells_turn))]
+pub fn bottom_text(alloc: Global, seed: u64, size: u32) -> Result<Vec<u8>, NoMemory>
+    requires { size ≤ 10000 }
+    ensures { IfOk result (λ text. text.items ≡ spec.bottom_text seed size) }
+{
+    let mut out = Vec::new(alloc);
+    push(
+        &mut out,
+        &[b"%FSLAX46Y46*%\n%MOMM*%\n%ADD10C,1.0*%\n%ADD12C,0.2*%\n"],
+    )?;
+    for i in 0..size {
+        push_bottom_cell(&mut out, seed, size, i)?;
+    }
+    push(&mut out, &[b"M02*\n"])?;
+    Ok(out)
+}
+
+// ---- Holes
+
+fn push_tenths(out: &mut Vec<u8>, n: u32) -> Result<(), NoMemory>
+    ensures { OnOk result (out.new.items ≡ out.old.items ++ spec.tenths n) }
+{
+    push(
+        out,
+        &[
+            Numeral::of(u64::from(n / 10)).as_bytes(),
+            b".",
+            Numeral::of(u64::from(n % 10)).as_bytes(),
+        ],
+    )
+}
+
+fn push_hit(out: &mut Vec<u8>, i: u32) -> Result<(), NoMemory>
+    requires { i < 10000 }
+    ensures { OnOk result (out.new.items ≡ out.old.items ++ spec.hit i) }
+{
+    push(out, &[b"X"])?;
+    push_tenths(out, 25 * column(i))?;
+    push(out, &[b"Y"])?;
+    push_tenths(out, 25 * row(i))?;
+    push(out, &[b"\n"])
+}
+
+/// The plated holes.
+#[tactic(auto, using(crate::proofs::Cells::cells_none, crate::proofs::Cells::cells_turn))]
+pub fn drill_text(alloc: Global, size: u32) -> Result<Vec<u8>, NoMemory>
+    requires { size ≤ 10000 }
+    ensures { IfOk result (λ text. text.items ≡ spec.drill_text size) }
+{
+    let mut out = Vec::new(alloc);
+    push(&mut out, &[b"M48\nMETRIC\nT1C0.4\n%\nT1\n"])?;
+    for i in 0..size {
+        push_hit(&mut out, i)?;
+    }
+    push(&mut out, &[b"M30\n"])?;
+    Ok(out)
+}
+
+// ---- Test points
+
+// What is left of a filling behind so many bytes.
+fn left_of(filling: &[u8], len: usize) -> &[u8]
+    ensures { result.now ≡ drop len filling.now }
+{
+    if len < filling.len() {
+        &filling[len..]
+    } else {
+        &[]
+    }
+}
+
+#[tactic(auto, unfolding(crate::specs::MadeBoard::six))]
+fn push_six(out: &mut Vec<u8>, n: u32) -> Result<(), NoMemory>
+    ensures { OnOk result (out.new.items ≡ out.old.items ++ spec.six n) }
+{
+    let digits = Numeral::of(u64::from(n));
+    let zeros = left_of(b"000000", digits.as_bytes().len());
+    push(out, &[zeros, digits.as_bytes()])
+}
+
+#[tactic(auto, unfolding(crate::specs::MadeBoard::name))]
+fn push_name(out: &mut Vec<u8>, i: u32) -> Result<(), NoMemory>
+    ensures { OnOk result (out.new.items ≡ out.old.items ++ spec.name i) }
+{
+    let digits = Numeral::of(u64::from(i));
+    let blanks = left_of(
+        b"                                  ",
+        digits.as_bytes().len(),
+    );
+    push(out, &[b"N", digits.as_bytes(), blanks])
+}
+
+fn push_place(out: &mut Vec<u8>, x: u32, y: u32) -> Result<(), NoMemory>
+    ensures { OnOk result (out.new.items ≡ out.old.items ++ spec.place x y) }
+{
+    push(out, &[b"X+"])?;
+    push_six(out, x)?;
+    push(out, &[b"Y+"])?;
+    push_six(out, y)?;
+    push(out, &[b"\n"])
+}
+
+fn push_record(
+    out: &mut Vec<u8>,
+    code: &[u8],
+    i: u32,
+    access: &[u8],
+    x: u32,
+    y: u32,
+) -> Result<(), NoMemory>
+    ensures { OnOk result (out.new.items ≡ out.old.items ++ spec.test_record code.now i access.now x y) }
+{
+    push(out, &[code])?;
+    push_name(out, i)?;
+    push(out, &[access])?;
+    push_place(out, x, y)
+}
+
+fn push_records(out: &mut Vec<u8>, i: u32) -> Result<(), NoMemory>
+    requires { i < 10000 }
+    ensures { OnOk result (out.new.items ≡ out.old.items ++ spec.test_records i) }
+{
+    let x = 2_500 * column(i);
+    let y = 2_500 * row(i);
+    push_record(out, b"317", i, b"A00", x, y)?;
+    push_record(out, b"327", i, b"A01", x + 1_200, y)
+}
+
+/// The netlist.
+#[tactic(auto, using(crate::proofs::Cells::cells_none, crate::proofs::Cells::cells_turn))]
+pub fn netlist_text(alloc: Global, size: u32) -> Result<Vec<u8>, NoMemory>
+    requires { size ≤ 10000 }
+    ensures { IfOk result (λ text. text.items ≡ spec.netlist_text size) }
+{
+    let mut out = Vec::new(alloc);
+    push(&mut out, &[b"P  UNITS CUST 1\n"])?;
+    for i in 0..size {
+        push_records(&mut out, i)?;
+    }
+    push(&mut out, &[b"999\n"])?;
+    Ok(out)
+}

@@ -1,0 +1,14 @@
+//! Made boards: packages of any size, by a seed and a number of cells, for trials and comparisons.
+//!
+//! Each cell follows from the seed and its number by one formula (`cell`). The five files are written cell by cell
+//! (`files`), and held by a package in memory (`make`).
+#![tactic(auto)]
+
+mod cell;
+mod files;
+mod made;
+
+pub use made::{MakeFault, make};
+
+#[cfg(test)]
+mod tests;
