@@ -1,0 +1,32 @@
+-- The lines of pieces, one by one.
+use Rattle.std.proofs.Common.{◌≡◌, ℕ, ◌+◌, ◌<◌, ◌≤◌, List, [], ◌∷◌, ◌++◌, length, get_or, drop, refl, sym, ap, ◌∙◌}
+use Rattle.std.proofs.lemmas.List.{drop_all}
+use Rattle.std.specs.List.{flat_map}
+use Rattle.board_shapes.specs.declared.placed.Placed.{Placed}
+use Rattle.board_shapes.specs.declared.shape.Shape.{Shape}
+use Rattle.board_shapes.specs.Pieces.{plain_piece, plain_pieces}
+use Rattle.judge.proofs.PointLines.{turn}
+use Rattle.verdict.specs.declared.verdict.Twig.{Twig}
+use Rattle.verdict.specs.Forest.{Holds, StandOnce}
+use Rattle.netlist_writer.specs.WrittenNetlist.{net_of, place_line, place_lines, place_of, places_from, spelled}
+use Rattle.netlist_writer.proofs.Nets.{found_net}
+
+-- the lines of pieces from p on
+abbrev pub lines_from : ℕ → List (List Twig) → ℕ → List (Placed Shape) → List ℕ
+lines_from layers nets p pieces = flat_map spelled (place_lines p (places_from layers nets p (plain_pieces pieces)))
+
+-- a table of numbers has the net of each piece
+pub net_number : (nets : List (List Twig)) (numbers : List ℕ) (count p : ℕ) → StandOnce count nets → p < count → ((i q : ℕ) → Holds nets i q → get_or numbers q 0 ≡ i) → get_or numbers p 0 ≡ net_of nets p
+net_number nets numbers count p once below numbered = let home = once.held p below in numbered (net_of nets p) p (found_net nets home.0 p home.1)
+
+pub line_more : (layers : ℕ) (nets : List (List Twig)) (pieces : List (Placed Shape)) (p net : ℕ) (piece : Placed Shape) (out out' whole : List ℕ) → p < length pieces → piece ≡ get_or pieces p piece → net ≡ net_of nets p → out ++ lines_from layers nets p (drop p pieces) ≡ whole
+    → out' ≡ out ++ spelled (place_line p (place_of layers net (plain_piece piece))) → out' ++ lines_from layers nets (p + 1) (drop (p + 1) pieces) ≡ whole
+line_more layers nets pieces p net piece out out' whole below is same so_far put =
+    let part : List ℕ = spelled (place_line p (place_of layers (net_of nets p) (plain_piece (get_or pieces p piece)))) in
+    let one : out' ≡ out ++ spelled (place_line p (place_of layers (net_of nets p) (plain_piece piece))) = put ∙ ap (λ (n : ℕ). out ++ spelled (place_line p (place_of layers n (plain_piece piece)))) same in
+    turn (lines_from layers nets p) part (lines_from layers nets (p + 1)) out out' whole pieces p piece below refl so_far (one ∙ ap (λ (x : Placed Shape). out ++ spelled (place_line p (place_of layers (net_of nets p) (plain_piece x)))) is)
+
+pub lines_done : (layers : ℕ) (nets : List (List Twig)) (pieces : List (Placed Shape)) (p : ℕ) (out out' whole : List ℕ) → length pieces ≤ p → out ++ lines_from layers nets p (drop p pieces) ≡ whole → out' ≡ out ++ spelled (57 ∷ 57 ∷ 57 ∷ []) → out' ≡ whole
+lines_done layers nets pieces p out out' whole past so_far put =
+    let none : drop p pieces ≡ [] = drop_all p pieces past in
+    put ∙ (sym (ap (λ (ps : List (Placed Shape)). out ++ lines_from layers nets p ps) none) ∙ so_far)
