@@ -1,0 +1,11 @@
+pub mod Between
+pub mod Collecting
+pub mod Bridge
+pub mod Fills
+pub mod Frames
+pub mod Leasts
+pub mod Numbering
+pub mod OneList
+pub mod Sorting
+pub mod Told
+pub mod Wider

@@ -1,0 +1,10 @@
+pub mod Firsts
+pub mod Gaps
+pub mod GapsText
+pub mod Grown
+pub mod GrownBox
+pub mod GrownLaws
+pub mod GrownPieces
+pub mod Laws
+pub mod Meetings
+pub mod Strokes

@@ -1,0 +1,104 @@
+//! The list of the gaps of a board.
+ghost use Rattle.board_shapes.specs.CommonBox.{Fits};
+ghost use Rattle.board_shapes.specs.Plain.{plain_board};
+ghost use Rattle.board_shapes.specs.Tables.{IsNear};
+ghost use Rattle.contact.specs.Solid.{IsInside};
+ghost use Rattle.gaps.specs.Gaps.{AreGaps, CloseAt};
+ghost use Rattle.gaps.specs.GrownBox.{IsGapFault, grown_box, grown_common};
+ghost use Rattle.std.specs.Prelude.{All, IfErr, IfOk, length, pos, ◌*◌, ◌+ℤ◌, ◌<◌, ◌≡◌, ◌≤◌};
+ghost use Rattle.verdict.specs.Forest.{IsForest};
+
+use super::fats::{fats_of, spans_of};
+use super::gap::Gap;
+use super::grown_box::{common, frame_for};
+use super::meetings::meetings;
+use super::numbers::numbers_of;
+use board_shapes::Board;
+use cell_index::Cells;
+use contact::Bounds;
+use lengths::{NoMemory, Rows};
+use planar::Frame;
+use std::alloc::Global;
+use std::marker::Brand;
+use std::sync::ledger::{Blank, Ledger};
+use steps::Steps;
+use verdict::{Tree, Trees};
+
+/// Why there is no list of gaps.
+#[derive(Clone, Copy, Debug, PartialEq, Eq)]
+pub enum GapFault {
+    /// The common box of all grown shapes, which this is, has a side over that of a frame.
+    FrameTooLarge(Bounds),
+    /// Memory is wanted.
+    NoMemory,
+}
+
+impl From<NoMemory> for GapFault {
+    ghost use Rattle.gaps.specs.declared.listing.GapFault.TheVariants as fault;
+
+    ghost from_gives = { λ _ e. e ≡ fault.NoMemory };
+
+    fn from(_: NoMemory) -> GapFault {
+        GapFault::NoMemory
+    }
+}
+
+/// The gaps between the nets of a board: for each layer, each two nets of which pieces are at most
+/// this distance apart on the layer, with the least such pieces. The trees are spanning trees of
+/// the board's nets. The frame is judged before memory is taken.
+pub fn gaps(
+    alloc: Global,
+    board: &Board,
+    nets: &Trees,
+    nanometres: u32,
+) -> Result<Rows<Gap>, GapFault>
+    requires trees { IsForest (length (plain_board board.now).pieces) (IsNear (plain_board board.now)) nets.now }
+    requires most { nanometres ≤ 10_000_000 }
+    ensures list { IfOk result (AreGaps (CloseAt (plain_board board.now) (pos (10 * nanometres))) nets.now) }
+    ensures fits { IfOk result (λ list. Fits (grown_common (pos (5 * nanometres)) (plain_board board.now).pieces)) }
+    ensures fault { IfErr result (IsGapFault (grown_common (pos (5 * nanometres)) (plain_board board.now).pieces)) }
+{
+    let grow = 5 * nanometres;
+    let frame = frame_for(common(board.pieces(), grow))?;
+    let list = gaps_in::<Brand>(alloc, board, nets.as_slice(), grow, frame, Blank::new(1))?;
+    Ok(list)
+}
+
+/// The gaps at twice the growth, found in a frame in which all grown pieces lie.
+fn gaps_in<L: Ledger>(
+    alloc: Global,
+    board: &Board,
+    nets: &[Tree],
+    grow: u32,
+    frame: Frame,
+    blank: Blank,
+) -> Result<Rows<Gap>, NoMemory>
+    requires name { blank.name ≡ L.name }
+    requires parts { blank.parts ≡ L.parts }
+    requires some { 0 < blank.parts }
+    requires trees { IsForest (length (plain_board board.now).pieces) (IsNear (plain_board board.now)) nets.now }
+    requires growth { grow ≤ 50_000_000 }
+    requires inside { All (λ p. IsInside (grown_box (pos grow) p) frame) (plain_board board.now).pieces }
+    ensures { IfOk result (AreGaps (CloseAt (plain_board board.now) (pos grow +ℤ pos grow)) nets.now) }
+{
+    let pieces = board.pieces();
+    let numbers = numbers_of(alloc, nets, pieces.len())?;
+    let spans = spans_of(alloc, pieces)?;
+    let fats = fats_of(alloc, pieces, grow)?;
+    let field = Cells::new(alloc, &fats, frame, board.layers())?;
+    let mut tests = Steps::<L>::new(blank);
+    let least = meetings(alloc, &field, &numbers, &spans, &mut tests)?;
+    let list = rows(alloc, &least)?;
+    Ok(list)
+}
+
+/// The same lines.
+fn rows(alloc: Global, lines: &[Gap]) -> Result<Rows<Gap>, NoMemory>
+    ensures { IfOk result (λ rows. rows ≡ lines.now) }
+{
+    let mut rows = Rows::new(alloc);
+    for line in lines {
+        rows.push(*line)?;
+    }
+    Ok(rows)
+}
