@@ -4,7 +4,7 @@ use Rattle.board_io.specs.Causes.{Rose}
 use Rattle.board_io.specs.Package.{Files}
 use Rattle.board_package.specs.Causes.{HasCause}
 use Rattle.board_package.specs.Laws.{HasOneOutcome}
-use Rattle.board_package.specs.PackageBoard.{Comes, IsBoardOf, IsFirstStop, longer, not_json, bad_manifest, refused, frame_too_large}
+use Rattle.board_package.specs.PackageBoard.{IsBoardOf, IsFirstStop, longer, not_json, bad_manifest, refused, frame_too_large}
 use Rattle.board_package.specs.declared.fault.BuildFault.{BuildFault}
 use Rattle.board_package.specs.declared.fault.BuildFault.TheVariants as fault
 use Rattle.board_package.specs.declared.reading.Refusal.TheVariants as refusal
@@ -14,24 +14,24 @@ use Rattle.boardnet.specs.Words.{IsCheck}
 use Rattle.std.specs.declared.alloc.Global.{Global}
 
 -- no fault but of reading or memory stops it
-pub never_stopped : (held : Option Files) (manifest : List ℕ) (before now : ℕ) (lost : List ℕ) (why : BuildFault) (B : Type 0) (result : ℕ) (Line : List ℕ → Type 0)
+pub never_stopped : (held : Option Files) (manifest : List ℕ) (before now : ℕ) (lost : List ℕ) (why : BuildFault) (B : Type 0) (result : ℕ) (Line : List ℕ → Type 0) (C : Files → List ℕ → Type 0)
     → ((files : Files) (name : List ℕ) → HasOneOutcome files name)
-    → HasCause held (λ files stop. IsFirstStop files manifest stop) (λ files name. Comes files manifest name) before now lost why
+    → HasCause held (λ files stop. IsFirstStop files manifest stop) C before now lost why
     → Refuses manifest why result Line
     → IfSome held (λ files. (board : PlainBoard) → IsBoardOf files manifest board → (Rose before now → ⊥) → B → (result ≤ 1) ⊎ (result ≡ 6))
-never_stopped None manifest before now lost why B result Line law cause said = tt
-never_stopped (Some files) manifest before now lost fault.NotJson B result Line law cause said = λ board is calm b. absurd ((law files manifest).not_both board not_json is cause)
-never_stopped (Some files) manifest before now lost fault.BadManifest B result Line law cause said = λ board is calm b. absurd ((law files manifest).not_both board bad_manifest is cause)
-never_stopped (Some files) manifest before now lost (fault.Longer name) B result Line law cause said = λ board is calm b. absurd ((law files manifest).not_both board (longer name) is cause)
-never_stopped (Some files) manifest before now lost (fault.CannotRead name) B result Line law cause said = λ board is calm b. absurd (calm cause.rose)
-never_stopped (Some files) manifest before now lost (fault.Layer name kind command at) B result Line law cause said =
+never_stopped None manifest before now lost why B result Line C law cause said = tt
+never_stopped (Some files) manifest before now lost fault.NotJson B result Line C law cause said = λ board is calm b. absurd ((law files manifest).not_both board not_json is cause)
+never_stopped (Some files) manifest before now lost fault.BadManifest B result Line C law cause said = λ board is calm b. absurd ((law files manifest).not_both board bad_manifest is cause)
+never_stopped (Some files) manifest before now lost (fault.Longer name) B result Line C law cause said = λ board is calm b. absurd ((law files manifest).not_both board (longer name) is cause)
+never_stopped (Some files) manifest before now lost (fault.CannotRead name) B result Line C law cause said = λ board is calm b. absurd (calm cause.rose)
+never_stopped (Some files) manifest before now lost (fault.Layer name kind command at) B result Line C law cause said =
     λ board is calm b. absurd ((law files manifest).not_both board (refused name (refusal.Layer kind command at)) is cause)
-never_stopped (Some files) manifest before now lost (fault.Drill name kind line at) B result Line law cause said =
+never_stopped (Some files) manifest before now lost (fault.Drill name kind line at) B result Line C law cause said =
     λ board is calm b. absurd ((law files manifest).not_both board (refused name (refusal.Drill kind line at)) is cause)
-never_stopped (Some files) manifest before now lost (fault.Netlist name kind line) B result Line law cause said =
+never_stopped (Some files) manifest before now lost (fault.Netlist name kind line) B result Line C law cause said =
     λ board is calm b. absurd ((law files manifest).not_both board (refused name (refusal.Netlist kind line)) is cause)
-never_stopped (Some files) manifest before now lost (fault.FrameTooLarge box) B result Line law cause said = λ board is calm b. absurd ((law files manifest).not_both board (frame_too_large box) is cause)
-never_stopped (Some files) manifest before now lost fault.NoMemory B result Line law cause said = λ board is calm b. inr said.0
+never_stopped (Some files) manifest before now lost (fault.FrameTooLarge box) B result Line C law cause said = λ board is calm b. absurd ((law files manifest).not_both board (frame_too_large box) is cause)
+never_stopped (Some files) manifest before now lost fault.NoMemory B result Line C law cause said = λ board is calm b. inr said.0
 
 -- the words have one name
 one_name : (words : List (String Global)) (a b : List ℕ) → IsCheck words a → IsCheck words b → b ≡ a

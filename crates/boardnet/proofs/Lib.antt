@@ -4,4 +4,8 @@ pub mod Reports
 pub mod Says
 pub mod Audits
 pub mod Commands
+pub mod Netlists
 pub mod Passes
+pub mod Kept
+pub mod TwoCalls
+pub mod Trials

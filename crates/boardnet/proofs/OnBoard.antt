@@ -18,9 +18,10 @@ use Rattle.tables.specs.Consistent.{AreConsistent}
 use Rattle.tables.specs.Lists.{AreLeast}
 use Rattle.tables.specs.Tables.{Tables}
 use Rattle.verdict.specs.Forest.{IsForest}
-use Rattle.verdict.specs.Right.{IsRight}
+use Rattle.verdict.specs.Right.{Apart, Covers, IsRight, Trees}
 use Rattle.verdict.specs.declared.verdict.Twig.{Twig}
 use Rattle.verdict.specs.declared.verdict.Verdict.{Verdict}
+use Rattle.witness_check.proofs.Tables.{apart_as, once_as, trees_as}
 use Rattle.witness_check.specs.Laws.{NetNumbersAreJoins}
 
 pub trees_on : ((b : PlainBoard) (items : List (Placed Shape)) (nets : List (List Twig)) → NetsAreOfTheBoard b items nets)
@@ -52,3 +53,11 @@ right_on b (Ok v) one consistent joins numbers h =
           let j = joins b one.tables one.are k l in
           ((λ x. j.1 (n.0 x)), (λ y. n.1 (j.0 y)));
     }
+
+-- the nets of a right verdict are the board's
+pub forest_on : (b : PlainBoard) (v : Verdict) → IsRightOn b v → IsForest (length b.pieces) (IsNearOn b) v.nets
+forest_on b v r = record {
+  trees = trees_as b r.tables v.nets r.tables_are (r.right Trees);
+  covers = once_as b r.tables v.nets r.tables_are (r.right Covers);
+  apart = apart_as b r.tables v.nets r.tables_are (r.right Apart);
+}

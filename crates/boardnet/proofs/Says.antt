@@ -52,4 +52,5 @@ says_failed got faults old mid new r done piece rest gains calm put cause failed
     record {
       front = GainsFrontOf-then (got old) (got mid) (got new) done piece rest gains part;
       whole = λ none. absurd (none (subst (λ (x : ℕ). Rose x (faults new)) calm rose.0));
+      later = subst (λ (x : ℕ). x ≤ faults new) calm rose.1;
     }

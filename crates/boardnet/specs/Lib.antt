@@ -1,6 +1,9 @@
 pub mod Answers
 pub mod Asked
+pub mod Kept
 pub mod Laws
 pub mod Lines
 pub mod Outcome
+pub mod Trials
 pub mod Words
+pub mod Written

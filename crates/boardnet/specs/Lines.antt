@@ -1,15 +1,16 @@
 -- The lines to the notes.
-use Rattle.std.specs.Prelude.{ℕ, List, [], ◌∷◌, Option, codes, decimal}
+use Rattle.std.specs.Prelude.{◌≤◌, ℕ, List, [], ◌∷◌, Option, codes, decimal}
 use Rattle.std.specs.Fmt.{signed_decimal}
 use Rattle.std.specs.List.{concat}
 use Rattle.board_io.specs.Causes.{Rose}
 use Rattle.board_io.specs.Sink.{Gains, GainsFrontOf}
 use Rattle.contact.specs.declared.Bounds.{Bounds}
 
--- A sink got a front of these bytes, and all of them where none of its faults rose.
+-- A sink got a front of these bytes, and all of them where none of its faults rose. Its count of faults never falls.
 pub record Says {N : Type 0} (got : N → Option (List ℕ)) (faults : N → ℕ) (old new : N) (bytes : List ℕ) : Type 0 where
   pub front : GainsFrontOf (got old) bytes (got new)
   pub whole : (Rose (faults old) (faults new) → ⊥) → Gains (got old) bytes (got new)
+  pub later : faults old ≤ faults new
 
 -- the name of the program begins each line
 abbrev pub begin : List ℕ

@@ -1,6 +1,8 @@
 -- The outcomes of the commands.
-use Rattle.std.specs.Prelude.{◌≡◌, ◌⊎◌, ◌↔◌, ℕ, List, ◌++◌, length, codes, decimal}
+use Rattle.std.specs.Prelude.{◌≡◌, ◌<◌, ◌≤◌, ◌⊎◌, ◌↔◌, ℕ, List, [], ◌∷◌, ◌++◌, length, Option, IfSome, codes, decimal}
+use Rattle.std.specs.List.{concat}
 use Rattle.board_io.specs.Package.{Files}
+use Rattle.board_maker.specs.MadePackage.{made_files}
 use Rattle.board_package.specs.PackageBoard.{Stop, absent, longer, not_json, bad_manifest, refused, frame_too_large, Comes, IsBoardOf, IsFirstStop, IsHeldWith, StopsTaking}
 use Rattle.board_package.specs.declared.reading.Refusal.{Refusal}
 use Rattle.board_package.specs.declared.reading.Refusal.TheVariants.{Layer, Drill, Netlist}
@@ -11,7 +13,8 @@ use Rattle.boardnet.specs.Lines.{plain_line, file_line, copper_line, drill_line,
 use Rattle.gerber_layer.specs.Kinds.{kind_number, kind_name}
 use Rattle.ipc356_records.specs.Kind.{number_of_kind as record_number, name_of_kind as record_name}
 use Rattle.tables.specs.Tables.{Tables}
-use Rattle.boardnet.specs.Words.{Command, Check, Audit}
+use Rattle.boardnet.specs.Words.{Command, Check, Audit, Trial, Write}
+use Rattle.netlist_writer.specs.WrittenNetlist.{written_netlist_of}
 use Rattle.verdict.specs.Lawful.{IsVerdict}
 use Rattle.verdict.specs.ReportText.{report_text, Agrees}
 use Rattle.verdict.specs.Right.{FailsFirst, IsRight, HaveOneNet}
@@ -113,6 +116,55 @@ pub record IsMisread (files : Files) (manifest report line : List ℕ) : Type 0 
   pub held : IsHeldWith files report IsNoReport
   pub line_is : line ≡ file_line report (codes "not a report")
 
+-- ---- Trials
+
+-- the name of a made package's manifest
+abbrev pub made_manifest : List ℕ
+made_manifest = codes "m.json"
+
+-- the summary of a verdict on a made board: its two numbers, and the count of each part of the verdict
+abbrev pub summary_text : ℕ → ℕ → Verdict → List ℕ
+summary_text seed size v = concat (codes "trial " ∷ decimal seed ∷ codes " " ∷ decimal size
+    ∷ codes "\npieces " ∷ decimal v.pieces ∷ codes "\nnets " ∷ decimal (length v.nets) ∷ codes "\npoints " ∷ decimal (length v.points)
+    ∷ codes "\nopens " ∷ decimal (length v.opens) ∷ codes "\nshorts " ∷ decimal (length v.shorts) ∷ codes "\nmissing " ∷ decimal (length v.bare) ∷ end ∷ [])
+
+-- the status of a verdict, as for `check`
+abbrev pub IsStatusOf : Verdict → ℕ → Type 0
+IsStatusOf v status = (Agrees v × (status ≡ 0)) ⊎ ((Agrees v → ⊥) × (status ≡ 1))
+
+-- The made package fits, and this is the summary of a right verdict on its board, with its status and its line.
+pub record IsTrialReport (seed size : ℕ) (text : List ℕ) (status : ℕ) (line : List ℕ) : Type 0 where
+  pub small : size ≤ 10000
+  pub board : PlainBoard
+  pub board_is : IsBoardOf (made_files seed size) made_manifest board
+  pub verdict : Verdict
+  pub right : IsRightOn board verdict
+  pub text_is : text ≡ summary_text seed size verdict
+  pub status_is : IsStatusOf verdict status
+  pub line_is : line ≡ plain_line (codes "trial done")
+
+-- There is no made package of so many cells.
+pub record IsTooLarge (size : ℕ) (line : List ℕ) : Type 0 where
+  pub large : 10000 < size
+  pub line_is : line ≡ plain_line (codes "trial size too large")
+
+-- The made package's first stop is a refusal, and this is its line.
+pub record IsMadeRefusal (seed size : ℕ) (line : List ℕ) : Type 0 where
+  pub small : size ≤ 10000
+  pub refusal : IsRefusal (made_files seed size) made_manifest line
+
+-- ---- Written netlists
+
+-- The package fits, and this is the written netlist of its board for the nets of a right verdict on it, with the status and the line.
+pub record IsWritten (files : Files) (manifest text : List ℕ) (status : ℕ) (line : List ℕ) : Type 0 where
+  pub board : PlainBoard
+  pub board_is : IsBoardOf files manifest board
+  pub verdict : Verdict
+  pub right : IsRightOn board verdict
+  pub text_is : text ≡ written_netlist_of board.layers verdict.nets board.pieces
+  pub status_is : status ≡ 0
+  pub line_is : line ≡ plain_line (codes "netlist written")
+
 -- ---- Commands
 
 -- What a command comes to: a text with its status and its line, or the line of a refusal.
@@ -128,9 +180,27 @@ abbrev pub AuditOutcome : Files → List ℕ → List ℕ → Outcome → Type 0
 AuditOutcome files manifest report (Told text status line) = IsAnswer files manifest report text status line
 AuditOutcome files manifest report (Refused line) = IsAuditRefusal files manifest report line ⊎ IsMisread files manifest report line
 
+abbrev pub TrialOutcome : ℕ → ℕ → Outcome → Type 0
+TrialOutcome seed size (Told text status line) = IsTrialReport seed size text status line
+TrialOutcome seed size (Refused line) = IsTooLarge size line ⊎ IsMadeRefusal seed size line
+
+abbrev pub WriteOutcome : Files → List ℕ → Outcome → Type 0
+WriteOutcome files manifest (Told text status line) = IsWritten files manifest text status line
+WriteOutcome files manifest (Refused line) = IsRefusal files manifest line
+
+-- A trial asks nothing of the package.
 abbrev pub OutcomeOf : Files → Command → Outcome → Type 0
 OutcomeOf files (Check manifest) outcome = CheckOutcome files manifest outcome
 OutcomeOf files (Audit manifest report) outcome = AuditOutcome files manifest report outcome
+OutcomeOf files (Trial seed size) outcome = TrialOutcome seed size outcome
+OutcomeOf files (Write manifest) outcome = WriteOutcome files manifest outcome
+
+-- P holds of the files that a command reads: those of the package, where it tells them, and for a trial those that it makes.
+abbrev pub OfFilesRead : Command → Option Files → (Files → Type 0) → Type 0
+OfFilesRead (Check manifest) held P = IfSome held P
+OfFilesRead (Audit manifest report) held P = IfSome held P
+OfFilesRead (Trial seed size) held P = P (made_files seed size)
+OfFilesRead (Write manifest) held P = IfSome held P
 
 -- The package fits, and the name is that of the report, which comes next.
 pub record IsReportNext (files : Files) (manifest report name : List ℕ) : Type 0 where
@@ -138,7 +208,9 @@ pub record IsReportNext (files : Files) (manifest report name : List ℕ) : Type
   pub board_is : IsBoardOf files manifest board
   pub name_is : name ≡ report
 
--- The name is that of a file of the command's order, and every file before it is held and has no refusal.
+-- The name is that of a file of the command's order, and every file before it is held and has no refusal. A trial takes no file of the package.
 abbrev pub ComesFor : Files → Command → List ℕ → Type 0
 ComesFor files (Check manifest) name = Comes files manifest name
 ComesFor files (Audit manifest report) name = Comes files manifest name ⊎ IsReportNext files manifest report name
+ComesFor files (Trial seed size) name = ⊥
+ComesFor files (Write manifest) name = Comes files manifest name

@@ -1,11 +1,13 @@
 // The command `audit`.
 ghost use Rattle.board_io.specs.Causes.{Rose};
+ghost use Rattle.board_io.specs.Package.{IsFaultless};
 ghost use Rattle.board_io.specs.Sink.{Gains, GainsFrontOf};
-ghost use Rattle.board_package.specs.Causes.{HasCause};
+ghost use Rattle.board_package.specs.Causes.{HasCause, KeepsFaults};
 ghost use Rattle.board_package.specs.PackageBoard.{IsBoardOf, IsHeld};
 ghost use Rattle.board_shapes.specs.Laws.{HasOneTables};
 ghost use Rattle.board_shapes.specs.Plain.{plain_board};
 ghost use Rattle.boardnet.specs.Answers.{Answers, HasAuditCause, IsRuled, IsRuledOn};
+ghost use Rattle.boardnet.specs.Kept.{Keeps, LeftByAudit};
 ghost use Rattle.boardnet.specs.Lines.{Says, end, file_line, plain_line};
 ghost use Rattle.boardnet.specs.Outcome.{AuditOutcome, ComesFor, IsAnswer, IsAuditStop, IsNoReport, Refused};
 ghost use Rattle.boardnet.specs.Words.{Audit};
@@ -13,13 +15,14 @@ ghost use Rattle.lengths.specs.Text.{IsText};
 ghost use Rattle.std.specs.Prelude.{IfErr, IfOk, IfSome, List, ◌++◌, codes, decimal, ℕ, ◌≡◌, ◌≢◌, ◌≤◌, ◌⊎◌};
 
 use crate::lines;
+use crate::putting::{joined, put_text};
 use crate::refusing::{name_of, refuse};
-use board_io::{Package, Put, Sink};
+use board_io::{Package, Sink};
 use board_package::{BuildFault, build, laws, take_file};
 use board_shapes::{Board, laws as shapes};
 use lengths::NoMemory;
-use numerals::Numeral;
 use std::alloc::Global;
+use texts::Numeral;
 use verdict::{ReadFault, laws as verdicts, read_report};
 use witness_check::{Ruling, audit};
 
@@ -58,7 +61,9 @@ pub fn audit_report<P: Package, S: Sink, N: Sink>(
         × Says N.got N.faults notes.old notes.new (plain_line (codes "output cannot be written")) }
     ensures front { result ≡ 5 → IfSome (P.held «package».old) (λ files.
         (text line : List ℕ) × (status : ℕ) × IsAnswer files manifest.now report.now text status line × GainsFrontOf (S.got out.old) text (S.got out.new)) }
-    ensures silent { 2 ≤ result → result ≢ 5 → S.got out.new ≡ S.got out.old }
+    ensures silent { 2 ≤ result → result ≢ 5 → out.new ≡ out.old }
+    ensures kept { Keeps P.held P.faults P.lost «package».old «package».new result }
+    ensures later { (S.faults out.old ≤ S.faults out.new) × (N.faults notes.old ≤ N.faults notes.new) }
     ensures memory { result ≡ 6 → Says N.got N.faults notes.old notes.new (plain_line (codes "out of memory")) }
     ensures answered { IfSome (P.held «package».old) (λ files. (text line : List ℕ) (status : ℕ) → IsAnswer files manifest.now report.now text status line
         → (Rose (P.faults «package».old) (P.faults «package».new) → ⊥) → (Rose (S.faults out.old) (S.faults out.new) → ⊥) → (result ≡ status) ⊎ (result ≡ 6)) }
@@ -83,12 +88,12 @@ fn answer<S: Sink, N: Sink>(alloc: Global, ruling: Ruling, out: &mut S, notes: &
     ensures unwritten { result ≡ 5 → Rose (S.faults out.old) (S.faults out.new)
         × ((text line : List ℕ) × (status : ℕ) × Answers ruling text status line × GainsFrontOf (S.got out.old) text (S.got out.new))
         × Says N.got N.faults notes.old notes.new (plain_line (codes "output cannot be written")) }
-    ensures memory { result ≡ 6 → (S.got out.new ≡ S.got out.old) × Says N.got N.faults notes.old notes.new (plain_line (codes "out of memory")) }
+    ensures memory { result ≡ 6 → (out.new ≡ out.old) × Says N.got N.faults notes.old notes.new (plain_line (codes "out of memory")) }
+    ensures later { (S.faults out.old ≤ S.faults out.new) × (N.faults notes.old ≤ N.faults notes.new) }
 {
     match ruling {
         Ruling::True => {
-            if out.put(b"audit true\n") == Put::Failed {
-                lines::plain(notes, b"output cannot be written");
+            if !put_text(b"audit true\n", out, notes) {
                 return 5;
             }
             lines::plain(notes, b"audit true");
@@ -99,8 +104,7 @@ fn answer<S: Sink, N: Sink>(alloc: Global, ruling: Ruling, out: &mut S, notes: &
                 lines::plain(notes, b"out of memory");
                 return 6;
             };
-            if out.put(text.as_slice()) == Put::Failed {
-                lines::plain(notes, b"output cannot be written");
+            if !put_text(text.as_slice(), out, notes) {
                 return 5;
             }
             lines::untrue(notes, clause);
@@ -113,11 +117,14 @@ fn answer<S: Sink, N: Sink>(alloc: Global, ruling: Ruling, out: &mut S, notes: &
 fn untrue_text(alloc: Global, clause: u8) -> Result<Vec<u8>, NoMemory>
     ensures { IfOk result (λ text. text.items ≡ codes "audit untrue " ++ decimal clause ++ end) }
 {
-    let mut text = Vec::new(alloc);
-    text.extend_from_slice(b"audit untrue ")?;
-    text.extend_from_slice(Numeral::of(u64::from(clause)).as_bytes())?;
-    text.extend_from_slice(b"\n")?;
-    Ok(text)
+    joined(
+        alloc,
+        &[
+            b"audit untrue ",
+            Numeral::of(u64::from(clause)).as_bytes(),
+            b"\n",
+        ],
+    )
 }
 
 // The ruling on a report on the package of a manifest.
@@ -129,6 +136,10 @@ fn ruling_of<P: Package>(
 ) -> Result<Ruling, AuditFault>
     requires manifest { IsText manifest.now }
     requires report { IsText report.now }
+    ensures held { P.held «package».new ≡ P.held «package».old }
+    ensures later { P.faults «package».old ≤ P.faults «package».new }
+    ensures calm { IfOk result (λ _. IsFaultless (P.faults «package».old) (P.lost «package».old) (P.faults «package».new) (P.lost «package».new)) }
+    ensures left { IfErr result (λ fault. LeftByAudit fault (P.faults «package».old) (P.lost «package».old) (P.faults «package».new) (P.lost «package».new)) }
     ensures ok { IfOk result (λ ruling. IfSome (P.held «package».old) (λ files. IsRuled files manifest.now report.now ruling)) }
     ensures fault { IfErr result (HasAuditCause (P.held «package».old) manifest.now report.now (P.faults «package».old) (P.faults «package».new) (P.lost «package».new)) }
 {
@@ -153,6 +164,10 @@ fn taken<P: Package>(
 ) -> Result<Board, BuildFault>
     requires manifest { IsText manifest.now }
     requires report { IsText report.now }
+    ensures held { P.held «package».new ≡ P.held «package».old }
+    ensures later { P.faults «package».old ≤ P.faults «package».new }
+    ensures calm { IfOk result (λ _. IsFaultless (P.faults «package».old) (P.lost «package».old) (P.faults «package».new) (P.lost «package».new)) }
+    ensures left { IfErr result (KeepsFaults (P.faults «package».old) (P.lost «package».old) (P.faults «package».new) (P.lost «package».new)) }
     ensures ok { IfOk result (λ board. IfSome (P.held «package».old) (λ files. IsBoardOf files manifest.now (plain_board board) × IsHeld files report.now file.new.items)) }
     ensures fault { IfErr result (HasCause (P.held «package».old) (λ files stop. IsAuditStop files manifest.now report.now stop) (λ files name. ComesFor files (Audit manifest.now report.now) name) (P.faults «package».old) (P.faults «package».new) (P.lost «package».new)) }
 {

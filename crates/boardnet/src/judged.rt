@@ -1,12 +1,10 @@
-// The work on a board: its nets, its verdict and the text of it.
+// The work on a board: its nets and its verdict.
 ghost use Rattle.board_shapes.specs.Plain.{plain_board};
 ghost use Rattle.boardnet.specs.Outcome.{IsRightOn};
 ghost use Rattle.std.specs.Prelude.{IfOk, ◌<◌, ◌≡◌};
-ghost use Rattle.verdict.specs.Lawful.{IsVerdict};
-ghost use Rattle.verdict.specs.ReportText.{report_text};
 
 use board_shapes::{Board, laws as shapes};
-use cell_index::AllPairs;
+use cell_index::Cells;
 use flood::{flood, homes, laws as nets};
 use judge::judge;
 use lengths::NoMemory;
@@ -14,16 +12,14 @@ use std::alloc::Global;
 use std::marker::Brand;
 use std::sync::ledger::{Blank, Ledger};
 use steps::Steps;
-use verdict::{Verdict, write_report};
+use verdict::Verdict;
 use witness_check::laws as verdicts;
 
-/// The right verdict on a board, and its text.
-pub fn judged(alloc: Global, board: &Board) -> Result<(Verdict, Vec<u8>), NoMemory>
-    ensures { IfOk result (λ r. IsRightOn (plain_board board.now) r.0 × IsVerdict r.0 × (r.1.items ≡ report_text r.0)) }
+/// The right verdict on a board.
+pub fn verdict_on(alloc: Global, board: &Board) -> Result<Verdict, NoMemory>
+    ensures { IfOk result (IsRightOn (plain_board board.now)) }
 {
-    let verdict = verdict_of::<Brand>(alloc, board, Blank::new(1))?;
-    let text = write_report(alloc, &verdict)?;
-    Ok((verdict, text))
+    verdict_of::<Brand>(alloc, board, Blank::new(1))
 }
 
 // The right verdict, found with a counter of contact tests. The calls of laws do nothing when the program runs.
@@ -34,7 +30,7 @@ fn verdict_of<L: Ledger>(alloc: Global, board: &Board, blank: Blank) -> Result<V
     ensures { IfOk result (IsRightOn (plain_board board.now)) }
 {
     let mut tests = Steps::<L>::new(blank);
-    let pieces = AllPairs::new(board.pieces(), board.frame());
+    let pieces = Cells::new(alloc, board.pieces(), board.frame(), board.layers())?;
     let trees = flood(alloc, &pieces, &mut tests)?;
     let least = homes(alloc, &pieces, board.probes())?;
     nets::nets_are_of_the_board();

@@ -1,7 +1,23 @@
-// The law over the outcomes. Its call does nothing.
+// Laws over the outcomes. Their calls do nothing.
 ghost use Rattle.boardnet.specs.Laws.{ReportsPass};
+ghost use Rattle.boardnet.specs.Written.{WrittenNetlistsPass};
+
+use board_package::laws as packages;
+use netlist_writer::laws as netlists;
 
 /// The report that `check` writes passes the audit of the same package.
 pub fn reports_pass()
     ensures { ReportsPass }
 {}
+
+/// The netlist that `write` puts agrees with the copper: a package that holds it in place of its own netlist fits, and where
+/// `check` puts a report on it the status is 0.
+pub fn written_netlists_pass()
+    ensures { WrittenNetlistsPass }
+{
+    packages::one_outcome();
+    netlists::boards_are_writable();
+    netlists::written_netlist_reads();
+    netlists::written_netlists_are_short();
+    netlists::written_netlist_agrees();
+}

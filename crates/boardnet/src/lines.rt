@@ -4,7 +4,7 @@ ghost use Rattle.std.specs.List.{flat_map};
 
 use board_io::{Put, Sink};
 use contact::Bounds;
-use numerals::Numeral;
+use texts::Numeral;
 
 /// Puts the pieces of a line one by one, as long as none fails.
 pub fn put_all<N: Sink>(notes: &mut N, pieces: &[&[u8]])

@@ -1,20 +1,24 @@
 //! boardnet: does the copper of a bare board join exactly the points that its netlist joins?
 //!
 //! The words of the command line are judged (`words`). For `check` the package's board is built, judged and printed
-//! (`checking`, `judged`); for `audit` a report on it is read and audited (`auditing`). A line about the outcome goes to the
-//! notes (`lines`, `refusing`).
+//! (`checking`, `judged`); for `audit` a report on it is read and audited (`auditing`); for `trial` a made package is checked
+//! (`trial`); for `write` a netlist of its nets is made (`writing`). A text goes to the output (`putting`), and a line about the outcome to the notes (`lines`, `refusing`).
 #![tactic(auto)]
 
 pub mod auditing;
+pub mod certified;
 pub mod checking;
 pub mod judged;
 pub mod laws;
 pub mod lines;
+pub mod putting;
 pub mod refusing;
 pub mod run;
 #[cfg(test)]
 mod tests;
+pub mod trial;
 pub mod words;
+pub mod writing;
 
 use board_io::{FolderPackage, StreamSink};
 use run::run;

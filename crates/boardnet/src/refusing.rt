@@ -2,7 +2,7 @@
 ghost use Rattle.boardnet.specs.Answers.{Refuses};
 ghost use Rattle.boardnet.specs.Lines.{Says};
 ghost use Rattle.lengths.specs.Text.{IsText};
-ghost use Rattle.std.specs.Prelude.{IfErr, IfOk, ◌≡◌};
+ghost use Rattle.std.specs.Prelude.{IfErr, IfOk, ◌≡◌, ◌≤◌};
 
 use crate::lines::{self, Kind};
 use board_io::Sink;
@@ -12,7 +12,8 @@ use std::alloc::Global;
 
 // Puts the line of a fault, and answers its status.
 pub fn refuse<N: Sink>(manifest: &str, fault: &BuildFault, notes: &mut N) -> u8
-    ensures { Refuses manifest.now fault.now result (Says N.got N.faults notes.old notes.new) }
+    ensures line { Refuses manifest.now fault.now result (Says N.got N.faults notes.old notes.new) }
+    ensures later { N.faults notes.old ≤ N.faults notes.new }
 {
     match fault {
         BuildFault::NotJson => {

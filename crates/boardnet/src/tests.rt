@@ -1,9 +1,14 @@
 // Calls of `run` over memory: worked boards and packages, audits of their reports, made boards, and words and faults.
 mod audits;
 mod boards;
+mod certificates;
+mod cut;
+mod failing;
 mod faults;
 mod made;
+mod netlists;
 mod packages;
+mod trials;
 
 use crate::run::run;
 use board_io::{MemoryPackage, MemorySink};

@@ -8,11 +8,14 @@ use std::test::Fail;
 #[test]
 fn words_and_faults(rt: HostRuntime) -> Result<(), Fail> {
     let alloc = rt.alloc();
-    let wrong: [&[&str]; 9] = [
+    let wrong: [&[&str]; 12] = [
         &[],
         &["check"],
         &["check", "m.json", "x"],
         &["trial", "01", "5"],
+        &["trial", "1"],
+        &["trial", "+1", "5"],
+        &["trial", "1", "05"],
         &["check", ""],
         &["audit"],
         &["audit", "m.json"],

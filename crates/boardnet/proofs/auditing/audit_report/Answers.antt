@@ -16,7 +16,7 @@ returns-in-Err-Stopped-clause-answered g c =
     stopped_answers _ _ _ _ _ _ c.in-Err-Stopped.fault _ _ _ c.one_outcome.ensures
     (subst (λ why. HasAuditCause (g.P.Package.held c.args.package.now) c.args.manifest.now c.args.report.now (g.P.Package.faults c.args.package.now) (g.P.Package.faults c.ruling_of.new.package) (g.P.Package.lost c.ruling_of.new.package) why)
     c.in-Err-Stopped.field-0-is c.in-Err-Stopped.ensures.fault)
-    (subst (λ why. Refuses c.args.manifest.now why c.refuse.result (Says g.N.Sink.got g.N.Sink.faults c.args.notes.now c.refuse.new.notes)) c.in-Err-Stopped.fault-is c.refuse.ensures)
+    (subst (λ why. Refuses c.args.manifest.now why c.refuse.result (Says g.N.Sink.got g.N.Sink.faults c.args.notes.now c.refuse.new.notes)) c.in-Err-Stopped.fault-is c.refuse.ensures.line)
 
 pub returns-in-Err-NotAReport-clause-refused : goal.returns-in-Err-NotAReport-clause-refused
 returns-in-Err-NotAReport-clause-refused g c = λ three.

@@ -1,0 +1,53 @@
+-- From a report that was written and is held to the status of its audit.
+use Rattle.std.proofs.Common.{◌≡◌, ◌⊎◌, ◌≤◌, ℕ, Bool, true, false, cond, List, [], length, Option, Some, None, IfSome, String, refl, sym, subst, ap, ◌++◌, ◌∙◌, arith}
+use Rattle.std.specs.Str.{bytes_eq}
+use Rattle.std.proofs.lemmas.Slice.Eq.{bytes_eq-Decides}
+use Rattle.std.specs.declared.alloc.Global.{Global}
+use Rattle.board_io.specs.Causes.{Rose}
+use Rattle.board_io.specs.Memory.{HoldsAlso}
+use Rattle.board_io.specs.Package.{Files}
+use Rattle.board_io.specs.Sink.{Gains}
+use Rattle.board_package.specs.PackageBoard.{most_bytes}
+use Rattle.boardnet.specs.Laws.{HoldsReport, ReportsPass}
+use Rattle.boardnet.specs.Outcome.{IsAnswer, IsReport}
+use Rattle.boardnet.specs.Words.{IsAudit, IsCheck}
+
+still : (before mid after : Files) (report bytes name held : List ℕ) (same : Bool) → bytes_eq report name ≡ same → mid ≡ before → before report ≡ None
+    → after name ≡ cond same (Some bytes) (mid name) → before name ≡ Some held → after name ≡ Some held
+still before mid after report bytes name held true e m free a b =
+    let is : report ≡ name = (bytes_eq-Decides report name).0 e in
+    let none : before name ≡ None = subst (λ (z : List ℕ). before z ≡ None) is free in
+    absurd (cc (none, b))
+still before mid after report bytes name held false e m free a b = a ∙ (subst (λ (z : Files). z name ≡ Some held) (sym m) b)
+
+pub holds_report : (before mid after : Files) (report bytes : List ℕ) → mid ≡ before → before report ≡ None → HoldsAlso mid report bytes after → length bytes ≤ most_bytes → HoldsReport before after report bytes
+holds_report before mid after report bytes m free also short = record {
+  still = λ name held b. still before mid after report bytes name held (bytes_eq report name) refl m free (also name) b;
+  held = let same : bytes_eq report report ≡ true = (bytes_eq-Decides report report).1 refl in also report ∙ (rw same refl);
+  short = short;
+}
+
+-- what a sink that was empty got is what was put
+pub all_got : (text before got : List ℕ) → before ≡ [] → Gains (Some before) text (Some got) → got ≡ text
+all_got text before got e g = let all : got ≡ before ++ text = cc g in all ∙ ap (λ (b : List ℕ). b ++ text) e
+
+-- the count of a package that was held rose only where it rose from the start
+pub rose_from : (start mid now : ℕ) → start ≤ mid → Rose mid now → Rose start now
+rose_from start mid now le rose = omega arith
+
+-- a report is written, and an answer is answered
+abbrev pub Wrote : Files → List (String Global) → ℕ → List ℕ → Type 0
+Wrote files words status got = (name : List ℕ) → IsCheck words name → (text line : List ℕ) × IsReport files name text status line × (got ≡ text)
+
+abbrev pub Rules : Files → List (String Global) → ℕ → Type 0 → Type 0 → Type 0
+Rules files words status A B = (manifest report : List ℕ) → IsAudit words manifest report → (text line : List ℕ) (s : ℕ) → IsAnswer files manifest report text s line → (A → ⊥) → (B → ⊥) → (status ≡ s) ⊎ (status ≡ 6)
+
+pub passes : (before mid after : Files) (checking auditing : List (String Global)) (report got bytes : List ℕ) (checked status : ℕ) (A B : Type 0) → ReportsPass
+    → (manifest : List ℕ) → IsCheck checking manifest → IsAudit auditing manifest report → before report ≡ None → mid ≡ before
+    → Wrote before checking checked got → bytes ≡ got → HoldsAlso mid report bytes after → length bytes ≤ most_bytes → Rules after auditing status A B
+    → (A → ⊥) → (B → ⊥) → (status ≡ 0) ⊎ (status ≡ 6)
+passes before mid after checking auditing report got bytes checked status A B law manifest check audit free m wrote same also short rules calm quiet =
+    let (text, line, is, all) = wrote manifest check in
+    let is_text : text ≡ bytes = sym (same ∙ all) in
+    let holds : HoldsReport before after report bytes = holds_report before mid after report bytes m free also short in
+    rules manifest report audit _ _ 0 (law before after manifest report bytes line checked (subst (λ (z : List ℕ). IsReport before manifest z checked line) is_text is) holds) calm quiet

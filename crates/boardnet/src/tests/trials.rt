@@ -1,0 +1,51 @@
+// Trials of made boards.
+use crate::tests::{answer, shown};
+use board_io::MemoryPackage;
+use std::test::Fail;
+
+#[test]
+fn trials(rt: HostRuntime) -> Result<(), Fail> {
+    let alloc = rt.alloc();
+    let rows: [(&[&str], u8, &str, &str); 5] = [
+        (
+            &["trial", "1", "9"],
+            1,
+            "boardnet: trial done\n",
+            "trial 1 9\npieces 45\nnets 9\npoints 27\nopens 1\nshorts 1\nmissing 0\n",
+        ),
+        (
+            &["trial", "18446744073709551615", "0"],
+            0,
+            "boardnet: trial done\n",
+            "trial 18446744073709551615 0\npieces 0\nnets 0\npoints 0\nopens 0\nshorts 0\nmissing 0\n",
+        ),
+        (
+            &["trial", "1", "10001"],
+            3,
+            "boardnet: trial size too large\n",
+            "",
+        ),
+        (
+            &["trial", "1", "4294967296"],
+            2,
+            "boardnet: words not understood\n",
+            "",
+        ),
+        (
+            &["trial", "18446744073709551616", "5"],
+            2,
+            "boardnet: words not understood\n",
+            "",
+        ),
+    ];
+    for (given, status, line, text) in rows {
+        let mut package = MemoryPackage::new(alloc);
+        package.fail_at(0)?;
+        let (found, out, notes) = answer(alloc, given, &mut package)?;
+        assert_eq!(rt; found, status);
+        assert_eq!(rt; shown(&notes), line);
+        assert_eq!(rt; shown(&out), text);
+        assert_eq!(rt; package.calls(), 0);
+    }
+    Ok(())
+}
