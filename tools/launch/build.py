@@ -1,0 +1,160 @@
+#!/usr/bin/env python3
+"""Builds the program of a checkout and then runs a command: build.py TOP COMMAND [WORD ..]
+
+The program is taken where it stands for the very same sources: in the checkout, where the gate left it, or among the
+programs that this user's earlier builds and gates kept. Else every crate is proved, as many at a time as there are
+processors and memory, and the program is built. What was proved stays, so an interrupted call goes on where it was.
+
+    build.py --keep TOP      keeps a program that was built, for other checkouts of the same sources
+"""
+import os
+import re
+import signal
+import subprocess
+import sys
+import time
+
+sys.dont_write_bytecode = True
+sys.path.insert(0, os.path.dirname(os.path.abspath(__file__)))
+import kept  # noqa: E402
+from progress import Progress  # noqa: E402
+
+INTERRUPTED, FAILED = 130, 70
+# A check takes one to four gigabytes.
+MEMORY_OF_A_CHECK = 3 << 30
+
+
+def crates_of(top):
+    """The crates in the order of crates.txt."""
+    with open(os.path.join(top, "crates.txt"), encoding="utf-8") as file:
+        return [line.split(":")[0].split()[0] for line in file if ":" in line and not line.startswith("#")]
+
+
+def at_a_time():
+    """As many checks as there are processors and free memory."""
+    processors = len(os.sched_getaffinity(0))
+    with open("/proc/meminfo", encoding="ascii") as file:
+        free = next((int(line.split()[1]) << 10 for line in file if line.startswith("MemAvailable:")), 0)
+    return max(1, min(processors, free // MEMORY_OF_A_CHECK))
+
+
+def line_of_rt():
+    done = subprocess.run(["rt", "version"], stdin=subprocess.DEVNULL, stdout=subprocess.PIPE, stderr=subprocess.DEVNULL)
+    return done.stdout.decode("utf-8", "replace").strip()
+
+
+class Stop(Exception):
+    """A build that ended; the status and the words for the user."""
+
+    def __init__(self, status, words):
+        super().__init__(words)
+        self.status = status
+
+
+class Build:
+    def __init__(self, top, out=sys.stderr):
+        self.top = top
+        self.crate = os.path.join(top, "crates", "boardnet")
+        self.log = os.path.join(self.crate, "out", "build.log")
+        self.crates = crates_of(top)
+        self.progress = Progress(top, self.crates, out)
+        self.running = None
+
+    def start(self, folder, words):
+        os.makedirs(os.path.dirname(self.log), exist_ok=True)
+        how = {"cwd": folder, "stdin": subprocess.DEVNULL, "stdout": subprocess.PIPE, "stderr": subprocess.STDOUT}
+        self.running = subprocess.Popen(words, **how)
+        return self.running
+
+    def libraries(self):
+        """Proves every crate under the program's, and leaves the program's check, which alone can use all processors."""
+        left, is_left = set(self.crates) - {"boardnet"}, False
+        running = self.start(self.top, ["rt", "all", "check", "--jobs", str(at_a_time())])
+        with open(self.log, "wb") as log:
+            for line in self.progress.lines(running):
+                log.write(line)
+                log.flush()
+                ended = re.match(rb"== (\w+)$", line)
+                if ended:
+                    self.progress.ended(ended.group(1).decode())
+                    left.discard(ended.group(1).decode())
+                if not left and not is_left:
+                    is_left = True
+                    running.terminate()
+        if running.wait() and not is_left:
+            raise Stop(FAILED, self.why())
+
+    def why(self):
+        """The words for a build that failed: where its log is, and the log's first errors."""
+        with open(self.log, encoding="utf-8", errors="replace") as log:
+            errors = [line.rstrip()[:200] for line in log if re.search(r"\berror\b|NOT PROVED|^rt: ", line)]
+        return "\n".join([f"the build failed; {self.log} says where", *errors[:5]])
+
+    def program(self):
+        """Proves the crate of the program and builds it; rt then runs the program without words, which answers 2."""
+        self.progress.says = "proving and building the program"
+        running = self.start(self.crate, ["rt", "run", "--jobs", str(at_a_time())])
+        is_run = False
+        with open(self.log, "ab") as log:
+            for line in self.progress.lines(running):
+                log.write(line)
+                is_run = is_run or line.startswith(b"rt: running out/boardnet")
+        running.wait()
+        return is_run
+
+    def run(self):
+        self.progress.begin()
+        try:
+            self.libraries()
+            if not self.program():
+                raise Stop(FAILED, self.why())
+        except KeyboardInterrupt:
+            # A terminal tells rt too; a lone signal does not. Its own commands end with it.
+            self.running.terminate()
+            self.running.wait()
+            raise Stop(INTERRUPTED, "interrupted; what was proved is kept, and the next call goes on there") from None
+        finally:
+            self.progress.end()
+
+
+def warn_of_other_kit(top):
+    with open(os.path.join(top, "tools", "toolchain"), encoding="utf-8") as file:
+        wanted = file.read().strip()
+    found = line_of_rt()
+    if found != wanted:
+        print(f"boardnet: rt version prints {found or 'nothing'}; these sources are made for {wanted}", file=sys.stderr)
+    return found
+
+
+def build(top):
+    """Returns once the program stands for these sources."""
+    signal.signal(signal.SIGTERM, lambda *_: (_ for _ in ()).throw(KeyboardInterrupt()))
+    sum_of = kept.sum_of_sources(top, warn_of_other_kit(top))
+    if kept.is_same(top, sum_of):
+        return
+    if kept.take(top, sum_of):
+        print("boardnet: taking the program that this machine built of the same sources", file=sys.stderr)
+        return
+    Build(top).run()
+    kept.note(top, sum_of)
+    kept.keep(top, sum_of)
+
+
+def main(words):
+    if len(words) == 2 and words[0] == "--keep":
+        sum_of = kept.sum_of_sources(words[1], line_of_rt())
+        kept.note(words[1], sum_of)
+        kept.keep(words[1], sum_of)
+        return 0
+    if len(words) < 2:
+        sys.exit(__doc__)
+    try:
+        build(words[0])
+    except Stop as stop:
+        print(f"boardnet: {stop}", file=sys.stderr)
+        return stop.status
+    os.execv(words[1], words[1:])
+
+
+if __name__ == "__main__":
+    sys.exit(main(sys.argv[1:]))

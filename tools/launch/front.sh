@@ -1,0 +1,180 @@
+# The front of boardnet, sourced by the command of the repository and by the installed one: help, version, folders in place
+# of manifests, and a loud word where nothing was judged. It changes no status and no byte of the program's output.
+#
+# The caller sets home (where help.txt and the tools lie), sets program, and has the functions version and ready: ready sees
+# to it that the program is there.
+
+say() { printf 'boardnet: %s\n' "$*" >&2; }
+
+# Prints the lines of a section of the help text.
+section() {
+  on=
+  while IFS= read -r line; do
+    case $line in
+      "= $1" | "= $1 "*) on=1 ;;
+      "= "*) on= ;;
+      *) [ -z "$on" ] || printf '%s\n' "$line" ;;
+    esac
+  done <"$home/help.txt"
+}
+
+# Prints the heads of the commands, each with the line under it.
+commands() {
+  head=
+  while IFS= read -r line; do
+    [ -z "$head" ] || printf '  boardnet %s\n      %s\n' "$head" "$line"
+    head=
+    case $line in "= boardnet" | "= files" | "= status") ;; "= "*) head=${line#= } ;; esac
+  done <"$home/help.txt"
+}
+
+help() {
+  section boardnet
+  commands
+  printf '  boardnet COMMAND --help | --help | --version\n\n'
+  section files
+  printf 'Status\n'
+  section status
+}
+
+# Prints the page of one command, or fails where there is no such command.
+help_of() {
+  case ${1-} in '' | boardnet | files | status | *' '*) return 1 ;; esac
+  head=
+  while IFS= read -r line; do
+    case $line in "= $1" | "= $1 "*) head=${line#= } ;; esac
+  done <"$home/help.txt"
+  [ -n "$head" ] || return 1
+  printf 'boardnet %s\n\n' "$head"
+  section "$1"
+  case $head in *MANIFEST*) section files ;; esac
+  case $1 in install) ;; *) [ -f "$home/$1" ] || { printf 'Status\n'; section status; } ;; esac
+}
+
+# Whether the command's first word is a manifest, by its head in the help text.
+takes_manifest() {
+  while IFS= read -r line; do
+    case $line in "= $1 MANIFEST" | "= $1 MANIFEST "*) return 0 ;; esac
+  done <"$home/help.txt"
+  return 1
+}
+
+# Whether the program takes the text as the name of a file: 1 to 200 printable ASCII characters.
+is_name() (
+  LC_ALL=C
+  case $1 in '' | *[!\ -~]*) return 1 ;; esac
+  [ ${#1} -le 200 ]
+)
+
+# Sets folder and name to where a manifest lies; folder is empty where it is the current one.
+find_manifest() {
+  folder='' name=$1
+  if [ -d "$1" ]; then
+    folder=$1 name=m.json
+    [ -e "$1/m.json" ] || say "$1 has no m.json; \`boardnet manifest $1\` writes one"
+  else
+    case $1 in */?*) folder=${1%/*}/ name=${1##*/} ;; esac
+  fi
+}
+
+# Sets report to how REPORT is named from the manifest's folder.
+find_report() {
+  report=$1
+  case $1 in /*) ;; *) report=$PWD/$1 ;; esac
+  [ -e "$report" ] || [ ! -e "$folder/$1" ] || say "$1 is looked for in $PWD; the one beside the manifest is $folder/$1"
+  beside=$(CDPATH='' cd -P -- "${report%/*}/" 2>/dev/null && pwd -P) || beside=''
+  [ "$beside" != "$(CDPATH='' cd -P -- "$folder" && pwd -P)" ] || report=${report##*/}
+  is_name "$report" ||
+    say "$report is no name of at most 200 printable ASCII characters: copy the report beside the manifest, or go to its folder"
+}
+
+# Sets netlist to the name in the manifest, or to nothing where it is not written plainly.
+find_netlist() {
+  text='' netlist=''
+  [ -r "$1" ] || return
+  while IFS= read -r line || [ -n "$line" ]; do text="$text $line"; done <"$1"
+  text=${text##*\"netlist\"}
+  text=${text#"${text%%[! 	]*}"}
+  case $text in :*) text=${text#:} ;; *) return ;; esac
+  text=${text#"${text%%[! 	]*}"}
+  case $text in \"*\"*) text=${text#\"} ;; *) return ;; esac
+  case ${text%%\"*} in *\\*) ;; *) netlist=${text%%\"*} ;; esac
+}
+
+# Whether the report of a command has a test point; the command runs once more for it.
+reports_points() {
+  "$program" "$1" "$2" 2>/dev/null | {
+    while IFS= read -r line; do case $line in 'points 0') exit 1 ;; 'points '*) exit 0 ;; esac; done
+  }
+}
+
+# Whether an accepted manifest's netlist has a test record. Where its name is not plain, the report says it.
+has_points() {
+  find_netlist "$1"
+  if [ -f "$netlist" ]; then
+    while IFS= read -r line || [ -n "$line" ]; do
+      case $line in 317* | 327*) return 0 ;; esac
+    done <"$netlist"
+    return 1
+  fi
+  reports_points check "$1"
+}
+
+# Says so where a yes is about no test point at all.
+warn_of_nothing() {
+  case $1 in
+    check | audit)
+      has_points "$2" ||
+        say "NOTHING WAS JUDGED: $2 names a netlist without test points (no 317 and no 327 record), so this yes says nothing about the board"
+      ;;
+    x2)
+      reports_points x2 "$2" ||
+        say "NOTHING WAS JUDGED: no copper file of $2 has a net label (TO.N), so this yes says nothing about the board"
+      ;;
+  esac
+}
+
+# Runs the program with these words, from the manifest's folder, and returns its status.
+run() {
+  if [ $# -ge 2 ] && takes_manifest "$1"; then
+    command=$1
+    find_manifest "$2"
+    if [ -n "$folder" ] && (CDPATH='' cd -- "$folder") 2>/dev/null; then
+      shift 2
+      if [ "$command" = audit ] && [ $# = 1 ]; then find_report "$1"; set -- "$report"; fi
+      CDPATH='' cd -- "$folder" && set -- "$command" "$name" "$@"
+    fi
+  fi
+  "$program" "$@"
+  status=$?
+  [ $status != 0 ] || [ $# -lt 2 ] || warn_of_nothing "$1" "$2"
+  return $status
+}
+
+# Whether the command is a tool: it has a page in the help text, and lies beside it.
+is_tool() {
+  case ${1-} in '' | */* | *' '*) return 1 ;; esac
+  [ -f "$home/$1" ] && help_of "$1" >/dev/null
+}
+
+# Runs a tool with Python, which alone wants it.
+tool() {
+  command -v python3 >/dev/null 2>&1 || { say "\`boardnet $1\` wants Python 3.8 or later, and there is no python3 on the PATH"; exit 127; }
+  tool=$home/$1
+  shift
+  exec python3 "$tool" "$@"
+}
+
+# Judges the words.
+front() {
+  case ${1-} in
+    --help | -h) help; exit 0 ;;
+    --version) version; exit 0 ;;
+    help) if help_of "${2-}"; then exit 0; fi; help; exit 0 ;;
+  esac
+  if [ $# = 2 ] && { [ "$2" = --help ] || [ "$2" = -h ]; } && help_of "$1"; then exit 0; fi
+  if is_tool "${1-}"; then tool "$@"; fi
+  ready "$@"
+  run "$@"
+  exit $?
+}

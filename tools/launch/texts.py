@@ -1,0 +1,158 @@
+#!/usr/bin/env python3
+"""The help text as other texts: texts.py man|bash|zsh
+
+tools/help.txt is the one place that has the words. Each section begins with a line `= HEAD`; the heads of commands begin
+with the command, the other sections are boardnet, files and status. The first line of a command says what it does.
+"""
+import os
+import sys
+
+TOOLS = os.path.dirname(os.path.dirname(os.path.abspath(__file__)))
+OTHER = ("boardnet", "files", "status")
+
+
+def sections():
+    """Each head with its lines, in order."""
+    found = []
+    with open(os.path.join(TOOLS, "help.txt"), encoding="ascii") as file:
+        for line in file.read().splitlines():
+            if line.startswith("= "):
+                found.append((line[2:], []))
+            else:
+                found[-1][1].append(line)
+    return [(head, "\n".join(lines).strip("\n").split("\n")) for head, lines in found]
+
+
+def commands():
+    """Each command: its head, what it does, and the paragraphs of its page."""
+    return [(head, lines[0], "\n".join(lines[1:]).strip("\n")) for head, lines in sections() if head not in OTHER]
+
+
+def is_of_the_installed(head):
+    """Whether the command is there where only the program and its tools are."""
+    return not head.startswith("install ")
+
+
+def installed():
+    """The help text without what the repository alone can do."""
+    kept = [(head, lines) for head, lines in sections() if is_of_the_installed(head)]
+    return "\n".join("\n".join([f"= {head}", *lines, ""]) for head, lines in kept)
+
+
+def other(name):
+    return next(lines for head, lines in sections() if head == name)
+
+
+def roff(text):
+    """A text in which roff sees no command."""
+    lines = text.replace("\\", "\\e").replace("-", "\\-").split("\n")
+    return "\n".join("\\&" + line if line.startswith((".", "'")) else line for line in lines)
+
+
+def filled(text):
+    return roff(text).replace("\n\n", "\n.PP\n")
+
+
+def as_written(lines):
+    return ".nf\n" + roff("\n".join(lines)) + "\n.fi"
+
+
+def man(release):
+    title, about = other("boardnet")[0].split(": ", 1)
+    kept = [it for it in commands() if is_of_the_installed(it[0])]
+    parts = [f'.TH BOARDNET 1 "" "boardnet {release}" "User commands"', ".SH NAME", f"{title} \\- {roff(about)}", ".SH SYNOPSIS"]
+    parts += [f".B boardnet {roff(head)}\n.br" for head, _, _ in kept] + [".B boardnet [COMMAND] \\-\\-help | \\-\\-version", ".SH COMMANDS"]
+    for head, does, text in kept:
+        parts += [f".SS boardnet {roff(head)}", roff(does[:1].upper() + does[1:]) + ".", ".PP", filled(text)]
+    parts += [".SH FILES", as_written(other("files")), ".SH EXIT STATUS", as_written(other("status"))]
+    return "\n".join(parts) + "\n"
+
+
+# What a command's words are, for completions: by the name of the word in its head.
+BASH = r"""# Completion of boardnet for bash.
+_boardnet() {
+  local word=${COMP_WORDS[COMP_CWORD]}
+  if [ "$COMP_CWORD" = 1 ]; then
+    COMPREPLY=($(compgen -W "@NAMES@ --help --version" -- "$word"))
+  elif [ "${word#-}" != "$word" ]; then
+    case ${COMP_WORDS[1]} in
+@OPTIONS@
+      *) COMPREPLY=($(compgen -W "--help" -- "$word")) ;;
+    esac
+  else
+    compopt -o filenames
+    case ${COMP_WORDS[1]} in
+@NONE@
+      *) COMPREPLY=($(compgen -f -- "$word")) ;;
+    esac
+  fi
+}
+complete -F _boardnet boardnet
+"""
+
+ZSH = """#compdef boardnet
+# Completion of boardnet for zsh.
+local -a commands options
+commands=(
+@COMMANDS@
+)
+options=('--help:prints all commands' '--version:prints the release, the commit and the toolchain')
+if (( CURRENT == 2 )); then
+  _describe command commands
+  _describe -o option options
+else
+  case $words[2] in
+@OPTIONS@
+    *) _arguments '--help[prints the page of the command]' '*:file:_files' ;;
+  esac
+fi
+"""
+
+
+def options_of(head):
+    """The options in a head, each with the name of its value or nothing."""
+    words = head.replace("[", " ").replace("]", " ").split()
+    return [(word, next(iter(words[at + 1:at + 2]), "")) for at, word in enumerate(words) if word.startswith("--")]
+
+
+def takes_files(head):
+    return any(word in head for word in ("MANIFEST", "FILE", "FOLDER"))
+
+
+def bash():
+    heads = [head for head, _, _ in commands() if is_of_the_installed(head)]
+    names = " ".join(head.split()[0] for head in heads)
+    options = [f'      {head.split()[0]}) COMPREPLY=($(compgen -W "--help {" ".join(name for name, _ in options_of(head))}" -- "$word")) ;;'
+               for head in heads if options_of(head)]
+    none = "|".join(head.split()[0] for head in heads if not takes_files(head))
+    text = BASH.replace("@NAMES@", names).replace("@OPTIONS@", "\n".join(options))
+    return text.replace("@NONE@", f"      {none}) ;;" if none else "")
+
+
+def zsh():
+    kept = [(head, does) for head, does, _ in commands() if is_of_the_installed(head)]
+    lines = ["  '" + f"{head.split()[0]}:{does}".replace("'", "'\\''") + "'" for head, does in kept]
+    options = []
+    for head, _ in kept:
+        words = ["'--help[prints the page of the command]'"]
+        words += [f"'{name}[]" + (":file:_files'" if value.isupper() else "'") for name, value in options_of(head)]
+        words += ["'*:file:_files'"] if takes_files(head) else []
+        if options_of(head) or not takes_files(head):
+            options.append(f"    {head.split()[0]}) _arguments {' '.join(words)} ;;")
+    return ZSH.replace("@COMMANDS@", "\n".join(lines)).replace("@OPTIONS@", "\n".join(options))
+
+
+def release():
+    with open(os.path.join(TOOLS, "release"), encoding="ascii") as file:
+        return file.read().strip()
+
+
+def main(words):
+    made = {"man": lambda: man(release()), "bash": bash, "zsh": zsh}
+    if len(words) != 1 or words[0] not in made:
+        sys.exit(__doc__)
+    sys.stdout.write(made[words[0]]())
+
+
+if __name__ == "__main__":
+    main(sys.argv[1:])

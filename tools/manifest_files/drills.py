@@ -1,0 +1,65 @@
+"""Drill files: plated or not, and the layers that their holes span."""
+import re
+
+from . import Refused
+
+FUNCTION = re.compile(rb"^[ \t]*; ?#@! ?TF\.FileFunction,([^\r\n]*)", re.M)
+TYPE = re.compile(rb"^[ \t]*; ?TYPE ?= ?(PLATED|NON_?PLATED)", re.M | re.I)
+UNPLATED_NAME = re.compile(r"npth|non?[._ -]?plated|un[._ -]?plated", re.I)
+PLATED_NAME = re.compile(r"pth|plated|(?:^|[._ -])via", re.I)
+APART = ("write plated and unplated holes to files of their own "
+         "(KiCad: Generate Drill Files, 'PTH and NPTH in single file' off), or the unplated ones would join layers")
+
+
+class Drills:
+    """A drill file of plated holes: its span, nothing where it is all layers, and why it is taken so (nothing where it says so)."""
+
+    def __init__(self, name, span=None, why=""):
+        self.name, self.span, self.why = name, span, why
+
+
+def of_attribute(name, function):
+    """What the attribute says: a file of plated holes, or a reason to leave it out."""
+    fields = function.strip().split(",")
+    if fields[0] == "MixedPlating":
+        raise Refused(f"{name} mixes plated and unplated holes: {APART}")
+    if fields[0] == "NonPlated":
+        return None, "its holes are not plated, so they join nothing"
+    if fields[0] != "Plated":
+        return None, f"its function is {function}"
+    if len(fields) < 3 or not (fields[1].isdigit() and fields[2].isdigit()):
+        raise Refused(f"{name} says that its holes are plated and not which layers they span: its comment is to be `; #@! TF.FileFunction,Plated,<from>,<to>`")
+    return Drills(name, (int(fields[1]), int(fields[2]))), ""
+
+
+def of(name, data):
+    """What a drill file is: a file of plated holes, or a reason to leave it out."""
+    said = {it.strip().decode("ascii", "replace") for it in FUNCTION.findall(data)}
+    if len(said) > 1:
+        raise Refused(f"{name} has several comments TF.FileFunction ({'; '.join(sorted(said))}): {APART}")
+    if said:
+        return of_attribute(name, said.pop())
+    types = {it.upper().startswith(b"NON") for it in TYPE.findall(data)}
+    if len(types) > 1:
+        raise Refused(f"{name} has holes of TYPE=PLATED and of TYPE=NON_PLATED: {APART}")
+    if types == {True}:
+        return None, "its comment says TYPE=NON_PLATED, so its holes join nothing"
+    if types == {False}:
+        return Drills(name, None, "its comment says TYPE=PLATED, and not which layers the holes span"), ""
+    if UNPLATED_NAME.search(name):
+        # Left out only as a guess: it is said and confirmed as the others are.
+        return Drills(name, (0, 0), "its name says that its holes are not plated"), ""
+    word = "its name says that its holes are plated, and nothing which layers they span" if PLATED_NAME.search(name) else \
+        "nothing says whether its holes are plated and which layers they span"
+    return Drills(name, None, word), ""
+
+
+def judge(drills, layers):
+    """The drill files with their spans, each within the layers."""
+    for it in drills:
+        first, last = it.span = it.span or (1, layers)
+        if not 1 <= first <= last <= layers:
+            raise Refused(f"{it.name} spans layers {first} to {last} of {layers}: export every copper layer, or the drill file anew")
+    if len(drills) > 64:
+        raise Refused(f"there are {len(drills)} drill files, and `check` takes 64")
+    return drills

@@ -1,0 +1,143 @@
+"""A folder's files as a package: what each is, what is left out, what was guessed, and the manifest of it all."""
+import json
+import os
+
+from . import MOST_BYTES, Refused, copper, drills, is_name, kinds, netlists, shown
+
+
+class Package:
+    def __init__(self):
+        self.layers, self.guesses, self.drills, self.netlists = [], [], [], []
+        self.left_out, self.origins, self.board_layers = [], {}, None
+        # Files that count and cannot stand as they are.
+        self.amiss = {}
+
+    def leave_out(self, name, why):
+        self.left_out.append((name, why))
+
+    def add(self, name, data):
+        """Takes in a file."""
+        if name.endswith(".gbrjob"):
+            self.read_job(data)
+            self.leave_out(name, "it is a job file")
+            return
+        seen = kinds.look(data)
+        if seen.kind == "gerber":
+            self.add_gerber(name, seen.data)
+        elif seen.kind == "drill":
+            found, why = drills.of(name, seen.data)
+            if found:
+                self.drills.append(found)
+            else:
+                self.leave_out(name, why)
+        elif seen.kind == "netlist":
+            self.netlists.append(netlists.Netlist(name, seen.data))
+        else:
+            self.leave_out(name, seen.word + (f" (after {seen.mark})" if seen.mark else ""))
+        if seen.mark:
+            self.amiss[name] = f"it begins with {seen.mark}, which `check` refuses: save it without one"
+        if kinds.is_too_long(len(data)):
+            self.amiss[name] = f"it is longer than {MOST_BYTES} bytes"
+
+    def read_job(self, data):
+        try:
+            self.board_layers = int(json.loads(data.decode("utf-8-sig"))["GeneralSpecs"]["LayerNumber"])
+        except (ValueError, KeyError, TypeError, UnicodeDecodeError):
+            pass
+
+    def add_gerber(self, name, data):
+        function = copper.function_of(data)
+        if function is None:
+            guess = copper.guess_of(name, data)
+            if guess:
+                self.guesses.append((name, *guess))
+            else:
+                self.leave_out(name, "it is a Gerber file without the attribute TF.FileFunction, and no name says that it is copper")
+            return
+        layer = copper.layer_of(name, function)
+        if layer:
+            self.layers.append(layer)
+            self.origins.setdefault(copper.origin_of(data), name)
+        elif function.startswith(("Plated,", "NonPlated,", "MixedPlating,")):
+            self.leave_out(name, "it is a drill file in the Gerber format: export it in the Excellon format")
+        else:
+            self.leave_out(name, f"its function is {function}")
+
+    def copper(self):
+        """The copper layers in order, said or guessed."""
+        if not self.layers and not self.guesses:
+            raise Refused("no file says or looks like a copper layer: export the copper layers as Gerber X2")
+        if not self.layers:
+            layers = copper.in_order(self.guesses)
+        else:
+            layers = copper.judge(self.layers)
+            for name, _, why in self.guesses:
+                if layers[-1].side not in ("Bot", "Top") and len(layers) > 1:
+                    raise Refused(f"{name} looks like copper ({why}) and has no attribute, while other layers have one: export all as Gerber X2")
+                self.leave_out(name, f"it looks like copper ({why}), but the layers that say what they are make a whole board without it")
+        if self.board_layers not in (None, len(layers)):
+            raise Refused(f"the job file speaks of {self.board_layers} copper layers, and there are {len(layers)}: export every copper layer")
+        if len([it for it in self.origins if it is not None]) > 1:
+            raise Refused(f"{' and '.join(self.origins.values())} count from different origins (TF.SameCoordinates): export all layers at once")
+        return layers
+
+    def plated(self, layers):
+        """The drill files of plated holes, and those that are taken for unplated ones."""
+        unplated = [it for it in self.drills if it.span == (0, 0)]
+        return drills.judge([it for it in self.drills if it not in unplated], layers), unplated
+
+    def need_holes(self, netlist, layers, plated, may_lack):
+        """Refuses a board of several layers without holes where the netlist speaks of some."""
+        if layers > 1 and not plated and netlist.through and not may_lack:
+            raise Refused(f"{netlist.name} has {netlist.through} records of through holes (317), and there is no drill file of plated holes, which join the layers: "
+                          "export it in the Excellon format; where the board truly has no plated hole, say --no-drills")
+
+    def need_names(self, names):
+        for name in names:
+            if not is_name(name):
+                raise Refused(f"the name {shown(name)} is not 1 to 200 printable ASCII characters, and `check` takes no other: rename the file")
+            if name in self.amiss:
+                raise Refused(f"{name}: {self.amiss[name]}")
+
+
+class Plan:
+    """The manifest that would be written, what is guessed in it, and what else is to be said."""
+
+    def __init__(self, package, wanted=None, may_lack_holes=False):
+        layers = package.copper()
+        netlist = netlists.choose(package.netlists, wanted)
+        plated, unplated = package.plated(len(layers))
+        package.need_holes(netlist, len(layers), plated, may_lack_holes)
+        package.need_names([it.name for it in [*layers, *plated, netlist]])
+        self.guessed = [(it.name, f"copper layer {it.number}", it.why) for it in layers if it.why]
+        self.guessed += [(it.name, f"plated holes from layer {it.span[0]} to {it.span[1]}", it.why) for it in plated if it.why]
+        self.guessed += [(it.name, "unplated holes, left out", it.why) for it in unplated]
+        self.has_points = netlist.records > 0
+        self.netlist = netlist.name
+        self.manifest = {
+            "copper": [it.name for it in layers],
+            "drills": [{"file": it.name, "from": it.span[0], "to": it.span[1]} for it in plated],
+            "netlist": netlist.name,
+        }
+
+    def text(self):
+        return json.dumps(self.manifest, separators=(",", ":")) + "\n"
+
+
+def gather(folder):
+    """The package of a folder's files; folders in it are not entered."""
+    package = Package()
+    for name in sorted(os.listdir(folder)):
+        path = os.path.join(folder, name)
+        if name == "m.json":
+            continue
+        if not os.path.isfile(path):
+            package.leave_out(name, "it is a folder" if os.path.isdir(path) else "it is no plain file")
+            continue
+        try:
+            with open(path, "rb") as file:
+                data = file.read(MOST_BYTES + 1)
+        except OSError as error:
+            raise Refused(f"{shown(name)} cannot be read: {error.strerror}") from None
+        package.add(name, data)
+    return package

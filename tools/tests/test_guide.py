@@ -1,0 +1,75 @@
+"""The guide's table of messages: each is what the program prints for an input of its kind, and each has a row here."""
+import os
+import re
+
+import common
+
+GUIDE = os.path.join(common.TOP, "docs", "USING.md")
+M = '{"copper":["F_Cu.gbr"],"drills":[],"netlist":"n.ipc"}'
+DRILLED = M.replace("[]", '[{"file":"PTH.drl","from":1,"to":1}]')
+NET = "P  UNITS CUST 1\n327A                                  A01X+000000Y+000000\n999\n"
+HEAD = "%FSLAX46Y46*%\n%MOMM*%\n"
+PAD = HEAD + "%ADD10C,1.0*%\nD10*\nX0Y0D03*\nM02*\n"
+MIXED = "M48\n; DRILL file {KiCad 6.0.11}\n; FORMAT={-:-/ absolute / metric / decimal}\n; #@! TF.FileFunction,WHICH\nMETRIC\n%\nM30\n"
+FAR = HEAD + "%ADD10C,10.0*%\nD10*\nX0Y45000000D03*\nX296000000Y5000000D03*\nM02*\n"
+REPORT = "boardnet 1\r\npieces 0\r\n"
+
+# What the message begins with, up to its place, and the files that make it; audit where there is a report.
+ROWS = {
+    "m.json: not JSON": {"m.json": M[:-1]},
+    "m.json: not a manifest": {"m.json": M.replace("copper", "layers")},
+    "m.json: cannot be read": {},
+    "r.txt: not a report": {"r.txt": REPORT},
+    "frame too large": {"F_Cu.gbr": FAR},
+    "PTH.drl: drill 6 ImpliedDecimals": {"m.json": DRILLED, "PTH.drl": "M48\nMETRIC\nT1C0.5\n%\nT1\nX0Y0\nM30\n"},
+    "PTH.drl: drill 2 BadLine": {"m.json": DRILLED, "PTH.drl": "M48\r\nMETRIC,000.000\r\nT1C0.3\r\n%\r\nM30\r\n"},
+    "PTH.drl: drill 13 MixedPlating": {"m.json": DRILLED, "PTH.drl": MIXED.replace("WHICH", "MixedPlating,1,1")},
+    "PTH.drl: drill 12 NotPlated": {"m.json": DRILLED, "PTH.drl": MIXED.replace("WHICH", "NonPlated,1,1,NPTH")},
+    "PTH.drl: drill 11 WrongSpan": {"m.json": DRILLED, "PTH.drl": MIXED.replace("WHICH", "Plated,1,2,PTH")},
+    "F_Cu.gbr: Gerber 12 Macro": {"F_Cu.gbr": HEAD + "%AMRoundRect*\n1,1,$1,0,0*%\nM02*\n"},
+    "F_Cu.gbr: Gerber 11 Arc": {"F_Cu.gbr": HEAD + "%ADD10C,0.2*%\nD10*\nG75*\nG02*\nX1Y1I1J0D01*\nM02*\n"},
+    "F_Cu.gbr: Gerber 10 ClearPolarity": {"F_Cu.gbr": HEAD + "%LPC*%\nM02*\n"},
+    "F_Cu.gbr: Gerber 25 WrongLayer": {"F_Cu.gbr": "%TF.FileFunction,Copper,L2,Bot*%\n" + PAD},
+    "n.ipc: netlist 3 MissingUnits": {"n.ipc": "C made by hand\n" + NET.split("\n", 1)[1]},
+    "n.ipc: netlist 10 NotEnded": {"n.ipc": NET.replace("999\n", "")},
+    "differs": {"n.ipc": NET.replace("X+000000", "X+005000")},
+}
+# Messages of the launcher, or with a size that no test writes.
+ELSEWHERE = ("F_Cu.gbr: longer than 67108864 bytes", "the program is not built")
+
+
+def printed():
+    """The messages of the table, in order."""
+    with open(GUIDE, encoding="utf-8") as file:
+        part = file.read().split("### Messages and ways out")[1].split("\n## ")[0]
+    return re.findall(r"^\| `boardnet: ([^`]*)` \|", part, re.M)
+
+
+class Guide(common.Case):
+    def test_each_message_has_a_row(self):
+        heads = [*ROWS, *ELSEWHERE]
+        for message in printed():
+            self.assertEqual(len([head for head in heads if message.startswith(head)]), 1, message)
+        for head in heads:
+            self.assertEqual(len([message for message in printed() if message.startswith(head)]), 1, head)
+
+    def test_each_message_is_printed(self):
+        program = common.program()
+        for number, (head, files) in enumerate(ROWS.items()):
+            folder = f"row{number}"
+            whole = {"m.json": M, "F_Cu.gbr": PAD, "n.ipc": NET, **files}
+            if not files:
+                del whole["m.json"]
+            for name, text in whole.items():
+                self.write(f"{folder}/{name}", text)
+            words = ["audit", "m.json", "r.txt"] if "r.txt" in files else ["check", "m.json"]
+            _, _, notes = self.run_words([program, *words], self.path(folder))
+            message = next(it for it in printed() if it.startswith(head))
+            with self.subTest(head=head):
+                self.assertEqual(notes, f"boardnet: {message}\n")
+
+    def test_toolchain_is_the_readmes(self):
+        with open(os.path.join(common.TOOLS, "toolchain")) as file:
+            wanted = file.read().strip()
+        with open(os.path.join(common.TOP, "README.md"), encoding="utf-8") as file:
+            self.assertIn(wanted, file.read())

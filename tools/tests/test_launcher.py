@@ -1,0 +1,178 @@
+"""The launcher, over a stand-in for the program that tells where it runs, its words, and an answer that is asked for."""
+import os
+import shutil
+
+import common
+
+STAND_IN = """#!/bin/sh
+case $STAND_IN_STATUS in '') ;; *) echo "boardnet: asked for" >&2; exit "$STAND_IN_STATUS" ;; esac
+[ -z "$STAND_IN_POINTS" ] || printf 'boardnet 1\\npoints %s\\n' "$STAND_IN_POINTS"
+printf '%s\\n' "$PWD" "$@"
+echo "boardnet: agrees" >&2
+"""
+POINT = "P  UNITS CUST 1\n327A                                  A01X+000000Y+000000\n999\n"
+NO_POINT = "C no test records\nP  UNITS CUST 1\n999\n"
+LOUD = "NOTHING WAS JUDGED"
+
+
+class Launcher(common.Case):
+    def setUp(self):
+        super().setUp()
+        os.makedirs(self.path("top"))
+        shutil.copy(os.path.join(common.TOP, "boardnet"), self.path("top"))
+        shutil.copytree(common.TOOLS, self.path("top", "tools"), ignore=shutil.ignore_patterns("tests", "__pycache__"))
+        self.write("top/crates.txt", "boardnet:\n")
+        self.write("top/crates/boardnet/src/main.rt", "")
+        self.write("top/crates/boardnet/out/boardnet", STAND_IN, 0o755)
+        self.write("here/there/m.json", '{"copper":["t.gbr"],"drills":[],"netlist":"n.ipc"}')
+        self.write("here/there/n.ipc", POINT)
+        self.write("here/r.txt", "")
+        self.write("here/there/r.txt", "")
+
+    def launch(self, *words, folder="here", **environment):
+        return self.run_words([self.path("top", "boardnet"), *words], self.path(folder), environment=environment)
+
+    def test_where_the_program_runs(self):
+        here, there = os.path.realpath(self.path("here")), os.path.realpath(self.path("here", "there"))
+        rows = [
+            # words, folder, where the program runs, its words
+            ("check there/m.json", "here", there, "check m.json"),
+            ("check there", "here", there, "check m.json"),
+            ("check there/", "here", there, "check m.json"),
+            ("check ../here/there/m.json", "here", there, "check m.json"),
+            (f"check {there}/m.json", "top", there, "check m.json"),
+            ("check m.json", "here/there", there, "check m.json"),
+            ("check .", "here/there", there, "check m.json"),
+            ("check there/m.json 1", "here", there, "check m.json 1"),
+            ("check nowhere/m.json", "here", here, "check nowhere/m.json"),
+            ("audit there/m.json r.txt", "here", there, f"audit m.json {here}/r.txt"),
+            ("audit there there/r.txt", "here", there, "audit m.json r.txt"),
+            (f"audit there {here}/r.txt", "here", there, f"audit m.json {here}/r.txt"),
+            ("audit m.json ../r.txt", "here/there", there, "audit m.json ../r.txt"),
+            ("trial 1 100", "here", here, "trial 1 100"),
+            ("write there", "here", there, "write m.json"),
+            ("other there/m.json", "here", here, "other there/m.json"),
+            ("check", "here", here, "check"),
+        ]
+        for words, folder, where, wanted in rows:
+            with self.subTest(words=words, folder=folder):
+                status, out, _ = self.launch(*words.split(), folder=folder)
+                self.assertEqual((status, out), (0, "\n".join([where, *wanted.split()]) + "\n"))
+
+    def test_names_with_blanks_and_signs(self):
+        self.write("here/a b $(x)/m.json", '{"netlist":"n"}')
+        self.write("here/a b $(x)/n", POINT)
+        status, out, _ = self.launch("check", "a b $(x)/m.json")
+        self.assertEqual((status, out.splitlines()[1:]), (0, ["check", "m.json"]))
+        self.assertTrue(out.splitlines()[0].endswith("/a b $(x)"))
+
+    def test_words_that_help(self):
+        os.makedirs(self.path("here", "empty"))
+        self.write("here/\u00e9/r.txt", "")
+        self.write("here/there/only.txt", "")
+        rows = [
+            (["check", "empty"], "empty has no m.json; `boardnet manifest empty` writes one"),
+            (["audit", "there", "\u00e9/r.txt"], "is no name of at most 200 printable ASCII characters"),
+            (["audit", "there", "only.txt"], "only.txt is looked for in "),
+            (["audit", "there", "x" * 201], "is no name of at most 200 printable ASCII characters"),
+        ]
+        for words, wanted in rows:
+            with self.subTest(words=words):
+                self.assertIn(wanted, self.launch(*words)[2])
+
+    def test_status_and_lines_stay(self):
+        for status in ("1", "2", "3", "4", "5", "6", "7"):
+            for words in (["check", "there"], ["audit", "there", "r.txt"], ["trial", "1", "2"]):
+                self.write("here/there/n.ipc", NO_POINT)
+                said = self.launch(*words, STAND_IN_STATUS=status)
+                self.assertEqual(said, (int(status), "", "boardnet: asked for\n"))
+
+    def test_nothing_judged(self):
+        plain = '{"copper":["t.gbr"],"drills":[],"netlist":"n.ipc"}'
+        spread = '{"netlist"\n :\t"n.ipc",\n"copper":["netlist"], "drills":[]}\n'
+        escaped = '{"copper":["t.gbr"],"drills":[],"netl\\u0069st":"n.ipc"}'
+        rows = [
+            # manifest, netlist, points of the report, whether it is said
+            (plain, POINT, "1", False),
+            (plain, NO_POINT, "0", True),
+            (spread, POINT, "1", False),
+            (spread, NO_POINT, "0", True),
+            (escaped, POINT, "1", False),
+            (escaped, NO_POINT, "0", True),
+            (plain.replace("n.ipc", "n\\u002eipc"), NO_POINT, "0", True),
+            (plain, NO_POINT.replace("\n", "\r\n"), "0", True),
+            (plain, POINT.replace("327A", "317A")[:-1], "1", False),
+        ]
+        for manifest, netlist, points, is_said in rows:
+            for words in (["check", "there"], ["audit", "there", "r.txt"]):
+                with self.subTest(manifest=manifest, netlist=netlist, words=words):
+                    self.write("here/there/m.json", manifest)
+                    self.write("here/there/n.ipc", netlist)
+                    status, out, notes = self.launch(*words, STAND_IN_POINTS=points)
+                    self.assertEqual((status, out.splitlines()[1]), (0, f"points {points}"))
+                    self.assertEqual(notes.splitlines()[0], "boardnet: agrees")
+                    self.assertEqual(LOUD in notes, is_said)
+        self.assertNotIn(LOUD, self.launch("trial", "1", "2")[2])
+        self.assertIn("no copper file of m.json has a net label", self.launch("x2", "m.json", STAND_IN_POINTS="0", folder="here/there")[2])
+        self.assertNotIn(LOUD, self.launch("x2", "m.json", STAND_IN_POINTS="2", folder="here/there")[2])
+
+    def test_help(self):
+        status, out, _ = self.launch("--help")
+        self.assertEqual(status, 0)
+        for command in ("check", "audit", "trial", "write", "manifest", "install"):
+            self.assertIn(f"  boardnet {command} ", out)
+            for words in ([command, "--help"], ["help", command], [command, "-h"]):
+                status, page, _ = self.launch(*words)
+                self.assertEqual((status, page.split()[:2]), (0, ["boardnet", command]))
+        self.assertIn("  6  out of memory\n", out)
+        self.assertEqual(self.launch("other", "--help")[1].splitlines()[1:], ["other", "--help"])
+
+    def test_version(self):
+        status, out, _ = self.launch("--version")
+        lines = out.splitlines()
+        self.assertEqual((status, [line.split()[0] for line in lines]), (0, ["boardnet", "commit", "toolchain"]))
+
+    def test_no_toolchain(self):
+        os.remove(self.path("top", "crates", "boardnet", "out", "boardnet"))
+        tools = self.path("bin")
+        os.makedirs(tools)
+        for name in ("sh", "readlink", "dirname", "find", "env", "git"):
+            os.symlink(shutil.which(name), os.path.join(tools, name))
+        status, out, notes = self.launch("check", "there", PATH=tools)
+        self.assertEqual((status, out), (127, ""))
+        self.assertIn("rt is not on the PATH", notes)
+        with open(os.path.join(common.TOOLS, "toolchain")) as file:
+            self.assertIn(file.read().strip(), notes)
+
+    def test_tools_want_python(self):
+        tools = self.path("bin")
+        os.makedirs(tools)
+        for name in ("sh", "readlink", "dirname", "find"):
+            os.symlink(shutil.which(name), os.path.join(tools, name))
+        status, _, notes = self.launch("manifest", "there", PATH=tools)
+        self.assertEqual((status, "wants Python 3.8" in notes), (127, True))
+
+
+class Program(common.Case):
+    """The same front over the built program."""
+
+    def test_examples(self):
+        program = common.program()
+        top = self.path("top")
+        shutil.copytree(common.TOOLS, os.path.join(top, "tools"), ignore=shutil.ignore_patterns("tests", "__pycache__"))
+        shutil.copy(os.path.join(common.TOP, "boardnet"), top)
+        self.write("top/crates.txt", "boardnet:\n")
+        os.makedirs(os.path.join(top, "crates", "boardnet", "out"))
+        shutil.copy(program, os.path.join(top, "crates", "boardnet", "out", "boardnet"))
+        launcher = os.path.join(top, "boardnet")
+        for name in ("two_layer", "touching_discs", "four_layers", "round_board"):
+            folder = self.example(name, name)
+            status, report, notes = self.run_words([launcher, "check", name])
+            self.assertEqual((status, notes), (0, "boardnet: agrees\n"))
+            self.write("mine.txt", report)
+            self.assertEqual(self.run_words([launcher, "audit", f"{name}/m.json", "mine.txt"])[:2], (0, "audit true\n"))
+            with open(os.path.join(folder, "m.json")) as file:
+                self.write(f"{name}/silent.json", file.read().replace("n.ipc", "silent").replace("n.d356", "silent"))
+            self.write(f"{name}/silent", NO_POINT)
+            status, report, notes = self.run_words([launcher, "check", f"{name}/silent.json"])
+            self.assertEqual((status, notes.splitlines()[0], LOUD in notes), (0, "boardnet: agrees", True))

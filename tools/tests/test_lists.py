@@ -1,0 +1,102 @@
+"""Tries tools/lists: that the documents are current, and what it makes of a small repository."""
+import contextlib
+import importlib.machinery
+import importlib.util
+import io
+import tempfile
+import unittest
+from pathlib import Path
+
+TOOLS = Path(__file__).resolve().parent.parent
+loader = importlib.machinery.SourceFileLoader("lists", str(TOOLS / "lists"))
+loader.exec_module(lists := importlib.util.module_from_spec(importlib.util.spec_from_loader("lists", loader)))
+
+README = "# r\n<!-- crates: made by tools/lists -->\n<!-- crates end -->\nbehind\n"
+FILES = {
+    "crates.txt": "# lowest first\nlow:\nhigh: low serde_json\n",
+    "crates/low/src/lib.rt": "//! Numbers (`a`,\n//! `b`) of boards. And more.\n//!\n//! Further.\n#![tactic(auto)]\n",
+    "crates/low/README.md": "# `low`\n\nIn short: `f` (`ok`). Tested: g.\n",
+    "crates/high/src/main.rt": "//! high: what is it?\n",
+    "crates/high/README.md": "# `high`\n\nIn short: `run`.\n",
+    "README.md": README,
+}
+SENTENCES = [
+    ("//! One thing. Two things.\n", "One thing"),
+    ("//! One thing: 0.1 nm\n//! of it (or `two`, or three).\n", "One thing: 0.1 nm of it"),
+    ("//! Is it?\n", "Is it"),
+    ("//! Without a point\n//!\n//! More.\n", "Without a point"),
+]
+
+
+def kinds(enum, rows):
+    """A root file with an enum of kinds."""
+    return f"pub enum {enum} {{\n" + "".join(f"    /// {n}.\n    {name} = {n},\n" for n, name in rows) + "}\n"
+
+
+def using(ways):
+    """A page with the three tables, of which the first has these rows."""
+    text = ""
+    for _, _, enum in lists.KINDS:
+        text += f"<!-- {enum}: made by tools/lists -->\n" + (ways if enum == "GerberKind" else "") + f"<!-- {enum} end -->\n"
+    return text
+
+
+class Lists(unittest.TestCase):
+    def setUp(self):
+        folder = tempfile.TemporaryDirectory()
+        self.addCleanup(folder.cleanup)
+        self.top = Path(folder.name)
+        for name, text in FILES.items():
+            self.put(name, text)
+        for _, source, enum in lists.KINDS:
+            self.put(source, kinds(enum, [(1, "Bad")] if enum == "GerberKind" else []))
+        self.put("docs/USING.md", using("| 1 | `Bad` | Mend it. |\n"))
+
+    def put(self, name, text):
+        path = self.top / name
+        path.parent.mkdir(parents=True, exist_ok=True)
+        path.write_text(text)
+
+    def run_lists(self, *words):
+        out = io.StringIO()
+        with contextlib.redirect_stdout(out), contextlib.redirect_stderr(out):
+            status = lists.main(list(words), self.top)
+        return status, out.getvalue()
+
+    def test_documents_are_current(self):
+        self.top = lists.TOP
+        self.assertEqual(self.run_lists("--check"), (0, "lists: current\n"))
+
+    def test_readme_is_short(self):
+        self.assertLessEqual(len((lists.TOP / "README.md").read_bytes()), 9000)
+
+    def test_first_sentences(self):
+        for source, wanted in SENTENCES:
+            self.assertEqual(lists.first_sentence(source), wanted)
+
+    def test_table_of_crates(self):
+        self.assertEqual(self.run_lists()[0], 0)
+        rows = (self.top / "README.md").read_text().splitlines()
+        self.assertEqual(rows[4], "| `low` | Numbers of boards | `f` (`ok`). Tested: g |")
+        self.assertEqual(rows[5:], ["| `high` | high: what is it | `run` |", "<!-- crates end -->", "behind"])
+        self.assertEqual(self.run_lists("--check"), (0, "lists: current\n"))
+
+    def test_a_new_kind_wants_its_way_out(self):
+        self.run_lists()
+        self.put(lists.KINDS[0][1], kinds("GerberKind", [(1, "Bad"), (2, "Worse")]))
+        self.assertEqual(self.run_lists("--check")[0], 1)
+        self.assertEqual(self.run_lists(), (0, "USING.md: written\n"))
+        self.assertIn("| 1 | `Bad` | Mend it. |\n| 2 | `Worse` |  |\n", (self.top / "docs/USING.md").read_text())
+        self.assertEqual(self.run_lists("--check"), (1, "USING.md: the way out of Worse is still to be written\n"))
+
+    def test_what_is_amiss_is_said(self):
+        self.run_lists()
+        self.put("crates/low/README.md", "# `low`\n")
+        self.assertEqual(self.run_lists("--check"), (1, "crates/low: a page without a line 'In short:'\n"))
+        self.put("README.md", "# r\n")
+        self.put("crates/low/README.md", FILES["crates/low/README.md"])
+        self.assertEqual(self.run_lists(), (1, "the markers of crates do not stand once\n"))
+
+    def test_other_words_are_refused(self):
+        self.assertEqual(self.run_lists("--chek")[0], 2)
+

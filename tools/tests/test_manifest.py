@@ -1,0 +1,286 @@
+"""tools/manifest on the examples and on made packages, in the manner of several tools."""
+import contextlib
+import importlib.machinery
+import importlib.util
+import io
+import json
+import os
+import zipfile
+
+import common
+
+MANIFEST = os.path.join(common.TOOLS, "manifest")
+
+
+def load():
+    """The script as a module: most tests call it in this process."""
+    loader = importlib.machinery.SourceFileLoader("manifest_script", MANIFEST)
+    module = importlib.util.module_from_spec(importlib.util.spec_from_loader("manifest_script", loader))
+    loader.exec_module(module)
+    return module
+
+
+SCRIPT = load()
+
+
+def copper(function="", head=""):
+    attribute = f"%TF.FileFunction,{function}*%\n" if function else ""
+    return f"{head}{attribute}%FSLAX46Y46*%\n%MOMM*%\n%ADD10C,1.0*%\nD10*\nX0Y0D03*\nM02*\n"
+
+
+def drill(function="", more=""):
+    comment = f"; #@! TF.FileFunction,{function}\n" if function else ""
+    return f"M48\n{comment}METRIC\n{more}T1C0.4\n%\nT1\nX0.0Y0.0\nM30\n"
+
+
+def record(code, access, plating=" "):
+    return f"{code}A".ljust(37) + plating + f"A{access}X+000000Y+000000\n"
+
+
+def netlist(*records):
+    return "P  UNITS CUST 1\n" + "".join(records) + "999\n"
+
+
+NET = netlist(record("317", "00"))
+SURFACE = netlist(record("327", "01"))
+TWO = {"F.gbr": copper("Copper,L1,Top"), "B.gbr": copper("Copper,L2,Bot"), "p.drl": drill("Plated,1,2,PTH"), "n.ipc": NET}
+WRITTEN = {"copper": ["F.gbr", "B.gbr"], "drills": [{"file": "p.drl", "from": 1, "to": 2}], "netlist": "n.ipc"}
+
+
+def two(**changed):
+    """The board of two layers with some files changed, added, or, with None, left out; a name's _ is its point."""
+    files = dict(TWO)
+    for name, text in changed.items():
+        files[name.replace("_", ".")] = text
+    return {name: text for name, text in files.items() if text is not None}
+
+
+class Manifest(common.Case):
+    def make(self, files, folder="board"):
+        os.makedirs(self.path(folder), exist_ok=True)
+        for name, text in files.items():
+            self.write(os.path.join(folder, name), text)
+
+    def manifest(self, *words):
+        """Status, output and notes of the script with these words in the scratch folder."""
+        out, notes, was = io.StringIO(), io.StringIO(), os.getcwd()
+        os.chdir(self.scratch)
+        try:
+            with contextlib.redirect_stdout(out), contextlib.redirect_stderr(notes):
+                status = SCRIPT.main(list(words))
+        except SystemExit as end:
+            status = end.code
+        finally:
+            os.chdir(was)
+        return status, out.getvalue(), notes.getvalue()
+
+    def written(self, folder="board"):
+        path = self.path(folder, "m.json")
+        return json.loads(self.read(os.path.join(folder, "m.json"))) if os.path.exists(path) else None
+
+    def refused(self, files, *wanted, words=()):
+        """Nothing is written, the status is 1, and the last line has these words."""
+        self.tearDownBoard()
+        self.make(files)
+        status, out, notes = self.manifest("board", *words)
+        self.assertEqual((status, out, self.written()), (1, "", None), notes)
+        for text in wanted:
+            self.assertIn(text, notes.splitlines()[-1])
+        return notes
+
+    def taken(self, files, wanted, *said, words=()):
+        self.tearDownBoard()
+        self.make(files)
+        status, _, notes = self.manifest("board", *words)
+        self.assertEqual((status, self.written()), (0, wanted), notes)
+        for text in said:
+            self.assertIn(text, notes)
+        return notes
+
+    def tearDownBoard(self):
+        for name in os.listdir(self.path("board")) if os.path.isdir(self.path("board")) else ():
+            os.remove(self.path("board", name))
+
+    def test_examples_as_they_are(self):
+        for name in ("round_board", "four_layers", "two_layer", "touching_discs"):
+            folder = self.example(name, name)
+            os.rename(self.path(name, "m.json"), self.path("was"))
+            words = ["--yes"] if name == "touching_discs" else []
+            with self.subTest(name=name):
+                status, _, notes = self.manifest(folder, *words)
+                if name == "touching_discs":
+                    # Its one file says nothing of a layer, and neither does its name.
+                    self.assertEqual((status, "no file says or looks like a copper layer" in notes), (1, True))
+                else:
+                    self.assertEqual((status, self.read(f"{name}/m.json")), (0, self.read("was")))
+
+    def test_copper_that_says_what_it_is(self):
+        self.taken(TWO, WRITTEN)
+        comment = copper("", "G04 #@! TF.FileFunction,Copper,L1,Top*\n")
+        self.taken(two(F_gbr=comment), WRITTEN)
+        self.taken(two(**{"mask_gbr": copper("Soldermask,Top"), "np_drl": drill("NonPlated,1,2,NPTH")}), WRITTEN,
+                   "left out: mask.gbr: its function is Soldermask,Top", "left out: np.drl: its holes are not plated")
+        for changed, word in [
+            (two(B_gbr=None), "p.drl spans layers 1 to 2 of 1"),
+            (two(F_gbr=None), "copper layers 2 are not 1 to 2 without a gap"),
+            (two(X_gbr=copper("Copper,L1,Top")), "both say that they are copper layer 1"),
+            (two(B_gbr=copper("Copper,L2,Inr")), "says that it is no bottom layer"),
+            (two(x_gbrjob='{"GeneralSpecs": {"LayerNumber": 4}}'), "the job file speaks of 4 copper layers, and there are 2"),
+            (two(F_gbr=copper("Copper,L1,Top", "%TF.SameCoordinates,A*%\n"), B_gbr=copper("Copper,L2,Bot", "%TF.SameCoordinates,B*%\n")), "count from different origins"),
+        ]:
+            with self.subTest(word=word):
+                self.refused(changed, word)
+
+    def test_holes_are_never_lost(self):
+        for changed, *words in [
+            (two(p_drl=None), "n.ipc has 1 records of through holes (317)", "export it in the Excellon format", "--no-drills"),
+            (two(p_drl=drill("NonPlated,1,2,NPTH")), "no drill file of plated holes"),
+            (two(p_drl=drill("MixedPlating,1,2")), "p.drl mixes plated and unplated holes", "'PTH and NPTH in single file' off"),
+            (two(m_drl=drill("MixedPlating,1,2")), "m.drl mixes plated and unplated holes"),
+            (two(p_drl=drill("Plated,1,2,PTH", "; #@! TF.FileFunction,NonPlated,1,2,NPTH\n")), "several comments TF.FileFunction"),
+            (two(p_drl=drill("", ";TYPE=PLATED\n;TYPE=NON_PLATED\n")), "TYPE=PLATED and of TYPE=NON_PLATED"),
+            (two(p_drl=drill("Plated")), "not which layers they span"),
+            (two(p_drl=drill("Plated,1,3,PTH")), "p.drl spans layers 1 to 3 of 2"),
+            (two(p_drl=copper("Plated,1,2,PTH,Drill")), "no drill file of plated holes"),
+        ]:
+            with self.subTest(words=words):
+                self.refused(changed, *words)
+        none = dict(WRITTEN, drills=[])
+        self.taken(two(p_drl=None), none, words=["--no-drills"])
+        self.taken(two(p_drl=None, n_ipc=SURFACE), none)
+        self.taken(two(p_drl=None, n_ipc=netlist(record("317", "00", "U"), record("327", "01"))), none)
+        self.taken({"F.gbr": TWO["F.gbr"], "n.ipc": NET}, {"copper": ["F.gbr"], "drills": [], "netlist": "n.ipc"})
+
+    def test_drills_by_other_evidence(self):
+        rows = [
+            ("p.drl", drill(), "nothing says whether its holes are plated"),
+            ("x-PTH.drl", drill(), "its name says that its holes are plated"),
+            ("x.drl", drill("", ";TYPE=PLATED\n"), "its comment says TYPE=PLATED"),
+        ]
+        for name, text, word in rows:
+            files = {**two(p_drl=None), name: text}
+            with self.subTest(name=name):
+                notes = self.refused(files, "say --yes")
+                self.assertIn(f"would be taken as plated holes from layer 1 to 2: {name}: {word}", notes)
+                self.taken(files, dict(WRITTEN, drills=[{"file": name, "from": 1, "to": 2}]), f"taken as plated holes from layer 1 to 2: {name}", words=["--yes"])
+        files = {**TWO, "x-NPTH.drl": drill()}
+        self.assertIn("unplated holes, left out: x-NPTH.drl", self.refused(files, "say --yes"))
+        self.taken(files, WRITTEN, words=["--yes"])
+        self.taken({**TWO, "x.drl": drill("", ";TYPE=NON_PLATED\n")}, WRITTEN, "TYPE=NON_PLATED, so its holes join nothing")
+
+    def test_copper_by_other_evidence(self):
+        name = "%LN{}*%\n"
+        rows = [
+            # files in order of their layers, and others
+            (["b.top.copper.none.3.gbr", "b.bottom.copper.none.6.gbr"], ["b.top.mask.none.2.gbr", "b.top.silk.none.5.gbr"]),
+            (["x-F_Cu.gbr", "x-In1_Cu.gbr", "x-In2_Cu.gbr", "x-B_Cu.gbr"], ["x-F_Mask.gbr", "x-Edge_Cuts.gbr"]),
+            (["x.GTL", "x.G1", "x.G2", "x.GBL"], ["x.GTS", "x.GBO", "x.GM1", "x.GKO"]),
+            (["x.cmp", "x.sol"], ["x.stc.gbr"]),
+            (["l1.gbr", "l2.gbr", "l3.gbr"], ["readme.gbr"]),
+            (["layer_1.ger", "layer_2.ger"], []),
+            (["copper_top.gbr", "copper_bottom.gbr"], ["soldermask_top.gbr"]),
+            (["board.top.gbr", "board.bottom.gbr"], ["board.topsilk.gbr"]),
+        ]
+        for layers, others in rows:
+            files = {file: copper() for file in [*layers, *others]}
+            files["n.ipc"] = SURFACE
+            with self.subTest(layers=layers):
+                notes = self.refused(files, "say --yes")
+                for number, file in enumerate(layers, 1):
+                    self.assertIn(f"would be taken as copper layer {number}: {file}: its name looks so", notes)
+                self.taken(files, {"copper": layers, "drills": [], "netlist": "n.ipc"}, words=["--yes"])
+        named = {"a.gbr": copper("", name.format("TOP_COPPER_NONE_3")), "b.gbr": copper("", name.format("INTERN_COPPER_NONE_4")),
+                 "c.gbr": copper("", name.format("BOTTOM_COPPER_NONE_6")), "top.gbr": copper("", name.format("TOP_MASK_NONE_2")), "n.ipc": SURFACE}
+        notes = self.taken(named, {"copper": ["a.gbr", "b.gbr", "c.gbr"], "drills": [], "netlist": "n.ipc"}, words=["--yes"])
+        self.assertIn("taken as copper layer 1: a.gbr: its layer name is TOP_COPPER_NONE_3", notes)
+
+    def test_guesses_that_make_no_board(self):
+        surface = {"n.ipc": SURFACE}
+        for files, word in [
+            (["x.gtl", "y.gtl"], "both look like the same copper layer"),
+            (["l1.gbr", "l3.gbr"], "are not layers 1 to 2 by their names"),
+            (["l1.gbr", "x.gbl"], "are not layers 1 to 2 by their names"),
+            (["x-F_Cu.gbr", "x-In1_Cu.gbr"], "no top or no bottom one"),
+            (["x.gtl", "x.gp1", "x.gbl"], "looks like an inner plane"),
+            (["some.gbr"], "no file says or looks like a copper layer"),
+        ]:
+            with self.subTest(files=files):
+                self.refused({**{name: copper() for name in files}, **surface}, word, words=["--yes"])
+        self.refused(two(B_gbr=copper("Copper,L2"), x_gbl=copper()), "looks like copper", "while other layers have one")
+        self.taken(two(x_gbl=copper()), WRITTEN, "left out: x.gbl: it looks like copper")
+
+    def test_netlists(self):
+        other = dict(WRITTEN, netlist="other.ipc")
+        several = two(other_ipc=SURFACE)
+        self.refused(several, "several netlists (n.ipc, other.ipc)", "--netlist FILE")
+        self.taken(several, other, words=["--netlist", "other.ipc"])
+        self.refused(several, "--netlist F.gbr names no IPC-D-356A netlist", words=["--netlist", "F.gbr"])
+        self.refused(two(n_ipc=None), "there is no IPC-D-356A netlist")
+        self.taken(two(n_ipc="P  UNITS CUST 1\n999\n"), WRITTEN, "HAS NO TEST POINTS")
+        self.taken(two(n_ipc=NET.replace("\n", "\r\n")), WRITTEN)
+        self.assertNotIn("NO TEST POINTS", self.taken(TWO, WRITTEN))
+
+    def test_each_bad_file_by_its_own_word(self):
+        rows = [
+            ("empty.gbr", "", "it is empty"),
+            ("blank.gbr", " \n\n", "it has nothing but blanks"),
+            ("a.zip", b"PK\x03\x04rest", "it is a zip archive; give the archive itself"),
+            ("a.gz", b"\x1f\x8brest", "it is a gzip archive"),
+            ("a.pdf", "%PDF-1.4", "it is a PDF"),
+            ("a.png", b"\x89PNG\r\n", "it is a picture"),
+            ("b.kicad_pcb", "(kicad_pcb (version 1))", "it is a board of KiCad"),
+            ("o.json", "{}", "it is a JSON file"),
+            ("note.txt", "some words", "it is no Gerber, drill or IPC-D-356A file"),
+            ("note.gbr", "some words", "it is no Gerber, drill or IPC-D-356A file"),
+            ("\u00e9.txt", "words", "it is no Gerber, drill or IPC-D-356A file"),
+            ("mark.txt", b"\xef\xbb\xbfwords", "it is no Gerber, drill or IPC-D-356A file (after a byte order mark)"),
+        ]
+        notes = self.taken({**TWO, **{name: text for name, text, _ in rows}}, WRITTEN)
+        for name, _, word in rows:
+            self.assertIn(f"left out: {name.encode('ascii', 'backslashreplace').decode()}: {word}", notes)
+
+    def test_files_that_count_and_cannot_stand(self):
+        mark = b"\xef\xbb\xbf"
+        for name in TWO:
+            with self.subTest(name=name):
+                self.refused({**TWO, name: mark + TWO[name].encode()}, f"{name}: it begins with a byte order mark", "save it without one")
+                self.refused({**TWO, name: b"\xff\xfe" + TWO[name].encode("utf-16-le")}, "a byte order mark of UTF-16")
+                files = {key: text for key, text in TWO.items() if key != name}
+                self.refused({**files, "\u00e9" + name: TWO[name]}, f"the name \\xe9{name} is not 1 to 200 printable ASCII characters", "rename the file")
+        self.refused({**two(n_ipc=None), "n" * 201 + ".ipc": NET}, "1 to 200 printable ASCII")
+        self.refused({**two(F_gbr=None), "\u00e9.gbr": copper()}, "copper layers 2 are not 1 to 2 without a gap")
+
+    def test_archives(self):
+        def archive(name, files):
+            with zipfile.ZipFile(self.path(name), "w") as made:
+                for inside, text in files.items():
+                    made.writestr(inside, text)
+
+        archive("b.zip", {f"fab/{name}": text for name, text in TWO.items()})
+        status, out, notes = self.manifest("b.zip")
+        self.assertEqual((status, self.written("b")), (0, WRITTEN))
+        self.assertIn("unpacked to b", notes)
+        self.assertIn("b is there already", self.manifest("b.zip")[2])
+        archive("twice.zip", {"a/F.gbr": "x", "b/F.gbr": "y"})
+        self.assertIn("two files of the name F.gbr", self.manifest("twice.zip")[2])
+        archive("up.zip", {"../../F.gbr": TWO["F.gbr"], "n.ipc": SURFACE})
+        self.assertEqual((self.manifest("up.zip")[0], sorted(os.listdir(self.path("up")))), (0, ["F.gbr", "m.json", "n.ipc"]))
+        self.write("bad.zip", b"PK\x03\x04 no archive")
+        self.assertIn("is no zip archive that can be opened", self.manifest("bad.zip")[2])
+        self.write("plain.gbr", copper())
+        self.assertIn("is no zip archive", self.manifest("plain.gbr")[2])
+        for name in ("nowhere", "nowhere.zip"):
+            self.assertEqual(self.manifest(name)[0], 1)
+
+    def test_words(self):
+        self.make(TWO)
+        self.assertEqual(self.run_words([MANIFEST, "board"])[:2], (0, "board/m.json: 2 copper, 1 drill files, netlist n.ipc\n"))
+        self.assertEqual(self.manifest("--help")[0], 0)
+        self.assertEqual(self.manifest()[0], 2)
+        self.assertEqual(self.manifest("board", "other")[0], 2)
+
+    def test_written_manifests_are_read(self):
+        program = common.program()
+        self.taken(TWO, WRITTEN)
+        status, _, notes = self.run_words([program, "check", "m.json"], self.path("board"))
+        self.assertEqual((status, notes), (0, "boardnet: agrees\n"))
