@@ -1,7 +1,9 @@
 -- What an aperture flashes.
-use Rattle.std.specs.Prelude.{◌≡◌, ℕ, Bool, true, false, ◌&&◌, ◌==◌, ◌%◌, ◌/◌, ◌-◌, nat_le, nat_lt, if◌then◌else◌, List, [], ◌∷◌, ℤ, pos, ◌+ℤ◌, ◌≤ℤ◌, neg_ℤ, unsigned_abs, Option, Some, None, Result, Ok, Err}
+use Rattle.std.specs.Prelude.{◌≡◌, ℕ, Bool, true, false, ◌&&◌, ◌==◌, ◌%◌, ◌/◌, ◌-◌, min, nat_le, nat_lt, if◌then◌else◌, List, [], ◌∷◌, ℤ, pos, ◌+ℤ◌, ◌≤◌, ◌≤ℤ◌, neg_ℤ, unsigned_abs, Option, Some, None, Result, Ok, Err}
 use Rattle.std.specs.List.{list_all}
+use Rattle.contact.specs.declared.TheConstants.{MOST_DIAMETER}
 use Rattle.planar.specs.declared.Spot.{Spot}
+use Rattle.planar.specs.declared.TheConstants.{METRE}
 use Rattle.board_shapes.specs.declared.shape.Shape.{Shape}
 use Rattle.board_shapes.specs.Plain.{Figure, Stroke, filled, figure_of, round}
 use Rattle.apertures.specs.declared.aperture.Aperture.{Aperture}
@@ -13,14 +15,18 @@ use Rattle.apertures.specs.Reading.{is_zero}
 -- a size: even, and from 0 to 1 m
 pub record IsSize (z : ℤ) : Type 0 where
   pub low : pos 0 ≤ℤ z
-  pub high : z ≤ℤ pos 10000000000
+  pub high : z ≤ℤ pos METRE
   pub even : unsigned_abs z % 2 ≡ 0
 
--- every size is one, and only a circle has a size of 0
+-- at most the greatest diameter
+abbrev pub IsNarrow : ℕ → Type 0
+IsNarrow size = size ≤ MOST_DIAMETER
+
+-- every size is one, only a circle has a size of 0, and neither a circle's diameter nor an obround's lesser side is over MOST_DIAMETER
 abbrev pub IsLawful : Aperture → Type 0
-IsLawful (Circle d) = IsSize d
+IsLawful (Circle d) = IsSize d × IsNarrow (unsigned_abs d)
 IsLawful (Rectangle x y) = IsSize x × IsSize y × (is_zero x ≡ false) × (is_zero y ≡ false)
-IsLawful (Obround x y) = IsSize x × IsSize y × (is_zero x ≡ false) × (is_zero y ≡ false)
+IsLawful (Obround x y) = IsSize x × IsSize y × (is_zero x ≡ false) × (is_zero y ≡ false) × IsNarrow (min (unsigned_abs x) (unsigned_abs y))
 
 -- whether the aperture is a rectangle
 abbrev pub is_rectangle : Aperture → Bool
@@ -36,7 +42,7 @@ pen_of (Obround x y) = None
 
 -- the spot is at most 1 m from 0 in x and y
 abbrev pub is_placed : Spot → Bool
-is_placed p = nat_le (unsigned_abs p.x) 10000000000 && nat_le (unsigned_abs p.y) 10000000000
+is_placed p = nat_le (unsigned_abs p.x) METRE && nat_le (unsigned_abs p.y) METRE
 
 -- the spot so far to the right
 abbrev pub across : Spot → ℤ → Spot

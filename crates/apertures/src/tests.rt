@@ -5,99 +5,158 @@ ghost use Rattle.planar.specs.Plane.{IsPlaced};
 use super::*;
 use board_shapes::Shape;
 use lengths::Unit;
-use planar::Spot;
+use planar::{METRE, Spot};
 use std::alloc::{AllocError, Global};
 use std::fmt::Write;
 use std::test::Fail;
 
-/// Words with what they define.
-const WORDS: [(&str, Unit, &str); 50] = [
-    // Each aperture, and the grid.
-    ("ADD10C,1.0", Unit::Mm, "Ok((10, Circle(10000000)))"),
-    ("ADD010C,0", Unit::Mm, "Ok((10, Circle(0)))"),
-    (
-        "ADD999999999R,0.8X+0.4",
-        Unit::Mm,
-        "Ok((999999999, Rectangle(8000000, 4000000)))",
-    ),
-    (
-        "ADD11O,2.0X1.0",
-        Unit::Mm,
-        "Ok((11, Obround(20000000, 10000000)))",
-    ),
-    ("ADD10C,0.066929", Unit::Inch, "Ok((10, Circle(16999966)))"),
-    ("ADD10C,1000", Unit::Mm, "Ok((10, Circle(10000000000)))"),
-    ("ADD10C,1.0000001", Unit::Mm, "Err(OffGrid)"),
-    ("ADD10C,-0.2", Unit::Mm, "Err(OutOfRange)"),
-    ("ADD10C,1000.0000002", Unit::Mm, "Err(OutOfRange)"),
-    ("ADD10C,-0.0000001", Unit::Mm, "Err(OffGrid)"),
-    // No `ADD`, no digit, no name.
-    ("", Unit::Mm, "Err(BadText)"),
-    ("AD10C,1", Unit::Mm, "Err(BadText)"),
-    ("ADD", Unit::Mm, "Err(BadText)"),
-    ("ADDC,1", Unit::Mm, "Err(BadText)"),
-    ("ADD10", Unit::Mm, "Err(BadText)"),
-    ("ADD10,1", Unit::Mm, "Err(BadText)"),
-    // A name comes before the number, the number before the kind.
-    ("ADD9,1", Unit::Mm, "Err(BadText)"),
-    ("ADD9C,1", Unit::Mm, "Err(Number)"),
-    ("ADD0000000010C,1", Unit::Mm, "Err(Number)"),
-    ("ADD9THERMAL", Unit::Mm, "Err(Number)"),
-    ("ADD9P,1X3", Unit::Mm, "Err(Number)"),
-    // The kind comes before the parameters.
-    ("ADD10THERMAL", Unit::Mm, "Err(Macro)"),
-    ("ADD10THERMAL,xXx", Unit::Mm, "Err(Macro)"),
-    ("ADD10 C,1", Unit::Mm, "Err(Macro)"),
-    ("ADD10CX,1", Unit::Mm, "Err(Macro)"),
-    ("ADD10c,1", Unit::Mm, "Err(Macro)"),
-    ("ADD10P,1X3", Unit::Mm, "Err(Polygon)"),
-    ("ADD10P", Unit::Mm, "Err(Polygon)"),
-    // Too few parameters, and then too many.
-    ("ADD10C", Unit::Mm, "Err(BadText)"),
-    ("ADD10R", Unit::Mm, "Err(BadText)"),
-    ("ADD10R,1", Unit::Mm, "Err(BadText)"),
-    ("ADD10O,x", Unit::Mm, "Err(BadText)"),
-    ("ADD10C,1X0.5", Unit::Mm, "Err(Hole)"),
-    ("ADD10C,xX", Unit::Mm, "Err(Hole)"),
-    ("ADD10R,1X1X0.5", Unit::Mm, "Err(Hole)"),
-    ("ADD10O,xXxXx", Unit::Mm, "Err(Hole)"),
-    // Then each parameter in turn.
-    ("ADD10C,", Unit::Mm, "Err(BadText)"),
-    ("ADD10C,1.0,2.0", Unit::Mm, "Err(BadText)"),
-    ("ADD10C, 1.0", Unit::Mm, "Err(BadText)"),
-    ("ADD10R,1X", Unit::Mm, "Err(BadText)"),
-    ("ADD10R,X1", Unit::Mm, "Err(BadText)"),
-    ("ADD10R,xX0.0000001", Unit::Mm, "Err(BadText)"),
-    ("ADD10R,0.0000001Xx", Unit::Mm, "Err(OffGrid)"),
-    ("ADD10R,2000Xx", Unit::Mm, "Err(OutOfRange)"),
-    ("ADD10R,0X0.0000001", Unit::Mm, "Err(OutOfRange)"),
-    ("ADD10R,1X0", Unit::Mm, "Err(OutOfRange)"),
-    ("ADD10O,0X1", Unit::Mm, "Err(OutOfRange)"),
-    ("ADD10O,1X0.0000001", Unit::Mm, "Err(OffGrid)"),
-    ("ADD10O,1X-1", Unit::Mm, "Err(OutOfRange)"),
-    ("ADD10O,1Xx", Unit::Mm, "Err(BadText)"),
-];
+// Words with what they define.
+type Word = (&'static str, Unit, &'static str);
+
+fn words_first() -> [Word; 16] {
+    [
+        // Each aperture, and the grid.
+        ("ADD10C,1.0", Unit::Mm, "Ok((10, Circle(10000000)))"),
+        ("ADD010C,0", Unit::Mm, "Ok((10, Circle(0)))"),
+        (
+            "ADD999999999R,0.8X+0.4",
+            Unit::Mm,
+            "Ok((999999999, Rectangle(8000000, 4000000)))",
+        ),
+        (
+            "ADD11O,2.0X1.0",
+            Unit::Mm,
+            "Ok((11, Obround(20000000, 10000000)))",
+        ),
+        ("ADD10C,0.066929", Unit::Inch, "Ok((10, Circle(16999966)))"),
+        ("ADD10C,50.0", Unit::Mm, "Ok((10, Circle(500000000)))"),
+        ("ADD10C,50.0000002", Unit::Mm, "Err(OutOfRange)"),
+        ("ADD10C,50.0000001", Unit::Mm, "Err(OffGrid)"),
+        ("ADD10C,1.968503", Unit::Inch, "Ok((10, Circle(499999762)))"),
+        ("ADD10C,1.968504", Unit::Inch, "Err(OutOfRange)"),
+        (
+            "ADD10R,1000X1000",
+            Unit::Mm,
+            "Ok((10, Rectangle(10000000000, 10000000000)))",
+        ),
+        (
+            "ADD10O,1000X50",
+            Unit::Mm,
+            "Ok((10, Obround(10000000000, 500000000)))",
+        ),
+        (
+            "ADD10O,50X1000",
+            Unit::Mm,
+            "Ok((10, Obround(500000000, 10000000000)))",
+        ),
+        ("ADD10O,50.0000002X1000", Unit::Mm, "Err(OutOfRange)"),
+        ("ADD10O,1000X50.0000002", Unit::Mm, "Err(OutOfRange)"),
+        ("ADD10C,1.0000001", Unit::Mm, "Err(OffGrid)"),
+    ]
+}
+
+fn words_next() -> [Word; 16] {
+    [
+        ("ADD10C,-0.2", Unit::Mm, "Err(OutOfRange)"),
+        ("ADD10C,1000.0000002", Unit::Mm, "Err(OutOfRange)"),
+        ("ADD10C,-0.0000001", Unit::Mm, "Err(OffGrid)"),
+        // No `ADD`, no digit, no name.
+        ("", Unit::Mm, "Err(BadText)"),
+        ("AD10C,1", Unit::Mm, "Err(BadText)"),
+        ("ADD", Unit::Mm, "Err(BadText)"),
+        ("ADDC,1", Unit::Mm, "Err(BadText)"),
+        ("ADD10", Unit::Mm, "Err(BadText)"),
+        ("ADD10,1", Unit::Mm, "Err(BadText)"),
+        // A name comes before the number, the number before the kind.
+        ("ADD9,1", Unit::Mm, "Err(BadText)"),
+        ("ADD9C,1", Unit::Mm, "Err(Number)"),
+        ("ADD0000000010C,1", Unit::Mm, "Err(Number)"),
+        ("ADD9THERMAL", Unit::Mm, "Err(Number)"),
+        ("ADD9P,1X3", Unit::Mm, "Err(Number)"),
+        // The kind comes before the parameters.
+        ("ADD10THERMAL", Unit::Mm, "Err(Macro)"),
+        ("ADD10THERMAL,xXx", Unit::Mm, "Err(Macro)"),
+    ]
+}
+
+fn words_then() -> [Word; 16] {
+    [
+        ("ADD10 C,1", Unit::Mm, "Err(Macro)"),
+        ("ADD10CX,1", Unit::Mm, "Err(Macro)"),
+        ("ADD10c,1", Unit::Mm, "Err(Macro)"),
+        ("ADD10P,1X3", Unit::Mm, "Err(Polygon)"),
+        ("ADD10P", Unit::Mm, "Err(Polygon)"),
+        // Too few parameters, and then too many.
+        ("ADD10C", Unit::Mm, "Err(BadText)"),
+        ("ADD10R", Unit::Mm, "Err(BadText)"),
+        ("ADD10R,1", Unit::Mm, "Err(BadText)"),
+        ("ADD10O,x", Unit::Mm, "Err(BadText)"),
+        ("ADD10C,1X0.5", Unit::Mm, "Err(Hole)"),
+        ("ADD10C,xX", Unit::Mm, "Err(Hole)"),
+        ("ADD10R,1X1X0.5", Unit::Mm, "Err(Hole)"),
+        ("ADD10O,xXxXx", Unit::Mm, "Err(Hole)"),
+        // Then each parameter in turn.
+        ("ADD10C,", Unit::Mm, "Err(BadText)"),
+        ("ADD10C,1.0,2.0", Unit::Mm, "Err(BadText)"),
+        ("ADD10C, 1.0", Unit::Mm, "Err(BadText)"),
+    ]
+}
+
+fn words_last() -> [Word; 13] {
+    [
+        ("ADD10R,1X", Unit::Mm, "Err(BadText)"),
+        ("ADD10R,X1", Unit::Mm, "Err(BadText)"),
+        ("ADD10R,xX0.0000001", Unit::Mm, "Err(BadText)"),
+        ("ADD10R,0.0000001Xx", Unit::Mm, "Err(OffGrid)"),
+        ("ADD10R,2000Xx", Unit::Mm, "Err(OutOfRange)"),
+        ("ADD10R,0X0.0000001", Unit::Mm, "Err(OutOfRange)"),
+        ("ADD10R,1X0", Unit::Mm, "Err(OutOfRange)"),
+        ("ADD10O,0X1", Unit::Mm, "Err(OutOfRange)"),
+        ("ADD10O,1X0.0000001", Unit::Mm, "Err(OffGrid)"),
+        ("ADD10O,1X-1", Unit::Mm, "Err(OutOfRange)"),
+        ("ADD10O,1Xx", Unit::Mm, "Err(BadText)"),
+        ("ADD10O,1000Xx", Unit::Mm, "Err(BadText)"),
+        ("ADD10O,1000X60.0000001", Unit::Mm, "Err(OffGrid)"),
+    ]
+}
+
+// Whether each word defines what its row says.
+fn all_define(alloc: Global, rows: &[Word]) -> Result<bool, AllocError> {
+    for (word, unit, expected) in rows {
+        let found = format!(in alloc; "{:?}", read_aperture(word.as_bytes(), *unit))?;
+        if found.as_str() != *expected {
+            return Ok(false);
+        }
+    }
+    Ok(true)
+}
 
 #[test]
 fn words_define_apertures(rt: HostRuntime) -> Result<(), Fail> {
-    for (word, unit, expected) in WORDS {
-        let read = format!(in rt.alloc(); "{:?}", read_aperture(word.as_bytes(), unit))?;
-        assert_eq!(rt; read.as_str(), expected, "{word:?}");
-    }
+    assert!(rt; all_define(rt.alloc(), &words_first())?);
+    assert!(rt; all_define(rt.alloc(), &words_next())?);
+    assert!(rt; all_define(rt.alloc(), &words_then())?);
+    assert!(rt; all_define(rt.alloc(), &words_last())?);
     Ok(())
 }
 
 /// Words in mm and spots with the shape there: a disc or a capsule by its ends and its radius, an
 /// area by its corners, in u.
-const FLASHES: [(&str, i64, i64, &str); 14] = [
+const FLASHES: [(&str, i64, i64, &str); 15] = [
     ("ADD11C,0", 5, 5, "none"),
     ("ADD10C,1.0", 7, -9, "7 -9, 7 -9, 5000000"),
-    ("ADD10C,2000", 0, 0, "no aperture"),
+    ("ADD10C,60", 0, 0, "no aperture"),
     (
-        "ADD10C,1000",
+        "ADD10C,50",
         10_000_000_000,
         0,
-        "10000000000 0, 10000000000 0, 5000000000",
+        "10000000000 0, 10000000000 0, 250000000",
+    ),
+    (
+        "ADD10O,50X1000",
+        0,
+        0,
+        "0 -4750000000, 0 4750000000, 250000000",
     ),
     // An obround lies where x is over y, and stands otherwise.
     ("ADD10O,2.0X1.0", 0, 0, "-5000000 0, 5000000 0, 5000000"),
@@ -146,7 +205,7 @@ fn shown(alloc: Global, shape: &Shape) -> Result<String, AllocError> {
 fn is_placed(at: Spot) -> bool
     ensures { IsTrue result → IsPlaced at }
 {
-    at.x.unsigned_abs() <= 10_000_000_000 && at.y.unsigned_abs() <= 10_000_000_000
+    at.x.unsigned_abs() <= METRE && at.y.unsigned_abs() <= METRE
 }
 
 fn flashed(alloc: Global, word: &str, at: Spot) -> Result<String, AllocError> {

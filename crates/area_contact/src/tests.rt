@@ -6,7 +6,7 @@ ghost use Rattle.std.specs.Prelude.{pos, ◌<◌, ◌≡◌, ◌≤ℤ◌};
 use super::*;
 use Outline::*;
 use contact::{Capsule, Closed, Meets};
-use planar::{Frame, ray_crosses, segments_meet, segments_within};
+use planar::{Frame, METRE, ray_crosses, segments_meet, segments_within};
 use std::alloc::{AllocError, Global};
 use std::marker::Brand;
 use std::sync::ledger::{Blank, Ledger};
@@ -234,14 +234,12 @@ const FRAME: Frame = Frame {
     low: -1_000_000,
 };
 
-const METRE: i64 = 10_000_000_000;
-
 fn placed(x: i64, y: i64) -> Spot
     ensures { IsPlaced result }
 {
     Spot {
-        x: x.clamp(-METRE, METRE),
-        y: y.clamp(-METRE, METRE),
+        x: x.clamp(-(METRE as i64), METRE as i64),
+        y: y.clamp(-(METRE as i64), METRE as i64),
     }
 }
 

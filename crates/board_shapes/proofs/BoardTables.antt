@@ -6,14 +6,14 @@ use Rattle.planar.specs.Plane.{at}
 use Rattle.contact.specs.RoundLaws.{turned}
 use Rattle.tables.specs.Chains.{AreJoined, IsChain}
 use Rattle.tables.specs.Consistent.{AreConsistent, ArePointsJoined}
-use Rattle.tables.specs.Tables.{Tables, TestPoint, Stands}
+use Rattle.tables.specs.Tables.{Source, Tables, TestPoint, Stands}
 use Rattle.tables.proofs.Listing.{rows_of, rows_are_one, stands_as, stands_where}
 use Rattle.board_shapes.specs.declared.probe.Probe.{Probe}
 use Rattle.board_shapes.specs.Figures.{InFigure, IsLawfulFigure}
 use Rattle.board_shapes.specs.LawfulBoard.{IsLawfulBoard}
 use Rattle.board_shapes.specs.Laws.{HasOneTables}
 use Rattle.board_shapes.specs.Plain.{PlainBoard}
-use Rattle.board_shapes.specs.Tables.{IsNear, IsTables, point_of}
+use Rattle.board_shapes.specs.Tables.{IsNear, IsTables, point_of, source_of}
 use Rattle.board_shapes.specs.Touching.{CommonLayer, InSpan, ProbesJoined, Touch, TouchAt, UnderAt}
 use Rattle.board_shapes.proofs.Deciding.{near_decided, under_at_decided}
 
@@ -29,19 +29,21 @@ pub tables_are_there : (b : PlainBoard) → All (λ p. IsLawfulFigure p.figure) 
 tables_are_there b lawful =
     let near = rows_of (IsNear b) (near_decided b lawful) (length b.pieces) (λ i j h. (touch_within b i j h.1).1) (length b.pieces) in
     let beneath = rows_of (UnderAt b) (under_at_decided b) (length b.pieces) (λ k i h. (under_within b k i h).1) (length b.probes) in
-    (record { near = near.0; beneath = beneath.0; points = map point_of b.probes; names = b.names }, record { near = near.1; beneath = beneath.1; points = refl; names = refl })
+    (record { near = near.0; beneath = beneath.0; points = map point_of b.probes; sources = map source_of b.pieces; names = b.names }, record { near = near.1; beneath = beneath.1; points = refl; sources = refl; names = refl })
 
-abbrev made : List (List ℕ) → List (List ℕ) → List TestPoint → List (List ℕ) → Tables
-made near beneath points names = record { near = near; beneath = beneath; points = points; names = names }
+abbrev made : List (List ℕ) → List (List ℕ) → List TestPoint → List Source → List (List ℕ) → Tables
+made near beneath points sources names = record { near = near; beneath = beneath; points = points; sources = sources; names = names }
 
-same_tables : (t u : Tables) → t.near ≡ u.near → t.beneath ≡ u.beneath → t.points ≡ u.points → t.names ≡ u.names → t ≡ u
-same_tables t u e f g h =
-    ap (λ (x : List (List ℕ)). made x t.beneath t.points t.names) e ∙ ap (λ (x : List (List ℕ)). made u.near x t.points t.names) f
-    ∙ ap (λ (x : List TestPoint). made u.near u.beneath x t.names) g ∙ ap (λ (x : List (List ℕ)). made u.near u.beneath u.points x) h
+same_tables : (t u : Tables) → t.near ≡ u.near → t.beneath ≡ u.beneath → t.points ≡ u.points → t.sources ≡ u.sources → t.names ≡ u.names → t ≡ u
+same_tables t u e f g h i =
+    ap (λ (x : List (List ℕ)). made x t.beneath t.points t.sources t.names) e ∙ ap (λ (x : List (List ℕ)). made u.near x t.points t.sources t.names) f
+    ∙ ap (λ (x : List TestPoint). made u.near u.beneath x t.sources t.names) g ∙ ap (λ (x : List Source). made u.near u.beneath u.points x t.names) h
+    ∙ ap (λ (x : List (List ℕ)). made u.near u.beneath u.points u.sources x) i
 
 pub tables_are_one : (b : PlainBoard) (t u : Tables) → IsTables b t → IsTables b u → t ≡ u
 tables_are_one b t u h k =
-    same_tables t u (rows_are_one (length b.pieces) (IsNear b) t.near u.near h.near k.near) (rows_are_one (length b.probes) (UnderAt b) t.beneath u.beneath h.beneath k.beneath) (h.points ∙ sym k.points) (h.names ∙ sym k.names)
+    same_tables t u (rows_are_one (length b.pieces) (IsNear b) t.near u.near h.near k.near) (rows_are_one (length b.probes) (UnderAt b) t.beneath u.beneath h.beneath k.beneath)
+    (h.points ∙ sym k.points) (h.sources ∙ sym k.sources) (h.names ∙ sym k.names)
 
 pub tables_are_unique : (b : PlainBoard) → IsLawfulBoard b → HasOneTables b
 tables_are_unique b lawful = (let found = tables_are_there b lawful.figures in record { tables = found.0; are = found.1; only = λ other h. tables_are_one b other found.0 h found.1 })

@@ -21,7 +21,7 @@ abbrev pub common_box : List PlainPiece → Option Bounds
 common_box [] = None
 common_box (p ∷ rest) = Some (box_around (figure_box p.figure) rest)
 
--- both sides of the box are at most that of a frame, 300 mm
+-- both sides of the box are at most that of a frame
 pub record FitsFrame (b : Bounds) : Type 0 where
   pub across : (b.right -ℤ b.left) ≤ℤ SIDE
   pub up : (b.high -ℤ b.low) ≤ℤ SIDE

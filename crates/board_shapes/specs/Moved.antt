@@ -2,6 +2,7 @@
 use Rattle.std.specs.Prelude.{ℕ, ℤ, ◌+ℤ◌, List, [], ◌∷◌, All, map}
 use Rattle.planar.specs.Plane.{IsPlaced, IsWithin}
 use Rattle.planar.specs.declared.Spot.{Spot}
+use Rattle.planar.specs.declared.TheConstants.{TWO_METRES}
 use Rattle.board_shapes.specs.Figures.{Figure, round, filled}
 use Rattle.board_shapes.specs.Pieces.{PlainPiece}
 use Rattle.board_shapes.specs.declared.moved.MoveFault.{MoveFault}
@@ -9,7 +10,7 @@ use Rattle.board_shapes.specs.declared.moved.MoveFault.TheVariants.{OutOfRange, 
 
 -- a way of at most two metres
 abbrev pub IsShift : ℤ → Type 0
-IsShift z = IsWithin 20_000_000_000 z
+IsShift z = IsWithin TWO_METRES z
 
 abbrev pub shifted : ℤ → ℤ → Spot → Spot
 shifted dx dy p = record { x = p.x +ℤ dx; y = p.y +ℤ dy }

@@ -35,6 +35,6 @@ pub struct Board {
 /// Why pieces are no board.
 #[derive(Clone, Copy, Debug, PartialEq, Eq)]
 pub enum BoardFault {
-    /// The common box of all pieces, which this is, has a side over 3,000,000,000 u (300 mm).
+    /// The common box of all pieces, which this is, has a side over 10,000,000,000 u (1 m).
     FrameTooLarge(Bounds),
 }

@@ -9,7 +9,7 @@ use crate::placed::{Origin, Piece, Placed};
 use crate::shape::Shape;
 use area_contact::{Area, AreaFault};
 use contact::Capsule;
-use planar::Spot;
+use planar::{METRE, Spot};
 use std::alloc::Global;
 use thiserror::Error;
 
@@ -163,11 +163,11 @@ fn is_placed(p: Spot) -> bool
 fn is_placed_across(p: Spot) -> bool
     ensures { IsTrue result ↔ IsReached p.x }
 {
-    p.x.unsigned_abs() <= 10_000_000_000
+    p.x.unsigned_abs() <= METRE
 }
 
 fn is_placed_up(p: Spot) -> bool
     ensures { IsTrue result ↔ IsReached p.y }
 {
-    p.y.unsigned_abs() <= 10_000_000_000
+    p.y.unsigned_abs() <= METRE
 }

@@ -126,20 +126,20 @@ fn the_frame(rt: HostRuntime) -> Result<(), Fail> {
         y: 5_000_000,
     };
     let fits = Spot {
-        x: 2_995_000_000,
-        y: 2_995_000_000,
+        x: 9_995_000_000,
+        y: 9_995_000_000,
     };
     let board = board_of(rt.alloc(), fits, near)?.expect(&rt, "a board that fits");
     assert!(rt; board.frame() == FRAME && board.pieces().len() == 2 && board.layers() == 1);
     assert!(rt; board.probes().is_empty() && board.names().is_empty());
     let far = Spot {
-        x: 2_995_000_010,
+        x: 9_995_000_010,
         y: 5_000_000,
     };
     let large = Bounds {
         left: 0,
         low: 0,
-        right: 3_000_000_010,
+        right: 10_000_000_010,
         high: 10_000_000,
     };
     let refused = board_of(rt.alloc(), near, far)?;

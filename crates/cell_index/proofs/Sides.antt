@@ -18,21 +18,21 @@ pub int_le_holds : (a b : ℤ) → a ≤ℤ b → int_le a b ≡ true
 int_le_holds a b h = grind (arith, ints)
 
 -- the sides of a cell
-pub edge : (k : ℕ) → CELL *ℤ pos k ≡ pos (23437500 * k)
+pub edge : (k : ℕ) → pos CELL *ℤ pos k ≡ pos (CELL * k)
 edge k = grind (arith, ints)
 
-pub met_between : (from low high : ℤ) (a b first last k : ℕ) → low ≡ from +ℤ pos a → high ≡ from +ℤ pos b → a ≤ b → (first ≡ 0) ⊎ (23437500 * first < a) → a ≤ 23437500 * (first + 1) → 23437500 * last ≤ b → (last ≡ 127) ⊎ (b < 23437500 * (last + 1)) → k < 128 → (meets_side from low high k ≡ true) ↔ ((first ≤ k) × (k ≤ last))
+pub met_between : (from low high : ℤ) (a b first last k : ℕ) → low ≡ from +ℤ pos a → high ≡ from +ℤ pos b → a ≤ b → (first ≡ 0) ⊎ (CELL * first < a) → a ≤ CELL * (first + 1) → CELL * last ≤ b → (last ≡ 127) ⊎ (b < CELL * (last + 1)) → k < 128 → (meets_side from low high k ≡ true) ↔ ((first ≤ k) × (k ≤ last))
 met_between from low high a b first last k at_low at_high order begin reached begun end cell = (there, back)
   where
     there : meets_side from low high k ≡ true → (first ≤ k) × (k ≤ last)
     there h =
-        let le : int_max low (from +ℤ CELL *ℤ pos k) ≤ℤ int_min high (from +ℤ CELL *ℤ pos (k + 1)) = int_le_told (int_max low (from +ℤ CELL *ℤ pos k)) (int_min high (from +ℤ CELL *ℤ pos (k + 1))) h in
-        let one : low ≤ℤ (from +ℤ CELL *ℤ pos (k + 1)) = omega (arith, ints, clamps) in
-        let two : (from +ℤ CELL *ℤ pos k) ≤ℤ high = omega (arith, ints, clamps) in
+        let le : int_max low (from +ℤ pos CELL *ℤ pos k) ≤ℤ int_min high (from +ℤ pos CELL *ℤ pos (k + 1)) = int_le_told (int_max low (from +ℤ pos CELL *ℤ pos k)) (int_min high (from +ℤ pos CELL *ℤ pos (k + 1))) h in
+        let one : low ≤ℤ (from +ℤ pos CELL *ℤ pos (k + 1)) = omega (arith, ints, clamps) in
+        let two : (from +ℤ pos CELL *ℤ pos k) ≤ℤ high = omega (arith, ints, clamps) in
         let e = edge k in
         let f = edge (k + 1) in
-        let left : a ≤ 23437500 * (k + 1) = omega (arith, ints) in
-        let right : 23437500 * k ≤ b = omega (arith, ints) in
+        let left : a ≤ CELL * (k + 1) = omega (arith, ints) in
+        let right : CELL * k ≤ b = omega (arith, ints) in
         (elim begin [ inl z ↦ omega arith | inr less ↦ omega arith ], elim end [ inl z ↦ omega arith | inr less ↦ omega arith ])
 
     back : (first ≤ k) × (k ≤ last) → meets_side from low high k ≡ true
@@ -41,13 +41,13 @@ met_between from low high a b first last k at_low at_high order begin reached be
         let f = edge (k + 1) in
         let p = h.0 in
         let q = h.1 in
-        let left : a ≤ 23437500 * (k + 1) = omega arith in
-        let right : 23437500 * k ≤ b = omega arith in
-        let one : low ≤ℤ (from +ℤ CELL *ℤ pos (k + 1)) = omega (arith, ints) in
-        let two : (from +ℤ CELL *ℤ pos k) ≤ℤ high = omega (arith, ints) in
+        let left : a ≤ CELL * (k + 1) = omega arith in
+        let right : CELL * k ≤ b = omega arith in
+        let one : low ≤ℤ (from +ℤ pos CELL *ℤ pos (k + 1)) = omega (arith, ints) in
+        let two : (from +ℤ pos CELL *ℤ pos k) ≤ℤ high = omega (arith, ints) in
         let three : low ≤ℤ high = omega (arith, ints) in
-        let four : (from +ℤ CELL *ℤ pos k) ≤ℤ (from +ℤ CELL *ℤ pos (k + 1)) = omega (arith, ints) in
-        int_le_holds (int_max low (from +ℤ CELL *ℤ pos k)) (int_min high (from +ℤ CELL *ℤ pos (k + 1))) (omega (arith, ints, clamps))
+        let four : (from +ℤ pos CELL *ℤ pos k) ≤ℤ (from +ℤ pos CELL *ℤ pos (k + 1)) = omega (arith, ints) in
+        int_le_holds (int_max low (from +ℤ pos CELL *ℤ pos k)) (int_min high (from +ℤ pos CELL *ℤ pos (k + 1))) (omega (arith, ints, clamps))
 
 -- ---- for the calls
 
@@ -63,14 +63,14 @@ along_is from z f g low high =
     let same = ap (λ (w : ℤ). pos (nat_abs w)) way in
     omega (arith, ints)
 
-pub met_read : (from low high : ℤ) (first last k : ℕ) → FitsSigned w64 from → FitsSigned w64 low → FitsSigned w64 high → from ≤ℤ low → high ≤ℤ (from +ℤ SIDE) → low ≤ℤ high → (first ≡ 0) ⊎ (23437500 * first < along from low) → along from low ≤ 23437500 * (first + 1) → 23437500 * last ≤ along from high → (last ≡ 127) ⊎ (along from high < 23437500 * (last + 1)) → k < 128 → (meets_side from low high k ≡ true) ↔ ((first ≤ k) × (k ≤ last))
+pub met_read : (from low high : ℤ) (first last k : ℕ) → FitsSigned w64 from → FitsSigned w64 low → FitsSigned w64 high → from ≤ℤ low → high ≤ℤ (from +ℤ SIDE) → low ≤ℤ high → (first ≡ 0) ⊎ (CELL * first < along from low) → along from low ≤ CELL * (first + 1) → CELL * last ≤ along from high → (last ≡ 127) ⊎ (along from high < CELL * (last + 1)) → k < 128 → (meets_side from low high k ≡ true) ↔ ((first ≤ k) × (k ≤ last))
 met_read from low high first last k e f g begins ends order begin reached begun end cell =
     let at_low = along_is from low e f begins (omega (arith, ints)) in
     let at_high = along_is from high e g (omega (arith, ints)) ends in
     let rising : along from low ≤ along from high = omega (arith, ints) in
     met_between from low high (along from low) (along from high) first last k at_low at_high rising begin reached begun end cell
 
-pub some_met : (from low high : ℤ) (first last : ℕ) → FitsSigned w64 from → FitsSigned w64 low → FitsSigned w64 high → from ≤ℤ low → high ≤ℤ (from +ℤ SIDE) → low ≤ℤ high → (first ≡ 0) ⊎ (23437500 * first < along from low) → (last ≡ 127) ⊎ (along from high < 23437500 * (last + 1)) → first < 128 → first ≤ last
+pub some_met : (from low high : ℤ) (first last : ℕ) → FitsSigned w64 from → FitsSigned w64 low → FitsSigned w64 high → from ≤ℤ low → high ≤ℤ (from +ℤ SIDE) → low ≤ℤ high → (first ≡ 0) ⊎ (CELL * first < along from low) → (last ≡ 127) ⊎ (along from high < CELL * (last + 1)) → first < 128 → first ≤ last
 some_met from low high first last e f g begins ends order begin end small =
     let at_low = along_is from low e f begins (omega (arith, ints)) in
     let at_high = along_is from high e g (omega (arith, ints)) ends in

@@ -32,17 +32,17 @@ use Rattle.cell_index.proofs.Standing.{all_at}
 -- the cell k of a side has the place z
 pub record HasPlace (from z : ℤ) (k : ℕ) : Type 0 where
   pub cell : k < 128
-  pub begun : (from +ℤ CELL *ℤ pos k) ≤ℤ z
-  pub reached : z ≤ℤ (from +ℤ CELL *ℤ pos (k + 1))
+  pub begun : (from +ℤ pos CELL *ℤ pos k) ≤ℤ z
+  pub reached : z ≤ℤ (from +ℤ pos CELL *ℤ pos (k + 1))
 
-pub place_of : (from z : ℤ) (along k : ℕ) → z ≡ from +ℤ pos along → k < 128 → 23437500 * k ≤ along → along ≤ 23437500 * (k + 1) → HasPlace from z k
+pub place_of : (from z : ℤ) (along k : ℕ) → z ≡ from +ℤ pos along → k < 128 → CELL * k ≤ along → along ≤ CELL * (k + 1) → HasPlace from z k
 place_of from z along k is cell begun reached =
     let e = edge k in
     let f = edge (k + 1) in
     record { cell = cell; begun = omega (arith, ints); reached = omega (arith, ints) }
 
 -- the same of a place from 0 on
-pub natural_place : (z : ℤ) (k : ℕ) → FitsSigned w64 z → pos 0 ≤ℤ z → k < 128 → 23437500 * k ≤ nat_abs (to_z w64 (of_z w64 z)) → nat_abs (to_z w64 (of_z w64 z)) ≤ 23437500 * (k + 1) → HasPlace (pos 0) z k
+pub natural_place : (z : ℤ) (k : ℕ) → FitsSigned w64 z → pos 0 ≤ℤ z → k < 128 → CELL * k ≤ nat_abs (to_z w64 (of_z w64 z)) → nat_abs (to_z w64 (of_z w64 z)) ≤ CELL * (k + 1) → HasPlace (pos 0) z k
 natural_place z k fits low cell begun reached =
     let same : nat_abs (to_z w64 (of_z w64 z)) ≡ nat_abs z = ap (λ (w : ℤ). nat_abs w) (to_z-of_z fits) in
     place_of (pos 0) z (nat_abs z) k (omega (arith, ints)) cell (omega arith) (omega arith)
@@ -50,27 +50,27 @@ natural_place z k fits low cell begun reached =
 -- the first cell of a side from 0 on that has the place
 pub record IsFirst (z : ℤ) (k : ℕ) : Type 0 where
   pub has : HasPlace (pos 0) z k
-  pub first : (k ≡ 0) ⊎ (pos (23437500 * k) <ℤ z)
+  pub first : (k ≡ 0) ⊎ (pos (CELL * k) <ℤ z)
 
 -- each place has one
 first_place : (z : ℤ) → pos 0 ≤ℤ z → z ≤ℤ SIDE → (k : ℕ) × IsFirst z k
 first_place z low high =
     let is : z ≡ pos 0 +ℤ pos (nat_abs z) = omega (arith, ints) in
-    let small : nat_abs z ≤ 3000000000 = omega (arith, ints) in
-    let whole : (nat_abs z - 1) ≡ 23437500 * ((nat_abs z - 1) / 23437500) + (nat_abs z - 1) % 23437500 = omega arith in (
-      (nat_abs z - 1) / 23437500,
+    let small : pos (nat_abs z) ≤ℤ SIDE = omega (arith, ints) in
+    let whole : (nat_abs z - 1) ≡ CELL * ((nat_abs z - 1) / CELL) + (nat_abs z - 1) % CELL = omega arith in (
+      (nat_abs z - 1) / CELL,
       record {
-        has = place_of (pos 0) z (nat_abs z) ((nat_abs z - 1) / 23437500) is (omega arith) (omega arith) (omega arith);
-        first = elim (cases_eq ((nat_abs z - 1) / 23437500) 0) [ inl zero' ↦ inl zero' | inr more ↦ inr (omega (arith, ints)) ];
+        has = place_of (pos 0) z (nat_abs z) ((nat_abs z - 1) / CELL) is (omega (arith, ints)) (omega arith) (omega arith);
+        first = elim (cases_eq ((nat_abs z - 1) / CELL) 0) [ inl zero' ↦ inl zero' | inr more ↦ inr (omega (arith, ints)) ];
       },
     )
 
 -- the first cell that has the greater of two places is the first of the patch, or the second place stands in none before
 begins : (a b high : ℤ) (first k : ℕ) → IsFirst (int_max a b) k → first ≤ k → meets_side (pos 0) a high first ≡ true → Begins first k b
 begins a b high first k is order met =
-    let le = int_le_told (int_max a (pos 0 +ℤ CELL *ℤ pos first)) (int_min high (pos 0 +ℤ CELL *ℤ pos (first + 1))) met in
+    let le = int_le_told (int_max a (pos 0 +ℤ pos CELL *ℤ pos first)) (int_min high (pos 0 +ℤ pos CELL *ℤ pos (first + 1))) met in
     let d = edge (first + 1) in
-    let reached : a ≤ℤ pos (23437500 * (first + 1)) = omega (arith, ints, clamps) in
+    let reached : a ≤ℤ pos (CELL * (first + 1)) = omega (arith, ints, clamps) in
     elim (cases_eq k first) [
       | inl same ↦ inl same
       | inr other ↦ elim is.first [
@@ -86,8 +86,8 @@ meets_place from low high z k f g h =
     let r = h.reached in
     let e = edge k in
     let d = edge (k + 1) in
-    let four : (from +ℤ CELL *ℤ pos k) ≤ℤ (from +ℤ CELL *ℤ pos (k + 1)) = omega (arith, ints) in
-    int_le_holds (int_max low (from +ℤ CELL *ℤ pos k)) (int_min high (from +ℤ CELL *ℤ pos (k + 1))) (most low (from +ℤ CELL *ℤ pos k) z high (from +ℤ CELL *ℤ pos (k + 1)) f b g r)
+    let four : (from +ℤ pos CELL *ℤ pos k) ≤ℤ (from +ℤ pos CELL *ℤ pos (k + 1)) = omega (arith, ints) in
+    int_le_holds (int_max low (from +ℤ pos CELL *ℤ pos k)) (int_min high (from +ℤ pos CELL *ℤ pos (k + 1))) (most low (from +ℤ pos CELL *ℤ pos k) z high (from +ℤ pos CELL *ℤ pos (k + 1)) f b g r)
   where
     most : (a b z c d : ℤ) → a ≤ℤ z → b ≤ℤ z → z ≤ℤ c → z ≤ℤ d → int_max a b ≤ℤ int_min c d
     most a b z c d p q r s = omega (arith, ints, clamps)

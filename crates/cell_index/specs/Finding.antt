@@ -5,6 +5,7 @@ use Rattle.cell_index.specs.Field.{boxes_meet}
 use Rattle.cell_index.specs.Stretched.{copy_in}
 use Rattle.board_shapes.specs.declared.placed.Placed.{Placed}
 use Rattle.cell_index.specs.declared.patch.Patch.{Patch}
+use Rattle.cell_index.specs.declared.patch.TheConstants.{CELL}
 use Rattle.cell_index.specs.declared.plate.Plate.{Plate}
 
 -- All numbers are those of items, and no number went away.
@@ -14,7 +15,7 @@ pub record Grows (count : ℕ) (old new : List ℕ) : Type 0 where
 
 -- a side from z on begins in cell k, or it is the first cell of the patch
 abbrev pub Begins : ℕ → ℕ → ℤ → Type 0
-Begins first k z = (k ≡ first) ⊎ (pos (23437500 * k) <ℤ z)
+Begins first k z = (k ≡ first) ⊎ (pos (CELL * k) <ℤ z)
 
 -- the copy meets the box of the patch, and this is the first cell that both meet
 pub record IsMet (copy bounds : Bounds) (patch : Patch) (across up : ℕ) : Type 0 where

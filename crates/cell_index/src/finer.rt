@@ -9,7 +9,7 @@ ghost use Rattle.contact.specs.Solid.{InBox, IsBetween, IsInside};
 ghost use Rattle.planar.specs.Plane.{at as point_at};
 ghost use Rattle.planar.specs.declared.TheConstants.{SIDE};
 ghost use Rattle.std.specs.List.Sorted.{IsStrictlyIncreasing};
-ghost use Rattle.std.specs.Prelude.{◌≡◌, ◌⊎◌, ℕ, ◌+◌, ◌*◌, ◌<◌, ◌≤◌, ◌^◌, ◌↔◌, IsTrue, pos, true, All, Contains, IfOk, OnOk, length};
+ghost use Rattle.std.specs.Prelude.{◌≡◌, ◌⊎◌, ℕ, ◌+◌, ◌*◌, ◌<◌, ◌≤◌, ◌≤ℤ◌, ◌^◌, ◌↔◌, IsTrue, pos, true, All, Contains, IfOk, OnOk, length};
 
 use crate::bins::Bins;
 use crate::filing::{WIDE, sheet};
@@ -248,7 +248,7 @@ fn begins_across(copy: &Bounds, first: u32, k: u32) -> bool
     requires cell { k < 128 }
     ensures { Begins first k copy.now.left → IsTrue result }
 {
-    k == first || k as i64 * CELL < copy.left
+    k == first || k as i64 * (CELL as i64) < copy.left
 }
 
 // The same upwards.
@@ -256,7 +256,7 @@ fn begins_up(copy: &Bounds, first: u32, k: u32) -> bool
     requires cell { k < 128 }
     ensures { Begins first k copy.now.low → IsTrue result }
 {
-    k == first || k as i64 * CELL < copy.low
+    k == first || k as i64 * (CELL as i64) < copy.low
 }
 
 // Puts the numbers in rising order, each once.
@@ -270,10 +270,10 @@ fn put_in_order(into: &mut Vec<u32>)
 
 // The cell of a side in which a place stands that is so far from its beginning.
 fn cell_at(along: u64) -> u32
-    requires inside { along ≤ 3000000000 }
-    ensures begun { 23437500 * result ≤ along }
-    ensures reached { along ≤ 23437500 * (result + 1) }
+    requires inside { pos along ≤ℤ SIDE }
+    ensures begun { CELL * result ≤ along }
+    ensures reached { along ≤ CELL * (result + 1) }
     ensures cell { result < 128 }
 {
-    (along / CELL as u64).min(127) as u32
+    (along / CELL).min(127) as u32
 }

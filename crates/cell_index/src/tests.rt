@@ -7,7 +7,7 @@ ghost use Rattle.std.specs.Prelude.{◌≡◌, ◌<◌, ◌≤◌, ◌↔◌, Al
 
 use super::*;
 use board_shapes::{Origin, Placed};
-use contact::{Bounds, Capsule, Closed, Meets};
+use contact::{Bounds, Capsule, Closed, MOST_RADIUS, Meets};
 use lengths::NoMemory;
 use planar::{Frame, Spot};
 use std::alloc::Global;
@@ -187,7 +187,7 @@ fn both_fields_find_what_touches(rt: HostRuntime) -> Result<(), Fail> {
     Ok(())
 }
 
-// Of the copies the last two reach into the second cell.
+// The copies stand in the first cell, which ends at 73,125,000, and one more disc reaches over its end.
 #[test]
 fn a_piece_stands_in_each_cell_that_it_meets(rt: HostRuntime) -> Result<(), Fail> {
     let items = copies();
@@ -197,21 +197,30 @@ fn a_piece_stands_in_each_cell_that_it_meets(rt: HostRuntime) -> Result<(), Fail
     };
     let cells = cells_of(rt.alloc(), &items, corner, 1)?.expect(&rt, "in the frame");
     let all: &[u32] = &[0, 1, 2, 3, 4, 5];
-    let last: &[u32] = &[4, 5];
     let none: &[u32] = &[];
     assert_eq!(rt; cells.cell(1, 0, 0), all);
-    assert_eq!(rt; cells.cell(1, 1, 0), last);
+    assert_eq!(rt; cells.cell(1, 1, 0), none);
     assert_eq!(rt; cells.wide(1), none);
+    let two = [disc(0, 0, 1, 1), disc(14, 0, 1, 1)];
+    let cells = cells_of(rt.alloc(), &two, corner, 1)?.expect(&rt, "in the frame");
+    let both: &[u32] = &[0, 1];
+    let last: &[u32] = &[1];
+    assert_eq!(rt; cells.cell(1, 0, 0), both);
+    assert_eq!(rt; cells.cell(1, 1, 0), last);
     Ok(())
 }
+
+const WHOLE: i64 = crate::patch::CELL as i64;
+
+const HALF: i64 = WHOLE / 2;
 
 // A spot on the lines that halve the cells of the frame (0, 0), every second of which is an edge of cells.
 fn half_cell(x: u8, y: u8) -> Spot
     ensures { IsPlaced result }
 {
     Spot {
-        x: x as i64 * 11_718_750,
-        y: y as i64 * 11_718_750,
+        x: x as i64 * HALF,
+        y: y as i64 * HALF,
     }
 }
 
@@ -223,17 +232,17 @@ fn one_of(first: bool, a: Spot, b: Spot) -> Spot
     if first { a } else { b }
 }
 
-// Half a cell, a whole one, a dot, a millimetre, or a piece that is wide.
+// Half a cell, a whole one, a dot, half a millimetre, none, or the greatest.
 fn radius(k: u32) -> i64
     ensures { IsCapsuleRadius result }
 {
     match k % 6 {
-        0 => 11_718_750,
-        1 => 23_437_500,
+        0 => HALF,
+        1 => WHOLE,
         2 => 1_000,
         3 => 5_000_000,
         4 => 0,
-        _ => 300_000_000,
+        _ => MOST_RADIUS,
     }
 }
 
@@ -416,13 +425,13 @@ impl<'a> Meets<Counted<'a>> for Counted<'a> {
 
 const CORNER: Frame = Frame { left: 0, low: 0 };
 
-// The middle of a cell of the frame.
+// The middle of a cell of the frame, of the last where there is none.
 fn middle(across: u8, up: u8) -> Spot
     ensures { IsPlaced result }
 {
     Spot {
-        x: across as i64 * 23_437_500 + 11_718_750,
-        y: up as i64 * 23_437_500 + 11_718_750,
+        x: across.min(127) as i64 * WHOLE + HALF,
+        y: up.min(127) as i64 * WHOLE + HALF,
     }
 }
 

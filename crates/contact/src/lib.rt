@@ -21,7 +21,7 @@ mod extents;
 pub mod laws;
 mod round;
 
-pub use planar::{Frame, SIDE, Spot};
+pub use planar::{Frame, METRE, SIDE, Spot};
 use std::sync::ledger::Ledger;
 use steps::Steps;
 
@@ -82,6 +82,13 @@ pub trait Meets<T: Closed>: Closed {
     /// Where solids share a point, their boxes do.
     ghost within_boxes: { (s : Self) (t : T) → Self.is_lawful s → T.is_lawful t → SharePoint (Self.holds s) (T.holds t) → SharePoint (InBox (Self.extent s)) (InBox (T.extent t)) };
 }
+
+/// The greatest radius of a capsule, in u: 25 mm. Two such are less than what `segments_within` takes.
+pub const MOST_RADIUS: i64 = 250_000_000;
+
+/// The greatest diameter of a circle or a tool, and the greatest lesser side of an obround, in u:
+/// 50 mm, twice `MOST_RADIUS`.
+pub const MOST_DIAMETER: u64 = 500_000_000;
 
 /// The places that are at most `r` away from the segment from `a` to `b`, all in u.
 #[derive(Clone, Copy)]

@@ -13,7 +13,7 @@ use steps::Steps;
 
 impl Capsule {
     /// The capsule of the places at most `r` away from the segment from `a` to `b`. With equal ends it
-    /// is a disc. Both ends are within one metre of 0 in x and y, and `r` is from 0 to one metre.
+    /// is a disc. Both ends are within one metre of 0 in x and y, and `r` is from 0 to `MOST_RADIUS`.
     pub fn new(a: Spot, b: Spot, r: i64) -> Capsule
         requires a_placed { IsPlaced a }
         requires b_placed { IsPlaced b }

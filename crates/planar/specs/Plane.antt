@@ -2,7 +2,7 @@
 use Rattle.std.specs.Prelude.{ℕ, ℤ, pos, neg_ℤ, ◌+ℤ◌, ◌-ℤ◌, ◌*ℤ◌, ◌≤ℤ◌, ◌<ℤ◌, ◌⊎◌}
 use Rattle.planar.specs.declared.Frame.{Frame}
 use Rattle.planar.specs.declared.Spot.{Spot}
-use Rattle.planar.specs.declared.TheConstants.{SIDE}
+use Rattle.planar.specs.declared.TheConstants.{METRE, MOST_REACH, SIDE, TWO_METRES}
 use Rattle.planar.specs.declared.ways.Way.{Way}
 
 -- the number times itself
@@ -63,7 +63,7 @@ IsWithin n z = (neg_ℤ (pos n) ≤ℤ z) × (z ≤ℤ pos n)
 
 -- a coordinate at most one metre from 0
 abbrev pub IsReached : ℤ → Type 0
-IsReached z = IsWithin 10_000_000_000 z
+IsReached z = IsWithin METRE z
 
 -- a spot whose coordinates are
 abbrev pub IsPlaced : Spot → Type 0
@@ -71,7 +71,7 @@ IsPlaced p = IsReached p.x × IsReached p.y
 
 -- a way between two such spots
 abbrev pub IsShort : Way → Type 0
-IsShort u = IsWithin 20_000_000_000 u.x × IsWithin 20_000_000_000 u.y
+IsShort u = IsWithin TWO_METRES u.x × IsWithin TWO_METRES u.y
 
 -- z lies from low to low + SIDE
 abbrev pub IsInSide : ℤ → ℤ → Type 0
@@ -81,6 +81,6 @@ IsInSide low z = (low ≤ℤ z) × (z ≤ℤ (low +ℤ SIDE))
 abbrev pub IsInFrame : Frame → Spot → Type 0
 IsInFrame f p = IsInSide f.left p.x × IsInSide f.low p.y
 
--- a radius from 0 to SIDE
+-- a radius from 0 to MOST_REACH
 abbrev pub IsRadius : ℤ → Type 0
-IsRadius r = (pos 0 ≤ℤ r) × (r ≤ℤ SIDE)
+IsRadius r = (pos 0 ≤ℤ r) × (r ≤ℤ MOST_REACH)

@@ -29,8 +29,17 @@ pub struct Spot {
     pub y: i64,
 }
 
-/// The side of a frame: 300 mm.
-pub const SIDE: i64 = 3_000_000_000;
+/// The furthest that a coordinate lies from 0, in u: one metre.
+pub const METRE: u64 = 10_000_000_000;
+
+/// The furthest that two coordinates lie from one another, in u.
+pub const TWO_METRES: u64 = 2 * METRE;
+
+/// The side of a frame, in u: one metre.
+pub const SIDE: i64 = 10_000_000_000;
+
+/// The greatest radius that `segments_within` takes, in u: 70 mm.
+pub const MOST_REACH: i64 = 700_000_000;
 
 /// The closed square from the corner (`left`, `low`), with side `SIDE`.
 #[derive(Clone, Copy, Debug, PartialEq, Eq)]

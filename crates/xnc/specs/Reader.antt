@@ -1,6 +1,7 @@
 -- What the reader keeps.
 use Rattle.std.specs.Prelude.{◌≡◌, ℕ, ◌+◌, ◌≤◌, ◌==◌, if◌then◌else◌, List, [], ◌++◌, length, nat_eq, Option, Some, None, Result, Ok, Err, IfSome}
 use Rattle.std.specs.HashMap.{get, hash_map_len}
+use Rattle.contact.specs.declared.TheConstants.{MOST_DIAMETER}
 use Rattle.planar.specs.Plane.{IsPlaced}
 use Rattle.board_shapes.specs.Plain.{Figure, figure_of, plain_pieces}
 use Rattle.board_shapes.specs.declared.shape.Shape.{Shape}
@@ -36,9 +37,9 @@ defined_in t n = get nat_eq t.diameters n
 abbrev pub count_of : Tools → ℕ
 count_of t = hash_map_len t.diameters
 
--- no diameter is over 1 m
+-- no diameter is over MOST_DIAMETER
 abbrev pub AreLawful : Tools → Type 0
-AreLawful t = (n : ℕ) → IfSome (defined_in t n) (λ d. d ≤ 10000000000)
+AreLawful t = (n : ℕ) → IfSome (defined_in t n) (λ d. d ≤ MOST_DIAMETER)
 
 -- the new tools have n besides
 pub record Adds (old new : Tools) (n diameter : ℕ) : Type 0 where
@@ -81,7 +82,7 @@ pub record IsLawfulReader (r : Reader) : Type 0 where
 -- an effect that the reader can take on
 abbrev pub IsFit : Tools → Seen → Type 0
 IsFit t seen.Stays = Unit {0}
-IsFit t (seen.Makes n d) = (d ≤ 10000000000) × (defined_in t n ≡ None)
+IsFit t (seen.Makes n d) = (d ≤ MOST_DIAMETER) × (defined_in t n ≡ None)
 IsFit t (seen.Moves to) = IsPlaced to
 IsFit t (seen.Drills to shape) = IsPlaced to
 

@@ -1,5 +1,6 @@
 -- What a line does, or its fault, by what is known before it.
-use Rattle.std.specs.Prelude.{ℕ, ◌/◌, Bool, true, false, ◌||◌, not, ◌==◌, nat_le, if◌then◌else◌, ℤ, pos, unsigned_abs, Option, Some, None, is_some, is_none, Result, Ok, Err}
+use Rattle.std.specs.Prelude.{ℕ, ◌/◌, Bool, true, false, ◌||◌, not, ◌==◌, nat_le, nat_lt, if◌then◌else◌, ℤ, pos, unsigned_abs, Option, Some, None, is_some, is_none, Result, Ok, Err}
+use Rattle.contact.specs.declared.TheConstants.{MOST_DIAMETER}
 use Rattle.planar.specs.declared.Spot.{Spot}
 use Rattle.lengths.specs.Decimal.{Fraction}
 use Rattle.lengths.specs.Grid.{position_of, size_of}
@@ -73,16 +74,16 @@ abbrev pub gridded : Result ℤ GridFault → Result ℤ DrillKind
 gridded (Ok u) = Ok u
 gridded (Err fault) = Err (kind_of_grid fault)
 
--- a diameter of 0 is out of range
-abbrev pub not_zero : ℤ → Result ℕ DrillKind
-not_zero u = unless (unsigned_abs u == 0) kind.OutOfRange (Ok (unsigned_abs u))
+-- a diameter of 0 or over MOST_DIAMETER is out of range
+abbrev pub in_range : ℤ → Result ℕ DrillKind
+in_range u = unless (unsigned_abs u == 0 || nat_lt MOST_DIAMETER (unsigned_abs u)) kind.OutOfRange (Ok (unsigned_abs u))
 
 -- the diameter of a tool
 unfoldable pub diameter_of : Option Measure → Fraction → Result ℕ DrillKind
 diameter_of unit d = do
   unit ← needed kind.MissingUnit unit
   size ← unless (not d.pointed) kind.ImpliedDecimals (gridded (size_of d unit))
-  not_zero size
+  in_range size
 
 -- `T<n>C<d>`
 unfoldable pub define : Known → ℕ → Fraction → Result Effect DrillKind

@@ -33,7 +33,7 @@ pub enum DrillKind {
     /// A coordinate that is no whole number of u (0.1 nm), or a diameter that is no even one.
     #[error("a length off the grid")]
     OffGrid = 7,
-    /// A coordinate over 1 m from 0, or a diameter that is not above 0 or is over 1 m.
+    /// A coordinate over 1 m from 0, or a diameter that is not above 0 or is over 50 mm.
     #[error("a length out of range")]
     OutOfRange = 8,
     /// A line that begins with `G02` or `G03`.

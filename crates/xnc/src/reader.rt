@@ -1,5 +1,6 @@
 // What the reader of a file keeps, and how it obeys a line.
 ghost use Rattle.std.specs.Prelude.{◌≤◌};
+ghost use Rattle.contact.specs.declared.TheConstants.{MOST_DIAMETER};
 
 use crate::effect::Effect;
 use crate::kind::DrillKind;
@@ -62,7 +63,7 @@ impl Reader {
     fn diameter(&self) -> Option<u64>
         requires { AreLawful self.now.tools }
         ensures value { result ≡ spec.diameter (known_of self.now) }
-        ensures lawful { IfSome result (λ d. d ≤ 10000000000) }
+        ensures lawful { IfSome result (λ d. d ≤ MOST_DIAMETER) }
     {
         match self.settings.tool {
             None => None,

@@ -2,6 +2,7 @@
 ghost use Rattle.std.specs.Prelude.{◌≡◌, ◌==◌, ◌+◌, ◌/◌, ◌^◌, ◌<◌, ◌≤◌, true, false, pos, IfOk, IfSome};
 ghost use Rattle.planar.specs.Plane.{IsPlaced, IsReached};
 ghost use Rattle.contact.specs.Round.{IsCapsuleRadius};
+ghost use Rattle.contact.specs.declared.TheConstants.{MOST_DIAMETER};
 ghost use Rattle.lengths.specs.Grid.{position_of, size_of};
 ghost use Rattle.xnc.specs.Reader.{shown};
 ghost use Rattle.xnc.specs.Table as spec;
@@ -10,6 +11,7 @@ use crate::effect::Effect;
 use crate::kind::DrillKind;
 use crate::line::{Coordinates, Form};
 use crate::settings::{Mode, Settings, Stage};
+use contact::MOST_DIAMETER;
 use lengths::{Decimal, Len, Unit};
 use planar::Spot;
 
@@ -72,12 +74,13 @@ fn size(d: Decimal, unit: Unit) -> Result<Len, DrillKind>
     Ok(len)
 }
 
-fn not_zero(size: Len) -> Result<u64, DrillKind>
-    ensures value { result ≡ spec.not_zero size }
-    ensures bound { IfOk result (λ d. d ≤ 10000000000) }
+// A diameter that is not 0 and at most `MOST_DIAMETER`.
+fn in_range(size: Len) -> Result<u64, DrillKind>
+    ensures value { result ≡ spec.in_range size }
+    ensures bound { IfOk result (λ d. d ≤ MOST_DIAMETER) }
 {
     let amount = size.u().unsigned_abs();
-    if amount == 0 {
+    if amount == 0 || amount > MOST_DIAMETER {
         return Err(DrillKind::OutOfRange);
     }
     Ok(amount)
@@ -87,7 +90,7 @@ fn not_zero(size: Len) -> Result<u64, DrillKind>
 #[tactic(auto, unfolding(crate::specs::Table::diameter_of))]
 pub fn diameter(unit: Option<Unit>, d: Decimal) -> Result<u64, DrillKind>
     ensures value { result ≡ spec.diameter_of unit d }
-    ensures bound { IfOk result (λ d. d ≤ 10000000000) }
+    ensures bound { IfOk result (λ d. d ≤ MOST_DIAMETER) }
 {
     let Some(unit) = unit else {
         return Err(DrillKind::MissingUnit);
@@ -96,7 +99,7 @@ pub fn diameter(unit: Option<Unit>, d: Decimal) -> Result<u64, DrillKind>
         return Err(DrillKind::ImpliedDecimals);
     }
     let size = size(d, unit)?;
-    not_zero(size)
+    in_range(size)
 }
 
 // The value of a coordinate.
@@ -153,7 +156,7 @@ pub fn target(unit: Option<Unit>, here: Spot, to: Coordinates) -> Result<Spot, D
 }
 
 pub fn half(diameter: Option<u64>) -> i64
-    requires { IfSome diameter (λ d. d ≤ 10000000000) }
+    requires { IfSome diameter (λ d. d ≤ MOST_DIAMETER) }
     ensures value { result ≡ spec.half diameter }
     ensures radius { IsCapsuleRadius result }
 {

@@ -158,6 +158,18 @@ fn refusals(rt: HostRuntime) {
             11,
         ),
         (
+            b"M48\nMETRIC\nT1C50.0\nT2C50.0000002".as_slice(),
+            DrillKind::OutOfRange,
+            4,
+            19,
+        ),
+        (
+            b"M48\nINCH\nT1C1.968503\nT2C1.968504".as_slice(),
+            DrillKind::OutOfRange,
+            4,
+            21,
+        ),
+        (
             b"M48\nMETRIC\n%\nG00Y1000.0000001".as_slice(),
             DrillKind::OutOfRange,
             4,

@@ -17,7 +17,7 @@ impl Board {
     /// The board of these parts. Its frame has its lower left corner at that of the common box of
     /// all pieces, or at (0, 0) where there are none.
     ///
-    /// `FrameTooLarge` where the common box has a side over 3,000,000,000 u (300 mm).
+    /// `FrameTooLarge` where the common box has a side over 10,000,000,000 u (1 m).
     pub fn new(
         pieces: Vec<Piece>,
         probes: Rows<Probe>,
@@ -91,7 +91,7 @@ impl Board {
         self.layers
     }
 
-    /// The frame: a square of 3,000,000,000 u (300 mm) in which all boxes of the pieces lie.
+    /// The frame: a square of 10,000,000,000 u (1 m) in which all boxes of the pieces lie.
     pub fn frame(&self) -> Frame
         ensures { result ≡ frame_of (plain_board self.now) }
     {
