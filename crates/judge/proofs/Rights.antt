@@ -18,7 +18,7 @@ use Rattle.verdict.specs.declared.verdict.Open.{Open}
 use Rattle.verdict.specs.declared.verdict.PointLine.{PointLine}
 use Rattle.verdict.specs.declared.verdict.Mark.{Mark}
 use Rattle.verdict.specs.Forest.{IsTree, IsForest, Holds, net_at, first_piece}
-use Rattle.verdict.specs.Right.{IsRight, Trees, Covers, Apart, Points, Opens, Shorts, Branches, Bare, Counts, AreLines, bare_from, all_opens, all_shorts, outline, HasBranches, BeginsBeneath, IsLeastOf, first_from, marks, is_on, BeginsAtHome}
+use Rattle.verdict.specs.Right.{IsRight, Trees, Covers, Apart, Points, Opens, Shorts, Branches, Bare, Counts, Spots, Sources, AreLines, bare_from, all_opens, all_shorts, outline, HasBranches, BeginsBeneath, IsLeastOf, first_from, marks, is_on, BeginsAtHome}
 use Rattle.judge.specs.Judged.{line_by, lines_by, HasHome}
 use Rattle.verdict.specs.Seats.{net_by}
 use Rattle.judge.proofs.Along.{branches_along}
@@ -154,7 +154,7 @@ near_within b p q near = slice_get_within b.pieces p near.1.first near.1.first_i
 pub judged_right : (b : PlainBoard) (homes : List (Option ℕ)) (nets : List (List Twig)) (numbers : List ℕ) (points : List PointLine) (opens : List Open) (shorts : List Short) (bare : List ℕ) (pieces : ℕ) (names : List (List ℕ))
     → pieces ≡ length b.pieces → names ≡ b.names → IsForest (length b.pieces) (IsNear b) nets → ((i p : ℕ) → Holds nets i p → get_or numbers p 0 ≡ i) → AreLeast (length b.probes) (UnderAt b) homes
     → points ≡ lines_by numbers b.probes homes → bare ≡ bare_from 0 points → opens ≡ all_opens 0 names points → map outline shorts ≡ all_shorts 0 nets names points → All (HasBranches nets (BeginsAtHome homes) points) shorts
-    → (t : Tables) → IsTables b t → IsRight t (record { pieces = pieces; names = names; nets = nets; points = points; opens = opens; shorts = shorts; bare = bare })
+    → (t : Tables) → IsTables b t → IsRight t (record { pieces = pieces; names = names; nets = nets; points = points; opens = opens; shorts = shorts; bare = bare; more = None })
 judged_right b homes nets numbers points opens shorts bare pieces names all named lawful numbered least lines bared opened outlined branched t tables =
     let known = homes_known b homes least in
     let texts : names ≡ t.names = named ∙ sym tables.names in
@@ -178,6 +178,8 @@ judged_right b homes nets numbers points opens shorts bare pieces names all name
           (along_branches nets (BeginsAtHome homes) (BeginsBeneath t.beneath) points (home_least (UnderAt b) homes t.beneath (λ k below. least.each k (let e = least.many in omega arith)) (λ k below. tables.beneath.each k (let e = least.many in omega arith)))) shorts branched
       | Bare ↦ bared
       | Counts ↦ (all ∙ sym tables.near.many, texts)
+      | Spots ↦ tt
+      | Sources ↦ tt
     ]
 
 pub pieces_long : (b : PlainBoard) (items : List (Placed Shape)) → plain_pieces items ≡ b.pieces → length items ≡ length b.pieces

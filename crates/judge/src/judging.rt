@@ -2,7 +2,7 @@
 ghost use Rattle.board_shapes.specs.Plain.{plain_board};
 ghost use Rattle.board_shapes.specs.Tables.{IsNear, IsTables};
 ghost use Rattle.board_shapes.specs.Touching.{UnderAt};
-ghost use Rattle.std.specs.Prelude.{◌≡◌, length, IfOk};
+ghost use Rattle.std.specs.Prelude.{◌≡◌, length, IfOk, None};
 ghost use Rattle.tables.specs.Lists.{AreLeast};
 ghost use Rattle.tables.specs.Tables.{Tables};
 ghost use Rattle.verdict.specs.Forest.{IsForest};
@@ -20,7 +20,8 @@ use std::alloc::Global;
 use verdict::{Trees, Verdict};
 
 /// The verdict on a board, with the handed-in trees as its nets. The trees are spanning trees of the board's nets, and
-/// the homes are for each of its probes the least piece under it. A refusal drops what was handed in.
+/// the homes are for each of its probes the least piece under it. The verdict has no supplement. A refusal drops what was
+/// handed in.
 pub fn judge(
     alloc: Global,
     board: &Board,
@@ -31,6 +32,7 @@ pub fn judge(
     requires homes { AreLeast (length (plain_board board.now).probes) (UnderAt (plain_board board.now)) homes }
     ensures right { IfOk result (λ v. (t : Tables) → IsTables (plain_board board.now) t → IsRight t v) }
     ensures nets { IfOk result (λ v. v.nets ≡ trees) }
+    ensures more { IfOk result (λ v. v.more ≡ None) }
 {
     let pieces = board.pieces().len();
     let nets = trees.as_slice();
@@ -53,6 +55,7 @@ pub fn judge(
         opens,
         shorts,
         bare,
+        more: None,
     })
 }
 

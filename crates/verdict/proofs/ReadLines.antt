@@ -21,12 +21,12 @@ pub bind_then : {A B C : Type 0} (r : Option A) (f : A → Option B) (y : B) →
 bind_then (Some x) f y e k = k x refl e
 bind_then None f y e k = absurd cc
 
-false_true : false ≡ true → ⊥
+pub false_true : false ≡ true → ⊥
 false_true e = absurd cc
 
 -- ---- Twigs and pieces
 
-behind_none : (c : ℕ) (rest : List ℕ) → starts (λ b. eqb b c) rest ≡ false → behind (c ∷ []) rest ≡ None
+pub behind_none : (c : ℕ) (rest : List ℕ) → starts (λ b. eqb b c) rest ≡ false → behind (c ∷ []) rest ≡ None
 unfolding behind
 behind_none c [] e = refl
 behind_none c (b ∷ rest) e = let t : eqb b c ≡ false = e in rw t refl

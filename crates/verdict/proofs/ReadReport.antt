@@ -1,6 +1,6 @@
 -- The parts of a report, and the whole: what is read stood there, and what stands there is read.
-use Rattle.std.proofs.Common.{◌≡◌, ℕ, ◌^◌, ◌<◌, Bool, true, cond, eqb, List, [], ◌∷◌, ◌++◌, length, Option, Some, None, Result, Ok, Err, codes, refl, sym, ap, subst, ◌∙◌, append_assoc, arith}
-use Rattle.std.specs.Prelude.{IfOk, IfErr}
+use Rattle.std.proofs.Common.{◌≡◌, ℕ, ◌^◌, ◌<◌, Bool, true, false, cond, eqb, List, [], ◌∷◌, ◌++◌, length, Option, Some, None, Result, Ok, Err, codes, refl, sym, ap, subst, ◌∙◌, append_assoc, arith}
+use Rattle.std.specs.Prelude.{IfOk, IfErr, IfSome}
 use Rattle.std.specs.List.{AllByRecursion, flat_map}
 use Rattle.std.specs.Cmp.Lexicographic.{pointwise}
 use Rattle.std.proofs.lemmas.List.{length-append}
@@ -10,13 +10,15 @@ use Rattle.verdict.specs.declared.reading.ReadFault.{ReadFault}
 use Rattle.verdict.specs.declared.reading.ReadFault.TheVariants.{NotAReport, NoMemory}
 use Rattle.verdict.specs.declared.verdict.Branch.{Branch}
 use Rattle.verdict.specs.declared.verdict.Short.{Short}
+use Rattle.verdict.specs.declared.verdict.Supplement.{Supplement}
 use Rattle.verdict.specs.declared.verdict.Verdict.{Verdict}
-use Rattle.verdict.specs.Lawful.{IsNumber, IsTwig, IsPointLine, IsOpen, IsBranchLine, IsShort, IsVerdict}
-use Rattle.verdict.specs.Reading.{Gives, behind, word_at, count_at, net_at, name_at, point_at, open_at, branch_at, items_at, short_at, bare_at, section_at, pieces_at, ended, report_at}
-use Rattle.verdict.specs.ReportText.{word, end, count_line, numbered, net_line, name_line, point_line, open_line, branch_line, short_lines, bare_line, last_line, nets_text, names_text, points_text, opens_text, shorts_text, bare_text, report_text}
+use Rattle.verdict.specs.Lawful.{IsNumber, IsTwig, IsPointLine, IsOpen, IsBranchLine, IsShort, IsSpotLine, IsSourceLine, IsSupplement, IsVerdict}
+use Rattle.verdict.specs.Reading.{Gives, behind, word_at, count_at, net_at, name_at, point_at, open_at, branch_at, items_at, short_at, bare_at, spot_at, source_at, section_at, pieces_at, first_behind, first_line_at, supplement_at, more_at, ended, report_at}
+use Rattle.verdict.specs.ReportText.{word, end, count_line, numbered, net_line, name_line, point_line, open_line, branch_line, short_lines, bare_line, spot_line, source_line, last_line, nets_text, names_text, points_text, opens_text, shorts_text, bare_text, first_line, more_text, report_text}
 use Rattle.verdict.proofs.Steps.{step, some_is, guard_some, front_then, behind_takes, behind_again, word_takes, word_again, count_takes, count_again}
 use Rattle.verdict.proofs.ReadLists.{IsLine, items_take, items_again, items_few, numbered-flat}
 use Rattle.verdict.proofs.ReadLines.{bind_then, net_is, name_is, point_is, open_is, branch_is, bare_is}
+use Rattle.verdict.proofs.ReadSupplement.{spot_is, source_is}
 
 -- what stands behind is no longer
 rest_short : (m : ℕ) (a b : List ℕ) → length (a ++ b) < m → length b < m
@@ -128,6 +130,76 @@ pieces_again n rest h =
     (step (word_at (word n ++ (end ++ rest))) _ (n, end ++ rest) (Some (n, rest)) (word_again n (end ++ rest) h refl)
     (step (behind (10 ∷ []) (end ++ rest)) _ rest (Some (n, rest)) (behind_again (10 ∷ []) rest) refl))
 
+-- ---- The first line and the supplement
+
+-- whether there is a supplement
+abbrev pub is_there : Option Supplement → Bool
+is_there None = false
+is_there (Some more) = true
+
+abbrev headed : Bool → List ℕ
+headed false = codes "boardnet 1" ++ 10 ∷ []
+headed true = codes "boardnet 2" ++ 10 ∷ []
+
+first_is : (more : Option Supplement) → first_line more ≡ headed (is_there more)
+first_is None = refl
+first_is (Some more) = refl
+
+first_takes : (text : List ℕ) (told : Bool) (rest : List ℕ) → first_line_at text ≡ Some (told, rest) → text ≡ headed told ++ rest
+unfolding first_line_at
+first_takes text told rest e = by (behind (headed false) text) refl e
+  where
+    by : (o : Option (List ℕ)) → behind (headed false) text ≡ o → first_behind o text ≡ Some (told, rest) → text ≡ headed told ++ rest
+    by (Some r) h k = subst (λ (x : Bool × List ℕ). text ≡ headed x.0 ++ x.1) (some_is (false, r) (told, rest) k) (behind_takes (headed false) text r h)
+    by None h k = bind_then (behind (headed true) text) (λ r. Some (true, r)) (told, rest) k (λ r hr k1.
+        subst (λ (x : Bool × List ℕ). text ≡ headed x.0 ++ x.1) (some_is (true, r) (told, rest) k1) (behind_takes (headed true) text r hr))
+
+two_is_not_one : (rest : List ℕ) → behind (headed false) (headed true ++ rest) ≡ None
+unfolding behind
+two_is_not_one rest = refl
+
+first_again : (more : Option Supplement) (rest : List ℕ) → first_line_at (first_line more ++ rest) ≡ Some (is_there more, rest)
+unfolding first_line_at
+first_again None rest = ap (λ (o : Option (List ℕ)). first_behind o (headed false ++ rest)) (behind_again (headed false) rest)
+first_again (Some more) rest =
+    ap (λ (o : Option (List ℕ)). first_behind o (headed true ++ rest)) (two_is_not_one rest)
+    ∙ step (behind (headed true) (headed true ++ rest)) (λ r. Some (true, r)) rest (Some (true, rest)) (behind_again (headed true) rest) refl
+
+pub supplement_text : Supplement → List ℕ → List ℕ
+supplement_text more rest = section_text (codes "spots") spot_line more.spots ++ (section_text (codes "sources") source_line more.sources ++ rest)
+
+supplement_takes : (bytes : List ℕ) (more : Supplement) (rest : List ℕ) → supplement_at bytes ≡ Some (more, rest) → (bytes ≡ more_text (Some more) ++ rest) × IsSupplement more
+unfolding supplement_at
+supplement_takes bytes more rest e = bind_then (section_at spot_at (codes "spots") bytes) _ (more, rest) e (λ a ha e1. bind_then (section_at source_at (codes "sources") a.1) _ (more, rest) e1 (λ b hb e2.
+    let spots = section_takes IsSpotLine spot_line spot_at spot_is (codes "spots") bytes a.0 a.1 ha in
+    let sources = section_takes IsSourceLine source_line source_at source_is (codes "sources") a.1 b.0 b.1 hb in
+    let made : Supplement = record { spots = a.0; sources = b.0 } in
+    let whole : bytes ≡ more_text (Some made) ++ b.1 = front_then bytes (section_text (codes "spots") spot_line a.0) a.1 _ spots.0 sources.0 ∙ sym (append_assoc (section_text (codes "spots") spot_line a.0) (section_text (codes "sources") source_line b.0) b.1) in
+    subst (λ (x : Supplement × List ℕ). (bytes ≡ more_text (Some x.0) ++ x.1) × IsSupplement x.0) (some_is (made, b.1) (more, rest) e2) (whole, record { spots = spots.1; sources = sources.1 })))
+
+more_takes : (told : Bool) (bytes : List ℕ) (more : Option Supplement) (rest : List ℕ) → more_at told bytes ≡ Some (more, rest) → (bytes ≡ more_text more ++ rest) × IfSome more IsSupplement × (is_there more ≡ told)
+unfolding more_at
+more_takes false bytes more rest e =
+    subst (λ (x : Option Supplement × List ℕ). (bytes ≡ more_text x.0 ++ x.1) × IfSome x.0 IsSupplement × (is_there x.0 ≡ false)) (some_is (None, bytes) (more, rest) e) (refl, tt, refl)
+more_takes true bytes more rest e = bind_then (supplement_at bytes) (λ m. Some (Some m.0, m.1)) (more, rest) e (λ a ha e1.
+    let t = supplement_takes bytes a.0 a.1 ha in
+    subst (λ (x : Option Supplement × List ℕ). (bytes ≡ more_text x.0 ++ x.1) × IfSome x.0 IsSupplement × (is_there x.0 ≡ true)) (some_is (Some a.0, a.1) (more, rest) e1) (t.0, t.1, refl))
+
+more_again : (more : Option Supplement) (rest : List ℕ) → IfSome more IsSupplement → length (more_text more ++ rest) < 2 ^ 64 → more_at (is_there more) (more_text more ++ rest) ≡ Some (more, rest)
+unfolding more_at supplement_at
+more_again None rest h small = refl
+more_again (Some more) rest h small =
+    let spots = section_text (codes "spots") spot_line more.spots in
+    let sources = section_text (codes "sources") source_line more.sources in
+    let parts : (spots ++ sources) ++ rest ≡ spots ++ (sources ++ rest) = append_assoc spots sources rest in
+    let s1 : length (spots ++ (sources ++ rest)) < 2 ^ 64 = subst (λ (t : List ℕ). length t < 2 ^ 64) parts small in
+    let s2 : length (sources ++ rest) < 2 ^ 64 = rest_short (2 ^ 64) spots (sources ++ rest) s1 in
+    let read : supplement_at (spots ++ (sources ++ rest)) ≡ Some (more, rest) =
+    step (section_at spot_at (codes "spots") (spots ++ (sources ++ rest))) _ (more.spots, sources ++ rest) (Some (more, rest)) (section_again IsSpotLine spot_line spot_at spot_is (codes "spots") more.spots (sources ++ rest) h.spots s1)
+    (step (section_at source_at (codes "sources") (sources ++ rest)) _ (more.sources, rest) (Some (more, rest)) (section_again IsSourceLine source_line source_at source_is (codes "sources") more.sources rest h.sources s2) refl) in
+    ap (λ (t : List ℕ). more_at true t) parts
+    ∙ step (supplement_at (spots ++ (sources ++ rest))) (λ m. Some (Some m.0, m.1)) (more, rest) (Some (Some more, rest)) read refl
+
 -- ---- The whole
 
 abbrev pub line_of : {X : Type 0} → (X → List ℕ) → ℕ → X → List ℕ
@@ -140,8 +212,11 @@ flat_section title text xs = ap (λ (t : List ℕ). count_line title (length xs)
 abbrev pub last_of : Verdict → List ℕ
 last_of v = last_line v.opens v.shorts v.bare
 
+abbrev pub from_more : Verdict → List ℕ
+from_more v = more_text v.more ++ last_of v
+
 abbrev pub from_bare : Verdict → List ℕ
-from_bare v = section_text (codes "missing") (line_of bare_line) v.bare ++ last_of v
+from_bare v = section_text (codes "missing") (line_of bare_line) v.bare ++ from_more v
 
 abbrev pub from_shorts : Verdict → List ℕ
 from_shorts v = section_text (codes "shorts") (line_of short_lines) v.shorts ++ from_bare v
@@ -161,16 +236,16 @@ from_nets v = section_text (codes "nets") net_line v.nets ++ from_names v
 abbrev pub from_pieces : Verdict → List ℕ
 from_pieces v = count_line (codes "pieces") v.pieces ++ from_nets v
 
-pub report_parts : (v : Verdict) → report_text v ≡ (codes "boardnet 1" ++ (10 ∷ [])) ++ from_pieces v
+pub report_parts : (v : Verdict) → report_text v ≡ first_line v.more ++ from_pieces v
 report_parts v =
     let bare : section_text (codes "missing") (line_of bare_line) v.bare ≡ bare_text v.bare = flat_section (codes "missing") bare_line v.bare in
     let shorts : section_text (codes "shorts") (line_of short_lines) v.shorts ≡ shorts_text v.shorts = flat_section (codes "shorts") short_lines v.shorts in
     let opens : section_text (codes "opens") (line_of open_line) v.opens ≡ opens_text v.opens = flat_section (codes "opens") open_line v.opens in
-    joined (codes "boardnet 1") (count_line (codes "pieces") v.pieces) (nets_text v.nets) (names_text v.names) (points_text v.points) (opens_text v.opens) _ (shorts_text v.shorts) _ (bare_text v.bare) _ (last_of v) opens shorts bare
+    joined (first_line v.more) (count_line (codes "pieces") v.pieces) (nets_text v.nets) (names_text v.names) (points_text v.points) (opens_text v.opens) _ (shorts_text v.shorts) _ (bare_text v.bare) _ (more_text v.more) (last_of v) opens shorts bare
   where
-    joined : (head pieces nets names points opens opens' shorts shorts' bare bare' last : List ℕ) → opens' ≡ opens → shorts' ≡ shorts → bare' ≡ bare
-        → ((head ++ end) ++ (((pieces ++ nets) ++ names) ++ points)) ++ (((opens ++ shorts) ++ bare) ++ last) ≡ (head ++ end) ++ (pieces ++ (nets ++ (names ++ (points ++ (opens' ++ (shorts' ++ (bare' ++ last)))))))
-    joined head pieces nets names points opens opens' shorts shorts' bare bare' last p q r = rw (p, q, r) (simp append_assoc)
+    joined : (head pieces nets names points opens opens' shorts shorts' bare bare' more last : List ℕ) → opens' ≡ opens → shorts' ≡ shorts → bare' ≡ bare
+        → (((head ++ (((pieces ++ nets) ++ names) ++ points)) ++ ((opens ++ shorts) ++ bare)) ++ more) ++ last ≡ head ++ (pieces ++ (nets ++ (names ++ (points ++ (opens' ++ (shorts' ++ (bare' ++ (more ++ last))))))))
+    joined head pieces nets names points opens opens' shorts shorts' bare bare' more last p q r = rw (p, q, r) (simp append_assoc)
 
 ended_takes : (v : Verdict) (rest : List ℕ) (w : Verdict) → ended v rest ≡ Some w → (rest ≡ last_of v) × (v ≡ w)
 ended_takes v rest w e =
@@ -182,52 +257,58 @@ ended_again v = let same : pointwise eqb (last_of v) (last_of v) ≡ true = (byt
 
 pub report_takes : (text : List ℕ) (v : Verdict) → report_at text ≡ Some v → IsVerdict v × (text ≡ report_text v)
 unfolding report_at
-report_takes text v e = bind_then (behind (codes "boardnet 1" ++ (10 ∷ [])) text) _ v e (λ a ha e1. bind_then (pieces_at a) _ v e1 (λ b hb e2.
+report_takes text v e = bind_then (first_line_at text) _ v e (λ a ha e1. bind_then (pieces_at a.1) _ v e1 (λ b hb e2.
     bind_then (section_at net_at (codes "nets") b.1) _ v e2 (λ c hc e3. bind_then (section_at name_at (codes "names") c.1) _ v e3 (λ d hd e4.
     bind_then (section_at point_at (codes "points") d.1) _ v e4 (λ f hf e5. bind_then (section_at open_at (codes "opens") f.1) _ v e5 (λ g hg e6.
     bind_then (section_at short_at (codes "shorts") g.1) _ v e6 (λ h hh e7. bind_then (section_at bare_at (codes "missing") h.1) _ v e7 (λ k hk e8.
-    let made : Verdict = record { pieces = b.0; names = d.0; nets = c.0; points = f.0; opens = g.0; shorts = h.0; bare = k.0 } in
-    let t1 = pieces_takes a b.0 b.1 hb in
+    bind_then (more_at a.0 k.1) _ v e8 (λ m hm e9.
+    let made : Verdict = record { pieces = b.0; names = d.0; nets = c.0; points = f.0; opens = g.0; shorts = h.0; bare = k.0; more = m.0 } in
+    let t1 = pieces_takes a.1 b.0 b.1 hb in
     let t2 = section_takes (AllByRecursion IsTwig) net_line net_at net_is (codes "nets") b.1 c.0 c.1 hc in
     let t3 = section_takes IsText name_line name_at name_is (codes "names") c.1 d.0 d.1 hd in
     let t4 = section_takes IsPointLine point_line point_at point_is (codes "points") d.1 f.0 f.1 hf in
     let t5 = section_takes IsOpen (line_of open_line) open_at open_is (codes "opens") f.1 g.0 g.1 hg in
     let t6 = section_takes IsShort (line_of short_lines) short_at short_is (codes "shorts") g.1 h.0 h.1 hh in
     let t7 = section_takes IsNumber (line_of bare_line) bare_at bare_is (codes "missing") h.1 k.0 k.1 hk in
-    let last = ended_takes made k.1 v e8 in
-    let lawful : IsVerdict made = record { pieces = t1.1; nets = t2.1; names = t3.1; points = t4.1; opens = t5.1; shorts = t6.1; bare = t7.1 } in
-    let u7 : h.1 ≡ from_bare made = front_then h.1 (section_text (codes "missing") (line_of bare_line) k.0) k.1 (last_of made) t7.0 last.0 in
+    let t8 = more_takes a.0 k.1 m.0 m.1 hm in
+    let last = ended_takes made m.1 v e9 in
+    let lawful : IsVerdict made = record { pieces = t1.1; nets = t2.1; names = t3.1; points = t4.1; opens = t5.1; shorts = t6.1; bare = t7.1; more = t8.1 } in
+    let u8 : k.1 ≡ from_more made = front_then k.1 (more_text m.0) m.1 (last_of made) t8.0 last.0 in
+    let u7 : h.1 ≡ from_bare made = front_then h.1 (section_text (codes "missing") (line_of bare_line) k.0) k.1 (from_more made) t7.0 u8 in
     let u6 : g.1 ≡ from_shorts made = front_then g.1 (section_text (codes "shorts") (line_of short_lines) h.0) h.1 (from_bare made) t6.0 u7 in
     let u5 : f.1 ≡ from_opens made = front_then f.1 (section_text (codes "opens") (line_of open_line) g.0) g.1 (from_shorts made) t5.0 u6 in
     let u4 : d.1 ≡ from_points made = front_then d.1 (section_text (codes "points") point_line f.0) f.1 (from_opens made) t4.0 u5 in
     let u3 : c.1 ≡ from_names made = front_then c.1 (section_text (codes "names") name_line d.0) d.1 (from_points made) t3.0 u4 in
     let u2 : b.1 ≡ from_nets made = front_then b.1 (section_text (codes "nets") net_line c.0) c.1 (from_names made) t2.0 u3 in
-    let u1 : a ≡ from_pieces made = front_then a (count_line (codes "pieces") b.0) b.1 (from_nets made) t1.0 u2 in
-    let whole : text ≡ report_text made = front_then text (codes "boardnet 1" ++ (10 ∷ [])) a (from_pieces made) (behind_takes (codes "boardnet 1" ++ (10 ∷ [])) text a ha) u1 ∙ sym (report_parts made) in
-    subst (λ (w : Verdict). IsVerdict w × (text ≡ report_text w)) last.1 (lawful, whole)))))))))
+    let u1 : a.1 ≡ from_pieces made = front_then a.1 (count_line (codes "pieces") b.0) b.1 (from_nets made) t1.0 u2 in
+    let first : headed a.0 ≡ first_line m.0 = ap headed (sym t8.2) ∙ sym (first_is m.0) in
+    let whole : text ≡ report_text made = front_then text (headed a.0) a.1 (from_pieces made) (first_takes text a.0 a.1 ha) u1 ∙ (ap (λ (t : List ℕ). t ++ from_pieces made) first ∙ sym (report_parts made)) in
+    subst (λ (w : Verdict). IsVerdict w × (text ≡ report_text w)) last.1 (lawful, whole))))))))))
 
 pub report_again : (v : Verdict) → IsVerdict v → length (report_text v) < 2 ^ 64 → report_at (report_text v) ≡ Some v
 unfolding report_at
 report_again v is small =
     let m = 2 ^ 64 in
-    let s0 : length ((codes "boardnet 1" ++ (10 ∷ [])) ++ from_pieces v) < 2 ^ 64 = subst (λ (t : List ℕ). length t < 2 ^ 64) (report_parts v) small in
-    let s1 : length (from_pieces v) < 2 ^ 64 = rest_short (2 ^ 64) (codes "boardnet 1" ++ (10 ∷ [])) (from_pieces v) s0 in
+    let s0 : length (first_line v.more ++ from_pieces v) < 2 ^ 64 = subst (λ (t : List ℕ). length t < 2 ^ 64) (report_parts v) small in
+    let s1 : length (from_pieces v) < 2 ^ 64 = rest_short (2 ^ 64) (first_line v.more) (from_pieces v) s0 in
     let s2 : length (from_nets v) < 2 ^ 64 = rest_short (2 ^ 64) (count_line (codes "pieces") v.pieces) (from_nets v) s1 in
     let s3 : length (from_names v) < 2 ^ 64 = rest_short (2 ^ 64) (section_text (codes "nets") net_line v.nets) (from_names v) s2 in
     let s4 : length (from_points v) < 2 ^ 64 = rest_short (2 ^ 64) (section_text (codes "names") name_line v.names) (from_points v) s3 in
     let s5 : length (from_opens v) < 2 ^ 64 = rest_short (2 ^ 64) (section_text (codes "points") point_line v.points) (from_opens v) s4 in
     let s6 : length (from_shorts v) < 2 ^ 64 = rest_short (2 ^ 64) (section_text (codes "opens") (line_of open_line) v.opens) (from_shorts v) s5 in
     let s7 : length (from_bare v) < 2 ^ 64 = rest_short (2 ^ 64) (section_text (codes "shorts") (line_of short_lines) v.shorts) (from_bare v) s6 in
+    let s8 : length (from_more v) < 2 ^ 64 = rest_short (2 ^ 64) (section_text (codes "missing") (line_of bare_line) v.bare) (from_more v) s7 in
     ap report_at (report_parts v)
-    ∙ step (behind (codes "boardnet 1" ++ (10 ∷ [])) ((codes "boardnet 1" ++ (10 ∷ [])) ++ from_pieces v)) _ (from_pieces v) (Some v) (behind_again (codes "boardnet 1" ++ (10 ∷ [])) (from_pieces v))
+    ∙ step (first_line_at (first_line v.more ++ from_pieces v)) _ (is_there v.more, from_pieces v) (Some v) (first_again v.more (from_pieces v))
     (step (pieces_at (from_pieces v)) _ (v.pieces, from_nets v) (Some v) (pieces_again v.pieces (from_nets v) is.pieces)
     (step (section_at net_at (codes "nets") (from_nets v)) _ (v.nets, from_names v) (Some v) (section_again (AllByRecursion IsTwig) net_line net_at net_is (codes "nets") v.nets (from_names v) is.nets s2)
     (step (section_at name_at (codes "names") (from_names v)) _ (v.names, from_points v) (Some v) (section_again IsText name_line name_at name_is (codes "names") v.names (from_points v) is.names s3)
     (step (section_at point_at (codes "points") (from_points v)) _ (v.points, from_opens v) (Some v) (section_again IsPointLine point_line point_at point_is (codes "points") v.points (from_opens v) is.points s4)
     (step (section_at open_at (codes "opens") (from_opens v)) _ (v.opens, from_shorts v) (Some v) (section_again IsOpen (line_of open_line) open_at open_is (codes "opens") v.opens (from_shorts v) is.opens s5)
     (step (section_at short_at (codes "shorts") (from_shorts v)) _ (v.shorts, from_bare v) (Some v) (section_again IsShort (line_of short_lines) short_at short_is (codes "shorts") v.shorts (from_bare v) is.shorts s6)
-    (step (section_at bare_at (codes "missing") (from_bare v)) _ (v.bare, last_of v) (Some v) (section_again IsNumber (line_of bare_line) bare_at bare_is (codes "missing") v.bare (last_of v) is.bare s7)
-    (ended_again v))))))))
+    (step (section_at bare_at (codes "missing") (from_bare v)) _ (v.bare, from_more v) (Some v) (section_again IsNumber (line_of bare_line) bare_at bare_is (codes "missing") v.bare (from_more v) is.bare s7)
+    (step (more_at (is_there v.more) (from_more v)) _ (v.more, last_of v) (Some v) (more_again v.more (last_of v) is.more s8)
+    (ended_again v)))))))))
 
 -- ---- The answers of the reader
 

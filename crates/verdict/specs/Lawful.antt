@@ -1,5 +1,5 @@
 -- Verdicts whose numbers and texts are in the ranges of their types.
-use Rattle.std.specs.Prelude.{ℕ, ◌<◌, ◌^◌, IfSome}
+use Rattle.std.specs.Prelude.{ℕ, ◌<◌, ◌^◌, ℤ, pos, neg_ℤ, ◌≤ℤ◌, ◌<ℤ◌, IfSome}
 use Rattle.std.specs.List.{AllByRecursion}
 use Rattle.lengths.specs.Text.{IsText}
 use Rattle.verdict.specs.declared.verdict.Twig.{Twig}
@@ -7,6 +7,9 @@ use Rattle.verdict.specs.declared.verdict.PointLine.{PointLine}
 use Rattle.verdict.specs.declared.verdict.Open.{Open}
 use Rattle.verdict.specs.declared.verdict.Branch.{Branch}
 use Rattle.verdict.specs.declared.verdict.Short.{Short}
+use Rattle.verdict.specs.declared.verdict.SpotLine.{SpotLine}
+use Rattle.verdict.specs.declared.verdict.SourceLine.{SourceLine}
+use Rattle.verdict.specs.declared.verdict.Supplement.{Supplement}
 use Rattle.verdict.specs.declared.verdict.Verdict.{Verdict}
 
 abbrev pub IsNumber : ℕ → Type 0
@@ -37,7 +40,27 @@ pub record IsShort (s : Short) : Type 0 where
   pub net : IsNumber s.net
   pub branches : AllByRecursion IsBranchLine s.branches
 
--- Layers are below 2^8 and all other numbers below 2^32, and the names are lawful texts.
+-- a signed number of 64 bits
+pub record IsSigned (z : ℤ) : Type 0 where
+  pub low : neg_ℤ (pos (2 ^ 63)) ≤ℤ z
+  pub high : z <ℤ pos (2 ^ 63)
+
+pub record IsSpotLine (s : SpotLine) : Type 0 where
+  pub x : IsSigned s.x
+  pub y : IsSigned s.y
+
+pub record IsSourceLine (s : SourceLine) : Type 0 where
+  pub file : IsNumber s.file
+  pub command : IsNumber s.command
+  pub copy : IsNumber s.copy
+  pub top : s.top < 2 ^ 8
+  pub bottom : s.bottom < 2 ^ 8
+
+pub record IsSupplement (more : Supplement) : Type 0 where
+  pub spots : AllByRecursion IsSpotLine more.spots
+  pub sources : AllByRecursion IsSourceLine more.sources
+
+-- The places of points are signed numbers of 64 bits, layers are below 2^8 and all other numbers below 2^32, and the names are lawful texts.
 pub record IsVerdict (v : Verdict) : Type 0 where
   pub pieces : IsNumber v.pieces
   pub nets : AllByRecursion (AllByRecursion IsTwig) v.nets
@@ -46,3 +69,4 @@ pub record IsVerdict (v : Verdict) : Type 0 where
   pub opens : AllByRecursion IsOpen v.opens
   pub shorts : AllByRecursion IsShort v.shorts
   pub bare : AllByRecursion IsNumber v.bare
+  pub more : IfSome v.more IsSupplement

@@ -1,7 +1,7 @@
 -- Reading the text of a verdict from left to right: what stands in front, and the bytes behind it, or nothing where
 -- the bytes are no such text. Only private contracts cite this module: that it reads the texts of verdicts and
 -- nothing else is proved over report_text (proofs/ReadReport).
-use Rattle.std.specs.Prelude.{◌≡◌, ℕ, zero, suc, ◌+◌, ◌^◌, nat_lt, nat_le, Bool, true, false, not, ◌&&◌, ◌==◌, if◌then◌else◌, List, [], ◌∷◌, ◌++◌, length, take, drop, Option, Some, None, Result, Ok, Err, codes, decimal}
+use Rattle.std.specs.Prelude.{◌≡◌, ℕ, zero, suc, ◌+◌, ◌^◌, ℤ, pos, negsuc, nat_lt, nat_le, Bool, true, false, not, ◌&&◌, ◌==◌, if◌then◌else◌, List, [], ◌∷◌, ◌++◌, length, take, drop, Option, Some, None, Result, Ok, Err, codes, decimal}
 use Rattle.std.specs.Cmp.Lexicographic.{pointwise}
 use Rattle.std.specs.List.{after_first, before_first, list_all, list_any, prefix_len, take_while}
 use Rattle.std.specs.Str.Parse.{digits_value}
@@ -14,6 +14,9 @@ use Rattle.verdict.specs.declared.verdict.PointLine.{PointLine}
 use Rattle.verdict.specs.declared.verdict.Open.{Open}
 use Rattle.verdict.specs.declared.verdict.Branch.{Branch}
 use Rattle.verdict.specs.declared.verdict.Short.{Short}
+use Rattle.verdict.specs.declared.verdict.SpotLine.{SpotLine}
+use Rattle.verdict.specs.declared.verdict.SourceLine.{SourceLine}
+use Rattle.verdict.specs.declared.verdict.Supplement.{Supplement}
 use Rattle.verdict.specs.declared.verdict.Verdict.{Verdict}
 
 infixl 10 ◌>>=◌
@@ -76,6 +79,25 @@ count_at bytes = do
   n ← wide_at rest
   after ← behind (10 ∷ []) n.1
   Some (n.0, after)
+
+-- so much below zero, from 1 to 2^63
+abbrev pub negated : ℕ → Option ℤ
+negated zero = None
+negated (suc m) = if nat_lt m (2 ^ 63) then Some (negsuc m) else None
+
+-- a number below 2^63, or a minus and a number from 1 to 2^63
+abbrev pub signed_behind : Option (List ℕ) → List ℕ → Option (ℤ × List ℕ)
+signed_behind None bytes = wide_at bytes >>= λ n. if nat_lt n.0 (2 ^ 63) then Some (pos n.0, n.1) else None
+signed_behind (Some rest) bytes = wide_at rest >>= λ n. negated n.0 >>= λ z. Some (z, n.1)
+
+unfoldable pub signed_at : List ℕ → Option (ℤ × List ℕ)
+signed_at bytes = signed_behind (behind (45 ∷ []) bytes) bytes
+
+-- a blank and a signed number
+unfoldable pub signed_word_at : List ℕ → Option (ℤ × List ℕ)
+signed_word_at bytes = do
+  rest ← behind (32 ∷ []) bytes
+  signed_at rest
 
 abbrev pub parent_behind : Option (List ℕ) → List ℕ → Option (Option ℕ × List ℕ)
 parent_behind None bytes = Some (None, bytes)
@@ -192,6 +214,25 @@ bare_at n bytes = do
   after ← behind (10 ∷ []) probe.1
   Some (probe.0, after)
 
+unfoldable pub spot_at : ℕ → List ℕ → Option (SpotLine × List ℕ)
+spot_at n bytes = do
+  rest ← heading_at (codes "spot") n bytes
+  x ← signed_word_at rest
+  y ← signed_word_at x.1
+  after ← behind (10 ∷ []) y.1
+  Some (record { x = x.0; y = y.0 }, after)
+
+unfoldable pub source_at : ℕ → List ℕ → Option (SourceLine × List ℕ)
+source_at n bytes = do
+  rest ← heading_at (codes "source") n bytes
+  file ← word_at rest
+  command ← word_at file.1
+  copy ← word_at command.1
+  top ← layer_at copy.1
+  bottom ← layer_at top.1
+  after ← behind (10 ∷ []) bottom.1
+  Some (record { file = file.0; command = command.0; copy = copy.0; top = top.0; bottom = bottom.0 }, after)
+
 -- ---- Parts
 
 -- a title, a count and so many items
@@ -208,18 +249,38 @@ pieces_at bytes = do
   after ← behind (10 ∷ []) pieces.1
   Some (pieces.0, after)
 
+-- whether the first line tells of a supplement
+abbrev pub first_behind : Option (List ℕ) → List ℕ → Option (Bool × List ℕ)
+first_behind (Some rest) text = Some (false, rest)
+first_behind None text = behind (codes "boardnet 2" ++ 10 ∷ []) text >>= λ rest. Some (true, rest)
+
+unfoldable pub first_line_at : List ℕ → Option (Bool × List ℕ)
+first_line_at text = first_behind (behind (codes "boardnet 1" ++ 10 ∷ []) text) text
+
+unfoldable pub supplement_at : List ℕ → Option (Supplement × List ℕ)
+supplement_at bytes = do
+  spots ← section_at spot_at (codes "spots") bytes
+  sources ← section_at source_at (codes "sources") spots.1
+  Some (record { spots = spots.0; sources = sources.0 }, sources.1)
+
+-- the supplement, where the first line tells of one
+unfoldable pub more_at : Bool → List ℕ → Option (Option Supplement × List ℕ)
+more_at false bytes = Some (None, bytes)
+more_at true bytes = supplement_at bytes >>= λ more. Some (Some more.0, more.1)
+
 -- the last line and the end
 abbrev pub ended : Verdict → List ℕ → Option Verdict
 ended v rest = if pointwise ◌==◌ rest (last_line v.opens v.shorts v.bare) then Some v else None
 
 unfoldable pub report_at : List ℕ → Option Verdict
 report_at text = do
-  rest ← behind (codes "boardnet 1" ++ 10 ∷ []) text
-  pieces ← pieces_at rest
+  first ← first_line_at text
+  pieces ← pieces_at first.1
   nets ← section_at net_at (codes "nets") pieces.1
   names ← section_at name_at (codes "names") nets.1
   points ← section_at point_at (codes "points") names.1
   opens ← section_at open_at (codes "opens") points.1
   shorts ← section_at short_at (codes "shorts") opens.1
   bare ← section_at bare_at (codes "missing") shorts.1
-  ended (record { pieces = pieces.0; names = names.0; nets = nets.0; points = points.0; opens = opens.0; shorts = shorts.0; bare = bare.0 }) bare.1
+  more ← more_at first.0 bare.1
+  ended (record { pieces = pieces.0; names = names.0; nets = nets.0; points = points.0; opens = opens.0; shorts = shorts.0; bare = bare.0; more = more.0 }) more.1

@@ -1,11 +1,15 @@
 -- The text of a verdict.
-use Rattle.std.specs.Prelude.{◌≡◌, ℕ, ◌+◌, List, [], ◌∷◌, ◌++◌, length, Option, Some, None, codes, decimal}
+use Rattle.std.specs.Prelude.{◌≡◌, ℕ, ◌+◌, ℤ, List, [], ◌∷◌, ◌++◌, length, Option, Some, None, codes, decimal}
+use Rattle.std.specs.Fmt.{signed_decimal}
 use Rattle.std.specs.List.{flat_map}
 use Rattle.verdict.specs.declared.verdict.Twig.{Twig}
 use Rattle.verdict.specs.declared.verdict.PointLine.{PointLine}
 use Rattle.verdict.specs.declared.verdict.Open.{Open}
 use Rattle.verdict.specs.declared.verdict.Branch.{Branch}
 use Rattle.verdict.specs.declared.verdict.Short.{Short}
+use Rattle.verdict.specs.declared.verdict.SpotLine.{SpotLine}
+use Rattle.verdict.specs.declared.verdict.SourceLine.{SourceLine}
+use Rattle.verdict.specs.declared.verdict.Supplement.{Supplement}
 use Rattle.verdict.specs.declared.verdict.Verdict.{Verdict}
 
 -- nothing is open, shorted or without copper
@@ -17,6 +21,10 @@ pub record Agrees (v : Verdict) : Type 0 where
 -- a blank and a number
 abbrev pub word : ℕ → List ℕ
 word n = 32 ∷ decimal n
+
+-- a blank and a signed number: one minus before the digits where it is negative, and none before 0
+abbrev pub signed_word : ℤ → List ℕ
+signed_word z = 32 ∷ signed_decimal z
 
 -- a line feed
 abbrev pub end : List ℕ
@@ -63,6 +71,12 @@ short_lines s = codes "short" ++ word s.net ++ word (length s.branches) ++ end +
 abbrev pub bare_line : ℕ → List ℕ
 bare_line probe = codes "bare" ++ word probe ++ end
 
+abbrev pub spot_line : ℕ → SpotLine → List ℕ
+spot_line n s = codes "spot" ++ word n ++ signed_word s.x ++ signed_word s.y ++ end
+
+abbrev pub source_line : ℕ → SourceLine → List ℕ
+source_line n s = codes "source" ++ word n ++ word s.file ++ word s.command ++ word s.copy ++ word s.top ++ word s.bottom ++ end
+
 abbrev pub last_line : {A B C : Type 0} → List A → List B → List C → List ℕ
 last_line [] [] [] = codes "agrees" ++ end
 last_line opens shorts bare = codes "differs" ++ end
@@ -86,14 +100,30 @@ shorts_text shorts = count_line (codes "shorts") (length shorts) ++ flat_map sho
 abbrev pub bare_text : List ℕ → List ℕ
 bare_text bare = count_line (codes "missing") (length bare) ++ flat_map bare_line bare
 
+abbrev pub spots_text : List SpotLine → List ℕ
+spots_text spots = count_line (codes "spots") (length spots) ++ numbered spot_line 0 spots
+
+abbrev pub sources_text : List SourceLine → List ℕ
+sources_text sources = count_line (codes "sources") (length sources) ++ numbered source_line 0 sources
+
+-- the first line tells whether there is a supplement
+abbrev pub first_line : Option Supplement → List ℕ
+first_line None = codes "boardnet 1" ++ end
+first_line (Some more) = codes "boardnet 2" ++ end
+
+-- the supplement, where there is one
+abbrev pub more_text : Option Supplement → List ℕ
+more_text None = []
+more_text (Some more) = spots_text more.spots ++ sources_text more.sources
+
 -- the parts up to the points
 abbrev pub tables_text : Verdict → List ℕ
 tables_text v = count_line (codes "pieces") v.pieces ++ nets_text v.nets ++ names_text v.names ++ points_text v.points
 
 -- the parts behind them
 abbrev pub findings_text : Verdict → List ℕ
-findings_text v = opens_text v.opens ++ shorts_text v.shorts ++ bare_text v.bare ++ last_line v.opens v.shorts v.bare
+findings_text v = opens_text v.opens ++ shorts_text v.shorts ++ bare_text v.bare
 
 -- the text of a verdict
 abbrev pub report_text : Verdict → List ℕ
-report_text v = codes "boardnet 1" ++ end ++ tables_text v ++ findings_text v
+report_text v = first_line v.more ++ tables_text v ++ findings_text v ++ more_text v.more ++ last_line v.opens v.shorts v.bare

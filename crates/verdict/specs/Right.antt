@@ -1,6 +1,6 @@
 -- When a verdict on a board is right. A board is here its tables: for each piece the other pieces that touch it, for
 -- each point the pieces under it, and the points and the names themselves.
-use Rattle.std.specs.Prelude.{◌≡◌, ℕ, ◌+◌, ◌<◌, ◌≤◌, Bool, false, ◌==◌, ◌&&◌, if◌then◌else◌, List, [], ◌∷◌, ◌++◌, length, map, slice_get, slice_index_or, All, Contains, Option, Some, None, MatchOption, codes}
+use Rattle.std.specs.Prelude.{◌≡◌, ℕ, ◌+◌, ◌<◌, ◌≤◌, Bool, false, ◌==◌, ◌&&◌, if◌then◌else◌, List, [], ◌∷◌, ◌++◌, length, map, slice_get, slice_index_or, All, Contains, Option, Some, None, IfSome, MatchOption, codes}
 use Rattle.std.specs.List.{list_any}
 use Rattle.std.specs.Cmp.Lexicographic.{pointwise}
 use Rattle.verdict.specs.declared.verdict.Twig.{Twig}
@@ -9,8 +9,10 @@ use Rattle.verdict.specs.declared.verdict.Open.{Open}
 use Rattle.verdict.specs.declared.verdict.Branch.{Branch}
 use Rattle.verdict.specs.declared.verdict.Seat.{Seat}
 use Rattle.verdict.specs.declared.verdict.Short.{Short}
+use Rattle.verdict.specs.declared.verdict.SpotLine.{SpotLine}
+use Rattle.verdict.specs.declared.verdict.SourceLine.{SourceLine}
 use Rattle.verdict.specs.declared.verdict.Verdict.{Verdict}
-use Rattle.tables.specs.Tables.{TestPoint, Tables, row_at, Stands}
+use Rattle.tables.specs.Tables.{TestPoint, Source, Tables, row_at, Stands}
 use Rattle.verdict.specs.Forest.{AreTrees, StandOnce, StandApart, Holds, first_piece}
 
 -- ---- Points
@@ -159,11 +161,21 @@ BeginsBeneath beneath probe piece = IsLeastOf (row_at beneath probe) piece
 abbrev pub BeginsAtHome : List (Option ℕ) → ℕ → ℕ → Type 0
 BeginsAtHome homes probe piece = slice_index_or homes probe None ≡ Some piece
 
+-- ---- The supplement
+
+-- the place of a point
+abbrev pub spot_of : TestPoint → SpotLine
+spot_of point = record { x = point.x; y = point.y }
+
+-- where a piece comes from, and its span
+abbrev pub source_of : Source → SourceLine
+source_of s = record { file = s.file; command = s.command; copy = s.copy; top = s.top; bottom = s.bottom }
+
 -- ---- The verdict
 
 -- The clauses of a right verdict.
 pub data Clause : Type 0 where
-  Trees Covers Apart Points Opens Shorts Branches Bare Counts : Clause
+  Trees Covers Apart Points Opens Shorts Branches Bare Counts Spots Sources : Clause
 
 -- What a clause says.
 abbrev pub Says : Tables → Verdict → Clause → Type 0
@@ -176,6 +188,8 @@ Says board v Shorts = map outline v.shorts ≡ all_shorts 0 v.nets board.names v
 Says board v Branches = All (HasBranches v.nets (BeginsBeneath board.beneath) v.points) v.shorts
 Says board v Bare = v.bare ≡ bare_from 0 v.points
 Says board v Counts = (v.pieces ≡ length board.near) × (v.names ≡ board.names)
+Says board v Spots = IfSome v.more (λ more. more.spots ≡ map spot_of board.points)
+Says board v Sources = IfSome v.more (λ more. more.sources ≡ map source_of board.sources)
 
 abbrev pub IsRight : Tables → Verdict → Type 0
 IsRight board v = (clause : Clause) → Says board v clause
@@ -190,6 +204,8 @@ number_of Shorts = 6
 number_of Branches = 7
 number_of Bare = 8
 number_of Counts = 9
+number_of Spots = 10
+number_of Sources = 11
 
 -- Clause n does not hold, and each clause before it does.
 pub record FailsFirst (board : Tables) (v : Verdict) (n : ℕ) : Type 0 where

@@ -86,6 +86,49 @@ pub fn word(bytes: &[u8]) -> Result<(u32, &[u8]), ReadFault>
     number(rest)
 }
 
+// So much below zero, from 1 to 2^63.
+fn negated(n: u64) -> Option<i64>
+    ensures { result ≡ spec.negated n }
+{
+    let less = n.checked_sub(1)?;
+    match i64::try_from(less) {
+        Ok(less) => Some(-1 - less),
+        Err(_) => None,
+    }
+}
+
+// A number below 2^63, or a minus and a number from 1 to 2^63.
+#[tactic(auto, unfolding(crate::specs::Reading::signed_at))]
+fn signed(bytes: &[u8]) -> Result<(i64, &[u8]), ReadFault>
+    ensures { spec.Gives (λ x. (x.0, x.1.now)) result (spec.signed_at bytes.now) }
+{
+    match behind(bytes, b"-") {
+        None => {
+            let (n, rest) = wide(bytes)?;
+            match i64::try_from(n) {
+                Ok(z) => Ok((z, rest)),
+                Err(_) => Err(ReadFault::NotAReport),
+            }
+        }
+        Some(rest) => {
+            let (n, rest) = wide(rest)?;
+            match negated(n) {
+                Some(z) => Ok((z, rest)),
+                None => Err(ReadFault::NotAReport),
+            }
+        }
+    }
+}
+
+// A blank and a signed number.
+#[tactic(auto, unfolding(crate::specs::Reading::signed_word_at))]
+pub fn signed_word(bytes: &[u8]) -> Result<(i64, &[u8]), ReadFault>
+    ensures { spec.Gives (λ x. (x.0, x.1.now)) result (spec.signed_word_at bytes.now) }
+{
+    let rest = expect(bytes, b" ")?;
+    signed(rest)
+}
+
 // A blank and a number below 2^8.
 #[tactic(auto, unfolding(crate::specs::Reading::layer_at))]
 pub fn layer(bytes: &[u8]) -> Result<(u8, &[u8]), ReadFault>

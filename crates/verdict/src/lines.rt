@@ -2,9 +2,9 @@
 ghost use Rattle.std.specs.Prelude.{◌≡◌, ℕ, List, Option, length};
 ghost use Rattle.verdict.specs.Reading as spec;
 
-use crate::fields::{begins_blank, count, expect, layer, net_number, parent, word};
+use crate::fields::{begins_blank, count, expect, layer, net_number, parent, signed_word, word};
 use crate::reading::ReadFault;
-use crate::verdict::{Branch, Open, PointLine, Short, Tree, Twig};
+use crate::verdict::{Branch, Open, PointLine, Short, SourceLine, SpotLine, Tree, Twig};
 use lengths::{Rows, Text, TextFault};
 use std::alloc::Global;
 use texts::{Numeral, after, before, has};
@@ -201,6 +201,44 @@ impl Line for u32 {
         let (probe, rest) = word(rest)?;
         let rest = expect(rest, b"\n")?;
         Ok((probe, rest))
+    }
+}
+
+impl Line for SpotLine {
+    ghost at = { spec.spot_at };
+
+    #[tactic(auto, unfolding(crate::specs::Reading::spot_at))]
+    fn read(_: Global, number: u64, bytes: &[u8]) -> Result<(SpotLine, &[u8]), ReadFault> {
+        let rest = heading(bytes, b"spot", number)?;
+        let (x, rest) = signed_word(rest)?;
+        let (y, rest) = signed_word(rest)?;
+        let rest = expect(rest, b"\n")?;
+        Ok((SpotLine { x, y }, rest))
+    }
+}
+
+impl Line for SourceLine {
+    ghost at = { spec.source_at };
+
+    #[tactic(auto, unfolding(crate::specs::Reading::source_at))]
+    fn read(_: Global, number: u64, bytes: &[u8]) -> Result<(SourceLine, &[u8]), ReadFault> {
+        let rest = heading(bytes, b"source", number)?;
+        let (file, rest) = word(rest)?;
+        let (command, rest) = word(rest)?;
+        let (copy, rest) = word(rest)?;
+        let (top, rest) = layer(rest)?;
+        let (bottom, rest) = layer(rest)?;
+        let rest = expect(rest, b"\n")?;
+        Ok((
+            SourceLine {
+                file,
+                command,
+                copy,
+                top,
+                bottom,
+            },
+            rest,
+        ))
     }
 }
 

@@ -5,9 +5,9 @@ ghost use Rattle.verdict.specs.Reading as spec;
 ghost use Rattle.verdict.specs.ReportText.{last_line as last_line_of, report_text};
 ghost use Rattle.verdict.specs.declared.verdict.Verdict.{Verdict};
 
-use crate::fields::{expect, word};
+use crate::fields::{behind, expect, word};
 use crate::lines::section;
-use crate::verdict::Verdict;
+use crate::verdict::{Supplement, Verdict};
 use lengths::NoMemory as Wanting;
 use std::alloc::Global;
 
@@ -42,6 +42,41 @@ fn last_line(v: &Verdict) -> &'static [u8]
     }
 }
 
+// The first line, and whether it tells of a supplement.
+#[tactic(auto, unfolding(crate::specs::Reading::first_line_at))]
+fn first_line(text: &[u8]) -> Result<(bool, &[u8]), ReadFault>
+    ensures { spec.Gives (λ x. (x.0, x.1.now)) result (spec.first_line_at text.now) }
+{
+    match behind(text, b"boardnet 1\n") {
+        Some(rest) => Ok((false, rest)),
+        None => {
+            let rest = expect(text, b"boardnet 2\n")?;
+            Ok((true, rest))
+        }
+    }
+}
+
+#[tactic(auto, unfolding(crate::specs::Reading::supplement_at))]
+fn supplement(alloc: Global, bytes: &[u8]) -> Result<(Supplement, &[u8]), ReadFault>
+    ensures { spec.Gives (λ x. (x.0, x.1.now)) result (spec.supplement_at bytes.now) }
+{
+    let (spots, rest) = section(alloc, b"spots", bytes)?;
+    let (sources, rest) = section(alloc, b"sources", rest)?;
+    Ok((Supplement { spots, sources }, rest))
+}
+
+// The supplement, where the first line tells of one.
+#[tactic(auto, unfolding(crate::specs::Reading::more_at))]
+fn more(alloc: Global, told: bool, bytes: &[u8]) -> Result<(Option<Supplement>, &[u8]), ReadFault>
+    ensures { spec.Gives (λ x. (x.0, x.1.now)) result (spec.more_at told bytes.now) }
+{
+    if !told {
+        return Ok((None, bytes));
+    }
+    let (more, rest) = supplement(alloc, bytes)?;
+    Ok((Some(more), rest))
+}
+
 // The count of pieces.
 #[tactic(auto, unfolding(crate::specs::Reading::pieces_at))]
 fn pieces(bytes: &[u8]) -> Result<(u32, &[u8]), ReadFault>
@@ -57,7 +92,7 @@ fn pieces(bytes: &[u8]) -> Result<(u32, &[u8]), ReadFault>
 fn report(alloc: Global, text: &[u8]) -> Result<Verdict, ReadFault>
     ensures { spec.Gives (λ v. v) result (spec.report_at text.now) }
 {
-    let rest = expect(text, b"boardnet 1\n")?;
+    let (told, rest) = first_line(text)?;
     let (pieces, rest) = pieces(rest)?;
     let (nets, rest) = section(alloc, b"nets", rest)?;
     let (names, rest) = section(alloc, b"names", rest)?;
@@ -65,6 +100,7 @@ fn report(alloc: Global, text: &[u8]) -> Result<Verdict, ReadFault>
     let (opens, rest) = section(alloc, b"opens", rest)?;
     let (shorts, rest) = section(alloc, b"shorts", rest)?;
     let (bare, rest) = section(alloc, b"missing", rest)?;
+    let (more, rest) = more(alloc, told, rest)?;
     let verdict = Verdict {
         pieces,
         names,
@@ -73,6 +109,7 @@ fn report(alloc: Global, text: &[u8]) -> Result<Verdict, ReadFault>
         opens,
         shorts,
         bare,
+        more,
     };
     if rest == last_line(&verdict) {
         Ok(verdict)

@@ -2,10 +2,12 @@
 ghost use Rattle.std.specs.Prelude.{◌≡◌, ◌∷◌, ◌++◌, ◌+◌, ℕ, List, OnOk, IfOk, IfSome, length, codes, decimal, Option};
 ghost use Rattle.std.specs.List.{flat_map, AllByRecursion};
 ghost use Rattle.lengths.specs.Text.{IsText};
-ghost use Rattle.verdict.specs.Lawful.{IsVerdict, IsNumber, IsTwig, IsPointLine, IsOpen, IsBranchLine, IsShort};
+ghost use Rattle.verdict.specs.Lawful.{IsVerdict, IsNumber, IsTwig, IsPointLine, IsOpen, IsBranchLine, IsShort, IsSpotLine, IsSourceLine, IsSupplement};
 ghost use Rattle.verdict.specs.ReportText as spec;
 
-use crate::verdict::{Branch, Open, PointLine, Short, Tree, Twig, Verdict};
+use crate::verdict::{
+    Branch, Open, PointLine, Short, SourceLine, SpotLine, Supplement, Tree, Twig, Verdict,
+};
 use lengths::{NoMemory, Text};
 use std::alloc::Global;
 use texts::Numeral;
@@ -241,6 +243,91 @@ fn push_bare_line(out: &mut Vec<u8>, probe: u32) -> Result<(), NoMemory>
     push_bytes(out, b"\n")
 }
 
+// Appends a place: its x and its y, each behind a blank.
+fn push_place(out: &mut Vec<u8>, spot: &SpotLine) -> Result<(), NoMemory>
+    ensures text { OnOk result (out.new.items ≡ out.old.items ++ (spec.signed_word spot.now.x ++ spec.signed_word spot.now.y)) }
+    ensures lawful { OnOk result (IsSpotLine spot.now) }
+{
+    let x = Numeral::signed(spot.x);
+    let y = Numeral::signed(spot.y);
+    push_bytes(out, b" ")?;
+    push_bytes(out, x.as_bytes())?;
+    push_bytes(out, b" ")?;
+    push_bytes(out, y.as_bytes())
+}
+
+fn push_spot(out: &mut Vec<u8>, number: u64, spot: &SpotLine) -> Result<(), NoMemory>
+    ensures text { OnOk result (out.new.items ≡ out.old.items ++ spec.spot_line number spot.now) }
+    ensures lawful { OnOk result (IsSpotLine spot.now) }
+{
+    push_bytes(out, b"spot")?;
+    push_word(out, number)?;
+    push_place(out, spot)?;
+    push_bytes(out, b"\n")
+}
+
+#[tactic(auto, using(crate::proofs::Numbered::numbered_turn))]
+fn push_spots(out: &mut Vec<u8>, spots: &[SpotLine]) -> Result<(), NoMemory>
+    ensures text { OnOk result (out.new.items ≡ out.old.items ++ spec.spots_text spots.now) }
+    ensures lawful { OnOk result (AllByRecursion IsSpotLine spots.now) }
+{
+    push_count(out, b"spots", spots.len() as u64)?;
+    for (number, spot) in spots.iter().enumerate() {
+        push_spot(out, number as u64, spot)?;
+    }
+    Ok(())
+}
+
+fn push_source(out: &mut Vec<u8>, number: u64, source: &SourceLine) -> Result<(), NoMemory>
+    ensures text { OnOk result (out.new.items ≡ out.old.items ++ spec.source_line number source.now) }
+    ensures lawful { OnOk result (IsSourceLine source.now) }
+{
+    push_bytes(out, b"source")?;
+    push_word(out, number)?;
+    push_word(out, u64::from(source.file))?;
+    push_word(out, u64::from(source.command))?;
+    push_word(out, u64::from(source.copy))?;
+    push_word(out, u64::from(source.top))?;
+    push_word(out, u64::from(source.bottom))?;
+    push_bytes(out, b"\n")
+}
+
+#[tactic(auto, using(crate::proofs::Numbered::numbered_turn))]
+fn push_sources(out: &mut Vec<u8>, sources: &[SourceLine]) -> Result<(), NoMemory>
+    ensures text { OnOk result (out.new.items ≡ out.old.items ++ spec.sources_text sources.now) }
+    ensures lawful { OnOk result (AllByRecursion IsSourceLine sources.now) }
+{
+    push_count(out, b"sources", sources.len() as u64)?;
+    for (number, source) in sources.iter().enumerate() {
+        push_source(out, number as u64, source)?;
+    }
+    Ok(())
+}
+
+// Appends the first line: it tells whether there is a supplement.
+fn push_first(out: &mut Vec<u8>, more: &Option<Supplement>) -> Result<(), NoMemory>
+    ensures { OnOk result (out.new.items ≡ out.old.items ++ spec.first_line more.now) }
+{
+    match more {
+        None => push_bytes(out, b"boardnet 1\n"),
+        Some(_) => push_bytes(out, b"boardnet 2\n"),
+    }
+}
+
+// Appends the supplement, where there is one.
+fn push_more(out: &mut Vec<u8>, more: &Option<Supplement>) -> Result<(), NoMemory>
+    ensures text { OnOk result (out.new.items ≡ out.old.items ++ spec.more_text more.now) }
+    ensures lawful { OnOk result (IfSome more.now IsSupplement) }
+{
+    match more {
+        None => Ok(()),
+        Some(more) => {
+            push_spots(out, more.spots.as_slice())?;
+            push_sources(out, more.sources.as_slice())
+        }
+    }
+}
+
 fn push_last(out: &mut Vec<u8>, v: &Verdict) -> Result<(), NoMemory>
     ensures { OnOk result (out.new.items ≡ out.old.items ++ spec.last_line v.now.opens v.now.shorts v.now.bare) }
 {
@@ -275,8 +362,7 @@ fn push_findings(out: &mut Vec<u8>, v: &Verdict) -> Result<(), NoMemory>
 {
     push_opens(out, v.opens.as_slice())?;
     push_shorts(out, v.shorts.as_slice())?;
-    push_bare(out, v.bare.as_slice())?;
-    push_last(out, v)
+    push_bare(out, v.bare.as_slice())
 }
 
 /// The text of a verdict.
@@ -285,8 +371,10 @@ pub fn write_report(alloc: Global, v: &Verdict) -> Result<Vec<u8>, NoMemory>
     ensures lawful { IfOk result (λ text. IsVerdict v.now) }
 {
     let mut out = Vec::new(alloc);
-    push_bytes(&mut out, b"boardnet 1\n")?;
+    push_first(&mut out, &v.more)?;
     push_tables(&mut out, v)?;
     push_findings(&mut out, v)?;
+    push_more(&mut out, &v.more)?;
+    push_last(&mut out, v)?;
     Ok(out)
 }

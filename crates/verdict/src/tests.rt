@@ -28,7 +28,7 @@ fn is_no_report(alloc: Global, text: &[u8]) -> Result<bool, Fail> {
     Ok(verdict_of(alloc, text)?.is_none())
 }
 
-fn reports() -> [&'static [u8]; 8] {
+fn reports() -> [&'static [u8]; 10] {
     [
         THREE_NAMES,
         // nothing at all
@@ -42,6 +42,10 @@ fn reports() -> [&'static [u8]; 8] {
         // an open alone, and a point without a net alone
         b"boardnet 1\npieces 0\nnets 0\nnames 0\npoints 0\nopens 1\nopen 1 2 3 4\nshorts 0\nmissing 0\ndiffers\n",
         b"boardnet 1\npieces 0\nnets 0\nnames 0\npoints 2\npoint 0 0 0 0 -\npoint 1 0 0 0 0\nopens 0\nshorts 0\nmissing 1\nbare 0\ndiffers\n",
+        // a supplement without lines
+        b"boardnet 2\npieces 0\nnets 0\nnames 0\npoints 0\nopens 0\nshorts 0\nmissing 0\nspots 0\nsources 0\nagrees\n",
+        // places on either side of 0, the least and the greatest, and the largest numbers of a source
+        b"boardnet 2\npieces 0\nnets 0\nnames 0\npoints 0\nopens 0\nshorts 0\nmissing 1\nbare 7\nspots 3\nspot 0 0 -1\nspot 1 -9223372036854775808 9223372036854775807\nspot 2 -10 10\nsources 2\nsource 0 0 0 0 0 0\nsource 1 4294967295 4294967295 4294967295 255 255\ndiffers\n",
         // numbers of two digits
         b"boardnet 1\npieces 10\nnets 11\nnet 0 0\nnet 1 1\nnet 2 2\nnet 3 3\nnet 4 4\nnet 5 5\nnet 6 6\nnet 7 7\nnet 8 8\nnet 9 9\nnet 10 10\nnames 0\npoints 0\nopens 0\nshorts 0\nmissing 0\nagrees\n",
     ]
@@ -131,6 +135,36 @@ fn wrong_findings() -> [&'static [u8]; 9] {
     ]
 }
 
+// First lines, spots and sources.
+fn wrong_supplements() -> [&'static [u8]; 24] {
+    [
+        b"boardnet 1\npieces 0\nnets 0\nnames 0\npoints 0\nopens 0\nshorts 0\nmissing 0\nspots 0\nsources 0\nagrees\n",
+        b"boardnet 3\npieces 0\nnets 0\nnames 0\npoints 0\nopens 0\nshorts 0\nmissing 0\nspots 0\nsources 0\nagrees\n",
+        b"boardnet 02\npieces 0\nnets 0\nnames 0\npoints 0\nopens 0\nshorts 0\nmissing 0\nspots 0\nsources 0\nagrees\n",
+        b"boardnet 2 \npieces 0\nnets 0\nnames 0\npoints 0\nopens 0\nshorts 0\nmissing 0\nspots 0\nsources 0\nagrees\n",
+        b"boardnet 2\npieces 0\nnets 0\nnames 0\npoints 0\nopens 0\nshorts 0\nmissing 0\nspots 0\nagrees\n",
+        b"boardnet 2\npieces 0\nnets 0\nnames 0\npoints 0\nopens 0\nshorts 0\nmissing 0\nsources 0\nagrees\n",
+        b"boardnet 2\npieces 0\nnets 0\nnames 0\npoints 0\nopens 0\nshorts 0\nmissing 0\nsources 0\nspots 0\nagrees\n",
+        b"boardnet 2\npieces 0\nnets 0\nnames 0\npoints 0\nopens 0\nshorts 0\nmissing 0\nspots 0\nsources 0\ndiffers\n",
+        b"boardnet 2\npieces 0\nnets 0\nnames 0\npoints 0\nopens 0\nshorts 0\nmissing 0\nspots 0\nsources 0\n",
+        b"boardnet 2\npieces 0\nnets 0\nnames 0\npoints 0\nopens 0\nshorts 0\nmissing 0\nagrees\nspots 0\nsources 0\n",
+        b"boardnet 2\npieces 0\nnets 0\nnames 0\npoints 0\nopens 0\nshorts 0\nmissing 0\nspots 1\nspot 1 0 0\nsources 0\nagrees\n",
+        b"boardnet 2\npieces 0\nnets 0\nnames 0\npoints 0\nopens 0\nshorts 0\nmissing 0\nspots 1\nspot 0 -0 0\nsources 0\nagrees\n",
+        b"boardnet 2\npieces 0\nnets 0\nnames 0\npoints 0\nopens 0\nshorts 0\nmissing 0\nspots 1\nspot 0 0 -0\nsources 0\nagrees\n",
+        b"boardnet 2\npieces 0\nnets 0\nnames 0\npoints 0\nopens 0\nshorts 0\nmissing 0\nspots 1\nspot 0 +1 0\nsources 0\nagrees\n",
+        b"boardnet 2\npieces 0\nnets 0\nnames 0\npoints 0\nopens 0\nshorts 0\nmissing 0\nspots 1\nspot 0 -01 0\nsources 0\nagrees\n",
+        b"boardnet 2\npieces 0\nnets 0\nnames 0\npoints 0\nopens 0\nshorts 0\nmissing 0\nspots 1\nspot 0 --1 0\nsources 0\nagrees\n",
+        b"boardnet 2\npieces 0\nnets 0\nnames 0\npoints 0\nopens 0\nshorts 0\nmissing 0\nspots 1\nspot 0 - 1 0\nsources 0\nagrees\n",
+        b"boardnet 2\npieces 0\nnets 0\nnames 0\npoints 0\nopens 0\nshorts 0\nmissing 0\nspots 1\nspot 0 9223372036854775808 0\nsources 0\nagrees\n",
+        b"boardnet 2\npieces 0\nnets 0\nnames 0\npoints 0\nopens 0\nshorts 0\nmissing 0\nspots 1\nspot 0 -9223372036854775809 0\nsources 0\nagrees\n",
+        b"boardnet 2\npieces 0\nnets 0\nnames 0\npoints 0\nopens 0\nshorts 0\nmissing 0\nspots 1\nspot 0 0\nsources 0\nagrees\n",
+        b"boardnet 2\npieces 0\nnets 0\nnames 0\npoints 0\nopens 0\nshorts 0\nmissing 0\nspots 0\nsources 1\nsource 1 0 1 0 1 1\nagrees\n",
+        b"boardnet 2\npieces 0\nnets 0\nnames 0\npoints 0\nopens 0\nshorts 0\nmissing 0\nspots 0\nsources 1\nsource 0 0 1 -1 1 1\nagrees\n",
+        b"boardnet 2\npieces 0\nnets 0\nnames 0\npoints 0\nopens 0\nshorts 0\nmissing 0\nspots 0\nsources 1\nsource 0 0 1 0 1 256\nagrees\n",
+        b"boardnet 2\npieces 0\nnets 0\nnames 0\npoints 0\nopens 0\nshorts 0\nmissing 0\nspots 0\nsources 1\nsource 0 0 1 0 1\nagrees\n",
+    ]
+}
+
 #[test]
 fn reports_are_read_and_written_again(rt: HostRuntime) -> Result<(), Fail> {
     let alloc = rt.alloc();
@@ -153,6 +187,9 @@ fn near_misses(rt: HostRuntime) -> Result<(), Fail> {
         assert!(rt; is_no_report(alloc, text)?);
     }
     for text in wrong_findings() {
+        assert!(rt; is_no_report(alloc, text)?);
+    }
+    for text in wrong_supplements() {
         assert!(rt; is_no_report(alloc, text)?);
     }
     Ok(())

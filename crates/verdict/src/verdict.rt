@@ -61,6 +61,30 @@ pub struct Short {
     pub branches: Rows<Branch>,
 }
 
+/// The place of a test point, in u.
+#[derive(Clone, Copy, Debug, PartialEq, Eq)]
+pub struct SpotLine {
+    pub x: i64,
+    pub y: i64,
+}
+
+/// Where a piece comes from, a file, a command in it and a copy of what that made, and its span of layers.
+#[derive(Clone, Copy, Debug, PartialEq, Eq)]
+pub struct SourceLine {
+    pub file: u32,
+    pub command: u32,
+    pub copy: u32,
+    pub top: u8,
+    pub bottom: u8,
+}
+
+/// What leads from a verdict to the board and its files: the place of each test point, and the source of each piece.
+#[derive(Debug, PartialEq, Eq, Drop)]
+pub struct Supplement {
+    pub spots: Rows<SpotLine>,
+    pub sources: Rows<SourceLine>,
+}
+
 #[derive(Debug, PartialEq, Eq, Drop)]
 pub struct Verdict {
     pub pieces: u32,
@@ -70,6 +94,7 @@ pub struct Verdict {
     pub opens: Rows<Open>,
     pub shorts: Rows<Short>,
     pub bare: Rows<u32>,
+    pub more: Option<Supplement>,
 }
 
 impl Verdict {

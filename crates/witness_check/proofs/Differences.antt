@@ -1,5 +1,5 @@
 -- Two right verdicts of one board differ in witnesses only.
-use Rattle.std.proofs.Common.{◌≡◌, inl, inr, ℕ, zero, suc, ◌+◌, ◌<◌, ◌≤◌, List, [], ◌∷◌, ◌++◌, length, map, get_or, All, AllPairs, Contains, Option, Some, None, MatchOption, refl, sym, ap, subst, ◌∙◌, arith}
+use Rattle.std.proofs.Common.{◌≡◌, inl, inr, ℕ, zero, suc, ◌+◌, ◌<◌, ◌≤◌, List, [], ◌∷◌, ◌++◌, length, map, get_or, All, AllPairs, Contains, Option, Some, None, MatchOption, IfSome, refl, sym, ap, subst, ◌∙◌, arith}
 use Rattle.std.proofs.lemmas.Bool.{cases_lt}
 use Rattle.std.proofs.lemmas.List.{get_or-map, get_or_past, length-map}
 use Rattle.std.proofs.lemmas.List.Elements.{All-get_or, All-head, All-tail}
@@ -11,10 +11,13 @@ use Rattle.tables.specs.Consistent.{AreConsistent}
 use Rattle.tables.specs.Tables.{Tables, TestPoint, Stands, row_at}
 use Rattle.verdict.specs.Forest.{Holds, IsTree, first_piece, net_at, pieces_of}
 use Rattle.verdict.specs.ReportText.{Agrees}
-use Rattle.verdict.specs.Right.{IsRight, Trees, Covers, Apart, Points, Opens, Shorts, Branches, Bare, Counts, AreBranches, AreLines, BeginsBeneath, HasBranches, Outline, all_opens, all_shorts, bare_from, first_on, names_on, outline, short_of}
+use Rattle.verdict.specs.Right.{IsRight, Trees, Covers, Apart, Points, Opens, Shorts, Branches, Bare, Counts, Spots, Sources, AreBranches, AreLines, BeginsBeneath, HasBranches, Outline, all_opens, all_shorts, bare_from, first_on, names_on, outline, short_of, source_of, spot_of}
 use Rattle.verdict.specs.declared.verdict.Branch.{Branch}
 use Rattle.verdict.specs.declared.verdict.PointLine.{PointLine}
 use Rattle.verdict.specs.declared.verdict.Short.{Short}
+use Rattle.verdict.specs.declared.verdict.SourceLine.{SourceLine}
+use Rattle.verdict.specs.declared.verdict.SpotLine.{SpotLine}
+use Rattle.verdict.specs.declared.verdict.Supplement.{Supplement}
 use Rattle.verdict.specs.declared.verdict.Twig.{Twig}
 use Rattle.verdict.specs.declared.verdict.Verdict.{Verdict}
 use Rattle.witness_check.specs.Laws.{AreOneNet, BranchPoint, DifferInWitnessesOnly, ShortPoints, branch_point, short_points}
@@ -207,6 +210,24 @@ shorts_same nets others starts lines (s ∷ shorts) (t ∷ twins) a b e =
     let tail = shorts_same nets others starts lines shorts twins (All-tail (HasBranches nets starts lines) s shorts a) (All-tail (HasBranches others starts lines) t twins b) names in
     ap (λ (x : ShortPoints). x ∷ map short_points shorts) first ∙ ap (λ (xs : List ShortPoints). short_points t ∷ xs) tail
 
+-- ---- The supplement
+
+supplement_same : (a b : Supplement) → a.spots ≡ b.spots → a.sources ≡ b.sources → a ≡ b
+supplement_same a b e f =
+    let make : List SpotLine → List SourceLine → Supplement = λ spots sources. record { spots = spots; sources = sources } in
+    ap (λ (x : List SpotLine). make x a.sources) e ∙ ap (make b.spots) f
+
+told_more : {A : Type 0} (f : Supplement → A) (whole : A) (m : Option Supplement) (one : Supplement) → IfSome m (λ more. f more ≡ whole) → m ≡ Some one → f one ≡ whole
+told_more f whole m one says is = subst (λ (o : Option Supplement). IfSome o (λ more. f more ≡ whole)) is says
+
+more_same : (board : Tables) (v w : Verdict) → IsRight board v → IsRight board w → (one other : Supplement) → v.more ≡ Some one → w.more ≡ Some other → one ≡ other
+more_same board v w right also one other is has =
+    let spots = λ (m : Supplement). m.spots in
+    let sources = λ (m : Supplement). m.sources in
+    supplement_same one other
+    (told_more spots (map spot_of board.points) v.more one (right Spots) is ∙ sym (told_more spots (map spot_of board.points) w.more other (also Spots) has))
+    (told_more sources (map source_of board.sources) v.more one (right Sources) is ∙ sym (told_more sources (map source_of board.sources) w.more other (also Sources) has))
+
 -- ---- The whole
 
 none_mapped : (shorts twins : List Short) → map short_points shorts ≡ map short_points twins → shorts ≡ [] → twins ≡ []
@@ -242,4 +263,5 @@ verdicts_differ_in_witnesses_only board v w tables right other =
       open_count = ap length opens;
       short_count = sym (length-map v.shorts short_points) ∙ (ap length shorts ∙ length-map w.shorts short_points);
       bare_count = ap length bare;
+      more = more_same board v w right other;
     }

@@ -7,7 +7,7 @@ use Rattle.verdict.specs.declared.verdict.Short.{Short}
 use Rattle.verdict.specs.declared.verdict.Twig.{Twig}
 use Rattle.verdict.specs.declared.verdict.Verdict.{Verdict}
 use Rattle.verdict.specs.declared.verdict.Mark.{Mark}
-use Rattle.verdict.specs.Right.{Clause, Trees, Covers, Apart, Points, Opens, Shorts, Branches, Bare, Counts, BeginsAtHome, HasBranches, all_opens, all_shorts, number_of, outline}
+use Rattle.verdict.specs.Right.{Clause, Trees, Covers, Apart, Points, Opens, Shorts, Branches, Bare, Counts, Spots, Sources, BeginsAtHome, HasBranches, all_opens, all_shorts, number_of, outline}
 use Rattle.verdict.specs.Seats.{AreFirst, AreFirstSeats, AreNamed, marks_at, marks_from}
 use Rattle.verdict.proofs.Marking.{table_first, table_named}
 use Rattle.witness_check.specs.Findings.{FindingsFail, FindingsSay}
@@ -16,58 +16,47 @@ use Rattle.witness_check.proofs.Naming.{outlines_named}
 
 -- ---- The first clause that fails
 
-before_opens : (names : List (List ℕ)) (homes : List (Option ℕ)) (v : Verdict) (earlier : Clause) → number_of earlier < 5 → FindingsSay names homes v earlier
-before_opens names homes v Trees low = tt
-before_opens names homes v Covers low = tt
-before_opens names homes v Apart low = tt
-before_opens names homes v Points low = tt
-before_opens names homes v Opens low = absurd (omega arith)
-before_opens names homes v Shorts low = absurd (omega arith)
-before_opens names homes v Branches low = absurd (omega arith)
-before_opens names homes v Bare low = tt
-before_opens names homes v Counts low = tt
+-- What clauses say where some condition holds of each: by opens, shorts and branches.
+by_finding : (P : Clause → Type 0) (names : List (List ℕ)) (homes : List (Option ℕ)) (v : Verdict) → (P Opens → FindingsSay names homes v Opens) → (P Shorts → FindingsSay names homes v Shorts) → (P Branches → FindingsSay names homes v Branches)
+    → (clause : Clause) → P clause → FindingsSay names homes v clause
+by_finding P names homes v opens shorts branches Trees when = tt
+by_finding P names homes v opens shorts branches Covers when = tt
+by_finding P names homes v opens shorts branches Apart when = tt
+by_finding P names homes v opens shorts branches Points when = tt
+by_finding P names homes v opens shorts branches Opens when = opens when
+by_finding P names homes v opens shorts branches Shorts when = shorts when
+by_finding P names homes v opens shorts branches Branches when = branches when
+by_finding P names homes v opens shorts branches Bare when = tt
+by_finding P names homes v opens shorts branches Counts when = tt
+by_finding P names homes v opens shorts branches Spots when = tt
+by_finding P names homes v opens shorts branches Sources when = tt
 
 pub fails_opens : (names : List (List ℕ)) (homes : List (Option ℕ)) (v : Verdict) → (FindingsSay names homes v Opens → ⊥) → FindingsFail names homes v 5
-fails_opens names homes v not = record { clause = Opens; number = refl; fails = not; before = before_opens names homes v }
-
-before_shorts : (names : List (List ℕ)) (homes : List (Option ℕ)) (v : Verdict) → FindingsSay names homes v Opens → (earlier : Clause) → number_of earlier < 6 → FindingsSay names homes v earlier
-before_shorts names homes v opens Trees low = tt
-before_shorts names homes v opens Covers low = tt
-before_shorts names homes v opens Apart low = tt
-before_shorts names homes v opens Points low = tt
-before_shorts names homes v opens Opens low = opens
-before_shorts names homes v opens Shorts low = absurd (omega arith)
-before_shorts names homes v opens Branches low = absurd (omega arith)
-before_shorts names homes v opens Bare low = tt
-before_shorts names homes v opens Counts low = tt
+fails_opens names homes v not = record {
+  clause = Opens;
+  number = refl;
+  fails = not;
+  before = by_finding (λ c. number_of c < 5) names homes v (λ low. absurd (omega arith)) (λ low. absurd (omega arith)) (λ low. absurd (omega arith));
+}
 
 pub fails_shorts : (names : List (List ℕ)) (homes : List (Option ℕ)) (v : Verdict) → FindingsSay names homes v Opens → (FindingsSay names homes v Shorts → ⊥) → FindingsFail names homes v 6
-fails_shorts names homes v opens not = record { clause = Shorts; number = refl; fails = not; before = before_shorts names homes v opens }
-
-before_branches : (names : List (List ℕ)) (homes : List (Option ℕ)) (v : Verdict) → FindingsSay names homes v Opens → FindingsSay names homes v Shorts → (earlier : Clause) → number_of earlier < 7 → FindingsSay names homes v earlier
-before_branches names homes v opens shorts Trees low = tt
-before_branches names homes v opens shorts Covers low = tt
-before_branches names homes v opens shorts Apart low = tt
-before_branches names homes v opens shorts Points low = tt
-before_branches names homes v opens shorts Opens low = opens
-before_branches names homes v opens shorts Shorts low = shorts
-before_branches names homes v opens shorts Branches low = absurd (omega arith)
-before_branches names homes v opens shorts Bare low = tt
-before_branches names homes v opens shorts Counts low = tt
+fails_shorts names homes v opens not = record {
+  clause = Shorts;
+  number = refl;
+  fails = not;
+  before = by_finding (λ c. number_of c < 6) names homes v (λ low. opens) (λ low. absurd (omega arith)) (λ low. absurd (omega arith));
+}
 
 pub fails_branches : (names : List (List ℕ)) (homes : List (Option ℕ)) (v : Verdict) → FindingsSay names homes v Opens → FindingsSay names homes v Shorts → (FindingsSay names homes v Branches → ⊥) → FindingsFail names homes v 7
-fails_branches names homes v opens shorts not = record { clause = Branches; number = refl; fails = not; before = before_branches names homes v opens shorts }
+fails_branches names homes v opens shorts not = record {
+  clause = Branches;
+  number = refl;
+  fails = not;
+  before = by_finding (λ c. number_of c < 7) names homes v (λ low. opens) (λ low. shorts) (λ low. absurd (omega arith));
+}
 
 pub all_say : (names : List (List ℕ)) (homes : List (Option ℕ)) (v : Verdict) → FindingsSay names homes v Opens → FindingsSay names homes v Shorts → FindingsSay names homes v Branches → (clause : Clause) → FindingsSay names homes v clause
-all_say names homes v opens shorts branches Trees = tt
-all_say names homes v opens shorts branches Covers = tt
-all_say names homes v opens shorts branches Apart = tt
-all_say names homes v opens shorts branches Points = tt
-all_say names homes v opens shorts branches Opens = opens
-all_say names homes v opens shorts branches Shorts = shorts
-all_say names homes v opens shorts branches Branches = branches
-all_say names homes v opens shorts branches Bare = tt
-all_say names homes v opens shorts branches Counts = tt
+all_say names homes v opens shorts branches clause = by_finding (λ c. Unit {0}) names homes v (λ any. opens) (λ any. shorts) (λ any. branches) clause tt
 
 -- ---- What the tests tell of the verdict
 

@@ -12,6 +12,7 @@ use Rattle.planar.proofs.Ring.{times_cancel}
 use Rattle.planar.specs.Plane.{Point, at}
 use Rattle.planar.specs.declared.Frame.{Frame}
 use Rattle.planar.specs.declared.Spot.{Spot}
+use Rattle.planar.specs.declared.TheConstants.{SIDE}
 use Rattle.contact.proofs.Boxes.{box_holds, overlap_share}
 use Rattle.contact.specs.Solid.{InBox, IsInside, Overlap, SharePoint}
 use Rattle.contact.specs.declared.Bounds.{Bounds}
@@ -28,6 +29,7 @@ use Rattle.witness_check.specs.Strips.{AreFiled, AreStretches, Files, IsAway, Is
 use Rattle.witness_check.specs.declared.strips.Away.{Away}
 use Rattle.witness_check.specs.declared.strips.Extent.{Extent}
 use Rattle.witness_check.specs.declared.strips.Stretch.{Stretch}
+use Rattle.witness_check.specs.declared.strips.TheConstants.{LEAST_HEIGHT}
 
 -- ---- Extents
 
@@ -92,9 +94,9 @@ filed_more b height p e old new are is files = record {
     kept : (q : ℕ) → IsFiled b height old q → IsFiled b height new q
     kept q f = record { extent = f.extent; is = f.is; each = λ k from to. files.kept (stretch_in f.extent height q k) (f.each k from to) }
 
-pub stretches_sorted : (b : PlainBoard) (height : ℕ) (xs ys : List Stretch) → 0 < height → AreFiled b height (length b.pieces) xs → IsPermutation xs ys → IsNonDecreasingBy (λ (s : Stretch). s.start) ys → AreStretches b height ys
-stretches_sorted b height xs ys some are moved rising = record {
-  some = some;
+pub stretches_sorted : (b : PlainBoard) (height : ℕ) (xs ys : List Stretch) → LEAST_HEIGHT ≤ height → AreFiled b height (length b.pieces) xs → IsPermutation xs ys → IsNonDecreasingBy (λ (s : Stretch). s.start) ys → AreStretches b height ys
+stretches_sorted b height xs ys high are moved rising = record {
+  high = high;
   known = All-permutation (λ (s : Stretch). s.piece < length b.pieces) xs ys moved are.known;
   filed = λ p below. let f = are.filed p below in record { extent = f.extent; is = f.is; each = λ k from to. Contains-permutation xs ys (stretch_in f.extent height p k) moved (f.each k from to) };
   rising = rising;
@@ -193,8 +195,8 @@ pub record StandsWithin (e : Extent) (a : Away) : Type 0 where
   pub not_right : a.along ≤ e.right
   pub not_below : e.low ≤ a.up
   pub not_above : a.up ≤ e.high
-  pub along : a.along ≤ 3000000000
-  pub up : a.up ≤ 3000000000
+  pub along : pos a.along ≤ℤ SIDE
+  pub up : pos a.up ≤ℤ SIDE
 
 probe_spot : (probes own : List Probe) (k : ℕ) (d probe : Probe) → probes ≡ own → k < length own → slice_get own k ≡ Some probe → probe.at ≡ (get_or probes k d).at
 probe_spot probes own k d probe same below is =
@@ -212,7 +214,7 @@ under_within b height k p xs probes d frame a law some one corner same_probes be
     let y = place_told frame.low (figure_box u.piece.figure).low (figure_box u.piece.figure).high (get_or probes k d).at.y one.extent.low one.extent.high a.up e.low e.high between.1 away.up in
     let short = e.short in
     let flat = e.flat in
-    record { not_left = x.0; not_right = x.1; not_below = y.0; not_above = y.1; along = omega arith; up = omega arith }
+    record { not_left = x.0; not_right = x.1; not_below = y.0; not_above = y.1; along = omega (arith, ints, x.1, short); up = omega (arith, ints, y.1, flat) }
 
 pub has_place : (b : PlainBoard) (height p : ℕ) (xs : List Stretch) (a : Away) → 0 < height → (one : IsFiled b height xs p) → StandsWithin one.extent a → HasPlace xs (place_in (strip_of height a.up) 0) (place_in (strip_of height a.up) a.along) p
 has_place b height p xs a some one within =

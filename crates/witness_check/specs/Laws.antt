@@ -12,6 +12,7 @@ use Rattle.verdict.specs.declared.verdict.Branch.{Branch}
 use Rattle.verdict.specs.declared.verdict.Open.{Open}
 use Rattle.verdict.specs.declared.verdict.PointLine.{PointLine}
 use Rattle.verdict.specs.declared.verdict.Short.{Short}
+use Rattle.verdict.specs.declared.verdict.Supplement.{Supplement}
 use Rattle.verdict.specs.declared.verdict.Twig.{Twig}
 use Rattle.verdict.specs.declared.verdict.Verdict.{Verdict}
 
@@ -81,7 +82,7 @@ branch_point b = record { name = b.name; probe = b.probe }
 abbrev pub short_points : Short → ShortPoints
 short_points s = record { net = s.net; branches = map branch_point s.branches }
 
--- Two verdicts differ at most in parents, in the order of a net's pieces after the first, and in the pieces of branches.
+-- Two verdicts differ at most in parents, in the order of a net's pieces after the first, in the pieces of branches, and in whether there is a supplement.
 pub record DifferInWitnessesOnly (v w : Verdict) : Type 0 where
   -- The count of pieces, the names, the lines of points, the opens and the points without a net are equal.
   pub pieces : v.pieces ≡ w.pieces
@@ -101,6 +102,8 @@ pub record DifferInWitnessesOnly (v w : Verdict) : Type 0 where
   pub open_count : length v.opens ≡ length w.opens
   pub short_count : length v.shorts ≡ length w.shorts
   pub bare_count : length v.bare ≡ length w.bare
+  -- Where both have a supplement it is the same one.
+  pub more : (one other : Supplement) → v.more ≡ Some one → w.more ≡ Some other → one ≡ other
 
 -- ---- Shorts
 

@@ -11,6 +11,7 @@ use crate::least::least_under;
 use crate::nets::{are_trees, standing_of};
 use crate::points::{bare_holds, points_hold};
 use crate::strips::strips_of;
+use crate::supplements::supplement_ruling;
 use crate::sweep::stand_apart;
 use board_shapes::{Board, laws as shapes};
 use lengths::NoMemory;
@@ -25,7 +26,7 @@ use verdict::Verdict;
 pub enum Ruling {
     /// The verdict is right.
     True,
-    /// The verdict is not right: the number, from 1 to 9, of the first clause that does not hold.
+    /// The verdict is not right: the number, from 1 to 11, of the first clause that does not hold.
     Untrue(u8),
 }
 
@@ -78,6 +79,9 @@ fn ruling_of<L: Ledger>(
     }
     if !counts_hold(pieces, board.names(), v.pieces, v.names.as_slice()) {
         return Ok(Ruling::Untrue(9));
+    }
+    if let Some(clause) = supplement_ruling(board, &v.more) {
+        return Ok(Ruling::Untrue(clause));
     }
     Ok(Ruling::True)
 }

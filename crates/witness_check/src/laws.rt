@@ -25,7 +25,8 @@ pub fn opens_cover_split_names()
 {}
 
 /// Two right verdicts of one board differ at most in parents, in the order of a net's pieces after the
-/// first, and in the pieces of branches. So the status and all counts belong to the board.
+/// first, in the pieces of branches, and in whether there is a supplement. So the status and all counts
+/// belong to the board.
 pub fn verdicts_differ_in_witnesses_only()
     ensures { (board : Tables) (v w : Verdict) → AreConsistent board → IsRight board v → IsRight board w → DifferInWitnessesOnly v w }
 {}

@@ -12,7 +12,9 @@ use lengths::{NoMemory, Rows, Text};
 use planar::Spot;
 use std::alloc::Global;
 use std::test::Fail;
-use verdict::{Branch, Open, PointLine, Short, Tree, Trees, Twig, Verdict};
+use verdict::{
+    Branch, Open, PointLine, Short, SourceLine, SpotLine, Supplement, Tree, Trees, Twig, Verdict,
+};
 
 fn disc(at: Spot, r: i64) -> Piece
     requires placed { IsPlaced at }
@@ -176,7 +178,27 @@ fn verdict(alloc: Global, words: &[Word], points: &[Option<u32>]) -> Result<Verd
         opens: Rows::new(alloc),
         shorts: short(alloc, &[0], &[1, 0])?,
         bare: numbers(alloc, &[2])?,
+        more: None,
     })
+}
+
+// The supplement of the board, but that its second probe is at this x and its last disc is this copy.
+fn supplement(alloc: Global, x: i64, copy: u32) -> Result<Supplement, NoMemory> {
+    let mut spots = Rows::new(alloc);
+    for x in [10_000_000, x, 90_000_000] {
+        spots.push(SpotLine { x, y: 0 })?;
+    }
+    let mut sources = Rows::new(alloc);
+    for copy in [0, 0, copy] {
+        sources.push(SourceLine {
+            file: 0,
+            command: 1,
+            copy,
+            top: 1,
+            bottom: 1,
+        })?;
+    }
+    Ok(Supplement { spots, sources })
 }
 
 #[test]
@@ -311,6 +333,12 @@ fn right_but_for_one_part(rt: HostRuntime) -> Result<(), Fail> {
     let board = Board::new(discs(alloc)?, probes(alloc)?, names(alloc)?, 1).expect(&rt, "a board");
     let mut v = right(alloc)?;
     assert_eq!(rt; audit(alloc, &board, &v)?, Ruling::True);
+    v.more = Some(supplement(alloc, 25_000_000, 0)?);
+    assert_eq!(rt; audit(alloc, &board, &v)?, Ruling::True);
+    v.more = Some(supplement(alloc, 25_000_000, 1)?);
+    assert_eq!(rt; audit(alloc, &board, &v)?, Ruling::Untrue(11));
+    v.more = Some(supplement(alloc, -25_000_000, 1)?);
+    assert_eq!(rt; audit(alloc, &board, &v)?, Ruling::Untrue(10));
     v.pieces = 4;
     assert_eq!(rt; audit(alloc, &board, &v)?, Ruling::Untrue(9));
     v.bare = numbers(alloc, &[0, 2])?;

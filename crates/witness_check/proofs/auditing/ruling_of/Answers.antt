@@ -3,8 +3,9 @@ use Rattle.board_shapes.specs.Plain.{plain_board}
 use Rattle.verdict.specs.declared.verdict.Twig.{Twig}
 use Rattle.verdict.specs.Forest.{Holds}
 use Rattle.witness_check.specs.Nets.{HasStanding}
+use Rattle.witness_check.specs.Supplied.{SupplementRuled}
 use Rattle.witness_check.proofs.Parts.{apart_denied, apart_told, bare_denied, bare_told, counts_denied, counts_told, few_in, found_all, found_fail, homes_in, known_in, lines_denied, named_in, netted, netted_in, none_told, once_denied, once_told, pointed, some_told, trees_denied, trees_told}
-use Rattle.witness_check.proofs.Clauses.{trees_fail, covers_fail, apart_fail, points_fail, findings_fail, bare_fails, counts_fail, all_right}
+use Rattle.witness_check.proofs.Clauses.{trees_fail, covers_fail, apart_fail, points_fail, findings_fail, bare_fails, counts_fail, supplement_fails, all_right, AreTold}
 use Rattle.witness_check.proofs.auditing.ruling_of.Goals as goal
 
 pub returns-then-not-branch : goal.returns-then-not-branch
@@ -115,6 +116,19 @@ returns-then-not-counts_hold g c =
     let bare = bare_told c.as_slice-lines.result.now c.args.v.now.points c.as_slice-3.result.now c.args.v.now.bare c.bare_holds.result c.as_slice-lines.ensures c.as_slice-3.ensures c.bare_holds.ensures c.if-not-bare_holds.false in
     λ t is. counts_fail (plain_board c.args.board.now) t c.args.v.now c.in-Some.standing.numbers.items c.in_ok-homes.homes is points found bare (counts_denied (plain_board c.args.board.now) c.pieces-pieces.result.now c.args.v.now.pieces c.as_slice-4.result.now c.args.v.now.names c.names-2.result.now c.counts_hold.result c.pieces-pieces.ensures.plain c.as_slice-4.ensures c.names-2.ensures.items c.counts_hold.ensures c.if-not-counts_hold.true)
 
+pub returns-in-Some-supplement_ruling : goal.returns-in-Some-supplement_ruling
+returns-in-Some-supplement_ruling g c =
+    let trees = trees_told (plain_board c.args.board.now) c.as_slice-nets.result.now c.args.v.now.nets c.in_ok-are_trees.field-0 c.as_slice-nets.ensures c.in_ok-are_trees.ensures c.if-not-branch.false in
+    let stood : HasStanding (length c.pieces-pieces.result.now) c.as_slice-nets.result.now c.in-Some.standing.numbers.items c.in-Some.standing.places.items = some_told c.in_ok-standing.field-0 c.in-Some.standing _ _ c.in-Some.is c.in_ok-standing.ensures in
+    let once = once_told (plain_board c.args.board.now) c.pieces-pieces.result.now c.as_slice-nets.result.now c.args.v.now.nets c.pieces-pieces.ensures.plain c.as_slice-nets.ensures stood.once in
+    let apart = apart_told (plain_board c.args.board.now) c.as_slice-nets.result.now c.args.v.now.nets c.stand_apart.result c.as_slice-nets.ensures c.stand_apart.ensures c.if-not-stand_apart.false in
+    let nets = netted (plain_board c.args.board.now) c.as_slice-nets.result.now c.args.v.now.nets c.in-Some.standing.numbers.items c.as_slice-nets.ensures trees once apart stood.numbered in
+    let points = pointed (plain_board c.args.board.now) c.args.v.now c.as_slice-numbers.result.now c.in-Some.standing.numbers.items c.probes.result.now c.as_slice.result.now c.in_ok-homes.homes c.as_slice-lines.result.now c.points_hold.result c.as_slice-numbers.ensures.value c.probes.ensures.items c.as_slice.ensures c.as_slice-lines.ensures nets c.in_ok-homes.ensures c.points_hold.ensures c.if-not-points_hold.false in
+    let found = found_all c.names.result.now (plain_board c.args.board.now).names c.as_slice-2.result.now c.in_ok-homes.homes c.args.v.now c.in_ok-number.field-0 c.names.ensures.items c.as_slice-2.ensures c.in_ok-number.ensures c.in_default-2.is in
+    let bare = bare_told c.as_slice-lines.result.now c.args.v.now.points c.as_slice-3.result.now c.args.v.now.bare c.bare_holds.result c.as_slice-lines.ensures c.as_slice-3.ensures c.bare_holds.ensures c.if-not-bare_holds.false in
+    let told : AreTold (plain_board c.args.board.now) c.args.v.now c.in_ok-homes.homes = record { found = found; bare = bare; counts = counts_told (plain_board c.args.board.now) c.pieces-pieces.result.now c.args.v.now.pieces c.as_slice-4.result.now c.args.v.now.names c.names-2.result.now c.counts_hold.result c.pieces-pieces.ensures.plain c.as_slice-4.ensures c.names-2.ensures.items c.counts_hold.ensures c.if-not-counts_hold.false } in
+    λ t is. supplement_fails (plain_board c.args.board.now) t c.args.v.now c.in-Some.standing.numbers.items c.in_ok-homes.homes c.in-Some-supplement_ruling.clause is points told (subst (SupplementRuled (plain_board c.args.board.now) c.args.v.now.more) c.in-Some-supplement_ruling.is c.supplement_ruling.ensures)
+
 pub returns : goal.returns
 returns g c =
     let trees = trees_told (plain_board c.args.board.now) c.as_slice-nets.result.now c.args.v.now.nets c.in_ok-are_trees.field-0 c.as_slice-nets.ensures c.in_ok-are_trees.ensures c.if-not-branch.false in
@@ -125,4 +139,5 @@ returns g c =
     let points = pointed (plain_board c.args.board.now) c.args.v.now c.as_slice-numbers.result.now c.in-Some.standing.numbers.items c.probes.result.now c.as_slice.result.now c.in_ok-homes.homes c.as_slice-lines.result.now c.points_hold.result c.as_slice-numbers.ensures.value c.probes.ensures.items c.as_slice.ensures c.as_slice-lines.ensures nets c.in_ok-homes.ensures c.points_hold.ensures c.if-not-points_hold.false in
     let found = found_all c.names.result.now (plain_board c.args.board.now).names c.as_slice-2.result.now c.in_ok-homes.homes c.args.v.now c.in_ok-number.field-0 c.names.ensures.items c.as_slice-2.ensures c.in_ok-number.ensures c.in_default-2.is in
     let bare = bare_told c.as_slice-lines.result.now c.args.v.now.points c.as_slice-3.result.now c.args.v.now.bare c.bare_holds.result c.as_slice-lines.ensures c.as_slice-3.ensures c.bare_holds.ensures c.if-not-bare_holds.false in
-    λ t is. all_right (plain_board c.args.board.now) t c.args.v.now c.in-Some.standing.numbers.items c.in_ok-homes.homes is points found bare (counts_told (plain_board c.args.board.now) c.pieces-pieces.result.now c.args.v.now.pieces c.as_slice-4.result.now c.args.v.now.names c.names-2.result.now c.counts_hold.result c.pieces-pieces.ensures.plain c.as_slice-4.ensures c.names-2.ensures.items c.counts_hold.ensures c.if-not-counts_hold.false)
+    let told : AreTold (plain_board c.args.board.now) c.args.v.now c.in_ok-homes.homes = record { found = found; bare = bare; counts = counts_told (plain_board c.args.board.now) c.pieces-pieces.result.now c.args.v.now.pieces c.as_slice-4.result.now c.args.v.now.names c.names-2.result.now c.counts_hold.result c.pieces-pieces.ensures.plain c.as_slice-4.ensures c.names-2.ensures.items c.counts_hold.ensures c.if-not-counts_hold.false } in
+    λ t is. all_right (plain_board c.args.board.now) t c.args.v.now c.in-Some.standing.numbers.items c.in_ok-homes.homes is points told (subst (SupplementRuled (plain_board c.args.board.now) c.args.v.now.more) c.in_default-supplement_ruling.is c.supplement_ruling.ensures)
