@@ -1,9 +1,13 @@
 pub mod Entries
 pub mod Form
 pub mod Halting
+pub mod LabelCauses
+pub mod LabelledOutcome
 pub mod Lift
 pub mod Listed
+pub mod Named
 pub mod Names
+pub mod OnPieces
 pub mod OneOutcome
 pub mod Taking
 pub mod Walking

@@ -21,6 +21,7 @@ use Rattle.board_package.specs.declared.entry.Role.TheVariants as role
 use Rattle.board_package.specs.declared.manifest.Manifest.{Manifest}
 use Rattle.board_package.specs.declared.reading.Refusal.{Refusal}
 use Rattle.board_package.specs.declared.reading.Refusal.TheVariants as refusal
+use Rattle.board_package.proofs.Walking.{one_of_walk, one_walk, walk_or_one}
 
 -- each file has one answer
 pub record HaveAnswers : Type 0 where
@@ -72,7 +73,7 @@ refuses_one all role.Netlist n bytes before (refusal.Netlist kind line) (refusal
 
 -- ---- One taking
 
-held_one : (files : Files) (name a b : List ℕ) → IsHeld files name a → IsHeld files name b → a ≡ b
+pub held_one : (files : Files) (name a b : List ℕ) → IsHeld files name a → IsHeld files name b → a ≡ b
 held_one files name a b h k = some_one (h.held) (k.held)
   where
     some_one : files name ≡ Some a → files name ≡ Some b → a ≡ b
@@ -93,15 +94,15 @@ held_not_longer files name a h long = let l = long_of (files name) a h.held long
 absent_not_longer : (o : Option (List ℕ)) → o ≡ None → IsSomeAnd o (λ bytes. most_bytes < length bytes) → ⊥
 absent_not_longer o e h = subst (λ (p : Option (List ℕ)). IsSomeAnd p (λ bytes. most_bytes < length bytes)) e h
 
-same_name : (name a b : List ℕ) → a ≡ name → b ≡ name → a ≡ b
+pub same_name : (name a b : List ℕ) → a ≡ name → b ≡ name → a ≡ b
 same_name name a b p q = p ∙ sym q
 
-goes_one : HaveAnswers → (files : Files) (e : Entry) (before x y : PlainBoard) → Goes files e before x → Goes files e before y → x ≡ y
+pub goes_one : HaveAnswers → (files : Files) (e : Entry) (before x y : PlainBoard) → Goes files e before x → Goes files e before y → x ≡ y
 goes_one all files e before x y g h =
     let same = held_one files e.name g.bytes h.bytes g.held h.held in
     reads_one all e.role e.number h.bytes before x y (subst (λ bytes. Reads e.role e.number bytes before x) same g.read) h.read
 
-goes_not_stops : HaveAnswers → (files : Files) (e : Entry) (before x : PlainBoard) (stop : Stop) → Goes files e before x → StopsAt files e before stop → ⊥
+pub goes_not_stops : HaveAnswers → (files : Files) (e : Entry) (before x : PlainBoard) (stop : Stop) → Goes files e before x → StopsAt files e before stop → ⊥
 goes_not_stops all files e before x (absent name) g s = held_not_absent files e.name g.bytes g.held s.1
 goes_not_stops all files e before x (longer name) g s = held_not_longer files e.name g.bytes g.held s.1
 goes_not_stops all files e before x not_json g s = s
@@ -116,7 +117,7 @@ refused_one all files e before why other r s =
     let same = held_one files e.name r.bytes s.bytes r.held s.held in
     refuses_one all e.role e.number s.bytes before why other (subst (λ bytes. Refuses e.role e.number bytes before why) same r.refused) s.refused
 
-stops_one : HaveAnswers → (files : Files) (e : Entry) (before : PlainBoard) (stop other : Stop) → StopsAt files e before stop → StopsAt files e before other → stop ≡ other
+pub stops_one : HaveAnswers → (files : Files) (e : Entry) (before : PlainBoard) (stop other : Stop) → StopsAt files e before stop → StopsAt files e before other → stop ≡ other
 stops_one all files e before (absent a) (absent b) s t = ap absent (same_name e.name a b s.0 t.0)
 stops_one all files e before (absent a) (longer b) s t = absurd (absent_not_longer (files e.name) s.1 t.1)
 stops_one all files e before (absent a) (refused b why) s t = absurd (held_not_absent files e.name t.1.bytes t.1.held s.1)
@@ -145,26 +146,15 @@ stops_one all files e before (frame_too_large box) other s t = absurd s
 -- ---- The order
 
 walks_one : HaveAnswers → (files : Files) (entries : List Entry) (start x y : PlainBoard) → Walks files entries start x → Walks files entries start y → x ≡ y
-walks_one all files [] start x y p q = sym p ∙ q
-walks_one all files (e ∷ rest) start x y (b, goes, walks) (b', goes', walks') =
-    let same = goes_one all files e start b b' goes goes' in
-    walks_one all files rest b' x y (subst (λ c. Walks files rest c x) same walks) walks'
+walks_one all files entries start x y p q = one_walk (Goes files) (goes_one all files) entries start x y p q
 
 walks_not_stops : HaveAnswers → (files : Files) (entries : List Entry) (start x : PlainBoard) (stop : Stop) → Walks files entries start x → StopsAmong files entries start stop → ⊥
-walks_not_stops all files [] start x stop p s = s
-walks_not_stops all files (e ∷ rest) start x stop (b, goes, walks) (inl s) = goes_not_stops all files e start b stop goes s
-walks_not_stops all files (e ∷ rest) start x stop (b, goes, walks) (inr (b', goes', later)) =
-    let same = goes_one all files e start b b' goes goes' in
-    walks_not_stops all files rest b' x stop (subst (λ c. Walks files rest c x) same walks) later
+walks_not_stops all files entries start x stop p s = walk_or_one (Goes files) (goes_one all files) (λ e b. StopsAt files e b stop) (λ e b y g h. goes_not_stops all files e b y stop g h) entries start x p s
 
 among_one : HaveAnswers → (files : Files) (entries : List Entry) (start : PlainBoard) (stop other : Stop) → StopsAmong files entries start stop → StopsAmong files entries start other → stop ≡ other
-among_one all files [] start stop other s t = absurd s
-among_one all files (e ∷ rest) start stop other (inl s) (inl t) = stops_one all files e start stop other s t
-among_one all files (e ∷ rest) start stop other (inl s) (inr (b, goes, later)) = absurd (goes_not_stops all files e start b stop goes s)
-among_one all files (e ∷ rest) start stop other (inr (b, goes, later)) (inl t) = absurd (goes_not_stops all files e start b other goes t)
-among_one all files (e ∷ rest) start stop other (inr (b, goes, later)) (inr (b', goes', later')) =
-    let same = goes_one all files e start b b' goes goes' in
-    among_one all files rest b' stop other (subst (λ c. StopsAmong files rest c stop) same later) later'
+among_one all files entries start stop other s t =
+    one_of_walk (Goes files) (goes_one all files) (λ e b. StopsAt files e b stop) (λ e b. StopsAt files e b other) (stop ≡ other)
+    (λ e b y g h. goes_not_stops all files e b y stop g h) (λ e b y g h. goes_not_stops all files e b y other g h) (λ e b h k. stops_one all files e b stop other h k) entries start s t
 
 -- ---- The manifest
 
@@ -195,10 +185,10 @@ with_one files name P Q R k p q =
     let same = held_one files name p.bytes q.bytes p.held q.held in
     k q.bytes (subst P same p.good) q.good
 
-manifest_file_one : (files : Files) (name : List ℕ) (m n : Manifest) → IsManifestFile files name m → IsManifestFile files name n → m ≡ n
+pub manifest_file_one : (files : Files) (name : List ℕ) (m n : Manifest) → IsManifestFile files name m → IsManifestFile files name n → m ≡ n
 manifest_file_one files name m n p q = with_one files name (λ bytes. IsManifest bytes m) (λ bytes. IsManifest bytes n) (m ≡ n) (λ bytes a b. manifest_one bytes m n a b) p q
 
-manifest_not_stops : (files : Files) (name : List ℕ) (m : Manifest) (stop : Stop) → IsManifestFile files name m → StopsAtManifest files name stop → ⊥
+pub manifest_not_stops : (files : Files) (name : List ℕ) (m : Manifest) (stop : Stop) → IsManifestFile files name m → StopsAtManifest files name stop → ⊥
 manifest_not_stops files name m (absent a) p s = held_not_absent files name p.bytes p.held s.1
 manifest_not_stops files name m (longer a) p s = held_not_longer files name p.bytes p.held s.1
 manifest_not_stops files name m not_json p s = with_one files name (λ bytes. IsManifest bytes m) IsNotJson ⊥ (λ bytes a b. b a.value a.read_as) p s
@@ -209,7 +199,7 @@ manifest_not_stops files name m (frame_too_large box) p s = s
 not_json_not_other : (files : Files) (name : List ℕ) → IsHeldWith files name IsNotJson → IsHeldWith files name IsOther → ⊥
 not_json_not_other files name p q = with_one files name IsNotJson IsOther ⊥ (λ bytes a b. a b.value b.read_as) p q
 
-at_manifest_one : (files : Files) (name : List ℕ) (stop other : Stop) → StopsAtManifest files name stop → StopsAtManifest files name other → stop ≡ other
+pub at_manifest_one : (files : Files) (name : List ℕ) (stop other : Stop) → StopsAtManifest files name stop → StopsAtManifest files name other → stop ≡ other
 at_manifest_one files name (absent a) (absent b) s t = ap absent (same_name name a b s.0 t.0)
 at_manifest_one files name (absent a) (longer b) s t = absurd (absent_not_longer (files name) s.1 t.1)
 at_manifest_one files name (absent a) not_json s t = absurd (held_not_absent files name t.bytes t.held s.1)
@@ -239,7 +229,7 @@ at_manifest_one files name (frame_too_large box) other s t = absurd s
 
 -- ---- The frame
 
-frame_one : (b : PlainBoard) (stop other : Stop) → StopsAtFrame b stop → StopsAtFrame b other → stop ≡ other
+pub frame_one : (b : PlainBoard) (stop other : Stop) → StopsAtFrame b stop → StopsAtFrame b other → stop ≡ other
 frame_one b (frame_too_large box) (frame_too_large box') s t = ap frame_too_large (some_one s.0 t.0)
   where
     some_one : {o : Option Bounds} → o ≡ Some box → o ≡ Some box' → box ≡ box'
@@ -255,7 +245,7 @@ frame_one b not_json other s t = absurd s
 frame_one b bad_manifest other s t = absurd s
 frame_one b (refused a why) other s t = absurd s
 
-fits_not_stops : (b : PlainBoard) (stop : Stop) → Fits (common_box b.pieces) → StopsAtFrame b stop → ⊥
+pub fits_not_stops : (b : PlainBoard) (stop : Stop) → Fits (common_box b.pieces) → StopsAtFrame b stop → ⊥
 fits_not_stops b (frame_too_large box) fits s = s.1 (subst (λ (o : Option Bounds). Fits o) s.0 fits)
 fits_not_stops b (absent a) fits s = s
 fits_not_stops b (longer a) fits s = s

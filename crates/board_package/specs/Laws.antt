@@ -1,7 +1,12 @@
--- The law of packages.
-use Rattle.std.specs.Prelude.{◌≡◌, ℕ, List}
+-- The laws of packages.
+use Rattle.std.specs.Prelude.{◌≡◌, ℕ, ◌-◌, List, Some, slice_get}
 use Rattle.board_io.specs.Package.{Files}
+use Rattle.board_shapes.specs.LawfulBoard.{IsLawfulBoard}
 use Rattle.board_shapes.specs.Plain.{PlainBoard}
+use Rattle.board_shapes.specs.Touching.{UnderAt}
+use Rattle.board_shapes.specs.declared.probe.Probe.{Probe}
+use Rattle.board_package.specs.LabelledBoard.{IsFirstLabelledStop, IsLabelledBoardOf, LabelledStop, labelled_board_of}
+use Rattle.x2_nets.specs.declared.table.Label.{Label}
 use Rattle.board_package.specs.PackageBoard.{Stop, IsBoardOf, IsFirstStop}
 
 -- A package has at most one board or one first stop, and not both.
@@ -9,3 +14,13 @@ pub record HasOneOutcome (files : Files) (manifest : List ℕ) : Type 0 where
   pub one_board : (board other : PlainBoard) → IsBoardOf files manifest board → IsBoardOf files manifest other → board ≡ other
   pub not_both : (board : PlainBoard) (stop : Stop) → IsBoardOf files manifest board → IsFirstStop files manifest stop → ⊥
   pub one_stop : (stop other : Stop) → IsFirstStop files manifest stop → IsFirstStop files manifest other → stop ≡ other
+
+-- A package has at most one labelled board or one first stop of it, and not both.
+pub record HasOneLabelledOutcome (files : Files) (manifest : List ℕ) : Type 0 where
+  pub one_board : (board other : PlainBoard) → IsLabelledBoardOf files manifest board → IsLabelledBoardOf files manifest other → board ≡ other
+  pub not_both : (board : PlainBoard) (stop : LabelledStop) → IsLabelledBoardOf files manifest board → IsFirstLabelledStop files manifest stop → ⊥
+  pub one_stop : (stop other : LabelledStop) → IsFirstLabelledStop files manifest stop → IsFirstLabelledStop files manifest other → stop ≡ other
+
+-- Each probe of a labelled board has its piece under it: that of its record's number less 1.
+abbrev pub LabelledPiecesAreUnder : Type 0
+LabelledPiecesAreUnder = (tables : List (List Label)) (b : PlainBoard) → IsLawfulBoard (labelled_board_of tables b) → (k : ℕ) (probe : Probe) → slice_get (labelled_board_of tables b).probes k ≡ Some probe → UnderAt (labelled_board_of tables b) k (probe.number - 1)

@@ -1,4 +1,7 @@
 pub mod Causes
+pub mod LabelledBoard
+pub mod LabelledCauses
+pub mod Labelling
 pub mod Laws
 pub mod Manifest
 pub mod PackageBoard

@@ -1,6 +1,7 @@
 -- The board of a package, and its first stop.
 use Rattle.std.specs.Prelude.{◌≡◌, ◌⊎◌, ℕ, ◌<◌, ◌≤◌, List, [], ◌∷◌, length, Some, None, IsSomeAnd}
 use Rattle.board_io.specs.Package.{Files}
+use Rattle.board_shapes.specs.LawfulBoard.{IsLawfulBoard}
 use Rattle.board_shapes.specs.Plain.{PlainBoard, common_box, FitsFrame, Fits}
 use Rattle.contact.specs.declared.Bounds.{Bounds}
 use Rattle.board_package.specs.Manifest.{IsManifest, IsNotJson, IsOther}
@@ -66,15 +67,23 @@ StopsAt files e before (frame_too_large box) = ⊥
 
 -- ---- The files in their order
 
+-- all files are taken on, one after another: each step leads from what is so far to what is with the file
+abbrev pub WalksBy : {S : Type 0} → (Entry → S → S → Type 0) → List Entry → S → S → Type 0
+WalksBy Step [] before after = before ≡ after
+WalksBy {S = S} Step (e ∷ rest) before after = (next : S) × Step e before next × WalksBy Step rest next after
+
+-- P holds at one of the files, and all before it are taken on
+abbrev pub AtOneBy : {S : Type 0} → (Entry → S → S → Type 0) → List Entry → S → (Entry → S → Type 0) → Type 0
+AtOneBy Step [] before P = ⊥
+AtOneBy {S = S} Step (e ∷ rest) before P = P e before ⊎ ((next : S) × Step e before next × AtOneBy Step rest next P)
+
 -- all files are read, one after another
 abbrev pub Walks : Files → List Entry → PlainBoard → PlainBoard → Type 0
-Walks files [] before after = before ≡ after
-Walks files (e ∷ rest) before after = (next : PlainBoard) × Goes files e before next × Walks files rest next after
+Walks files entries before after = WalksBy (Goes files) entries before after
 
 -- P holds at one of the files, and all before it are read
 abbrev pub AtOne : Files → List Entry → PlainBoard → (Entry → PlainBoard → Type 0) → Type 0
-AtOne files [] before P = ⊥
-AtOne files (e ∷ rest) before P = P e before ⊎ ((next : PlainBoard) × Goes files e before next × AtOne files rest next P)
+AtOne files entries before P = AtOneBy (Goes files) entries before P
 
 -- one of the files stops the package, and all before it are read
 abbrev pub StopsAmong : Files → List Entry → PlainBoard → Stop → Type 0
@@ -136,6 +145,12 @@ pub record IsBoardOf (files : Files) (name : List ℕ) (board : PlainBoard) : Ty
   pub manifest : IsManifestFile files name listed
   pub walked : Walks files (order_of listed) (empty_board listed.layers) board
   pub frame : Fits (common_box board.pieces)
+
+-- a lawful board of at most 200,000 pieces and 32 layers, as a package makes it
+pub record IsWithinLimits (board : PlainBoard) : Type 0 where
+  pub lawful : IsLawfulBoard board
+  pub few_pieces : length board.pieces ≤ 200000
+  pub few_layers : board.layers ≤ 32
 
 -- the manifest is read, and a file of the order has this name, with all before it read
 pub record ComesLater (files : Files) (manifest name : List ℕ) : Type 0 where

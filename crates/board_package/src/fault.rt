@@ -6,7 +6,7 @@ use crate::reading::Refusal;
 use contact::Bounds;
 use gerber_layer::GerberKind;
 use ipc356_records::RecordKind;
-use lengths::Text;
+use lengths::{NoMemory, Text};
 use std::alloc::AllocError;
 use xnc::DrillKind;
 
@@ -42,7 +42,7 @@ pub enum BuildFault {
         kind: RecordKind,
         line: u32,
     },
-    /// The common box of all pieces, which this is, has a side over 3,000,000,000 u (300 mm).
+    /// The common box of all pieces, which this is, has a side over 10,000,000,000 u (1 m).
     FrameTooLarge(Bounds),
     NoMemory,
 }
@@ -82,5 +82,47 @@ pub fn refused(name: &Text, refusal: Refusal) -> BuildFault
             }
         }
         Refusal::Netlist { kind, line } => BuildFault::Netlist { file, kind, line },
+    }
+}
+
+/// Why a package gives no labelled board: as `build` has it, or a label that is amiss.
+#[derive(Debug, Drop)]
+pub enum LabelledFault {
+    /// What stops it without its netlist, so never a netlist's refusal; or a fault of reading; or want of memory.
+    Build(BuildFault),
+    /// A name of a net in the copper file is not 1 to 200 bytes from 32 to 126: the first such word, by its number, from
+    /// 1, and the place of its first byte, from 0.
+    Label { file: Text, command: u32, at: usize },
+}
+
+impl From<BuildFault> for LabelledFault {
+    ghost use Rattle.board_package.specs.declared.fault.LabelledFault.TheVariants as fault;
+
+    ghost from_gives = { λ why f. f ≡ fault.Build why };
+
+    fn from(why: BuildFault) -> LabelledFault {
+        LabelledFault::Build(why)
+    }
+}
+
+impl From<NoMemory> for LabelledFault {
+    ghost use Rattle.board_package.specs.declared.fault.BuildFault.TheVariants as build;
+    ghost use Rattle.board_package.specs.declared.fault.LabelledFault.TheVariants as fault;
+
+    ghost from_gives = { λ _ f. f ≡ fault.Build build.NoMemory };
+
+    fn from(_: NoMemory) -> LabelledFault {
+        LabelledFault::Build(BuildFault::NoMemory)
+    }
+}
+
+impl From<AllocError> for LabelledFault {
+    ghost use Rattle.board_package.specs.declared.fault.BuildFault.TheVariants as build;
+    ghost use Rattle.board_package.specs.declared.fault.LabelledFault.TheVariants as fault;
+
+    ghost from_gives = { λ _ f. f ≡ fault.Build build.NoMemory };
+
+    fn from(_: AllocError) -> LabelledFault {
+        LabelledFault::Build(BuildFault::NoMemory)
     }
 }

@@ -1,7 +1,7 @@
-//! The law over the definitions alone.
+//! The laws over the definitions alone.
 ghost use Rattle.std.specs.Prelude.{ℕ, List};
 ghost use Rattle.board_io.specs.Package.{Files};
-ghost use Rattle.board_package.specs.Laws.{HasOneOutcome};
+ghost use Rattle.board_package.specs.Laws.{HasOneLabelledOutcome, HasOneOutcome, LabelledPiecesAreUnder};
 
 /// A package has at most one board or one first stop, and not both.
 pub fn one_outcome()
@@ -11,3 +11,18 @@ pub fn one_outcome()
     xnc::laws::one_answer();
     ipc356_records::laws::one_answer();
 }
+
+/// A package has at most one labelled board or one first stop of it, and not both.
+pub fn one_labelled_outcome()
+    ensures { (files : Files) (manifest : List ℕ) → HasOneLabelledOutcome files manifest }
+{
+    gerber_layer::laws::one_answer();
+    xnc::laws::one_answer();
+    ipc356_records::laws::one_answer();
+    x2_nets::laws::one_answer();
+}
+
+/// Each probe of a labelled board has its piece under it: that of its record's number less 1.
+pub fn labelled_pieces_are_under()
+    ensures { LabelledPiecesAreUnder }
+{}

@@ -2,11 +2,15 @@
 //!
 //! A package is a manifest, which lists the other files (`manifest`), copper files, drill files and a netlist. `build`
 //! takes and judges them in that order (`stages`), each with the room that earlier files left (`reading`, `parts`), and
-//! gives the board of the package or says what stops it first (`fault`). The law over the definitions stands in `laws`.
+//! gives the board of the package or says what stops it first (`fault`). `build_labelled` goes the same way without the
+//! netlist (`labelled`), and gives the board by the net names in the copper files (`labelling`). The laws over the
+//! definitions stand in `laws`.
 #![tactic(auto)]
 
 pub mod entry;
 pub mod fault;
+pub mod labelled;
+mod labelling;
 pub mod laws;
 pub mod manifest;
 mod parts;
@@ -15,7 +19,8 @@ pub mod stages;
 mod values;
 
 pub use entry::{Entry, Role};
-pub use fault::BuildFault;
+pub use fault::{BuildFault, LabelledFault};
+pub use labelled::build_labelled;
 pub use manifest::{Manifest, ManifestFault, read_manifest};
 pub use reading::Refusal;
 pub use stages::{build, take_file};

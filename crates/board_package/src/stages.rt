@@ -4,7 +4,7 @@ ghost use Rattle.board_shapes.specs.Plain.{plain_board, common_box, Fits};
 ghost use Rattle.board_io.specs.Package.{IsFaultless};
 ghost use Rattle.board_package.specs.Causes.{HasCause, IsFrameFault, KeepsFaults};
 ghost use Rattle.board_package.specs.Manifest.{IsLawful, IsOnBoard};
-ghost use Rattle.board_package.specs.PackageBoard.{IsBoardOf, IsFirstStop, Comes, IsHeld, IsManifestFile, StopsTaking, StopsAtManifest, StopsAt, StopsAtFrame, StopsAmong, ComesAmong, Goes, Walks};
+ghost use Rattle.board_package.specs.PackageBoard.{IsBoardOf, IsFirstStop, IsWithinLimits, Comes, IsHeld, IsManifestFile, StopsTaking, StopsAtManifest, StopsAt, StopsAtFrame, StopsAmong, ComesAmong, Goes, Walks};
 ghost use Rattle.board_package.specs.Parts.{board_so_far, IsLawfulParts};
 
 use crate::entry::Entry;
@@ -13,7 +13,7 @@ use crate::manifest::{Manifest, ManifestFault, read_manifest};
 use crate::parts::Parts;
 use crate::reading::{Halt, read_file};
 use board_io::{Package, Take};
-use board_shapes::{Board, BoardFault};
+use board_shapes::{Board, BoardFault, laws};
 use lengths::Text;
 use std::alloc::Global;
 
@@ -35,6 +35,7 @@ pub fn build<P: Package>(
     ensures faultless { OnOk result (IsFaultless (P.faults «package».old) (P.lost «package».old) (P.faults «package».new) (P.lost «package».new)) }
     ensures kept { IfErr result (KeepsFaults (P.faults «package».old) (P.lost «package».old) (P.faults «package».new) (P.lost «package».new)) }
     ensures ok { IfOk result (λ board. IfSome (P.held «package».old) (λ files. IsBoardOf files manifest.now (plain_board board))) }
+    ensures limits { IfOk result (λ board. IsWithinLimits (plain_board board)) }
     ensures fault { IfErr result (HasCause (P.held «package».old) (λ files stop. IsFirstStop files manifest.now stop) (λ files name. Comes files manifest.now name) (P.faults «package».old) (P.faults «package».new) (P.lost «package».new)) }
 {
     let mut file = Vec::new(alloc);
@@ -51,7 +52,7 @@ pub fn build<P: Package>(
 }
 
 // Takes the manifest.
-fn take_manifest<P: Package>(
+pub fn take_manifest<P: Package>(
     alloc: Global,
     manifest: &Text,
     package: &mut P,
@@ -98,8 +99,8 @@ fn take_files<P: Package>(
     Ok(())
 }
 
-// Takes one file of the order, and adds what it gives.
-fn take_entry<P: Package>(
+// Takes one file of the order into `file`, and adds what it gives.
+pub fn take_entry<P: Package>(
     alloc: Global,
     package: &mut P,
     entry: &Entry,
@@ -112,6 +113,8 @@ fn take_entry<P: Package>(
     ensures later { P.faults «package».old ≤ P.faults «package».new }
     ensures faultless { OnOk result (IsFaultless (P.faults «package».old) (P.lost «package».old) (P.faults «package».new) (P.lost «package».new)) }
     ensures kept { IfErr result (KeepsFaults (P.faults «package».old) (P.lost «package».old) (P.faults «package».new) (P.lost «package».new)) }
+    ensures short { OnOk result (length file.new.items ≤ 67108864) }
+    ensures whole { OnOk result (IfSome (P.held «package».old) (λ files. IsHeld files entry.now.name file.new.items)) }
     ensures found { OnOk result (IfSome (P.held «package».old) (λ files. Goes files entry.now (board_so_far parts.old) (board_so_far parts.new))) }
     ensures parts { OnOk result (IsLawfulParts parts.new) }
     ensures layers { OnOk result (parts.new.layers ≡ parts.old.layers) }
@@ -152,12 +155,14 @@ pub fn take_file<P: Package>(
 }
 
 // The board of these parts, if it fits in a frame.
-fn framed(parts: Parts) -> Result<Board, BuildFault>
+pub fn framed(parts: Parts) -> Result<Board, BuildFault>
     requires { IsLawfulParts parts }
     ensures ok { IfOk result (λ board. plain_board board ≡ board_so_far parts) }
     ensures fits { IfOk result (λ board. Fits (common_box (board_so_far parts).pieces)) }
+    ensures limits { IfOk result (λ board. IsWithinLimits (plain_board board)) }
     ensures fault { IfErr result (IsFrameFault (board_so_far parts)) }
 {
+    laws::boards_are_lawful();
     match Board::new(parts.pieces, parts.probes, parts.names, parts.layers) {
         Ok(board) => Ok(board),
         Err(BoardFault::FrameTooLarge(bounds)) => Err(BuildFault::FrameTooLarge(bounds)),

@@ -5,6 +5,7 @@ use super::*;
 use board_io::MemoryPackage;
 use lengths::Text;
 use std::alloc::{AllocError, Global};
+use std::fmt::Write;
 use std::test::Fail;
 
 const COPPER: &[u8] = b"%FSLAX46Y46*%\n%MOMM*%\n%ADD10C,1.0*%\nD10*\nX0Y0D03*\nM02*\n";
@@ -195,4 +196,97 @@ fn widest(alloc: Global) -> Result<Vec<u8>, AllocError> {
     }
     text.extend_from_slice(b"],\"netlist\":\"n.ipc\"}")?;
     Ok(text)
+}
+
+// One copper layer with these words behind the definition of an aperture, under a barrel; no netlist is held.
+fn with_labels(alloc: Global, words: &[u8]) -> Result<MemoryPackage, Fail> {
+    let mut package = MemoryPackage::new(alloc);
+    package.hold(
+        "m.json",
+        b"{\"copper\":[\"t.gbr\"],\"drills\":[{\"file\":\"d.drl\",\"from\":1,\"to\":1}],\"netlist\":\"n.ipc\"}",
+    )?;
+    let mut file = Vec::from_slice(alloc, b"%FSLAX46Y46*%%MOMM*%%ADD10C,1.0*%D10*")?;
+    file.extend_from_slice(words)?;
+    file.extend_from_slice(b"M02*")?;
+    package.hold("t.gbr", file.as_slice())?;
+    package.hold("d.drl", BARRELS)?;
+    Ok(package)
+}
+
+// The probes of what comes of a package by its labels: record, place in micrometres and name of each.
+fn labelled(alloc: Global, package: &mut MemoryPackage) -> Result<String, Fail> {
+    let manifest = Text::new(alloc, b"m.json")?;
+    let board = match build_labelled(alloc, &manifest, package) {
+        Ok(board) => board,
+        Err(LabelledFault::Label { file, command, at }) => {
+            return Ok(format!(in alloc; "{} {command} {at}", file.as_str())?);
+        }
+        Err(LabelledFault::Build(fault)) => return Ok(format!(in alloc; "{fault:?}")?),
+    };
+    let mut text = format!(in alloc; "pieces {}", board.pieces().len())?;
+    for probe in board.probes() {
+        let name = match board.names().get(probe.name as usize) {
+            Some(name) => name.as_str(),
+            None => "?",
+        };
+        write!(
+            text,
+            ", {} {} {} {} {}",
+            probe.number,
+            probe.at.x / 10_000,
+            probe.at.y / 10_000,
+            probe.layer,
+            name
+        )?;
+    }
+    Ok(text)
+}
+
+#[test]
+fn labels_of_pieces(rt: HostRuntime) -> Result<(), Fail> {
+    let alloc = rt.alloc();
+    let rows: [(&[u8], &str); 9] = [
+        (b"X0Y0D03*%TO.N,A*%", "pieces 2"),
+        (
+            b"%TO.N,A*%X0Y0D03*%TD*%X2000000Y0D03*%TO.N,*%X4000000Y0D03*",
+            "pieces 4, 1 0 0 1 A, 3 4000 0 1 N/C",
+        ),
+        (
+            b"%TO.N,B*%X0Y0D03*%TO.N,A*%X2000000Y0D03*%TO.N,B*%X4000000Y1000000D01*",
+            "pieces 4, 1 0 0 1 B, 2 2000 0 1 A, 3 2000 0 1 B",
+        ),
+        (
+            b"%TO.N,A*%G36*X1000000Y0D02*X2000000D01*Y1000000D01*%TO.N,B*%X1000000Y0D01*%TO.N,C*%G37*",
+            "pieces 2, 1 1000 0 1 C",
+        ),
+        (
+            b"%TO.N,A*%%SRX2Y1I3.0J0*%X0Y0D03*%TO.N,B*%X0Y2000000D03*%SR*%X0Y9000000D03*",
+            "pieces 6, 1 0 0 1 A, 2 0 2000 1 B, 3 3000 0 1 A, 4 3000 2000 1 B, 5 0 9000 1 B",
+        ),
+        (
+            b"%TO.N,A*%X0Y0D03*%TD.P*%X2000000Y0D03*",
+            "pieces 3, 1 0 0 1 A, 2 2000 0 1 A",
+        ),
+        (b"%TO.N,\x7f*%X0Y0D03*", "t.gbr 5 38"),
+        (
+            b"%TO.N,\x7f*%X0Y0D04*",
+            "Layer { file: Text { text: \"t.gbr\" }, kind: BadWord, command: 6, at: 46 }",
+        ),
+        (
+            b"%TO.N,A*%X0Y0D03*M02*%TO.N,\x7f*%",
+            "Layer { file: Text { text: \"t.gbr\" }, kind: AfterEnd, command: 8, at: 59 }",
+        ),
+    ];
+    for (i, (words, want)) in rows.iter().enumerate() {
+        let mut package = with_labels(alloc, *words)?;
+        assert_eq!(rt; labelled(alloc, &mut package)?.as_str(), *want, "row {i}");
+    }
+    // the manifest, the copper file and the drill file are taken; behind a label that is amiss nothing is
+    let mut package = with_labels(alloc, b"")?;
+    labelled(alloc, &mut package)?;
+    assert_eq!(rt; package.calls(), 3);
+    let mut package = with_labels(alloc, b"%TO.N,\x7f*%")?;
+    labelled(alloc, &mut package)?;
+    assert_eq!(rt; package.calls(), 2);
+    Ok(())
 }

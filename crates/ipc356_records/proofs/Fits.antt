@@ -11,6 +11,7 @@ use Rattle.std.specs.List.{list_any, position_or_len}
 use Rattle.std.proofs.lemmas.List.{length-append, length-map}
 use Rattle.std.proofs.lemmas.List.Elements.{All-append, All-map, All-push}
 use Rattle.planar.specs.Plane.{IsPlaced, IsReached}
+use Rattle.planar.specs.declared.TheConstants.{METRE}
 use Rattle.lengths.specs.Decimal.{signed}
 use Rattle.lengths.specs.declared.decimal.Unit.{Unit as Measure}
 use Rattle.board_shapes.specs.Lawful.{IsProbe}
@@ -27,14 +28,14 @@ use Rattle.ipc356_records.proofs.Outcome.{Tested, past_test}
 use Rattle.ipc356_records.proofs.Bridge.{Outcome, outcome}
 
 -- a place that is taken is within 1 m
-signed_reached : (negative : Bool) (n : ℕ) → n ≤ 10000000000 → IsReached (signed negative n)
+signed_reached : (negative : Bool) (n : ℕ) → n ≤ METRE → IsReached (signed negative n)
 signed_reached true n h = (omega (arith, ints), omega (arith, ints))
 signed_reached false n h = (omega (arith, ints), omega (arith, ints))
 
 placed_reached : (unit : Measure) (c : Coordinate) (z : ℤ) → placed unit c ≡ Ok z → IsReached z
 unfolding placed
 placed_reached unit c z h =
-    let p = past_test (nat_lt 10000000000 (c.steps * step_of unit)) kind.OutOfRange (Ok (signed c.negative (c.steps * step_of unit))) z h in
+    let p = past_test (nat_lt METRE (c.steps * step_of unit)) kind.OutOfRange (Ok (signed c.negative (c.steps * step_of unit))) z h in
     let same : signed c.negative (c.steps * step_of unit) ≡ z = (let e = p.1 in cc) in
     subst IsReached same (signed_reached c.negative (c.steps * step_of unit) (ltb-false _ _ p.0))
 
@@ -47,7 +48,7 @@ found_below p (x ∷ xs) h = by (p x) refl (found_below p xs) h
     by true e more h = rw e (omega arith)
     by false e more h = let below : position_or_len p xs < length xs = more h in rw e (omega arith)
 
-index_below : (name : List ℕ) (names : List (List ℕ)) → index_of name names < length (with_name name names)
+pub index_below : (name : List ℕ) (names : List (List ℕ)) → index_of name names < length (with_name name names)
 index_below name names = by (list_any (is_name name) names) refl
   where
     by : (b : Bool) → list_any (is_name name) names ≡ b → index_of name names < length (cond b names (names ++ name ∷ []))
@@ -59,7 +60,7 @@ pub record Grows (old new : ℕ) : Type 0 where
   pub least : old ≤ new
   pub most : new ≤ old + 1
 
-names_grow : (name : List ℕ) (names : List (List ℕ)) → Grows (length names) (length (with_name name names))
+pub names_grow : (name : List ℕ) (names : List (List ℕ)) → Grows (length names) (length (with_name name names))
 names_grow name names = by (list_any (is_name name) names)
   where
     by : (b : Bool) → Grows (length names) (length (cond b names (names ++ name ∷ [])))
@@ -67,7 +68,7 @@ names_grow name names = by (list_any (is_name name) names)
     by false = let e : length (names ++ name ∷ []) ≡ length names + 1 = length-append names (name ∷ []) in record { least = omega arith; most = omega arith }
 
 -- a probe stays on the board where names come
-more_names : (n m layers : ℕ) (ps : List Probe) → n ≤ m → All (IsProbe n layers) ps → All (IsProbe m layers) ps
+pub more_names : (n m layers : ℕ) (ps : List Probe) → n ≤ m → All (IsProbe n layers) ps → All (IsProbe m layers) ps
 more_names n m layers ps h all i d below =
     let p = all i d below in
     record { named = (let e = p.named in omega arith); from_top = p.from_top; to_bottom = p.to_bottom; placed = p.placed }

@@ -7,4 +7,4 @@ mod Bridge
 pub mod OneAnswer
 mod Ending
 mod ReadSoFar
-mod Fits
+pub mod Fits

@@ -1,6 +1,7 @@
 -- What a line does, or its fault, by what is known before it.
 use Rattle.std.specs.Prelude.{ℕ, ◌+◌, ◌*◌, Bool, ◌==◌, nat_lt, nat_le, if◌then◌else◌, List, [], ◌∷◌, map, ℤ, Option, Some, None, Result, Ok, Err}
 use Rattle.planar.specs.declared.Spot.{Spot}
+use Rattle.planar.specs.declared.TheConstants.{METRE}
 use Rattle.lengths.specs.Decimal.{signed}
 use Rattle.lengths.specs.declared.decimal.Unit.{Unit as Measure}
 use Rattle.lengths.specs.declared.decimal.Unit.TheVariants.{Mm, Inch}
@@ -52,7 +53,7 @@ step_of Inch = 25400
 
 -- the place of a coordinate, at most 1 m from 0
 unfoldable pub placed : Measure → Coordinate → Result ℤ RecordKind
-placed unit c = unless (nat_lt 10000000000 (c.steps * step_of unit)) kind.OutOfRange (Ok (signed c.negative (c.steps * step_of unit)))
+placed unit c = unless (nat_lt METRE (c.steps * step_of unit)) kind.OutOfRange (Ok (signed c.negative (c.steps * step_of unit)))
 
 -- a test record, by its conditions in order
 unfoldable pub test : Known → TestFields → Result Effect RecordKind

@@ -12,7 +12,7 @@ mod effect;
 pub mod kind;
 pub mod laws;
 mod line;
-mod names;
+pub mod names;
 pub mod netlist;
 mod reader;
 mod reading;
@@ -20,6 +20,7 @@ pub mod record;
 mod table;
 
 pub use kind::{RecordFault, RecordKind};
+pub use names::NameTable;
 pub use netlist::{Netlist, read_netlist};
 pub use record::{Record, Records};
 

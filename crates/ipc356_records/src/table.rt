@@ -12,7 +12,7 @@ use crate::kind::RecordKind;
 use crate::line::{Coordinate, Form, TestFields};
 use crate::reader::Reader;
 use lengths::Unit;
-use planar::Spot;
+use planar::{METRE, Spot};
 
 fn step_of(unit: Unit) -> u64
     ensures { result ≡ spec.step_of unit }
@@ -23,8 +23,6 @@ fn step_of(unit: Unit) -> u64
     }
 }
 
-const LIMIT: u64 = 10_000_000_000;
-
 // The place of a coordinate.
 #[tactic(auto, unfolding(crate::specs::Table::placed))]
 pub fn placed(unit: Unit, coordinate: Coordinate) -> Result<i64, RecordKind>
@@ -32,7 +30,7 @@ pub fn placed(unit: Unit, coordinate: Coordinate) -> Result<i64, RecordKind>
     ensures reached { IfOk result IsReached }
 {
     let amount = u64::from(coordinate.steps) * step_of(unit);
-    if amount > LIMIT {
+    if amount > METRE {
         return Err(RecordKind::OutOfRange);
     }
     let amount = amount as i64;

@@ -1,0 +1,85 @@
+use Rattle.std.proofs.Common.{◌≡◌, List, IfSome, sym, subst, ap, ◌∙◌}
+use Rattle.std.specs.List.{filter}
+use Rattle.board_io.specs.Package.{IsFaultless}
+use Rattle.board_package.specs.LabelledBoard.{GoesLabelled, LabelledComesAmong, StopsLabelledAmong, is_board_file, labelled_board_of}
+use Rattle.board_package.specs.LabelledCauses.{HasLabelledCause, labelled_so_far}
+use Rattle.board_package.specs.PackageBoard.{WalksBy}
+use Rattle.board_package.specs.Parts.{board_so_far}
+use Rattle.board_package.specs.declared.entry.Entry.{Entry}
+use Rattle.board_package.specs.declared.fault.BuildFault.TheVariants as build
+use Rattle.board_package.specs.declared.fault.LabelledFault.TheVariants as fault
+use Rattle.x2_nets.specs.declared.table.Label.{Label}
+use Rattle.board_package.proofs.LabelCauses.{climbs, files_labelled_cause, frame_labelled_cause, kept_labelled, kept_labelled_after, labelled_board_is, manifest_labelled_cause, nothing_yet, with_board}
+use Rattle.board_package.proofs.Lift.{faultless_both}
+use Rattle.board_package.proofs.labelled.build_labelled.Goals as goal
+
+-- ---- The manifest
+
+pub returns-in_err-listed-clause-fault : goal.returns-in_err-listed-clause-fault
+returns-in_err-listed-clause-fault g c =
+    climbs _ c.from_residual.result (fault.Build c.in_err-listed.field-0.0) c.from_residual.ensures.1
+    (manifest_labelled_cause (g.P.Package.held c.args.package.now) c.args.manifest.now (g.P.Package.faults c.args.package.now) (g.P.Package.faults c.take_manifest.new.package) (g.P.Package.lost c.take_manifest.new.package) c.in_err-listed.field-0.0 c.in_err-listed.ensures.cause)
+
+pub returns-in_err-listed-clause-kept : goal.returns-in_err-listed-clause-kept
+returns-in_err-listed-clause-kept g c = climbs _ c.from_residual.result (fault.Build c.in_err-listed.field-0.0) c.from_residual.ensures.1 c.in_err-listed.ensures.kept
+
+-- ---- The files
+
+pub returns-in_err-take_files-clause-fault : goal.returns-in_err-take_files-clause-fault
+returns-in_err-take_files-clause-fault g c =
+    let held = g.P.Package.held c.take_manifest.new.package in
+    let start = labelled_so_far c.new-parts.result c.new-tables.result in
+    let why = c.in_err-take_files.field-0.0 in
+    let cause = subst (λ entries. HasLabelledCause held (λ files stop. StopsLabelledAmong files (filter with_board entries) start stop) (λ files name. LabelledComesAmong files (filter with_board entries) start name)
+    (g.P.Package.faults c.take_manifest.new.package) (g.P.Package.faults c.take_files.new.package) (g.P.Package.lost c.take_files.new.package) why) c.as_slice-entries.ensures c.in_err-take_files.ensures.cause in
+    climbs _ c.from_residual-in_err-take_files.result why c.from_residual-in_err-take_files.ensures.1
+    (files_labelled_cause (g.P.Package.held c.args.package.now) held c.args.manifest.now c.in_ok-listed.listed start
+    (g.P.Package.faults c.args.package.now) (g.P.Package.faults c.take_manifest.new.package) (g.P.Package.faults c.take_files.new.package) (g.P.Package.lost c.take_files.new.package) why
+    c.take_manifest.ensures.held (nothing_yet _ _ _ c.new-parts.ensures.empty c.new-tables.ensures) c.take_manifest.ensures.later c.in_ok-listed.ensures.found cause)
+
+pub returns-in_err-take_files-clause-kept : goal.returns-in_err-take_files-clause-kept
+returns-in_err-take_files-clause-kept g c =
+    climbs _ c.from_residual-in_err-take_files.result c.in_err-take_files.field-0.0 c.from_residual-in_err-take_files.ensures.1
+    (kept_labelled_after _ _ _ _ _ _ c.in_err-take_files.field-0.0 c.in_ok-listed.ensures.faultless c.in_err-take_files.ensures.kept)
+
+-- ---- The labels
+
+pub returns-in_err-name_pieces-clause-fault : goal.returns-in_err-name_pieces-clause-fault
+returns-in_err-name_pieces-clause-fault g c = climbs _ c.from_residual-in_err-name_pieces.result (fault.Build build.NoMemory) c.from_residual-in_err-name_pieces.ensures.1 tt
+
+pub returns-in_err-name_pieces-clause-kept : goal.returns-in_err-name_pieces-clause-kept
+returns-in_err-name_pieces-clause-kept g c = climbs _ c.from_residual-in_err-name_pieces.result (fault.Build build.NoMemory) c.from_residual-in_err-name_pieces.ensures.1 tt
+
+-- ---- The frame
+
+pub returns-in_err-board-clause-fault : goal.returns-in_err-board-clause-fault
+returns-in_err-board-clause-fault g c =
+    let held = g.P.Package.held c.take_manifest.new.package in
+    let start = labelled_so_far c.new-parts.result c.new-tables.result in
+    let end = labelled_so_far c.take_files.new.parts c.take_files.new.tables in
+    let walked = subst (λ entries. IfSome held (λ files. WalksBy (GoesLabelled files) (filter with_board entries) start end)) c.as_slice-entries.ensures c.in_ok-take_files.ensures.found in
+    let named = c.in_ok-name_pieces.ensures.ok ∙ ap (λ (t : List (List Label)). labelled_board_of t (board_so_far c.take_files.new.parts)) c.as_slice.ensures in
+    climbs _ c.from_residual-in_err-board.result (fault.Build c.in_err-board.field-0.0) c.from_residual-in_err-board.ensures.1
+    (frame_labelled_cause (g.P.Package.held c.args.package.now) held c.args.manifest.now c.in_ok-listed.listed start end (board_so_far c.name_pieces.new.parts)
+    (g.P.Package.faults c.args.package.now) (g.P.Package.faults c.take_files.new.package) (g.P.Package.lost c.take_files.new.package) c.in_err-board.field-0.0
+    c.take_manifest.ensures.held (nothing_yet _ _ _ c.new-parts.ensures.empty c.new-tables.ensures) named c.in_ok-listed.ensures.found walked c.in_err-board.ensures.fault)
+
+pub returns-in_err-board-clause-kept : goal.returns-in_err-board-clause-kept
+returns-in_err-board-clause-kept g c =
+    let whole : IsFaultless (g.P.Package.faults c.args.package.now) (g.P.Package.lost c.args.package.now) (g.P.Package.faults c.take_files.new.package) (g.P.Package.lost c.take_files.new.package) = faultless_both _ _ _ _ _ _ c.in_ok-listed.ensures.faultless c.in_ok-take_files.ensures.faultless in
+    climbs _ c.from_residual-in_err-board.result (fault.Build c.in_err-board.field-0.0) c.from_residual-in_err-board.ensures.1 (kept_labelled _ _ _ _ (fault.Build c.in_err-board.field-0.0) whole)
+
+-- ---- The board
+
+pub returns-clause-faultless : goal.returns-clause-faultless
+returns-clause-faultless g c = faultless_both _ _ _ _ _ _ c.in_ok-listed.ensures.faultless c.in_ok-take_files.ensures.faultless
+
+pub returns-clause-ok : goal.returns-clause-ok
+returns-clause-ok g c =
+    let held = g.P.Package.held c.take_manifest.new.package in
+    let start = labelled_so_far c.new-parts.result c.new-tables.result in
+    let end = labelled_so_far c.take_files.new.parts c.take_files.new.tables in
+    let walked = subst (λ entries. IfSome held (λ files. WalksBy (GoesLabelled files) (filter with_board entries) start end)) c.as_slice-entries.ensures c.in_ok-take_files.ensures.found in
+    let named = c.in_ok-name_pieces.ensures.ok ∙ ap (λ (t : List (List Label)). labelled_board_of t (board_so_far c.take_files.new.parts)) c.as_slice.ensures in
+    labelled_board_is (g.P.Package.held c.args.package.now) held c.args.manifest.now c.in_ok-listed.listed start end (board_so_far c.name_pieces.new.parts) _
+    c.take_manifest.ensures.held (nothing_yet _ _ _ c.new-parts.ensures.empty c.new-tables.ensures) named c.in_ok-listed.ensures.found walked c.in_ok-board.ensures.fits c.in_ok-board.ensures.ok

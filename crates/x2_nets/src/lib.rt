@@ -1,0 +1,18 @@
+//! The net names that a copper file gives its objects.
+//!
+//! Extended Gerber files carry attributes (Gerber Layer Format Specification, section 5). `TO.N` says of which net the
+//! objects are that come next, and `TD` or `TD.N` ends that. `labels` lists these words of a file (`listing`), read one
+//! by one (`said`); `label_at` tells which name is in force at a command (`table`). The laws over the definitions
+//! stand in `laws`.
+#![tactic(auto)]
+
+pub mod laws;
+pub mod listing;
+mod said;
+pub mod table;
+
+pub use listing::{LabelFault, labels};
+pub use table::{Label, label_among, label_at};
+
+#[cfg(test)]
+mod tests;
