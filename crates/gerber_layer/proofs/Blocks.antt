@@ -8,13 +8,13 @@ use Rattle.step_repeat.specs.Copies.{copies_at}
 use Rattle.step_repeat.specs.declared.repeat.Repeat.{Repeat}
 use Rattle.step_repeat.specs.declared.fault.CopyFault.{CopyFault}
 use Rattle.file_reading.specs.Reading.{Clean}
-use Rattle.gerber_layer.specs.Command.{Command, defines, repeats, opens_region, closes_region, operates, ends}
+use Rattle.gerber_layer.specs.Command.{Command, defines, repeats, opens_region, closes_region, operates, ends, names_macro, body_word}
 use Rattle.gerber_layer.specs.declared.kind.GerberKind.{GerberKind}
 use Rattle.gerber_layer.specs.declared.kind.GerberKind.TheVariants as kind
-use Rattle.gerber_layer.specs.Table.{Place, Known, Effect, stays, makes, performs, extends, closes, opens, leaves, steps, concludes, ◌>>=◌, as_copies, with_copies, left, ended_block, next_block, repeat, row, effect, code_of}
-use Rattle.gerber_layer.specs.Image.{Image, image_of, pieces_of, known_before, effect_before, made, pieces_after, start_after, with_effect}
+use Rattle.gerber_layer.specs.Table.{Place, Known, Effect, stays, makes, begins_macro, fills_macro, performs, extends, closes, opens, leaves, steps, concludes, ◌>>=◌, as_copies, with_copies, left, listed, ended_block, next_block, repeat, row, effect, code_of}
+use Rattle.gerber_layer.specs.Image.{Image, image_by, image_of, pieces_of, known_before, effect_before, made, pieces_after, start_after, with_effect}
 use Rattle.gerber_layer.specs.Laws.{is_repeat, up_to_block, LooksBackToItsBlock}
-use Rattle.gerber_layer.proofs.Outcome.{bind_ok, not_ok, past_test, outcome}
+use Rattle.gerber_layer.proofs.Outcome.{bind_ok, not_body, not_ok, past_test, outcome}
 use Rattle.gerber_layer.proofs.Placing.{IsSimple, simple_by, simple_effect}
 
 -- the first pieces are kept
@@ -34,11 +34,13 @@ kept_before start pieces more h = record {
 simple_keeps : (p : Place) (n start : ℕ) (pieces : List PlainPiece) (e : Effect) → IsSimple e → start ≤ length pieces → Keeps start pieces (pieces_after p n pieces e)
 simple_keeps p n start pieces (steps next all) simple h = absurd simple
 simple_keeps p n start pieces (concludes all) simple h = absurd simple
-simple_keeps p n start pieces (performs to figure) simple h = kept_before start pieces (made p n figure) h
-simple_keeps p n start pieces (closes to figure) simple h = kept_before start pieces (made p n figure) h
-simple_keeps p n start pieces (leaves figure) simple h = kept_before start pieces (made p n figure) h
+simple_keeps p n start pieces (performs to figures) simple h = kept_before start pieces (made p n figures) h
+simple_keeps p n start pieces (closes to figure) simple h = kept_before start pieces (made p n (listed figure)) h
+simple_keeps p n start pieces (leaves figure) simple h = kept_before start pieces (made p n (listed figure)) h
 simple_keeps p n start pieces stays simple h = kept start pieces h
-simple_keeps p n start pieces (makes m aperture) simple h = kept start pieces h
+simple_keeps p n start pieces (makes m tool) simple h = kept start pieces h
+simple_keeps p n start pieces (begins_macro name) simple h = kept start pieces h
+simple_keeps p n start pieces (fills_macro primitive) simple h = kept start pieces h
 simple_keeps p n start pieces (extends to) simple h = kept start pieces h
 simple_keeps p n start pieces opens simple h = kept start pieces h
 
@@ -49,7 +51,9 @@ simple_start start (performs to figure) simple = refl
 simple_start start (closes to figure) simple = refl
 simple_start start (leaves figure) simple = refl
 simple_start start stays simple = refl
-simple_start start (makes m aperture) simple = refl
+simple_start start (makes m tool) simple = refl
+simple_start start (begins_macro name) simple = refl
+simple_start start (fills_macro primitive) simple = refl
 simple_start start (extends to) simple = refl
 simple_start start opens simple = refl
 
@@ -92,6 +96,8 @@ other_keeps p n k (defines text) e unlike h is = let o = outcome k (defines text
 other_keeps p n k (operates x y code) e unlike h is = let o = outcome k (operates x y code) e is in simple p n k e (simple_effect e k.settings.region (code_of code) o.to o.is) h
 other_keeps p n k opens_region e unlike h is = simple p n k e (simple_by e opens (outcome k opens_region e is) tt) h
 other_keeps p n k closes_region e unlike h is = let o = outcome k closes_region e is in simple p n k e (simple_by e (leaves o.0) o.1 tt) h
+other_keeps p n k (names_macro name) e unlike h is = simple p n k e (simple_by e (begins_macro name) (outcome k (names_macro name) e is) tt) h
+other_keeps p n k (body_word text) e unlike h is = absurd (not_body k text e is)
 other_keeps p n k other e unlike h is = simple p n k e (simple_by e stays (outcome k other e is) tt) h
 
 -- a step and repeat word
@@ -115,17 +121,17 @@ record HasBefore (image : Image) (pieces : List PlainPiece) : Type 0 where
   within : image.start ≤ length image.pieces
   are : take image.start image.pieces ≡ pieces
 
-begun : (p : Place) (n : ℕ) (image : Image) (e : Effect) (next : Option Repeat) (all : List PlainPiece) → e ≡ steps next all → HasBefore (with_effect p n image (Ok e)) (with_effect p n image (Ok e)).pieces
-begun p n image e next all is = subst (λ x. HasBefore (with_effect p n image (Ok x)) (with_effect p n image (Ok x)).pieces) (sym is) (record { within = omega arith; are = take-length all })
+begun : (p : Place) (n : ℕ) (image : Image) (e : Effect) (next : Option Repeat) (all : List PlainPiece) → e ≡ steps next all → HasBefore (with_effect {W = GerberKind} p n image (Ok e)) (with_effect {W = GerberKind} p n image (Ok e)).pieces
+begun p n image e next all is = subst (λ x. HasBefore (with_effect {W = GerberKind} p n image (Ok x)) (with_effect {W = GerberKind} p n image (Ok x)).pieces) (sym is) (record { within = omega arith; are = take-length all })
 
-kept_on : (p : Place) (n : ℕ) (image : Image) (e : Effect) (pieces : List PlainPiece) → HasBefore image pieces → Keeps image.start image.pieces (pieces_after p n image.pieces e) → start_after image.start e ≡ image.start → HasBefore (with_effect p n image (Ok e)) pieces
+kept_on : (p : Place) (n : ℕ) (image : Image) (e : Effect) (pieces : List PlainPiece) → HasBefore image pieces → Keeps image.start image.pieces (pieces_after p n image.pieces e) → start_after image.start e ≡ image.start → HasBefore (with_effect {W = GerberKind} p n image (Ok e)) pieces
 kept_on p n image e pieces b k same = record {
   within = rw same k.within;
   are = rw same (k.same ∙ b.are);
 }
 
 before_block : (p : Place) (earlier : List Command) → Clean (effect_before p) earlier → HasBefore (image_of p earlier) (pieces_of p (up_to_block earlier))
-unfolding image_of
+unfolding image_by
 before_block p [] clean = record { within = omega arith; are = refl }
 before_block p (c ∷ earlier) clean = split (is_repeat c) refl (before_block p earlier clean.1)
   where

@@ -1,24 +1,25 @@
 -- The state of the reader is what looking back finds.
-use Rattle.std.proofs.Common.{◌≡◌, ℕ, ◌+◌, Bool, true, false, cond, eqb, List, ◌∷◌, length, ℤ, Option, Some, None, Result, Ok, refl, sym, ap, ◌∙◌, subst, arith}
+use Rattle.std.proofs.Common.{◌≡◌, ℕ, ◌+◌, Bool, true, false, cond, eqb, List, ◌∷◌, length, ℤ, Option, Some, None, option_map, Result, Ok, Err, refl, sym, ap, ◌∙◌, subst, arith}
 use mathlib.Core.Path.{fun_ext}
 use Rattle.lengths.specs.declared.decimal.Unit.{Unit as Measure}
 use Rattle.planar.specs.declared.Spot.{Spot}
 use Rattle.board_shapes.specs.Pieces.{PlainPiece, plain_pieces}
-use Rattle.apertures.specs.declared.aperture.Aperture.{Aperture}
-use Rattle.gerber_layer.specs.Command.{Command, nothing, refused, formats, counts_in, defines, selects, repeats, functions, opens_region, closes_region, operates, ends, breaks, finishes}
-use Rattle.gerber_layer.specs.declared.kind.GerberKind.{GerberKind}
+use Rattle.aperture_macros.specs.BodyWord.{PlainPrimitive, primitive_at}
+use Rattle.aperture_macros.specs.declared.fault.MacroFault.{MacroFault}
+use Rattle.gerber_layer.specs.Command.{Command, nothing, refused, formats, counts_in, defines, selects, repeats, functions, opens_region, closes_region, operates, ends, names_macro, body_word, breaks, finishes}
 use Rattle.gerber_layer.specs.declared.command.Format.{Format}
 use Rattle.gerber_layer.specs.declared.command.Code.{Code}
 use Rattle.gerber_layer.specs.declared.command.Code.TheVariants.{Draw, Move, Flash}
 use Rattle.gerber_layer.specs.declared.settings.Settings.{Settings}
 use Rattle.gerber_layer.specs.declared.dictionary.Dictionary.{Dictionary}
 use Rattle.gerber_layer.specs.declared.reader.Reader.{Reader}
-use Rattle.gerber_layer.specs.Table.{Place, Known, Effect, stays, makes, steps, concludes, code_of, coordinate, effect}
+use Rattle.gerber_layer.specs.Table.{Place, Known, Effect, Profile, stays, makes, begins_macro, fills_macro, steps, concludes, code_of, coordinate}
+use Rattle.gerber_layer.specs.Tools.{Macro, Macros, Tool, begun, filled_up, latest_or, longer, macro_named}
 use Rattle.gerber_layer.specs.After.{after, contour_after, heads, opened}
-use Rattle.gerber_layer.specs.Settings.{or_else, value_or, value_in, settings_before, format_before, unit_before, x_before, y_before, point_before, region_open, drawn, contour_before, defined_before, definitions_before, ok_block}
-use Rattle.gerber_layer.specs.Image.{Image, with_effect, known_with, known_before, image_of}
-use Rattle.gerber_layer.specs.Reader.{defined_in, size_of, Adds, Turns, contour_of, known_of, place_of, Obeys}
-use Rattle.gerber_layer.proofs.Outcome.{Outcome, outcome, IsEffect}
+use Rattle.gerber_layer.specs.Settings.{or_else, value_or, value_in, settings_before, format_before, unit_before, x_before, y_before, point_before, region_open, drawn, contour_before, defined_before, definitions_before, macros_before, ok_block, with_body}
+use Rattle.gerber_layer.specs.Image.{Image, with_effect, known_with, known_by, image_by}
+use Rattle.gerber_layer.specs.Reader.{defined_in, macros_in, size_of, Adds, HasMacros, Turns, contour_of, known_of, place_of, Obeys}
+use Rattle.gerber_layer.proofs.Outcome.{Outcome, IsEffect, IsFilled}
 
 -- a coordinate's value
 value_is : (x : Option (List ℕ)) (format : Format) (unit : Measure) (here to : ℤ) → coordinate format unit here x ≡ Ok to → value_in x (Some format) (Some unit) here ≡ to
@@ -56,6 +57,8 @@ settings-push p earlier ps (operates x y code) e o =
     let there = point_is p earlier ps x y code e o in
     rw (heads_is (region_open earlier) (code_of code) o.to e o.is, there) refl
 settings-push p earlier ps ends e o = refl
+settings-push p earlier ps (names_macro name) e o = refl
+settings-push p earlier ps (body_word text) e o = refl
 settings-push p earlier ps (breaks fault) e o = refl
 settings-push p earlier ps finishes e o = refl
 
@@ -71,12 +74,17 @@ drawn_is false Draw to e contour from i = ap (λ (f : Effect). contour_after f c
 drawn_is false Move to e contour from i = ap (λ (f : Effect). contour_after f contour from) i.is
 drawn_is false Flash to e contour from i = ap (λ (f : Effect). contour_after f contour from) i.is
 
+filled_keeps : (r : Result (Option PlainPrimitive) MacroFault) (e : Effect) (contour : List Spot) (from : Spot) → IsFilled r e → contour_after e contour from ≡ contour
+filled_keeps (Ok None) e contour from o = keeps e stays contour from o refl
+filled_keeps (Ok (Some p)) e contour from o = keeps e (fills_macro p) contour from o refl
+filled_keeps (Err fault) e contour from o = absurd o
+
 contour-push : (p : Place) (earlier : List Command) (ps : Image) (c : Command) (e : Effect) → Outcome (known_with p earlier ps) c e → contour_after e (contour_before earlier) (point_before earlier) ≡ contour_before (c ∷ earlier)
 contour-push p earlier ps (operates x y code) e o =
     drawn_is (region_open earlier) (code_of code) o.to e (contour_before earlier) (point_before earlier) o.is ∙ ap (λ (to : Spot). drawn (code_of code) (region_open earlier) (contour_before earlier) (point_before earlier) to) (point_is p earlier ps x y code e o)
 contour-push p earlier ps opens_region e o = ap (λ (f : Effect). contour_after f (contour_before earlier) (point_before earlier)) o
 contour-push p earlier ps closes_region e o = ap (λ (f : Effect). contour_after f (contour_before earlier) (point_before earlier)) o.1
-contour-push p earlier ps (defines text) e o = keeps e (makes o.n o.aperture) (contour_before earlier) (point_before earlier) o.is refl
+contour-push p earlier ps (defines text) e o = keeps e (makes o.n o.tool) (contour_before earlier) (point_before earlier) o.is refl
 contour-push p earlier ps nothing e o = keeps e stays (contour_before earlier) (point_before earlier) o refl
 contour-push p earlier ps (refused why) e o = keeps e stays (contour_before earlier) (point_before earlier) o refl
 contour-push p earlier ps (repeats text) e o = keeps e (steps o.next o.pieces) (contour_before earlier) (point_before earlier) o.is refl
@@ -85,6 +93,8 @@ contour-push p earlier ps (formats format) e o = keeps e stays (contour_before e
 contour-push p earlier ps (counts_in unit) e o = keeps e stays (contour_before earlier) (point_before earlier) o refl
 contour-push p earlier ps (selects m) e o = keeps e stays (contour_before earlier) (point_before earlier) o refl
 contour-push p earlier ps ends e o = keeps e (concludes o.0) (contour_before earlier) (point_before earlier) o.1 refl
+contour-push p earlier ps (names_macro name) e o = keeps e (begins_macro name) (contour_before earlier) (point_before earlier) o refl
+contour-push p earlier ps (body_word text) e o = filled_keeps (primitive_at text) e (contour_before earlier) (point_before earlier) o
 contour-push p earlier ps (breaks fault) e o = keeps e stays (contour_before earlier) (point_before earlier) o refl
 contour-push p earlier ps finishes e o = keeps e stays (contour_before earlier) (point_before earlier) o refl
 
@@ -95,13 +105,17 @@ operation_keeps old new true Draw to e i t = subst (λ (f : Effect). Turns old f
 operation_keeps old new true Move to e i t = subst (λ (f : Effect). Turns old f new) i.1 t
 operation_keeps old new true Flash to e i t = absurd i
 
--- every command but a definition does
+-- every command but a definition, of an aperture or of a macro, does
 abbrev Keeps : Command → Dictionary → Dictionary → Type 0
 Keeps (defines text) old new = Unit {0}
+Keeps (names_macro name) old new = Unit {0}
+Keeps (body_word text) old new = Unit {0}
 Keeps other old new = new ≡ old
 
 keeps_dictionary : (old new : Dictionary) (k : Known) (c : Command) (e : Effect) → Outcome k c e → Turns old e new → Keeps c old new
 keeps_dictionary old new k (defines text) e o t = tt
+keeps_dictionary old new k (names_macro name) e o t = tt
+keeps_dictionary old new k (body_word text) e o t = tt
 keeps_dictionary old new k (operates x y code) e o t = operation_keeps old new k.settings.region (code_of code) o.to e o.is t
 keeps_dictionary old new k opens_region e o t = subst (λ (f : Effect). Turns old f new) o t
 keeps_dictionary old new k closes_region e o t = subst (λ (f : Effect). Turns old f new) o.1 t
@@ -116,78 +130,122 @@ keeps_dictionary old new k ends e o t = subst (λ (f : Effect). Turns old f new)
 keeps_dictionary old new k (breaks fault) e o t = subst (λ (f : Effect). Turns old f new) o t
 keeps_dictionary old new k finishes e o t = subst (λ (f : Effect). Turns old f new) o t
 
--- The aperture dictionary is found by looking back.
+-- The aperture dictionary and the macros are found by looking back.
 pub record Found (new : Dictionary) (earlier : List Command) : Type 0 where
   pub defined : (m : ℕ) → defined_in new m ≡ defined_before earlier m
   pub size : size_of new ≡ definitions_before earlier
+  pub latest : (macros_in new).latest ≡ (macros_before earlier).latest
+  pub others : (name : List ℕ) → (macros_in new).others name ≡ (macros_before earlier).others name
 
 same_found : (old new : Dictionary) (earlier : List Command) → Found old earlier → new ≡ old → Found new earlier
 same_found old new earlier h same = subst (λ (d : Dictionary). Found d earlier) (sym same) h
 
+-- also behind a macro that begins
+begun-push : (old new : Dictionary) (earlier : List Command) (name : List ℕ) → Found old earlier → HasMacros old new (begun (macros_in old) name) → Found new (names_macro name ∷ earlier)
+begun-push old new earlier name h m = record {
+  defined = λ n. m.defined n ∙ h.defined n;
+  size = m.size ∙ h.size;
+  latest = m.latest;
+  others = λ q. m.others q ∙ ap (λ (o : Option (List PlainPrimitive)). latest_or (macros_in old).latest o q) (h.others q) ∙ ap (λ (l : Option Macro). latest_or l ((macros_before earlier).others q) q) h.latest;
+}
+
+-- and behind a word of its body
+record Fills (old new : Dictionary) (earlier : List Command) (macros : Macros) : Type 0 where
+  defined : (m : ℕ) → defined_in new m ≡ defined_before earlier m
+  size : size_of new ≡ definitions_before earlier
+  latest : (macros_in new).latest ≡ macros.latest
+  others : (name : List ℕ) → (macros_in new).others name ≡ macros.others name
+
+filled-push : (old new : Dictionary) (earlier : List Command) (r : Result (Option PlainPrimitive) MacroFault) (e : Effect) → Found old earlier → IsFilled r e → Turns old e new → Fills old new earlier (with_body (macros_before earlier) r)
+filled-push old new earlier (Ok None) e h o t =
+    let f = same_found old new earlier h (subst (λ (f : Effect). Turns old f new) o t) in
+    record { defined = f.defined; size = f.size; latest = f.latest; others = f.others }
+filled-push old new earlier (Ok (Some p)) e h o t =
+    let m : HasMacros old new (filled_up (macros_in old) p) = subst (λ (f : Effect). Turns old f new) o t in
+    record {
+      defined = λ n. m.defined n ∙ h.defined n;
+      size = m.size ∙ h.size;
+      latest = m.latest ∙ ap (option_map (longer p)) h.latest;
+      others = λ q. m.others q ∙ h.others q;
+    }
+filled-push old new earlier (Err fault) e h o t = absurd o
+
 dictionary-push : (old new : Dictionary) (p : Place) (earlier : List Command) (ps : Image) (c : Command) (e : Effect) → Found old earlier → Outcome (known_with p earlier ps) c e → Turns old e new → Keeps c old new → Found new (c ∷ earlier)
 dictionary-push old new p earlier ps (defines text) e h o t u =
-    let adds : Adds old new o.n o.aperture = subst (λ (f : Effect). Turns old f new) o.is t in
+    let adds : Adds old new o.n o.tool = subst (λ (f : Effect). Turns old f new) o.is t in
     record {
       defined = λ m. adds.defined m ∙ rw (o.unit_is, o.read_is, h.defined m) (by (eqb o.n m) m);
       size = adds.more ∙ ap (λ (k : ℕ). k + 1) h.size;
+      latest = ap (λ (m : Macros). m.latest) adds.macros ∙ h.latest;
+      others = λ name. ap (λ (m : Macros). m.others name) adds.macros ∙ h.others name;
     }
   where
-    by : (b : Bool) (m : ℕ) → cond b (Some o.aperture) (defined_before earlier m) ≡ or_else (cond b (Some o.aperture) None) (defined_before earlier m)
+    by : (b : Bool) (m : ℕ) → cond b (Some o.tool) (defined_before earlier m) ≡ or_else (cond b (Some o.tool) None) (defined_before earlier m)
     by true m = refl
     by false m = refl
-dictionary-push old new p earlier ps (operates x y code) e h o t u = let f = same_found old new earlier h u in record { defined = f.defined; size = f.size }
-dictionary-push old new p earlier ps opens_region e h o t u = let f = same_found old new earlier h u in record { defined = f.defined; size = f.size }
-dictionary-push old new p earlier ps closes_region e h o t u = let f = same_found old new earlier h u in record { defined = f.defined; size = f.size }
-dictionary-push old new p earlier ps nothing e h o t u = let f = same_found old new earlier h u in record { defined = f.defined; size = f.size }
-dictionary-push old new p earlier ps (refused why) e h o t u = let f = same_found old new earlier h u in record { defined = f.defined; size = f.size }
-dictionary-push old new p earlier ps (repeats text) e h o t u = let f = same_found old new earlier h u in record { defined = f.defined; size = f.size }
-dictionary-push old new p earlier ps (functions function layer) e h o t u = let f = same_found old new earlier h u in record { defined = f.defined; size = f.size }
-dictionary-push old new p earlier ps (formats format) e h o t u = let f = same_found old new earlier h u in record { defined = f.defined; size = f.size }
-dictionary-push old new p earlier ps (counts_in unit) e h o t u = let f = same_found old new earlier h u in record { defined = f.defined; size = f.size }
-dictionary-push old new p earlier ps (selects m) e h o t u = let f = same_found old new earlier h u in record { defined = f.defined; size = f.size }
-dictionary-push old new p earlier ps ends e h o t u = let f = same_found old new earlier h u in record { defined = f.defined; size = f.size }
-dictionary-push old new p earlier ps (breaks fault) e h o t u = let f = same_found old new earlier h u in record { defined = f.defined; size = f.size }
-dictionary-push old new p earlier ps finishes e h o t u = let f = same_found old new earlier h u in record { defined = f.defined; size = f.size }
+dictionary-push old new p earlier ps (operates x y code) e h o t u = let f = same_found old new earlier h u in record { defined = f.defined; size = f.size; latest = f.latest; others = f.others }
+dictionary-push old new p earlier ps (names_macro name) e h o t u = begun-push old new earlier name h (subst (λ (f : Effect). Turns old f new) o t)
+dictionary-push old new p earlier ps (body_word text) e h o t u = let f = filled-push old new earlier (primitive_at text) e h o t in record { defined = f.defined; size = f.size; latest = f.latest; others = f.others }
+dictionary-push old new p earlier ps opens_region e h o t u = let f = same_found old new earlier h u in record { defined = f.defined; size = f.size; latest = f.latest; others = f.others }
+dictionary-push old new p earlier ps closes_region e h o t u = let f = same_found old new earlier h u in record { defined = f.defined; size = f.size; latest = f.latest; others = f.others }
+dictionary-push old new p earlier ps nothing e h o t u = let f = same_found old new earlier h u in record { defined = f.defined; size = f.size; latest = f.latest; others = f.others }
+dictionary-push old new p earlier ps (refused why) e h o t u = let f = same_found old new earlier h u in record { defined = f.defined; size = f.size; latest = f.latest; others = f.others }
+dictionary-push old new p earlier ps (repeats text) e h o t u = let f = same_found old new earlier h u in record { defined = f.defined; size = f.size; latest = f.latest; others = f.others }
+dictionary-push old new p earlier ps (functions function layer) e h o t u = let f = same_found old new earlier h u in record { defined = f.defined; size = f.size; latest = f.latest; others = f.others }
+dictionary-push old new p earlier ps (formats format) e h o t u = let f = same_found old new earlier h u in record { defined = f.defined; size = f.size; latest = f.latest; others = f.others }
+dictionary-push old new p earlier ps (counts_in unit) e h o t u = let f = same_found old new earlier h u in record { defined = f.defined; size = f.size; latest = f.latest; others = f.others }
+dictionary-push old new p earlier ps (selects m) e h o t u = let f = same_found old new earlier h u in record { defined = f.defined; size = f.size; latest = f.latest; others = f.others }
+dictionary-push old new p earlier ps ends e h o t u = let f = same_found old new earlier h u in record { defined = f.defined; size = f.size; latest = f.latest; others = f.others }
+dictionary-push old new p earlier ps (breaks fault) e h o t u = let f = same_found old new earlier h u in record { defined = f.defined; size = f.size; latest = f.latest; others = f.others }
+dictionary-push old new p earlier ps finishes e h o t u = let f = same_found old new earlier h u in record { defined = f.defined; size = f.size; latest = f.latest; others = f.others }
 
 -- the reader has obeyed these commands
-pub record State (p : Place) (earlier : List Command) (r : Reader) : Type 0 where
-  pub known : known_of r ≡ known_before p earlier
+pub record State {W : Type 0} (f : Profile W) (p : Place) (earlier : List Command) (r : Reader) : Type 0 where
+  pub known : known_of r ≡ known_by f p earlier
   pub counts : r.commands ≡ length earlier
 
-pub same_known : (s s' : Settings) (d d' : ℕ → Option Aperture) (n n' : ℕ) (c c' : List Spot) (i i' : Image) (m m' : Place) → s ≡ s' → d ≡ d' → n ≡ n' → c ≡ c' → i ≡ i' → m ≡ m' → ◌≡◌ {A = Known} (record { settings = s; defined = d; definitions = n; contour = c; pieces = i.pieces; start = i.start; place = m }) (record { settings = s'; defined = d'; definitions = n'; contour = c'; pieces = i'.pieces; start = i'.start; place = m' })
-same_known s s' d d' n n' c c' i i' m m' a b e f g h = cc
+pub same_known : (s s' : Settings) (d d' : ℕ → Option Tool) (n n' : ℕ) (o o' : Macros) (c c' : List Spot) (i i' : Image) (m m' : Place) → s ≡ s' → d ≡ d' → n ≡ n' → o ≡ o' → c ≡ c' → i ≡ i' → m ≡ m' → ◌≡◌ {A = Known} (record { settings = s; defined = d; definitions = n; macros = o; contour = c; pieces = i.pieces; start = i.start; place = m }) (record { settings = s'; defined = d'; definitions = n'; macros = o'; contour = c'; pieces = i'.pieces; start = i'.start; place = m' })
+same_known s s' d d' n n' o o' c c' i i' m m' a b e l f g h = cc
+
+pub same_macros : (m n : Macros) → m.latest ≡ n.latest → ((name : List ℕ) → m.others name ≡ n.others name) → m ≡ n
+same_macros m n a b =
+    ap (λ (x : Option Macro). let r : Macros = record { latest = x; others = m.others } in r) a ∙ ap (λ (f : List ℕ → Option (List PlainPrimitive)). let r : Macros = record { latest = n.latest; others = f } in r) (fun_ext b)
 
 -- the pieces of a reader, and how many of them stand before the open block
 abbrev pub reader_image : Reader → Image
 reader_image r = record { pieces = plain_pieces r.pieces.items; start = r.start }
 
 -- the image with an effect
-same_image : (old new earlier : Image) (q p : Place) (m n : ℕ) (e : Effect) (x : Result Effect GerberKind) → new ≡ with_effect q m old (Ok e) → old ≡ earlier → q ≡ p → m ≡ n → Ok e ≡ x → new ≡ with_effect p n earlier x
-same_image old new earlier q p m n e x h a b c d =
-    h ∙ ap (λ (i : Image). with_effect q m i (Ok e)) a ∙ ap (λ (t : Place). with_effect t m earlier (Ok e)) b ∙ ap (λ (t : ℕ). with_effect p t earlier (Ok e)) c ∙ ap (λ (t : Result Effect GerberKind). with_effect p n earlier t) d
+same_image : {W : Type 0} (old new earlier : Image) (q p : Place) (m n : ℕ) (e : Effect) (x : Result Effect W) → new ≡ with_effect {W = W} q m old (Ok e) → old ≡ earlier → q ≡ p → m ≡ n → Ok e ≡ x → new ≡ with_effect p n earlier x
+same_image {W} old new earlier q p m n e x h a b c d =
+    h ∙ ap (λ (i : Image). with_effect {W = W} q m i (Ok e)) a ∙ ap (λ (t : Place). with_effect {W = W} t m earlier (Ok e)) b ∙ ap (λ (t : ℕ). with_effect {W = W} p t earlier (Ok e)) c ∙ ap (λ (t : Result Effect W). with_effect p n earlier t) d
 
 new_image : (i j : Image) → i.pieces ≡ j.pieces → i.start ≡ j.start → i ≡ j
 new_image i j a b =
     ap (λ (xs : List PlainPiece). let r : Image = record { pieces = xs; start = i.start } in r) a ∙ ap (λ (n : ℕ). let r : Image = record { pieces = j.pieces; start = n } in r) b
 
+-- the outcomes of a table are those of the commands
+abbrev pub HasOutcomes : {W : Type 0} → Profile W → Type 0
+HasOutcomes f = (k : Known) (c : Command) (e : Effect) → f k c ≡ Ok e → Outcome k c e
+
 -- one command more
-pub state-push : (p : Place) (earlier : List Command) (r : Reader) (c : Command) (new : Reader) → State p earlier r → Obeys r c new → State p (c ∷ earlier) new
-unfolding image_of
-state-push p earlier r c new s o =
+pub state-push : {W : Type 0} (f : Profile W) → HasOutcomes f → (p : Place) (earlier : List Command) (r : Reader) (c : Command) (new : Reader) → State f p earlier r → Obeys r c (f (known_of r) c) new → State f p (c ∷ earlier) new
+unfolding image_by
+state-push {W} f outcome p earlier r c new s o =
     let e : Effect = o.effect_is in
-    let ps : Image = image_of p earlier in
-    let clean : effect (known_before p earlier) c ≡ Ok e = subst (λ (k : Known). effect k c ≡ Ok e) s.known o.clean in
+    let ps : Image = image_by f p earlier in
+    let clean : f (known_by f p earlier) c ≡ Ok e = subst (λ (k : Known). f k c ≡ Ok e) s.known o.clean in
     let did : Outcome (known_with p earlier ps) c e = outcome (known_with p earlier ps) c e clean in
     let place : place_of r ≡ p = ap (λ (k : Known). k.place) s.known in
     let settings : new.settings ≡ settings_before (c ∷ earlier) = o.settings ∙ ap (λ (t : Settings). after t c (heads e) (opened e)) (ap (λ (k : Known). k.settings) s.known) ∙ settings-push p earlier ps c e did in
-    let had : Found r.dictionary earlier = record { defined = λ m. ap (λ (k : Known). k.defined m) s.known; size = ap (λ (k : Known). k.definitions) s.known } in
+    let had : Found r.dictionary earlier = record { defined = λ m. ap (λ (k : Known). k.defined m) s.known; size = ap (λ (k : Known). k.definitions) s.known; latest = ap (λ (k : Known). k.macros.latest) s.known; others = λ name. ap (λ (k : Known). k.macros.others name) s.known } in
     let has : Found new.dictionary (c ∷ earlier) = dictionary-push r.dictionary new.dictionary p earlier ps c e had did o.dictionary (keeps_dictionary r.dictionary new.dictionary (known_with p earlier ps) c e did o.dictionary) in
     let contour : contour_of new.contour ≡ contour_before (c ∷ earlier) = o.contour ∙ ap (λ (k : Known). contour_after e k.contour k.settings.at) s.known ∙ contour-push p earlier ps c e did in
     let number : r.commands + 1 ≡ length earlier + 1 = ap (λ (k : ℕ). k + 1) s.counts in
     let same : reader_image r ≡ ps = new_image (reader_image r) ps (ap (λ (k : Known). k.pieces) s.known) (ap (λ (k : Known). k.start) s.known) in
-    let next : reader_image new ≡ with_effect (place_of r) (r.commands + 1) (reader_image r) (Ok e) = new_image (reader_image new) (with_effect (place_of r) (r.commands + 1) (reader_image r) (Ok e)) o.pieces o.start in
-    let image : reader_image new ≡ image_of p (c ∷ earlier) = same_image (reader_image r) (reader_image new) ps (place_of r) p (r.commands + 1) (length earlier + 1) e (effect (known_before p earlier) c) next same place number (sym clean) in
+    let next : reader_image new ≡ with_effect {W = W} (place_of r) (r.commands + 1) (reader_image r) (Ok e) = new_image (reader_image new) (with_effect {W = W} (place_of r) (r.commands + 1) (reader_image r) (Ok e)) o.pieces o.start in
+    let image : reader_image new ≡ image_by f p (c ∷ earlier) = same_image (reader_image r) (reader_image new) ps (place_of r) p (r.commands + 1) (length earlier + 1) e (f (known_by f p earlier) c) next same place number (sym clean) in
     record {
-      known = same_known new.settings (settings_before (c ∷ earlier)) (defined_in new.dictionary) (defined_before (c ∷ earlier)) (size_of new.dictionary) (definitions_before (c ∷ earlier)) (contour_of new.contour) (contour_before (c ∷ earlier)) (reader_image new) (image_of p (c ∷ earlier)) (place_of new) p settings (fun_ext has.defined) has.size contour image (o.place ∙ place);
+      known = same_known new.settings (settings_before (c ∷ earlier)) (defined_in new.dictionary) (defined_before (c ∷ earlier)) (size_of new.dictionary) (definitions_before (c ∷ earlier)) (macros_in new.dictionary) (macros_before (c ∷ earlier)) (contour_of new.contour) (contour_before (c ∷ earlier)) (reader_image new) (image_by f p (c ∷ earlier)) (place_of new) p settings (fun_ext has.defined) has.size (same_macros (macros_in new.dictionary) (macros_before (c ∷ earlier)) has.latest has.others) contour image (o.place ∙ place);
       counts = (let e = o.counts in let f = s.counts in omega arith);
     }

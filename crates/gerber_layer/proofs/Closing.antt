@@ -8,7 +8,7 @@ use Rattle.regions.specs.Contours.{close_of}
 use Rattle.file_reading.specs.declared.halt.Halt.{Halt}
 use Rattle.gerber_layer.specs.declared.kind.GerberKind.{GerberKind}
 use Rattle.gerber_layer.specs.declared.reader.Reader.{Reader}
-use Rattle.gerber_layer.specs.Table.{Place, Known, room_for, closing, area_if}
+use Rattle.gerber_layer.specs.Table.{Place, Known, room_for, listed, closing, area_if}
 use Rattle.gerber_layer.specs.Image.{made}
 use Rattle.gerber_layer.specs.Reader.{Places, Closes, Stops, contour_of, known_of, place_of}
 
@@ -43,9 +43,9 @@ closes_after (Ok done) old bare new points a b c d e f g h p r = record {
   contour = ap contour_of p.contour ∙ c;
   pieces =
       p.pieces
-      ∙ ap (λ v. plain_pieces v.items ++ made (place_of bare) (bare.commands + 1) (Some (filled points))) d
-      ∙ ap (λ (t : Place). plain_pieces old.pieces.items ++ made t (bare.commands + 1) (Some (filled points))) f
-      ∙ ap (λ (n : ℕ). plain_pieces old.pieces.items ++ made (place_of old) (n + 1) (Some (filled points))) e;
+      ∙ ap (λ v. plain_pieces v.items ++ made (place_of bare) (bare.commands + 1) (listed (Some (filled points)))) d
+      ∙ ap (λ (t : Place). plain_pieces old.pieces.items ++ made t (bare.commands + 1) (listed (Some (filled points)))) f
+      ∙ ap (λ (n : ℕ). plain_pieces old.pieces.items ++ made (place_of old) (n + 1) (listed (Some (filled points)))) e;
   start = p.start ∙ g;
   counts = p.counts ∙ e;
   place = p.place ∙ f;

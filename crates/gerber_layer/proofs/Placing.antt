@@ -14,15 +14,15 @@ use Rattle.step_repeat.specs.declared.repeat.Repeat.{Repeat}
 use Rattle.step_repeat.specs.declared.fault.CopyFault.{CopyFault}
 use Rattle.step_repeat.specs.declared.fault.CopyFault.TheVariants.{OutOfRange}
 use Rattle.file_reading.specs.Reading.{said}
-use Rattle.gerber_layer.specs.Command.{Command, defines, repeats, opens_region, closes_region, operates, ends}
+use Rattle.gerber_layer.specs.Command.{Command, defines, repeats, opens_region, closes_region, operates, ends, names_macro, body_word}
 use Rattle.gerber_layer.specs.declared.kind.GerberKind.{GerberKind}
 use Rattle.gerber_layer.specs.declared.kind.GerberKind.TheVariants as kind
 use Rattle.gerber_layer.specs.declared.command.Code.{Code}
 use Rattle.gerber_layer.specs.declared.command.Code.TheVariants.{Draw, Move, Flash}
-use Rattle.gerber_layer.specs.Table.{Place, Known, Effect, stays, makes, performs, extends, closes, opens, leaves, steps, concludes, ◌>>=◌, as_copies, with_copies, left, ended_block, next_block, repeat, row, effect, code_of}
-use Rattle.gerber_layer.specs.Image.{image_of, pieces_of, known_before, made, pieces_after, with_effect}
+use Rattle.gerber_layer.specs.Table.{Place, Known, Effect, stays, makes, begins_macro, fills_macro, performs, extends, closes, opens, leaves, steps, concludes, ◌>>=◌, as_copies, with_copies, left, listed, ended_block, next_block, repeat, row, effect, code_of}
+use Rattle.gerber_layer.specs.Image.{image_by, image_of, pieces_of, known_before, made, piece_of, pieces_after, with_effect}
 use Rattle.gerber_layer.specs.Layer.{IsRead}
-use Rattle.gerber_layer.proofs.Outcome.{bind_ok, past_test, outcome, IsEffect}
+use Rattle.gerber_layer.proofs.Outcome.{bind_ok, not_body, past_test, outcome, IsEffect}
 
 -- the piece is on the layer
 abbrev OnLayer : Place → PlainPiece → Type 0
@@ -73,9 +73,9 @@ ended_on p k all h e = with_copies_on p k k.settings.block all h e
 
 -- ---- Effects
 
-made_on : (p : Place) (n : ℕ) (figure : Option Figure) → All (OnLayer p) (made p n figure)
-made_on p n None = All-nil (OnLayer p)
-made_on p n (Some figure) = All-cons (OnLayer p) _ [] (refl, refl) (All-nil (OnLayer p))
+made_on : (p : Place) (n : ℕ) (figures : List Figure) → All (OnLayer p) (made p n figures)
+made_on p n [] = All-nil (OnLayer p)
+made_on p n (figure ∷ figures) = All-cons (OnLayer p) (piece_of p n figure) (made p n figures) (refl, refl) (made_on p n figures)
 
 -- it ends no block
 abbrev pub IsSimple : Effect → Type 0
@@ -86,11 +86,13 @@ IsSimple other = Unit {0}
 simple_on : (p : Place) (n : ℕ) (pieces : List PlainPiece) (e : Effect) → IsSimple e → All (OnLayer p) pieces → All (OnLayer p) (pieces_after p n pieces e)
 simple_on p n pieces (steps next all) simple h = absurd simple
 simple_on p n pieces (concludes all) simple h = absurd simple
-simple_on p n pieces (performs to figure) simple h = All-append (OnLayer p) pieces (made p n figure) h (made_on p n figure)
-simple_on p n pieces (closes to figure) simple h = All-append (OnLayer p) pieces (made p n figure) h (made_on p n figure)
-simple_on p n pieces (leaves figure) simple h = All-append (OnLayer p) pieces (made p n figure) h (made_on p n figure)
+simple_on p n pieces (performs to figures) simple h = All-append (OnLayer p) pieces (made p n figures) h (made_on p n figures)
+simple_on p n pieces (closes to figure) simple h = All-append (OnLayer p) pieces (made p n (listed figure)) h (made_on p n (listed figure))
+simple_on p n pieces (leaves figure) simple h = All-append (OnLayer p) pieces (made p n (listed figure)) h (made_on p n (listed figure))
 simple_on p n pieces stays simple h = h
-simple_on p n pieces (makes m aperture) simple h = h
+simple_on p n pieces (makes m tool) simple h = h
+simple_on p n pieces (begins_macro name) simple h = h
+simple_on p n pieces (fills_macro primitive) simple h = h
 simple_on p n pieces (extends to) simple h = h
 simple_on p n pieces opens simple h = h
 
@@ -98,7 +100,7 @@ pub simple_by : (e made' : Effect) → e ≡ made' → IsSimple made' → IsSimp
 simple_by e made' same simple = subst IsSimple (sym same) simple
 
 pub simple_effect : (e : Effect) (inside : Bool) (code : Code) (to : _) → IsEffect inside code to e → IsSimple e
-simple_effect e false code to h = simple_by e (performs to h.figure) h.is tt
+simple_effect e false code to h = simple_by e (performs to h.figures) h.is tt
 simple_effect e true Draw to h = simple_by e (extends to) h tt
 simple_effect e true Move to h = simple_by e (closes to h.0) h.1 tt
 simple_effect e true Flash to h = absurd h
@@ -128,12 +130,14 @@ effect_on p k n (defines text) e on h = let o = outcome k (defines text) e h in 
 effect_on p k n (operates x y code) e on h = let o = outcome k (operates x y code) e h in simple_on p n k.pieces e (simple_effect e k.settings.region (code_of code) o.to o.is) on
 effect_on p k n opens_region e on h = simple_on p n k.pieces e (simple_by e opens (outcome k opens_region e h) tt) on
 effect_on p k n closes_region e on h = let o = outcome k closes_region e h in simple_on p n k.pieces e (simple_by e (leaves o.0) o.1 tt) on
+effect_on p k n (names_macro name) e on h = simple_on p n k.pieces e (simple_by e (begins_macro name) (outcome k (names_macro name) e h) tt) on
+effect_on p k n (body_word text) e on h = absurd (not_body k text e h)
 effect_on p k n other e on h = simple_on p n k.pieces e (simple_by e stays (outcome k other e h) tt) on
 
 -- ---- A file
 
 pieces_on : (p : Place) (earlier : List Command) → All (OnLayer p) (pieces_of p earlier)
-unfolding image_of
+unfolding image_by
 pieces_on p [] = All-nil (OnLayer p)
 pieces_on p (c ∷ earlier) = by (pieces_on p earlier) (effect (known_before p earlier) c) refl
   where

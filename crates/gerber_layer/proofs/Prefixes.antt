@@ -14,7 +14,7 @@ use Rattle.gerber_layer.specs.declared.kind.GerberKind.{GerberKind}
 use Rattle.gerber_layer.specs.declared.kind.GerberKind.TheVariants as kind
 use Rattle.gerber_layer.specs.Table.{Place, Known, Effect, stays, effect, is_finish, kind_of_word, row}
 use Rattle.gerber_layer.specs.Settings.{has_ended, is_end}
-use Rattle.gerber_layer.specs.Image.{effect_before, image_of, known_before, pieces_of, with_effect}
+use Rattle.gerber_layer.specs.Image.{effect_before, image_by, image_of, known_before, pieces_of, with_effect}
 use Rattle.gerber_layer.specs.Layer.{IsRead, IsRefused, stop_command}
 use Rattle.gerber_layer.proofs.Outcome.{not_ok}
 use Rattle.gerber_layer.specs.Laws.{PrefixesAreRefused}
@@ -164,7 +164,7 @@ unfolding effect
 finish_stays k h = rw h refl
 
 at_end : (p : Place) (earlier : List Command) → has_ended earlier ≡ true → pieces_of p (finishes ∷ earlier) ≡ pieces_of p earlier
-unfolding image_of
+unfolding image_by
 at_end p earlier h = ap (λ (r : Result Effect GerberKind). (with_effect p (length earlier + 1) (image_of p earlier) r).pieces) (finish_stays (known_before p earlier) h)
 
 as_read : (file : List ℕ) (p : Place) (pieces : List PlainPiece) → IsRead file p pieces → Read file p pieces
@@ -239,7 +239,7 @@ after_stays k c h ok = by k.settings.ended (is_finish c) h ok
     by false f e fine = absurd (cc)
 
 one_after_end : (p : Place) (c : Command) (earlier : List Command) → has_ended earlier ≡ true → IsOk (effect_before p earlier c) → pieces_of p (c ∷ earlier) ≡ pieces_of p earlier
-unfolding image_of
+unfolding image_by
 one_after_end p c earlier h ok = ap (λ (r : Result Effect GerberKind). (with_effect p (length earlier + 1) (image_of p earlier) r).pieces) (after_stays (known_before p earlier) c h ok)
 
 after_end : (p : Place) (later earlier : List Command) → has_ended earlier ≡ true → Clean (effect_before p) (later ++ earlier) → pieces_of p (later ++ earlier) ≡ pieces_of p earlier

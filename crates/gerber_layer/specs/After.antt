@@ -2,9 +2,9 @@
 use Rattle.std.specs.Prelude.{true, false, List, [], Option, Some, None}
 use Rattle.planar.specs.declared.Spot.{Spot}
 use Rattle.step_repeat.specs.declared.repeat.Repeat.{Repeat}
-use Rattle.gerber_layer.specs.Command.{Command, nothing, refused, formats, counts_in, defines, selects, repeats, functions, opens_region, closes_region, operates, ends, breaks, finishes}
+use Rattle.gerber_layer.specs.Command.{Command, nothing, refused, formats, counts_in, defines, selects, repeats, functions, opens_region, closes_region, operates, ends, names_macro, body_word, breaks, finishes}
 use Rattle.gerber_layer.specs.declared.settings.Settings.{Settings}
-use Rattle.gerber_layer.specs.Table.{Effect, stays, makes, performs, extends, closes, opens, leaves, steps, concludes, code_of}
+use Rattle.gerber_layer.specs.Table.{Effect, stays, makes, begins_macro, fills_macro, performs, extends, closes, opens, leaves, steps, concludes, code_of}
 use Rattle.gerber_layer.specs.Settings.{keep_first, lengthened}
 
 -- where an effect leads
@@ -14,6 +14,8 @@ heads (extends to) = Some to
 heads (closes to figure) = Some to
 heads stays = None
 heads (makes n aperture) = None
+heads (begins_macro name) = None
+heads (fills_macro primitive) = None
 heads opens = None
 heads (leaves figure) = None
 heads (steps next pieces) = None
@@ -39,6 +41,8 @@ after s (refused why) to next = s
 after s (repeats text) to next = record s { block = next }
 after s (functions function layer) to next = s
 after s (defines text) to next = s
+after s (names_macro name) to next = s
+after s (body_word text) to next = s
 after s (breaks fault) to next = s
 after s finishes to next = s
 
@@ -53,3 +57,5 @@ contour_after stays contour from = contour
 contour_after (steps next pieces) contour from = contour
 contour_after (concludes pieces) contour from = contour
 contour_after (makes n aperture) contour from = contour
+contour_after (begins_macro name) contour from = contour
+contour_after (fills_macro primitive) contour from = contour

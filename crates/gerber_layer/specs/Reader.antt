@@ -1,13 +1,20 @@
 -- What the reader keeps, and how it goes on.
-use Rattle.std.specs.Prelude.{◌≡◌, ℕ, ◌+◌, ◌^◌, ◌<◌, ◌≤◌, ◌==◌, if◌then◌else◌, List, [], ◌++◌, length, nat_eq, Option, Some, None, Result, Ok, Err, IfSome}
-use Rattle.std.specs.HashMap.{get, hash_map_len}
+use Rattle.std.specs.Prelude.{◌≡◌, ℕ, ◌+◌, ◌^◌, ◌<◌, ◌≤◌, ◌==◌, if◌then◌else◌, List, [], ◌++◌, length, map, nat_eq, Option, Some, None, option_map, Result, Ok, Err, IfSome}
+use Rattle.std.specs.HashMap.{get, get_by, hash_map_len}
+use Rattle.texts.specs.Words.{is}
+use Rattle.lengths.specs.Decimal.{Fraction}
 use Rattle.planar.specs.declared.Spot.{Spot}
 use Rattle.planar.specs.Plane.{IsPlaced}
 use Rattle.board_shapes.specs.Figures.{Figure, figure_of}
-use Rattle.board_shapes.specs.Pieces.{plain_pieces}
+use Rattle.board_shapes.specs.Pieces.{PlainPiece, plain_pieces}
+use Rattle.board_shapes.specs.declared.placed.Origin.{Origin}
+use Rattle.aperture_macros.specs.declared.fault.FigureFault.{FigureFault}
+use Rattle.aperture_macros.specs.declared.fault.FigureFault.TheVariants as figure
 use Rattle.board_shapes.specs.declared.shape.Shape.{Shape}
 use Rattle.board_shapes.specs.declared.placed.Placed.{Placed}
-use Rattle.apertures.specs.declared.aperture.Aperture.{Aperture}
+use Rattle.aperture_macros.specs.BodyWord.{PlainPrimitive}
+use Rattle.aperture_macros.specs.Seen.{plain}
+use Rattle.aperture_macros.specs.declared.primitive.Primitive.{Primitive}
 use Rattle.apertures.specs.Flash.{IsLawful}
 use Rattle.apertures.specs.declared.fault.FlashFault.{FlashFault}
 use Rattle.apertures.specs.declared.fault.FlashFault.TheVariants as flash
@@ -26,28 +33,68 @@ use Rattle.file_reading.specs.declared.halt.Halt.TheVariants as halt
 use Rattle.gerber_layer.specs.declared.effect.Effect.{Effect as Seen}
 use Rattle.gerber_layer.specs.declared.effect.Effect.TheVariants as seen
 use Rattle.gerber_layer.specs.declared.dictionary.Dictionary.{Dictionary}
+use Rattle.gerber_layer.specs.declared.dictionary.Macro.{Macro as Begun}
+use Rattle.gerber_layer.specs.declared.tool.Tool.{Tool as Given}
+use Rattle.gerber_layer.specs.declared.tool.Tool.TheVariants as given
+use Rattle.gerber_layer.specs.Tools.{Macro, Macros, Tool, standard, composed, begun, filled_up, macro_named}
 use Rattle.gerber_layer.specs.declared.reader.Reader.{Reader}
-use Rattle.gerber_layer.specs.Table.{Place, Known, Effect, stays, makes, performs, extends, closes, opens, leaves, steps, concludes, effect, closing, edges_of, ended_block, extend, flash_by, room_for, ◌>>=◌}
+use Rattle.gerber_layer.specs.Table.{Place, Known, Effect, stays, makes, begins_macro, fills_macro, performs, extends, closes, opens, leaves, steps, concludes, effect, closing, Profile, edges_of, ended_block, extend, flash, listed, room_for, ◌>>=◌}
 use Rattle.gerber_layer.specs.After.{after, contour_after, heads, opened}
 use Rattle.gerber_layer.specs.Image.{made, pieces_after, start_after}
 use Rattle.gerber_layer.specs.Lawful.{AreLawfulSettings}
 use Rattle.gerber_layer.specs.Command.{Command}
 use Rattle.gerber_layer.specs.Settings.{settings_before}
 
--- the aperture that n is defined as, and how many are defined
-abbrev pub defined_in : Dictionary → ℕ → Option Aperture
-defined_in d n = get nat_eq d.apertures n
+-- an aperture without where its name lies in memory
+abbrev pub tool_of : Given → Tool
+tool_of (given.Standard aperture) = standard aperture
+tool_of (given.Composed name parameters unit) = composed name.now parameters.items unit
+
+-- the primitives of a body
+abbrev pub body_of : List Primitive → List PlainPrimitive
+body_of body = map plain body
+
+abbrev pub macro_of : Begun → Macro
+macro_of m = record { name = m.name.now; body = body_of m.body.items }
+
+-- the aperture that n is defined as, how many are defined, and the macros
+abbrev pub defined_in : Dictionary → ℕ → Option Tool
+defined_in d n = option_map tool_of (get nat_eq d.tools n)
 
 abbrev pub size_of : Dictionary → ℕ
-size_of d = hash_map_len d.apertures
+size_of d = hash_map_len d.tools
+
+abbrev pub macros_in : Dictionary → Macros
+macros_in d = record {
+  latest = option_map macro_of d.latest;
+  others = λ name. option_map (λ b. body_of b.items) (get_by (λ k. is name k.now) d.others);
+}
+
+abbrev pub IsLawfulTool : Tool → Type 0
+IsLawfulTool (standard aperture) = IsLawful aperture
+IsLawfulTool (composed name parameters unit) = Unit {0}
 
 abbrev pub AreLawful : Dictionary → Type 0
-AreLawful d = (n : ℕ) → IfSome (defined_in d n) IsLawful
+AreLawful d = (n : ℕ) → IfSome (defined_in d n) IsLawfulTool
 
 -- the new dictionary defines n besides
-pub record Adds (old new : Dictionary) (n : ℕ) (aperture : Aperture) : Type 0 where
-  pub defined : (m : ℕ) → defined_in new m ≡ (if n == m then Some aperture else defined_in old m)
+pub record Adds (old new : Dictionary) (n : ℕ) (tool : Tool) : Type 0 where
+  pub defined : (m : ℕ) → defined_in new m ≡ (if n == m then Some tool else defined_in old m)
   pub more : size_of new ≡ size_of old + 1
+  pub macros : macros_in new ≡ macros_in old
+
+-- the last macro of the old dictionary is among the others of the new one
+pub record HasClosed (old new : Dictionary) : Type 0 where
+  pub defined : (n : ℕ) → defined_in new n ≡ defined_in old n
+  pub size : size_of new ≡ size_of old
+  pub others : (name : List ℕ) → (macros_in new).others name ≡ macro_named (macros_in old) name
+
+-- the macros of the new dictionary are these, and its apertures are the old one's
+pub record HasMacros (old new : Dictionary) (macros : Macros) : Type 0 where
+  pub defined : (n : ℕ) → defined_in new n ≡ defined_in old n
+  pub size : size_of new ≡ size_of old
+  pub latest : (macros_in new).latest ≡ macros.latest
+  pub others : (name : List ℕ) → (macros_in new).others name ≡ macros.others name
 
 -- the spots of a contour that has an edge, or none
 abbrev pub contour_of : Option Contour → List Spot
@@ -62,6 +109,7 @@ known_of r = record {
   settings = r.settings;
   defined = defined_in r.dictionary;
   definitions = size_of r.dictionary;
+  macros = macros_in r.dictionary;
   contour = contour_of r.contour;
   pieces = plain_pieces r.pieces.items;
   start = r.start;
@@ -71,10 +119,12 @@ known_of r = record {
 -- what an effect comes to, by the conditions that are tried when it is carried out
 abbrev pub shown : Known → Seen → Result Effect GerberKind
 shown k seen.Stays = Ok stays
-shown k (seen.Makes n aperture) = Ok (makes n aperture)
-shown k (seen.Moves to) = Ok (performs to None)
-shown k (seen.Draws to shape) = room_for k (Some (figure_of shape)) >>= λ figure. Ok (performs to figure)
-shown k (seen.Flashes to aperture) = flash_by k aperture to
+shown k (seen.Makes n tool) = Ok (makes n (tool_of tool))
+shown k (seen.Begins name) = Ok (begins_macro name.now)
+shown k (seen.Fills primitive) = Ok (fills_macro (plain primitive))
+shown k (seen.Moves to) = Ok (performs to [])
+shown k (seen.Draws to shape) = room_for k (Some (figure_of shape)) >>= λ figure. Ok (performs to (listed figure))
+shown k (seen.Flashes to) = flash k to
 shown k (seen.Extends to) = extend k to
 shown k (seen.Closes to) = closing k >>= λ area. Ok (closes to area)
 shown k (seen.Repeats next) = ended_block k >>= λ pieces. Ok (steps next pieces)
@@ -89,11 +139,13 @@ showing k (Err fault) = Err fault
 abbrev pub leads : Seen → Option Spot
 leads (seen.Moves to) = Some to
 leads (seen.Draws to shape) = Some to
-leads (seen.Flashes to aperture) = Some to
+leads (seen.Flashes to) = Some to
 leads (seen.Extends to) = Some to
 leads (seen.Closes to) = Some to
 leads seen.Stays = None
-leads (seen.Makes n aperture) = None
+leads (seen.Makes n tool) = None
+leads (seen.Begins name) = None
+leads (seen.Fills primitive) = None
 leads (seen.Repeats next) = None
 leads seen.Ends = None
 leads seen.Opens = None
@@ -105,7 +157,9 @@ opens_block other = None
 
 -- the dictionary after an effect
 abbrev pub Turns : Dictionary → Effect → Dictionary → Type 0
-Turns old (makes n aperture) new = Adds old new n aperture
+Turns old (makes n tool) new = Adds old new n tool
+Turns old (begins_macro name) new = HasMacros old new (begun (macros_in old) name)
+Turns old (fills_macro p) new = HasMacros old new (filled_up (macros_in old) p)
 Turns old stays new = new ≡ old
 Turns old (performs to figure) new = new ≡ old
 Turns old (extends to) new = new ≡ old
@@ -115,10 +169,10 @@ Turns old (concludes pieces) new = new ≡ old
 Turns old opens new = new ≡ old
 Turns old (leaves figure) new = new ≡ old
 
--- The reader has obeyed a command that has no fault.
-pub record Obeys (old : Reader) (c : Command) (new : Reader) : Type 0 where
+-- The reader has obeyed a command that comes to this, which is no fault.
+pub record Obeys {W : Type 0} (old : Reader) (c : Command) (what : Result Effect W) (new : Reader) : Type 0 where
   pub effect_is : Effect
-  pub clean : effect (known_of old) c ≡ Ok effect_is
+  pub clean : what ≡ Ok effect_is
   pub settings : new.settings ≡ after old.settings c (heads effect_is) (opened effect_is)
   pub dictionary : Turns old.dictionary effect_is new.dictionary
   pub contour : contour_of new.contour ≡ contour_after effect_is (contour_of old.contour) old.settings.at
@@ -142,10 +196,12 @@ pub record IsLawfulReader (r : Reader) : Type 0 where
 
 -- an effect that the reader can carry out
 abbrev pub IsFit : Dictionary → Seen → Type 0
-IsFit d (seen.Makes n aperture) = IsLawful aperture × (defined_in d n ≡ None)
+IsFit d (seen.Makes n tool) = IsLawfulTool (tool_of tool) × (defined_in d n ≡ None)
+IsFit d (seen.Begins name) = Unit {0}
+IsFit d (seen.Fills primitive) = Unit {0}
 IsFit d (seen.Moves to) = IsPlaced to
 IsFit d (seen.Draws to shape) = IsPlaced to
-IsFit d (seen.Flashes to aperture) = IsPlaced to × IsLawful aperture
+IsFit d (seen.Flashes to) = IsPlaced to
 IsFit d (seen.Extends to) = IsPlaced to
 IsFit d (seen.Closes to) = IsPlaced to
 IsFit d (seen.Repeats next) = IfSome next IsLawfulRepeat
@@ -181,7 +237,7 @@ halt_of_copy copy.OutOfRange = halt.Fault kind.OutOfRange
 halt_of_copy copy.NoMemory = halt.NoMemory
 
 -- What stops the reader is that fault, or want of memory.
-abbrev pub Stops : {A : Type 0} → Result A GerberKind → Halt GerberKind → Type 0
+abbrev pub Stops : {A W : Type 0} → Result A W → Halt W → Type 0
 Stops what (halt.Fault fault) = what ≡ Err fault
 Stops what halt.NoMemory = Unit {0}
 
@@ -190,10 +246,40 @@ pub record Places (old : Reader) (figure : Option Figure) (new : Reader) : Type 
   pub settings : new.settings ≡ old.settings
   pub dictionary : new.dictionary ≡ old.dictionary
   pub contour : new.contour ≡ old.contour
-  pub pieces : plain_pieces new.pieces.items ≡ plain_pieces old.pieces.items ++ made (place_of old) (old.commands + 1) figure
+  pub pieces : plain_pieces new.pieces.items ≡ plain_pieces old.pieces.items ++ made (place_of old) (old.commands + 1) (listed figure)
   pub start : new.start ≡ old.start
   pub counts : new.commands ≡ old.commands
   pub place : place_of new ≡ place_of old
+
+-- The reader has these pieces more.
+pub record TakesOn (old : Reader) (more : List PlainPiece) (new : Reader) : Type 0 where
+  pub settings : new.settings ≡ old.settings
+  pub dictionary : new.dictionary ≡ old.dictionary
+  pub contour : new.contour ≡ old.contour
+  pub pieces : plain_pieces new.pieces.items ≡ plain_pieces old.pieces.items ++ more
+  pub start : new.start ≡ old.start
+  pub counts : new.commands ≡ old.commands
+  pub place : place_of new ≡ place_of old
+
+-- pieces are what the command of this number makes of the figures of a flash
+pub record FlashesAll (what : Result (List Figure) GerberKind) (p : Place) (number : ℕ) (pieces : List (Placed Shape)) : Type 0 where
+  pub figures : List Figure
+  pub is : what ≡ Ok figures
+  pub are : plain_pieces pieces ≡ made p number figures
+
+-- the layer and the file of an origin, with no room
+abbrev pub origin_place : ℕ → Origin → Place
+origin_place layer origin = record { layer = layer; file = origin.file; room = record { pieces = 0; edges = 0 } }
+
+-- what stops the reader where a primitive has no figure
+abbrev pub halt_of_figure : FigureFault → Halt GerberKind
+halt_of_figure (figure.Macro fault) = halt.Fault kind.OutOfRange
+halt_of_figure figure.NoMemory = halt.NoMemory
+
+-- what stops the reader is that there is no room, or want of memory
+abbrev pub Lacks : Option GerberKind → Halt GerberKind → Type 0
+Lacks what (halt.Fault fault) = what ≡ Some fault
+Lacks what halt.NoMemory = Unit {0}
 
 -- The reader has closed its contour, and has its area as a piece more, if it had an edge.
 pub record Closes (old new : Reader) : Type 0 where
@@ -202,7 +288,7 @@ pub record Closes (old new : Reader) : Type 0 where
   pub settings : new.settings ≡ old.settings
   pub dictionary : new.dictionary ≡ old.dictionary
   pub contour : contour_of new.contour ≡ []
-  pub pieces : plain_pieces new.pieces.items ≡ plain_pieces old.pieces.items ++ made (place_of old) (old.commands + 1) area
+  pub pieces : plain_pieces new.pieces.items ≡ plain_pieces old.pieces.items ++ made (place_of old) (old.commands + 1) (listed area)
   pub start : new.start ≡ old.start
   pub counts : new.commands ≡ old.commands
   pub place : place_of new ≡ place_of old
@@ -222,6 +308,8 @@ pub record IsNew (p : Place) (r : Reader) : Type 0 where
   pub settings : r.settings ≡ settings_before []
   pub defined : (n : ℕ) → defined_in r.dictionary n ≡ None
   pub size : size_of r.dictionary ≡ 0
+  pub latest : (macros_in r.dictionary).latest ≡ None
+  pub others : (name : List ℕ) → (macros_in r.dictionary).others name ≡ None
   pub contour : contour_of r.contour ≡ []
   pub pieces : r.pieces.items ≡ []
   pub start : r.start ≡ 0
@@ -233,9 +321,9 @@ fault_at (halt.Fault kind) number at = layer.Refused kind number at
 fault_at halt.NoMemory number at = layer.NoMemory
 
 -- The reader obeys a last command, and these pieces are left.
-pub record Leaves (r : Reader) (c : Command) (pieces : List (Placed Shape)) : Type 0 where
+pub record Leaves {W : Type 0} (f : Profile W) (r : Reader) (c : Command) (pieces : List (Placed Shape)) : Type 0 where
   pub last : Reader
-  pub obeys : Obeys r c last
+  pub obeys : Obeys r c (f (known_of r) c) last
   pub are : pieces ≡ last.pieces.items
 
 -- the fault of a command that stands at a place

@@ -2,16 +2,16 @@
 use Rattle.std.specs.Prelude.{ℕ, ◌+◌, Bool, true, false, ◌||◌, ◌==◌, if◌then◌else◌, List, [], ◌∷◌, ◌++◌, ℤ, pos, Option, Some, None, Result, Ok, Err}
 use Rattle.lengths.specs.declared.decimal.Unit.{Unit as Measure}
 use Rattle.planar.specs.declared.Spot.{Spot}
-use Rattle.apertures.specs.declared.aperture.Aperture.{Aperture}
-use Rattle.apertures.specs.declared.fault.ApertureFault.{ApertureFault}
-use Rattle.apertures.specs.Reading.{aperture_at}
+use Rattle.aperture_macros.specs.BodyWord.{PlainPrimitive, primitive_at}
+use Rattle.aperture_macros.specs.declared.fault.MacroFault.{MacroFault}
 use Rattle.step_repeat.specs.declared.repeat.Repeat.{Repeat}
-use Rattle.gerber_layer.specs.Command.{Command, formats, counts_in, defines, selects, repeats, opens_region, closes_region, operates, ends}
+use Rattle.gerber_layer.specs.Command.{Command, formats, counts_in, defines, selects, repeats, opens_region, closes_region, operates, ends, names_macro, body_word}
 use Rattle.gerber_layer.specs.declared.kind.GerberKind.{GerberKind}
 use Rattle.gerber_layer.specs.declared.command.Code.{Code}
 use Rattle.gerber_layer.specs.declared.command.Code.TheVariants.{Draw, Move, Flash}
 use Rattle.gerber_layer.specs.declared.command.Format.{Format}
 use Rattle.gerber_layer.specs.declared.settings.Settings.{Settings}
+use Rattle.gerber_layer.specs.Tools.{Macro, Macros, Tool, begun, filled_up, tool_in}
 use Rattle.gerber_layer.specs.Table.{code_of, coordinate, next_block}
 
 -- what was set first, if anything was, and otherwise what a command sets
@@ -173,16 +173,31 @@ contour_before [] = []
 contour_before (c ∷ earlier) = contour_by c (region_open earlier) (contour_before earlier) (point_before earlier) (point_before (c ∷ earlier))
 
 -- what a definition defines n as
-abbrev pub as_number : ℕ → Result (ℕ × Aperture) ApertureFault → Option Aperture
-as_number n (Ok made) = if made.0 == n then Some made.1 else None
-as_number n (Err fault) = None
+abbrev pub as_number : ℕ → Option (ℕ × Tool) → Option Tool
+as_number n (Some made) = if made.0 == n then Some made.1 else None
+as_number n None = None
 
-abbrev pub definition_in : Command → Option Measure → ℕ → Option Aperture
-definition_in (defines text) (Some unit) n = as_number n (aperture_at text unit)
+abbrev pub definition_in : Command → Option Measure → ℕ → Option Tool
+definition_in (defines text) (Some unit) n = as_number n (tool_in text unit)
 definition_in (defines text) None n = None
 definition_in other unit n = None
 
 -- the aperture that n is defined as
-abbrev pub defined_before : List Command → ℕ → Option Aperture
+abbrev pub defined_before : List Command → ℕ → Option Tool
 defined_before [] n = None
 defined_before (c ∷ earlier) n = or_else (definition_in c (unit_before earlier) n) (defined_before earlier n)
+
+-- the macros: `AM` begins one, and the words of its body give it primitives
+abbrev pub with_body : Macros → Result (Option PlainPrimitive) MacroFault → Macros
+with_body m (Ok (Some p)) = filled_up m p
+with_body m (Ok None) = m
+with_body m (Err fault) = m
+
+abbrev pub macros_by : Command → Macros → Macros
+macros_by (names_macro name) m = begun m name
+macros_by (body_word text) m = with_body m (primitive_at text)
+macros_by other m = m
+
+abbrev pub macros_before : List Command → Macros
+macros_before [] = record { latest = None; others = λ name. None }
+macros_before (c ∷ earlier) = macros_by c (macros_before earlier)

@@ -5,6 +5,7 @@ ghost use Rattle.gerber_layer.specs.Command.{view};
 ghost use Rattle.gerber_layer.specs.Lawful.{IsLawfulCommand};
 ghost use Rattle.gerber_layer.specs.Layer.{IsFault, IsRead};
 ghost use Rattle.gerber_layer.specs.Reader.{Faults, IsLawfulReader, Leaves, fault_at};
+ghost use Rattle.gerber_layer.specs.Table.{effect};
 
 use crate::command::Command;
 use crate::kind::{GerberKind, LayerFault};
@@ -26,18 +27,18 @@ fn fault_at(halt: Halt<GerberKind>, command: u32, at: usize) -> LayerFault
 }
 
 // Obeys the last command, and gives the pieces.
-fn finished(
+fn finished<'a>(
     alloc: Global,
-    mut reader: Reader,
-    command: Command,
+    mut reader: Reader<'a>,
+    command: Command<'a>,
     at: usize,
 ) -> Result<Vec<Piece>, LayerFault>
     requires lawful { IsLawfulReader reader }
     requires command { IsLawfulCommand (view command) }
     requires few { reader.commands + 1 < 2 ^ 32 }
-    ensures ok { IfOk result (λ pieces. Leaves reader (view command.entry) pieces.items) }
-    ensures few { IfOk result (λ pieces. length pieces.items ≤ reader.room.pieces) }
-    ensures fault { IfErr result (Faults reader (view command.entry) at) }
+    ensures ok { IfOk result (λ pieces. Leaves effect reader.entry (view command.entry) pieces.items) }
+    ensures few { IfOk result (λ pieces. length pieces.items ≤ reader.entry.room.pieces) }
+    ensures fault { IfErr result (Faults reader.entry (view command.entry) at) }
 {
     let number = reader.commands + 1;
     match reader.obey(alloc, &command) {

@@ -4,14 +4,13 @@ use Rattle.std.proofs.Math.Seq.{take-append-add}
 use Rattle.std.specs.Prelude.{option_map}
 use Rattle.std.specs.List.{list_all, AllByRecursion}
 use Rattle.std.proofs.lemmas.Grind.{common_steps}
-use Rattle.gerber_words.specs.Words.{Part, blank, percent, word, is_blank, is_plain, begins, break_in, Stop, ended, broken, stop_at, end_stop, after, IsCut, Entry, HasWords, entries, is_open, is_opened, start}
-use Rattle.gerber_words.specs.Stepping.{turned, with_word}
+use Rattle.gerber_words.specs.Words.{Part, blank, percent, word, is_blank, is_plain, begins, break_in, Stop, ended, broken, stop_at, end_stop, after, IsCut, Entry, HasWords, entries, in_body, is_open, is_opened, start, turned, with_word}
 use Rattle.gerber_words.specs.Laws.{HasFirstWords, IsCutShort, star_of}
 use Rattle.gerber_words.specs.declared.pair.Pair.{Pair}
-use Rattle.gerber_words.specs.declared.pair.Pair.TheVariants.{Outside, Opened, Filled}
+use Rattle.gerber_words.specs.declared.pair.Pair.TheVariants.{Outside, Opened, Filled, Macro}
 use Rattle.gerber_words.specs.declared.fault.WordFault.{WordFault}
 use Rattle.gerber_words.specs.declared.fault.WordFault.TheVariants.{LineBreakInWord, NotEnded, PercentAmiss}
-use Rattle.gerber_words.proofs.Cuts.{before, cut-first, open-turned, open-with_word, words-blank, words-nil, words-percent, words-word, wordy}
+use Rattle.gerber_words.proofs.Cuts.{before, cut-first, words-blank, words-nil, words-percent, words-word, wordy}
 use Rattle.gerber_words.proofs.OneCut.{both}
 use Rattle.gerber_words.proofs.Slices.{led, turned_is, moved}
 
@@ -42,13 +41,14 @@ short : (pair : Pair) (at : ℕ) → IsCutShort (end_stop pair at)
 short Outside at = tt
 short Opened at = tt
 short Filled at = tt
+short Macro at = tt
 
 -- words behind a place have their stars behind it
-all_late : (m : ℕ) (odd : Bool) (at : ℕ) (parts : List Part) → m ≤ at → AllByRecursion (λ w. m ≤ star_of w) (entries odd at parts)
-all_late m odd at [] h = tt
-all_late m odd at (blank b ∷ parts) h = all_late m odd (at + 1) parts (omega arith)
-all_late m odd at (percent ∷ parts) h = all_late m (not odd) (at + 1) parts (omega arith)
-all_late m odd at (word text ∷ parts) h = (omega arith, all_late m odd (at + length text + 1) parts (omega arith))
+all_late : (m : ℕ) (pair : Pair) (at : ℕ) (parts : List Part) → m ≤ at → AllByRecursion (λ w. m ≤ star_of w) (entries pair at parts)
+all_late m pair at [] h = tt
+all_late m pair at (blank b ∷ parts) h = all_late m pair (at + 1) parts (omega arith)
+all_late m pair at (percent ∷ parts) h = all_late m (turned pair) (at + 1) parts (omega arith)
+all_late m pair at (word text ∷ parts) h = (omega arith, all_late m (with_word pair text) (at + length text + 1) parts (omega arith))
 
 -- what ends in a word is not ended
 plain_on : (b : ℕ) (bytes : List ℕ) → is_plain b ≡ true → break_in bytes ≡ Some NotEnded → break_in (b ∷ bytes) ≡ Some NotEnded
@@ -126,6 +126,7 @@ not_opened : (pair next : Pair) → after pair percent ≡ Some next → is_open
 not_opened Outside next h = refl
 not_opened Opened next h = cc
 not_opened Filled next h = refl
+not_opened Macro next h = refl
 
 order : (m n : ℕ) → (m ≤ n) ⊎ (n < m)
 order zero n = inl (omega arith)
@@ -144,8 +145,8 @@ past_text n text behind h =
 in_text : (n : ℕ) (text behind : List ℕ) → n ≤ length text → take n ((text ++ 42 ∷ []) ++ behind) ≡ take n text
 in_text n text behind h = grind (arith, common_steps, length-append)
 
-first_words : (pair : Pair) (at n : ℕ) (bytes : List ℕ) (parts : List Part) → IsCut (before pair at bytes) parts ended → First pair at n bytes (entries (is_open pair) at parts)
-first_words pair at zero bytes parts c = none_held pair at zero bytes _ (end_stop pair at) refl (short pair at) (all_late (at + 0) (is_open pair) at parts (omega arith))
+first_words : (pair : Pair) (at n : ℕ) (bytes : List ℕ) (parts : List Part) → IsCut (before pair at bytes) parts ended → First pair at n bytes (entries pair at parts)
+first_words pair at zero bytes parts c = none_held pair at zero bytes _ (end_stop pair at) refl (short pair at) (all_late (at + 0) pair at parts (omega arith))
 first_words pair at (suc n) bytes [] c =
     let e : bytes ≡ [] = c.whole ∙ nothing_behind c.last _ c.rest c.stops in
     subst (λ xs. First pair at (suc n) xs []) (sym e) (none_held pair at (suc n) [] [] (end_stop pair at) refl (short pair at) tt)
@@ -153,25 +154,25 @@ first_words pair at (suc n) bytes (blank b ∷ parts) c =
     let f = cut-first pair at bytes (blank b) parts ended c in
     let cut = moved pair f.next (at + 1) (at + 1) f.behind parts ended (led pair (blank b) pair f.next refl f.leads) refl f.cut in
     let r = first_words pair (at + 1) n f.behind parts cut in
-    subst (λ xs. First pair at (suc n) xs (entries (is_open pair) (at + 1) parts)) (sym f.split) (further pair pair at (at + 1) n (suc n) f.behind (b ∷ f.behind) _ (omega arith) (λ ws stop h. words-blank pair at b (take n f.behind) ws stop f.is h) r)
+    subst (λ xs. First pair at (suc n) xs (entries pair (at + 1) parts)) (sym f.split) (further pair pair at (at + 1) n (suc n) f.behind (b ∷ f.behind) _ (omega arith) (λ ws stop h. words-blank pair at b (take n f.behind) ws stop f.is h) r)
 first_words pair at (suc n) bytes (percent ∷ parts) c =
     let f = cut-first pair at bytes percent parts ended c in
     let cut = moved (turned pair) f.next (at + 1) (at + 1) f.behind parts ended (turned_is pair f.next f.leads) refl f.cut in
-    let r = subst (λ odd. First (turned pair) (at + 1) n f.behind (entries odd (at + 1) parts)) (open-turned pair) (first_words (turned pair) (at + 1) n f.behind parts cut) in
-    subst (λ xs. First pair at (suc n) xs (entries (not (is_open pair)) (at + 1) parts)) (sym f.split) (further pair (turned pair) at (at + 1) n (suc n) f.behind (37 ∷ f.behind) _ (omega arith) (λ ws stop h. words-percent pair at 37 (take n f.behind) ws stop refl (not_opened pair f.next f.leads) h) r)
+    let r = first_words (turned pair) (at + 1) n f.behind parts cut in
+    subst (λ xs. First pair at (suc n) xs (entries (turned pair) (at + 1) parts)) (sym f.split) (further pair (turned pair) at (at + 1) n (suc n) f.behind (37 ∷ f.behind) _ (omega arith) (λ ws stop h. words-percent pair at 37 (take n f.behind) ws stop refl (not_opened pair f.next f.leads) h) r)
 first_words pair at (suc n) bytes (word text ∷ parts) c = elim (order (length text + 1) (suc n)) [
   | inl past ↦ (
       let f = cut-first pair at bytes (word text) parts ended c in
       let size : at + length (text ++ 42 ∷ []) ≡ at + length text + 1 = omega (arith, length-append text (42 ∷ [])) in
-      let cut = moved (with_word pair) f.next (at + length (text ++ 42 ∷ [])) (at + length text + 1) f.behind parts ended (led pair (word text) (with_word pair) f.next (wordy pair text) f.leads) size f.cut in
+      let cut = moved (with_word pair text) f.next (at + length (text ++ 42 ∷ [])) (at + length text + 1) f.behind parts ended (led pair (word text) (with_word pair text) f.next (wordy pair text) f.leads) size f.cut in
       let m : ℕ = suc n - (length text + 1) in
-      let r = subst (λ odd. First (with_word pair) (at + length text + 1) m f.behind (entries odd (at + length text + 1) parts)) (open-with_word pair) (first_words (with_word pair) (at + length text + 1) m f.behind parts cut) in
-      subst (λ xs. First pair at (suc n) xs (entries (is_open pair) at (word text ∷ parts))) (sym f.split) (with_one pair (with_word pair) at (at + length text + 1) m (suc n) f.behind ((text ++ 42 ∷ []) ++ f.behind) _ (record { at = at; text = text; extended = is_open pair }) (omega arith) (omega arith) (λ ws stop h. subst (λ xs. HasWords (before pair at xs) (record { at = at; text = text; extended = is_open pair } ∷ ws) stop) (sym (past_text (suc n) text f.behind past)) (words-word pair at text (take m f.behind) ws stop f.is.0 f.is.1 h)) r)
+      let r = first_words (with_word pair text) (at + length text + 1) m f.behind parts cut in
+      subst (λ xs. First pair at (suc n) xs (entries pair at (word text ∷ parts))) (sym f.split) (with_one pair (with_word pair text) at (at + length text + 1) m (suc n) f.behind ((text ++ 42 ∷ []) ++ f.behind) _ (record { at = at; text = text; extended = is_open pair; body = in_body pair }) (omega arith) (omega arith) (λ ws stop h. subst (λ xs. HasWords (before pair at xs) (record { at = at; text = text; extended = is_open pair; body = in_body pair } ∷ ws) stop) (sym (past_text (suc n) text f.behind past)) (words-word pair at text (take m f.behind) ws stop f.is.0 f.is.1 h)) r)
       )
   | inr within ↦ (
       let f = cut-first pair at bytes (word text) parts ended c in
       let stop = cut_in_word pair at (suc n) text f.is.0 f.is.1 (omega arith) (omega arith) in
-      subst (λ xs. First pair at (suc n) xs (entries (is_open pair) at (word text ∷ parts))) (sym f.split) (none_held pair at (suc n) ((text ++ 42 ∷ []) ++ f.behind) _ (broken NotEnded at) (rw (in_text (suc n) text f.behind (omega arith)) stop) tt (omega arith, all_late (at + suc n) (is_open pair) (at + length text + 1) parts (omega arith)))
+      subst (λ xs. First pair at (suc n) xs (entries pair at (word text ∷ parts))) (sym f.split) (none_held pair at (suc n) ((text ++ 42 ∷ []) ++ f.behind) _ (broken NotEnded at) (rw (in_text (suc n) text f.behind (omega arith)) stop) tt (omega arith, all_late (at + suc n) (with_word pair text) (at + length text + 1) parts (omega arith)))
       )
 ]
 

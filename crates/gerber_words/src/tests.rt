@@ -6,7 +6,7 @@ use std::str;
 use std::test::Fail;
 
 /// Files, each with its words and its stop.
-const FILES: [(&str, &str); 61] = [
+const FILES: [(&str, &str); 63] = [
     ("", "End"),
     (" ", "End"),
     ("\t", "End"),
@@ -41,6 +41,11 @@ const FILES: [(&str, &str); 61] = [
     ("a*%b\n*%", "0:a\nLineBreakInWord 3"),
     ("a*\n%*\n", "0:a\n4%\nNotEnded 6"),
     ("M02*\r\n\t M02*", "0:M02\n8:M02\nEnd"),
+    (
+        "%AMA*b*c*%%d*e*%AMf*g*",
+        "1%AMA\n5#b\n7#c\n11%d\n13%e\n16:AMf\n20:g\nEnd",
+    ),
+    ("%a*AM*AM*b*%", "1%a\n3%AM\n6#AM\n9#b\nEnd"),
     // Discs that touch
     (
         "%FSLAX46Y46*%\n%MOMM*%\n%ADD10C,1.0*%\nD10*\nX0Y0D03*\nX1000000Y0D03*\nM02*\n",
@@ -178,15 +183,13 @@ const FILES: [(&str, &str); 61] = [
     ),
 ];
 
-/// Each word on a line: its place, `%` where it is extended and `:` where it is not, its text.
-/// Then the stop.
+/// Each word on a line: its place, its mark, its text. Then the stop.
 fn reading(alloc: Global, file: &[u8]) -> Result<String, AllocError> {
     let mut lines = String::new(alloc);
     let mut words = Words::new(file);
     for _ in file {
         if let Step::Word(word) = words.next_word() {
-            let mark = if word.extended { '%' } else { ':' };
-            writeln!(lines, "{}{mark}{}", word.at, shown(word.text))?;
+            writeln!(lines, "{}{}{}", word.at, mark(&word), shown(word.text))?;
         }
     }
     match words.next_word() {
@@ -195,6 +198,17 @@ fn reading(alloc: Global, file: &[u8]) -> Result<String, AllocError> {
         Step::Broken(fault, at) => write!(lines, "{fault:?} {at}")?,
     }
     Ok(lines)
+}
+
+/// `#` for a word of a macro's body, `%` for another extended word, `:` for a plain one.
+fn mark(word: &Word) -> char {
+    if word.body {
+        '#'
+    } else if word.extended {
+        '%'
+    } else {
+        ':'
+    }
 }
 
 fn shown(text: &[u8]) -> &str {
@@ -257,6 +271,7 @@ fn attributes_have_fields(rt: HostRuntime) -> Result<(), Fail> {
             at: 0,
             text: text.as_bytes(),
             extended,
+            body: false,
         };
         let read = fields(rt.alloc(), &word)?;
         assert_eq!(rt; read.as_str(), expected, "{text:?}");

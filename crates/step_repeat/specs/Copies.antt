@@ -2,6 +2,7 @@
 use Rattle.std.specs.Prelude.{◌≡◌, ℕ, ◌+◌, ◌*◌, Bool, true, false, ◌&&◌, nat_le, nat_lt, if◌then◌else◌, List, ◌++◌, length, map, sum_by, ℤ, pos, ◌*ℤ◌, unsigned_abs, Option, Some, None, Result, Ok, Err}
 use Rattle.std.specs.List.{flat_map, list_all, range_with_len}
 use Rattle.planar.specs.declared.Spot.{Spot}
+use Rattle.planar.specs.declared.TheConstants.{METRE}
 use Rattle.board_shapes.specs.declared.placed.Room.{Room}
 use Rattle.board_shapes.specs.Figures.{figure_edges}
 use Rattle.board_shapes.specs.Moved.{corners, moved_piece}
@@ -28,7 +29,7 @@ copies_of r block = flat_map (column_of r block) (range_with_len 0 r.across)
 
 -- the spot is at most 1 m from 0 in x and y
 abbrev pub is_placed : Spot → Bool
-is_placed p = nat_le (unsigned_abs p.x) 10000000000 && nat_le (unsigned_abs p.y) 10000000000
+is_placed p = nat_le (unsigned_abs p.x) METRE && nat_le (unsigned_abs p.y) METRE
 
 -- each end or corner of the piece is
 abbrev pub is_placed_piece : PlainPiece → Bool

@@ -9,6 +9,7 @@ ghost use Rattle.step_repeat.specs.Repeats.{IsLawful};
 use crate::fault::CopyFault;
 use crate::repeat::Repeat;
 use board_shapes::{MoveFault, Piece, Room};
+use planar::TWO_METRES;
 use std::alloc::Global;
 
 /// How far a copy stands from the block, in u.
@@ -169,7 +170,7 @@ fn way(n: u32, step: i64) -> Option<i64>
     ensures { SomeIff result (IsShift (pos n *ℤ step)) (pos n *ℤ step) }
 {
     let far = i64::from(n).checked_mul(step)?;
-    if far.unsigned_abs() <= 20_000_000_000 {
+    if far.unsigned_abs() <= TWO_METRES {
         Some(far)
     } else {
         None

@@ -1,0 +1,4 @@
+pub mod Numbers
+pub mod Steps
+pub mod Closings
+pub mod Turns

@@ -1,0 +1,101 @@
+-- The turns of loops, over plain variables.
+use Rattle.std.proofs.Common.{◌≡◌, ℕ, ◌-◌, ◌<◌, suc, zero, Bool, true, false, ◌&&◌, ◌||◌, List, [], ◌∷◌, ◌++◌, refl, Result, Ok, Err, ℤ, ◌+ℤ◌, cond, ◌∙◌, arith, take, drop}
+use Rattle.std.specs.List.{after_first, before_first}
+use Rattle.aperture_macros.specs.Expression.{further_terms, first_term, is_empty, is_expression, is_sum, is_term}
+use Rattle.planar.specs.declared.Spot.{Spot}
+use Rattle.lengths.specs.Decimal.{Fraction}
+use Rattle.lengths.specs.declared.decimal.Unit.{Unit as Measure}
+use Rattle.aperture_macros.specs.declared.fault.MacroFault.{MacroFault}
+use Rattle.aperture_macros.specs.declared.fault.MacroFault.TheVariants.{BadMacro}
+use Rattle.aperture_macros.specs.BodyWord.{are_expressions, is_comma, past}
+use Rattle.aperture_macros.specs.Values.{point_at, sum_from, term_at}
+use Rattle.aperture_macros.specs.Outlines.{last_from, moved_from}
+
+pub past_more : (n : ℕ) (text : List ℕ) → 0 < n → past n text ≡ past (n - 1) (after_first is_comma text)
+unfolding past
+past_more zero text some = absurd (omega (arith, some))
+past_more (suc n) text some = let e : suc n - 1 ≡ n = omega arith in rw e refl
+
+pub past_none : (text : List ℕ) → past 0 text ≡ text
+unfolding past
+past_none text = refl
+
+pub sum_more : (n : ℕ) (text : List ℕ) → 0 < n → is_empty text ≡ false → is_term (first_term text) ≡ true → is_sum n text ≡ is_sum (n - 1) (further_terms text)
+unfolding is_sum
+sum_more zero text some full term = absurd (omega (arith, some))
+sum_more (suc n) text some full term = let e : suc n - 1 ≡ n = omega arith in rw (full, term, e) refl
+
+pub sum_bad : (n : ℕ) (text : List ℕ) → 0 < n → is_empty text ≡ false → is_term (first_term text) ≡ false → is_sum n text ≡ false
+unfolding is_sum
+sum_bad zero text some full term = absurd (omega (arith, some))
+sum_bad (suc n) text some full term = rw (full, term) refl
+
+pub sum_end : (n : ℕ) (text : List ℕ) → is_empty text ≡ true → is_sum n text ≡ true
+unfolding is_sum
+sum_end zero text none = none
+sum_end (suc n) text none = rw none refl
+
+pub sum_none : (text : List ℕ) → is_sum 0 text ≡ is_empty text
+unfolding is_sum
+sum_none text = refl
+
+pub expressions_more : (n : ℕ) (text : List ℕ) → 0 < n → is_expression (before_first is_comma text) ≡ true → are_expressions n text ≡ are_expressions (n - 1) (after_first is_comma text)
+unfolding are_expressions
+expressions_more zero text some this = absurd (omega (arith, some))
+expressions_more (suc n) text some this = let e : suc n - 1 ≡ n = omega arith in rw (this, e) refl
+
+pub expressions_bad : (n : ℕ) (text : List ℕ) → 0 < n → is_expression (before_first is_comma text) ≡ false → are_expressions n text ≡ false
+unfolding are_expressions
+expressions_bad zero text some this = absurd (omega (arith, some))
+expressions_bad (suc n) text some this = rw this refl
+
+pub expressions_none : (text : List ℕ) → are_expressions 0 text ≡ true
+unfolding are_expressions
+expressions_none text = refl
+
+pub value_more : (n : ℕ) (sum u : ℤ) (text : List ℕ) (given : List Fraction) (unit : Measure) → 0 < n → is_empty text ≡ false → term_at (first_term text) given unit ≡ Ok u → sum_from n sum text given unit ≡ sum_from (n - 1) (sum +ℤ u) (further_terms text) given unit
+unfolding sum_from
+value_more zero sum u text given unit some full term = absurd (omega (arith, some))
+value_more (suc n) sum u text given unit some full term = let e : suc n - 1 ≡ n = omega arith in rw (full, term, e) refl
+
+pub value_bad : (n : ℕ) (sum : ℤ) (fault : MacroFault) (text : List ℕ) (given : List Fraction) (unit : Measure) → 0 < n → is_empty text ≡ false → term_at (first_term text) given unit ≡ Err fault → sum_from n sum text given unit ≡ Err fault
+unfolding sum_from
+value_bad zero sum fault text given unit some full term = absurd (omega (arith, some))
+value_bad (suc n) sum fault text given unit some full term = rw (full, term) refl
+
+pub value_end : (n : ℕ) (sum : ℤ) (text : List ℕ) (given : List Fraction) (unit : Measure) → is_empty text ≡ true → sum_from n sum text given unit ≡ Ok sum
+unfolding sum_from
+value_end zero sum text given unit none = rw none refl
+value_end (suc n) sum text given unit none = rw none refl
+
+pub value_over : (sum : ℤ) (text : List ℕ) (given : List Fraction) (unit : Measure) → is_empty text ≡ false → sum_from 0 sum text given unit ≡ Err BadMacro
+unfolding sum_from
+value_over sum text given unit full = rw full refl
+
+pub last_more : (n : ℕ) (last p : Spot) (text : List ℕ) (given : List Fraction) (unit : Measure) → 0 < n → point_at text given unit ≡ Ok p → last_from last n text given unit ≡ last_from p (n - 1) (past 2 text) given unit
+unfolding last_from
+last_more zero last p text given unit some this = absurd (omega (arith, some))
+last_more (suc n) last p text given unit some this = let e : suc n - 1 ≡ n = omega arith in rw (this, e) refl
+
+pub last_bad : (n : ℕ) (last : Spot) (fault : MacroFault) (text : List ℕ) (given : List Fraction) (unit : Measure) → 0 < n → point_at text given unit ≡ Err fault → last_from last n text given unit ≡ Err fault
+unfolding last_from
+last_bad zero last fault text given unit some this = absurd (omega (arith, some))
+last_bad (suc n) last fault text given unit some this = rw this refl
+
+pub last_none : (last : Spot) (text : List ℕ) (given : List Fraction) (unit : Measure) → last_from last 0 text given unit ≡ Ok last
+unfolding last_from
+last_none last text given unit = refl
+
+pub moved_more : (f : Spot → Spot) (moved : List Spot) (n : ℕ) (p : Spot) (text : List ℕ) (given : List Fraction) (unit : Measure) → 0 < n → point_at text given unit ≡ Ok p → moved_from f moved n text given unit ≡ moved_from f (moved ++ f p ∷ []) (n - 1) (past 2 text) given unit
+unfolding moved_from
+moved_more f moved zero p text given unit some this = absurd (omega (arith, some))
+moved_more f moved (suc n) p text given unit some this = let e : suc n - 1 ≡ n = omega arith in rw (this, e) refl
+
+pub moved_bad : (f : Spot → Spot) (moved : List Spot) (n : ℕ) (fault : MacroFault) (text : List ℕ) (given : List Fraction) (unit : Measure) → 0 < n → point_at text given unit ≡ Err fault → moved_from f moved n text given unit ≡ Err fault
+unfolding moved_from
+moved_bad f moved zero fault text given unit some this = absurd (omega (arith, some))
+moved_bad f moved (suc n) fault text given unit some this = rw this refl
+
+pub moved_none : (f : Spot → Spot) (moved : List Spot) (text : List ℕ) (given : List Fraction) (unit : Measure) → moved_from f moved 0 text given unit ≡ Ok moved
+unfolding moved_from
+moved_none f moved text given unit = refl

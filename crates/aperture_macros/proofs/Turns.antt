@@ -1,0 +1,40 @@
+-- Signed sums as they are computed.
+use Rattle.std.proofs.Common.{ℕ, ◌≡◌, ◌-◌, ◌*◌, ◌≤◌, ◌<◌, arith, ℤ, pos, ◌+ℤ◌, ◌-ℤ◌, ◌≤ℤ◌, neg_ℤ, to_z, of_z, w64}
+use Rattle.std.proofs.lemmas.Int.{ints}
+use Rattle.planar.specs.Plane.{IsPlaced, IsReached, IsWithin}
+use Rattle.planar.specs.declared.Spot.{Spot}
+use Rattle.aperture_macros.specs.Images.{set_down}
+use Rattle.aperture_macros.specs.Sketches.{IsReachable}
+use Rattle.aperture_macros.specs.declared.primitive.Rotation.TheVariants.{Unturned, Quarter, Half, ThreeQuarters}
+
+plus_read : (a b : ℤ) → IsReached a → IsWithin 20_000_000_000 b → to_z w64 (of_z w64 (to_z w64 (of_z w64 a) +ℤ to_z w64 (of_z w64 b))) ≡ a +ℤ b
+plus_read a b h k = omega (arith, ints)
+
+less_read : (a b : ℤ) → IsReached a → IsWithin 20_000_000_000 b → to_z w64 (of_z w64 (to_z w64 (of_z w64 a) -ℤ to_z w64 (of_z w64 b))) ≡ a +ℤ neg_ℤ b
+less_read a b h k = omega (arith, ints)
+
+pub unturned_read : (at p : Spot) → IsPlaced at → IsReachable p →
+    ◌≡◌ {A = Spot} (record { x = to_z w64 (of_z w64 (to_z w64 (of_z w64 at.x) +ℤ to_z w64 (of_z w64 p.x))); y = to_z w64 (of_z w64 (to_z w64 (of_z w64 at.y) +ℤ to_z w64 (of_z w64 p.y))) }) (set_down Unturned at p)
+unturned_read at p h k = rw (plus_read at.x p.x h.0 k.0, plus_read at.y p.y h.1 k.1)
+
+pub quarter_read : (at p : Spot) → IsPlaced at → IsReachable p →
+    ◌≡◌ {A = Spot} (record { x = to_z w64 (of_z w64 (to_z w64 (of_z w64 at.x) -ℤ to_z w64 (of_z w64 p.y))); y = to_z w64 (of_z w64 (to_z w64 (of_z w64 at.y) +ℤ to_z w64 (of_z w64 p.x))) }) (set_down Quarter at p)
+quarter_read at p h k = rw (less_read at.x p.y h.0 k.1, plus_read at.y p.x h.1 k.0)
+
+pub half_read : (at p : Spot) → IsPlaced at → IsReachable p →
+    ◌≡◌ {A = Spot} (record { x = to_z w64 (of_z w64 (to_z w64 (of_z w64 at.x) -ℤ to_z w64 (of_z w64 p.x))); y = to_z w64 (of_z w64 (to_z w64 (of_z w64 at.y) -ℤ to_z w64 (of_z w64 p.y))) }) (set_down Half at p)
+half_read at p h k = rw (less_read at.x p.x h.0 k.0, less_read at.y p.y h.1 k.1)
+
+pub three_quarters_read : (at p : Spot) → IsPlaced at → IsReachable p →
+    ◌≡◌ {A = Spot} (record { x = to_z w64 (of_z w64 (to_z w64 (of_z w64 at.x) +ℤ to_z w64 (of_z w64 p.y))); y = to_z w64 (of_z w64 (to_z w64 (of_z w64 at.y) -ℤ to_z w64 (of_z w64 p.x))) }) (set_down ThreeQuarters at p)
+three_quarters_read at p h k = rw (plus_read at.x p.y h.0 k.1, less_read at.y p.x h.1 k.0)
+
+-- a sum of at most 63 terms and one more
+pub sum_read : (s u : ℤ) (left : ℕ) → pos 0 ≤ℤ (s +ℤ pos ((64 - left) * 10000000000)) → s ≤ℤ pos ((64 - left) * 10000000000) → left ≤ 64 → IsReached u → to_z w64 (of_z w64 (s +ℤ to_z w64 (of_z w64 u))) ≡ s +ℤ u
+sum_read s u left low high few h = omega (arith, ints)
+
+pub sum_low : (s u : ℤ) (left : ℕ) → pos 0 ≤ℤ (s +ℤ pos ((64 - left) * 10000000000)) → 0 < left → left ≤ 64 → IsReached u → pos 0 ≤ℤ ((s +ℤ u) +ℤ pos ((64 - (left - 1)) * 10000000000))
+sum_low s u left low some few h = omega (arith, ints)
+
+pub sum_high : (s u : ℤ) (left : ℕ) → s ≤ℤ pos ((64 - left) * 10000000000) → 0 < left → left ≤ 64 → IsReached u → (s +ℤ u) ≤ℤ pos ((64 - (left - 1)) * 10000000000)
+sum_high s u left high some few h = omega (arith, ints)

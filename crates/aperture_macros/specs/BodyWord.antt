@@ -1,0 +1,121 @@
+-- What a word in the body of a macro says (Gerber Layer Format Specification, 4.5.1).
+use Rattle.std.specs.Prelude.{ℕ, zero, suc, ◌+◌, ◌*◌, ◌/◌, ◌%◌, ◌-◌, ◌^◌, Bool, true, false, ◌&&◌, ◌||◌, not, ◌==◌, nat_le, if◌then◌else◌, List, [], ◌∷◌, codes, Option, Some, None, Result, Ok, Err}
+use Rattle.std.specs.List.{after_first, before_first, count_by}
+use Rattle.texts.specs.Words.{begins, is}
+use Rattle.lengths.specs.Decimal.{Fraction, is_decimal, fraction}
+use Rattle.aperture_macros.specs.declared.primitive.Form.{Form}
+use Rattle.aperture_macros.specs.declared.primitive.Form.TheVariants.{Circle, Outline, VectorLine, CentreLine}
+use Rattle.aperture_macros.specs.declared.primitive.Rotation.{Rotation}
+use Rattle.aperture_macros.specs.declared.primitive.Rotation.TheVariants.{Unturned, Quarter, Half, ThreeQuarters}
+use Rattle.aperture_macros.specs.declared.fault.MacroFault.{MacroFault}
+use Rattle.aperture_macros.specs.declared.fault.MacroFault.TheVariants.{BadMacro, ExposureOff, Turn}
+use Rattle.aperture_macros.specs.Expression.{is_expression}
+
+infixl 10 ◌>>=◌
+abbrev pub ◌>>=◌ : {A B : Type 0} → Result A MacroFault → (A → Result B MacroFault) → Result B MacroFault
+(Ok x) >>= f = f x
+(Err e) >>= f = Err e
+
+-- A primitive: what it is, how it is turned, and the body word from its first length on.
+pub record PlainPrimitive : Type 0 where
+  pub form : Form
+  pub rotation : Rotation
+  pub lengths : List ℕ
+
+abbrev pub is_comma : ℕ → Bool
+is_comma b = b == 44
+
+-- A word is cut at its commas. Its parts are counted from 0.
+abbrev pub commas : List ℕ → ℕ
+commas word = count_by is_comma word
+
+-- the text from part n on
+unfoldable pub past : ℕ → List ℕ → List ℕ
+past zero word = word
+past (suc n) word = past n (after_first is_comma word)
+
+-- part n
+abbrev pub part : ℕ → List ℕ → List ℕ
+part n word = before_first is_comma (past n word)
+
+-- the fraction is this number
+abbrev pub is_number : Fraction → ℕ → Bool
+is_number d n = d.whole == n * 10 ^ d.places && (not d.negative || n == 0)
+
+-- how many parts come before the lengths: the code and the exposure, and at an outline the number of its edges
+abbrev pub head : Form → ℕ
+head Circle = 2
+head (Outline n) = 3
+head VectorLine = 2
+head CentreLine = 2
+
+-- how many lengths there are: `d,x,y`, or n + 1 points, or `w,x,y,x,y`, or `w,h,x,y`
+abbrev pub count : Form → ℕ
+count Circle = 3
+count (Outline n) = 2 * (n + 1)
+count VectorLine = 5
+count CentreLine = 4
+
+-- an outline of n edges, where n is from 3 to 5,000 and part 2 says so
+unfoldable pub outline_of : List ℕ → ℕ → Option Form
+outline_of word n =
+    if not (nat_le 3 n && nat_le n 5000) then None
+    else (if not (is_decimal (part 2 word)) then None
+    else (if is_number (fraction (part 2 word)) n then Some (Outline n) else None))
+
+-- What a word with n commas is by its code: `1,e,d,x,y`, `1,e,d,x,y,r`, `4,e,n,` with n + 1 points and `r`,
+-- `20,e,w,x,y,x,y,r`, or `21,e,w,h,x,y,r`.
+unfoldable pub form_at : List ℕ → ℕ → Option Form
+form_at word n =
+    if is (part 0 word) (codes "1") then (if n == 4 || n == 5 then Some Circle else None)
+    else (if is (part 0 word) (codes "4") then (if n % 2 == 1 then outline_of word ((n - 5) / 2) else None)
+    else (if is (part 0 word) (codes "20") then (if n == 7 then Some VectorLine else None)
+    else (if is (part 0 word) (codes "21") then (if n == 6 then Some CentreLine else None)
+    else None)))
+
+-- the first n parts of a text are expressions
+unfoldable pub are_expressions : ℕ → List ℕ → Bool
+are_expressions zero text = true
+are_expressions (suc n) text = is_expression (before_first is_comma text) && are_expressions n (after_first is_comma text)
+
+-- whether the primitive's last part is its rotation: only a circle may have none
+abbrev pub has_rotation : Form → ℕ → Bool
+has_rotation Circle n = n == 5
+has_rotation (Outline edges) n = true
+has_rotation VectorLine n = true
+has_rotation CentreLine n = true
+
+-- the rotation behind the lengths, 0 where there is none
+abbrev pub rotation_text : Form → ℕ → List ℕ → List ℕ
+rotation_text form n lengths = if has_rotation form n then part (count form) lengths else codes "0"
+
+-- a rotation in degrees, counterclockwise
+abbrev pub rotation_of : Fraction → Result Rotation MacroFault
+rotation_of d =
+    if is_number d 0 then Ok Unturned
+    else (if is_number d 90 then Ok Quarter
+    else (if is_number d 180 then Ok Half
+    else (if is_number d 270 then Ok ThreeQuarters
+    else Err Turn)))
+
+-- The exposure, the lengths and the rotation are written as they must be, then the exposure is 1, then the rotation is
+-- by quarter turns.
+unfoldable pub turned_at : Form → Fraction → List ℕ → List ℕ → Result PlainPrimitive MacroFault
+turned_at form exposure lengths rotation =
+    if not (are_expressions (count form) lengths) then Err BadMacro
+    else (if not (is_decimal rotation) then Err BadMacro
+    else (if not (is_number exposure 1) then Err ExposureOff
+    else (rotation_of (fraction rotation) >>= λ turn. Ok (record { form = form; rotation = turn; lengths = lengths }))))
+
+unfoldable pub form_in : Form → ℕ → List ℕ → Result PlainPrimitive MacroFault
+form_in form n word =
+    if not (is_decimal (part 1 word)) then Err BadMacro
+    else turned_at form (fraction (part 1 word)) (past (head form) word) (rotation_text form n (past (head form) word))
+
+abbrev pub some_form : Option Form → ℕ → List ℕ → Result (Option PlainPrimitive) MacroFault
+some_form None n word = Err BadMacro
+some_form (Some form) n word = form_in form n word >>= λ primitive. Ok (Some primitive)
+
+-- a comment where the word begins with `0`, else a primitive
+unfoldable pub primitive_at : List ℕ → Result (Option PlainPrimitive) MacroFault
+primitive_at word = if begins word (codes "0") then Ok None else some_form (form_at word (commas word)) (commas word) word

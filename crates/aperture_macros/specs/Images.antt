@@ -1,0 +1,148 @@
+-- The figures of primitives: about the origin of the macro, and where they are flashed.
+use Rattle.std.specs.Prelude.{ℕ, zero, suc, ◌+◌, ◌/◌, Bool, true, false, ◌&&◌, ◌||◌, ◌==◌, nat_le, if◌then◌else◌, List, [], ◌∷◌, ◌++◌, map, ℤ, pos, ◌+ℤ◌, ◌-ℤ◌, neg_ℤ, unsigned_abs, int_lt, Option, Some, None, Result, Ok, Err}
+use Rattle.std.specs.List.{list_all}
+use Rattle.std.specs.Ordering.{int_eq}
+use Rattle.planar.specs.declared.Spot.{Spot}
+use Rattle.area_contact.specs.Contour.{end_from}
+use Rattle.board_shapes.specs.Figures.{Figure, filled, round}
+use Rattle.lengths.specs.Decimal.{Fraction}
+use Rattle.lengths.specs.declared.decimal.Unit.{Unit as Measure}
+use Rattle.aperture_macros.specs.declared.primitive.Form.{Form}
+use Rattle.aperture_macros.specs.declared.primitive.Form.TheVariants.{Circle, Outline, VectorLine, CentreLine}
+use Rattle.aperture_macros.specs.declared.primitive.Rotation.{Rotation}
+use Rattle.aperture_macros.specs.declared.primitive.Rotation.TheVariants.{Unturned, Quarter, Half, ThreeQuarters}
+use Rattle.aperture_macros.specs.declared.images.Sketch.{Sketch}
+use Rattle.aperture_macros.specs.declared.images.Sketch.TheVariants.{Disc, Rectangle}
+use Rattle.aperture_macros.specs.declared.fault.MacroFault.{MacroFault}
+use Rattle.aperture_macros.specs.declared.fault.MacroFault.TheVariants.{BadMacro, OutOfRange, Slanted}
+use Rattle.aperture_macros.specs.BodyWord.{◌>>=◌, PlainPrimitive, part, past}
+use Rattle.aperture_macros.specs.Values.{diameter_at, point_at, size_at}
+
+-- the spots are one
+abbrev pub same_spot : Spot → Spot → Bool
+same_spot p q = int_eq p.x q.x && int_eq p.y q.y
+
+-- `d,x,y`: a circle is a disc (Gerber Layer Format Specification, 4.5.1, code 1); none with diameter 0
+unfoldable pub circle_at : List ℕ → List Fraction → Measure → Result (Option Sketch) MacroFault
+circle_at text parameters unit =
+    diameter_at (part 0 text) parameters unit >>= λ d. point_at (past 1 text) parameters unit >>= λ p.
+    Ok (if d == 0 then None else Some (Disc p d))
+
+abbrev pub halved : ℕ → ℤ
+halved n = pos (n / 2)
+
+-- a spot so far to the left and below, or to the right and above, by halves
+abbrev pub lower : Spot → ℕ → ℕ → Spot
+lower p w h = record { x = p.x -ℤ halved w; y = p.y -ℤ halved h }
+
+abbrev pub upper : Spot → ℕ → ℕ → Spot
+upper p w h = record { x = p.x +ℤ halved w; y = p.y +ℤ halved h }
+
+-- the lesser, or the greater, of both coordinates
+abbrev pub least : Spot → Spot → Spot
+least p q = record { x = if int_lt p.x q.x then p.x else q.x; y = if int_lt p.y q.y then p.y else q.y }
+
+abbrev pub greatest : Spot → Spot → Spot
+greatest p q = record { x = if int_lt p.x q.x then q.x else p.x; y = if int_lt p.y q.y then q.y else p.y }
+
+-- a line that stands, or lies, between its ends, with half its width to each side
+abbrev pub upright : ℕ → Spot → Spot → Option Sketch
+upright w p q = if w == 0 || int_eq p.y q.y then None else Some (Rectangle (lower (least p q) w 0) (upper (greatest p q) w 0))
+
+abbrev pub lying : ℕ → Spot → Spot → Option Sketch
+lying w p q = if w == 0 || int_eq p.x q.x then None else Some (Rectangle (lower (least p q) 0 w) (upper (greatest p q) 0 w))
+
+-- `w,x,y,x,y`: a vector line has flat ends (code 20); it runs along an axis. None with width or length 0.
+unfoldable pub line_at : List ℕ → List Fraction → Measure → Result (Option Sketch) MacroFault
+line_at text parameters unit =
+    size_at (part 0 text) parameters unit >>= λ w. point_at (past 1 text) parameters unit >>= λ p. point_at (past 3 text) parameters unit >>= λ q.
+    if int_eq p.x q.x then Ok (upright w p q) else (if int_eq p.y q.y then Ok (lying w p q) else Err Slanted)
+
+-- so far to each side of a point, by halves
+abbrev pub centred : ℕ → ℕ → Spot → Option Sketch
+centred w h p = if w == 0 || h == 0 then None else Some (Rectangle (lower p w h) (upper p w h))
+
+-- `w,h,x,y`: a centre line (code 21) is a rectangle about its point; none with width or height 0
+unfoldable pub centre_at : List ℕ → List Fraction → Measure → Result (Option Sketch) MacroFault
+centre_at text parameters unit =
+    size_at (part 0 text) parameters unit >>= λ w. size_at (part 1 text) parameters unit >>= λ h. point_at (past 2 text) parameters unit >>= λ p.
+    Ok (centred w h p)
+
+-- some points, and n further ones of the text behind them
+unfoldable pub points_from : List Spot → ℕ → List ℕ → List Fraction → Measure → Result (List Spot) MacroFault
+points_from points zero text parameters unit = Ok points
+points_from points (suc n) text parameters unit =
+    point_at text parameters unit >>= λ p. points_from (points ++ p ∷ []) n (past 2 text) parameters unit
+
+-- the last point is the first
+abbrev pub is_closed : List Spot → Bool
+is_closed [] = true
+is_closed (p ∷ points) = same_spot (end_from p points) p
+
+-- n + 1 points: an outline is the area that they bound (code 4)
+unfoldable pub outline_at : ℕ → List ℕ → List Fraction → Measure → Result (List Spot) MacroFault
+outline_at n text parameters unit =
+    points_from [] (n + 1) text parameters unit >>= λ points. if is_closed points then Ok points else Err BadMacro
+
+-- what is judged has no fault
+abbrev pub is_done : {A : Type 0} → Result A MacroFault → Result (Unit {0}) MacroFault
+is_done (Ok x) = Ok tt
+is_done (Err fault) = Err fault
+
+unfoldable pub judged_by : Form → List ℕ → List Fraction → Measure → Result (Unit {0}) MacroFault
+judged_by Circle text parameters unit = is_done (circle_at text parameters unit)
+judged_by (Outline n) text parameters unit = is_done (outline_at n text parameters unit)
+judged_by VectorLine text parameters unit = is_done (line_at text parameters unit)
+judged_by CentreLine text parameters unit = is_done (centre_at text parameters unit)
+
+-- the primitive's first fault with these parameters, if it has one
+abbrev pub judged : PlainPrimitive → List Fraction → Measure → Result (Unit {0}) MacroFault
+judged p parameters unit = judged_by p.form p.lengths parameters unit
+
+-- the spot turned counterclockwise about the origin
+abbrev pub turned : Rotation → Spot → Spot
+turned Unturned p = p
+turned Quarter p = record { x = neg_ℤ p.y; y = p.x }
+turned Half p = record { x = neg_ℤ p.x; y = neg_ℤ p.y }
+turned ThreeQuarters p = record { x = p.y; y = neg_ℤ p.x }
+
+-- turned, and then moved as far as from 0 to the spot
+abbrev pub set_down : Rotation → Spot → Spot → Spot
+set_down rotation at p = record { x = at.x +ℤ (turned rotation p).x; y = at.y +ℤ (turned rotation p).y }
+
+-- the spot is at most 1 m from 0 in x and y
+abbrev pub is_placed : Spot → Bool
+is_placed p = nat_le (unsigned_abs p.x) 10000000000 && nat_le (unsigned_abs p.y) 10000000000
+
+-- the figure where all its ends or corners are placed
+abbrev pub disc_at : Spot → ℕ → Result (Option Figure) MacroFault
+disc_at p d = if is_placed p then Ok (Some (round (record { a = p; b = p; r = halved d }))) else Err OutOfRange
+
+abbrev pub area_at : List Spot → Result (Option Figure) MacroFault
+area_at points = if list_all is_placed points then Ok (Some (filled points)) else Err OutOfRange
+
+-- lower left, lower right, upper right, upper left, and lower left again
+abbrev pub corners : Spot → Spot → List Spot
+corners low high = low ∷ record { x = high.x; y = low.y } ∷ high ∷ record { x = low.x; y = high.y } ∷ low ∷ []
+
+unfoldable pub sketch_at : Rotation → Spot → Option Sketch → Result (Option Figure) MacroFault
+sketch_at rotation at None = Ok None
+sketch_at rotation at (Some (Disc p d)) = disc_at (set_down rotation at p) d
+sketch_at rotation at (Some (Rectangle low high)) = area_at (map (set_down rotation at) (corners low high))
+
+-- what is left of a figure, or of the points of an outline, where it is set down
+abbrev pub sketched : Rotation → Spot → Result (Option Sketch) MacroFault → Result (Option Figure) MacroFault
+sketched rotation at sketch = sketch >>= sketch_at rotation at
+
+abbrev pub outlined : Rotation → Spot → Result (List Spot) MacroFault → Result (Option Figure) MacroFault
+outlined rotation at points = points >>= λ ps. area_at (map (set_down rotation at) ps)
+
+unfoldable pub figure_by : Form → Rotation → List ℕ → List Fraction → Measure → Spot → Result (Option Figure) MacroFault
+figure_by Circle rotation text parameters unit at = sketched rotation at (circle_at text parameters unit)
+figure_by (Outline n) rotation text parameters unit at = outlined rotation at (outline_at n text parameters unit)
+figure_by VectorLine rotation text parameters unit at = sketched rotation at (line_at text parameters unit)
+figure_by CentreLine rotation text parameters unit at = sketched rotation at (centre_at text parameters unit)
+
+-- what a primitive flashes at a spot
+abbrev pub figure_at : PlainPrimitive → List Fraction → Measure → Spot → Result (Option Figure) MacroFault
+figure_at p parameters unit at = figure_by p.form p.rotation p.lengths parameters unit at

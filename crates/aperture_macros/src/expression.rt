@@ -1,0 +1,158 @@
+// How lengths are written.
+ghost use Rattle.std.specs.Prelude.{◌≡◌, ◌≤◌, true, IfSome, length};
+ghost use Rattle.std.specs.List.{list_all, prefix_len};
+ghost use Rattle.std.specs.Str.Parse.{digits_value as value_of_digits};
+ghost use Rattle.texts.specs.Digits.{is_decimal_digit};
+ghost use Rattle.lengths.specs.Decimal.{has_minus as minus_stands, unsigned as unsigned_text};
+ghost use Rattle.aperture_macros.specs.Expression as spec;
+
+use lengths::{digits_value, read_decimal};
+use texts::all_digits;
+
+/// The most terms of an expression.
+pub const MOST_TERMS: u32 = 64;
+
+fn is_sign(byte: u8) -> bool
+    ensures { result ≡ spec.is_sign byte }
+{
+    byte == b'+' || byte == b'-'
+}
+
+/// A text without its sign, if it has one.
+pub fn unsigned(text: &[u8]) -> &[u8]
+    ensures { result.now ≡ unsigned_text text.now }
+{
+    match text {
+        [b'+', rest @ ..] => rest,
+        [b'-', rest @ ..] => rest,
+        _ => text,
+    }
+}
+
+/// Whether a text begins with a minus.
+pub fn has_minus(text: &[u8]) -> bool
+    ensures { result ≡ minus_stands text.now }
+{
+    match text {
+        [b'-', ..] => true,
+        _ => false,
+    }
+}
+
+// One where a sign stands in front.
+fn sign_len(text: &[u8]) -> usize
+    ensures value { result ≡ spec.sign_len text.now }
+    ensures within { result ≤ length text.now }
+{
+    match text {
+        [b'+', ..] => 1,
+        [b'-', ..] => 1,
+        _ => 0,
+    }
+}
+
+// How many bytes stand before the first sign.
+fn plain_len(text: &[u8]) -> usize
+    ensures value { result ≡ prefix_len spec.is_plain text.now }
+    ensures within { result ≤ length text.now }
+{
+    for (i, b) in text.iter().enumerate() {
+        if is_sign(*b) {
+            return i;
+        }
+    }
+    text.len()
+}
+
+// How long the first term is, with the sign before it.
+fn term_len(text: &[u8]) -> usize
+    ensures value { result ≡ spec.term_len text.now }
+    ensures within { result ≤ length text.now }
+{
+    let sign = sign_len(text);
+    sign + plain_len(&text[sign..])
+}
+
+/// The first term, with the sign before it.
+pub fn first_term(text: &[u8]) -> &[u8]
+    ensures { result.now ≡ spec.first_term text.now }
+{
+    &text[..term_len(text)]
+}
+
+/// The terms behind the first.
+pub fn further_terms(text: &[u8]) -> &[u8]
+    ensures { result.now ≡ spec.further_terms text.now }
+{
+    &text[term_len(text)..]
+}
+
+// The number that 1 to 3 digits spell, if it is not 0.
+fn parameter_number(digits: &[u8]) -> Option<u32>
+    ensures value { result ≡ spec.parameter_number digits.now }
+    ensures some { IfSome result (λ k. 1 ≤ k) }
+{
+    if digits.is_empty() || digits.len() > 3 {
+        return None;
+    }
+    if !all_digits(digits) {
+        return None;
+    }
+    let k = value_of(digits);
+    if k == 0 { None } else { Some(k) }
+}
+
+fn value_of(digits: &[u8]) -> u32
+    requires digits { list_all is_decimal_digit digits.now ≡ true }
+    requires few { length digits.now ≤ 3 }
+    ensures value { result ≡ value_of_digits 10 digits.now }
+{
+    digits_value(0, digits) as u32
+}
+
+/// The number of the parameter that `$` and digits name, or `None` where the text is no such term.
+pub fn variable_number(text: &[u8]) -> Option<u32>
+    ensures value { result ≡ spec.variable_number text.now }
+    ensures some { IfSome result (λ k. 1 ≤ k) }
+{
+    match text {
+        [b'$', digits @ ..] => parameter_number(digits),
+        _ => None,
+    }
+}
+
+fn is_term(text: &[u8]) -> bool
+    ensures { result ≡ spec.is_term text.now }
+{
+    variable_number(unsigned(text)).is_some() || read_decimal(text).is_some()
+}
+
+/// Whether a text is an expression: an optional sign and 1 to 64 terms joined by `+` or `-`, each an
+/// unsigned decimal or `$` with a number from 1 to 999.
+#[tactic(auto, unfolding(crate::specs::Expression::is_expression))]
+pub fn is_expression(text: &[u8]) -> bool
+    ensures { result ≡ spec.is_expression text.now }
+{
+    !text.is_empty() && is_sum(MOST_TERMS, text)
+}
+
+// Whether the text is at most so many terms.
+#[tactic(auto, unfolding(crate::specs::Expression::is_sum))]
+fn is_sum(most: u32, text: &[u8]) -> bool
+    ensures { result ≡ spec.is_sum most text.now }
+{
+    let mut left = most;
+    let mut rest = text;
+    while left > 0 {
+        if rest.is_empty() {
+            return true;
+        }
+        let one = first_term(rest);
+        if !is_term(one) {
+            return false;
+        }
+        rest = further_terms(rest);
+        left -= 1;
+    }
+    rest.is_empty()
+}

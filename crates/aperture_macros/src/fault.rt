@@ -1,0 +1,49 @@
+// What is refused.
+use lengths::GridFault;
+use thiserror::Error;
+
+/// Why a word of a macro's body, or a primitive with its parameters, is refused.
+#[derive(Clone, Copy, Debug, PartialEq, Eq, Error)]
+pub enum MacroFault {
+    /// The word is none of the forms of a primitive, or an outline's last point is not its first.
+    #[error("not a primitive that is taken")]
+    BadMacro = 1,
+    /// The exposure is not equal to 1.
+    #[error("an exposure that is not on")]
+    ExposureOff = 2,
+    /// The rotation is not equal to 0, 90, 180 or 270 degrees.
+    #[error("a turn that is no quarter turn")]
+    Turn = 3,
+    /// A term is no whole number of u, or a width, a height or a diameter no even one.
+    #[error("a length off the grid")]
+    OffGrid = 4,
+    /// A term, a length or a corner is over 1 m from 0, a size is negative, or a diameter is over
+    /// 50 mm.
+    #[error("a length out of range")]
+    OutOfRange = 5,
+    /// A vector line is not along an axis.
+    #[error("a slanted line")]
+    Slanted = 6,
+}
+
+impl From<GridFault> for MacroFault {
+    ghost use Rattle.std.specs.Prelude.{◌≡◌};
+    ghost use Rattle.aperture_macros.specs.Values.{fault_of};
+
+    ghost from_gives = { λ fault e. e ≡ fault_of fault };
+
+    fn from(fault: GridFault) -> MacroFault {
+        match fault {
+            GridFault::OffGrid => MacroFault::OffGrid,
+            GridFault::OutOfRange => MacroFault::OutOfRange,
+        }
+    }
+}
+
+/// Why a primitive gives no shape.
+#[derive(Clone, Copy, Debug, PartialEq, Eq)]
+pub enum FigureFault {
+    /// Its lengths are refused, or an end or a corner is over 1 m from 0 in x or y.
+    Macro(MacroFault),
+    NoMemory,
+}

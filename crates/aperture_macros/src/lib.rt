@@ -1,0 +1,30 @@
+//! The primitives of aperture macros (Gerber Layer Format Specification, 4.5).
+//!
+//! `read_body` reads a word in the body of a macro, `Primitive::judge` says whether its lengths are
+//! lawful with the parameters of an aperture definition, and `Primitive::figure` is the shape that it
+//! flashes. A primitive keeps its lengths as they are written, as a slice of the file: only an area's
+//! corners take memory.
+//!
+//! - `primitive`: what a primitive is.
+//! - `fault`: what is refused.
+//! - `expression`: how lengths are written.
+//! - `reading`: how a body word is read.
+//! - `values`: what lengths are with parameters.
+//! - `images`: figures about the origin of the macro.
+//! - `figure`: figures where they are flashed.
+#![tactic(auto)]
+
+mod expression;
+pub mod fault;
+mod figure;
+pub mod images;
+pub mod primitive;
+pub mod reading;
+mod values;
+
+pub use fault::{FigureFault, MacroFault};
+pub use primitive::{Form, Primitive, Rotation};
+pub use reading::read_body;
+
+#[cfg(test)]
+mod tests;

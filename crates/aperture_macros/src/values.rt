@@ -1,0 +1,130 @@
+// What lengths are, in u.
+ghost use Rattle.std.specs.Prelude.{◌≡◌, ◌≤◌, ◌^◌, pos, IfOk};
+ghost use Rattle.planar.specs.Plane.{IsPlaced, IsReached};
+ghost use Rattle.lengths.specs.Grid.{position_of};
+ghost use Rattle.aperture_macros.specs.Values as spec;
+
+use crate::expression::{
+    MOST_TERMS, first_term, further_terms, has_minus, unsigned, variable_number,
+};
+use crate::fault::MacroFault;
+use crate::reading::part;
+use lengths::{Decimal, Unit, read_decimal};
+use planar::Spot;
+
+// The position that a decimal is, which stands for itself or for a parameter.
+fn position(decimal: &Decimal, unit: Unit) -> Result<i64, MacroFault>
+    ensures value { result ≡ spec.as_fault (position_of decimal.now unit) }
+    ensures reached { IfOk result IsReached }
+{
+    let len = decimal.position(unit)?;
+    Ok(len.u())
+}
+
+// What the k-th parameter is, which count from 1: 0 where there is none.
+#[tactic(auto, unfolding(crate::specs::Values::variable_at))]
+fn variable(minus: bool, k: u32, parameters: &[Decimal], unit: Unit) -> Result<i64, MacroFault>
+    requires some { 1 ≤ k }
+    ensures value { result ≡ spec.variable_at minus k parameters.now unit }
+    ensures reached { IfOk result IsReached }
+{
+    match parameters.get(k as usize - 1) {
+        None => Ok(0),
+        Some(decimal) => {
+            let u = position(decimal, unit)?;
+            Ok(if minus { -u } else { u })
+        },
+    }
+}
+
+// The position that a term is, with the sign before it.
+#[tactic(auto, unfolding(crate::specs::Values::term_at))]
+fn term(text: &[u8], parameters: &[Decimal], unit: Unit) -> Result<i64, MacroFault>
+    ensures value { result ≡ spec.term_at text.now parameters.now unit }
+    ensures reached { IfOk result IsReached }
+{
+    match variable_number(unsigned(text)) {
+        Some(k) => variable(has_minus(text), k, parameters, unit),
+        None => match read_decimal(text) {
+            None => Err(MacroFault::BadMacro),
+            Some(decimal) => position(&decimal, unit),
+        },
+    }
+}
+
+// What the terms of an expression come to.
+#[tactic(auto, unfolding(crate::specs::Values::sum_from))]
+fn sum(text: &[u8], parameters: &[Decimal], unit: Unit) -> Result<i64, MacroFault>
+    ensures { result ≡ spec.sum_from 64 (pos 0) text.now parameters.now unit }
+{
+    let mut left = MOST_TERMS;
+    let mut rest = text;
+    let mut sum = 0;
+    while left > 0 {
+        if rest.is_empty() {
+            return Ok(sum);
+        }
+        let one = first_term(rest);
+        sum += term(one, parameters, unit)?;
+        rest = further_terms(rest);
+        left -= 1;
+    }
+    if rest.is_empty() {
+        Ok(sum)
+    } else {
+        Err(MacroFault::BadMacro)
+    }
+}
+
+// A coordinate, at most 1 m from 0.
+#[tactic(auto, unfolding(crate::specs::Values::coordinate_at))]
+fn coordinate(text: &[u8], parameters: &[Decimal], unit: Unit) -> Result<i64, MacroFault>
+    ensures value { result ≡ spec.coordinate_at text.now parameters.now unit }
+    ensures reached { IfOk result IsReached }
+{
+    let u = sum(text, parameters, unit)?;
+    if u.unsigned_abs() > 10_000_000_000 {
+        return Err(MacroFault::OutOfRange);
+    }
+    Ok(u)
+}
+
+/// A width or a height: even, and from 0 to 1 m.
+#[tactic(auto, unfolding(crate::specs::Values::size_at))]
+pub fn size(text: &[u8], parameters: &[Decimal], unit: Unit) -> Result<u64, MacroFault>
+    ensures value { result ≡ spec.size_at text.now parameters.now unit }
+    ensures small { IfOk result (λ n. n ≤ 10 ^ 10) }
+{
+    let u = coordinate(text, parameters, unit)?;
+    if u.unsigned_abs() % 2 != 0 {
+        return Err(MacroFault::OffGrid);
+    }
+    if u < 0 {
+        return Err(MacroFault::OutOfRange);
+    }
+    Ok(u.unsigned_abs())
+}
+
+/// A diameter, at most 50 mm.
+#[tactic(auto, unfolding(crate::specs::Values::diameter_at))]
+pub fn diameter(text: &[u8], parameters: &[Decimal], unit: Unit) -> Result<u64, MacroFault>
+    ensures value { result ≡ spec.diameter_at text.now parameters.now unit }
+    ensures small { IfOk result (λ n. n ≤ 500000000) }
+{
+    let d = size(text, parameters, unit)?;
+    if d > 500_000_000 {
+        return Err(MacroFault::OutOfRange);
+    }
+    Ok(d)
+}
+
+/// The point that the first two parts of a text are.
+#[tactic(auto, unfolding(crate::specs::Values::point_at))]
+pub fn point(text: &[u8], parameters: &[Decimal], unit: Unit) -> Result<Spot, MacroFault>
+    ensures value { result ≡ spec.point_at text.now parameters.now unit }
+    ensures placed { IfOk result IsPlaced }
+{
+    let x = coordinate(part(0, text), parameters, unit)?;
+    let y = coordinate(part(1, text), parameters, unit)?;
+    Ok(Spot { x, y })
+}

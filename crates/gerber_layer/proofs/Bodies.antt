@@ -1,0 +1,63 @@
+-- The words of definitions, and the macros by their names.
+use Rattle.std.proofs.Common.{◌≡◌, ℕ, ◌-◌, ◌<◌, ◌≤◌, suc, zero, Bool, true, false, not, ◌||◌, cond, List, [], ◌∷◌, ◌++◌, length, take, drop, Option, Some, None, option_map, Result, Ok, Err, refl, sym, ap, ◌∙◌, append_assoc, arith}
+use Rattle.std.specs.Prelude.{nat_lt}
+use Rattle.std.specs.List.{after_first, before_first}
+use Rattle.std.specs.Str.Parse.{digits_value}
+use Rattle.texts.specs.Words.{is}
+use Rattle.lengths.specs.Decimal.{Fraction, decimal, fraction, is_decimal}
+use Rattle.lengths.specs.declared.decimal.Unit.{Unit as Measure}
+use Rattle.apertures.specs.declared.aperture.Aperture.{Aperture}
+use Rattle.apertures.specs.declared.fault.ApertureFault.{ApertureFault}
+use Rattle.apertures.specs.declared.fault.ApertureFault.TheVariants as aperture
+use Rattle.apertures.specs.Reading.{aperture_at, is_x, numbered_at}
+use Rattle.aperture_macros.specs.BodyWord.{PlainPrimitive}
+use Rattle.gerber_layer.specs.Tools.{Macro, decimals_in, latest_or, number_digits}
+use Rattle.gerber_layer.specs.MacroTable.{is_of_macro}
+
+-- the last macro goes to the others
+pub closed_is : {V M : Type 0} (f : V → List PlainPrimitive) (g : M → Macro) (latest : Option M) (m : M) (v : V) (new old : Option V) (name : List ℕ) → latest ≡ Some m → (g m).body ≡ f v → new ≡ cond (is (g m).name name) (Some v) old → option_map f new ≡ latest_or (option_map g latest) (option_map f old) name
+closed_is f g latest m v new old name had same h =
+    ap (option_map f) h ∙ by (is (g m).name name) ∙ sym (ap (λ (l : Option _). latest_or (option_map g l) (option_map f old) name) had)
+  where
+    by : (b : Bool) → option_map f (cond b (Some v) old) ≡ cond b (Some (g m).body) (option_map f old)
+    by true = ap Some (sym same)
+    by false = refl
+
+-- a part that is no decimal
+pub none_more : (n : ℕ) (text : List ℕ) (done : List Fraction) → 0 < n → decimal (before_first is_x text) ≡ None → option_map (λ more. done ++ more) (decimals_in n text) ≡ None
+unfolding decimals_in
+none_more zero text done some h = absurd (omega arith)
+none_more (suc n) text done some h = by (is_decimal (before_first is_x text)) h
+  where
+    by : (b : Bool) → cond b (Some (fraction (before_first is_x text))) None ≡ None → option_map (λ more. done ++ more) (cond b (option_map (λ more. fraction (before_first is_x text) ∷ more) (decimals_in n (after_first is_x text))) None) ≡ None
+    by true h = cc
+    by false h = refl
+
+-- and one that is
+pub one_decimal : (n : ℕ) (text : List ℕ) (done new : List Fraction) (d : Fraction) → 0 < n → decimal (before_first is_x text) ≡ Some d → new ≡ done ++ d ∷ [] → option_map (λ more. done ++ more) (decimals_in n text) ≡ option_map (λ more. new ++ more) (decimals_in (n - 1) (after_first is_x text))
+unfolding decimals_in
+one_decimal zero text done new d some h e = absurd (omega arith)
+one_decimal (suc n) text done new d some h e =
+    let less : suc n - 1 ≡ n = omega arith in
+    rw (less, e) (by (is_decimal (before_first is_x text)) h)
+  where
+    along : (r : Option (List Fraction)) → option_map (λ more. done ++ more) (option_map (λ more. d ∷ more) r) ≡ option_map (λ more. (done ++ d ∷ []) ++ more) r
+    along None = refl
+    along (Some more) = ap Some (sym (append_assoc done (d ∷ []) more))
+
+    by : (b : Bool) → cond b (Some (fraction (before_first is_x text))) None ≡ Some d → option_map (λ more. done ++ more) (cond b (option_map (λ more. fraction (before_first is_x text) ∷ more) (decimals_in n (after_first is_x text))) None) ≡ option_map (λ more. (done ++ d ∷ []) ++ more) (decimals_in n (after_first is_x text))
+    by true h =
+        let same : fraction (before_first is_x text) ≡ d = cc in
+        ap (λ (f : Fraction). option_map (λ more. done ++ more) (option_map (λ more. f ∷ more) (decimals_in n (after_first is_x text)))) same ∙ along (decimals_in n (after_first is_x text))
+    by false h = cc
+
+-- the number of an aperture of a macro has at most nine digits
+pub short_number : (word : List ℕ) (unit : Measure) → is_of_macro (aperture_at word unit) ≡ true → length (number_digits word) ≤ 9
+unfolding aperture_at numbered_at
+short_number word unit h = by _ _ (nat_lt 9 (length (number_digits word))) _ _ refl h
+  where
+    by : (a e l m : Bool) (rest : Result (ℕ × Aperture) ApertureFault) → nat_lt 9 (length (number_digits word)) ≡ l → is_of_macro (cond a (Err aperture.BadText) (cond e (Err aperture.BadText) (cond (l || m) (Err aperture.Number) rest))) ≡ true → length (number_digits word) ≤ 9
+    by true e l m rest is h = cc
+    by false true l m rest is h = cc
+    by false false true m rest is h = cc
+    by false false false m rest is h = grind (arith, is)

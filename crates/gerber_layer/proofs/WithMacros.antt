@@ -1,0 +1,84 @@
+-- Files with macros: the table that `read_flat` reads by.
+use Rattle.std.proofs.Common.{◌≡◌, ℕ, true, false, List, [], length, Some, Result, Ok, Err, refl, ap, ◌∙◌, subst, sym}
+use Rattle.std.specs.Prelude.{IfErr}
+use Rattle.gerber_words.specs.Words.{Ahead, Stop, HasWords}
+use Rattle.gerber_words.specs.Items.{stop_item}
+use Rattle.file_reading.specs.declared.halt.Halt.{Halt}
+use Rattle.file_reading.specs.declared.halt.Halt.TheVariants as halt
+use Rattle.gerber_layer.specs.Command.{Command}
+use Rattle.gerber_layer.specs.declared.kind.GerberKind.{GerberKind}
+use Rattle.gerber_layer.specs.declared.macro_kind.FlattenKind.{FlattenKind}
+use Rattle.gerber_layer.specs.declared.macro_kind.FlattenFault.{FlattenFault}
+use Rattle.gerber_layer.specs.declared.reader.Reader.{Reader}
+use Rattle.aperture_macros.specs.Seen.{plain}
+use Rattle.board_shapes.specs.Figures.{figure_of}
+use Rattle.board_shapes.specs.Pieces.{PlainPiece}
+use Rattle.gerber_layer.specs.declared.effect.Effect.{Effect as Seen}
+use Rattle.gerber_layer.specs.declared.effect.Effect.TheVariants as seen
+use Rattle.gerber_layer.specs.Table.{Place, Known, Effect, stays, makes, begins_macro, fills_macro, performs, extends, closes, opens, leaves, steps, concludes, room_for, ◌>>=◌}
+use Rattle.gerber_layer.specs.Image.{pieces_after}
+use Rattle.gerber_layer.specs.Layer.{stop_command}
+use Rattle.gerber_layer.specs.MacroReading.{command_with_macros}
+use Rattle.gerber_layer.specs.MacroTable.{effect_with_macros, few_radii, gerber}
+use Rattle.gerber_layer.specs.MacroLayer.{flat_place, IsMacroFault}
+use Rattle.gerber_layer.specs.MacroReader.{any_halt, is_end, macro_fault_at, MacroFaults}
+use Rattle.gerber_layer.specs.Reader.{Obeys, Stops, shown, tool_of}
+use Rattle.gerber_layer.proofs.Outcome.{then_goes, flash_goes, extend_is, close_is, area_left, steps_is, concludes_is}
+use Rattle.gerber_layer.proofs.ReadSoFar.{IsHaltBy, ReadSoFar, Reads, stop-fault}
+
+abbrev pub with_macros : Reads FlattenKind
+with_macros = record { command = command_with_macros; table = effect_with_macros }
+
+-- what stops the reader is the file's fault
+pub as_macro_fault : (file : List ℕ) (why : Halt FlattenKind) (number at : ℕ) → IsHaltBy with_macros file flat_place why number at → IsMacroFault file (macro_fault_at why number at)
+as_macro_fault file (halt.Fault kind) number at h = h
+as_macro_fault file halt.NoMemory number at h = tt
+
+-- also at the stop
+pub last-macro-fault : {V : Type 0} (result : Result V FlattenFault) (file : List ℕ) (old : Ahead) (stop : Stop) (r : Reader) → ReadSoFar with_macros file flat_place old r → HasWords old [] stop → IfErr result (MacroFaults r (stop_item stop_command (length file) stop).says (stop_item stop_command (length file) stop).at) → IfErr result (IsMacroFault file)
+last-macro-fault (Ok v) file old stop r s had h = tt
+last-macro-fault (Err e) file old stop r s had h =
+    let item = stop_item stop_command (length file) stop in
+    rw h.is (as_macro_fault file h.halt _ item.at (stop-fault with_macros file flat_place old stop r h.halt s had h.halts))
+
+-- ---- The end of a file
+
+same_few : (e f : Effect) → ◌≡◌ {A = Result Effect GerberKind} (Ok f) (Ok e) → few_radii f ≡ Ok f → few_radii e ≡ Ok e
+same_few e f h few = let g : f ≡ e = cc in subst (λ (x : Effect). few_radii x ≡ Ok x) g few
+
+few_is : (e f : Effect) → e ≡ f → few_radii f ≡ Ok f → few_radii e ≡ Ok e
+few_is e f is few = subst (λ (x : Effect). few_radii x ≡ Ok x) (sym is) few
+
+-- only the end of a file counts radii
+pub few_before_end : (k : Known) (what : Seen) (e : Effect) → is_end what ≡ false → shown k what ≡ Ok e → few_radii e ≡ Ok e
+few_before_end k seen.Stays e b h = same_few e stays h refl
+few_before_end k (seen.Makes n tool) e b h = same_few e (makes n (tool_of tool)) h refl
+few_before_end k (seen.Begins name) e b h = same_few e (begins_macro name.now) h refl
+few_before_end k (seen.Fills primitive) e b h = same_few e (fills_macro (plain primitive)) h refl
+few_before_end k (seen.Moves to) e b h = same_few e (performs to []) h refl
+few_before_end k (seen.Draws to shape) e b h = let g = then_goes (room_for k (Some (figure_of shape))) to e h in few_is e (performs to g.figures) g.is refl
+few_before_end k (seen.Flashes to) e b h = let g = flash_goes k to e h in few_is e (performs to g.figures) g.is refl
+few_before_end k (seen.Extends to) e b h = few_is e (extends to) (extend_is k to e h) refl
+few_before_end k (seen.Closes to) e b h = let g = close_is k to e h in few_is e (closes to g.0) g.1 refl
+few_before_end k (seen.Repeats next) e b h = let g = steps_is k next e h in few_is e (steps next g.0) g.1 refl
+few_before_end k seen.Ends e b h = absurd (cc)
+few_before_end k seen.Opens e b h = same_few e opens h refl
+few_before_end k seen.Leaves e b h = let g = area_left k e h in few_is e (leaves g.0) g.1 refl
+
+-- ---- What an effect comes to where the file may have macros
+
+all_is : (what : Result Effect GerberKind) (all : Result Effect FlattenKind) (e : Effect) → what ≡ Ok e → (gerber what >>= few_radii) ≡ all → few_radii e ≡ all
+all_is what all e is same = sym (ap (λ (r : Result Effect GerberKind). gerber r >>= few_radii) is) ∙ same
+
+pub obeys_with : (old new : Reader) (c : Command) (what : Result Effect GerberKind) (all : Result Effect FlattenKind) (o : Obeys old c what new) → (gerber what >>= few_radii) ≡ all → few_radii o.effect_is ≡ Ok o.effect_is → Obeys old c all new
+obeys_with old new c what all o same few = record {
+  effect_is = o.effect_is;
+  clean = sym (all_is what all o.effect_is o.clean same) ∙ few;
+  settings = o.settings;
+  dictionary = o.dictionary;
+  contour = o.contour;
+  pieces = o.pieces;
+  start = o.start;
+  counts = o.counts;
+  place = o.place;
+}

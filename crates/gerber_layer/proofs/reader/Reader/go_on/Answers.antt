@@ -1,0 +1,36 @@
+use Rattle.std.proofs.Common.{ℕ, ◌+◌, Option, sym, ap, ◌∙◌}
+use Rattle.planar.specs.declared.Spot.{Spot}
+use Rattle.gerber_layer.specs.Command.{view}
+use Rattle.gerber_layer.specs.Reader.{known_of}
+use Rattle.gerber_layer.specs.Table.{Place}
+use Rattle.gerber_layer.specs.After.{after, heads}
+use Rattle.gerber_layer.proofs.LawfulAfter.{after_lawful}
+use Rattle.gerber_layer.proofs.Shown.{heads_shown, opened_shown}
+use Rattle.gerber_layer.proofs.reader.Reader.go_on.Goals as goal
+
+pub returns-clause-ok : goal.returns-clause-ok
+returns-clause-ok c =
+    let o = c.in_ok-carry_out.ensures.ok in
+    record {
+      effect_is = o.effect_is;
+      clean = o.is;
+      settings = c.after-settings.ensures ∙ ap (λ (to : Option Spot). after c.args.self.now.settings (view c.args.command.now) to c.opens_block.result) (c.leads.ensures ∙ sym (heads_shown (known_of c.args.self.now) c.args.effect o.effect_is o.is)) ∙ ap (after c.args.self.now.settings (view c.args.command.now) (heads o.effect_is)) (c.opens_block.ensures ∙ sym (opened_shown (known_of c.args.self.now) c.args.effect o.effect_is o.is));
+      dictionary = o.carries.dictionary;
+      contour = o.carries.contour;
+      pieces = o.carries.pieces;
+      start = o.carries.start;
+      counts = ap (λ (n : ℕ). n + 1) o.carries.counts;
+      place = o.carries.place;
+    }
+
+pub returns-clause-lawful : goal.returns-clause-lawful
+returns-clause-lawful c =
+    let o = c.in_ok-carry_out.ensures.ok in
+    let counted = c.in_ok-carry_out.ensures.counted in
+    let place = o.carries.place in
+    record {
+      settings = rw (c.after-settings.ensures, c.leads.ensures, c.opens_block.ensures) (after_lawful c.args.self.now.dictionary c.args.self.now.settings (view c.args.command.now) c.args.effect c.requires.lawful.settings c.requires.command c.requires.fit);
+      dictionary = c.in_ok-carry_out.ensures.dictionary;
+      counted = record { edges = counted.edges; few_pieces = counted.few_pieces; room = counted.room; start = counted.start };
+      layer = rw (ap (λ (q : Place). q.layer) place) c.requires.lawful.layer;
+    }

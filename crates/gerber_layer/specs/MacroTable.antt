@@ -1,0 +1,116 @@
+-- What a command does where a file may have macros: the rows that `Table` has not, or has otherwise (Gerber Layer Format
+-- Specification, 4.5).
+use Rattle.std.specs.Prelude.{ℕ, Bool, true, false, ◌||◌, nat_le, nat_lt, if◌then◌else◌, List, [], ◌∷◌, length, codes, Option, Some, None, is_some, Result, Ok, Err}
+use Rattle.std.specs.Str.Parse.{digits_value}
+use Rattle.texts.specs.Words.{is}
+use Rattle.lengths.specs.Decimal.{Fraction}
+use Rattle.lengths.specs.declared.decimal.Unit.{Unit as Measure}
+use Rattle.apertures.specs.declared.aperture.Aperture.{Aperture}
+use Rattle.apertures.specs.declared.fault.ApertureFault.{ApertureFault}
+use Rattle.apertures.specs.declared.fault.ApertureFault.TheVariants as aperture
+use Rattle.apertures.specs.Reading.{aperture_at, name_of}
+use Rattle.aperture_macros.specs.BodyWord.{PlainPrimitive, primitive_at}
+use Rattle.aperture_macros.specs.Images.{judged}
+use Rattle.aperture_macros.specs.declared.fault.MacroFault.{MacroFault}
+use Rattle.aperture_macros.specs.declared.fault.MacroFault.TheVariants as shape
+use Rattle.gerber_layer.specs.Command.{Command, nothing, refused, formats, counts_in, defines, selects, repeats, functions, opens_region, closes_region, operates, ends, names_macro, body_word, breaks, finishes}
+use Rattle.gerber_layer.specs.declared.kind.GerberKind.{GerberKind}
+use Rattle.gerber_layer.specs.declared.kind.GerberKind.TheVariants as kind
+use Rattle.gerber_layer.specs.declared.macro_kind.FlattenKind.{FlattenKind}
+use Rattle.gerber_layer.specs.declared.macro_kind.FlattenKind.TheVariants.{Gerber, BadMacro, MacroTwice, NoMacro, ExposureOff, Turn, Slanted, TooManyRadii}
+use Rattle.gerber_layer.specs.Radii.{radii_of}
+use Rattle.gerber_layer.specs.Reading.{is_empty}
+use Rattle.gerber_layer.specs.Tools.{composed, has_room, macro_named, name_text, number_digits, parameters_in}
+use Rattle.gerber_layer.specs.Table.{Known, Effect, stays, makes, begins_macro, fills_macro, concludes, ◌>>=◌, unless, needed, define, is_finish, row}
+
+-- how the rows of `Table` refuse
+abbrev pub gerber : {A : Type 0} → Result A GerberKind → Result A FlattenKind
+gerber (Ok x) = Ok x
+gerber (Err kind) = Err (Gerber kind)
+
+-- how a fault of a macro is refused
+abbrev pub kind_of_macro : MacroFault → FlattenKind
+kind_of_macro shape.BadMacro = BadMacro
+kind_of_macro shape.ExposureOff = ExposureOff
+kind_of_macro shape.Turn = Turn
+kind_of_macro shape.OffGrid = Gerber kind.OffGrid
+kind_of_macro shape.OutOfRange = Gerber kind.OutOfRange
+kind_of_macro shape.Slanted = Slanted
+
+abbrev pub as_macro : {A : Type 0} → Result A MacroFault → Result A FlattenKind
+as_macro (Ok x) = Ok x
+as_macro (Err fault) = Err (kind_of_macro fault)
+
+-- a macro has a name that is none of a standard aperture
+abbrev pub is_reserved : List ℕ → Bool
+is_reserved name = is_empty name || ((is name (codes "C") || is name (codes "R")) || (is name (codes "O") || is name (codes "P")))
+
+-- the row of `AM`
+unfoldable pub name_macro : Known → List ℕ → Result Effect FlattenKind
+name_macro k name = unless (is_reserved name) BadMacro (unless (is_some (macro_named k.macros name)) MacroTwice (Ok (begins_macro name)))
+
+-- the row of a word of a macro's body: a comment, or a primitive
+abbrev pub fill_by : Bool → Result (Option PlainPrimitive) MacroFault → Result Effect FlattenKind
+fill_by room (Ok None) = Ok stays
+fill_by room (Ok (Some primitive)) = if room then Ok (fills_macro primitive) else Err BadMacro
+fill_by room (Err fault) = if room then Err (kind_of_macro fault) else Err BadMacro
+
+unfoldable pub fill_macro : Known → List ℕ → Result Effect FlattenKind
+fill_macro k text = fill_by (has_room k.macros.latest) (primitive_at text)
+
+-- the first fault of the primitives with these parameters, if one has a fault
+unfoldable pub all_judged : List PlainPrimitive → List Fraction → Measure → Result (Unit {0}) MacroFault
+all_judged [] parameters unit = Ok tt
+all_judged (p ∷ body) parameters unit = judged p parameters unit >>= λ done. all_judged body parameters unit
+
+-- an aperture n of the macro of this name and body with these parameters
+unfoldable pub compose_as : Known → ℕ → List ℕ → List PlainPrimitive → List Fraction → Measure → Result Effect FlattenKind
+compose_as k n name body parameters unit =
+    unless (is_some (k.defined n)) (Gerber kind.ApertureTwice) (unless (nat_le 65536 k.definitions) (Gerber kind.TooManyApertures)
+    (as_macro (all_judged body parameters unit) >>= λ done. Ok (makes n (composed name parameters unit))))
+
+-- a definition of an aperture by a macro
+unfoldable pub compose : Known → List ℕ → Measure → Result Effect FlattenKind
+compose k text unit = do
+  body ← needed NoMacro (macro_named k.macros (name_of (name_text text)))
+  parameters ← needed BadMacro (parameters_in (name_text text))
+  compose_as k (digits_value 10 (number_digits text)) (name_of (name_text text)) body parameters unit
+
+-- the name is none of a standard aperture
+abbrev pub is_of_macro : Result (ℕ × Aperture) ApertureFault → Bool
+is_of_macro (Ok made) = false
+is_of_macro (Err aperture.Macro) = true
+is_of_macro (Err aperture.BadText) = false
+is_of_macro (Err aperture.Hole) = false
+is_of_macro (Err aperture.Polygon) = false
+is_of_macro (Err aperture.OffGrid) = false
+is_of_macro (Err aperture.OutOfRange) = false
+is_of_macro (Err aperture.Number) = false
+
+-- the row of a definition
+unfoldable pub define_any : Known → List ℕ → Result Effect FlattenKind
+define_any k text =
+    needed (Gerber kind.MissingUnit) k.settings.unit >>= λ unit.
+    if is_of_macro (aperture_at text unit) then compose k text unit else gerber (define k text)
+
+-- The rows where a file may have macros. A file's function is any.
+unfoldable pub row_with_macros : Known → Command → Result Effect FlattenKind
+row_with_macros k (names_macro name) = name_macro k name
+row_with_macros k (body_word text) = fill_macro k text
+row_with_macros k (defines text) = define_any k text
+row_with_macros k (functions function layer) = Ok stays
+row_with_macros k other = gerber (row k other)
+
+-- where the file ends, its image has at most 65,536 radii
+abbrev pub few_radii : Effect → Result Effect FlattenKind
+few_radii (concludes pieces) = unless (nat_lt 65536 (length (radii_of pieces))) TooManyRadii (Ok (concludes pieces))
+few_radii other = Ok other
+
+abbrev pub with_few_radii : Result Effect FlattenKind → Result Effect FlattenKind
+with_few_radii what = what >>= few_radii
+
+-- behind the end nothing may stand but the file's end
+unfoldable pub effect_with_macros : Known → Command → Result Effect FlattenKind
+effect_with_macros k c =
+    if k.settings.ended then (if is_finish c then Ok stays else Err (Gerber kind.AfterEnd))
+    else with_few_radii (row_with_macros k c)

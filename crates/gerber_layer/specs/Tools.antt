@@ -1,0 +1,98 @@
+-- What the aperture dictionary and the macros of a file hold.
+use Rattle.std.specs.Prelude.{ℕ, ◌+◌, zero, suc, Bool, true, false, nat_lt, if◌then◌else◌, List, [], ◌∷◌, ◌++◌, length, take, drop, ℤ, Option, Some, None, option_map, Result, Ok, Err}
+use Rattle.std.specs.List.{after_first, before_first, count_by, list_any}
+use Rattle.std.specs.Str.Parse.{digits_value}
+use Rattle.texts.specs.Words.{is}
+use Rattle.lengths.specs.Decimal.{Fraction, is_decimal, fraction}
+use Rattle.lengths.specs.declared.decimal.Unit.{Unit as Measure}
+use Rattle.apertures.specs.declared.aperture.Aperture.{Aperture}
+use Rattle.apertures.specs.declared.fault.ApertureFault.{ApertureFault}
+use Rattle.apertures.specs.declared.fault.ApertureFault.TheVariants as aperture
+use Rattle.apertures.specs.Flash.{pen_of}
+use Rattle.apertures.specs.Reading.{aperture_at, digits_len, is_comma, is_x, name_of}
+use Rattle.aperture_macros.specs.BodyWord.{PlainPrimitive}
+use Rattle.aperture_macros.specs.declared.fault.MacroFault.{MacroFault}
+
+-- An aperture: a standard one, or the macro of a name with its parameters and their unit.
+pub data Tool : Type 0 where
+  standard : Aperture → Tool
+  composed : List ℕ → List Fraction → Measure → Tool
+
+-- the diameter of the pen that it is: a circle alone draws
+abbrev pub pen_with : Tool → Option ℤ
+pen_with (standard aperture) = pen_of aperture
+pen_with (composed name parameters unit) = None
+
+-- a macro: its name and the primitives of its body
+pub record Macro : Type 0 where
+  pub name : List ℕ
+  pub body : List PlainPrimitive
+
+-- the macros of a file: the one that was begun last, and the others by their names
+pub record Macros : Type 0 where
+  pub latest : Option Macro
+  pub others : List ℕ → Option (List PlainPrimitive)
+
+-- the body of the macro of a name
+abbrev pub latest_or : Option Macro → Option (List PlainPrimitive) → List ℕ → Option (List PlainPrimitive)
+latest_or None other name = other
+latest_or (Some m) other name = if is m.name name then Some m.body else other
+
+abbrev pub macro_named : Macros → List ℕ → Option (List PlainPrimitive)
+macro_named m name = latest_or m.latest (m.others name) name
+
+-- a macro has at most 256 primitives
+abbrev pub has_room : Option Macro → Bool
+has_room None = false
+has_room (Some m) = nat_lt (length m.body) 256
+
+-- a macro is begun, or the last gets a primitive more
+abbrev pub begun : Macros → List ℕ → Macros
+begun m name = record { latest = Some (record { name = name; body = [] }); others = macro_named m }
+
+abbrev pub longer : PlainPrimitive → Macro → Macro
+longer p m = record { name = m.name; body = m.body ++ p ∷ [] }
+
+abbrev pub filled_up : Macros → PlainPrimitive → Macros
+filled_up m p = record { latest = option_map (longer p) m.latest; others = m.others }
+
+-- ---- An `AD` word of a macro (Gerber Layer Format Specification, 4.3)
+
+-- the digits of its number, and the name with the parameters behind them
+abbrev pub number_digits : List ℕ → List ℕ
+number_digits word = take (digits_len (drop 3 word)) (drop 3 word)
+
+abbrev pub name_text : List ℕ → List ℕ
+name_text word = drop (digits_len (drop 3 word)) (drop 3 word)
+
+-- n decimals, cut at `X`
+unfoldable pub decimals_in : ℕ → List ℕ → Option (List Fraction)
+decimals_in zero text = Some []
+decimals_in (suc n) text =
+    if is_decimal (before_first is_x text) then option_map (λ more. fraction (before_first is_x text) ∷ more) (decimals_in n (after_first is_x text))
+    else None
+
+-- the parameters behind the comma, if all are decimals
+unfoldable pub parameters_in : List ℕ → Option (List Fraction)
+parameters_in text =
+    if list_any is_comma text then decimals_in (count_by is_x (after_first is_comma text) + 1) (after_first is_comma text)
+    else Some []
+
+-- what such a word defines
+abbrev pub composed_in : List ℕ → Measure → Option (ℕ × Tool)
+composed_in word unit =
+    option_map (λ parameters. (digits_value 10 (number_digits word), composed (name_of (name_text word)) parameters unit)) (parameters_in (name_text word))
+
+-- what an `AD` word defines: a standard aperture, or one of a macro
+abbrev pub tool_by : Result (ℕ × Aperture) ApertureFault → Option (ℕ × Tool) → Option (ℕ × Tool)
+tool_by (Ok made) other = Some (made.0, standard made.1)
+tool_by (Err aperture.Macro) other = other
+tool_by (Err aperture.BadText) other = None
+tool_by (Err aperture.Hole) other = None
+tool_by (Err aperture.Polygon) other = None
+tool_by (Err aperture.OffGrid) other = None
+tool_by (Err aperture.OutOfRange) other = None
+tool_by (Err aperture.Number) other = None
+
+abbrev pub tool_in : List ℕ → Measure → Option (ℕ × Tool)
+tool_in word unit = tool_by (aperture_at word unit) (composed_in word unit)

@@ -1,0 +1,107 @@
+// Kinds of refusal where a file may have macros.
+use crate::kind::GerberKind;
+use aperture_macros::MacroFault;
+
+/// Why a command of a copper file is refused where the file may have aperture macros. Sections are
+/// those of the Gerber Layer Format Specification; the numbers are from 1 to 37.
+#[derive(Clone, Copy, Debug, PartialEq, Eq)]
+pub enum FlattenKind {
+    /// As of a file without macros, with the same number and name.
+    Gerber(GerberKind),
+    /// A macro with no name or that of a standard aperture, a word of a body that is no primitive
+    /// that is taken, over 256 primitives, a parameter that is no decimal, or an outline that does
+    /// not end where it begins (4.5).
+    BadMacro,
+    /// A macro of a name that has one.
+    MacroTwice,
+    /// An aperture of a macro that is not defined before.
+    NoMacro,
+    /// A primitive whose exposure is not on.
+    ExposureOff,
+    /// A primitive that is turned by no quarter turn.
+    Turn,
+    /// A vector line that is not along an axis.
+    Slanted,
+    /// Over 65,536 radii.
+    TooManyRadii,
+}
+
+impl FlattenKind {
+    ghost use Rattle.std.specs.Prelude.{◌≡◌};
+    ghost use Rattle.gerber_layer.specs.MacroKinds.{flatten_name, flatten_number};
+
+    /// Its number, from 1 to 37.
+    pub fn number(self) -> u32
+        ensures { result ≡ flatten_number self }
+    {
+        match self {
+            FlattenKind::Gerber(kind) => kind.number(),
+            FlattenKind::BadMacro => 31,
+            FlattenKind::MacroTwice => 32,
+            FlattenKind::NoMacro => 33,
+            FlattenKind::ExposureOff => 34,
+            FlattenKind::Turn => 35,
+            FlattenKind::Slanted => 36,
+            FlattenKind::TooManyRadii => 37,
+        }
+    }
+
+    /// Its name.
+    pub fn name(self) -> &'static str
+        ensures { result.now ≡ flatten_name self }
+    {
+        match self {
+            FlattenKind::Gerber(kind) => kind.name(),
+            FlattenKind::BadMacro => "BadMacro",
+            FlattenKind::MacroTwice => "MacroTwice",
+            FlattenKind::NoMacro => "NoMacro",
+            FlattenKind::ExposureOff => "ExposureOff",
+            FlattenKind::Turn => "Turn",
+            FlattenKind::Slanted => "Slanted",
+            FlattenKind::TooManyRadii => "TooManyRadii",
+        }
+    }
+}
+
+impl From<GerberKind> for FlattenKind {
+    ghost use Rattle.std.specs.Prelude.{◌≡◌};
+    ghost use Rattle.gerber_layer.specs.declared.macro_kind.FlattenKind.TheVariants.{Gerber};
+
+    ghost from_gives = { λ kind refusal. refusal ≡ Gerber kind };
+
+    fn from(kind: GerberKind) -> FlattenKind {
+        FlattenKind::Gerber(kind)
+    }
+}
+
+impl From<MacroFault> for FlattenKind {
+    ghost use Rattle.std.specs.Prelude.{◌≡◌};
+    ghost use Rattle.gerber_layer.specs.MacroTable.{kind_of_macro};
+
+    ghost from_gives = { λ fault refusal. refusal ≡ kind_of_macro fault };
+
+    fn from(fault: MacroFault) -> FlattenKind {
+        match fault {
+            MacroFault::BadMacro => FlattenKind::BadMacro,
+            MacroFault::ExposureOff => FlattenKind::ExposureOff,
+            MacroFault::Turn => FlattenKind::Turn,
+            MacroFault::OffGrid => FlattenKind::Gerber(GerberKind::OffGrid),
+            MacroFault::OutOfRange => FlattenKind::Gerber(GerberKind::OutOfRange),
+            MacroFault::Slanted => FlattenKind::Slanted,
+        }
+    }
+}
+
+/// Why a copper file with macros is not read: its first faulty command, by its number from 1 and the
+/// place of its first byte, or want of memory.
+#[derive(Clone, Copy, Debug, PartialEq, Eq)]
+pub enum FlattenFault {
+    Refused {
+        kind: FlattenKind,
+        /// The number of the command, from 1.
+        command: u32,
+        /// The place of its first byte in the file, from 0.
+        at: usize,
+    },
+    NoMemory,
+}

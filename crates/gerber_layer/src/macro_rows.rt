@@ -1,0 +1,305 @@
+// The rows of the table of commands where a file may have macros.
+ghost use Rattle.std.specs.Prelude.{◌≡◌, ◌+◌, ◌^◌, ◌<◌, true, IfErr, IfOk, Ok, OnOk};
+ghost use Rattle.board_shapes.specs.Pieces.{plain_pieces};
+ghost use Rattle.gerber_layer.specs.Command.{view};
+ghost use Rattle.gerber_layer.specs.Lawful.{IsLawfulCommand};
+ghost use Rattle.gerber_layer.specs.MacroTable as spec;
+ghost use Rattle.apertures.specs.Reading.{aperture_at};
+ghost use Rattle.gerber_layer.specs.MacroReader.{any_halt};
+ghost use Rattle.gerber_layer.specs.MacroTable.{as_macro, gerber};
+ghost use Rattle.gerber_layer.specs.Reader.{body_of};
+ghost use Rattle.gerber_layer.specs.Table.{concludes, row};
+
+use crate::command::Command;
+use crate::effect::Effect;
+use crate::kind::GerberKind;
+use crate::macro_kind::FlattenKind;
+use crate::parameters::{name_text, number, parameters};
+use crate::radii::Radii;
+use crate::reader::Reader;
+use crate::table::is_finish;
+use crate::tool::Tool;
+use aperture_macros::{Primitive, read_body};
+use apertures::{ApertureFault, read_aperture};
+use file_reading::Halt;
+use lengths::{Decimal, Unit};
+use std::alloc::Global;
+use texts::{before, is};
+
+// A name that is none, or that of a standard aperture.
+fn is_reserved(name: &[u8]) -> bool
+    ensures { result ≡ spec.is_reserved name.now }
+{
+    if name.is_empty() {
+        return true;
+    }
+    is(name, b"C") || is(name, b"R") || is(name, b"O") || is(name, b"P")
+}
+
+// Whether the name of an `AD` word is none of a standard aperture.
+fn is_of_macro(text: &[u8], unit: Unit) -> bool
+    ensures { result ≡ spec.is_of_macro (aperture_at text.now unit) }
+{
+    match read_aperture(text, unit) {
+        Ok(_) => false,
+        Err(fault) => match fault {
+            ApertureFault::Macro => true,
+            ApertureFault::BadText => false,
+            ApertureFault::Hole => false,
+            ApertureFault::Polygon => false,
+            ApertureFault::OffGrid => false,
+            ApertureFault::OutOfRange => false,
+            ApertureFault::Number => false,
+        },
+    }
+}
+
+// Judges the primitives of a macro with parameters.
+#[tactic(auto, unfolding(crate::specs::MacroTable::all_judged))]
+fn judge(body: &[Primitive], parameters: &[Decimal], unit: Unit) -> Result<(), FlattenKind>
+    ensures { result ≡ as_macro (spec.all_judged (body_of body.now) parameters.now unit) }
+{
+    for primitive in body {
+        primitive.judge(parameters, unit)?;
+    }
+    Ok(())
+}
+
+impl<'a> Reader<'a> {
+    ghost use Rattle.gerber_layer.specs.Reader.{IsFit, IsLawfulReader, Obeys, Stops, known_of, shown};
+    ghost use Rattle.gerber_layer.specs.MacroReader.{showing_any};
+
+    // `AM`.
+    #[tactic(auto, unfolding(crate::specs::MacroTable::name_macro))]
+    fn name_macro(&self, name: &'a [u8]) -> Result<Effect<'a>, FlattenKind>
+        ensures value { showing_any (known_of self.now) result ≡ spec.name_macro (known_of self.now) name.now }
+        ensures fit { IfOk result (IsFit self.now.dictionary) }
+    {
+        if is_reserved(name) {
+            return Err(FlattenKind::BadMacro);
+        }
+        if self.dictionary.has_macro(name) {
+            return Err(FlattenKind::MacroTwice);
+        }
+        Ok(Effect::Begins(name))
+    }
+
+    // A word of a macro's body.
+    #[tactic(auto, unfolding(crate::specs::MacroTable::fill_macro))]
+    fn fill_macro(&self, text: &'a [u8]) -> Result<Effect<'a>, FlattenKind>
+        ensures value { showing_any (known_of self.now) result ≡ spec.fill_macro (known_of self.now) text.now }
+        ensures fit { IfOk result (IsFit self.now.dictionary) }
+    {
+        let room = self.dictionary.has_room();
+        match read_body(text) {
+            Ok(None) => Ok(Effect::Stays),
+            Ok(Some(primitive)) => if room {
+                Ok(Effect::Fills(primitive))
+            } else {
+                Err(FlattenKind::BadMacro)
+            },
+            Err(fault) => if room {
+                Err(FlattenKind::from(fault))
+            } else {
+                Err(FlattenKind::BadMacro)
+            },
+        }
+    }
+
+    // An aperture of a macro.
+    #[tactic(auto, unfolding(crate::specs::MacroTable::compose))]
+    fn compose(
+        &self,
+        alloc: Global,
+        text: &'a [u8],
+        unit: Unit,
+    ) -> Result<Effect<'a>, Halt<FlattenKind>>
+        requires { spec.is_of_macro (aperture_at text.now unit) ≡ true }
+        ensures ok { IfOk result (λ e. gerber (shown (known_of self.now) e) ≡ spec.compose (known_of self.now) text.now unit) }
+        ensures fit { IfOk result (IsFit self.now.dictionary) }
+        ensures halt { IfErr result (Stops (spec.compose (known_of self.now) text.now unit)) }
+    {
+        let word = name_text(text);
+        let name = before(word, b',');
+        let Some(body) = self.dictionary.body(name) else {
+            return Err(Halt::Fault(FlattenKind::NoMacro));
+        };
+        let Ok(parameters) = parameters(alloc, word) else {
+            return Err(Halt::NoMemory);
+        };
+        let Some(parameters) = parameters else {
+            return Err(Halt::Fault(FlattenKind::BadMacro));
+        };
+        match self.compose_as(number(text), name, body, parameters, unit) {
+            Ok(effect) => Ok(effect),
+            Err(kind) => Err(Halt::Fault(kind)),
+        }
+    }
+
+    // An aperture of the macro of this name and body.
+    #[tactic(auto, unfolding(crate::specs::MacroTable::compose_as))]
+    fn compose_as(
+        &self,
+        n: u32,
+        name: &'a [u8],
+        body: &[Primitive],
+        parameters: Vec<Decimal>,
+        unit: Unit,
+    ) -> Result<Effect<'a>, FlattenKind>
+        ensures value { showing_any (known_of self.now) result ≡ spec.compose_as (known_of self.now) n name.now (body_of body.now) parameters.items unit }
+        ensures fit { IfOk result (IsFit self.now.dictionary) }
+    {
+        if self.dictionary.defines(n) {
+            return Err(FlattenKind::Gerber(GerberKind::ApertureTwice));
+        }
+        if self.dictionary.len() >= 65_536 {
+            return Err(FlattenKind::Gerber(GerberKind::TooManyApertures));
+        }
+        judge(body, &parameters, unit)?;
+        Ok(Effect::Makes(n, Tool::Composed(name, parameters, unit)))
+    }
+
+    // `AD`.
+    #[tactic(auto, unfolding(crate::specs::MacroTable::define_any))]
+    fn define_any(&self, alloc: Global, text: &'a [u8]) -> Result<Effect<'a>, Halt<FlattenKind>>
+        ensures ok { IfOk result (λ e. gerber (shown (known_of self.now) e) ≡ spec.define_any (known_of self.now) text.now) }
+        ensures fit { IfOk result (IsFit self.now.dictionary) }
+        ensures halt { IfErr result (Stops (spec.define_any (known_of self.now) text.now)) }
+    {
+        let Some(unit) = self.settings.unit else {
+            return Err(Halt::Fault(FlattenKind::Gerber(GerberKind::MissingUnit)));
+        };
+        if is_of_macro(text, unit) {
+            return self.compose(alloc, text, unit);
+        }
+        match self.define(text) {
+            Ok(effect) => Ok(effect),
+            Err(kind) => Err(Halt::Fault(FlattenKind::Gerber(kind))),
+        }
+    }
+
+    #[tactic(auto, unfolding(crate::specs::MacroTable::row_with_macros))]
+    fn row_with_macros(
+        &self,
+        alloc: Global,
+        command: &Command<'a>,
+    ) -> Result<Effect<'a>, Halt<FlattenKind>>
+        requires lawful { IsLawfulReader self.now }
+        requires command { IsLawfulCommand (view command.now) }
+        ensures ok { IfOk result (λ e. gerber (shown (known_of self.now) e) ≡ spec.row_with_macros (known_of self.now) (view command.now)) }
+        ensures fit { IfOk result (IsFit self.now.dictionary) }
+        ensures halt { IfErr result (Stops (spec.row_with_macros (known_of self.now) (view command.now))) }
+    {
+        match *command {
+            Command::Macro(name) => match self.name_macro(name) {
+                Ok(effect) => Ok(effect),
+                Err(kind) => Err(Halt::Fault(kind)),
+            },
+            Command::Body(text) => match self.fill_macro(text) {
+                Ok(effect) => Ok(effect),
+                Err(kind) => Err(Halt::Fault(kind)),
+            },
+            Command::Define(text) => self.define_any(alloc, text),
+            Command::Function(_, _) => Ok(Effect::Stays),
+            Command::Nothing => self.standard_row(command),
+            Command::Refused(_) => self.standard_row(command),
+            Command::Format(_) => self.standard_row(command),
+            Command::Unit(_) => self.standard_row(command),
+            Command::Select(_) => self.standard_row(command),
+            Command::Repeat(_) => self.standard_row(command),
+            Command::OpenRegion => self.standard_row(command),
+            Command::CloseRegion => self.standard_row(command),
+            Command::Operate(_, _, _) => self.standard_row(command),
+            Command::End => self.standard_row(command),
+            Command::Broken(_) => self.standard_row(command),
+            Command::Finish => self.standard_row(command),
+        }
+    }
+
+    // A row that is the same without macros.
+    fn standard_row(&self, command: &Command<'a>) -> Result<Effect<'a>, Halt<FlattenKind>>
+        requires lawful { IsLawfulReader self.now }
+        requires command { IsLawfulCommand (view command.now) }
+        ensures ok { IfOk result (λ e. gerber (shown (known_of self.now) e) ≡ gerber (row (known_of self.now) (view command.now))) }
+        ensures fit { IfOk result (IsFit self.now.dictionary) }
+        ensures halt { IfErr result (Stops (gerber (row (known_of self.now) (view command.now)))) }
+    {
+        match self.row(command) {
+            Ok(effect) => Ok(effect),
+            Err(kind) => Err(Halt::Fault(FlattenKind::Gerber(kind))),
+        }
+    }
+
+    // What a command does where the file may have macros, or its fault.
+    #[tactic(auto, unfolding(crate::specs::MacroTable::effect_with_macros))]
+    fn effect_with_macros(
+        &self,
+        alloc: Global,
+        command: &Command<'a>,
+    ) -> Result<Effect<'a>, Halt<FlattenKind>>
+        requires lawful { IsLawfulReader self.now }
+        requires command { IsLawfulCommand (view command.now) }
+        ensures ok { IfOk result (λ e. spec.with_few_radii (gerber (shown (known_of self.now) e)) ≡ spec.effect_with_macros (known_of self.now) (view command.now)) }
+        ensures fit { IfOk result (IsFit self.now.dictionary) }
+        ensures halt { IfErr result (Stops (spec.effect_with_macros (known_of self.now) (view command.now))) }
+    {
+        if !self.settings.ended {
+            return self.row_with_macros(alloc, command);
+        }
+        if is_finish(command) {
+            Ok(Effect::Stays)
+        } else {
+            Err(Halt::Fault(FlattenKind::Gerber(GerberKind::AfterEnd)))
+        }
+    }
+
+    // The pieces have at most 65,536 radii.
+    fn has_few_radii(&self, alloc: Global) -> Result<(), Halt<FlattenKind>>
+        ensures ok { IfOk result (λ _. spec.few_radii (concludes (plain_pieces self.now.pieces.items)) ≡ Ok (concludes (plain_pieces self.now.pieces.items))) }
+        ensures halt { IfErr result (Stops (spec.few_radii (concludes (plain_pieces self.now.pieces.items)))) }
+    {
+        let Ok(radii) = Radii::of(alloc, &self.pieces) else {
+            return Err(Halt::NoMemory);
+        };
+        if radii.len() > 65_536 {
+            return Err(Halt::Fault(FlattenKind::TooManyRadii));
+        }
+        Ok(())
+    }
+
+    /// Obeys a command where the file may have macros. An `Err` leaves a reader that is of no more
+    /// use.
+    pub fn obey_with_macros(
+        &mut self,
+        alloc: Global,
+        command: &Command<'a>,
+    ) -> Result<(), Halt<FlattenKind>>
+        requires lawful { IsLawfulReader self.old }
+        requires command { IsLawfulCommand (view command.now) }
+        requires few { self.old.commands + 1 < 2 ^ 32 }
+        ensures ok { OnOk result (Obeys self.old (view command.now) (spec.effect_with_macros (known_of self.old) (view command.now)) self.new) }
+        ensures lawful { OnOk result (IsLawfulReader self.new) }
+        ensures halt { IfErr result (Stops (spec.effect_with_macros (known_of self.old) (view command.now))) }
+    {
+        let effect = self.effect_with_macros(alloc, command)?;
+        let ends = effect.is_end();
+        if let Err(halt) = self.go_on(alloc, command, effect) {
+            return Err(any_halt(halt));
+        }
+        if ends {
+            self.has_few_radii(alloc)
+        } else {
+            Ok(())
+        }
+    }
+}
+
+// What stops the reader at a row that is the same without macros.
+fn any_halt(halt: Halt<GerberKind>) -> Halt<FlattenKind>
+    ensures { result ≡ any_halt halt }
+{
+    match halt {
+        Halt::Fault(kind) => Halt::Fault(FlattenKind::Gerber(kind)),
+        Halt::NoMemory => Halt::NoMemory,
+    }
+}

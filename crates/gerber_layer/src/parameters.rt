@@ -1,0 +1,87 @@
+// The definition of an aperture by a macro.
+ghost use Rattle.std.specs.Prelude.{◌≡◌, ◌≤◌, true, drop, length, IfOk, option_map};
+ghost use Rattle.std.specs.List.{count_by, list_all};
+ghost use Rattle.texts.specs.Digits.{is_decimal_digit};
+ghost use Rattle.std.specs.Str.Parse.{digits_value as value_of_digits};
+ghost use Rattle.apertures.specs.Reading.{is_x};
+ghost use Rattle.gerber_layer.specs.Tools as spec;
+
+use lengths::{Decimal, NoMemory, digits_value, read_decimal};
+use std::alloc::Global;
+use texts::{after, before, digits_len, has};
+
+/// The name of an aperture with its parameters, which stand behind its number.
+pub fn name_text(word: &[u8]) -> &[u8]
+    ensures { result.now ≡ spec.name_text word.now }
+{
+    let text = behind_letters(word);
+    &text[digits_len(text)..]
+}
+
+/// The number of an aperture.
+pub fn number(word: &[u8]) -> u32
+    requires { length (spec.number_digits word.now) ≤ 9 }
+    ensures { result ≡ value_of_digits 10 (spec.number_digits word.now) }
+{
+    let text = behind_letters(word);
+    value_of(&text[..digits_len(text)])
+}
+
+// The number that digits spell.
+fn value_of(digits: &[u8]) -> u32
+    requires digits { list_all is_decimal_digit digits.now ≡ true }
+    requires few { length digits.now ≤ 9 }
+    ensures value { result ≡ value_of_digits 10 digits.now }
+{
+    digits_value(0, digits) as u32
+}
+
+// What follows `ADD`.
+fn behind_letters(word: &[u8]) -> &[u8]
+    ensures { result.now ≡ drop 3 word.now }
+{
+    if word.len() < 3 {
+        return &[];
+    }
+    &word[3..]
+}
+
+// How often `X` stands in a text.
+fn count(text: &[u8]) -> usize
+    ensures { result ≡ count_by is_x text.now }
+{
+    text.iter().filter(|b| **b == b'X').count()
+}
+
+// So many decimals, cut at `X`.
+#[tactic(auto, unfolding(crate::specs::Tools::decimals_in))]
+fn decimals(alloc: Global, n: usize, text: &[u8]) -> Result<Option<Vec<Decimal>>, NoMemory>
+    ensures { IfOk result (λ ds. option_map (λ v. v.items) ds ≡ spec.decimals_in n text.now) }
+{
+    let mut decimals = Vec::new(alloc);
+    let mut left = n;
+    let mut rest = text;
+    while left > 0 {
+        let Some(decimal) = read_decimal(before(rest, b'X')) else {
+            return Ok(None);
+        };
+        if let Err(_) = decimals.push(decimal) {
+            return Err(NoMemory);
+        }
+        rest = after(rest, b'X');
+        left -= 1;
+    }
+    Ok(Some(decimals))
+}
+
+/// The parameters of an aperture of a macro, where all are decimals.
+#[tactic(auto, unfolding(crate::specs::Tools::parameters_in))]
+pub fn parameters(alloc: Global, text: &[u8]) -> Result<Option<Vec<Decimal>>, NoMemory>
+    ensures { IfOk result (λ ds. option_map (λ v. v.items) ds ≡ spec.parameters_in text.now) }
+{
+    if !has(text, b',') {
+        return Ok(Some(Vec::new(alloc)));
+    }
+    let text = after(text, b',');
+    decimals(alloc, count(text) + 1, text)
+}

@@ -1,0 +1,26 @@
+// What stands in the aperture dictionary.
+use apertures::Aperture;
+use lengths::{Decimal, Unit};
+
+/// An aperture: a standard one, or the macro of a name with its parameters and their unit.
+#[derive(Drop)]
+pub enum Tool<'a> {
+    Standard(Aperture),
+    Composed(&'a [u8], Vec<Decimal>, Unit),
+}
+
+impl<'a> Tool<'a> {
+    ghost use Rattle.std.specs.Prelude.{◌≡◌};
+    ghost use Rattle.gerber_layer.specs.Tools.{pen_with};
+    ghost use Rattle.gerber_layer.specs.Reader.{tool_of};
+
+    /// The diameter of the pen that it is: a circle alone draws.
+    pub fn pen(&self) -> Option<i64>
+        ensures { result ≡ pen_with (tool_of self.now) }
+    {
+        match self {
+            Tool::Standard(aperture) => aperture.pen(),
+            Tool::Composed(_, _, _) => None,
+        }
+    }
+}

@@ -1,0 +1,252 @@
+-- What the commands of a copper file make: figures that can be drawn, within the room.
+use Rattle.std.proofs.Common.{unsigned_abs, ◌≡◌, ℕ, zero, suc, ◌+◌, ◌<◌, ◌≤◌, Bool, true, false, not, cond, nat_le, nat_lt, List, [], ◌∷◌, ◌++◌, length, take, drop, ℤ, Option, Some, None, Result, Ok, Err, refl, sym, ap, ◌∙◌, subst, arith, length-append, append-nil}
+use Rattle.std.proofs.lemmas.Bool.{leb-false, ltb-false}
+use Rattle.std.proofs.lemmas.List.{length-take}
+use Rattle.std.proofs.lemmas.List.Sums.{sum_by_push, sum_by-append, sum_by-take-le}
+use Rattle.std.specs.List.{AllByRecursion}
+use Rattle.planar.specs.Plane.{IsPlaced}
+use Rattle.planar.specs.declared.Spot.{Spot}
+use Rattle.area_contact.specs.Contour.{end_from}
+use Rattle.board_shapes.specs.Figures.{Figure, round, figure_edges}
+use Rattle.board_shapes.specs.Pieces.{PlainPiece}
+use Rattle.apertures.specs.declared.aperture.Aperture.{Aperture}
+use Rattle.apertures.specs.declared.aperture.Aperture.TheVariants.{Circle, Rectangle, Obround}
+use Rattle.apertures.specs.declared.fault.FlashFault.{FlashFault}
+use Rattle.apertures.specs.Reading.{is_zero}
+use Rattle.apertures.specs.Flash.{IsNarrow, IsSize, IsLawful, flash_of, half}
+use Rattle.regions.specs.Contours.{close_of, same_spot}
+use Rattle.regions.specs.declared.contour.CloseFault.{CloseFault}
+use Rattle.regions.specs.declared.contour.CloseFault.TheVariants.{Open, Short}
+use Rattle.step_repeat.specs.Copies.{copies_at}
+use Rattle.step_repeat.specs.declared.repeat.Repeat.{Repeat}
+use Rattle.step_repeat.specs.declared.fault.CopyFault.{CopyFault}
+use Rattle.gerber_layer.specs.declared.kind.GerberKind.{GerberKind}
+use Rattle.gerber_layer.specs.declared.kind.GerberKind.TheVariants as kind
+use Rattle.gerber_layer.specs.Table.{Known, Place, Effect, performs, ◌>>=◌, needed, selected, lookup, room_for, edges_for, edges_of, edges_in, exceed, draw, flash, flash_by, flash_with, flashed, closing, closed, area_if, ended_block, with_copies, as_copies, left, listed}
+use Rattle.gerber_layer.specs.Tools.{Tool, standard, composed, pen_with}
+use Rattle.gerber_layer.specs.Image.{made}
+use Rattle.gerber_layer.proofs.Outcome.{bind_ok, got}
+use Rattle.macro_flatten.specs.Laws.{IsDrawn}
+use Rattle.macro_flatten.proofs.Drawn.{pen_drawn, flash_drawn, contour_drawn}
+use Rattle.macro_flatten.proofs.Copies.{Drawn, all-append, are_copies}
+
+-- a standard aperture, and a lawful one
+abbrev pub IsStandard : Tool → Type 0
+IsStandard (standard a) = IsLawful a
+IsStandard (composed name parameters unit) = ⊥
+
+-- what is known is lawful, and within the room: every aperture is a standard one
+pub record Lawfully (k : Known) : Type 0 where
+  pub placed : IsPlaced k.settings.at
+  pub contour : AllByRecursion IsPlaced k.contour
+  pub short : length k.contour ≤ 100_001
+  pub outside : k.settings.region ≡ false → k.contour ≡ []
+  pub apertures : (n : ℕ) (a : Tool) → k.defined n ≡ Some a → IsStandard a
+  pub drawn : Drawn k.pieces
+  pub few : length k.pieces ≤ k.place.room.pieces
+  pub edges : edges_of k.pieces + edges_in k.contour ≤ k.place.room.edges
+
+-- pieces that can be drawn, within the room
+pub record Fit (p : Place) (pieces : List PlainPiece) : Type 0 where
+  pub drawn : Drawn pieces
+  pub few : length pieces ≤ p.room.pieces
+  pub edges : edges_of pieces ≤ p.room.edges
+
+-- one figure more that can be drawn, and has room
+abbrev pub Fits : Known → Option Figure → Type 0
+Fits k None = Unit {0}
+Fits k (Some f) = IsDrawn f × (length k.pieces < k.place.room.pieces) × (edges_of k.pieces + figure_edges f ≤ k.place.room.edges)
+
+pub pushed : (k : Known) (n : ℕ) (f : Option Figure) → Lawfully k → Fits k f → Fit k.place (k.pieces ++ made k.place n (listed f))
+pushed k n None l h = let edges = l.edges in subst (Fit k.place) (sym (append-nil k.pieces)) (record { drawn = l.drawn; few = l.few; edges = omega (arith, edges) })
+pushed k n (Some f) l h =
+    let a = h.1 in
+    let b = h.2 in
+    let long = length-append k.pieces (made k.place n (f ∷ [])) in
+    let sum : edges_of (k.pieces ++ made k.place n (f ∷ [])) ≡ edges_of k.pieces + figure_edges f = sum_by_push (λ (q : PlainPiece). figure_edges q.figure) k.pieces (record { figure = f; top = k.place.layer; bottom = k.place.layer; origin = record { file = k.place.file; command = n; copy = 0 } }) in
+    record {
+      drawn = all-append (λ (q : PlainPiece). IsDrawn q.figure) k.pieces (made k.place n (f ∷ [])) l.drawn (h.0, tt);
+      few = omega (arith, a, long);
+      edges = omega (arith, b, sum);
+    }
+
+-- ---- Room
+
+HasRoom : Known → Option Figure → Type 0
+HasRoom k None = Unit {0}
+HasRoom k (Some f) = length k.pieces < k.place.room.pieces
+
+HasEdges : Known → Option Figure → Type 0
+HasEdges k None = Unit {0}
+HasEdges k (Some f) = edges_of k.pieces + figure_edges f ≤ k.place.room.edges
+
+room_made : (k : Known) (o r : Option Figure) → room_for k o ≡ Ok r → (r ≡ o) × HasRoom k r
+unfolding room_for HasRoom
+room_made k None None h = (refl, tt)
+room_made k None (Some g) h = cc
+room_made k (Some f) r h = by (nat_le k.place.room.pieces (length k.pieces)) refl h
+  where
+    by : (b : Bool) → nat_le k.place.room.pieces (length k.pieces) ≡ b → ◌≡◌ {A = Result (Option Figure) GerberKind} (cond b (Err kind.TooManyPieces) (Ok (Some f))) (Ok r) → (r ≡ Some f) × HasRoom k r
+    by true e h = cc
+    by false e h = let s : Some f ≡ r = cc in (sym s, subst (HasRoom k) s (leb-false _ _ e))
+
+edges_made : (k : Known) (o r : Option Figure) → edges_for k o ≡ Ok r → (r ≡ o) × HasEdges k r
+unfolding edges_for HasEdges
+edges_made k None None h = (refl, tt)
+edges_made k None (Some g) h = cc
+edges_made k (Some f) r h = by (exceed k (figure_edges f)) refl h
+  where
+    by : (b : Bool) → exceed k (figure_edges f) ≡ b → ◌≡◌ {A = Result (Option Figure) GerberKind} (cond b (Err kind.TooManyVertices) (Ok (Some f))) (Ok r) → (r ≡ Some f) × HasEdges k r
+    by true e h = cc
+    by false e h = let s : Some f ≡ r = cc in (sym s, subst (HasEdges k) s (ltb-false _ _ e))
+
+-- ---- Apertures
+
+selected_lawful : (o : Option ℕ) (defined : ℕ → Option Tool) (a : Tool) → ((n : ℕ) (a : Tool) → defined n ≡ Some a → IsStandard a) → lookup o defined ≡ Some a → IsStandard a
+selected_lawful None defined a f h = cc
+selected_lawful (Some n) defined a f h = f n a h
+
+pen_size : (a : Tool) (d : ℤ) → IsStandard a → pen_with a ≡ Some d → IsSize d × IsNarrow (unsigned_abs d)
+pen_size (standard (Circle c)) d h e = let same : c ≡ d = cc in subst (λ (z : ℤ). IsSize z × IsNarrow (unsigned_abs z)) same h
+pen_size (standard (Rectangle x y)) d h e = cc
+pen_size (standard (Obround x y)) d h e = cc
+pen_size (composed name parameters unit) d h e = cc
+
+-- ---- Draws and flashes
+
+-- an operation outside a region made a figure that fits, or none
+pub record Made (k : Known) (to : Spot) (e : Effect) : Type 0 where
+  pub figure : Option Figure
+  pub is : e ≡ performs to (listed figure)
+  pub fits : Fits k figure
+
+pub draw_made : (k : Known) (to : Spot) (e : Effect) → Lawfully k → IsPlaced to → draw k to ≡ Ok e → Made k to e
+unfolding draw HasRoom
+draw_made k to e l there h =
+    let stroke = λ (pen : ℤ). round (record { a = k.settings.at; b = to; r = half pen }) in
+    let f = λ (pen : ℤ). room_for k (cond (is_zero pen) None (Some (stroke pen))) in
+    let a = bind_ok (needed kind.NoAperture (selected k)) (λ aperture. needed kind.PenNotCircle (pen_with aperture) >>= λ pen. f pen >>= λ figure. Ok (performs to (listed figure))) e h in
+    let p = bind_ok (needed kind.PenNotCircle (pen_with a.0)) (λ pen. f pen >>= λ figure. Ok (performs to (listed figure))) e a.2 in
+    let r = bind_ok (f p.0) (λ figure. Ok (performs to (listed figure))) e p.2 in
+    let made : Ok (performs to (listed r.0)) ≡ Ok e = r.2 in
+    let same : performs to (listed r.0) ≡ e = cc in
+    let lawful = selected_lawful k.settings.selected k.defined a.0 l.apertures (got kind.NoAperture (selected k) a.0 a.1) in
+    let size = pen_size a.0 p.0 lawful (got kind.PenNotCircle (pen_with a.0) p.0 p.1) in
+    let m = room_made k (cond (is_zero p.0) None (Some (stroke p.0))) r.0 r.1 in
+    record { figure = r.0; is = sym same; fits = draw_fits p.0 r.0 size (is_zero p.0) refl m.0 m.1 }
+  where
+    draw_fits : (d : ℤ) (r : Option Figure) → IsSize d × IsNarrow (unsigned_abs d) → (b : Bool) → is_zero d ≡ b → r ≡ cond (is_zero d) None (Some (round (record { a = k.settings.at; b = to; r = half d }))) → HasRoom k r → Fits k r
+    draw_fits d r size true e is room = let none : r ≡ None = rw e at is in subst (Fits k) (sym none) tt
+    draw_fits d r size false e is room =
+        let some : r ≡ Some (round (record { a = k.settings.at; b = to; r = half d })) = rw e at is in
+        let edges = l.edges in
+        subst (Fits k) (sym some) (pen_drawn k.settings.at to d l.placed there size.0 size.1 e, subst (HasRoom k) some room, omega (arith, edges))
+
+flashed_ok : (r : Result (Option Figure) FlashFault) (f : Option Figure) → flashed r ≡ Ok f → r ≡ Ok f
+flashed_ok (Ok g) f h = let s : g ≡ f = cc in ap Ok s
+flashed_ok (Err e) f h = cc
+
+flash_fits : (k : Known) (a : Aperture) (to : Spot) (f : Option Figure) → IsLawful a → IsPlaced to → flash_of a to ≡ Ok f → HasRoom k f → HasEdges k f → Fits k f
+unfolding HasRoom HasEdges
+flash_fits k a to None l there h room edges = tt
+flash_fits k a to (Some f) l there h room edges = (flash_drawn a to f l there h, room, edges)
+
+flash_by_made : (k : Known) (a : Aperture) (to : Spot) (e : Effect) → IsLawful a → Lawfully k → IsPlaced to → flash_by k a to ≡ Ok e → Made k to e
+unfolding flash_by
+flash_by_made k a to e lawful l there h =
+    let f = bind_ok (flashed (flash_of a to)) (λ flash. room_for k flash >>= λ piece. edges_for k piece >>= λ figure. Ok (performs to (listed figure))) e h in
+    let r = bind_ok (room_for k f.0) (λ piece. edges_for k piece >>= λ figure. Ok (performs to (listed figure))) e f.2 in
+    let g = bind_ok (edges_for k r.0) (λ figure. Ok (performs to (listed figure))) e r.2 in
+    let made : Ok (performs to (listed g.0)) ≡ Ok e = g.2 in
+    let same : performs to (listed g.0) ≡ e = cc in
+    let m = room_made k f.0 r.0 r.1 in
+    let n = edges_made k r.0 g.0 g.1 in
+    record {
+      figure = g.0;
+      is = sym same;
+      fits = flash_fits k a to g.0 lawful there (flashed_ok (flash_of a to) f.0 f.1 ∙ ap Ok (sym m.0) ∙ ap Ok (sym n.0)) (subst (HasRoom k) (sym n.0) m.1) n.1;
+    }
+
+flash_with_made : (k : Known) (a : Tool) (to : Spot) (e : Effect) → IsStandard a → Lawfully k → IsPlaced to → flash_with k a to ≡ Ok e → Made k to e
+unfolding flash_with
+flash_with_made k (standard a) to e lawful l there h = flash_by_made k a to e lawful l there h
+flash_with_made k (composed name parameters unit) to e lawful l there h = absurd lawful
+
+pub flash_made : (k : Known) (to : Spot) (e : Effect) → Lawfully k → IsPlaced to → flash k to ≡ Ok e → Made k to e
+unfolding flash
+flash_made k to e l there h =
+    let a = bind_ok (needed kind.NoAperture (selected k)) (λ aperture. flash_with k aperture to) e h in
+    flash_with_made k a.0 to e (selected_lawful k.settings.selected k.defined a.0 l.apertures (got kind.NoAperture (selected k) a.0 a.1)) l there a.2
+
+-- ---- Contours
+
+closed_ok : (r : Result (Option (List Spot)) CloseFault) (o : Option (List Spot)) → closed r ≡ Ok o → r ≡ Ok o
+closed_ok (Ok g) o h = let s : g ≡ o = cc in ap Ok s
+closed_ok (Err e) o h = cc
+
+-- the area has the points of the contour
+close_points : (contour points : List Spot) → close_of contour ≡ Ok (Some points) → points ≡ contour
+unfolding close_of
+close_points [] points e = cc
+close_points (a ∷ []) points e = cc
+close_points (a ∷ b ∷ rest) points e = by (not (same_spot (end_from b rest) a)) (nat_lt (length rest) 2) e
+  where
+    by : (s t : Bool) → cond s (Err Open) (cond t (Err Short) (Ok (Some (a ∷ b ∷ rest)))) ≡ Ok (Some points) → points ≡ a ∷ b ∷ rest
+    by true t e = cc
+    by false true e = cc
+    by false false e = let same : a ∷ b ∷ rest ≡ points = cc in sym same
+
+closing_fits : (k : Known) (o : Option (List Spot)) (f : Option Figure) → Lawfully k → close_of k.contour ≡ Ok o → f ≡ area_if o → HasRoom k f → Fits k f
+unfolding HasRoom
+closing_fits k None f l h e room = subst (Fits k) (sym e) tt
+closing_fits k (Some points) f l h e room =
+    let same : points ≡ k.contour = close_points k.contour points h in
+    let edges = l.edges in
+    let long = ap length same in
+    subst (Fits k) (sym e) (contour_drawn k.contour points l.contour l.short h, subst (HasRoom k) e room, omega (arith, edges, long))
+
+pub closing_made : (k : Known) (f : Option Figure) → Lawfully k → closing k ≡ Ok f → Fits k f
+unfolding closing
+closing_made k f l h =
+    let c = bind_ok (closed (close_of k.contour)) (λ points. room_for k (area_if points)) f h in
+    let m = room_made k (area_if c.0) f c.2 in
+    closing_fits k c.0 f l (closed_ok (close_of k.contour) c.0 c.1) m.0 m.1
+
+-- ---- Blocks
+
+all-take : (n : ℕ) (xs : List PlainPiece) → Drawn xs → Drawn (take n xs)
+all-take zero xs h = tt
+all-take (suc n) [] h = tt
+all-take (suc n) (x ∷ xs) h = (h.0, all-take n xs h.1)
+
+all-drop : (n : ℕ) (xs : List PlainPiece) → Drawn xs → Drawn (drop n xs)
+all-drop zero xs h = h
+all-drop (suc n) [] h = tt
+all-drop (suc n) (x ∷ xs) h = all-drop n xs h.1
+
+pub block_made : (k : Known) (pieces : List PlainPiece) → Lawfully k → ended_block k ≡ Ok pieces → Fit k.place pieces
+unfolding ended_block
+block_made k pieces l h = by k.settings.block h
+  where
+    copied : (block : Repeat) (r : Result (List PlainPiece) CopyFault) → copies_at block (left k) (drop k.start k.pieces) ≡ r → as_copies (take k.start k.pieces) r ≡ Ok pieces → Fit k.place pieces
+    copied block (Err fault) e h = cc
+    copied block (Ok copies) e h =
+        let same : take k.start k.pieces ++ copies ≡ pieces = cc in
+        let c = are_copies block (left k) (drop k.start k.pieces) copies (all-drop k.start k.pieces l.drawn) e in
+        let few = c.few in
+        let edges = c.edges in
+        let all_few = l.few in
+        let all_edges = l.edges in
+        let front = length-take k.start k.pieces in
+        let long = length-append (take k.start k.pieces) copies in
+        let sum = sum_by-append (λ (q : PlainPiece). figure_edges q.figure) (take k.start k.pieces) copies in
+        let less = sum_by-take-le (λ (q : PlainPiece). figure_edges q.figure) k.pieces k.start in
+        subst (Fit k.place) same (record {
+          drawn = all-append (λ (q : PlainPiece). IsDrawn q.figure) (take k.start k.pieces) copies (all-take k.start k.pieces l.drawn) c.drawn;
+          few = omega (arith, few, all_few, front, long);
+          edges = omega (arith, edges, all_edges, sum, less);
+        })
+
+    by : (block : Option Repeat) → with_copies k block ≡ Ok pieces → Fit k.place pieces
+    by None h = let same : k.pieces ≡ pieces = cc in let edges = l.edges in subst (Fit k.place) same (record { drawn = l.drawn; few = l.few; edges = omega (arith, edges) })
+    by (Some block) h = copied block (copies_at block (left k) (drop k.start k.pieces)) refl h

@@ -1,0 +1,48 @@
+-- What the reader of copper files reads from a flattened text.
+use Rattle.std.specs.Prelude.{◌≡◌, ℕ, ◌≤◌, List, length, sum_by, pos, ◌<ℤ◌, ◌≤ℤ◌}
+use Rattle.std.specs.List.{AllByRecursion}
+use Rattle.planar.specs.Plane.{IsPlaced}
+use Rattle.contact.specs.declared.TheConstants.{MOST_RADIUS}
+use Rattle.area_contact.specs.Contour.{IsContour}
+use Rattle.board_shapes.specs.Figures.{Figure, round, filled, figure_edges}
+use Rattle.board_shapes.specs.Pieces.{PlainPiece}
+use Rattle.board_shapes.specs.declared.placed.Room.{Room}
+use Rattle.gerber_layer.specs.declared.kind.GerberKind.{GerberKind}
+use Rattle.gerber_layer.specs.Table.{Place}
+use Rattle.gerber_layer.specs.Layer.{IsRead, IsRefused}
+use Rattle.macro_flatten.specs.FlatText.{figures_in, flat_text_of, pens_of}
+
+-- ends within one metre, and a radius over 0 and of at most 25 mm; or the points of a contour
+abbrev pub IsDrawn : Figure → Type 0
+IsDrawn (round s) = IsPlaced s.a × IsPlaced s.b × (pos 0 <ℤ s.r) × (s.r ≤ℤ MOST_RADIUS)
+IsDrawn (filled points) = IsContour points
+
+-- the most pieces and edges of a flattened file
+abbrev pub flat_room : Room
+flat_room = record { pieces = 200_000; edges = 1_000_000 }
+
+-- the figures of an image that can be flattened
+pub record IsFlat (figures : List Figure) : Type 0 where
+  pub drawn : AllByRecursion IsDrawn figures
+  pub few_pieces : length figures ≤ 200_000
+  pub few_edges : sum_by figure_edges figures ≤ 1_000_000
+  pub few_pens : length (pens_of figures) ≤ 65_536
+
+-- the file is read as pieces with these figures, in order, and has no refusal
+pub record ReadsAs (file : List ℕ) (p : Place) (figures : List Figure) : Type 0 where
+  pub pieces : List PlainPiece
+  pub read : IsRead file p pieces
+  pub are : figures_in pieces ≡ figures
+  pub unrefused : (why : GerberKind) (number at : ℕ) → ¬ IsRefused file p why number at
+
+-- every layer reads a flattened text as pieces with exactly its figures
+abbrev pub FlatTextReads : Type 0
+FlatTextReads = (figures : List Figure) (layer file : ℕ) → 1 ≤ layer → layer ≤ 32 → IsFlat figures → ReadsAs (flat_text_of figures) (record { layer = layer; file = file; room = flat_room }) figures
+
+-- the figures of a copper file that is read in this room can be flattened, where few pens draw them
+abbrev pub ImagesAreFlat : Type 0
+ImagesAreFlat = (file : List ℕ) (layer number : ℕ) (pieces : List PlainPiece) → IsRead file (record { layer = layer; file = number; room = flat_room }) pieces → length (pens_of (figures_in pieces)) ≤ 65_536 → IsFlat (figures_in pieces)
+
+-- a flattened text is no longer than a copper file may be
+abbrev pub FlatTextsAreShort : Type 0
+FlatTextsAreShort = (figures : List Figure) → IsFlat figures → length (flat_text_of figures) ≤ 67_108_864

@@ -1,0 +1,4 @@
+pub mod FlatText
+pub mod Flattened
+pub mod Laws
+pub mod Pens
