@@ -4,6 +4,7 @@ use Rattle.std.proofs.lemmas.Int.{ints, clamps}
 use Rattle.std.specs.Int.{int_min, int_max}
 use Rattle.planar.specs.declared.Frame.{Frame}
 use Rattle.planar.specs.declared.Spot.{Spot}
+use Rattle.planar.specs.declared.TheConstants.{METRE}
 use Rattle.planar.specs.Plane.{Point, at, InCapsule, IsInFrame, IsPlaced, IsWithin, Share}
 use Rattle.contact.specs.declared.Bounds.{Bounds}
 use Rattle.contact.specs.declared.Capsule.{Capsule}
@@ -43,7 +44,7 @@ widened_read b g h k = rw (less_back b.left g h.0 k, less_back b.low g h.1 k, mo
 
 -- a box whose sides are at most one metre from 0
 abbrev IsPlacedBox : Bounds → Type 0
-IsPlacedBox b = IsWithin 10_000_000_000 b.left × IsWithin 10_000_000_000 b.low × IsWithin 10_000_000_000 b.right × IsWithin 10_000_000_000 b.high
+IsPlacedBox b = IsWithin METRE b.left × IsWithin METRE b.low × IsWithin METRE b.right × IsWithin METRE b.high
 
 rest_all : (P : Spot → Type 0) (a : Spot) (rest : List Spot) → All P (a ∷ rest) → All P rest
 rest_all P a rest h k d l = h (suc k) d (omega (arith, l))
@@ -99,15 +100,15 @@ own_inside s c g f a b r e h k p q o = rw (p, q, o) inner
     there = rw e at k
 
     inner : LiesInside f c.a c.b (g +ℤ c.r)
-    inner = record { a_placed = c.start; b_placed = c.end; from_zero = omega (arith, ints, h, c.radius); inside = (side_same f.left c.a.x c.b.x c.r g there.0, side_same f.low c.a.y c.b.y c.r g there.1) }
+    inner = record { a_placed = c.start; b_placed = c.end; from_zero = omega (arith, ints, h, c.radius); half_reach = omega (arith, ints, h, c.radius); inside = (side_same f.left c.a.x c.b.x c.r g there.0, side_same f.low c.a.y c.b.y c.r g there.1) }
 
 pub wide_in_reach : (f : Frame) (a b : Spot) (r g : ℤ) (a' b' : Spot) (r' : ℤ) → LiesInside f a b r → IsGrowth g → a' ≡ a → b' ≡ b → r' ≡ g +ℤ r → IsInReach f a' b' r'
 wide_in_reach f a b r g a' b' r' h k p q o = rw (p, q, o) inner
   where
     inner : IsInReach f a b (g +ℤ r)
     inner =
-        let i : IsInFrame f a × IsInFrame f b × ((r +ℤ r) ≤ℤ pos 3_000_000_000) = in_frame a b r f h.from_zero h.inside in
-        record { a_placed = h.a_placed; b_placed = h.b_placed; a_in_frame = i.0; b_in_frame = i.1; radius = (omega (arith, ints, k, h.from_zero), omega (arith, ints, k, i.2)) }
+        let i : IsInFrame f a × IsInFrame f b = in_frame a b r f h.from_zero h.inside in
+        record { a_placed = h.a_placed; b_placed = h.b_placed; a_in_frame = i.0; b_in_frame = i.1; radius = (omega (arith, ints, k, h.from_zero), omega (arith, ints, k, h.from_zero, h.half_reach)) }
 
 pub rest_placed : (points : List Spot) (start : Spot) (rest : List Spot) → points ≡ start ∷ rest → All IsPlaced points → All IsPlaced rest
 rest_placed points start rest e h = rest_all IsPlaced start rest (subst (λ (l : List Spot). All IsPlaced l) e h)

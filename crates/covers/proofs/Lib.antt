@@ -1,0 +1,4 @@
+pub mod Covering
+pub mod Plain
+pub mod Verdicts
+pub mod HalfDiscs
