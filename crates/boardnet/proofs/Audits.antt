@@ -1,21 +1,24 @@
 -- From what the parts of an audit give to its outcome.
-use Rattle.std.proofs.Common.{◌≡◌, ◌⊎◌, ◌<◌, ◌≤◌, inl, inr, ℕ, List, length, Option, Some, None, IfSome, IsSomeAnd, codes, refl, subst, sym, ◌∙◌, arith}
-use Rattle.board_io.specs.Causes.{Rose}
-use Rattle.board_io.specs.Package.{Files}
-use Rattle.board_package.proofs.Lift.{Carries, lift}
+use Rattle.std.proofs.Common.{◌≡◌, ◌<◌, ◌≤◌, inl, inr, ℕ, List, length, Option, Some, None, IfSome, IsSomeAnd, Result, Err, codes, ap, refl, subst, sym, ◌∙◌, arith}
+use Rattle.board_io.specs.Package.{Files, IsFaultless}
+use Rattle.board_package.proofs.Lift.{Carries, lift, told_of}
 use Rattle.board_package.specs.Causes.{HasCause}
 use Rattle.board_package.specs.Laws.{HasOneOutcome}
 use Rattle.board_package.specs.PackageBoard.{Comes, IsBoardOf, IsFirstStop, IsHeld, StopsTaking, Stop, absent, longer, not_json, bad_manifest, refused, frame_too_large}
 use Rattle.board_package.specs.declared.fault.BuildFault.{BuildFault}
-use Rattle.board_package.specs.declared.fault.BuildFault.TheVariants as fault
-use Rattle.board_package.specs.declared.reading.Refusal.TheVariants as refusal
+use Rattle.board_shapes.proofs.BoardTables.{tables_are_one}
 use Rattle.board_shapes.specs.Laws.{HasOneTables}
 use Rattle.board_shapes.specs.Plain.{PlainBoard}
 use Rattle.board_shapes.specs.Tables.{IsTables}
-use Rattle.boardnet.specs.Answers.{Answers, IsNoText, IsRuled, IsRuledOn, Refuses}
+use Rattle.boardnet.specs.Answers.{Answers, IsNoText, IsRuled, IsRuledOn, line_of, status_of, unread_of}
 use Rattle.boardnet.specs.Lines.{file_line}
 use Rattle.boardnet.specs.Outcome.{AuditOutcome, ComesFor, HasRuling, IsAnswer, IsAuditStop, IsNoReport, IsTextOf, Refused}
 use Rattle.boardnet.specs.Words.{Audit}
+use Rattle.boardnet.specs.declared.answer.Answer.{Answer}
+use Rattle.boardnet.specs.declared.answer.Unanswered.{Unanswered}
+use Rattle.boardnet.specs.Ends.{Works}
+use Rattle.verdict.specs.declared.reading.ReadFault.{ReadFault}
+use Rattle.verdict.specs.declared.reading.ReadFault.TheVariants as read
 use Rattle.tables.specs.Tables.{Tables}
 use Rattle.verdict.specs.Laws.{ReportTextIsInjective}
 use Rattle.verdict.specs.declared.verdict.Verdict.{Verdict}
@@ -25,79 +28,75 @@ use Rattle.witness_check.specs.declared.auditing.Ruling.TheVariants.{True, Untru
 
 -- ---- Rulings
 
-has_ruling : (tables : Tables) (v : Verdict) (ruling : Ruling) (text : List ℕ) (status : ℕ) (line : List ℕ) → Rules tables v ruling → Answers ruling text status line → HasRuling tables v text status line
-has_ruling tables v True text status line rules (a, b, c) = inl (rules, a, b, c)
-has_ruling tables v (Untrue n) text status line rules (a, b, c) = inr (n, rules, a, b, c)
+has_ruling : (tables : Tables) (v : Verdict) (ruling : Ruling) (answer : Answer) → Rules tables v ruling → Answers ruling answer → HasRuling tables v answer.text.items (status_of answer.note) (line_of answer.note)
+has_ruling tables v True answer rules (text, said) = inl (rules, text, ap status_of said, ap line_of said)
+has_ruling tables v (Untrue n) answer rules (text, said) = inr (n, rules, text, ap status_of said, ap line_of said)
 
 -- what is put for a ruling is the answer
-pub told_answer : (files : Files) (manifest report : List ℕ) (ruling : Ruling) (text : List ℕ) (status : ℕ) (line : List ℕ)
-    → IsRuled files manifest report ruling → Answers ruling text status line → IsAnswer files manifest report text status line
-told_answer files manifest report ruling text status line r said = record {
+told_answer : (files : Files) (manifest report : List ℕ) (ruling : Ruling) (answer : Answer)
+    → IsRuled files manifest report ruling → Answers ruling answer → IsAnswer files manifest report answer.text.items (status_of answer.note) (line_of answer.note)
+told_answer files manifest report ruling answer r said = record {
   board = r.board;
   board_is = r.board_is;
   tables = r.one.tables;
   tables_are = r.one.are;
   verdict = r.verdict;
   read = r.read;
-  ruling = has_ruling r.one.tables r.verdict ruling text status line (r.rules r.one.tables r.one.are) said;
+  ruling = has_ruling r.one.tables r.verdict ruling answer (r.rules r.one.tables r.one.are) said;
 }
 
-pub told_audit : (held : Option Files) (manifest report : List ℕ) (ruling : Ruling) (status : ℕ) (G L : List ℕ → Type 0)
-    → IfSome held (λ files. IsRuled files manifest report ruling) → (text line : List ℕ) × Answers ruling text status line × G text × L line
-    → IfSome held (λ files. (text line : List ℕ) × IsAnswer files manifest report text status line × G text × L line)
-told_audit None manifest report ruling status G L r said = tt
-told_audit (Some files) manifest report ruling status G L r (text, line, said, g, l) = (text, line, told_answer files manifest report ruling text status line r said, g, l)
+pub answered_by : (held : Option Files) (manifest report : List ℕ) (ruling : Ruling) (answer : Answer)
+    → IfSome held (λ files. IsRuled files manifest report ruling) → Answers ruling answer
+    → IfSome held (λ files. IsAnswer files manifest report answer.text.items (status_of answer.note) (line_of answer.note))
+answered_by held manifest report ruling answer r said =
+    told_of held (λ files. IsRuled files manifest report ruling) (λ files. IsAnswer files manifest report answer.text.items (status_of answer.note) (line_of answer.note)) (λ files h. told_answer files manifest report ruling answer h said) r
 
-pub told_front : (held : Option Files) (manifest report : List ℕ) (ruling : Ruling) (G : List ℕ → Type 0)
-    → IfSome held (λ files. IsRuled files manifest report ruling) → (text line : List ℕ) × (status : ℕ) × Answers ruling text status line × G text
-    → IfSome held (λ files. (text line : List ℕ) × (status : ℕ) × IsAnswer files manifest report text status line × G text)
-told_front None manifest report ruling G r said = tt
-told_front (Some files) manifest report ruling G r (text, line, status, said, g) = (text, line, status, told_answer files manifest report ruling text status line r said, g)
-
-same_status : (tables : Tables) (v : Verdict) (ruling : Ruling) (t l text line : List ℕ) (s status : ℕ) → Rules tables v ruling → Answers ruling t s l → HasRuling tables v text status line → s ≡ status
-same_status tables v True t l text line s status rules (a, b, c) (inl (right, d, e, f)) = b ∙ sym e
-same_status tables v True t l text line s status rules (a, b, c) (inr (n, fails, d, e, f)) = absurd (fails.fails (rules fails.clause))
-same_status tables v (Untrue n) t l text line s status rules (a, b, c) (inl (right, d, e, f)) = absurd (rules.fails (right rules.clause))
-same_status tables v (Untrue n) t l text line s status rules (a, b, c) (inr (m, fails, d, e, f)) = b ∙ sym e
-
-one_file : (files : Files) (name a b : List ℕ) → files name ≡ Some a → files name ≡ Some b → a ≡ b
+pub one_file : (files : Files) (name a b : List ℕ) → files name ≡ Some a → files name ≡ Some b → a ≡ b
 one_file files name a b p q = cc (p, q)
 
--- an audit has one status
-pub one_status : (files : Files) (manifest report : List ℕ) (ruling : Ruling) (t l text line : List ℕ) (s status : ℕ) → HasOneOutcome files manifest → ReportTextIsInjective
-    → IsRuled files manifest report ruling → Answers ruling t s l → IsAnswer files manifest report text status line → s ≡ status
-one_status files manifest report ruling t l text line s status law one r said a =
-    let boards : a.board ≡ r.board = law.one_board a.board r.board a.board_is r.board_is in
-    let bytes : a.read.bytes ≡ r.read.bytes = one_file files report a.read.bytes r.read.bytes a.read.held.held r.read.held.held in
-    let verdicts : r.verdict ≡ a.verdict = one r.verdict a.verdict r.read.good.lawful a.read.good.lawful (sym r.read.good.text_is ∙ (sym bytes ∙ a.read.good.text_is)) in
-    let rules : Rules a.tables r.verdict ruling = r.rules a.tables (subst (λ (b : PlainBoard). IsTables b a.tables) boards a.tables_are) in
-    same_status a.tables a.verdict ruling t l text line s status (subst (λ (v : Verdict). Rules a.tables v ruling) verdicts rules) said a.ruling
+same_status : (tables : Tables) (v : Verdict) (t l text line : List ℕ) (s status : ℕ) → HasRuling tables v t s l → HasRuling tables v text status line → s ≡ status
+same_status tables v t l text line s status (inl (right, a, b, c)) (inl (right', d, e, f)) = b ∙ sym e
+same_status tables v t l text line s status (inl (right, a, b, c)) (inr (n, fails, d, e, f)) = absurd (fails.fails (right fails.clause))
+same_status tables v t l text line s status (inr (n, fails, a, b, c)) (inl (right, d, e, f)) = absurd (fails.fails (right fails.clause))
+same_status tables v t l text line s status (inr (n, fails, a, b, c)) (inr (m, fails', d, e, f)) = b ∙ sym e
 
-pub answered : (held : Option Files) (manifest report : List ℕ) (ruling : Ruling) (result : ℕ) (G L : List ℕ → Type 0) (A B : Type 0)
-    → ((files : Files) (name : List ℕ) → HasOneOutcome files name) → ReportTextIsInjective
-    → IfSome held (λ files. IsRuled files manifest report ruling)
-    → (result ≤ 1) ⊎ (result ≡ 5) ⊎ (result ≡ 6) → (result ≤ 1 → (text line : List ℕ) × Answers ruling text result line × G text × L line) → (result ≡ 5 → B)
-    → IfSome held (λ files. (text line : List ℕ) (status : ℕ) → IsAnswer files manifest report text status line → (A → ⊥) → (B → ⊥) → (result ≡ status) ⊎ (result ≡ 6))
-answered None manifest report ruling result G L A B law one r which written broken = tt
-answered (Some files) manifest report ruling result G L A B law one r (inl le) written broken =
-    let (t, l, said, g, m) = written le in λ text line status a calm quiet. inl (one_status files manifest report ruling t l text line result status (law files manifest) one r said a)
-answered (Some files) manifest report ruling result G L A B law one r (inr (inl five)) written broken = λ text line status a calm quiet. absurd (quiet (broken five))
-answered (Some files) manifest report ruling result G L A B law one r (inr (inr six)) written broken = λ text line status a calm quiet. inr six
+-- an audit has one status
+pub one_status : (files : Files) (manifest report t l text line : List ℕ) (s status : ℕ) → HasOneOutcome files manifest → ReportTextIsInjective
+    → IsAnswer files manifest report t s l → IsAnswer files manifest report text status line → s ≡ status
+one_status files manifest report t l text line s status law one a b =
+    let boards : b.board ≡ a.board = law.one_board b.board a.board b.board_is a.board_is in
+    let bytes : b.read.bytes ≡ a.read.bytes = one_file files report b.read.bytes a.read.bytes b.read.held.held a.read.held.held in
+    let verdicts : a.verdict ≡ b.verdict = one a.verdict b.verdict a.read.good.lawful b.read.good.lawful (sym a.read.good.text_is ∙ (sym bytes ∙ b.read.good.text_is)) in
+    let tables : a.tables ≡ b.tables = tables_are_one b.board a.tables b.tables (subst (λ (z : PlainBoard). IsTables z a.tables) (sym boards) a.tables_are) b.tables_are in
+    same_status b.tables b.verdict t l text line s status (subst (λ (v : Verdict). HasRuling b.tables v t s l) verdicts (subst (λ (z : Tables). HasRuling z a.verdict t s l) tables a.ruling)) b.ruling
 
 -- ---- Stops
 
--- an audit that has an answer has no stop
-no_stop : (files : Files) (manifest report text line : List ℕ) (status : ℕ) (stop : Stop) → HasOneOutcome files manifest → IsAnswer files manifest report text status line → IsAuditStop files manifest report stop → ⊥
-no_stop files manifest report text line status stop law a (inl first) = law.not_both a.board stop a.board_is first
-no_stop files manifest report text line status (absent name) law a (inr s) = absurd (cc (a.read.held.held, s.stops.1))
-no_stop files manifest report text line status (longer name) law a (inr s) = too_long (files report) a.read.bytes a.read.held.held a.read.held.short s.stops.1 where
+-- a file that is held and not too long does not stop its taking
+pub no_stop_taking : (files : Files) (name bytes : List ℕ) (stop : Stop) → IsHeld files name bytes → StopsTaking files name stop → ⊥
+no_stop_taking files name bytes (absent other) h s = absurd (cc (h.held, s.1))
+no_stop_taking files name bytes (longer other) h s = too_long (files name) bytes h.held h.short s.1 where
   too_long : (o : Option (List ℕ)) (bytes : List ℕ) → o ≡ Some bytes → length bytes ≤ 67108864 → IsSomeAnd o (λ b. 67108864 < length b) → ⊥
   too_long None bytes e short h = absurd h
   too_long (Some b) bytes e short h = let same : b ≡ bytes = cc e in let long : 67108864 < length bytes = subst (λ (z : List ℕ). 67108864 < length z) same h in omega (arith, short, long)
-no_stop files manifest report text line status not_json law a (inr s) = absurd s.stops
-no_stop files manifest report text line status bad_manifest law a (inr s) = absurd s.stops
-no_stop files manifest report text line status (refused name why) law a (inr s) = absurd s.stops
-no_stop files manifest report text line status (frame_too_large box) law a (inr s) = absurd s.stops
+no_stop_taking files name bytes not_json h s = absurd s
+no_stop_taking files name bytes bad_manifest h s = absurd s
+no_stop_taking files name bytes (refused other why) h s = absurd s
+no_stop_taking files name bytes (frame_too_large box) h s = absurd s
+
+-- an audit that has an answer has no stop
+pub no_stop : (files : Files) (manifest report text line : List ℕ) (status : ℕ) (stop : Stop) → HasOneOutcome files manifest → IsAnswer files manifest report text status line → IsAuditStop files manifest report stop → ⊥
+no_stop files manifest report text line status stop law a (inl first) = law.not_both a.board stop a.board_is first
+no_stop files manifest report text line status stop law a (inr s) = no_stop_taking files report a.read.bytes stop a.read.held s.stops
+
+-- a report that is the text of no verdict is a refusal, and has no answer
+pub misread_outcome : (files : Files) (manifest report : List ℕ) → IsNoText files manifest report → AuditOutcome files manifest report (Refused (file_line report (codes "not a report")))
+misread_outcome files manifest report h = inr (record { board = h.board; board_is = h.board_is; held = h.held; line_is = refl })
+
+pub no_misread : (files : Files) (manifest report text line : List ℕ) (status : ℕ) → IsNoText files manifest report → IsAnswer files manifest report text status line → ⊥
+no_misread files manifest report text line status h a =
+    let bytes : a.read.bytes ≡ h.held.bytes = one_file files report a.read.bytes h.held.bytes a.read.held.held h.held.held.held in
+    h.held.good a.verdict (subst (λ (z : List ℕ). IsTextOf z a.verdict) bytes a.read.good)
 
 -- the causes of an audit
 abbrev pub StopsFor : List ℕ → List ℕ → Files → Stop → Type 0
@@ -105,39 +104,6 @@ StopsFor manifest report files stop = IsAuditStop files manifest report stop
 
 abbrev pub NameFor : List ℕ → List ℕ → Files → List ℕ → Type 0
 NameFor manifest report files name = ComesFor files (Audit manifest report) name
-
-abbrev pub NeverAnswers : Option Files → List ℕ → List ℕ → ℕ → Type 0 → Type 0 → Type 0
-NeverAnswers held manifest report result A B =
-    IfSome held (λ files. (text line : List ℕ) (status : ℕ) → IsAnswer files manifest report text status line → (A → ⊥) → (B → ⊥) → (result ≡ status) ⊎ (result ≡ 6))
-
-stop_never : (held : Option Files) (manifest report : List ℕ) (result : ℕ) (A B : Type 0) (stop : Stop) → ((files : Files) (name : List ℕ) → HasOneOutcome files name)
-    → IfSome held (λ files. IsAuditStop files manifest report stop) → NeverAnswers held manifest report result A B
-stop_never None manifest report result A B stop law h = tt
-stop_never (Some files) manifest report result A B stop law h = λ text line status a calm quiet. absurd (no_stop files manifest report text line status stop (law files manifest) a h)
-
-pub stopped_answers : (held : Option Files) (manifest report : List ℕ) (before now : ℕ) (lost : List ℕ) (why : BuildFault) (B : Type 0) (result : ℕ) (Line : List ℕ → Type 0)
-    → ((files : Files) (name : List ℕ) → HasOneOutcome files name) → HasCause held (StopsFor manifest report) (NameFor manifest report) before now lost why → Refuses manifest why result Line
-    → NeverAnswers held manifest report result (Rose before now) B
-stopped_answers held manifest report before now lost fault.NotJson B result Line law cause said = stop_never held manifest report result (Rose before now) B not_json law cause
-stopped_answers held manifest report before now lost fault.BadManifest B result Line law cause said = stop_never held manifest report result (Rose before now) B bad_manifest law cause
-stopped_answers held manifest report before now lost (fault.Longer name) B result Line law cause said = stop_never held manifest report result (Rose before now) B (longer name) law cause
-stopped_answers None manifest report before now lost (fault.CannotRead name) B result Line law cause said = tt
-stopped_answers (Some files) manifest report before now lost (fault.CannotRead name) B result Line law cause said = λ text line status a calm quiet. absurd (calm cause.rose)
-stopped_answers held manifest report before now lost (fault.Layer name kind command at) B result Line law cause said =
-    stop_never held manifest report result (Rose before now) B (refused name (refusal.Layer kind command at)) law cause
-stopped_answers held manifest report before now lost (fault.Drill name kind line at) B result Line law cause said =
-    stop_never held manifest report result (Rose before now) B (refused name (refusal.Drill kind line at)) law cause
-stopped_answers held manifest report before now lost (fault.Netlist name kind line) B result Line law cause said =
-    stop_never held manifest report result (Rose before now) B (refused name (refusal.Netlist kind line)) law cause
-stopped_answers held manifest report before now lost (fault.FrameTooLarge box) B result Line law cause said = stop_never held manifest report result (Rose before now) B (frame_too_large box) law cause
-stopped_answers None manifest report before now lost fault.NoMemory B result Line law cause said = tt
-stopped_answers (Some files) manifest report before now lost fault.NoMemory B result Line law cause said = λ text line status a calm quiet. inr said.0
-
-pub misread_answers : (held : Option Files) (manifest report : List ℕ) (result : ℕ) (A B : Type 0) → IfSome held (λ files. IsNoText files manifest report) → NeverAnswers held manifest report result A B
-misread_answers None manifest report result A B h = tt
-misread_answers (Some files) manifest report result A B h = λ text line status a calm quiet.
-    let bytes : a.read.bytes ≡ h.held.bytes = one_file files report a.read.bytes h.held.bytes a.read.held.held h.held.held.held in
-    absurd (h.held.good a.verdict (subst (λ (z : List ℕ). IsTextOf z a.verdict) bytes a.read.good))
 
 -- ---- The way to a ruling
 
@@ -178,27 +144,32 @@ misread_by (Some files) manifest report board bytes text (is, held) e none = rec
   held = record { bytes = bytes; held = held; good = subst (λ (z : List ℕ). IsNoReport z) e none };
 }
 
--- the causes of the parts are causes of the audit
-pub package_cause : (held : Option Files) (manifest name report : List ℕ) (before now : ℕ) (lost : List ℕ) (why : BuildFault) → name ≡ manifest
-    → HasCause held (λ files stop. IsFirstStop files name stop) (λ files other. Comes files name other) before now lost why
-    → HasCause held (StopsFor manifest report) (NameFor manifest report) before now lost why
-package_cause held manifest name report before now lost why same h =
-    lift held (λ files stop. IsFirstStop files manifest stop) (StopsFor manifest report) (λ files other. Comes files manifest other) (NameFor manifest report) before before now lost why
-    (package_carries held manifest report) (omega arith) (subst (λ (z : List ℕ). HasCause held (λ files stop. IsFirstStop files z stop) (λ files other. Comes files z other) before now lost why) same h)
+-- a report that cannot be read is no answer
+pub unread_works : {P : Type 0} (files : P → Option Files) (faults : P → ℕ) (lost : P → List ℕ) (manifest report : List ℕ) (old new : P) (board : PlainBoard) (bytes text : List ℕ) (fault : ReadFault) (why : Unanswered) (result : Result Answer Unanswered)
+    → files new ≡ files old → faults old ≤ faults new → IsFaultless (faults old) (lost old) (faults new) (lost new)
+    → IfSome (files old) (λ f. IsBoardOf f manifest board × IsHeld f report bytes) → text ≡ bytes → (fault ≡ read.NotAReport → IsNoReport text) → why ≡ unread_of fault → result ≡ Err why
+    → Works files faults lost (Audit manifest report) old new result
+unread_works files faults lost manifest report old new board bytes text fault why result held later calm is e none gives same =
+    subst (Works files faults lost (Audit manifest report) old new) (sym (same ∙ ap Err gives)) (by fault none)
+  where
+    by : (fault : ReadFault) → (fault ≡ read.NotAReport → IsNoReport text) → Works files faults lost (Audit manifest report) old new (Err (unread_of fault))
+    by read.NotAReport none = record { held = held; later = later; calm = tt; left = calm; ok = tt; reason = misread_by (files old) manifest report board bytes text is e (none refl) }
+    by read.NoMemory none = record { held = held; later = later; calm = tt; left = tt; ok = tt; reason = tt }
 
-pub report_cause : (held other : Option Files) (manifest first report second : List ℕ) (board : PlainBoard) (before mid now : ℕ) (lost : List ℕ) (why : BuildFault) → other ≡ held → first ≡ manifest → second ≡ report → before ≤ mid
-    → IfSome held (λ files. IsBoardOf files first board)
+-- the causes of the parts are causes of the audit
+pub package_cause : (held : Option Files) (manifest report : List ℕ) (before now : ℕ) (lost : List ℕ) (why : BuildFault)
+    → HasCause held (λ files stop. IsFirstStop files manifest stop) (λ files other. Comes files manifest other) before now lost why
+    → HasCause held (StopsFor manifest report) (NameFor manifest report) before now lost why
+package_cause held manifest report before now lost why h =
+    lift held (λ files stop. IsFirstStop files manifest stop) (StopsFor manifest report) (λ files other. Comes files manifest other) (NameFor manifest report) before before now lost why
+    (package_carries held manifest report) (omega arith) h
+
+pub report_cause : (held other : Option Files) (manifest report second : List ℕ) (board : PlainBoard) (before mid now : ℕ) (lost : List ℕ) (why : BuildFault) → other ≡ held → second ≡ report → before ≤ mid
+    → IfSome held (λ files. IsBoardOf files manifest board)
     → HasCause other (λ files stop. StopsTaking files second stop) (λ files name. name ≡ second) mid now lost why
     → HasCause held (StopsFor manifest report) (NameFor manifest report) before now lost why
-report_cause held other manifest first report second board before mid now lost why same one two le is h =
+report_cause held other manifest report second board before mid now lost why same two le is h =
     lift held (λ files stop. StopsTaking files report stop) (StopsFor manifest report) (λ files name. name ≡ report) (NameFor manifest report) before mid now lost why
-    (report_carries held manifest report board (subst (λ (z : List ℕ). IfSome held (λ files. IsBoardOf files z board)) one is)) le
+    (report_carries held manifest report board is) le
     (subst (λ (z : List ℕ). HasCause held (λ files stop. StopsTaking files z stop) (λ files name. name ≡ z) mid now lost why) two
     (subst (λ (z : Option Files). HasCause z (λ files stop. StopsTaking files second stop) (λ files name. name ≡ second) mid now lost why) same h))
-
--- a report that is no text is a refusal
-pub misread_refused : (held : Option Files) (manifest report name : List ℕ) (L : List ℕ → Type 0) → name ≡ report → IfSome held (λ files. IsNoText files manifest report)
-    → L (file_line name (codes "not a report")) → IfSome held (λ files. (line : List ℕ) × AuditOutcome files manifest report (Refused line) × L line)
-misread_refused None manifest report name L same h l = tt
-misread_refused (Some files) manifest report name L same h l =
-    (file_line report (codes "not a report"), inr (record { board = h.board; board_is = h.board_is; held = h.held; line_is = refl }), subst (λ (z : List ℕ). L (file_line z (codes "not a report"))) same l)

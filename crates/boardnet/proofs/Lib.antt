@@ -1,11 +1,13 @@
-pub mod Complete
+pub mod Ending
 pub mod OnBoard
-pub mod Reports
 pub mod Says
 pub mod Audits
-pub mod Commands
+pub mod ByLabels
+pub mod Asking
+pub mod Named
 pub mod Netlists
 pub mod Passes
-pub mod Kept
 pub mod TwoCalls
+pub mod Working
 pub mod Trials
+pub mod Supplements

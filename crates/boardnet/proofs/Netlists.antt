@@ -67,10 +67,10 @@ status_of v status line agrees (inl (a, is, said)) = is
 status_of v status line agrees (inr (differs, is, said)) = absurd (differs agrees)
 
 pub written_netlists_pass : ((files : Files) (name : List ℕ) → HasOneOutcome files name) → BoardsAreWritable → WrittenNetlistReads → WrittenNetlistsAreShort → WrittenNetlistAgrees → WrittenNetlistsPass
-written_netlists_pass one writable reads short agrees before after manifest text line status w fits h =
+written_netlists_pass one writable reads short agrees before after manifest text line status w h =
     let b : PlainBoard = w.board in
     let forest = forest_on b w.verdict w.right in
-    let can : IsWritable b.layers w.verdict.nets b.pieces = writable b w.verdict.nets fits.lawful fits.few_pieces fits.few_layers forest.trees in
+    let can : IsWritable b.layers w.verdict.nets b.pieces = writable b w.verdict.nets w.limits.lawful w.limits.few_pieces w.limits.few_layers forest.trees in
     let probes : List Probe = probes_written b.layers w.verdict.nets b.pieces in
     let names : List (List ℕ) = names_written b.layers w.verdict.nets b.pieces in
     let own : IsRead (written_netlist_of b.layers w.verdict.nets b.pieces) b.layers probes names = (reads b.layers w.verdict.nets b.pieces can).read in
@@ -79,7 +79,7 @@ written_netlists_pass one writable reads short agrees before after manifest text
     let is : IsBoardOf after manifest (with_netlist b probes names) = board_after before after manifest text b probes names w.board_is h few read in
     record {
       fits = (with_netlist b probes names, is);
-      agrees = λ report said told c. (
+      agrees = λ version report said told c. (
           let same : c.board ≡ with_netlist b probes names = (one after manifest).one_board c.board (with_netlist b probes names) c.board_is is in
           status_of c.verdict told said
           (agrees b w.verdict.nets probes names can forest own c.right.tables c.verdict (subst (λ (z : PlainBoard). IsTables z c.right.tables) same c.right.tables_are) c.right.right)

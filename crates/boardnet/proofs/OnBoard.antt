@@ -8,7 +8,7 @@ use Rattle.board_shapes.specs.Touching.{UnderAt}
 use Rattle.board_shapes.specs.declared.placed.Placed.{Placed}
 use Rattle.board_shapes.specs.declared.probe.Probe.{Probe}
 use Rattle.board_shapes.specs.declared.shape.Shape.{Shape}
-use Rattle.boardnet.specs.Outcome.{IsRightOn}
+use Rattle.boardnet.specs.Right.{IsRightOn}
 use Rattle.cell_index.specs.Among.{TouchAmong, UnderAmong}
 use Rattle.cell_index.specs.Field.{IsNear}
 use Rattle.cell_index.specs.Homes.{UnderProbe}

@@ -24,7 +24,7 @@ still_board before after report text manifest board h b = record {
 }
 
 pub reports_pass : ReportsPass
-reports_pass before after manifest report text line status r h = record {
+reports_pass before after version manifest report text line status r h = record {
   board = r.board;
   board_is = still_board before after report text manifest r.board h r.board_is;
   tables = r.right.tables;

@@ -1,5 +1,5 @@
 -- From a report that was written and is held to the status of its audit.
-use Rattle.std.proofs.Common.{◌≡◌, ◌⊎◌, ◌≤◌, ℕ, Bool, true, false, cond, List, [], length, Option, Some, None, IfSome, String, refl, sym, subst, ap, ◌++◌, ◌∙◌, arith}
+use Rattle.std.proofs.Common.{◌≡◌, ◌⊎◌, ◌≤◌, ℕ, Bool, true, false, cond, List, [], length, Some, None, String, refl, sym, subst, ap, ◌++◌, ◌∙◌, arith}
 use Rattle.std.specs.Str.{bytes_eq}
 use Rattle.std.proofs.lemmas.Slice.Eq.{bytes_eq-Decides}
 use Rattle.std.specs.declared.alloc.Global.{Global}
@@ -11,6 +11,7 @@ use Rattle.board_package.specs.PackageBoard.{most_bytes}
 use Rattle.boardnet.specs.Laws.{HoldsReport, ReportsPass}
 use Rattle.boardnet.specs.Outcome.{IsAnswer, IsReport}
 use Rattle.boardnet.specs.Words.{IsAudit, IsCheck}
+use Rattle.boardnet.specs.declared.words.Version.{Version}
 
 still : (before mid after : Files) (report bytes name held : List ℕ) (same : Bool) → bytes_eq report name ≡ same → mid ≡ before → before report ≡ None
     → after name ≡ cond same (Some bytes) (mid name) → before name ≡ Some held → after name ≡ Some held
@@ -37,17 +38,17 @@ rose_from start mid now le rose = omega arith
 
 -- a report is written, and an answer is answered
 abbrev pub Wrote : Files → List (String Global) → ℕ → List ℕ → Type 0
-Wrote files words status got = (name : List ℕ) → IsCheck words name → (text line : List ℕ) × IsReport files name text status line × (got ≡ text)
+Wrote files words status got = (version : Version) (name : List ℕ) → IsCheck words version name → (text line : List ℕ) × IsReport files version name text status line × (got ≡ text)
 
 abbrev pub Rules : Files → List (String Global) → ℕ → Type 0 → Type 0 → Type 0
 Rules files words status A B = (manifest report : List ℕ) → IsAudit words manifest report → (text line : List ℕ) (s : ℕ) → IsAnswer files manifest report text s line → (A → ⊥) → (B → ⊥) → (status ≡ s) ⊎ (status ≡ 6)
 
 pub passes : (before mid after : Files) (checking auditing : List (String Global)) (report got bytes : List ℕ) (checked status : ℕ) (A B : Type 0) → ReportsPass
-    → (manifest : List ℕ) → IsCheck checking manifest → IsAudit auditing manifest report → before report ≡ None → mid ≡ before
+    → (version : Version) (manifest : List ℕ) → IsCheck checking version manifest → IsAudit auditing manifest report → before report ≡ None → mid ≡ before
     → Wrote before checking checked got → bytes ≡ got → HoldsAlso mid report bytes after → length bytes ≤ most_bytes → Rules after auditing status A B
     → (A → ⊥) → (B → ⊥) → (status ≡ 0) ⊎ (status ≡ 6)
-passes before mid after checking auditing report got bytes checked status A B law manifest check audit free m wrote same also short rules calm quiet =
-    let (text, line, is, all) = wrote manifest check in
+passes before mid after checking auditing report got bytes checked status A B law version manifest check audit free m wrote same also short rules calm quiet =
+    let (text, line, is, all) = wrote version manifest check in
     let is_text : text ≡ bytes = sym (same ∙ all) in
     let holds : HoldsReport before after report bytes = holds_report before mid after report bytes m free also short in
-    rules manifest report audit _ _ 0 (law before after manifest report bytes line checked (subst (λ (z : List ℕ). IsReport before manifest z checked line) is_text is) holds) calm quiet
+    rules manifest report audit _ _ 0 (law before after version manifest report bytes line checked (subst (λ (z : List ℕ). IsReport before version manifest z checked line) is_text is) holds) calm quiet

@@ -1,24 +1,88 @@
 -- What the parts of the top call answer.
-use Rattle.std.specs.Prelude.{◌≡◌, ℕ, List, ◌++◌, Option, IfSome, codes, decimal}
+use Rattle.std.specs.Prelude.{◌≡◌, ℕ, List, [], ◌++◌, if◌then◌else◌, codes, decimal}
 use Rattle.board_io.specs.Package.{Files}
-use Rattle.board_package.specs.Causes.{HasCause}
 use Rattle.board_package.specs.PackageBoard.{IsBoardOf, IsHeldWith}
 use Rattle.board_package.specs.declared.fault.BuildFault.{BuildFault}
 use Rattle.board_package.specs.declared.fault.BuildFault.TheVariants as fault
+use Rattle.board_package.specs.declared.fault.LabelledFault.{LabelledFault}
+use Rattle.board_package.specs.declared.fault.LabelledFault.TheVariants as labelled
 use Rattle.board_package.specs.declared.reading.Refusal.TheVariants.{Layer, Drill, Netlist}
 use Rattle.board_shapes.specs.Laws.{HasOneTables}
 use Rattle.board_shapes.specs.Plain.{PlainBoard}
 use Rattle.board_shapes.specs.Tables.{IsTables}
-use Rattle.boardnet.specs.Lines.{plain_line, file_line, frame_line, untrue_line, end}
-use Rattle.boardnet.specs.Outcome.{refusal_line, ComesFor, IsAuditStop, IsNoReport, IsTextOf}
-use Rattle.boardnet.specs.Words.{Audit}
-use Rattle.boardnet.specs.declared.auditing.AuditFault.{AuditFault}
-use Rattle.boardnet.specs.declared.auditing.AuditFault.TheVariants.{Stopped, NotAReport}
+use Rattle.board_maker.specs.declared.made.MakeFault.{MakeFault}
+use Rattle.board_maker.specs.declared.made.MakeFault.TheVariants as made
+use Rattle.boardnet.specs.Gapped.{IsTooWide}
+use Rattle.gerber_layer.specs.MacroKinds.{flatten_name, flatten_number}
+use Rattle.gerber_layer.specs.declared.macro_kind.FlattenFault.{FlattenFault}
+use Rattle.gerber_layer.specs.declared.macro_kind.FlattenFault.TheVariants as flat
+use Rattle.gaps.specs.declared.listing.GapFault.{GapFault}
+use Rattle.gaps.specs.declared.listing.GapFault.TheVariants as gap
+use Rattle.boardnet.specs.Lines.{plain_line, file_line, differs_line, flatten_line, frame_line, gaps_line, label_line, untrue_line, end}
+use Rattle.boardnet.specs.Outcome.{refusal_line, IsNoReport, IsTextOf, made_manifest}
+use Rattle.boardnet.specs.Words.{Command, Check, Audit, Trial, Write, Gaps, X2, Flatten}
+use Rattle.boardnet.specs.declared.answer.Answer.{Answer}
+use Rattle.boardnet.specs.declared.answer.Note.{Note}
+use Rattle.boardnet.specs.declared.answer.Note.TheVariants as note
+use Rattle.boardnet.specs.declared.answer.Unanswered.{Unanswered}
+use Rattle.boardnet.specs.declared.answer.Unanswered.TheVariants.{Stopped, NotAReport, SizeTooLarge, GrownTooLarge, Mislabelled, Unflat}
 use Rattle.tables.specs.Tables.{Tables}
+use Rattle.verdict.specs.declared.reading.ReadFault.{ReadFault}
+use Rattle.verdict.specs.declared.reading.ReadFault.TheVariants as read
 use Rattle.verdict.specs.declared.verdict.Verdict.{Verdict}
 use Rattle.witness_check.specs.Ruled.{Rules}
 use Rattle.witness_check.specs.declared.auditing.Ruling.{Ruling}
 use Rattle.witness_check.specs.declared.auditing.Ruling.TheVariants.{True, Untrue}
+
+-- the status of an answer
+abbrev pub status_of : Note → ℕ
+status_of note.Agrees = 0
+status_of (note.Differs opens shorts missing) = 1
+status_of note.AuditTrue = 0
+status_of (note.AuditUntrue clause) = 1
+status_of (note.TrialDone agrees) = if agrees then 0 else 1
+status_of note.NetlistWritten = 0
+status_of note.NoGaps = 0
+status_of (note.Gaps count) = 1
+status_of note.Flattened = 0
+
+-- the line about an answer
+abbrev pub line_of : Note → List ℕ
+line_of note.Agrees = plain_line (codes "agrees")
+line_of (note.Differs opens shorts missing) = differs_line opens shorts missing
+line_of note.AuditTrue = plain_line (codes "audit true")
+line_of (note.AuditUntrue clause) = untrue_line clause
+line_of (note.TrialDone agrees) = plain_line (codes "trial done")
+line_of note.NetlistWritten = plain_line (codes "netlist written")
+line_of note.NoGaps = plain_line (codes "no gaps")
+line_of (note.Gaps count) = gaps_line count
+line_of note.Flattened = plain_line (codes "flattened")
+
+-- why there is no answer where a report is not read, or no board is made
+abbrev pub unread_of : ReadFault → Unanswered
+unread_of read.NotAReport = NotAReport
+unread_of read.NoMemory = Stopped fault.NoMemory
+
+abbrev pub unmade_of : MakeFault → Unanswered
+unmade_of made.SizeTooLarge = SizeTooLarge
+unmade_of made.NoMemory = Stopped fault.NoMemory
+
+abbrev pub ungapped_of : GapFault → Unanswered
+ungapped_of (gap.FrameTooLarge box) = GrownTooLarge box
+ungapped_of gap.NoMemory = Stopped fault.NoMemory
+
+abbrev pub unlabelled_of : LabelledFault → Unanswered
+unlabelled_of (labelled.Build why) = Stopped why
+unlabelled_of (labelled.Label name command byte) = Mislabelled name command byte
+
+-- why a board has no list of gaps
+abbrev pub IsUngapped : PlainBoard → ℕ → GapFault → Type 0
+IsUngapped board nanometres (gap.FrameTooLarge box) = IsTooWide board nanometres box
+IsUngapped board nanometres gap.NoMemory = Unit {0}
+
+abbrev pub unflat_of : FlattenFault → Unanswered
+unflat_of (flat.Refused kind command at) = Unflat kind command at
+unflat_of flat.NoMemory = Stopped fault.NoMemory
 
 -- the status of a fault and its line
 abbrev pub Refuses : List ℕ → BuildFault → ℕ → (List ℕ → Type 0) → Type 0
@@ -31,6 +95,29 @@ Refuses manifest (fault.Drill name kind number byte) status Line = (status ≡ 3
 Refuses manifest (fault.Netlist name kind number) status Line = (status ≡ 3) × Line (refusal_line name (Netlist kind number))
 Refuses manifest (fault.FrameTooLarge box) status Line = (status ≡ 3) × Line (frame_line box)
 Refuses manifest fault.NoMemory status Line = (status ≡ 6) × Line (plain_line (codes "out of memory"))
+
+-- the manifest or the copper file that a command is about, and the report
+abbrev pub manifest_of : Command → List ℕ
+manifest_of (Check version manifest) = manifest
+manifest_of (Audit manifest report) = manifest
+manifest_of (Trial seed size) = made_manifest
+manifest_of (Write manifest) = manifest
+manifest_of (Gaps manifest nanometres) = manifest
+manifest_of (X2 manifest) = manifest
+manifest_of (Flatten file) = file
+
+abbrev pub report_of : Command → List ℕ
+report_of (Audit manifest report) = report
+report_of other = []
+
+-- the status where a command has no answer, and its line
+abbrev pub RefusesFor : Command → Unanswered → ℕ → (List ℕ → Type 0) → Type 0
+RefusesFor command (Stopped why) status Line = Refuses (manifest_of command) why status Line
+RefusesFor command NotAReport status Line = (status ≡ 3) × Line (file_line (report_of command) (codes "not a report"))
+RefusesFor command SizeTooLarge status Line = (status ≡ 3) × Line (plain_line (codes "trial size too large"))
+RefusesFor command (GrownTooLarge box) status Line = (status ≡ 3) × Line (frame_line box)
+RefusesFor command (Mislabelled name number byte) status Line = (status ≡ 3) × Line (label_line name number byte)
+RefusesFor command (Unflat kind number byte) status Line = (status ≡ 3) × Line (flatten_line (manifest_of command) (flatten_number kind) (flatten_name kind) number byte)
 
 -- ---- Audits
 
@@ -55,13 +142,7 @@ pub record IsNoText (files : Files) (manifest report : List ℕ) : Type 0 where
   pub board_is : IsBoardOf files manifest board
   pub held : IsHeldWith files report IsNoReport
 
--- Why there is no ruling.
-abbrev pub HasAuditCause : Option Files → List ℕ → List ℕ → ℕ → ℕ → List ℕ → AuditFault → Type 0
-HasAuditCause held manifest report before now lost (Stopped why) =
-    HasCause held (λ files stop. IsAuditStop files manifest report stop) (λ files name. ComesFor files (Audit manifest report) name) before now lost why
-HasAuditCause held manifest report before now lost NotAReport = IfSome held (λ files. IsNoText files manifest report)
-
--- what is put for a ruling, with the status and the line
-abbrev pub Answers : Ruling → List ℕ → ℕ → List ℕ → Type 0
-Answers True text status line = (text ≡ codes "audit true" ++ end) × (status ≡ 0) × (line ≡ plain_line (codes "audit true"))
-Answers (Untrue n) text status line = (text ≡ codes "audit untrue " ++ decimal n ++ end) × (status ≡ 1) × (line ≡ untrue_line n)
+-- the answer says the ruling
+abbrev pub Answers : Ruling → Answer → Type 0
+Answers True answer = (answer.text.items ≡ codes "audit true" ++ end) × (answer.note ≡ note.AuditTrue)
+Answers (Untrue n) answer = (answer.text.items ≡ codes "audit untrue " ++ decimal n ++ end) × (answer.note ≡ note.AuditUntrue n)

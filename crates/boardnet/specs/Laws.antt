@@ -4,6 +4,7 @@ use Rattle.board_io.specs.Package.{Files}
 use Rattle.board_package.specs.PackageBoard.{most_bytes}
 use Rattle.boardnet.specs.Lines.{end, plain_line}
 use Rattle.boardnet.specs.Outcome.{AuditOutcome, CheckOutcome, Told}
+use Rattle.boardnet.specs.declared.words.Version.{Version}
 
 -- A package holds what it held before, and this text, which is not too long, under the name of a report.
 pub record HoldsReport (before after : Files) (report text : List ℕ) : Type 0 where
@@ -11,7 +12,7 @@ pub record HoldsReport (before after : Files) (report text : List ℕ) : Type 0 
   pub held : after report ≡ Some text
   pub short : length text ≤ most_bytes
 
--- The report that `check` writes passes the audit: where the package also holds it, the outcome of the audit is `audit true`.
+-- The report that `check` writes, of either version, passes the audit: where the package also holds it, the outcome of the audit is `audit true`.
 abbrev pub ReportsPass : Type 0
-ReportsPass = (before after : Files) (manifest report text line : List ℕ) (status : ℕ) → CheckOutcome before manifest (Told text status line) → HoldsReport before after report text
+ReportsPass = (before after : Files) (version : Version) (manifest report text line : List ℕ) (status : ℕ) → CheckOutcome before version manifest (Told text status line) → HoldsReport before after report text
     → AuditOutcome after manifest report (Told (codes "audit true" ++ end) 0 (plain_line (codes "audit true")))

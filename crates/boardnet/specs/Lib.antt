@@ -1,9 +1,13 @@
 pub mod Answers
 pub mod Asked
+pub mod Ends
+pub mod Gapped
 pub mod Kept
+pub mod Labelled
 pub mod Laws
 pub mod Lines
 pub mod Outcome
+pub mod Right
 pub mod Trials
 pub mod Words
 pub mod Written

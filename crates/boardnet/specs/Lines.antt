@@ -29,6 +29,10 @@ file_line file what = concat (begin ∷ file ∷ codes ": " ∷ what ∷ end ∷
 abbrev pub copper_line : List ℕ → ℕ → List ℕ → ℕ → ℕ → List ℕ
 copper_line file number kind command byte = concat (begin ∷ file ∷ codes ": Gerber " ∷ decimal number ∷ codes " " ∷ kind ∷ codes " at command " ∷ decimal command ∷ codes ", byte " ∷ decimal byte ∷ end ∷ [])
 
+-- a label of a copper file that is amiss: the command and its first byte
+abbrev pub label_line : List ℕ → ℕ → ℕ → List ℕ
+label_line file command byte = concat (begin ∷ file ∷ codes ": label at command " ∷ decimal command ∷ codes ", byte " ∷ decimal byte ∷ end ∷ [])
+
 -- a refusal of a drill file: the number and the name of its kind, the line and its first byte
 abbrev pub drill_line : List ℕ → ℕ → List ℕ → ℕ → ℕ → List ℕ
 drill_line file number kind line byte = concat (begin ∷ file ∷ codes ": drill " ∷ decimal number ∷ codes " " ∷ kind ∷ codes " at line " ∷ decimal line ∷ codes ", byte " ∷ decimal byte ∷ end ∷ [])
@@ -42,6 +46,13 @@ differs_line opens shorts missing = concat (begin ∷ codes "differs, opens " �
 
 abbrev pub frame_line : Bounds → List ℕ
 frame_line b = concat (begin ∷ codes "frame too large: " ∷ signed_decimal b.left ∷ codes " " ∷ signed_decimal b.low ∷ codes " " ∷ signed_decimal b.right ∷ codes " " ∷ signed_decimal b.high ∷ end ∷ [])
+
+abbrev pub gaps_line : ℕ → List ℕ
+gaps_line n = concat (begin ∷ codes "gaps " ∷ decimal n ∷ end ∷ [])
+
+-- a refusal of a copper file that may have macros
+abbrev pub flatten_line : List ℕ → ℕ → List ℕ → ℕ → ℕ → List ℕ
+flatten_line file number kind command byte = concat (begin ∷ file ∷ codes ": flatten " ∷ decimal number ∷ codes " " ∷ kind ∷ codes " at command " ∷ decimal command ∷ codes ", byte " ∷ decimal byte ∷ end ∷ [])
 
 abbrev pub untrue_line : ℕ → List ℕ
 untrue_line n = concat (begin ∷ codes "audit untrue " ∷ decimal n ∷ end ∷ [])

@@ -1,33 +1,36 @@
 -- The outcomes of the commands.
-use Rattle.std.specs.Prelude.{◌≡◌, ◌<◌, ◌≤◌, ◌⊎◌, ◌↔◌, ℕ, List, [], ◌∷◌, ◌++◌, length, Option, IfSome, codes, decimal}
+use Rattle.std.specs.Prelude.{◌≡◌, ◌<◌, ◌≤◌, ◌⊎◌, ◌↔◌, ℕ, ◌-◌, List, [], ◌∷◌, ◌++◌, length, Option, Some, IfSome, slice_get, codes, decimal}
 use Rattle.std.specs.List.{concat}
 use Rattle.board_io.specs.Package.{Files}
 use Rattle.board_maker.specs.MadePackage.{made_files}
-use Rattle.board_package.specs.PackageBoard.{Stop, absent, longer, not_json, bad_manifest, refused, frame_too_large, Comes, IsBoardOf, IsFirstStop, IsHeldWith, StopsTaking}
+use Rattle.board_package.specs.LabelledBoard.{IsFirstLabelledStop, IsLabelledBoardOf, LabelledComes, LabelledStop, mislabelled, unbuilt}
+use Rattle.board_package.specs.PackageBoard.{Stop, absent, longer, not_json, bad_manifest, refused, frame_too_large, Comes, IsBoardOf, IsFirstStop, IsHeld, IsHeldWith, IsWithinLimits, StopsTaking}
 use Rattle.board_package.specs.declared.reading.Refusal.{Refusal}
 use Rattle.board_package.specs.declared.reading.Refusal.TheVariants.{Layer, Drill, Netlist}
 use Rattle.board_shapes.specs.Plain.{PlainBoard}
 use Rattle.board_shapes.specs.Tables.{IsTables}
-use Rattle.board_shapes.specs.Touching.{ProbesJoined}
-use Rattle.boardnet.specs.Lines.{plain_line, file_line, copper_line, drill_line, netlist_line, frame_line, differs_line, untrue_line, end}
+use Rattle.board_shapes.specs.Touching.{Joined}
+use Rattle.board_shapes.specs.declared.probe.Probe.{Probe}
+use Rattle.boardnet.specs.Gapped.{IsGapListOn, IsTooWide}
+use Rattle.boardnet.specs.Right.{IsOfVersion, IsRightOn}
+use Rattle.boardnet.specs.Lines.{flatten_line, plain_line, file_line, copper_line, drill_line, netlist_line, frame_line, label_line, differs_line, untrue_line, end}
 use Rattle.gerber_layer.specs.Kinds.{kind_number, kind_name}
+use Rattle.gerber_layer.specs.MacroKinds.{flatten_number, flatten_name}
+use Rattle.gerber_layer.specs.MacroLayer.{IsRefusedWithMacros}
+use Rattle.gerber_layer.specs.declared.macro_kind.FlattenKind.{FlattenKind}
+use Rattle.macro_flatten.specs.Flattened.{IsFlattened, IsReadBack}
 use Rattle.ipc356_records.specs.Kind.{number_of_kind as record_number, name_of_kind as record_name}
 use Rattle.tables.specs.Tables.{Tables}
-use Rattle.boardnet.specs.Words.{Command, Check, Audit, Trial, Write}
+use Rattle.boardnet.specs.Words.{Command, Check, Audit, Trial, Write, Gaps, X2, Flatten}
+use Rattle.boardnet.specs.declared.words.Version.{Version}
+use Rattle.boardnet.specs.declared.words.Version.TheVariants.{Two}
+use Rattle.contact.specs.declared.Bounds.{Bounds}
 use Rattle.netlist_writer.specs.WrittenNetlist.{written_netlist_of}
 use Rattle.verdict.specs.Lawful.{IsVerdict}
 use Rattle.verdict.specs.ReportText.{report_text, Agrees}
-use Rattle.verdict.specs.Right.{FailsFirst, IsRight, HaveOneNet}
+use Rattle.verdict.specs.Right.{FailsFirst, HaveOneNet, IsRight}
 use Rattle.verdict.specs.declared.verdict.Verdict.{Verdict}
 use Rattle.xnc.specs.Kind.{number_of_kind as drill_number, name_of_kind as drill_name}
-
--- The verdict is right for the board, whose tables the law of tables gives.
-pub record IsRightOn (board : PlainBoard) (verdict : Verdict) : Type 0 where
-  pub tables : Tables
-  pub tables_are : IsTables board tables
-  pub right : IsRight tables verdict
-  -- Two probes have one net number exactly where a finite chain of touching pieces joins them.
-  pub joins : (a b : ℕ) → HaveOneNet verdict a b ↔ ProbesJoined board a b
 
 -- The status of a verdict, and its line.
 abbrev pub HasStatus : Verdict → ℕ → List ℕ → Type 0
@@ -35,13 +38,14 @@ HasStatus v status line =
     (Agrees v × (status ≡ 0) × (line ≡ plain_line (codes "agrees")))
     ⊎ ((Agrees v → ⊥) × (status ≡ 1) × (line ≡ differs_line (length v.opens) (length v.shorts) (length v.bare)))
 
--- The package fits, and this is the text of a right verdict on its board, with its status and its line.
-pub record IsReport (files : Files) (manifest text : List ℕ) (status : ℕ) (line : List ℕ) : Type 0 where
+-- The package fits, and this is the text of a right verdict on its board, as the version asks, with its status and its line.
+pub record IsReport (files : Files) (version : Version) (manifest text : List ℕ) (status : ℕ) (line : List ℕ) : Type 0 where
   pub board : PlainBoard
   pub board_is : IsBoardOf files manifest board
   pub verdict : Verdict
   pub lawful : IsVerdict verdict
   pub right : IsRightOn board verdict
+  pub version_is : IsOfVersion version verdict
   pub text_is : text ≡ report_text verdict
   pub status_is : HasStatus verdict status line
 
@@ -155,15 +159,97 @@ pub record IsMadeRefusal (seed size : ℕ) (line : List ℕ) : Type 0 where
 
 -- ---- Written netlists
 
--- The package fits, and this is the written netlist of its board for the nets of a right verdict on it, with the status and the line.
+-- The package fits, its board is within the limits of a package, and this is the written netlist of it for the nets of a right verdict on it, with the status and the line.
 pub record IsWritten (files : Files) (manifest text : List ℕ) (status : ℕ) (line : List ℕ) : Type 0 where
   pub board : PlainBoard
   pub board_is : IsBoardOf files manifest board
+  pub limits : IsWithinLimits board
   pub verdict : Verdict
   pub right : IsRightOn board verdict
   pub text_is : text ≡ written_netlist_of board.layers verdict.nets board.pieces
   pub status_is : status ≡ 0
   pub line_is : line ≡ plain_line (codes "netlist written")
+
+-- ---- Gaps
+
+-- The package fits, and this is the list of gaps of its board, with the status and the line.
+pub record IsGapped (files : Files) (manifest : List ℕ) (nanometres : ℕ) (text : List ℕ) (status : ℕ) (line : List ℕ) : Type 0 where
+  pub board : PlainBoard
+  pub board_is : IsBoardOf files manifest board
+  pub list : IsGapListOn board nanometres text status line
+
+-- The package fits, but not with its pieces grown by half the distance, and this is their common box.
+pub record IsGrownStop (files : Files) (manifest : List ℕ) (nanometres : ℕ) (box : Bounds) : Type 0 where
+  pub board : PlainBoard
+  pub board_is : IsBoardOf files manifest board
+  pub wide : IsTooWide board nanometres box
+
+-- The line of such a box.
+pub record IsGrownRefusal (files : Files) (manifest : List ℕ) (nanometres : ℕ) (line : List ℕ) : Type 0 where
+  pub box : Bounds
+  pub stop : IsGrownStop files manifest nanometres box
+  pub line_is : line ≡ frame_line box
+
+-- ---- Nets by labels
+
+-- Two labelled pieces have one net number exactly where a finite chain of touching pieces joins them. Each probe has the number of its piece plus 1.
+abbrev pub JoinsPieces : PlainBoard → Verdict → Type 0
+JoinsPieces board verdict = (k l : ℕ) (p q : Probe) → slice_get board.probes k ≡ Some p → slice_get board.probes l ≡ Some q → HaveOneNet verdict k l ↔ Joined board (p.number - 1) (q.number - 1)
+
+-- The package fits without its netlist, and this is the text of a right verdict on its labelled board, with a supplement, with its status and its line. No probe is bare.
+pub record IsLabelledReport (files : Files) (manifest text : List ℕ) (status : ℕ) (line : List ℕ) : Type 0 where
+  pub board : PlainBoard
+  pub board_is : IsLabelledBoardOf files manifest board
+  pub verdict : Verdict
+  pub lawful : IsVerdict verdict
+  pub right : IsRightOn board verdict
+  pub version_is : IsOfVersion Two verdict
+  pub none_bare : verdict.bare ≡ []
+  pub joins : JoinsPieces board verdict
+  pub text_is : text ≡ report_text verdict
+  pub status_is : HasStatus verdict status line
+
+-- The line of a stop of a labelled board that is a refusal.
+abbrev pub IsLabelledLine : List ℕ → LabelledStop → List ℕ → Type 0
+IsLabelledLine manifest (unbuilt stop) line = IsLineOf manifest stop line
+IsLabelledLine manifest (mislabelled name command byte) line = line ≡ label_line name command byte
+
+-- The first stop of the package without its netlist is a refusal, and this is its line.
+pub record IsLabelledRefusal (files : Files) (manifest line : List ℕ) : Type 0 where
+  pub stop : LabelledStop
+  pub first : IsFirstLabelledStop files manifest stop
+  pub line_is : IsLabelledLine manifest stop line
+
+-- ---- Flattened copper files
+
+-- The file is held and not too long, it has an image, and this is the text of that image, which every layer reads as the same copper; with the status and the line.
+pub record IsFlatText (files : Files) (name text : List ℕ) (status : ℕ) (line : List ℕ) : Type 0 where
+  pub bytes : List ℕ
+  pub held : IsHeld files name bytes
+  pub flattened : IsFlattened bytes text
+  pub reads : IsReadBack bytes text
+  pub status_is : status ≡ 0
+  pub line_is : line ≡ plain_line (codes "flattened")
+
+-- The file is not there to be judged, and this is its line.
+pub record IsUntaken (files : Files) (name line : List ℕ) : Type 0 where
+  pub stop : Stop
+  pub stops : StopsTaking files name stop
+  pub line_is : IsLineOf name stop line
+
+-- The file is held and not too long, and its first faulty command is this one.
+pub record IsUnflat (files : Files) (name : List ℕ) (kind : FlattenKind) (command byte : ℕ) : Type 0 where
+  pub bytes : List ℕ
+  pub held : IsHeld files name bytes
+  pub refused : IsRefusedWithMacros bytes kind command byte
+
+-- The line of such a file.
+pub record IsFlatRefusal (files : Files) (name line : List ℕ) : Type 0 where
+  pub kind : FlattenKind
+  pub command : ℕ
+  pub byte : ℕ
+  pub unflat : IsUnflat files name kind command byte
+  pub line_is : line ≡ flatten_line name (flatten_number kind) (flatten_name kind) command byte
 
 -- ---- Commands
 
@@ -172,9 +258,9 @@ pub data Outcome : Type 0 where
   Told : List ℕ → ℕ → List ℕ → Outcome
   Refused : List ℕ → Outcome
 
-abbrev pub CheckOutcome : Files → List ℕ → Outcome → Type 0
-CheckOutcome files manifest (Told text status line) = IsReport files manifest text status line
-CheckOutcome files manifest (Refused line) = IsRefusal files manifest line
+abbrev pub CheckOutcome : Files → Version → List ℕ → Outcome → Type 0
+CheckOutcome files version manifest (Told text status line) = IsReport files version manifest text status line
+CheckOutcome files version manifest (Refused line) = IsRefusal files manifest line
 
 abbrev pub AuditOutcome : Files → List ℕ → List ℕ → Outcome → Type 0
 AuditOutcome files manifest report (Told text status line) = IsAnswer files manifest report text status line
@@ -188,19 +274,41 @@ abbrev pub WriteOutcome : Files → List ℕ → Outcome → Type 0
 WriteOutcome files manifest (Told text status line) = IsWritten files manifest text status line
 WriteOutcome files manifest (Refused line) = IsRefusal files manifest line
 
+abbrev pub GapsOutcome : Files → List ℕ → ℕ → Outcome → Type 0
+GapsOutcome files manifest nanometres (Told text status line) = IsGapped files manifest nanometres text status line
+GapsOutcome files manifest nanometres (Refused line) = IsRefusal files manifest line ⊎ IsGrownRefusal files manifest nanometres line
+
+abbrev pub X2Outcome : Files → List ℕ → Outcome → Type 0
+X2Outcome files manifest (Told text status line) = IsLabelledReport files manifest text status line
+X2Outcome files manifest (Refused line) = IsLabelledRefusal files manifest line
+
+abbrev pub FlattenOutcome : Files → List ℕ → Outcome → Type 0
+FlattenOutcome files name (Told text status line) = IsFlatText files name text status line
+FlattenOutcome files name (Refused line) = IsUntaken files name line ⊎ IsFlatRefusal files name line
+
 -- A trial asks nothing of the package.
 abbrev pub OutcomeOf : Files → Command → Outcome → Type 0
-OutcomeOf files (Check manifest) outcome = CheckOutcome files manifest outcome
+OutcomeOf files (Check version manifest) outcome = CheckOutcome files version manifest outcome
 OutcomeOf files (Audit manifest report) outcome = AuditOutcome files manifest report outcome
 OutcomeOf files (Trial seed size) outcome = TrialOutcome seed size outcome
 OutcomeOf files (Write manifest) outcome = WriteOutcome files manifest outcome
+OutcomeOf files (Gaps manifest nanometres) outcome = GapsOutcome files manifest nanometres outcome
+OutcomeOf files (X2 manifest) outcome = X2Outcome files manifest outcome
+OutcomeOf files (Flatten name) outcome = FlattenOutcome files name outcome
 
--- P holds of the files that a command reads: those of the package, where it tells them, and for a trial those that it makes.
+-- The files that a command reads: those of the package, where it tells them, and for a trial those that it makes.
+abbrev pub read_by : Command → Option Files → Option Files
+read_by (Check version manifest) held = held
+read_by (Audit manifest report) held = held
+read_by (Trial seed size) held = Some (made_files seed size)
+read_by (Write manifest) held = held
+read_by (Gaps manifest nanometres) held = held
+read_by (X2 manifest) held = held
+read_by (Flatten name) held = held
+
+-- P holds of the files that a command reads.
 abbrev pub OfFilesRead : Command → Option Files → (Files → Type 0) → Type 0
-OfFilesRead (Check manifest) held P = IfSome held P
-OfFilesRead (Audit manifest report) held P = IfSome held P
-OfFilesRead (Trial seed size) held P = P (made_files seed size)
-OfFilesRead (Write manifest) held P = IfSome held P
+OfFilesRead command held P = IfSome (read_by command held) P
 
 -- The package fits, and the name is that of the report, which comes next.
 pub record IsReportNext (files : Files) (manifest report name : List ℕ) : Type 0 where
@@ -210,7 +318,10 @@ pub record IsReportNext (files : Files) (manifest report name : List ℕ) : Type
 
 -- The name is that of a file of the command's order, and every file before it is held and has no refusal. A trial takes no file of the package.
 abbrev pub ComesFor : Files → Command → List ℕ → Type 0
-ComesFor files (Check manifest) name = Comes files manifest name
+ComesFor files (Check version manifest) name = Comes files manifest name
 ComesFor files (Audit manifest report) name = Comes files manifest name ⊎ IsReportNext files manifest report name
 ComesFor files (Trial seed size) name = ⊥
 ComesFor files (Write manifest) name = Comes files manifest name
+ComesFor files (Gaps manifest nanometres) name = Comes files manifest name
+ComesFor files (X2 manifest) name = LabelledComes files manifest name
+ComesFor files (Flatten file) name = name ≡ file

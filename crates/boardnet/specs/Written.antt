@@ -1,13 +1,14 @@
 -- What the command `write` answers, and what comes of its text.
-use Rattle.std.specs.Prelude.{◌≡◌, ◌≤◌, ℕ, List, [], ◌∷◌, ◌++◌, length, All, Some}
+use Rattle.std.specs.Prelude.{◌≡◌, ℕ, List, [], ◌∷◌, ◌++◌, All, Some}
 use Rattle.board_io.specs.Package.{Files}
 use Rattle.board_package.specs.PackageBoard.{IsBoardOf, IsManifestFile, order_of}
 use Rattle.board_package.specs.declared.entry.Entry.{Entry}
 use Rattle.board_package.specs.declared.entry.Role.TheVariants.{Netlist}
 use Rattle.board_package.specs.declared.manifest.Manifest.{Manifest}
-use Rattle.board_shapes.specs.LawfulBoard.{IsLawfulBoard}
 use Rattle.board_shapes.specs.Plain.{PlainBoard}
-use Rattle.boardnet.specs.Outcome.{CheckOutcome, IsRightOn, IsWritten, Told}
+use Rattle.boardnet.specs.Outcome.{CheckOutcome, IsWritten, Told}
+use Rattle.boardnet.specs.Right.{IsRightOn}
+use Rattle.boardnet.specs.declared.words.Version.{Version}
 use Rattle.netlist_writer.specs.WrittenNetlist.{written_netlist_of}
 use Rattle.verdict.specs.declared.verdict.Verdict.{Verdict}
 
@@ -27,18 +28,12 @@ pub record HasNetlist (before after : Files) (manifest : List ℕ) (listed : Man
   pub still : All (λ e. after e.name ≡ before e.name) front
   pub held : after last.name ≡ Some text
 
--- a lawful board of at most 200,000 pieces and 32 layers, as a package has
-pub record IsWithinLimits (board : PlainBoard) : Type 0 where
-  pub lawful : IsLawfulBoard board
-  pub few_pieces : length board.pieces ≤ 200000
-  pub few_layers : board.layers ≤ 32
-
 -- The package fits, and where `check` puts a report its status is 0.
 pub record Passes (files : Files) (manifest : List ℕ) : Type 0 where
   pub fits : (board : PlainBoard) × IsBoardOf files manifest board
-  pub agrees : (report line : List ℕ) (status : ℕ) → CheckOutcome files manifest (Told report status line) → status ≡ 0
+  pub agrees : (version : Version) (report line : List ℕ) (status : ℕ) → CheckOutcome files version manifest (Told report status line) → status ≡ 0
 
 -- What `write` puts for a package, taken as its netlist, is read and agrees with the copper.
 abbrev pub WrittenNetlistsPass : Type 0
-WrittenNetlistsPass = (before after : Files) (manifest text line : List ℕ) (status : ℕ) → (w : IsWritten before manifest text status line) → IsWithinLimits w.board
+WrittenNetlistsPass = (before after : Files) (manifest text line : List ℕ) (status : ℕ) → (w : IsWritten before manifest text status line)
     → HasNetlist before after manifest w.board_is.listed text → Passes after manifest

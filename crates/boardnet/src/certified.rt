@@ -5,6 +5,7 @@ ghost use Rattle.board_io.specs.MemorySink.{faults_of as sink_faults_of, got_of}
 ghost use Rattle.board_package.specs.PackageBoard.{IsBoardOf, most_bytes};
 ghost use Rattle.board_shapes.specs.Plain.{PlainBoard};
 ghost use Rattle.boardnet.specs.Words.{IsAudit, IsCheck};
+ghost use Rattle.boardnet.specs.declared.words.Version.{Version};
 ghost use Rattle.std.specs.Prelude.{List, None, [], length, ℕ, ◌<◌, ◌≡◌, ◌≤◌, ◌⊎◌};
 
 use crate::laws::reports_pass;
@@ -42,10 +43,10 @@ pub fn certify<N: Sink>(
     notes: &mut N,
 ) -> Certified
     ensures unreported { (status : ℕ) → result ≡ Certified.Unreported status → (2 ≤ status) ⊎ (most_bytes < length (got_of out.new)) }
-    ensures complete { (manifest : List ℕ) → IsCheck checking.now manifest → (board : PlainBoard) → IsBoardOf (files_of «package».old) manifest board
+    ensures complete { (version : Version) (manifest : List ℕ) → IsCheck checking.now version manifest → (board : PlainBoard) → IsBoardOf (files_of «package».old) manifest board
         → (Rose (faults_of «package».old) (faults_of «package».new) → ⊥) → (Rose (sink_faults_of out.old) (sink_faults_of out.new) → ⊥)
         → (status : ℕ) → result ≡ Certified.Unreported status → (status ≡ 6) ⊎ (most_bytes < length (got_of out.new)) }
-    ensures passes { (manifest : List ℕ) → IsCheck checking.now manifest → IsAudit auditing.now manifest report.now → files_of «package».old report.now ≡ None → got_of out.old ≡ []
+    ensures passes { (version : Version) (manifest : List ℕ) → IsCheck checking.now version manifest → IsAudit auditing.now manifest report.now → files_of «package».old report.now ≡ None → got_of out.old ≡ []
         → (Rose (faults_of «package».old) (faults_of «package».new) → ⊥) → (Rose (sink_faults_of ruling.old) (sink_faults_of ruling.new) → ⊥)
         → (status : ℕ) → result ≡ Certified.Audited status → (status ≡ 0) ⊎ (status ≡ 6) }
 {

@@ -1,130 +1,28 @@
 // The command `check`.
-ghost use Rattle.board_io.specs.Causes.{Rose};
-ghost use Rattle.board_io.specs.Package.{IsFaultless};
-ghost use Rattle.board_io.specs.Sink.{Gains, GainsFrontOf};
-ghost use Rattle.board_package.specs.Causes.{HasCause, KeepsFaults};
-ghost use Rattle.board_package.specs.PackageBoard.{Comes, IsBoardOf, IsFirstStop};
-ghost use Rattle.board_shapes.specs.Plain.{PlainBoard};
-ghost use Rattle.boardnet.specs.Kept.{Keeps};
-ghost use Rattle.boardnet.specs.Lines.{Says, file_line, plain_line};
-ghost use Rattle.boardnet.specs.Outcome.{HasStatus, IsRefusal, IsReport, IsRightOn};
+ghost use Rattle.boardnet.specs.Ends.{Works};
+ghost use Rattle.boardnet.specs.Words.{Check};
 ghost use Rattle.lengths.specs.Text.{IsText};
-ghost use Rattle.std.specs.Prelude.{IfErr, IfOk, IfSome, List, codes, ℕ, ◌≡◌, ◌≢◌, ◌≤◌, ◌⊎◌};
-ghost use Rattle.verdict.specs.Lawful.{IsVerdict};
-ghost use Rattle.verdict.specs.ReportText.{report_text};
 
-use crate::judged::verdict_on;
-use crate::lines;
-use crate::putting::put_text;
-use crate::refusing::{name_of, refuse};
-use board_io::{Package, Sink};
-use board_package::{BuildFault, build, laws};
-use lengths::NoMemory;
+use crate::answer::{Answer, Note, Unanswered};
+use crate::judged::{board_of, verdict_in};
+use crate::words::Version;
+use board_io::Package;
 use std::alloc::Global;
-use verdict::{Verdict, write_report};
+use verdict::write_report;
 
-// Checks the package of a manifest.
-pub fn check<P: Package, S: Sink, N: Sink>(
+// The report of a version on the package of a manifest.
+pub fn report<P: Package>(
     alloc: Global,
+    version: Version,
     manifest: &str,
     package: &mut P,
-    out: &mut S,
-    notes: &mut N,
-) -> u8
+) -> Result<Answer, Unanswered>
     requires { IsText manifest.now }
-    ensures status { result ≤ 6 }
-    ensures understood { result ≢ 2 }
-    ensures right { result ≤ 1 → IfSome (P.held «package».old) (λ files.
-        (text line : List ℕ) × IsReport files manifest.now text result line
-        × Gains (S.got out.old) text (S.got out.new) × Says N.got N.faults notes.old notes.new line) }
-    ensures refused { result ≡ 3 → IfSome (P.held «package».old) (λ files.
-        (line : List ℕ) × IsRefusal files manifest.now line × Says N.got N.faults notes.old notes.new line) }
-    ensures unreadable { result ≡ 4 → Rose (P.faults «package».old) (P.faults «package».new)
-        × Says N.got N.faults notes.old notes.new (file_line (P.lost «package».new) (codes "cannot be read")) }
-    ensures unread { result ≡ 4 → IfSome (P.held «package».old) (λ files. Comes files manifest.now (P.lost «package».new)) }
-    ensures unwritable { result ≡ 5 → Rose (S.faults out.old) (S.faults out.new)
-        × Says N.got N.faults notes.old notes.new (plain_line (codes "output cannot be written")) }
-    ensures front { result ≡ 5 → IfSome (P.held «package».old) (λ files.
-        (text line : List ℕ) × (status : ℕ) × IsReport files manifest.now text status line × GainsFrontOf (S.got out.old) text (S.got out.new)) }
-    ensures silent { 2 ≤ result → result ≢ 5 → out.new ≡ out.old }
-    ensures kept { Keeps P.held P.faults P.lost «package».old «package».new result }
-    ensures later { (S.faults out.old ≤ S.faults out.new) × (N.faults notes.old ≤ N.faults notes.new) }
-    ensures memory { result ≡ 6 → Says N.got N.faults notes.old notes.new (plain_line (codes "out of memory")) }
-    ensures complete { IfSome (P.held «package».old) (λ files. (board : PlainBoard) → IsBoardOf files manifest.now board
-        → (Rose (P.faults «package».old) (P.faults «package».new) → ⊥) → (Rose (S.faults out.old) (S.faults out.new) → ⊥) → (result ≤ 1) ⊎ (result ≡ 6)) }
+    ensures { Works P.held P.faults P.lost (Check version manifest.now) «package».old «package».new result }
 {
-    match report(alloc, manifest, package) {
-        Ok((verdict, text)) => finish(&verdict, text.as_slice(), out, notes),
-        Err(fault) => {
-            laws::one_outcome();
-            refuse(manifest, &fault, notes)
-        }
-    }
-}
-
-// Puts the report, and the line about it.
-fn finish<S: Sink, N: Sink>(verdict: &Verdict, text: &[u8], out: &mut S, notes: &mut N) -> u8
-    ensures status { (result ≤ 1) ⊎ (result ≡ 5) }
-    ensures written { result ≤ 1 → Gains (S.got out.old) text.now (S.got out.new) × (line : List ℕ) × HasStatus verdict.now result line × Says N.got N.faults notes.old notes.new line }
-    ensures unwritten { result ≡ 5 → Rose (S.faults out.old) (S.faults out.new) × GainsFrontOf (S.got out.old) text.now (S.got out.new)
-        × Says N.got N.faults notes.old notes.new (plain_line (codes "output cannot be written")) }
-    ensures later { (S.faults out.old ≤ S.faults out.new) × (N.faults notes.old ≤ N.faults notes.new) }
-{
-    if !put_text(text, out, notes) {
-        return 5;
-    }
-    if verdict.agrees() {
-        lines::plain(notes, b"agrees");
-        return 0;
-    }
-    lines::differs(
-        notes,
-        verdict.opens.as_slice().len(),
-        verdict.shorts.as_slice().len(),
-        verdict.bare.as_slice().len(),
-    );
-    1
-}
-
-// The verdict on the board of a package, and its text.
-fn report<P: Package>(
-    alloc: Global,
-    manifest: &str,
-    package: &mut P,
-) -> Result<(Verdict, Vec<u8>), BuildFault>
-    requires { IsText manifest.now }
-    ensures held { P.held «package».new ≡ P.held «package».old }
-    ensures later { P.faults «package».old ≤ P.faults «package».new }
-    ensures calm { IfOk result (λ _. IsFaultless (P.faults «package».old) (P.lost «package».old) (P.faults «package».new) (P.lost «package».new)) }
-    ensures left { IfErr result (KeepsFaults (P.faults «package».old) (P.lost «package».old) (P.faults «package».new) (P.lost «package».new)) }
-    ensures ok { IfOk result (λ r. IfSome (P.held «package».old) (λ files. (board : PlainBoard) × IsBoardOf files manifest.now board × IsRightOn board r.0 × IsVerdict r.0 × (r.1.items ≡ report_text r.0))) }
-    ensures fault { IfErr result (HasCause (P.held «package».old) (λ files stop. IsFirstStop files manifest.now stop) (λ files name. Comes files manifest.now name) (P.faults «package».old) (P.faults «package».new) (P.lost «package».new)) }
-{
-    let verdict = verdict_of_package(alloc, manifest, package)?;
-    match write_report(alloc, &verdict) {
-        Ok(text) => Ok((verdict, text)),
-        Err(NoMemory) => Err(BuildFault::NoMemory),
-    }
-}
-
-// The right verdict on the board of a package.
-pub fn verdict_of_package<P: Package>(
-    alloc: Global,
-    manifest: &str,
-    package: &mut P,
-) -> Result<Verdict, BuildFault>
-    requires { IsText manifest.now }
-    ensures held { P.held «package».new ≡ P.held «package».old }
-    ensures later { P.faults «package».old ≤ P.faults «package».new }
-    ensures calm { IfOk result (λ _. IsFaultless (P.faults «package».old) (P.lost «package».old) (P.faults «package».new) (P.lost «package».new)) }
-    ensures left { IfErr result (KeepsFaults (P.faults «package».old) (P.lost «package».old) (P.faults «package».new) (P.lost «package».new)) }
-    ensures ok { IfOk result (λ verdict. IfSome (P.held «package».old) (λ files. (board : PlainBoard) × IsBoardOf files manifest.now board × IsRightOn board verdict)) }
-    ensures fault { IfErr result (HasCause (P.held «package».old) (λ files stop. IsFirstStop files manifest.now stop) (λ files name. Comes files manifest.now name) (P.faults «package».old) (P.faults «package».new) (P.lost «package».new)) }
-{
-    let name = name_of(alloc, manifest)?;
-    let board = build(alloc, &name, package)?;
-    match verdict_on(alloc, &board) {
-        Ok(verdict) => Ok(verdict),
-        Err(NoMemory) => Err(BuildFault::NoMemory),
-    }
+    let board = board_of(alloc, manifest, package)?;
+    let verdict = verdict_in(alloc, version, &board)?;
+    let text = write_report(alloc, &verdict)?;
+    let note = Note::of(&verdict);
+    Ok(Answer { text, note })
 }

@@ -1,12 +1,21 @@
-// The work on a board: its nets and its verdict.
+// The board of a package, and the work on it: its nets and its verdict.
+ghost use Rattle.board_io.specs.Package.{IsFaultless};
+ghost use Rattle.board_package.specs.Causes.{HasCause, KeepsFaults};
+ghost use Rattle.board_package.specs.PackageBoard.{Comes, IsBoardOf, IsFirstStop, IsWithinLimits};
 ghost use Rattle.board_shapes.specs.Plain.{plain_board};
-ghost use Rattle.boardnet.specs.Outcome.{IsRightOn};
-ghost use Rattle.std.specs.Prelude.{IfOk, ◌<◌, ◌≡◌};
+ghost use Rattle.boardnet.specs.Right.{IsOfVersion, IsRightOn};
+ghost use Rattle.boardnet.specs.declared.words.Version.TheVariants.{One, Two};
+ghost use Rattle.lengths.specs.Text.{IsText};
+ghost use Rattle.std.specs.Prelude.{IfErr, IfOk, IfSome, ◌<◌, ◌≡◌, ◌≤◌};
 
+use crate::refusing::name_of;
+use crate::words::Version;
+use board_io::Package;
+use board_package::{BuildFault, build};
 use board_shapes::{Board, laws as shapes};
 use cell_index::Cells;
 use flood::{flood, homes, laws as nets};
-use judge::judge;
+use judge::{judge, supplement};
 use lengths::NoMemory;
 use std::alloc::Global;
 use std::marker::Brand;
@@ -15,9 +24,54 @@ use steps::Steps;
 use verdict::Verdict;
 use witness_check::laws as verdicts;
 
-/// The right verdict on a board.
+// The board of the package of a manifest.
+pub fn board_of<P: Package>(
+    alloc: Global,
+    manifest: &str,
+    package: &mut P,
+) -> Result<Board, BuildFault>
+    requires { IsText manifest.now }
+    ensures held { P.held «package».new ≡ P.held «package».old }
+    ensures later { P.faults «package».old ≤ P.faults «package».new }
+    ensures calm { IfOk result (λ _. IsFaultless (P.faults «package».old) (P.lost «package».old) (P.faults «package».new) (P.lost «package».new)) }
+    ensures left { IfErr result (KeepsFaults (P.faults «package».old) (P.lost «package».old) (P.faults «package».new) (P.lost «package».new)) }
+    ensures ok { IfOk result (λ board. IfSome (P.held «package».old) (λ files. IsBoardOf files manifest.now (plain_board board))) }
+    ensures limits { IfOk result (λ board. IsWithinLimits (plain_board board)) }
+    ensures fault { IfErr result (HasCause (P.held «package».old) (λ files stop. IsFirstStop files manifest.now stop) (λ files name. Comes files manifest.now name) (P.faults «package».old) (P.faults «package».new) (P.lost «package».new)) }
+{
+    let name = name_of(alloc, manifest)?;
+    build(alloc, &name, package)
+}
+
+/// The right verdict on a board for a report of a version.
+pub fn verdict_in(alloc: Global, version: Version, board: &Board) -> Result<Verdict, NoMemory>
+    ensures right { IfOk result (IsRightOn (plain_board board.now)) }
+    ensures version { IfOk result (IsOfVersion version) }
+{
+    let verdict = verdict_on(alloc, board)?;
+    match version {
+        Version::One => Ok(verdict),
+        Version::Two => supplemented(alloc, board, verdict),
+    }
+}
+
+// The verdict with the supplement of the board.
+fn supplemented(alloc: Global, board: &Board, verdict: Verdict) -> Result<Verdict, NoMemory>
+    requires { IsRightOn (plain_board board.now) verdict }
+    ensures right { IfOk result (IsRightOn (plain_board board.now)) }
+    ensures version { IfOk result (IsOfVersion Two) }
+{
+    let more = supplement(alloc, board)?;
+    Ok(Verdict {
+        more: Some(more),
+        ..verdict
+    })
+}
+
+/// The right verdict on a board, without a supplement.
 pub fn verdict_on(alloc: Global, board: &Board) -> Result<Verdict, NoMemory>
-    ensures { IfOk result (IsRightOn (plain_board board.now)) }
+    ensures right { IfOk result (IsRightOn (plain_board board.now)) }
+    ensures version { IfOk result (IsOfVersion One) }
 {
     verdict_of::<Brand>(alloc, board, Blank::new(1))
 }
@@ -27,7 +81,8 @@ fn verdict_of<L: Ledger>(alloc: Global, board: &Board, blank: Blank) -> Result<V
     requires name { blank.name ≡ L.name }
     requires parts { blank.parts ≡ L.parts }
     requires some { 0 < blank.parts }
-    ensures { IfOk result (IsRightOn (plain_board board.now)) }
+    ensures right { IfOk result (IsRightOn (plain_board board.now)) }
+    ensures version { IfOk result (IsOfVersion One) }
 {
     let mut tests = Steps::<L>::new(blank);
     let pieces = Cells::new(alloc, board.pieces(), board.frame(), board.layers())?;

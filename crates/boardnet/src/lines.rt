@@ -1,5 +1,5 @@
 // The line to the notes, put in pieces and without memory.
-ghost use Rattle.boardnet.specs.Lines.{Says, copper_line, differs_line, drill_line, file_line, frame_line, netlist_line, plain_line, untrue_line};
+ghost use Rattle.boardnet.specs.Lines.{Says, copper_line, differs_line, drill_line, file_line, flatten_line, frame_line, label_line, gaps_line, netlist_line, plain_line, untrue_line};
 ghost use Rattle.std.specs.List.{flat_map};
 
 use board_io::{Put, Sink};
@@ -38,6 +38,43 @@ pub fn differs<N: Sink>(notes: &mut N, opens: usize, shorts: usize, missing: usi
             Numeral::of(shorts as u64).as_bytes(),
             b", missing ",
             Numeral::of(missing as u64).as_bytes(),
+            b"\n",
+        ],
+    );
+}
+
+/// Puts the line of a list of gaps.
+pub fn gaps<N: Sink>(notes: &mut N, count: usize)
+    ensures { Says N.got N.faults notes.old notes.new (gaps_line count) }
+{
+    put_all(
+        notes,
+        &[
+            b"boardnet: ",
+            b"gaps ",
+            Numeral::of(count as u64).as_bytes(),
+            b"\n",
+        ],
+    );
+}
+
+/// Puts the line of a refusal of a copper file that may have macros, at a command and its first byte.
+pub fn unflat<N: Sink>(notes: &mut N, file: &[u8], kind: Kind, command: u32, byte: usize)
+    ensures { Says N.got N.faults notes.old notes.new (flatten_line file.now kind.entry.number kind.entry.name.now command byte) }
+{
+    put_all(
+        notes,
+        &[
+            b"boardnet: ",
+            file,
+            b": flatten ",
+            Numeral::of(u64::from(kind.number)).as_bytes(),
+            b" ",
+            kind.name.as_bytes(),
+            b" at command ",
+            Numeral::of(u64::from(command)).as_bytes(),
+            b", byte ",
+            Numeral::of(byte as u64).as_bytes(),
             b"\n",
         ],
     );
@@ -94,6 +131,24 @@ pub fn copper_refused<N: Sink>(notes: &mut N, file: &[u8], kind: Kind, command: 
     );
 }
 
+/// Puts the line of a label of a copper file that is amiss, at a command and its first byte.
+pub fn mislabelled<N: Sink>(notes: &mut N, file: &[u8], command: u32, byte: usize)
+    ensures { Says N.got N.faults notes.old notes.new (label_line file.now command byte) }
+{
+    put_all(
+        notes,
+        &[
+            b"boardnet: ",
+            file,
+            b": label at command ",
+            Numeral::of(u64::from(command)).as_bytes(),
+            b", byte ",
+            Numeral::of(byte as u64).as_bytes(),
+            b"\n",
+        ],
+    );
+}
+
 /// Puts the line of a refusal of a drill file at a line and its first byte.
 pub fn drill_refused<N: Sink>(notes: &mut N, file: &[u8], kind: Kind, line: u32, byte: usize)
     ensures { Says N.got N.faults notes.old notes.new (drill_line file.now kind.entry.number kind.entry.name.now line byte) }
@@ -136,7 +191,7 @@ pub fn netlist_refused<N: Sink>(notes: &mut N, file: &[u8], kind: Kind, line: u3
     );
 }
 
-/// Puts the line of a board whose common box has a side over 300 mm.
+/// Puts the line of a board whose common box has a side over one metre.
 pub fn frame<N: Sink>(notes: &mut N, bounds: Bounds)
     ensures { Says N.got N.faults notes.old notes.new (frame_line bounds) }
 {

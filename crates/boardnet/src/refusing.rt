@@ -1,17 +1,55 @@
 // Refusals: the line of each, and its status.
-ghost use Rattle.boardnet.specs.Answers.{Refuses};
+ghost use Rattle.boardnet.specs.Answers.{Refuses, RefusesFor};
+ghost use Rattle.boardnet.specs.Asked.{asked};
 ghost use Rattle.boardnet.specs.Lines.{Says};
 ghost use Rattle.lengths.specs.Text.{IsText};
 ghost use Rattle.std.specs.Prelude.{IfErr, IfOk, ◌≡◌, ◌≤◌};
 
+use crate::answer::Unanswered;
 use crate::lines::{self, Kind};
+use crate::words::Command;
 use board_io::Sink;
 use board_package::BuildFault;
 use lengths::Text;
 use std::alloc::Global;
 
-// Puts the line of a fault, and answers its status.
-pub fn refuse<N: Sink>(manifest: &str, fault: &BuildFault, notes: &mut N) -> u8
+// Puts the line that says why a command has no answer, and answers its status.
+pub fn refuse<N: Sink>(command: Command, why: &Unanswered, notes: &mut N) -> u8
+    ensures line { RefusesFor (asked command.entry) why.now result (Says N.got N.faults notes.old notes.new) }
+    ensures later { N.faults notes.old ≤ N.faults notes.new }
+{
+    let file = command.manifest();
+    match why {
+        Unanswered::Stopped(fault) => stopped(file, fault, notes),
+        Unanswered::NotAReport => {
+            lines::about_file(notes, command.report().as_bytes(), b"not a report");
+            3
+        }
+        Unanswered::SizeTooLarge => {
+            lines::plain(notes, b"trial size too large");
+            3
+        }
+        Unanswered::GrownTooLarge(bounds) => {
+            lines::frame(notes, *bounds);
+            3
+        }
+        Unanswered::Mislabelled { file, command, at } => {
+            lines::mislabelled(notes, file.as_bytes(), *command, *at);
+            3
+        }
+        Unanswered::Unflat { kind, command, at } => {
+            let kind = Kind {
+                number: kind.number(),
+                name: kind.name(),
+            };
+            lines::unflat(notes, file.as_bytes(), kind, *command, *at);
+            3
+        }
+    }
+}
+
+// Puts the line of a fault of a package, and answers its status.
+fn stopped<N: Sink>(manifest: &str, fault: &BuildFault, notes: &mut N) -> u8
     ensures line { Refuses manifest.now fault.now result (Says N.got N.faults notes.old notes.new) }
     ensures later { N.faults notes.old ≤ N.faults notes.new }
 {

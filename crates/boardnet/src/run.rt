@@ -2,37 +2,50 @@
 ghost use Rattle.board_io.specs.Causes.{Rose};
 ghost use Rattle.board_io.specs.Sink.{Gains, GainsFrontOf};
 ghost use Rattle.board_maker.specs.MadePackage.{made_files};
-ghost use Rattle.board_package.specs.PackageBoard.{IsBoardOf};
+ghost use Rattle.board_package.specs.LabelledBoard.{IsLabelledBoardOf};
+ghost use Rattle.board_package.specs.PackageBoard.{IsBoardOf, IsHeld};
+ghost use Rattle.board_shapes.specs.Pieces.{PlainPiece};
+ghost use Rattle.gerber_layer.specs.MacroLayer.{IsReadWithMacros};
+ghost use Rattle.board_shapes.specs.CommonBox.{Fits};
 ghost use Rattle.board_shapes.specs.Plain.{PlainBoard};
+ghost use Rattle.gaps.specs.GrownBox.{grown_common};
+ghost use Rattle.boardnet.specs.Asked.{asked};
+ghost use Rattle.boardnet.specs.Ends.{Ends, HasNames};
 ghost use Rattle.boardnet.specs.Kept.{Keeps};
 ghost use Rattle.boardnet.specs.Lines.{Says, file_line, plain_line};
-ghost use Rattle.boardnet.specs.Outcome.{ComesFor, IsAnswer, IsReport, IsTrialReport, IsWritten, OfFilesRead, OutcomeOf, Refused, Told, made_manifest};
-ghost use Rattle.boardnet.specs.Words.{Asks, Command as Asked, IsAudit, IsCheck, IsTrial, IsUnderstood, IsWrite};
-ghost use Rattle.std.specs.Prelude.{IfSome, List, codes, ℕ, ◌↔◌, ◌≡◌, ◌≢◌, ◌≤◌, ◌⊎◌};
+ghost use Rattle.boardnet.specs.Outcome.{ComesFor, IsAnswer, IsFlatText, IsGapped, IsLabelledReport, IsReport, IsTrialReport, IsWritten, OfFilesRead, OutcomeOf, Refused, Told, made_manifest};
+ghost use Rattle.boardnet.specs.declared.words.Version.{Version};
+ghost use Rattle.boardnet.specs.Words.{Asks, Command as Asked, IsAudit, IsCheck, IsFlatten, IsGaps, IsTrial, IsUnderstood, IsWrite, IsX2, Trial, Write, Flatten};
+ghost use Rattle.std.specs.Prelude.{IfSome, List, codes, pos, ℕ, ◌*◌, ◌↔◌, ◌≡◌, ◌≢◌, ◌≤◌, ◌⊎◌};
 
-use crate::auditing::audit_report;
-use crate::checking::check;
+use crate::commands::answer_to;
 use crate::lines;
-use crate::trial::trial;
+use crate::putting::conclude;
 use crate::words::{Command, command_of};
-use crate::writing::write;
 use board_io::{Package, Sink};
+use board_package::laws as packages;
+use gerber_layer::laws as layers;
 use std::alloc::Global;
+use verdict::laws as verdicts;
 
 /// Does what the words ask for, and answers the status.
 ///
 /// `check MANIFEST` builds the board of the package, judges it, puts the report to `out` in one piece and a line
-/// about it to `notes`. `audit MANIFEST REPORT` builds the board, takes and reads the report, and puts whether it is the
+/// about it to `notes`. The report is of version 2, with the place of each test point and the source of each piece;
+/// `check MANIFEST 1` puts one of version 1, without them. `audit MANIFEST REPORT` builds the board, takes and reads the report, and puts whether it is the
 /// text of a right verdict on the board, or the number of the first clause that does not hold. `trial SEED SIZE` checks the
 /// made board of the two numbers, and puts a summary; it takes nothing from the package. `write MANIFEST` builds the board
-/// and puts a netlist of its nets.
+/// and puts a netlist of its nets. `gaps MANIFEST NANOMETRES` builds the board and lists the nets that come that close.
+/// `x2 MANIFEST` checks the package as `check` does, by the net names in its copper files in place of its netlist, which it
+/// does not take. `flatten FILE` takes one copper file, which may have aperture macros, and puts a copper file without them
+/// that every layer reads as exactly the same shapes.
 ///
 /// | Status | When |
 /// |---|---|
-/// | 0 | `check`, `trial`: the copper joins exactly what the netlist joins; `audit`: the report is the text of a right verdict; `write`: the netlist is written |
-/// | 1 | `check`, `trial`: there are opens, shorts or points without copper; `audit`: the report is the text of another verdict |
+/// | 0 | `check`, `trial`, `x2`: the copper joins exactly what the netlist, or the net names in the files, join; `audit`: the report is the text of a right verdict; `write`: the netlist is written; `flatten`: the file is; `gaps`: no two nets come that close |
+/// | 1 | `check`, `trial`, `x2`: there are opens, shorts or points without copper; `audit`: the report is the text of another verdict; `gaps`: some do |
 /// | 2 | the words are no command; nothing was taken |
-/// | 3 | the first refusal of the package, or of the report behind it; the line names its kind, file and place. `trial`: there is no board of the size |
+/// | 3 | the first refusal of the package or of the copper file, or of the report behind it; the line names its kind, file and place. `trial`: there is no board of the size |
 /// | 4 | a fault of reading the file in the line |
 /// | 5 | a fault of writing; `out` got a front of the text |
 /// | 6 | want of memory |
@@ -48,8 +61,8 @@ pub fn run<P: Package, S: Sink, N: Sink>(
     ensures untouched { (result ≡ 2) ⊎ ((seed size : ℕ) × IsTrial words.now seed size) → «package».new ≡ «package».old }
 
     // 0 and 1 on `check`: the package fits, and `out` got the text of a right verdict on its board.
-    ensures right { result ≤ 1 → IfSome (P.held «package».old) (λ files. (name : List ℕ) → IsCheck words.now name
-        → (text line : List ℕ) × IsReport files name text result line
+    ensures right { result ≤ 1 → IfSome (P.held «package».old) (λ files. (version : Version) (name : List ℕ) → IsCheck words.now version name
+        → (text line : List ℕ) × IsReport files version name text result line
         × Gains (S.got out.old) text (S.got out.new) × Says N.got N.faults notes.old notes.new line) }
 
     // 0 and 1 on `audit`: the package fits, and `out` got the ruling on the verdict whose text the report is.
@@ -67,8 +80,23 @@ pub fn run<P: Package, S: Sink, N: Sink>(
         → (text line : List ℕ) × IsWritten files name text result line
         × Gains (S.got out.old) text (S.got out.new) × Says N.got N.faults notes.old notes.new line) }
 
-    // `write` judges nothing: 1 never comes.
-    ensures unjudged { (name : List ℕ) → IsWrite words.now name → result ≢ 1 }
+    // 0 and 1 on `gaps`: the package fits, and `out` got the list of its gaps between the nets of a right verdict.
+    ensures gapped { result ≤ 1 → IfSome (P.held «package».old) (λ files. (name : List ℕ) (nanometres : ℕ) → IsGaps words.now name nanometres
+        → (text line : List ℕ) × IsGapped files name nanometres text result line
+        × Gains (S.got out.old) text (S.got out.new) × Says N.got N.faults notes.old notes.new line) }
+
+    // 0 and 1 on `x2`: the package fits without its netlist, and `out` got the text of a right verdict on its labelled board.
+    ensures labelled { result ≤ 1 → IfSome (P.held «package».old) (λ files. (name : List ℕ) → IsX2 words.now name
+        → (text line : List ℕ) × IsLabelledReport files name text result line
+        × Gains (S.got out.old) text (S.got out.new) × Says N.got N.faults notes.old notes.new line) }
+
+    // 0 and 1 on `flatten`, which is 0: `out` got the text of the file's image, which every layer reads as the same copper.
+    ensures flattened { result ≤ 1 → IfSome (P.held «package».old) (λ files. (name : List ℕ) → IsFlatten words.now name
+        → (text line : List ℕ) × IsFlatText files name text result line
+        × Gains (S.got out.old) text (S.got out.new) × Says N.got N.faults notes.old notes.new line) }
+
+    // `write` and `flatten` judge nothing: 1 never comes.
+    ensures unjudged { (name : List ℕ) → IsWrite words.now name ⊎ IsFlatten words.now name → result ≢ 1 }
 
     // 3: the outcome is a refusal.
     ensures refused { result ≡ 3 → (command : Asked) → Asks words.now command → OfFilesRead command (P.held «package».old) (λ files.
@@ -94,11 +122,23 @@ pub fn run<P: Package, S: Sink, N: Sink>(
     ensures memory { result ≡ 6 → Says N.got N.faults notes.old notes.new (plain_line (codes "out of memory")) }
 
     // A package that fits has its verdict, unless reading or writing fails or memory is wanted.
-    ensures complete { IfSome (P.held «package».old) (λ files. (name : List ℕ) → IsCheck words.now name → (board : PlainBoard) → IsBoardOf files name board
+    ensures complete { IfSome (P.held «package».old) (λ files. (version : Version) (name : List ℕ) → IsCheck words.now version name → (board : PlainBoard) → IsBoardOf files name board
         → (Rose (P.faults «package».old) (P.faults «package».new) → ⊥) → (Rose (S.faults out.old) (S.faults out.new) → ⊥) → (result ≤ 1) ⊎ (result ≡ 6)) }
 
     // A package that fits has its netlist, unless reading or writing fails or memory is wanted.
     ensures netlisted { IfSome (P.held «package».old) (λ files. (name : List ℕ) → IsWrite words.now name → (board : PlainBoard) → IsBoardOf files name board
+        → (Rose (P.faults «package».old) (P.faults «package».new) → ⊥) → (Rose (S.faults out.old) (S.faults out.new) → ⊥) → (result ≤ 1) ⊎ (result ≡ 6)) }
+
+    // A package that fits, also with its pieces grown by half the distance, has its list of gaps, unless reading or writing fails or memory is wanted.
+    ensures listed { IfSome (P.held «package».old) (λ files. (name : List ℕ) (nanometres : ℕ) → IsGaps words.now name nanometres → (board : PlainBoard) → IsBoardOf files name board → Fits (grown_common (pos (5 * nanometres)) board.pieces)
+        → (Rose (P.faults «package».old) (P.faults «package».new) → ⊥) → (Rose (S.faults out.old) (S.faults out.new) → ⊥) → (result ≤ 1) ⊎ (result ≡ 6)) }
+
+    // A package that fits without its netlist, and whose labels are texts, has its verdict, unless reading or writing fails or memory is wanted.
+    ensures named { IfSome (P.held «package».old) (λ files. (name : List ℕ) → IsX2 words.now name → (board : PlainBoard) → IsLabelledBoardOf files name board
+        → (Rose (P.faults «package».old) (P.faults «package».new) → ⊥) → (Rose (S.faults out.old) (S.faults out.new) → ⊥) → (result ≤ 1) ⊎ (result ≡ 6)) }
+
+    // A copper file that has an image is flattened, unless reading or writing fails or memory is wanted.
+    ensures rewritten { IfSome (P.held «package».old) (λ files. (name : List ℕ) → IsFlatten words.now name → (bytes : List ℕ) → IsHeld files name bytes → (pieces : List PlainPiece) → IsReadWithMacros bytes pieces
         → (Rose (P.faults «package».old) (P.faults «package».new) → ⊥) → (Rose (S.faults out.old) (S.faults out.new) → ⊥) → (result ≤ 1) ⊎ (result ≡ 6)) }
 
     // A made package that fits has its summary, unless writing fails or memory is wanted.
@@ -110,16 +150,33 @@ pub fn run<P: Package, S: Sink, N: Sink>(
         → (text line : List ℕ) (status : ℕ) → IsAnswer files manifest report text status line
         → (Rose (P.faults «package».old) (P.faults «package».new) → ⊥) → (Rose (S.faults out.old) (S.faults out.new) → ⊥) → (result ≡ status) ⊎ (result ≡ 6)) }
 {
+    verdicts::report_text_is_injective();
+    packages::one_outcome();
     match command_of(words) {
         None => {
             lines::plain(notes, b"words not understood");
             2
         }
-        Some(Command::Check { manifest }) => check(alloc, manifest, package, out, notes),
-        Some(Command::Audit { manifest, report }) => {
-            audit_report(alloc, manifest, report, package, out, notes)
-        }
-        Some(Command::Trial { seed, size }) => trial(alloc, seed, size, out, notes),
-        Some(Command::Write { manifest }) => write(alloc, manifest, package, out, notes),
+        Some(command) => perform(alloc, command, package, out, notes),
     }
+}
+
+// Does what a command asks for, and answers the status.
+fn perform<P: Package, S: Sink, N: Sink>(
+    alloc: Global,
+    command: Command,
+    package: &mut P,
+    out: &mut S,
+    notes: &mut N,
+) -> u8
+    requires { HasNames (asked command) }
+    ensures ends { Ends P.held P.faults P.lost S.got S.faults N.got N.faults (asked command.entry) «package».old «package».new out.old out.new notes.old notes.new result }
+    ensures untouched { (seed size : ℕ) → asked command.entry ≡ Trial seed size → «package».new ≡ «package».old }
+    ensures unjudged { (name : List ℕ) → (asked command.entry ≡ Write name) ⊎ (asked command.entry ≡ Flatten name) → result ≢ 1 }
+{
+    packages::one_outcome();
+    packages::one_labelled_outcome();
+    layers::one_macro_answer();
+    let given = answer_to(alloc, command, package);
+    conclude(command, given, out, notes)
 }

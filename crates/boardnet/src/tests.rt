@@ -5,9 +5,13 @@ mod certificates;
 mod cut;
 mod failing;
 mod faults;
+mod flat_texts;
+mod gap_lists;
+mod labels;
 mod made;
 mod netlists;
 mod packages;
+mod supplements;
 mod trials;
 
 use crate::run::run;
@@ -95,7 +99,34 @@ pub fn has(bytes: &[u8], part: &[u8]) -> bool {
     part.is_empty() || bytes.windows(part.len()).any(|window| window == part)
 }
 
-// Whether `check` over these files gives the status, the line, and a report with this part, or none where it is empty.
+// A text without its last line.
+fn without_last_line(text: &str) -> &str {
+    match text.trim_ascii_end().rfind('\n') {
+        Some(at) => &text[..at + 1],
+        None => "",
+    }
+}
+
+// Whether the second text is the first with another number in its first line, and lines of spots and sources before its last line.
+fn is_supplemented(plain: &str, full: &str) -> bool {
+    let (Some(plain_rest), Some(full_rest)) = (
+        plain.strip_prefix("boardnet 1\n"),
+        full.strip_prefix("boardnet 2\n"),
+    ) else {
+        return plain.is_empty() && full.is_empty();
+    };
+    let front = without_last_line(plain_rest);
+    let Some(last) = plain_rest.strip_prefix(front) else {
+        return false;
+    };
+    let Some(more) = full_rest.strip_prefix(front) else {
+        return false;
+    };
+    more.starts_with("spots ") && more.contains("\nsources ") && more.ends_with(last)
+}
+
+// Whether `check` over these files gives the status, the line, and a report of version 1 with this part, or none where it
+// is empty; and without its third word the same with a supplement.
 pub fn answers(
     alloc: Global,
     given: &[(&str, &[&str])],
@@ -104,9 +135,12 @@ pub fn answers(
     part: &[u8],
 ) -> Result<bool, Fail> {
     let mut package = files(alloc, given)?;
-    let (found, out, notes) = answer(alloc, &["check", "m.json"], &mut package)?;
+    let (found, out, notes) = answer(alloc, &["check", "m.json", "1"], &mut package)?;
     let silent = out.bytes().is_empty() == part.is_empty();
-    Ok(found == status && notes.bytes() == line && has(out.bytes(), part) && silent)
+    let (other, more, said) = answer(alloc, &["check", "m.json"], &mut package)?;
+    let same = other == found && said.bytes() == notes.bytes();
+    let right = found == status && notes.bytes() == line && has(out.bytes(), part) && silent;
+    Ok(right && same && is_supplemented(shown(&out), shown(&more)))
 }
 
 pub const A_AT_0: &str = "327A                                  A01X+000000Y+000000";

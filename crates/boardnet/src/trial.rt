@@ -1,114 +1,49 @@
 // The command `trial`.
-ghost use Rattle.board_io.specs.Causes.{Rose};
-ghost use Rattle.board_io.specs.Sink.{Gains, GainsFrontOf};
+ghost use Rattle.board_io.specs.Package.{Files};
 ghost use Rattle.board_maker.specs.MadePackage.{made_files};
 ghost use Rattle.board_package.specs.PackageBoard.{IsBoardOf};
 ghost use Rattle.board_shapes.specs.Plain.{PlainBoard};
-ghost use Rattle.boardnet.specs.Lines.{Says, plain_line};
-ghost use Rattle.boardnet.specs.Outcome.{IsRightOn, IsStatusOf, IsTrialReport, Refused, TrialOutcome, made_manifest, summary_text};
-ghost use Rattle.boardnet.specs.Trials.{HasTrialCause, IsUnlost};
-ghost use Rattle.std.specs.Prelude.{IfErr, IfOk, List, codes, ℕ, ◌≡◌, ◌≢◌, ◌≤◌, ◌⊎◌};
+ghost use Rattle.boardnet.specs.Answers.{line_of, status_of};
+ghost use Rattle.boardnet.specs.Ends.{HasReason};
+ghost use Rattle.boardnet.specs.Outcome.{IsTrialReport, made_manifest, summary_text};
+ghost use Rattle.boardnet.specs.Right.{IsRightOn};
+ghost use Rattle.boardnet.specs.Trials.{IsUnlost};
+ghost use Rattle.boardnet.specs.Words.{Trial};
+ghost use Rattle.std.specs.Prelude.{IfErr, IfOk, List, Option, ℕ, ◌≡◌, ◌≤◌};
 
-use crate::checking::verdict_of_package;
-use crate::lines;
-use crate::putting::{joined, put_text};
-use crate::refusing::refuse;
-use board_io::Sink;
-use board_maker::{MakeFault, make};
-use board_package::{BuildFault, laws};
+use crate::answer::{Answer, Note, Unanswered};
+use crate::judged::{board_of, verdict_on};
+use crate::putting::joined;
+use crate::words::MADE_MANIFEST;
+use board_maker::make;
+use board_package::BuildFault;
 use lengths::NoMemory;
 use std::alloc::Global;
 use texts::Numeral;
 use verdict::Verdict;
 
-/// Why there is no verdict on a made board.
-#[derive(Debug, Drop)]
-pub enum TrialFault {
-    /// There is no made board of so many cells.
-    SizeTooLarge,
-    /// The made package is refused, or memory is wanted.
-    Stopped(BuildFault),
-}
-
-// The name of a made package's manifest.
-const MANIFEST: &str = "m.json";
-
-// Makes the board of a seed and a size, and checks it.
-pub fn trial<S: Sink, N: Sink>(
-    alloc: Global,
-    seed: u64,
-    size: u32,
-    out: &mut S,
-    notes: &mut N,
-) -> u8
-    ensures status { result ≤ 6 }
-    ensures understood { result ≢ 2 }
-    ensures readable { result ≢ 4 }
-    ensures tried { result ≤ 1 → (text line : List ℕ) × IsTrialReport seed size text result line
-        × Gains (S.got out.old) text (S.got out.new) × Says N.got N.faults notes.old notes.new line }
-    ensures refused { result ≡ 3 → (line : List ℕ) × TrialOutcome seed size (Refused line) × Says N.got N.faults notes.old notes.new line }
-    ensures unwritable { result ≡ 5 → Rose (S.faults out.old) (S.faults out.new)
-        × Says N.got N.faults notes.old notes.new (plain_line (codes "output cannot be written")) }
-    ensures front { result ≡ 5 → (text line : List ℕ) × (status : ℕ) × IsTrialReport seed size text status line × GainsFrontOf (S.got out.old) text (S.got out.new) }
-    ensures silent { 2 ≤ result → result ≢ 5 → out.new ≡ out.old }
-    ensures later { (S.faults out.old ≤ S.faults out.new) × (N.faults notes.old ≤ N.faults notes.new) }
-    ensures memory { result ≡ 6 → Says N.got N.faults notes.old notes.new (plain_line (codes "out of memory")) }
-    ensures complete { size ≤ 10000 → (board : PlainBoard) → IsBoardOf (made_files seed size) made_manifest board
-        → (Rose (S.faults out.old) (S.faults out.new) → ⊥) → (result ≤ 1) ⊎ (result ≡ 6) }
-{
-    match summarized(alloc, seed, size) {
-        Ok((verdict, text)) => finish(&verdict, text.as_slice(), out, notes),
-        Err(TrialFault::SizeTooLarge) => {
-            lines::plain(notes, b"trial size too large");
-            3
-        }
-        Err(TrialFault::Stopped(fault)) => {
-            laws::one_outcome();
-            refuse(MANIFEST, &fault, notes)
-        }
-    }
-}
-
-// Puts the summary, and the line about it.
-fn finish<S: Sink, N: Sink>(verdict: &Verdict, text: &[u8], out: &mut S, notes: &mut N) -> u8
-    ensures status { (result ≤ 1) ⊎ (result ≡ 5) }
-    ensures written { result ≤ 1 → Gains (S.got out.old) text.now (S.got out.new) × IsStatusOf verdict.now result × Says N.got N.faults notes.old notes.new (plain_line (codes "trial done")) }
-    ensures unwritten { result ≡ 5 → Rose (S.faults out.old) (S.faults out.new) × GainsFrontOf (S.got out.old) text.now (S.got out.new)
-        × Says N.got N.faults notes.old notes.new (plain_line (codes "output cannot be written")) }
-    ensures later { (S.faults out.old ≤ S.faults out.new) × (N.faults notes.old ≤ N.faults notes.new) }
-{
-    if !put_text(text, out, notes) {
-        return 5;
-    }
-    lines::plain(notes, b"trial done");
-    if verdict.agrees() { 0 } else { 1 }
-}
-
-// The verdict on a made board, and its summary.
-fn summarized(alloc: Global, seed: u64, size: u32) -> Result<(Verdict, Vec<u8>), TrialFault>
-    ensures ok { IfOk result (λ r. (size ≤ 10000) × (board : PlainBoard) × IsBoardOf (made_files seed size) made_manifest board
-        × IsRightOn board r.0 × (r.1.items ≡ summary_text seed size r.0)) }
-    ensures fault { IfErr result (HasTrialCause seed size) }
+// The summary of a check of the made board of a seed and a size.
+pub fn summary(alloc: Global, seed: u64, size: u32) -> Result<Answer, Unanswered>
+    ensures ok { IfOk result (λ answer. IsTrialReport seed size answer.text.items (status_of answer.note) (line_of answer.note)) }
+    ensures reason { IfErr result (λ why. (held : Option Files) (before now : ℕ) (lost : List ℕ) → HasReason (Trial seed size) held before now lost why) }
 {
     let verdict = verdict_on_made(alloc, seed, size)?;
-    match summary(alloc, seed, size, &verdict) {
-        Ok(text) => Ok((verdict, text)),
-        Err(NoMemory) => Err(TrialFault::Stopped(BuildFault::NoMemory)),
-    }
+    let text = summary_of(alloc, seed, size, &verdict)?;
+    let note = Note::TrialDone {
+        agrees: verdict.agrees(),
+    };
+    Ok(Answer { text, note })
 }
 
 // The verdict on a made board.
-fn verdict_on_made(alloc: Global, seed: u64, size: u32) -> Result<Verdict, TrialFault>
+fn verdict_on_made(alloc: Global, seed: u64, size: u32) -> Result<Verdict, Unanswered>
     ensures ok { IfOk result (λ verdict. (size ≤ 10000) × (board : PlainBoard) × IsBoardOf (made_files seed size) made_manifest board × IsRightOn board verdict) }
-    ensures fault { IfErr result (HasTrialCause seed size) }
+    ensures reason { IfErr result (λ why. (held : Option Files) (before now : ℕ) (lost : List ℕ) → HasReason (Trial seed size) held before now lost why) }
 {
-    match make(alloc, seed, size) {
-        Ok(mut made) => match verdict_of_package(alloc, MANIFEST, &mut made) {
-            Ok(verdict) => Ok(verdict),
-            Err(fault) => Err(TrialFault::Stopped(unlost(fault))),
-        },
-        Err(MakeFault::SizeTooLarge) => Err(TrialFault::SizeTooLarge),
-        Err(MakeFault::NoMemory) => Err(TrialFault::Stopped(BuildFault::NoMemory)),
+    let mut made = make(alloc, seed, size)?;
+    match board_of(alloc, MADE_MANIFEST, &mut made) {
+        Ok(board) => Ok(verdict_on(alloc, &board)?),
+        Err(fault) => Err(Unanswered::Stopped(unlost(fault))),
     }
 }
 
@@ -123,7 +58,7 @@ fn unlost(fault: BuildFault) -> BuildFault
 }
 
 // The summary of a verdict.
-fn summary(alloc: Global, seed: u64, size: u32, verdict: &Verdict) -> Result<Vec<u8>, NoMemory>
+fn summary_of(alloc: Global, seed: u64, size: u32, verdict: &Verdict) -> Result<Vec<u8>, NoMemory>
     ensures { IfOk result (λ text. text.items ≡ summary_text seed size verdict.now) }
 {
     joined(

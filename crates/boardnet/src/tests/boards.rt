@@ -5,7 +5,7 @@ use std::test::Fail;
 #[test]
 fn worked_boards(rt: HostRuntime) -> Result<(), Fail> {
     let alloc = rt.alloc();
-    let rows: [Files; 22] = [
+    let rows: [Files; 24] = [
         // the tie
         (
             &[
@@ -516,6 +516,40 @@ fn worked_boards(rt: HostRuntime) -> Result<(), Fail> {
             b"boardnet: t.gbr: Gerber 11 Arc at command 7, byte 59\n",
             b"",
         ),
+        // the greatest pen
+        (
+            &[
+                ("m.json", &[MANIFEST]),
+                (
+                    "t.gbr",
+                    &[
+                        "%FSLAX46Y46*%",
+                        "%MOMM*%",
+                        "%ADD10C,50.0*%",
+                        "D10*",
+                        "X50000000Y50000000D03*",
+                        "M02*",
+                    ],
+                ),
+                ("n.ipc", &["P  UNITS CUST 1", "999"]),
+            ],
+            0,
+            b"boardnet: agrees\n",
+            b"nets 1\n",
+        ),
+        (
+            &[
+                ("m.json", &[MANIFEST]),
+                (
+                    "t.gbr",
+                    &["%FSLAX46Y46*%", "%MOMM*%", "%ADD10C,50.0000002*%", "M02*"],
+                ),
+                ("n.ipc", &["P  UNITS CUST 1", "999"]),
+            ],
+            3,
+            b"boardnet: t.gbr: Gerber 24 OutOfRange at command 3, byte 23\n",
+            b"",
+        ),
         // the frame
         (
             &[
@@ -528,7 +562,7 @@ fn worked_boards(rt: HostRuntime) -> Result<(), Fail> {
                         "%ADD10C,1.0*%",
                         "D10*",
                         "X500000Y500000D03*",
-                        "X299500000Y299500000D03*",
+                        "X999500000Y999500000D03*",
                         "M02*",
                     ],
                 ),
@@ -549,14 +583,14 @@ fn worked_boards(rt: HostRuntime) -> Result<(), Fail> {
                         "%ADD10C,1.0*%",
                         "D10*",
                         "X500000Y500000D03*",
-                        "X299500001Y500000D03*",
+                        "X999500001Y500000D03*",
                         "M02*",
                     ],
                 ),
                 ("n.ipc", &["P  UNITS CUST 1", "999"]),
             ],
             3,
-            b"boardnet: frame too large: 0 0 3000000010 10000000\n",
+            b"boardnet: frame too large: 0 0 10000000010 10000000\n",
             b"",
         ),
         // netlist refusals

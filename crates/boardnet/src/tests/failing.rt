@@ -6,7 +6,9 @@ use board_io::{MemoryPackage, MemorySink};
 use std::alloc::Global;
 use std::test::Fail;
 
-const CHECK: &[&str] = &["check", "m.json"];
+const CHECK: &[&str] = &["check", "m.json", "1"];
+
+const CHECK_2: &[&str] = &["check", "m.json"];
 
 const AUDIT: &[&str] = &["audit", "m.json", "r.txt"];
 
@@ -75,12 +77,12 @@ fn takes_fail(alloc: Global, given: &[&str], count: usize) -> Result<bool, Fail>
     Ok(true)
 }
 
-// Whether each front of the text that a write leaves when it fails is a front of the text, with status 5.
-fn fronts_are_written(alloc: Global, given: &[&str]) -> Result<bool, Fail> {
+// Whether each front of the text, from so many bytes on, that a write leaves when it fails is a front of the text, with status 5.
+fn fronts_are_written(alloc: Global, given: &[&str], least: usize) -> Result<bool, Fail> {
     let words = words(alloc, given)?;
     let mut package = buried(alloc)?;
     let (_status, whole, _notes) = answer(alloc, given, &mut package)?;
-    for passed in 0..whole.bytes().len() {
+    for passed in least..whole.bytes().len() {
         let mut out = MemorySink::new(alloc, 1_048_576)?;
         out.fail_at(0, passed)?;
         let mut notes = MemorySink::new(alloc, 1_048_576)?;
@@ -126,9 +128,19 @@ fn all_that_can_fail(rt: HostRuntime) -> Result<(), Fail> {
     assert_eq!(rt; status, 1);
     assert_eq!(rt; notes.bytes(), DIFFERS);
     for given in [CHECK, AUDIT, &["trial", "1", "9"]] {
-        assert!(rt; fronts_are_written(alloc, given)?, "fronts");
+        assert!(rt; fronts_are_written(alloc, given, 0)?, "fronts");
         assert!(rt; notes_fail(alloc, given)?, "notes");
     }
+    Ok(())
+}
+
+// The supplement stands behind 200 bytes that a report of version 1 has too.
+#[test]
+fn all_that_can_fail_with_a_supplement(rt: HostRuntime) -> Result<(), Fail> {
+    let alloc = rt.alloc();
+    assert!(rt; takes_fail(alloc, CHECK_2, 7)?, "takes");
+    assert!(rt; fronts_are_written(alloc, CHECK_2, 200)?, "fronts");
+    assert!(rt; notes_fail(alloc, CHECK_2)?, "notes");
     Ok(())
 }
 

@@ -8,10 +8,17 @@ use std::test::Fail;
 #[test]
 fn words_and_faults(rt: HostRuntime) -> Result<(), Fail> {
     let alloc = rt.alloc();
-    let wrong: [&[&str]; 12] = [
+    let wrong: [&[&str]; 19] = [
         &[],
         &["check"],
         &["check", "m.json", "x"],
+        &["check", "m.json", "2"],
+        &["check", "m.json", "01"],
+        &["check", "m.json", "+1"],
+        &["check", "m.json", "1 "],
+        &["check", "m.json", ""],
+        &["check", "", "1"],
+        &["check", "m.json", "1", "1"],
         &["trial", "01", "5"],
         &["trial", "1"],
         &["trial", "+1", "5"],

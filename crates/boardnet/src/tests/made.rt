@@ -1,12 +1,13 @@
-// A hundred made boards. `audit` takes the report that `check` puts on each, also with its nets listed in another lawful
-// order, and one change of each kind is untrue at the clause that it breaks.
+// A hundred made boards. `audit` takes the report that `check` puts on each, in both versions, also with its nets listed in
+// another lawful order, and one change of each kind is untrue at the clause that it breaks.
 use crate::tests::{answer, has, text};
 use board_io::MemoryPackage;
 use lengths::{NoMemory, Rows, Text};
 use std::alloc::Global;
 use std::test::Fail;
 use verdict::{
-    Branch, Open, PointLine, Short, Tree, Trees, Twig, Verdict, read_report, write_report,
+    Branch, Open, PointLine, Short, SourceLine, SpotLine, Supplement, Tree, Trees, Twig, Verdict,
+    read_report, write_report,
 };
 
 const ONE_LAYER: &str = "{\"copper\":[\"t.gbr\"],\"drills\":[],\"netlist\":\"n.ipc\"}";
@@ -135,8 +136,30 @@ fn board(alloc: Global, k: u8) -> Result<MemoryPackage, NoMemory> {
 
 // The report on board k.
 fn report(alloc: Global, k: u8) -> Result<Vec<u8>, Fail> {
+    put(alloc, k, &["check", "m.json"])
+}
+
+// The reports on all boards.
+fn reports(alloc: Global) -> Result<Vec<Vec<u8>>, Fail> {
+    let mut reports = Vec::new(alloc);
+    for k in 0..100 {
+        reports.push(report(alloc, k)?)?;
+    }
+    Ok(reports)
+}
+
+// The report on board k, or nothing.
+fn report_at(reports: &[Vec<u8>], k: u8) -> &[u8] {
+    match reports.get(usize::from(k)) {
+        Some(report) => report.as_slice(),
+        None => b"",
+    }
+}
+
+// What the words put for board k.
+fn put(alloc: Global, k: u8, words: &[&str]) -> Result<Vec<u8>, Fail> {
     let mut package = board(alloc, k)?;
-    let (_status, out, _notes) = answer(alloc, &["check", "m.json"], &mut package)?;
+    let (_status, out, _notes) = answer(alloc, words, &mut package)?;
     Ok(Vec::from_slice(alloc, out.bytes())?)
 }
 
@@ -152,7 +175,9 @@ fn ruling(clause: u8) -> &'static [u8] {
         6 => b"audit untrue 6\n",
         7 => b"audit untrue 7\n",
         8 => b"audit untrue 8\n",
-        _ => b"audit untrue 9\n",
+        9 => b"audit untrue 9\n",
+        10 => b"audit untrue 10\n",
+        _ => b"audit untrue 11\n",
     }
 }
 
@@ -168,21 +193,21 @@ fn audit(alloc: Global, k: u8, report: &[u8], clause: u8) -> Result<(), Fail> {
 }
 
 // On how many boards the report has this part.
-fn having(alloc: Global, part: &[u8]) -> Result<u32, Fail> {
+fn having(reports: &[Vec<u8>], part: &[u8]) -> u32 {
     let mut boards: u32 = 0;
-    for k in 0..100 {
-        if has(report(alloc, k)?.as_slice(), part) {
+    for report in reports {
+        if has(report.as_slice(), part) {
             boards = boards.saturating_add(1);
         }
     }
-    Ok(boards)
+    boards
 }
 
 // On how many boards a net is short of so many names.
-fn shorted(alloc: Global, names: usize) -> Result<u32, Fail> {
+fn shorted(alloc: Global, reports: &[Vec<u8>], names: usize) -> Result<u32, Fail> {
     let mut boards: u32 = 0;
-    for k in 0..100 {
-        let verdict = read_report(alloc, report(alloc, k)?.as_slice())?;
+    for report in reports {
+        let verdict = read_report(alloc, report.as_slice())?;
         let mut shorts = verdict.shorts.as_slice().iter();
         if shorts.any(|short| short.branches.as_slice().len() == names) {
             boards = boards.saturating_add(1);
@@ -228,15 +253,15 @@ fn in_another_order(alloc: Global, nets: &[Tree]) -> Result<Trees, NoMemory> {
 }
 
 // On how many boards another order than the report's was taken.
-fn taken_in_another_order(alloc: Global) -> Result<u32, Fail> {
+fn taken_in_another_order(alloc: Global, reports: &[Vec<u8>]) -> Result<u32, Fail> {
     let mut boards: u32 = 0;
     for k in 0..100 {
-        let report = report(alloc, k)?;
-        let mut verdict = read_report(alloc, report.as_slice())?;
+        let report = report_at(reports, k);
+        let mut verdict = read_report(alloc, report)?;
         verdict.nets = in_another_order(alloc, verdict.nets.as_slice())?;
         let other = write_report(alloc, &verdict)?;
         audit(alloc, k, other.as_slice(), 0)?;
-        if other.as_slice() != report.as_slice() {
+        if other.as_slice() != report {
             boards = boards.saturating_add(1);
         }
     }
@@ -413,6 +438,58 @@ fn change_counts(alloc: Global, verdict: &mut Verdict) -> Result<(), Fail> {
     Ok(())
 }
 
+// The spots with the first one step higher, or to the left where its place is even; or the sources with the last from the
+// next copy or the next command.
+fn other_supplement(alloc: Global, more: &Supplement, kind: u8) -> Result<Supplement, NoMemory> {
+    let mut spots = Rows::new(alloc);
+    for (i, spot) in more.spots.as_slice().iter().enumerate() {
+        let moved = kind == 10 && i == 0;
+        spots.push(if moved { beside(*spot) } else { *spot })?;
+    }
+    let mut sources = Rows::new(alloc);
+    let last = more.sources.as_slice().len().saturating_sub(1);
+    for (i, source) in more.sources.as_slice().iter().enumerate() {
+        let moved = kind == 11 && i == last;
+        sources.push(if moved { later(*source) } else { *source })?;
+    }
+    Ok(Supplement { spots, sources })
+}
+
+fn beside(spot: SpotLine) -> SpotLine {
+    if spot.x % 20_000_000 == 0 {
+        SpotLine {
+            x: spot.x.saturating_sub(1),
+            y: spot.y,
+        }
+    } else {
+        SpotLine {
+            x: spot.x,
+            y: spot.y.saturating_add(1),
+        }
+    }
+}
+
+fn later(source: SourceLine) -> SourceLine {
+    let next = source.command % 2;
+    SourceLine {
+        file: source.file,
+        command: source.command.saturating_add(next),
+        copy: source.copy.saturating_add(1 - next),
+        top: source.top,
+        bottom: source.bottom,
+    }
+}
+
+// Changes the supplement, and says whether it could.
+fn change_supplement(alloc: Global, verdict: &mut Verdict, kind: u8) -> Result<bool, Fail> {
+    let Some(more) = &verdict.more else {
+        return Ok(false);
+    };
+    let other = other_supplement(alloc, more, kind)?;
+    verdict.more = Some(other);
+    Ok(true)
+}
+
 // Changes what the clause of this number speaks of, and says whether it could.
 fn change(alloc: Global, verdict: &mut Verdict, kind: u8) -> Result<bool, Fail> {
     match kind {
@@ -422,17 +499,17 @@ fn change(alloc: Global, verdict: &mut Verdict, kind: u8) -> Result<bool, Fail> 
         7 => verdict.shorts = lengthened(alloc, verdict.shorts.as_slice(), &[0])?,
         8 => verdict.bare = other(alloc, verdict.bare.as_slice(), 0)?,
         9 => change_counts(alloc, verdict)?,
+        10 | 11 => return change_supplement(alloc, verdict, kind),
         _ => return change_tables(alloc, verdict, kind),
     }
     Ok(true)
 }
 
 // On how many boards a change of this kind could be made, and was untrue at its clause.
-fn refused(alloc: Global, kind: u8) -> Result<u32, Fail> {
+fn refused(alloc: Global, reports: &[Vec<u8>], kind: u8) -> Result<u32, Fail> {
     let mut boards: u32 = 0;
     for k in 0..100 {
-        let report = report(alloc, k)?;
-        let mut verdict = read_report(alloc, report.as_slice())?;
+        let mut verdict = read_report(alloc, report_at(reports, k))?;
         if change(alloc, &mut verdict, kind)? {
             let changed = write_report(alloc, &verdict)?;
             audit(alloc, k, changed.as_slice(), kind)?;
@@ -445,25 +522,36 @@ fn refused(alloc: Global, kind: u8) -> Result<u32, Fail> {
 #[test]
 fn made_boards_are_taken(rt: HostRuntime) -> Result<(), Fail> {
     let alloc = rt.alloc();
+    let reports = reports(alloc)?;
     for k in 0..100 {
-        audit(alloc, k, report(alloc, k)?.as_slice(), 0)?;
+        audit(alloc, k, report_at(&reports, k), 0)?;
+        audit(
+            alloc,
+            k,
+            put(alloc, k, &["check", "m.json", "1"])?.as_slice(),
+            0,
+        )?;
     }
-    assert!(rt; taken_in_another_order(alloc)? >= 30);
+    assert!(rt; taken_in_another_order(alloc, &reports)? >= 30);
 
     // opens, bare points, names of points that are to be joined to nothing, and nothing amiss
     let parts: [&[u8]; 4] = [b"\nopen ", b"\nbare ", b" N/C\n", b"\nagrees\n"];
     for part in parts {
-        assert!(rt; having(alloc, part)? >= 10);
+        assert!(rt; having(&reports, part) >= 10);
     }
-    assert!(rt; shorted(alloc, 2)? >= 10);
-    assert!(rt; shorted(alloc, 3)? >= 10);
+    assert!(rt; shorted(alloc, &reports, 2)? >= 10);
+    assert!(rt; shorted(alloc, &reports, 3)? >= 10);
     Ok(())
 }
 
+// Every board has a point and a piece, and so each of its reports can be spoilt in a spot and in a source.
 #[test]
 fn changes_of_made_boards_are_untrue(rt: HostRuntime) -> Result<(), Fail> {
-    for kind in 1..10 {
-        assert!(rt; refused(rt.alloc(), kind)? >= 10, "clause {kind}");
+    let alloc = rt.alloc();
+    let reports = reports(alloc)?;
+    for kind in 1..12 {
+        let boards = refused(alloc, &reports, kind)?;
+        assert!(rt; boards >= if kind < 10 { 10 } else { 100 }, "clause {kind}");
     }
     Ok(())
 }

@@ -1,8 +1,19 @@
-use Rattle.std.proofs.Common.{rules, refl, subst, sym}
-use Rattle.boardnet.specs.Answers.{Refuses}
-use Rattle.boardnet.specs.Lines.{Says}
+use Rattle.std.proofs.Common.{List, ℕ, codes, refl, subst, sym, ◌∙◌}
+use Rattle.boardnet.specs.Answers.{RefusesFor}
+use Rattle.boardnet.specs.Asked.{asked}
+use Rattle.boardnet.specs.Lines.{Says, file_line, flatten_line}
+use Rattle.gerber_layer.specs.MacroKinds.{flatten_name, flatten_number}
 use Rattle.boardnet.proofs.refusing.refuse.Goals as goal
 
-pub returns-in-Layer-clause-line : goal.returns-in-Layer-clause-line
-returns-in-Layer-clause-line g c =
-    subst (λ f. Refuses c.args.manifest.now f 3 (Says g.N.Sink.got g.N.Sink.faults c.args.notes.now c.copper_refused.new.notes)) (sym c.in-Layer.is) (refl, search rules)
+pub returns-in-NotAReport-clause-line : goal.returns-in-NotAReport-clause-line
+returns-in-NotAReport-clause-line g c =
+    subst (λ why. RefusesFor (asked c.args.command) why 3 (Says g.N.Sink.got g.N.Sink.faults c.args.notes.now c.about_file.new.notes)) (sym c.in-NotAReport.is)
+    (refl, subst (λ (z : List ℕ). Says g.N.Sink.got g.N.Sink.faults c.args.notes.now c.about_file.new.notes (file_line z (codes "not a report"))) (c.as_bytes.ensures.value ∙ c.report.ensures) c.about_file.ensures)
+
+pub returns-in-Unflat-clause-line : goal.returns-in-Unflat-clause-line
+returns-in-Unflat-clause-line g c =
+    subst (λ why. RefusesFor (asked c.args.command) why 3 (Says g.N.Sink.got g.N.Sink.faults c.args.notes.now c.unflat.new.notes)) (sym c.in-Unflat.is) (
+      refl,
+      subst (λ (z : List ℕ). Says g.N.Sink.got g.N.Sink.faults c.args.notes.now c.unflat.new.notes (flatten_line z (flatten_number c.in-Unflat.kind) (flatten_name c.in-Unflat.kind) c.in-Unflat.command c.in-Unflat.at)) (c.as_bytes-in-Unflat.ensures.value ∙ c.manifest-file.ensures)
+          (rw (← c.number.ensures, ← c.name.ensures) c.unflat.ensures),
+    )

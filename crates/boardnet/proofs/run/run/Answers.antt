@@ -1,94 +1,136 @@
-use Rattle.std.proofs.Common.{◌≡◌, ◌≤◌, ◌⊎◌, ℕ, List, subst}
+use Rattle.std.proofs.Common.{◌≡◌, ◌≤◌, ◌⊎◌, inl, inr, ℕ, List}
 use Rattle.board_io.specs.Causes.{Rose}
 use Rattle.board_io.specs.Sink.{Gains, GainsFrontOf}
-use Rattle.board_maker.specs.MadePackage.{made_files}
-use Rattle.board_package.specs.PackageBoard.{IsBoardOf}
-use Rattle.board_shapes.specs.Plain.{PlainBoard}
-use Rattle.boardnet.proofs.Commands.{asked_no_audit, asked_no_check, asked_no_write, no_netlist, under_audit, under_check, under_command, under_trial, under_write}
+use Rattle.boardnet.proofs.Asking.{names_in, of_flatten, of_gaps, of_x2, one_command, under_command}
+use Rattle.boardnet.proofs.Named.{answered_named, checked_named, labelled_named, listed_named, netlisted_named, rewritten_named}
 use Rattle.boardnet.specs.Asked.{asked}
+use Rattle.boardnet.specs.Ends.{HasText, TakesFiles}
 use Rattle.boardnet.specs.Lines.{Says}
-use Rattle.boardnet.specs.Outcome.{IsTrialReport, OutcomeOf, Refused, Told, made_manifest}
-use Rattle.boardnet.specs.Words.{Asks, Audit, Check, Trial, Write}
+use Rattle.boardnet.specs.Outcome.{OutcomeOf, Refused, Told}
+use Rattle.boardnet.specs.Words.{Flatten, Trial, Write}
 use Rattle.boardnet.proofs.run.run.Goals as goal
 
+pub perform-requires : goal.perform-requires
+perform-requires g c = names_in c.args.words.now (asked c.in-Some.command) c.in-Some.ensures.some
+
 pub returns-in-None-clause-complete : goal.returns-in-None-clause-complete
-returns-in-None-clause-complete g c = asked_no_check _ _ _ c.in-None.ensures.none
+returns-in-None-clause-complete g c = checked_named _ _ _ _ _ (λ command is. absurd (c.in-None.ensures.none command is))
 
-pub returns-in-None-clause-answered : goal.returns-in-None-clause-answered
-returns-in-None-clause-answered g c = asked_no_audit _ _ _ c.in-None.ensures.none
+pub returns-in-None-clause-netlisted : goal.returns-in-None-clause-netlisted
+returns-in-None-clause-netlisted g c = netlisted_named _ _ _ _ _ (λ command is. absurd (c.in-None.ensures.none command is))
 
-pub returns-in-Some-Check-clause-front : goal.returns-in-Some-Check-clause-front
-returns-in-Some-Check-clause-front g c = λ five.
-    under_command (g.P.Package.held c.args.package.now) c.args.words.now (Check c.in-Some-Check.manifest.now)
-    (λ files command. (text line : List ℕ) × (status : ℕ) × OutcomeOf files command (Told text status line) × GainsFrontOf (g.S.Sink.got c.args.out.now) text (g.S.Sink.got c.check.new.out))
-    (subst (λ f. Asks c.args.words.now (asked f)) c.in-Some-Check.field-0-is c.in-Some-Check.ensures.some) (c.check.ensures.front five)
+pub returns-in-None-clause-listed : goal.returns-in-None-clause-listed
+returns-in-None-clause-listed g c = listed_named _ _ _ _ _ (λ command is. absurd (c.in-None.ensures.none command is))
 
-pub returns-in-Some-Check-clause-complete : goal.returns-in-Some-Check-clause-complete
-returns-in-Some-Check-clause-complete g c =
-    under_check _ _ c.in-Some-Check.manifest.now _ (subst (λ f. Asks c.args.words.now (asked f)) c.in-Some-Check.field-0-is c.in-Some-Check.ensures.some) c.check.ensures.complete
-
-pub returns-in-Some-Audit-clause-front : goal.returns-in-Some-Audit-clause-front
-returns-in-Some-Audit-clause-front g c = λ five.
-    under_command (g.P.Package.held c.args.package.now) c.args.words.now (Audit c.in-Some-Audit.manifest.now c.in-Some-Audit.report.now)
-    (λ files command. (text line : List ℕ) × (status : ℕ) × OutcomeOf files command (Told text status line) × GainsFrontOf (g.S.Sink.got c.args.out.now) text (g.S.Sink.got c.audit_report.new.out))
-    (subst (λ f. Asks c.args.words.now (asked f)) c.in-Some-Audit.field-0-is c.in-Some-Audit.ensures.some) (c.audit_report.ensures.front five)
-
-pub returns-in-Some-Audit-clause-answered : goal.returns-in-Some-Audit-clause-answered
-returns-in-Some-Audit-clause-answered g c =
-    under_audit _ _ c.in-Some-Audit.manifest.now c.in-Some-Audit.report.now _ (subst (λ f. Asks c.args.words.now (asked f)) c.in-Some-Audit.field-0-is c.in-Some-Audit.ensures.some) c.audit_report.ensures.answered
+pub returns-in-None-clause-named : goal.returns-in-None-clause-named
+returns-in-None-clause-named g c = labelled_named _ _ _ _ _ (λ command is. absurd (c.in-None.ensures.none command is))
 
 pub returns-in-None-clause-summarized : goal.returns-in-None-clause-summarized
 returns-in-None-clause-summarized g c = λ seed size is. absurd (c.in-None.ensures.none (Trial seed size) is)
 
-pub returns-in-Some-Trial-clause-tried : goal.returns-in-Some-Trial-clause-tried
-returns-in-Some-Trial-clause-tried g c = λ few.
-    under_trial c.args.words.now c.in-Some-Trial.seed c.in-Some-Trial.size
-    (λ seed size. (text line : List ℕ) × IsTrialReport seed size text c.trial.result line × Gains (g.S.Sink.got c.args.out.now) text (g.S.Sink.got c.trial.new.out) × Says g.N.Sink.got g.N.Sink.faults c.args.notes.now c.trial.new.notes line)
-    (subst (λ f. Asks c.args.words.now (asked f)) c.in-Some-Trial.field-0-is c.in-Some-Trial.ensures.some) (c.trial.ensures.tried few)
+pub returns-in-None-clause-answered : goal.returns-in-None-clause-answered
+returns-in-None-clause-answered g c =
+    answered_named _ _ _ _ _ (λ text. Unit {0}) (λ line. Unit {0}) c.one_outcome.ensures c.report_text_is_injective.ensures (λ few command is. absurd (c.in-None.ensures.none command is)) (λ command is. absurd (c.in-None.ensures.none command is))
 
-pub returns-in-Some-Trial-clause-refused : goal.returns-in-Some-Trial-clause-refused
-returns-in-Some-Trial-clause-refused g c = λ three.
-    under_command (g.P.Package.held c.args.package.now) c.args.words.now (Trial c.in-Some-Trial.seed c.in-Some-Trial.size)
-    (λ files command. (line : List ℕ) × OutcomeOf files command (Refused line) × Says g.N.Sink.got g.N.Sink.faults c.args.notes.now c.trial.new.notes line)
-    (subst (λ f. Asks c.args.words.now (asked f)) c.in-Some-Trial.field-0-is c.in-Some-Trial.ensures.some) (c.trial.ensures.refused three)
+pub returns-in-Some-clause-untouched : goal.returns-in-Some-clause-untouched
+returns-in-Some-clause-untouched g c = λ h. elim h [
+  | inl two ↦ absurd (c.perform.ensures.ends.understood two)
+  | inr is ↦ c.perform.ensures.untouched is.0 is.1 (one_command c.args.words.now (Trial is.0 is.1) (asked c.in-Some.command) is.2 c.in-Some.ensures.some)
+]
 
-pub returns-in-Some-Trial-clause-front : goal.returns-in-Some-Trial-clause-front
-returns-in-Some-Trial-clause-front g c = λ five.
-    under_command (g.P.Package.held c.args.package.now) c.args.words.now (Trial c.in-Some-Trial.seed c.in-Some-Trial.size)
-    (λ files command. (text line : List ℕ) × (status : ℕ) × OutcomeOf files command (Told text status line) × GainsFrontOf (g.S.Sink.got c.args.out.now) text (g.S.Sink.got c.trial.new.out))
-    (subst (λ f. Asks c.args.words.now (asked f)) c.in-Some-Trial.field-0-is c.in-Some-Trial.ensures.some) (c.trial.ensures.front five)
+pub returns-in-Some-clause-tried : goal.returns-in-Some-clause-tried
+returns-in-Some-clause-tried g c = λ few seed size is.
+    under_command (g.P.Package.held c.args.package.now) c.args.words.now (asked c.in-Some.command)
+    (λ files command. (text line : List ℕ) × OutcomeOf files command (Told text c.perform.result line) × Gains (g.S.Sink.got c.args.out.now) text (g.S.Sink.got c.perform.new.out) × Says g.N.Sink.got g.N.Sink.faults c.args.notes.now c.perform.new.notes line)
+    c.in-Some.ensures.some (c.perform.ensures.ends.told few) (Trial seed size) is
 
-pub returns-in-Some-Trial-clause-summarized : goal.returns-in-Some-Trial-clause-summarized
-returns-in-Some-Trial-clause-summarized g c =
-    under_trial c.args.words.now c.in-Some-Trial.seed c.in-Some-Trial.size
-    (λ seed size. size ≤ 10000 → (board : PlainBoard) → IsBoardOf (made_files seed size) made_manifest board
-    → (Rose (g.S.Sink.faults c.args.out.now) (g.S.Sink.faults c.trial.new.out) → ⊥) → (c.trial.result ≤ 1) ⊎ (c.trial.result ≡ 6))
-    (subst (λ f. Asks c.args.words.now (asked f)) c.in-Some-Trial.field-0-is c.in-Some-Trial.ensures.some) c.trial.ensures.complete
+pub returns-in-Some-clause-gapped : goal.returns-in-Some-clause-gapped
+returns-in-Some-clause-gapped g c = λ few.
+    of_gaps (g.P.Package.held c.args.package.now) c.args.words.now
+    (λ files command. (text line : List ℕ) × OutcomeOf files command (Told text c.perform.result line) × Gains (g.S.Sink.got c.args.out.now) text (g.S.Sink.got c.perform.new.out) × Says g.N.Sink.got g.N.Sink.faults c.args.notes.now c.perform.new.notes line)
+    (under_command (g.P.Package.held c.args.package.now) c.args.words.now (asked c.in-Some.command)
+    (λ files command. (text line : List ℕ) × OutcomeOf files command (Told text c.perform.result line) × Gains (g.S.Sink.got c.args.out.now) text (g.S.Sink.got c.perform.new.out) × Says g.N.Sink.got g.N.Sink.faults c.args.notes.now c.perform.new.notes line)
+    c.in-Some.ensures.some (c.perform.ensures.ends.told few))
 
-pub returns-in-None-clause-netlisted : goal.returns-in-None-clause-netlisted
-returns-in-None-clause-netlisted g c = asked_no_write _ _ _ c.in-None.ensures.none
+pub returns-in-Some-clause-labelled : goal.returns-in-Some-clause-labelled
+returns-in-Some-clause-labelled g c = λ few.
+    of_x2 (g.P.Package.held c.args.package.now) c.args.words.now
+    (λ files command. (text line : List ℕ) × OutcomeOf files command (Told text c.perform.result line) × Gains (g.S.Sink.got c.args.out.now) text (g.S.Sink.got c.perform.new.out) × Says g.N.Sink.got g.N.Sink.faults c.args.notes.now c.perform.new.notes line)
+    (under_command (g.P.Package.held c.args.package.now) c.args.words.now (asked c.in-Some.command)
+    (λ files command. (text line : List ℕ) × OutcomeOf files command (Told text c.perform.result line) × Gains (g.S.Sink.got c.args.out.now) text (g.S.Sink.got c.perform.new.out) × Says g.N.Sink.got g.N.Sink.faults c.args.notes.now c.perform.new.notes line)
+    c.in-Some.ensures.some (c.perform.ensures.ends.told few))
 
-pub returns-in-Some-Write-clause-front : goal.returns-in-Some-Write-clause-front
-returns-in-Some-Write-clause-front g c = λ five.
-    under_command (g.P.Package.held c.args.package.now) c.args.words.now (Write c.in-Some-Write.manifest.now)
-    (λ files command. (text line : List ℕ) × (status : ℕ) × OutcomeOf files command (Told text status line) × GainsFrontOf (g.S.Sink.got c.args.out.now) text (g.S.Sink.got c.write.new.out))
-    (subst (λ f. Asks c.args.words.now (asked f)) c.in-Some-Write.field-0-is c.in-Some-Write.ensures.some) (c.write.ensures.front five)
+pub returns-in-Some-clause-refused : goal.returns-in-Some-clause-refused
+returns-in-Some-clause-refused g c = λ three.
+    under_command (g.P.Package.held c.args.package.now) c.args.words.now (asked c.in-Some.command)
+    (λ files command. (line : List ℕ) × OutcomeOf files command (Refused line) × Says g.N.Sink.got g.N.Sink.faults c.args.notes.now c.perform.new.notes line)
+    c.in-Some.ensures.some (c.perform.ensures.ends.refused three)
 
-pub returns-in-Some-Write-clause-netlisted : goal.returns-in-Some-Write-clause-netlisted
-returns-in-Some-Write-clause-netlisted g c =
-    under_write _ _ c.in-Some-Write.manifest.now _ (subst (λ f. Asks c.args.words.now (asked f)) c.in-Some-Write.field-0-is c.in-Some-Write.ensures.some) c.write.ensures.complete
+pub returns-in-Some-clause-front : goal.returns-in-Some-clause-front
+returns-in-Some-clause-front g c = λ five.
+    under_command (g.P.Package.held c.args.package.now) c.args.words.now (asked c.in-Some.command)
+    (λ files command. (text line : List ℕ) × (status : ℕ) × OutcomeOf files command (Told text status line) × GainsFrontOf (g.S.Sink.got c.args.out.now) text (g.S.Sink.got c.perform.new.out))
+    c.in-Some.ensures.some (c.perform.ensures.ends.front five)
+
+pub returns-in-Some-clause-listed : goal.returns-in-Some-clause-listed
+returns-in-Some-clause-listed g c =
+    listed_named (g.P.Package.held c.args.package.now) c.args.words.now (Rose (g.P.Package.faults c.args.package.now) (g.P.Package.faults c.perform.new.package)) (Rose (g.S.Sink.faults c.args.out.now) (g.S.Sink.faults c.perform.new.out)) c.perform.result
+    (under_command (g.P.Package.held c.args.package.now) c.args.words.now (asked c.in-Some.command)
+    (λ files command. HasText files command → (TakesFiles command → Rose (g.P.Package.faults c.args.package.now) (g.P.Package.faults c.perform.new.package) → ⊥) → (Rose (g.S.Sink.faults c.args.out.now) (g.S.Sink.faults c.perform.new.out) → ⊥) → (c.perform.result ≤ 1) ⊎ (c.perform.result ≡ 6))
+    c.in-Some.ensures.some c.perform.ensures.ends.complete)
+
+pub returns-in-Some-clause-named : goal.returns-in-Some-clause-named
+returns-in-Some-clause-named g c =
+    labelled_named (g.P.Package.held c.args.package.now) c.args.words.now (Rose (g.P.Package.faults c.args.package.now) (g.P.Package.faults c.perform.new.package)) (Rose (g.S.Sink.faults c.args.out.now) (g.S.Sink.faults c.perform.new.out)) c.perform.result
+    (under_command (g.P.Package.held c.args.package.now) c.args.words.now (asked c.in-Some.command)
+    (λ files command. HasText files command → (TakesFiles command → Rose (g.P.Package.faults c.args.package.now) (g.P.Package.faults c.perform.new.package) → ⊥) → (Rose (g.S.Sink.faults c.args.out.now) (g.S.Sink.faults c.perform.new.out) → ⊥) → (c.perform.result ≤ 1) ⊎ (c.perform.result ≡ 6))
+    c.in-Some.ensures.some c.perform.ensures.ends.complete)
+
+pub returns-in-Some-clause-summarized : goal.returns-in-Some-clause-summarized
+returns-in-Some-clause-summarized g c = λ seed size is small board fits quiet.
+    under_command (g.P.Package.held c.args.package.now) c.args.words.now (asked c.in-Some.command)
+    (λ files command. HasText files command → (TakesFiles command → Rose (g.P.Package.faults c.args.package.now) (g.P.Package.faults c.perform.new.package) → ⊥) → (Rose (g.S.Sink.faults c.args.out.now) (g.S.Sink.faults c.perform.new.out) → ⊥) → (c.perform.result ≤ 1) ⊎ (c.perform.result ≡ 6))
+    c.in-Some.ensures.some c.perform.ensures.ends.complete (Trial seed size) is (small, board, fits)
+    (λ takes. absurd takes) quiet
+
+pub returns-in-Some-clause-answered : goal.returns-in-Some-clause-answered
+returns-in-Some-clause-answered g c =
+    answered_named (g.P.Package.held c.args.package.now) c.args.words.now (Rose (g.P.Package.faults c.args.package.now) (g.P.Package.faults c.perform.new.package)) (Rose (g.S.Sink.faults c.args.out.now) (g.S.Sink.faults c.perform.new.out)) c.perform.result
+    (λ text. Gains (g.S.Sink.got c.args.out.now) text (g.S.Sink.got c.perform.new.out)) (λ line. Says g.N.Sink.got g.N.Sink.faults c.args.notes.now c.perform.new.notes line)
+    c.one_outcome.ensures c.report_text_is_injective.ensures
+    (λ few. under_command (g.P.Package.held c.args.package.now) c.args.words.now (asked c.in-Some.command)
+    (λ files command. (text line : List ℕ) × OutcomeOf files command (Told text c.perform.result line) × Gains (g.S.Sink.got c.args.out.now) text (g.S.Sink.got c.perform.new.out) × Says g.N.Sink.got g.N.Sink.faults c.args.notes.now c.perform.new.notes line)
+    c.in-Some.ensures.some (c.perform.ensures.ends.told few))
+    (under_command (g.P.Package.held c.args.package.now) c.args.words.now (asked c.in-Some.command)
+    (λ files command. HasText files command → (TakesFiles command → Rose (g.P.Package.faults c.args.package.now) (g.P.Package.faults c.perform.new.package) → ⊥) → (Rose (g.S.Sink.faults c.args.out.now) (g.S.Sink.faults c.perform.new.out) → ⊥) → (c.perform.result ≤ 1) ⊎ (c.perform.result ≡ 6))
+    c.in-Some.ensures.some c.perform.ensures.ends.complete)
+
+pub returns-in-None-clause-rewritten : goal.returns-in-None-clause-rewritten
+returns-in-None-clause-rewritten g c = rewritten_named _ _ _ _ _ (λ command is. absurd (c.in-None.ensures.none command is))
+
+pub returns-in-Some-clause-flattened : goal.returns-in-Some-clause-flattened
+returns-in-Some-clause-flattened g c = λ few.
+    of_flatten (g.P.Package.held c.args.package.now) c.args.words.now
+    (λ files command. (text line : List ℕ) × OutcomeOf files command (Told text c.perform.result line) × Gains (g.S.Sink.got c.args.out.now) text (g.S.Sink.got c.perform.new.out) × Says g.N.Sink.got g.N.Sink.faults c.args.notes.now c.perform.new.notes line)
+    (under_command (g.P.Package.held c.args.package.now) c.args.words.now (asked c.in-Some.command)
+    (λ files command. (text line : List ℕ) × OutcomeOf files command (Told text c.perform.result line) × Gains (g.S.Sink.got c.args.out.now) text (g.S.Sink.got c.perform.new.out) × Says g.N.Sink.got g.N.Sink.faults c.args.notes.now c.perform.new.notes line)
+    c.in-Some.ensures.some (c.perform.ensures.ends.told few))
+
+pub returns-in-Some-clause-rewritten : goal.returns-in-Some-clause-rewritten
+returns-in-Some-clause-rewritten g c =
+    rewritten_named (g.P.Package.held c.args.package.now) c.args.words.now (Rose (g.P.Package.faults c.args.package.now) (g.P.Package.faults c.perform.new.package)) (Rose (g.S.Sink.faults c.args.out.now) (g.S.Sink.faults c.perform.new.out)) c.perform.result
+    (under_command (g.P.Package.held c.args.package.now) c.args.words.now (asked c.in-Some.command)
+    (λ files command. HasText files command → (TakesFiles command → Rose (g.P.Package.faults c.args.package.now) (g.P.Package.faults c.perform.new.package) → ⊥) → (Rose (g.S.Sink.faults c.args.out.now) (g.S.Sink.faults c.perform.new.out) → ⊥) → (c.perform.result ≤ 1) ⊎ (c.perform.result ≡ 6))
+    c.in-Some.ensures.some c.perform.ensures.ends.complete)
 
 pub returns-in-None-clause-unjudged : goal.returns-in-None-clause-unjudged
-returns-in-None-clause-unjudged g c = λ name is. absurd (c.in-None.ensures.none (Write name) is)
+returns-in-None-clause-unjudged g c = λ name h. elim h [
+  | inl is ↦ absurd (c.in-None.ensures.none (Write name) is)
+  | inr is ↦ absurd (c.in-None.ensures.none (Flatten name) is)
+]
 
-pub returns-in-Some-Check-clause-unjudged : goal.returns-in-Some-Check-clause-unjudged
-returns-in-Some-Check-clause-unjudged g c =
-    no_netlist c.args.words.now (Check c.in-Some-Check.manifest.now) _ (subst (λ f. Asks c.args.words.now (asked f)) c.in-Some-Check.field-0-is c.in-Some-Check.ensures.some) (λ name same. cc)
-
-pub returns-in-Some-Audit-clause-unjudged : goal.returns-in-Some-Audit-clause-unjudged
-returns-in-Some-Audit-clause-unjudged g c =
-    no_netlist c.args.words.now (Audit c.in-Some-Audit.manifest.now c.in-Some-Audit.report.now) _ (subst (λ f. Asks c.args.words.now (asked f)) c.in-Some-Audit.field-0-is c.in-Some-Audit.ensures.some) (λ name same. cc)
-
-pub returns-in-Some-Trial-clause-unjudged : goal.returns-in-Some-Trial-clause-unjudged
-returns-in-Some-Trial-clause-unjudged g c =
-    no_netlist c.args.words.now (Trial c.in-Some-Trial.seed c.in-Some-Trial.size) _ (subst (λ f. Asks c.args.words.now (asked f)) c.in-Some-Trial.field-0-is c.in-Some-Trial.ensures.some) (λ name same. cc)
+pub returns-in-Some-clause-unjudged : goal.returns-in-Some-clause-unjudged
+returns-in-Some-clause-unjudged g c = λ name h. c.perform.ensures.unjudged name (elim h [
+  | inl is ↦ inl (one_command c.args.words.now (Write name) (asked c.in-Some.command) is c.in-Some.ensures.some)
+  | inr is ↦ inr (one_command c.args.words.now (Flatten name) (asked c.in-Some.command) is c.in-Some.ensures.some)
+])

@@ -1,0 +1,342 @@
+-- From the work of a command and what was put for it to what the command comes to.
+use Rattle.std.proofs.Common.{◌≡◌, ◌⊎◌, ◌≤◌, inl, inr, ℕ, true, false, List, Option, Result, Ok, Err, IfOk, MatchResult, codes, pos, ◌*◌, refl, sym, subst, arith}
+use Rattle.board_io.specs.Causes.{Rose}
+use Rattle.board_io.specs.Package.{Files, IsFaultless}
+use Rattle.board_io.specs.Sink.{Gains, GainsFrontOf}
+use Rattle.board_package.proofs.Lift.{told_all, told_of}
+use Rattle.board_package.specs.Causes.{IsUnread, KeepsFaults}
+use Rattle.board_package.specs.LabelledBoard.{unbuilt, mislabelled}
+use Rattle.board_package.specs.Laws.{HasOneLabelledOutcome, HasOneOutcome}
+use Rattle.board_package.specs.PackageBoard.{Stop, longer, not_json, bad_manifest, refused, frame_too_large}
+use Rattle.board_package.specs.declared.fault.BuildFault.{BuildFault}
+use Rattle.board_package.specs.declared.fault.BuildFault.TheVariants as fault
+use Rattle.board_package.specs.declared.reading.Refusal.TheVariants as refusal
+use Rattle.board_shapes.specs.CommonBox.{Fits}
+use Rattle.board_shapes.specs.Plain.{PlainBoard}
+use Rattle.contact.specs.declared.Bounds.{Bounds}
+use Rattle.gaps.specs.GrownBox.{grown_common}
+use Rattle.gerber_layer.specs.MacroKinds.{flatten_name, flatten_number}
+use Rattle.gerber_layer.specs.MacroLayer.{HasOneMacroAnswer, IsReadWithMacros, IsRefusedWithMacros}
+use Rattle.gerber_layer.specs.declared.macro_kind.FlattenKind.{FlattenKind}
+use Rattle.board_shapes.specs.Pieces.{PlainPiece}
+use Rattle.boardnet.specs.Gapped.{IsTooWide}
+use Rattle.boardnet.proofs.Audits.{misread_outcome, no_misread, no_stop, no_stop_taking, one_file}
+use Rattle.boardnet.specs.Answers.{Refuses, RefusesFor, line_of, manifest_of, report_of, status_of}
+use Rattle.boardnet.specs.Ends.{Ends, HasReason, HasText, IsGrownTooLargeFor, IsMislabelledFor, IsMisreadFor, IsTooLargeFor, IsUnflatFor, Puts, StopsFor, TakesFiles, Works, cut, whole}
+use Rattle.boardnet.specs.Kept.{LeftBy}
+use Rattle.boardnet.specs.Lines.{Says, file_line, flatten_line, frame_line, label_line, plain_line}
+use Rattle.boardnet.specs.Outcome.{ComesFor, IsLineOf, OfFilesRead, OutcomeOf, Refused, Told, read_by}
+use Rattle.boardnet.specs.Words.{Command, Check, Audit, Trial, Write, Gaps, X2, Flatten}
+use Rattle.boardnet.specs.declared.answer.Answer.{Answer}
+use Rattle.boardnet.specs.declared.answer.Note.{Note}
+use Rattle.boardnet.specs.declared.answer.Note.TheVariants as note
+use Rattle.boardnet.specs.declared.answer.Unanswered.{Unanswered}
+use Rattle.boardnet.specs.declared.answer.Unanswered.TheVariants.{Stopped, NotAReport, SizeTooLarge, GrownTooLarge, Mislabelled, Unflat}
+
+-- each package has one outcome, with its netlist and by its labels, and each copper file that may have macros one answer
+pub record OneOutcome : Type 0 where
+  pub listed : (files : Files) (manifest : List ℕ) → HasOneOutcome files manifest
+  pub labelled : (files : Files) (manifest : List ℕ) → HasOneLabelledOutcome files manifest
+  pub flat : (file : List ℕ) → HasOneMacroAnswer file
+
+-- ---- Stops
+
+-- a stop with its line is a refusal of the command
+stop_outcome : (f : Files) (c : Command) (stop : Stop) (line : List ℕ) → StopsFor f c stop → IsLineOf (manifest_of c) stop line → OutcomeOf f c (Refused line)
+stop_outcome f (Check version manifest) stop line s l = record { stop = stop; first = s; line_is = l }
+stop_outcome f (Audit manifest report) stop line s l = inl (record { stop = stop; first = s; line_is = l })
+stop_outcome f (Trial seed size) stop line s l = inr (record { small = s.0; refusal = record { stop = stop; first = s.1; line_is = l } })
+stop_outcome f (Write manifest) stop line s l = record { stop = stop; first = s; line_is = l }
+stop_outcome f (Gaps manifest nanometres) stop line s l = inl (record { stop = stop; first = s; line_is = l })
+stop_outcome f (X2 manifest) stop line s l = record { stop = unbuilt stop; first = s; line_is = l }
+stop_outcome f (Flatten file) stop line s l = inl (record { stop = stop; stops = s; line_is = l })
+
+-- a command with a stop has no text
+no_text : OneOutcome → (f : Files) (c : Command) (stop : Stop) → StopsFor f c stop → HasText f c → ⊥
+no_text law f (Check version manifest) stop s (board, is) = (law.listed f manifest).not_both board stop is s
+no_text law f (Audit manifest report) stop s (text, line, status, is) = no_stop f manifest report text line status stop (law.listed f manifest) is s
+no_text law f (Trial seed size) stop s (small, board, is) = (law.listed _ _).not_both board stop is s.1
+no_text law f (Write manifest) stop s (board, is) = (law.listed f manifest).not_both board stop is s
+no_text law f (Gaps manifest nanometres) stop s (board, is, fits) = (law.listed f manifest).not_both board stop is s
+no_text law f (X2 manifest) stop s (board, is) = (law.labelled f manifest).not_both board (unbuilt stop) is s
+no_text law f (Flatten file) stop s (bytes, held, pieces, is) = no_stop_taking f file bytes stop held s
+
+-- ---- Why there is no answer
+
+-- The three ways to have none: the command is refused; a file cannot be read; memory is wanted.
+data Reason (c : Command) (held : Option Files) (before : ℕ) (was : List ℕ) (now : ℕ) (lost : List ℕ) (status : ℕ) (Line : List ℕ → Type 0) : Type 0 where
+  refusal_of : (line : List ℕ) → status ≡ 3 → OfFilesRead c held (λ f. OutcomeOf f c (Refused line) × (HasText f c → ⊥)) → Line line → IsFaultless before was now lost → Reason c held before was now lost status Line
+  unread_of : (name : List ℕ) → status ≡ 4 → IsUnread (read_by c held) (λ f name. ComesFor f c name) before now lost name → Line (file_line name (codes "cannot be read")) → Reason c held before was now lost status Line
+  wanting : status ≡ 6 → Line (plain_line (codes "out of memory")) → Reason c held before was now lost status Line
+
+stopped_by : OneOutcome → (c : Command) (held : Option Files) (before : ℕ) (was : List ℕ) (now : ℕ) (lost : List ℕ) (status : ℕ) (Line : List ℕ → Type 0) (stop : Stop) (line : List ℕ)
+    → status ≡ 3 → Line line → IsLineOf (manifest_of c) stop line → OfFilesRead c held (λ f. StopsFor f c stop) → IsFaultless before was now lost → Reason c held before was now lost status Line
+stopped_by law c held before was now lost status Line stop line three said is s left =
+    refusal_of line three (told_of (read_by c held) (λ f. StopsFor f c stop) (λ f. OutcomeOf f c (Refused line) × (HasText f c → ⊥)) (λ f h. (stop_outcome f c stop line h is, no_text law f c stop h)) s) said left
+
+stopped_reason : OneOutcome → (c : Command) (held : Option Files) (before : ℕ) (was : List ℕ) (now : ℕ) (lost : List ℕ) (status : ℕ) (Line : List ℕ → Type 0) (why : BuildFault)
+    → Refuses (manifest_of c) why status Line → HasReason c held before now lost (Stopped why) → KeepsFaults before was now lost why → Reason c held before was now lost status Line
+stopped_reason law c held before was now lost status Line fault.NotJson said h left = stopped_by law c held before was now lost status Line not_json _ said.0 said.1 refl h left
+stopped_reason law c held before was now lost status Line fault.BadManifest said h left = stopped_by law c held before was now lost status Line bad_manifest _ said.0 said.1 refl h left
+stopped_reason law c held before was now lost status Line (fault.Longer name) said h left = stopped_by law c held before was now lost status Line (longer name) _ said.0 said.1 refl h left
+stopped_reason law c held before was now lost status Line (fault.CannotRead name) said h left = unread_of name said.0 h said.1
+stopped_reason law c held before was now lost status Line (fault.Layer name kind command at) said h left =
+    stopped_by law c held before was now lost status Line (refused name (refusal.Layer kind command at)) _ said.0 said.1 refl h left
+stopped_reason law c held before was now lost status Line (fault.Drill name kind line at) said h left =
+    stopped_by law c held before was now lost status Line (refused name (refusal.Drill kind line at)) _ said.0 said.1 refl h left
+stopped_reason law c held before was now lost status Line (fault.Netlist name kind line) said h left =
+    stopped_by law c held before was now lost status Line (refused name (refusal.Netlist kind line)) _ said.0 said.1 refl h left
+stopped_reason law c held before was now lost status Line (fault.FrameTooLarge box) said h left = stopped_by law c held before was now lost status Line (frame_too_large box) _ said.0 said.1 refl h left
+stopped_reason law c held before was now lost status Line fault.NoMemory said h left = wanting said.0 said.1
+
+misread_reason : (c : Command) (held : Option Files) (before : ℕ) (was : List ℕ) (now : ℕ) (lost : List ℕ) (status : ℕ) (Line : List ℕ → Type 0)
+    → (status ≡ 3) × Line (file_line (report_of c) (codes "not a report")) → OfFilesRead c held (λ f. IsMisreadFor f c) → IsFaultless before was now lost → Reason c held before was now lost status Line
+misread_reason c held before was now lost status Line said h left =
+    refusal_of _ said.0 (told_of (read_by c held) (λ f. IsMisreadFor f c) (λ f. OutcomeOf f c (Refused (file_line (report_of c) (codes "not a report"))) × (HasText f c → ⊥)) (λ f m. misread f c m) h) said.1 left
+  where
+    misread : (f : Files) (c : Command) → IsMisreadFor f c → OutcomeOf f c (Refused (file_line (report_of c) (codes "not a report"))) × (HasText f c → ⊥)
+    misread f (Check version manifest) m = absurd m
+    misread f (Audit manifest report) m = (misread_outcome f manifest report m, λ t. no_misread f manifest report t.0 t.1 t.2 m t.3)
+    misread f (Trial seed size) m = absurd m
+    misread f (Write manifest) m = absurd m
+    misread f (Gaps manifest nanometres) m = absurd m
+    misread f (X2 manifest) m = absurd m
+    misread f (Flatten file) m = absurd m
+
+too_large_reason : (c : Command) (held : Option Files) (before : ℕ) (was : List ℕ) (now : ℕ) (lost : List ℕ) (status : ℕ) (Line : List ℕ → Type 0)
+    → (status ≡ 3) × Line (plain_line (codes "trial size too large")) → IsTooLargeFor c → IsFaultless before was now lost → Reason c held before was now lost status Line
+too_large_reason (Check version manifest) held before was now lost status Line said h left = absurd h
+too_large_reason (Audit manifest report) held before was now lost status Line said h left = absurd h
+too_large_reason (Trial seed size) held before was now lost status Line said h left =
+    refusal_of _ said.0 (inl (record { large = h; line_is = refl }), λ t. let small = t.0 in omega (arith, h, small)) said.1 left
+too_large_reason (Write manifest) held before was now lost status Line said h left = absurd h
+too_large_reason (Gaps manifest nanometres) held before was now lost status Line said h left = absurd h
+too_large_reason (X2 manifest) held before was now lost status Line said h left = absurd h
+too_large_reason (Flatten file) held before was now lost status Line said h left = absurd h
+
+grown_reason : OneOutcome → (c : Command) (held : Option Files) (before : ℕ) (was : List ℕ) (now : ℕ) (lost : List ℕ) (status : ℕ) (Line : List ℕ → Type 0) (box : Bounds)
+    → (status ≡ 3) × Line (frame_line box) → OfFilesRead c held (λ f. IsGrownTooLargeFor f c box) → IsFaultless before was now lost → Reason c held before was now lost status Line
+grown_reason law c held before was now lost status Line box said h left =
+    refusal_of _ said.0 (told_of (read_by c held) (λ f. IsGrownTooLargeFor f c box) (λ f. OutcomeOf f c (Refused (frame_line box)) × (HasText f c → ⊥)) (λ f m. grown f c m) h) said.1 left
+  where
+    wide : (board other : PlainBoard) (n : ℕ) → other ≡ board → IsTooWide board n box → Fits (grown_common (pos (5 * n)) other.pieces) → ⊥
+    wide board other n same w fits = w.large (subst Fits w.common (subst (λ (b : PlainBoard). Fits (grown_common (pos (5 * n)) b.pieces)) same fits))
+
+    grown : (f : Files) (c : Command) → IsGrownTooLargeFor f c box → OutcomeOf f c (Refused (frame_line box)) × (HasText f c → ⊥)
+    grown f (Check version manifest) m = absurd m
+    grown f (Audit manifest report) m = absurd m
+    grown f (Trial seed size) m = absurd m
+    grown f (Write manifest) m = absurd m
+    grown f (Gaps manifest nanometres) m = (inr (record { box = box; stop = m; line_is = refl }), λ t. wide m.board t.0 nanometres ((law.listed f manifest).one_board t.0 m.board t.1 m.board_is) m.wide t.2)
+    grown f (X2 manifest) m = absurd m
+    grown f (Flatten file) m = absurd m
+
+mislabelled_reason : OneOutcome → (c : Command) (held : Option Files) (before : ℕ) (was : List ℕ) (now : ℕ) (lost : List ℕ) (status : ℕ) (Line : List ℕ → Type 0) (name : List ℕ) (number byte : ℕ)
+    → (status ≡ 3) × Line (label_line name number byte) → OfFilesRead c held (λ f. IsMislabelledFor f c name number byte) → IsFaultless before was now lost → Reason c held before was now lost status Line
+mislabelled_reason law c held before was now lost status Line name number byte said h left =
+    refusal_of _ said.0 (told_of (read_by c held) (λ f. IsMislabelledFor f c name number byte) (λ f. OutcomeOf f c (Refused (label_line name number byte)) × (HasText f c → ⊥)) (λ f m. amiss f c m) h) said.1 left
+  where
+    amiss : (f : Files) (c : Command) → IsMislabelledFor f c name number byte → OutcomeOf f c (Refused (label_line name number byte)) × (HasText f c → ⊥)
+    amiss f (Check version manifest) m = absurd m
+    amiss f (Audit manifest report) m = absurd m
+    amiss f (Trial seed size) m = absurd m
+    amiss f (Write manifest) m = absurd m
+    amiss f (Gaps manifest nanometres) m = absurd m
+    amiss f (X2 manifest) m = (record { stop = mislabelled name number byte; first = m; line_is = refl }, λ t. (law.labelled f manifest).not_both t.0 (mislabelled name number byte) t.1 m)
+    amiss f (Flatten file) m = absurd m
+
+unflat_reason : OneOutcome → (c : Command) (held : Option Files) (before : ℕ) (was : List ℕ) (now : ℕ) (lost : List ℕ) (status : ℕ) (Line : List ℕ → Type 0) (kind : FlattenKind) (number byte : ℕ)
+    → (status ≡ 3) × Line (flatten_line (manifest_of c) (flatten_number kind) (flatten_name kind) number byte) → OfFilesRead c held (λ f. IsUnflatFor f c kind number byte) → IsFaultless before was now lost → Reason c held before was now lost status Line
+unflat_reason law c held before was now lost status Line kind number byte said h left =
+    refusal_of _ said.0 (told_of (read_by c held) (λ f. IsUnflatFor f c kind number byte) (λ f. OutcomeOf f c (Refused (flatten_line (manifest_of c) (flatten_number kind) (flatten_name kind) number byte)) × (HasText f c → ⊥)) (λ f m. unflat f c m) h) said.1 left
+  where
+    both : (bytes other : List ℕ) (pieces : List PlainPiece) → other ≡ bytes → IsReadWithMacros other pieces → IsRefusedWithMacros bytes kind number byte → ⊥
+    both bytes other pieces same read stop = (law.flat bytes).not_both pieces kind number byte (subst (λ (z : List ℕ). IsReadWithMacros z pieces) same read) stop
+
+    unflat : (f : Files) (c : Command) → IsUnflatFor f c kind number byte → OutcomeOf f c (Refused (flatten_line (manifest_of c) (flatten_number kind) (flatten_name kind) number byte)) × (HasText f c → ⊥)
+    unflat f (Check version manifest) m = absurd m
+    unflat f (Audit manifest report) m = absurd m
+    unflat f (Trial seed size) m = absurd m
+    unflat f (Write manifest) m = absurd m
+    unflat f (Gaps manifest nanometres) m = absurd m
+    unflat f (X2 manifest) m = absurd m
+    unflat f (Flatten file) m = (
+      inr (record { kind = kind; command = number; byte = byte; unflat = m; line_is = refl }),
+      λ t. both m.bytes t.0 t.2 (one_file f file t.0 m.bytes t.1.held m.held.held) t.3 m.refused,
+    )
+
+reason_of : OneOutcome → (c : Command) (held : Option Files) (before : ℕ) (was : List ℕ) (now : ℕ) (lost : List ℕ) (status : ℕ) (Line : List ℕ → Type 0) (why : Unanswered)
+    → RefusesFor c why status Line → HasReason c held before now lost why → LeftBy before was now lost why → Reason c held before was now lost status Line
+reason_of law c held before was now lost status Line (Stopped why) said h left = stopped_reason law c held before was now lost status Line why said h left
+reason_of law c held before was now lost status Line NotAReport said h left = misread_reason c held before was now lost status Line said h left
+reason_of law c held before was now lost status Line SizeTooLarge said h left = too_large_reason c held before was now lost status Line said h left
+reason_of law c held before was now lost status Line (GrownTooLarge box) said h left = grown_reason law c held before was now lost status Line box said h left
+reason_of law c held before was now lost status Line (Mislabelled name number byte) said h left = mislabelled_reason law c held before was now lost status Line name number byte said h left
+reason_of law c held before was now lost status Line (Unflat kind number byte) said h left = unflat_reason law c held before was now lost status Line kind number byte said h left
+
+-- ---- What a command comes to
+
+small_status : (n : Note) → status_of n ≤ 1
+small_status note.Agrees = omega arith
+small_status (note.Differs opens shorts missing) = omega arith
+small_status note.AuditTrue = omega arith
+small_status (note.AuditUntrue clause) = omega arith
+small_status (note.TrialDone true) = omega arith
+small_status (note.TrialDone false) = omega arith
+small_status note.NetlistWritten = omega arith
+small_status note.NoGaps = omega arith
+small_status (note.Gaps count) = omega arith
+small_status note.Flattened = omega arith
+
+-- an answer that was put whole
+ends_whole : {P S N : Type 0} (files : P → Option Files) (faults : P → ℕ) (lost : P → List ℕ) (got : S → Option (List ℕ)) (broken : S → ℕ) (noted : N → Option (List ℕ)) (failed : N → ℕ)
+    (c : Command) (p p' : P) (o o' : S) (n n' : N) (status : ℕ) (answer : Answer)
+    → Works files faults lost c p p' (Ok answer) → (broken o ≤ broken o') × (failed n ≤ failed n')
+    → status ≡ status_of answer.note → Gains (got o) answer.text.items (got o') → Says noted failed n n' (line_of answer.note)
+    → Ends files faults lost got broken noted failed c p p' o o' n n' status
+ends_whole files faults lost got broken noted failed c p p' o o' n n' status answer w later is gains said =
+    let small : status ≤ 1 = subst (λ (s : ℕ). s ≤ 1) (sym is) (small_status answer.note) in
+    let outcome : OfFilesRead c (files p) (λ f. OutcomeOf f c (Told answer.text.items status (line_of answer.note))) =
+    subst (λ (s : ℕ). OfFilesRead c (files p) (λ f. OutcomeOf f c (Told answer.text.items s (line_of answer.note)))) (sym is) w.ok in
+    record {
+      few = omega (arith, small);
+      understood = λ two. omega (arith, small, two);
+      told = λ le. told_of (read_by c (files p)) (λ f. OutcomeOf f c (Told answer.text.items status (line_of answer.note)))
+          (λ f. (text line : List ℕ) × OutcomeOf f c (Told text status line) × Gains (got o) text (got o') × Says noted failed n n' line) (λ f h. (answer.text.items, line_of answer.note, h, gains, said)) outcome;
+      refused = λ three. absurd (omega (arith, small, three));
+      unreadable = λ four. absurd (omega (arith, small, four));
+      unread = λ four. absurd (omega (arith, small, four));
+      unwritable = λ five. absurd (omega (arith, small, five));
+      front = λ five. absurd (omega (arith, small, five));
+      memory = λ six. absurd (omega (arith, small, six));
+      silent = λ two other. absurd (omega (arith, small, two));
+      kept = record { held = w.held; later = w.later; calm = λ four six. w.calm };
+      later = later;
+      complete = told_all (read_by c (files p)) (λ f. HasText f c → (TakesFiles c → Rose (faults p) (faults p') → ⊥) → (Rose (broken o) (broken o') → ⊥) → (status ≤ 1) ⊎ (status ≡ 6)) (λ f text calm quiet. inl small);
+    }
+
+-- an answer that was put in part
+ends_cut : {P S N : Type 0} (files : P → Option Files) (faults : P → ℕ) (lost : P → List ℕ) (got : S → Option (List ℕ)) (broken : S → ℕ) (noted : N → Option (List ℕ)) (failed : N → ℕ)
+    (c : Command) (p p' : P) (o o' : S) (n n' : N) (status : ℕ) (answer : Answer)
+    → Works files faults lost c p p' (Ok answer) → (broken o ≤ broken o') × (failed n ≤ failed n')
+    → status ≡ 5 → Rose (broken o) (broken o') → GainsFrontOf (got o) answer.text.items (got o') → Says noted failed n n' (plain_line (codes "output cannot be written"))
+    → Ends files faults lost got broken noted failed c p p' o o' n n' status
+ends_cut files faults lost got broken noted failed c p p' o o' n n' status answer w later is rose gains said = record {
+  few = omega (arith, is);
+  understood = λ two. omega (arith, is, two);
+  told = λ le. absurd (omega (arith, is, le));
+  refused = λ three. absurd (omega (arith, is, three));
+  unreadable = λ four. absurd (omega (arith, is, four));
+  unread = λ four. absurd (omega (arith, is, four));
+  unwritable = λ five. (rose, said);
+  front = λ five. told_of (read_by c (files p)) (λ f. OutcomeOf f c (Told answer.text.items (status_of answer.note) (line_of answer.note)))
+      (λ f. (text line : List ℕ) × (s : ℕ) × OutcomeOf f c (Told text s line) × GainsFrontOf (got o) text (got o')) (λ f h. (answer.text.items, line_of answer.note, status_of answer.note, h, gains)) w.ok;
+  memory = λ six. absurd (omega (arith, is, six));
+  silent = λ two other. absurd (other is);
+  kept = record { held = w.held; later = w.later; calm = λ four six. w.calm };
+  later = later;
+  complete = told_all (read_by c (files p)) (λ f. HasText f c → (TakesFiles c → Rose (faults p) (faults p') → ⊥) → (Rose (broken o) (broken o') → ⊥) → (status ≤ 1) ⊎ (status ≡ 6)) (λ f text calm quiet. absurd (quiet rose));
+}
+
+-- a file that cannot be read is one that the command takes
+never_unread : (c : Command) (held : Option Files) (A B : Type 0) (status : ℕ) (name : List ℕ) → OfFilesRead c held (λ f. ComesFor f c name) → A
+    → OfFilesRead c held (λ f. HasText f c → (TakesFiles c → A → ⊥) → (B → ⊥) → (status ≤ 1) ⊎ (status ≡ 6))
+never_unread (Check version manifest) held A B status name comes rose = told_all held (λ f. HasText f (Check version manifest) → (Unit {0} → A → ⊥) → (B → ⊥) → (status ≤ 1) ⊎ (status ≡ 6)) (λ f text calm quiet. absurd (calm tt rose))
+never_unread (Audit manifest report) held A B status name comes rose = told_all held (λ f. HasText f (Audit manifest report) → (Unit {0} → A → ⊥) → (B → ⊥) → (status ≤ 1) ⊎ (status ≡ 6)) (λ f text calm quiet. absurd (calm tt rose))
+never_unread (Trial seed size) held A B status name comes rose = absurd comes
+never_unread (Write manifest) held A B status name comes rose = told_all held (λ f. HasText f (Write manifest) → (Unit {0} → A → ⊥) → (B → ⊥) → (status ≤ 1) ⊎ (status ≡ 6)) (λ f text calm quiet. absurd (calm tt rose))
+never_unread (Gaps manifest nanometres) held A B status name comes rose = told_all held (λ f. HasText f (Gaps manifest nanometres) → (Unit {0} → A → ⊥) → (B → ⊥) → (status ≤ 1) ⊎ (status ≡ 6)) (λ f text calm quiet. absurd (calm tt rose))
+never_unread (X2 manifest) held A B status name comes rose = told_all held (λ f. HasText f (X2 manifest) → (Unit {0} → A → ⊥) → (B → ⊥) → (status ≤ 1) ⊎ (status ≡ 6)) (λ f text calm quiet. absurd (calm tt rose))
+never_unread (Flatten file) held A B status name comes rose = told_all held (λ f. HasText f (Flatten file) → (Unit {0} → A → ⊥) → (B → ⊥) → (status ≤ 1) ⊎ (status ≡ 6)) (λ f text calm quiet. absurd (calm tt rose))
+
+-- no answer
+ends_without : {P S N : Type 0} (files : P → Option Files) (faults : P → ℕ) (lost : P → List ℕ) (got : S → Option (List ℕ)) (broken : S → ℕ) (noted : N → Option (List ℕ)) (failed : N → ℕ)
+    (c : Command) (p p' : P) (o o' : S) (n n' : N) (status : ℕ)
+    → files p' ≡ files p → faults p ≤ faults p' → (broken o ≤ broken o') × (failed n ≤ failed n') → o' ≡ o
+    → Reason c (files p) (faults p) (lost p) (faults p') (lost p') status (Says noted failed n n')
+    → Ends files faults lost got broken noted failed c p p' o o' n n' status
+ends_without files faults lost got broken noted failed c p p' o o' n n' status held rises later same (refusal_of line is outcome said left) = record {
+  few = omega (arith, is);
+  understood = λ two. omega (arith, is, two);
+  told = λ le. absurd (omega (arith, is, le));
+  refused = λ three. told_of (read_by c (files p)) (λ f. OutcomeOf f c (Refused line) × (HasText f c → ⊥)) (λ f. (line : List ℕ) × OutcomeOf f c (Refused line) × Says noted failed n n' line) (λ f h. (line, h.0, said)) outcome;
+  unreadable = λ four. absurd (omega (arith, is, four));
+  unread = λ four. absurd (omega (arith, is, four));
+  unwritable = λ five. absurd (omega (arith, is, five));
+  front = λ five. absurd (omega (arith, is, five));
+  memory = λ six. absurd (omega (arith, is, six));
+  silent = λ two other. same;
+  kept = record { held = held; later = rises; calm = λ four six. left };
+  later = later;
+  complete = told_of (read_by c (files p)) (λ f. OutcomeOf f c (Refused line) × (HasText f c → ⊥)) (λ f. HasText f c → (TakesFiles c → Rose (faults p) (faults p') → ⊥) → (Rose (broken o) (broken o') → ⊥) → (status ≤ 1) ⊎ (status ≡ 6))
+      (λ f h text calm quiet. absurd (h.1 text)) outcome;
+}
+ends_without files faults lost got broken noted failed c p p' o o' n n' status held rises later same (unread_of name is u said) = record {
+  few = omega (arith, is);
+  understood = λ two. omega (arith, is, two);
+  told = λ le. absurd (omega (arith, is, le));
+  refused = λ three. absurd (omega (arith, is, three));
+  unreadable = λ four. (u.rose, subst (λ (z : List ℕ). Says noted failed n n' (file_line z (codes "cannot be read"))) (sym u.lost_is) said);
+  unread = λ four. subst (λ (z : List ℕ). OfFilesRead c (files p) (λ f. ComesFor f c z)) (sym u.lost_is) u.comes;
+  unwritable = λ five. absurd (omega (arith, is, five));
+  front = λ five. absurd (omega (arith, is, five));
+  memory = λ six. absurd (omega (arith, is, six));
+  silent = λ two other. same;
+  kept = record { held = held; later = rises; calm = λ four six. absurd (four is) };
+  later = later;
+  complete = never_unread c (files p) (Rose (faults p) (faults p')) (Rose (broken o) (broken o')) status name u.comes u.rose;
+}
+ends_without files faults lost got broken noted failed c p p' o o' n n' status held rises later same (wanting is said) = record {
+  few = omega (arith, is);
+  understood = λ two. omega (arith, is, two);
+  told = λ le. absurd (omega (arith, is, le));
+  refused = λ three. absurd (omega (arith, is, three));
+  unreadable = λ four. absurd (omega (arith, is, four));
+  unread = λ four. absurd (omega (arith, is, four));
+  unwritable = λ five. absurd (omega (arith, is, five));
+  front = λ five. absurd (omega (arith, is, five));
+  memory = λ six. said;
+  silent = λ two other. same;
+  kept = record { held = held; later = rises; calm = λ four six. absurd (six is) };
+  later = later;
+  complete = told_all (read_by c (files p)) (λ f. HasText f c → (TakesFiles c → Rose (faults p) (faults p') → ⊥) → (Rose (broken o) (broken o') → ⊥) → (status ≤ 1) ⊎ (status ≡ 6)) (λ f text calm quiet. inr is);
+}
+
+pub ends : {P S N : Type 0} (files : P → Option Files) (faults : P → ℕ) (lost : P → List ℕ) (got : S → Option (List ℕ)) (broken : S → ℕ) (noted : N → Option (List ℕ)) (failed : N → ℕ)
+    (c : Command) (p p' : P) (o o' : S) (n n' : N) (status : ℕ) (given : Result Answer Unanswered)
+    → OneOutcome → Works files faults lost c p p' given → (broken o ≤ broken o') × (failed n ≤ failed n')
+    → MatchResult given (λ answer. Puts got broken noted failed answer o o' n n' status) (λ why. RefusesFor c why status (Says noted failed n n') × (o' ≡ o))
+    → Ends files faults lost got broken noted failed c p p' o o' n n' status
+ends files faults lost got broken noted failed c p p' o o' n n' status (Ok answer) law w later (whole is gains said) =
+    ends_whole files faults lost got broken noted failed c p p' o o' n n' status answer w later is gains said
+ends files faults lost got broken noted failed c p p' o o' n n' status (Ok answer) law w later (cut is rose gains said) =
+    ends_cut files faults lost got broken noted failed c p p' o o' n n' status answer w later is rose gains said
+ends files faults lost got broken noted failed c p p' o o' n n' status (Err why) law w later put =
+    ends_without files faults lost got broken noted failed c p p' o o' n n' status w.held w.later later put.1
+    (reason_of law c (files p) (faults p) (lost p) (faults p') (lost p') status (Says noted failed n n') why put.0 w.reason w.left)
+
+-- ---- What is never judged
+
+not_one : (c : Command) (why : Unanswered) (status : ℕ) (Line : List ℕ → Type 0) → RefusesFor c why status Line → status ≡ 1 → ⊥
+not_one c (Stopped fault.NotJson) status Line (is, said) one = absurd (omega (arith, is, one))
+not_one c (Stopped fault.BadManifest) status Line (is, said) one = absurd (omega (arith, is, one))
+not_one c (Stopped (fault.Longer name)) status Line (is, said) one = absurd (omega (arith, is, one))
+not_one c (Stopped (fault.CannotRead name)) status Line (is, said) one = absurd (omega (arith, is, one))
+not_one c (Stopped (fault.Layer name kind command byte)) status Line (is, said) one = absurd (omega (arith, is, one))
+not_one c (Stopped (fault.Drill name kind number byte)) status Line (is, said) one = absurd (omega (arith, is, one))
+not_one c (Stopped (fault.Netlist name kind number)) status Line (is, said) one = absurd (omega (arith, is, one))
+not_one c (Stopped (fault.FrameTooLarge box)) status Line (is, said) one = absurd (omega (arith, is, one))
+not_one c (Stopped fault.NoMemory) status Line (is, said) one = absurd (omega (arith, is, one))
+not_one c NotAReport status Line (is, said) one = absurd (omega (arith, is, one))
+not_one c SizeTooLarge status Line (is, said) one = absurd (omega (arith, is, one))
+not_one c (GrownTooLarge box) status Line (is, said) one = absurd (omega (arith, is, one))
+not_one c (Mislabelled name number byte) status Line (is, said) one = absurd (omega (arith, is, one))
+not_one c (Unflat kind number byte) status Line (is, said) one = absurd (omega (arith, is, one))
+
+pub unjudged : {S N : Type 0} (got : S → Option (List ℕ)) (broken : S → ℕ) (noted : N → Option (List ℕ)) (failed : N → ℕ) (c : Command) (o o' : S) (n n' : N) (status : ℕ) (given : Result Answer Unanswered)
+    → IfOk given (λ answer. (name : List ℕ) → (c ≡ Write name) ⊎ (c ≡ Flatten name) → status_of answer.note ≡ 0)
+    → MatchResult given (λ answer. Puts got broken noted failed answer o o' n n' status) (λ why. RefusesFor c why status (Says noted failed n n') × (o' ≡ o))
+    → (name : List ℕ) → (c ≡ Write name) ⊎ (c ≡ Flatten name) → status ≡ 1 → ⊥
+unjudged got broken noted failed c o o' n n' status (Ok answer) zero (whole is gains said) name asks one = let none = zero name asks in absurd (omega (arith, is, none, one))
+unjudged got broken noted failed c o o' n n' status (Ok answer) zero (cut is rose gains said) name asks one = absurd (omega (arith, is, one))
+unjudged got broken noted failed c o o' n n' status (Err why) zero put name asks one = not_one c why status (Says noted failed n n') put.0 one

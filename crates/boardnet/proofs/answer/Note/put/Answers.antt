@@ -1,0 +1,25 @@
+use Rattle.std.proofs.Common.{subst, sym}
+use Rattle.boardnet.specs.Answers.{line_of}
+use Rattle.boardnet.specs.Lines.{Says}
+use Rattle.boardnet.proofs.answer.Note.put.Goals as goal
+
+pub returns-in-Differs : goal.returns-in-Differs
+returns-in-Differs g c = subst (λ note. Says g.N.Sink.got g.N.Sink.faults c.args.notes.now c.differs.new.notes (line_of note)) (sym c.in-Differs.is) c.differs.ensures
+
+pub returns-in-AuditTrue : goal.returns-in-AuditTrue
+returns-in-AuditTrue g c = subst (λ note. Says g.N.Sink.got g.N.Sink.faults c.args.notes.now c.plain-in-AuditTrue.new.notes (line_of note)) (sym c.in-AuditTrue.is) c.plain-in-AuditTrue.ensures
+
+pub returns-in-AuditUntrue : goal.returns-in-AuditUntrue
+returns-in-AuditUntrue g c = subst (λ note. Says g.N.Sink.got g.N.Sink.faults c.args.notes.now c.untrue.new.notes (line_of note)) (sym c.in-AuditUntrue.is) c.untrue.ensures
+
+pub returns-in-TrialDone : goal.returns-in-TrialDone
+returns-in-TrialDone g c = subst (λ note. Says g.N.Sink.got g.N.Sink.faults c.args.notes.now c.plain-in-TrialDone.new.notes (line_of note)) (sym c.in-TrialDone.is) c.plain-in-TrialDone.ensures
+
+pub returns-in-NetlistWritten : goal.returns-in-NetlistWritten
+returns-in-NetlistWritten g c = subst (λ note. Says g.N.Sink.got g.N.Sink.faults c.args.notes.now c.plain-in-NetlistWritten.new.notes (line_of note)) (sym c.in-NetlistWritten.is) c.plain-in-NetlistWritten.ensures
+
+pub returns-in-NoGaps : goal.returns-in-NoGaps
+returns-in-NoGaps g c = subst (λ note. Says g.N.Sink.got g.N.Sink.faults c.args.notes.now c.plain-in-NoGaps.new.notes (line_of note)) (sym c.in-NoGaps.is) c.plain-in-NoGaps.ensures
+
+pub returns-in-Gaps : goal.returns-in-Gaps
+returns-in-Gaps g c = subst (λ note. Says g.N.Sink.got g.N.Sink.faults c.args.notes.now c.gaps.new.notes (line_of note)) (sym c.in-Gaps.is) c.gaps.ensures

@@ -1,0 +1,33 @@
+// The command `flatten`.
+ghost use Rattle.boardnet.specs.Answers.{status_of};
+ghost use Rattle.boardnet.specs.Ends.{Works};
+ghost use Rattle.boardnet.specs.Words.{Flatten};
+ghost use Rattle.lengths.specs.Text.{IsText};
+ghost use Rattle.std.specs.Prelude.{IfOk, ◌≡◌};
+
+use crate::answer::{Answer, Note, Unanswered};
+use crate::refusing::name_of;
+use board_io::Package;
+use board_package::take_file;
+use macro_flatten::flatten;
+use std::alloc::Global;
+
+// The text of the image of a copper file.
+pub fn flat_text<P: Package>(
+    alloc: Global,
+    file: &str,
+    package: &mut P,
+) -> Result<Answer, Unanswered>
+    requires { IsText file.now }
+    ensures works { Works P.held P.faults P.lost (Flatten file.now) «package».old «package».new result }
+    ensures unjudged { IfOk result (λ answer. status_of answer.note ≡ 0) }
+{
+    let name = name_of(alloc, file)?;
+    let mut bytes = Vec::new(alloc);
+    take_file(alloc, &name, package, &mut bytes)?;
+    let text = flatten(alloc, bytes.as_slice())?;
+    Ok(Answer {
+        text,
+        note: Note::Flattened,
+    })
+}

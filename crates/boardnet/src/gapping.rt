@@ -1,0 +1,44 @@
+// The command `gaps`.
+ghost use Rattle.board_shapes.specs.Plain.{plain_board};
+ghost use Rattle.boardnet.specs.Answers.{IsUngapped, line_of, status_of};
+ghost use Rattle.boardnet.specs.Ends.{Works};
+ghost use Rattle.boardnet.specs.Gapped.{IsGapListOn};
+ghost use Rattle.boardnet.specs.Words.{Gaps};
+ghost use Rattle.lengths.specs.Text.{IsText};
+ghost use Rattle.std.specs.Prelude.{IfErr, IfOk, ◌≤◌};
+
+use crate::answer::{Answer, Note, Unanswered};
+use crate::judged::{board_of, verdict_on};
+use board_io::Package;
+use board_shapes::Board;
+use gaps::{GapFault, gaps, write_gaps};
+use std::alloc::Global;
+
+// The gaps of the package of a manifest at a distance.
+pub fn gap_list<P: Package>(
+    alloc: Global,
+    manifest: &str,
+    nanometres: u32,
+    package: &mut P,
+) -> Result<Answer, Unanswered>
+    requires text { IsText manifest.now }
+    requires most { nanometres ≤ 10_000_000 }
+    ensures { Works P.held P.faults P.lost (Gaps manifest.now nanometres) «package».old «package».new result }
+{
+    let board = board_of(alloc, manifest, package)?;
+    let answer = gap_list_on(alloc, &board, nanometres)?;
+    Ok(answer)
+}
+
+// The gaps of a board, between the nets of the right verdict on it.
+fn gap_list_on(alloc: Global, board: &Board, nanometres: u32) -> Result<Answer, GapFault>
+    requires { nanometres ≤ 10_000_000 }
+    ensures ok { IfOk result (λ answer. IsGapListOn (plain_board board.now) nanometres answer.text.items (status_of answer.note) (line_of answer.note)) }
+    ensures fault { IfErr result (IsUngapped (plain_board board.now) nanometres) }
+{
+    let verdict = verdict_on(alloc, board)?;
+    let list = gaps(alloc, board, &verdict.nets, nanometres)?;
+    let text = write_gaps(alloc, nanometres, list.as_slice())?;
+    let note = Note::gaps(list.as_slice().len());
+    Ok(Answer { text, note })
+}
