@@ -51,10 +51,10 @@ help_of() {
   case $1 in install) ;; *) [ -f "$home/$1" ] || { printf 'Status\n'; section status; } ;; esac
 }
 
-# Whether the command's first word is a manifest, by its head in the help text.
-takes_manifest() {
+# Whether the command's first word is a manifest or a copper file, by its head in the help text.
+takes_file() {
   while IFS= read -r line; do
-    case $line in "= $1 MANIFEST" | "= $1 MANIFEST "*) return 0 ;; esac
+    case $line in "= $1 MANIFEST" | "= $1 MANIFEST "* | "= $1 FILE") return 0 ;; esac
   done <"$home/help.txt"
   return 1
 }
@@ -73,8 +73,14 @@ find_manifest() {
     folder=$1 name=m.json
     [ -e "$1/m.json" ] || say "$1 has no m.json; \`boardnet manifest $1\` writes one"
   else
-    case $1 in */?*) folder=${1%/*}/ name=${1##*/} ;; esac
+    find_file "$1"
   fi
+}
+
+# Sets folder and name to where a copper file lies; folder is empty where it is the current one.
+find_file() {
+  folder='' name=$1
+  case $1 in */?*) folder=${1%/*}/ name=${1##*/} ;; esac
 }
 
 # Sets report to how REPORT is named from the manifest's folder.
@@ -136,9 +142,9 @@ warn_of_nothing() {
 
 # Runs the program with these words, from the manifest's folder, and returns its status.
 run() {
-  if [ $# -ge 2 ] && takes_manifest "$1"; then
+  if [ $# -ge 2 ] && takes_file "$1"; then
     command=$1
-    find_manifest "$2"
+    if [ "$command" = flatten ]; then find_file "$2"; else find_manifest "$2"; fi
     if [ -n "$folder" ] && (CDPATH='' cd -- "$folder") 2>/dev/null; then
       shift 2
       if [ "$command" = audit ] && [ $# = 1 ]; then find_report "$1"; set -- "$report"; fi
@@ -157,6 +163,9 @@ is_tool() {
   [ -f "$home/$1" ] && help_of "$1" >/dev/null
 }
 
+# Whether a tool runs the program.
+needs_program() { [ "$1" = show ] && [ -z "${BOARDNET-}" ]; }
+
 # Runs a tool with Python, which alone wants it.
 tool() {
   command -v python3 >/dev/null 2>&1 || { say "\`boardnet $1\` wants Python 3.8 or later, and there is no python3 on the PATH"; exit 127; }
@@ -173,7 +182,10 @@ front() {
     help) if help_of "${2-}"; then exit 0; fi; help; exit 0 ;;
   esac
   if [ $# = 2 ] && { [ "$2" = --help ] || [ "$2" = -h ]; } && help_of "$1"; then exit 0; fi
-  if is_tool "${1-}"; then tool "$@"; fi
+  if is_tool "${1-}"; then
+    if needs_program "$1"; then ready "$@"; fi
+    tool "$@"
+  fi
   ready "$@"
   run "$@"
   exit $?

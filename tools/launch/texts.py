@@ -5,6 +5,7 @@ tools/help.txt is the one place that has the words. Each section begins with a l
 with the command, the other sections are boardnet, files and status. The first line of a command says what it does.
 """
 import os
+import re
 import sys
 
 TOOLS = os.path.dirname(os.path.dirname(os.path.abspath(__file__)))
@@ -50,7 +51,8 @@ def roff(text):
 
 
 def filled(text):
-    return roff(text).replace("\n\n", "\n.PP\n")
+    """Paragraphs; one that is set in from the left stays as written."""
+    return "\n.PP\n".join(as_written(part.split("\n")) if part.startswith(" ") else roff(part) for part in text.split("\n\n"))
 
 
 def as_written(lines):
@@ -109,35 +111,35 @@ fi
 """
 
 
-def options_of(head):
-    """The options in a head, each with the name of its value or nothing."""
+def options_of(head, text):
+    """The options in a head or in the lines of its page, each with the name of its value or nothing."""
     words = head.replace("[", " ").replace("]", " ").split()
-    return [(word, next(iter(words[at + 1:at + 2]), "")) for at, word in enumerate(words) if word.startswith("--")]
+    found = [(word, next(iter(words[at + 1:at + 2]), "")) for at, word in enumerate(words) if word.startswith("--")]
+    return found + re.findall(r"^  (--[a-z-]+) ([A-Z]*)", text, re.M)
 
 
 def takes_files(head):
-    return any(word in head for word in ("MANIFEST", "FILE", "FOLDER"))
+    return any(word in head for word in ("MANIFEST", "FILE", "FOLDER", "PATH"))
 
 
 def bash():
-    heads = [head for head, _, _ in commands() if is_of_the_installed(head)]
-    names = " ".join(head.split()[0] for head in heads)
-    options = [f'      {head.split()[0]}) COMPREPLY=($(compgen -W "--help {" ".join(name for name, _ in options_of(head))}" -- "$word")) ;;'
-               for head in heads if options_of(head)]
-    none = "|".join(head.split()[0] for head in heads if not takes_files(head))
+    kept = [(head, options_of(head, page)) for head, _, page in commands() if is_of_the_installed(head)]
+    names = " ".join(head.split()[0] for head, _ in kept)
+    options = [f'      {head.split()[0]}) COMPREPLY=($(compgen -W "--help {" ".join(name for name, _ in found)}" -- "$word")) ;;' for head, found in kept if found]
+    none = "|".join(head.split()[0] for head, _ in kept if not takes_files(head))
     text = BASH.replace("@NAMES@", names).replace("@OPTIONS@", "\n".join(options))
     return text.replace("@NONE@", f"      {none}) ;;" if none else "")
 
 
 def zsh():
-    kept = [(head, does) for head, does, _ in commands() if is_of_the_installed(head)]
-    lines = ["  '" + f"{head.split()[0]}:{does}".replace("'", "'\\''") + "'" for head, does in kept]
+    kept = [(head, does, options_of(head, page)) for head, does, page in commands() if is_of_the_installed(head)]
+    lines = ["  '" + f"{head.split()[0]}:{does}".replace("'", "'\\''") + "'" for head, does, _ in kept]
     options = []
-    for head, _ in kept:
+    for head, _, found in kept:
         words = ["'--help[prints the page of the command]'"]
-        words += [f"'{name}[]" + (":file:_files'" if value.isupper() else "'") for name, value in options_of(head)]
+        words += [f"'{name}[]" + (":file:_files'" if value.isupper() else "'") for name, value in found]
         words += ["'*:file:_files'"] if takes_files(head) else []
-        if options_of(head) or not takes_files(head):
+        if found or not takes_files(head):
             options.append(f"    {head.split()[0]}) _arguments {' '.join(words)} ;;")
     return ZSH.replace("@COMMANDS@", "\n".join(lines)).replace("@OPTIONS@", "\n".join(options))
 

@@ -22,11 +22,8 @@ def files_of(archive):
     return found
 
 
-def unpack(path):
-    """Writes the archive's files to the folder of the archive's name without its ending, and returns that folder."""
-    folder = os.path.splitext(path)[0]
-    if folder == path or os.path.exists(folder):
-        raise Refused(f"{shown(folder)} is there already: move it away, or give the folder itself")
+def extract(path, folder):
+    """Writes the archive's files to a new folder."""
     try:
         with zipfile.ZipFile(path) as archive:
             found = files_of(archive)
@@ -37,4 +34,12 @@ def unpack(path):
                     file.write(source.read(MOST_BYTES + 1))
     except (zipfile.BadZipFile, NotImplementedError, RuntimeError, EOFError) as error:
         raise Refused(f"{shown(path)} is no zip archive that can be opened ({error})") from None
+
+
+def unpack(path):
+    """Writes the archive's files to the folder of the archive's name without its ending, and returns that folder."""
+    folder = os.path.splitext(path)[0]
+    if folder == path or os.path.exists(folder):
+        raise Refused(f"{shown(folder)} is there already: move it away, or give the folder itself")
+    extract(path, folder)
     return folder

@@ -11,7 +11,7 @@ NET = "P  UNITS CUST 1\n327A                                  A01X+000000Y+00000
 HEAD = "%FSLAX46Y46*%\n%MOMM*%\n"
 PAD = HEAD + "%ADD10C,1.0*%\nD10*\nX0Y0D03*\nM02*\n"
 MIXED = "M48\n; DRILL file {KiCad 6.0.11}\n; FORMAT={-:-/ absolute / metric / decimal}\n; #@! TF.FileFunction,WHICH\nMETRIC\n%\nM30\n"
-FAR = HEAD + "%ADD10C,10.0*%\nD10*\nX0Y45000000D03*\nX296000000Y5000000D03*\nM02*\n"
+FAR = HEAD + "%ADD10C,10.0*%\nD10*\nX0Y45000000D03*\nX996000000Y5000000D03*\nM02*\n"
 REPORT = "boardnet 1\r\npieces 0\r\n"
 
 # What the message begins with, up to its place, and the files that make it; audit where there is a report.
@@ -30,6 +30,7 @@ ROWS = {
     "F_Cu.gbr: Gerber 11 Arc": {"F_Cu.gbr": HEAD + "%ADD10C,0.2*%\nD10*\nG75*\nG02*\nX1Y1I1J0D01*\nM02*\n"},
     "F_Cu.gbr: Gerber 10 ClearPolarity": {"F_Cu.gbr": HEAD + "%LPC*%\nM02*\n"},
     "F_Cu.gbr: Gerber 25 WrongLayer": {"F_Cu.gbr": "%TF.FileFunction,Copper,L2,Bot*%\n" + PAD},
+    "F_Cu.gbr: label at command": {"F_Cu.gbr": HEAD + "%TO.N," + "N" * 201 + PAD.replace(HEAD, "*%\n")},
     "n.ipc: netlist 3 MissingUnits": {"n.ipc": "C made by hand\n" + NET.split("\n", 1)[1]},
     "n.ipc: netlist 10 NotEnded": {"n.ipc": NET.replace("999\n", "")},
     "differs": {"n.ipc": NET.replace("X+000000", "X+005000")},
@@ -43,6 +44,13 @@ def printed():
     with open(GUIDE, encoding="utf-8") as file:
         part = file.read().split("### Messages and ways out")[1].split("\n## ")[0]
     return re.findall(r"^\| `boardnet: ([^`]*)` \|", part, re.M)
+
+
+def words_for(head, files):
+    """The words that print the message: a label is read by `x2` alone."""
+    if "label" in head:
+        return ["x2", "m.json"]
+    return ["audit", "m.json", "r.txt"] if "r.txt" in files else ["check", "m.json"]
 
 
 class Guide(common.Case):
@@ -62,8 +70,7 @@ class Guide(common.Case):
                 del whole["m.json"]
             for name, text in whole.items():
                 self.write(f"{folder}/{name}", text)
-            words = ["audit", "m.json", "r.txt"] if "r.txt" in files else ["check", "m.json"]
-            _, _, notes = self.run_words([program, *words], self.path(folder))
+            _, _, notes = self.run_words([program, *words_for(head, files)], self.path(folder))
             message = next(it for it in printed() if it.startswith(head))
             with self.subTest(head=head):
                 self.assertEqual(notes, f"boardnet: {message}\n")

@@ -51,6 +51,10 @@ class Launcher(common.Case):
             ("audit m.json ../r.txt", "here/there", there, "audit m.json ../r.txt"),
             ("trial 1 100", "here", here, "trial 1 100"),
             ("write there", "here", there, "write m.json"),
+            ("gaps there 100000", "here", there, "gaps m.json 100000"),
+            ("flatten there/top.gbr", "here", there, "flatten top.gbr"),
+            ("flatten top.gbr", "here", here, "flatten top.gbr"),
+            ("x2 there", "here", there, "x2 m.json"),
             ("other there/m.json", "here", here, "other there/m.json"),
             ("check", "here", here, "check"),
         ]
@@ -119,7 +123,7 @@ class Launcher(common.Case):
     def test_help(self):
         status, out, _ = self.launch("--help")
         self.assertEqual(status, 0)
-        for command in ("check", "audit", "trial", "write", "manifest", "install"):
+        for command in ("check", "audit", "trial", "write", "flatten", "x2", "gaps", "manifest", "show", "install"):
             self.assertIn(f"  boardnet {command} ", out)
             for words in ([command, "--help"], ["help", command], [command, "-h"]):
                 status, page, _ = self.launch(*words)
@@ -143,6 +147,14 @@ class Launcher(common.Case):
         self.assertIn("rt is not on the PATH", notes)
         with open(os.path.join(common.TOOLS, "toolchain")) as file:
             self.assertIn(file.read().strip(), notes)
+        self.assertEqual(self.launch("show", "there", PATH=tools, BOARDNET="")[0], 127)
+        self.assertEqual(self.launch("show", "--help")[0], 0)
+
+    def test_show_runs_the_program(self):
+        status, out, _ = self.launch("show", "there", BOARDNET="")
+        self.assertEqual((status, "NOTHING WAS JUDGED: a line of the report is missing or broken" in out), (12, True))
+        status, out, _ = self.launch("show", "there", BOARDNET="", STAND_IN_STATUS="6")
+        self.assertEqual((status, out), (6, "there: asked for\n"))
 
     def test_tools_want_python(self):
         tools = self.path("bin")

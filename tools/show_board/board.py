@@ -1,0 +1,93 @@
+"""What findings are told about: the report, the files that it speaks of, the netlist's records, and the copper where it is known."""
+from collections import defaultdict
+
+from .touching import Touching
+from .words import millimetres
+
+NO_NET = "N/C"
+
+
+class Board:
+    """`shapes` is None where the copper is not known, `labels` (names of pieces by the files' own labels) where there are none."""
+
+    def __init__(self, package, report, records, shapes=None, labels=None):
+        self.package, self.manifest, self.report = package, package.manifest, report
+        self.records, self.shapes, self.labels = records, shapes, labels or {}
+        self.pieces_of, self.points_of = defaultdict(list), defaultdict(list)
+        for piece, net in enumerate(report.net_of):
+            self.pieces_of[net].append(piece)
+        for point, (*_, net) in enumerate(report.points):
+            self.points_of[net].append(point)
+        self.touching = Touching(shapes, [source[3:] for source in report.sources]) if shapes else None
+
+    # ---- names
+
+    def name(self, number):
+        return self.report.names[number]
+
+    def spoken_name(self, number):
+        return "a pin without net (N/C)" if self.name(number) == NO_NET else self.name(number)
+
+    def name_of(self, point):
+        return self.report.points[point][2]
+
+    # ---- points
+
+    def record(self, point):
+        number = self.report.points[point][0]
+        return self.records[number - 1] if number <= len(self.records) else None
+
+    def pin(self, point):
+        """A point by component and pin, or by its record."""
+        record = self.record(point)
+        if not record or not record.component:
+            return f"test record {self.report.points[point][0]}"
+        if record.component == "VIA":
+            return f"the via of test record {self.report.points[point][0]}"
+        return f"{record.component} pin {record.pin}" if record.pin else record.component
+
+    def spot(self, point):
+        """Where a point lies, in u: by the report, or by the netlist's columns, or None."""
+        if self.report.spots:
+            return self.report.spots[point]
+        record = self.record(point)
+        return (record.x, record.y) if record and None not in (record.x, record.y) else None
+
+    def layer(self, point):
+        return self.report.points[point][1]
+
+    def line(self, point):
+        """The line of the netlist that a point is from."""
+        record = self.record(point)
+        return record.line if record else 0
+
+    def told(self, point):
+        """A point with its layer and place."""
+        spot = self.spot(point)
+        place = f", {self.place(spot)}" if spot else ""
+        return f"{self.pin(point)} ({self.manifest.layer_word(self.layer(point))}{place})"
+
+    # ---- places and pieces
+
+    @staticmethod
+    def place(spot):
+        return f"{millimetres(spot[0])}, {millimetres(spot[1])} mm"
+
+    def copper_place(self, spot, layer):
+        """A place of the copper, rounded to a micrometre: it is where to look."""
+        x, y = (round(v, -4) for v in spot)
+        return f"{self.manifest.layer_word(layer)} ({self.manifest.copper[layer - 1]}) at {self.place((x, y))}"
+
+    def source(self, piece):
+        """Which command or line of which file made a piece."""
+        if not self.report.sources:
+            return f"piece {piece}"
+        file, command, copy, *_ = self.report.sources[piece]
+        name = self.manifest.files[file]
+        word = "line" if self.manifest.is_drilled(file) else "command"
+        flattened = " as flattened" if name in self.package.flattened and not self.manifest.is_drilled(file) else ""
+        return f"{name}{flattened} {word} {command}" + (f" copy {copy}" if copy else "")
+
+    def common_layer(self, p, q):
+        """The first layer that two pieces share."""
+        return max(self.report.sources[p][3], self.report.sources[q][3])

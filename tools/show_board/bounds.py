@@ -1,0 +1,115 @@
+"""A board with copper outside the profile between two boards within it: what holds of both holds of the board.
+
+Each piece of the lower board lies in copper of the board, joined in itself, and the board's copper in pieces of the upper one;
+drills, netlist and names are the same. So what is joined below is joined on the board, and what is joined there is joined above
+(the law `verdicts_decide` of the crate `covers`): no opens and no missing points below and no shorts above make the board agree;
+shorts below, and opens and missing points above, are the board's. What only one of them has is undecided. That the two boards are
+such bounds is not proved: this script makes them, by whole numbers, and its tests compare them with fractions.
+"""
+import os
+import re
+from typing import NamedTuple
+
+from . import UNDECIDED, UNJUDGED, judged, netlist
+from .differing import Differing
+from .exact import Refused
+from .joint import Joint
+from .package import beside
+from .two_sides import Copper
+from .words import counted
+
+# Arc, Macro, Polygon, Hole, OffGrid: what copper files hold that bounds may be given for.
+OUTSIDE = re.compile(r"(.*): Gerber (11|12|14|15|23) |(.*): flatten ")
+SIDES = ("lower", "upper")
+
+
+class Bounded(NamedTuple):
+    """The answer on a board between two; `findings` are (kind, sure, words, places), places (x, y, layer) with x and y in u."""
+
+    status: int
+    line: str
+    findings: list
+    left_out: list
+
+
+class Sides(NamedTuple):
+    """The two packages of a board, with the words' sources by side and file, and what is left out below."""
+
+    packages: tuple
+    sources: tuple
+    left_out: list
+
+
+def is_outside(line):
+    """Whether a refusal is of a kind that bounds can answer."""
+    return bool(OUTSIDE.match(line))
+
+
+def of_package(package):
+    """Both sides of each copper file that holds something outside the profile; the others are the same files."""
+    files, sources, left_out, replaced = ({}, {}), ({}, {}), [], 0
+    for name in dict.fromkeys(package.manifest.copper):
+        try:
+            copper = Copper(package.read(name).decode("latin-1"))
+        except Refused as why:
+            raise Refused(f"{name}: {why}") from None
+        left_out += [f"{name}: {what}" for what in copper.lost]
+        replaced += copper.replaced
+        for side, data, origin in zip(copper.sides, files, sources):
+            if copper.replaced:
+                data[name], origin[name] = side.text().encode("latin-1"), side.sources
+    if any(map(os.path.isabs, files[0])):
+        raise Refused("a copper file is named by its whole path, so it has no copy that could be changed")
+    if not replaced:
+        raise Refused("nothing in the copper files is of a kind that has bounds")
+    made = tuple(package.changed(beside(package, side), data) for side, data in zip(SIDES, files))
+    return Sides(made, sources, left_out)
+
+
+def both_judged(program, sides):
+    """What the program says of both packages, each report audited."""
+    told = []
+    for side, package in zip(SIDES, sides.packages):
+        answer = judged.judge(program, package)
+        if answer.report is None:
+            raise Refused(f"the {side} board: {answer.line}")
+        told.append(answer)
+    return told
+
+
+def answered(program, package, sides, low, high):
+    """The joint answer of two judged packages."""
+    records = netlist.records(package.read(package.manifest.netlist))
+    joint = Joint(low.report, high.report, records, package.manifest)
+    findings = joint.findings()
+    if any(not sure for _, sure, *_ in findings):
+        findings = [*map(Differing(program, low, high, sides.sources).placed, findings)]
+    certain, doubt = (sum(it[1] is sure for it in findings) for sure in (True, False))
+    if joint.agrees():
+        status, word = 0, "agrees"
+    else:
+        status, word = (1, "differs") if certain else (UNDECIDED, "undecided")
+    told = [f"{counted(certain, 'finding')} that both have"] if certain else []
+    told += [f"{counted(doubt, 'finding')} that only one of them has"] if doubt else []
+    line = f"{word}, between two bounds" + (f": {', '.join(told)}" if told else "") + f" (lower {low.line}; upper {high.line})"
+    return Bounded(status, line, [it[:4] for it in findings], sides.left_out)
+
+
+def judge(program, package):
+    """(answer, lower, upper) of a package, made once; Refused where no bounds can be given."""
+    if not package.between:
+        sides = of_package(package)
+        low, high = both_judged(program, sides)
+        package.between = answered(program, package, sides, low, high), low, high
+    return package.between
+
+
+def bounded(program, told):
+    """The answer on a refused package whose copper is outside the profile, or None where bounds have nothing to say."""
+    if told.status != 3 or not told.package.manifest or not is_outside(told.line):
+        return None
+    try:
+        answer, _, high = judge(program, told.package)
+    except Refused as why:
+        return Bounded(3, f"{told.line}; no bounds: {why}", [], [])
+    return answer if high.report.points else Bounded(UNJUDGED, judged.NOTHING, [], [])

@@ -1,0 +1,95 @@
+"""The findings of a report, each with its words: opens, shorts, and test points without copper."""
+from . import shorts, words
+from .board import NO_NET
+from .nearest import NearestCopper, NearestPoints, Stacked
+
+
+class Finding:
+    """kind and number are its name for good; `name` is the net name that it is listed under, `words` what is so, `hints` where to look.
+
+    `points` are the test points that it speaks of, the first one leads; `nets` those of the copper; `parts` the points on both
+    parts of an open and `gap` their nearest copper, `meets` the places where a short's names meet.
+    """
+
+    def __init__(self, kind, number, name, told, points, **more):
+        self.kind, self.number, self.name, self.words, self.points = kind, number, name, told, points
+        self.hints, self.nets = more.get("hints", []), more.get("nets", [])
+        self.gap, self.meets, self.names = more.get("gap"), more.get("meets", []), more.get("names", [])
+        self.parts = more.get("parts", [])
+
+    @property
+    def id(self):
+        return f"{self.kind}-{self.number}"
+
+    def text(self):
+        return " ".join([self.words, *self.hints])
+
+
+class Opens:
+    """Each open: a part of a name that stands apart from the name's home."""
+
+    def __init__(self, board):
+        self.board, self.points = board, NearestPoints(board)
+        self.copper, self.stacked = NearestCopper(board), Stacked(board)
+        self.parts = {}
+        for name, *_ in board.report.opens:
+            self.parts[name] = self.parts.get(name, 1) + 1
+
+    def gap(self, home, other, here):
+        """Where to look: a lost hole, or the nearest copper."""
+        if not self.board.shapes:
+            return None
+        return self.stacked.gap(other, home, self.board.spot(here)) or self.copper.gap(other, home)
+
+    def finding(self, number, name, home, other, point):
+        board, here, there, away = self.board, point, self.points.members[name, home][0], ""
+        if board.spot(here) and board.spot(there):
+            squared, there, here = self.points.pair(name, home, other)
+            away = f", {words.at_most(squared ** 0.5)} mm away" if squared else ", at the same place"
+        parts = [self.points.members[name, net] for net in (other, home)]
+        told = f"{board.told(here)} is not joined to {board.told(there)}{away}; {board.spoken_name(name)} is in {self.parts[name]} parts, "
+        told += f"here {extent(board, parts[0])}, there {extent(board, parts[1])}."
+        gap = self.gap(home, other, here)
+        more = {"gap": gap, "hints": open_hints(board, gap), "names": [name], "parts": parts}
+        return Finding("open", number, board.name(name), told, [here, there], nets=[other, home], **more)
+
+    def all(self):
+        return [self.finding(number, *it) for number, it in enumerate(self.board.report.opens)]
+
+
+def extent(board, members):
+    """Which pins of the name are on a part, those of components before vias."""
+    pins = dict.fromkeys(board.pin(point) for point in members)
+    return words.spoken(sorted(pins, key=lambda pin: pin.startswith(("the via", "test record"))), 4)
+
+
+def open_hints(board, gap):
+    if gap is None:
+        return ["Suggestion: the two parts have no copper on one layer; look for a hole that should join them."] if board.shapes else []
+    where = board.copper_place(gap.place, gap.layer)
+    if gap.below:
+        return [f"Suggestion: a hole is missing where both parts have copper, on {where} and on {board.manifest.layer_word(gap.below)}."]
+    return [f"Suggestion: their copper comes nearest, {words.at_most(max(gap.distance, 0))} mm, on {where}."]
+
+
+def missing(board):
+    """Each test point without copper."""
+    for number, point in enumerate(board.report.bare):
+        name = board.name_of(point)
+        of = "of no net" if board.name(name) == NO_NET else f"of {board.name(name)}"
+        layer = board.manifest.copper[board.layer(point) - 1]
+        told = f"no copper of {layer} lies under {board.told(point)}, {of}."
+        yield Finding("missing", number, board.name(name), told, [point], names=[name])
+
+
+def all_findings(board):
+    return [*Opens(board).all(), *shorts.findings(board, Finding), *missing(board)]
+
+
+def flood(board):
+    """A sentence where most points have no copper, so that what follows has one cause, else nothing."""
+    bare, points = len(board.report.bare), len(board.report.points)
+    if bare < 4 or 2 * bare <= points:
+        return ""
+    return (f"{bare} of {points} test points lie beside the copper. Such a flood has one cause: the netlist and the copper count from other "
+            "origins or in other units, layers are in another order, or the netlist is of another board. See to that first.")

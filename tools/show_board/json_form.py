@@ -1,0 +1,74 @@
+"""The findings as JSON (docs/USING.md, "The JSON form"). Lengths are millimetres, exact."""
+import json
+
+from .board import NO_NET
+
+FORM = 1
+# As many points of a part of an open are told.
+MOST_OF_A_PART = 12
+
+
+def mm(u):
+    """A number whose decimal text is exact: u has at most eleven digits."""
+    return u / 10_000_000
+
+
+def place(spot, layer=None):
+    told = {"x": mm(spot[0]), "y": mm(spot[1])} if spot else {"x": None, "y": None}
+    return {**told, "layer": layer} if layer else told
+
+
+def point(board, number):
+    record, layer, name, net = board.report.points[number]
+    found = board.record(number)
+    return {"point": number, "record": record, "line": board.line(number), "component": found.component if found else "",
+            "pin": found.pin if found else "", "name": board.name(name), "net": net if net >= 0 else None,
+            **place(board.spot(number), layer)}
+
+
+def piece(board, number):
+    if not board.report.sources:
+        return {"piece": number}
+    file, command, copy, top, bottom = board.report.sources[number]
+    word = "line" if board.manifest.is_drilled(file) else "command"
+    return {"piece": number, "file": board.manifest.files[file], word: command, "copy": copy, "top": top, "bottom": bottom,
+            **({"label": board.labels[number]} if number in board.labels else {})}
+
+
+def meet(board, found):
+    pieces = [{**piece(board, number), "of": found.names[0] if at <= found.near else found.names[1] if at >= found.far else None}
+              for at, number in enumerate(found.chain)]
+    return {"names": list(found.names), **place(found.place, found.layer), "touch": [piece(board, number) for number in found.touch],
+            "between": [piece(board, number) for number in found.between], "path": pieces}
+
+
+def finding(board, it):
+    told = {"id": it.id, "kind": it.kind, "names": [board.name(name) for name in it.names], "words": it.words, "hints": it.hints,
+            "points": [point(board, number) for number in it.points], "nets": it.nets}
+    if it.parts:
+        told["parts"] = [{"count": len(part), "points": [point(board, number) for number in part[:MOST_OF_A_PART]]} for part in it.parts]
+    if it.gap:
+        told["gap"] = {"distance": round(mm(max(it.gap.distance, 0)), 6), **place(it.gap.place, it.gap.layer), "below": it.gap.below}
+    if it.kind == "short":
+        told["labelled"], told["meets"] = it.is_labelled, [meet(board, found) for found in it.meets]
+    return told
+
+
+def board_of(shown):
+    """One board."""
+    told = {"path": shown.path, "status": shown.status, "line": shown.line, "notes": shown.notes,
+            "hints": [hint._asdict() for hint in shown.hints]}
+    if shown.bounds:
+        told["bounds"] = {"findings": [{"kind": kind, "sure": sure, "words": words, "places": [place((x, y), layer) for x, y, layer in places]}
+                                       for kind, sure, words, places in shown.bounds.findings], "left_out": list(shown.bounds.left_out)}
+    if not shown.board:
+        return told
+    board = shown.board
+    unnamed = sum(board.name(name) == NO_NET for _, _, name, _ in board.report.points)
+    return {**told, "audit": shown.audit, "copper": board.manifest.copper, "drills": [name for name, _, _ in board.manifest.drills],
+            "netlist": board.manifest.netlist, "pieces": board.report.pieces, "points": len(board.report.points), "unnamed_points": unnamed,
+            **shown.counts(), "flood": shown.flood, "findings": [finding(board, it) for it in shown.findings]}
+
+
+def text(all_shown):
+    return json.dumps({"boardnet_show": FORM, "boards": [board_of(shown) for shown in all_shown]}, indent=1) + "\n"

@@ -1,0 +1,37 @@
+"""The findings as JUnit's XML: a suite a board, a case a net name, which fails where a finding is listed under it."""
+from xml.sax.saxutils import escape, quoteattr
+
+from .lines import summary
+
+
+def case(shown, name, failures):
+    told = "\n".join(f"{it.id}: {it.text()}" for it in failures)
+    head = f'  <testcase classname={quoteattr(shown.title)} name={quoteattr(name)}'
+    if not failures:
+        return head + "/>"
+    message = quoteattr(f"{', '.join(it.id for it in failures)}")
+    return f"{head}><failure message={message}>{escape(told)}</failure></testcase>"
+
+
+def whole(shown):
+    """A suite of one case, where names are not told one by one: it passes, fails or is an error as the board's status says."""
+    word = {0: "", 1: "failure"}.get(shown.status, "error")
+    head = f'<testsuite name={quoteattr(shown.title)} tests="1" failures="{int(word == "failure")}" errors="{int(word == "error")}">'
+    inner = f"<{word} message={quoteattr(summary(shown))}>{escape(shown.line)}</{word}>" if word else ""
+    return [head, f'  <testcase classname={quoteattr(shown.title)} name="check">{inner}</testcase>', "</testsuite>"]
+
+
+def suite(shown):
+    if not shown.board or shown.status not in (0, 1):
+        return whole(shown)
+    failures = {}
+    for it in shown.findings:
+        for name in it.names:
+            failures.setdefault(name, []).append(it)
+    cases = [case(shown, name, failures.get(number, [])) for number, name in enumerate(shown.board.report.names)]
+    return [f'<testsuite name={quoteattr(shown.title)} tests="{len(cases)}" failures="{len(failures)}" errors="0">', *cases, "</testsuite>"]
+
+
+def text(all_shown):
+    rows = [row for shown in all_shown for row in suite(shown)]
+    return "\n".join(['<?xml version="1.0" encoding="UTF-8"?>', "<testsuites>", *rows, "</testsuites>", ""])

@@ -1,0 +1,77 @@
+"""Findings as lines: grouped by name for a reader, one a line for `grep`."""
+from . import UNJUDGED
+from .words import counted
+
+MOST = 20
+
+
+def heading(shown):
+    return f"{shown.path}: {shown.line}"
+
+
+def summary(shown):
+    """One line of a batch."""
+    return heading(shown).split("\n")[0]
+
+
+def notes(shown):
+    """What is told before the findings."""
+    told = [*shown.notes, *([shown.flood] if shown.flood else [])]
+    return told + [f"hint: {hint.words}" for hint in shown.hints]
+
+
+def bounded(shown):
+    """The findings of a board between two bounds."""
+    if not shown.bounds:
+        return []
+    rows = [f"  {kind if sure else f'undecided {kind}'}: {told}" for kind, sure, told, _ in shown.bounds.findings]
+    return rows + [f"  left out of the lower bound: {word}" for word in shown.bounds.left_out]
+
+
+def grouped(findings):
+    """The findings by their names, in order of first appearance."""
+    groups = {}
+    for finding in findings:
+        groups.setdefault(finding.name, []).append(finding)
+    return groups
+
+
+def blocks(shown):
+    """The lines of each finding, the first of a name with the name."""
+    for name, members in grouped(shown.findings).items():
+        for at, finding in enumerate(members):
+            head = [name] if at == 0 else []
+            yield head + [f"  {finding.id}: {finding.words}"] + [f"      {hint}" for hint in finding.hints]
+
+
+def reader(shown, is_all):
+    """What is printed of one board: at most twenty lines of findings where not all are wanted."""
+    yield heading(shown) + (f" ({shown.audit})" if shown.audit and shown.status != UNJUDGED else "")
+    yield from notes(shown)
+    yield from cut(bounded(shown), is_all)
+    printed, told = 0, 0
+    for block in blocks(shown):
+        if not is_all and told and printed + len(block) > MOST:
+            break
+        yield from block
+        printed, told = printed + len(block), told + 1
+    left = len(shown.findings) - told
+    if left:
+        yield f"{counted(left, 'further finding')}: --all prints them, --page FILE shows them"
+
+
+def cut(rows, is_all):
+    return rows if is_all or len(rows) <= MOST else [*rows[:MOST], f"{len(rows) - MOST} more lines: --all prints them"]
+
+
+def quiet(shown):
+    """A line `file:line: id: words` for each finding, as editors and CI read them, and one for the board."""
+    if shown.board:
+        netlist = shown.board.package.told_path(shown.board.manifest.netlist)
+        for finding in shown.findings:
+            yield f"{netlist}:{shown.board.line(finding.points[0])}: {finding.id}: {finding.text()}"
+    for row in bounded(shown):
+        yield f"{shown.path}: {row.strip()}"
+    for hint in shown.hints:
+        yield f"{shown.path}: hint: {hint.words}"
+    yield summary(shown)

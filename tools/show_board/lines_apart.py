@@ -1,0 +1,71 @@
+"""Straight lines between whole places: exactly, whether they come within a distance; in floating point, where they are nearest."""
+
+
+def side(a, b, p):
+    """Which side of the line from a to b a place lies on: twice the area of the triangle, with its sign."""
+    return (b[0] - a[0]) * (p[1] - a[1]) - (b[1] - a[1]) * (p[0] - a[0])
+
+
+def is_within(p, a, b, r):
+    """Whether a place lies at most r from the line from a to b."""
+    dx, dy, px, py = b[0] - a[0], b[1] - a[1], p[0] - a[0], p[1] - a[1]
+    along, length = px * dx + py * dy, dx * dx + dy * dy
+    if along <= 0 or not length:
+        return px * px + py * py <= r * r
+    if along >= length:
+        qx, qy = p[0] - b[0], p[1] - b[1]
+        return qx * qx + qy * qy <= r * r
+    cross = px * dy - py * dx
+    return cross * cross <= r * r * length
+
+
+def are_crossing(a, b, c, d):
+    """Whether two lines cross, each with ends strictly on both sides of the other."""
+    return side(a, b, c) * side(a, b, d) < 0 and side(c, d, a) * side(c, d, b) < 0
+
+
+def are_within(a, b, c, d, r):
+    """Whether the lines from a to b and from c to d come within r of each other."""
+    return (is_within(a, c, d, r) or is_within(b, c, d, r) or is_within(c, a, b, r) or is_within(d, a, b, r)
+            or are_crossing(a, b, c, d))
+
+
+def nearest_on(line, place):
+    """The place of a line that is nearest to a place."""
+    (x1, y1), (x2, y2) = line
+    length = (x2 - x1) ** 2 + (y2 - y1) ** 2
+    t = 0 if not length else min(1, max(0, ((place[0] - x1) * (x2 - x1) + (place[1] - y1) * (y2 - y1)) / length))
+    return x1 + t * (x2 - x1), y1 + t * (y2 - y1)
+
+
+def crossing(first, second):
+    """The place where two lines cross, or None."""
+    (a, b), (c, d) = first, second
+    ux, uy, vx, vy = b[0] - a[0], b[1] - a[1], d[0] - c[0], d[1] - c[1]
+    turn = ux * vy - uy * vx
+    if not turn:
+        return None
+    s, t = ((c[0] - a[0]) * vy - (c[1] - a[1]) * vx) / turn, ((c[0] - a[0]) * uy - (c[1] - a[1]) * ux) / turn
+    return (a[0] + s * ux, a[1] + s * uy) if 0 <= s <= 1 and 0 <= t <= 1 else None
+
+
+def between(first, second):
+    """How far apart two lines are, squared, and their nearest places."""
+    cross = crossing(first, second)
+    if cross:
+        return 0, cross, cross
+    found = []
+    for place, line, is_turned in ((first[0], second, False), (first[1], second, False), (second[0], first, True), (second[1], first, True)):
+        foot = nearest_on(line, place)
+        squared = (foot[0] - place[0]) ** 2 + (foot[1] - place[1]) ** 2
+        found.append((squared, foot, place) if is_turned else (squared, place, foot))
+    return min(found)
+
+
+def towards(place, other, by, length):
+    """The place that lies `by` from one place towards another, which is `length` away."""
+    return place[0] + (other[0] - place[0]) * by / (length or 1), place[1] + (other[1] - place[1]) * by / (length or 1)
+
+
+def middle(a, b):
+    return round((a[0] + b[0]) / 2), round((a[1] + b[1]) / 2)

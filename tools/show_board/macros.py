@@ -1,0 +1,182 @@
+"""Aperture macros: expressions over fractions, primitives as real shapes, and their bounds."""
+import re
+from fractions import Fraction as Q
+
+from .exact import Refused, cos_sin, exact, minus, plus, root, times, turned
+from .outlines import convex_bounds, disc_bounds, polygon_bounds
+
+TOKEN = re.compile(r"\$(\d+)|(\d+\.?\d*|\.\d+)|([-+xX/()])")
+
+
+class Expression:
+    """Sums of products of signed values, numbers, variables and brackets."""
+
+    def __init__(self, text, variables):
+        self.variables, self.tokens, at = variables, [], 0
+        text = text.replace(" ", "")
+        while at < len(text):
+            match = TOKEN.match(text, at)
+            if not match:
+                raise Refused(f"macro: no expression: {text}")
+            self.tokens.append(match.groups())
+            at = match.end()
+        self.tokens.append((None, None, ""))
+        self.at = 0
+
+    def sign(self, signs):
+        if self.tokens[self.at][2] and self.tokens[self.at][2] in signs:
+            self.at += 1
+            return self.tokens[self.at - 1][2]
+        return None
+
+    def value(self):
+        total = self.total()
+        if self.at != len(self.tokens) - 1:
+            raise Refused("macro: no expression")
+        return total
+
+    def total(self):
+        total = self.product()
+        while True:
+            sign = self.sign("+-")
+            if sign is None:
+                return total
+            total += self.product() if sign == "+" else -self.product()
+
+    def product(self):
+        value = self.factor()
+        while True:
+            sign = self.sign("xX/")
+            if sign is None:
+                return value
+            other = self.factor()
+            if sign != "/":
+                value *= other
+            elif other == 0:
+                raise Refused("macro: division by 0")
+            else:
+                value /= other
+
+    def factor(self):
+        sign = self.sign("+-(")
+        if sign == "(":
+            value = self.total()
+            if self.sign(")") is None:
+                raise Refused("macro: no expression")
+            return value
+        if sign:
+            return self.factor() if sign == "+" else -self.factor()
+        variable, number, _ = self.tokens[self.at]
+        if variable is None and number is None:
+            raise Refused("macro: no expression")
+        self.at += 1
+        return Q(number) if number else self.variables.get(int(variable), Q(0))
+
+
+def rectangle(left, low, right, high):
+    return [(exact(x), exact(y)) for x, y in ((left, low), (right, low), (right, high), (left, high))]
+
+
+def vector_line(w, x1, y1, x2, y2):
+    """Flat ends; the half width to each side along the normal, which is an interval where the length is no fraction."""
+    dx, dy = x2 - x1, y2 - y1
+    low, high = root(dx * dx + dy * dy)
+    share = (w / 2 / high, w / 2 / low)
+    nx, ny = times(share, exact(-dy)), times(share, exact(dx))
+    at = lambda x, y, sign: (plus(exact(x), nx if sign > 0 else minus(nx)), plus(exact(y), ny if sign > 0 else minus(ny)))
+    return [at(x1, y1, -1), at(x2, y2, -1), at(x2, y2, 1), at(x1, y1, 1)]
+
+
+def regular(n, x, y, d, first=0):
+    """Corners on the circle of diameter d about (x, y), the first one at the angle `first`."""
+    out = []
+    for k in range(n):
+        c, s = cos_sin(Q(360 * k, n) + first)
+        out.append((plus(exact(x), times(exact(d / 2), c)), plus(exact(y), times(exact(d / 2), s))))
+    return out
+
+
+COUNTS = {1: (5, 6), 2: (8,), 20: (8,), 21: (7,), 22: (7,), 5: (7,)}
+
+
+def figures(body, parameters, scale):
+    """The real shapes of a macro's body: ("disc", centre, radius), ("convex", corners) or ("outline", corners), turned, in u."""
+    variables = {k + 1: value for k, value in enumerate(parameters)}
+    for word in body:
+        word = re.sub(r"\s", "", word)
+        if not word or word.startswith("0"):
+            continue
+        match = re.fullmatch(r"\$(\d+)=(.*)", word)
+        if match:
+            variables[int(match[1])] = Expression(match[2], variables).value()
+            continue
+        values = [Expression(part, variables).value() for part in word.split(",")]
+        figure = primitive(values, scale)
+        if figure:
+            yield figure
+
+
+def primitive(values, scale):
+    code = values[0]
+    if code in (6, 7):
+        raise Refused("macro: moire" if code == 6 else "macro: thermal")
+    if code != 4 and (code not in COUNTS or len(values) not in COUNTS[code]):
+        raise Refused(f"macro: no primitive {code} with {len(values) - 1} values")
+    if len(values) < 2 or values[1] != 1:
+        raise Refused("macro: exposure off" if len(values) > 1 and values[1] == 0 else "macro: exposure not 1")
+    u = [v * scale for v in values]
+    turn = cos_sin(values[-1]) if code != 1 or len(values) == 6 else cos_sin(0)
+    if code == 1:
+        return sized(u[2]) and ("disc", turned((exact(u[3]), exact(u[4])), turn), u[2] / 2)
+    kind, corners = "convex", None
+    if code in (2, 20):
+        if sized(u[2]) and u[3:5] != u[5:7]:
+            corners = vector_line(*u[2:7])
+    elif code == 21:
+        if sized(u[2]) and sized(u[3]):
+            corners = rectangle(u[4] - u[2] / 2, u[5] - u[3] / 2, u[4] + u[2] / 2, u[5] + u[3] / 2)
+    elif code == 22:
+        if sized(u[2]) and sized(u[3]):
+            corners = rectangle(u[4], u[5], u[4] + u[2], u[5] + u[3])
+    elif code == 5:
+        if values[2] not in range(3, 13):
+            raise Refused("macro: polygon of no 3 to 12 corners")
+        if sized(u[5]):
+            corners = regular(int(values[2]), u[3], u[4], u[5])
+    else:
+        kind, corners = "outline", outline(values, u)
+    return corners and (kind, [turned(p, turn) for p in corners])
+
+
+def sized(length):
+    if length < 0:
+        raise Refused("macro: a size under 0")
+    return length > 0
+
+
+def outline(values, u):
+    n = values[2] if len(values) > 2 else 0
+    if n != int(n) or not 3 <= n <= 5000 or len(values) != 2 * n + 6:
+        raise Refused("macro: outline with another count of corners")
+    spots = list(zip(u[3:-1:2], u[4:-1:2]))
+    if spots[0] != spots[-1]:
+        raise Refused("macro: outline not closed")
+    spots = [p for p, q in zip(spots, spots[1:]) if p != q]
+    return [(exact(x), exact(y)) for x, y in spots] if len(spots) > 2 else None
+
+
+def bounds_of(figure):
+    if figure[0] == "disc":
+        return disc_bounds(figure[1], figure[2])
+    return (convex_bounds if figure[0] == "convex" else polygon_bounds)(figure[1])
+
+
+def macro_bounds(body, parameters, scale):
+    """Pieces of LOWER and UPPER about the macro's origin, and how many figures LOWER leaves out."""
+    lower, upper, lost = [], [], 0
+    for figure in figures(body, parameters, scale):
+        low, high = bounds_of(figure)
+        lower += low
+        upper += high
+        lost += not low
+    return lower, upper, lost

@@ -1,0 +1,169 @@
+"""A board's files in a scratch folder, from a folder, a zip archive or a manifest. Nothing is written beside the user's files."""
+import os
+import shutil
+import zipfile
+
+from manifest_files import Refused, archives
+from manifest_files import package as gathered
+
+from . import UNCLEAR, Stop, manifest
+
+UNREADABLE = 4
+
+
+class Package:
+    """The files under their own names in `folder`; `manifest` is None where `name` is no manifest."""
+
+    def __init__(self, told, folder, name="m.json"):
+        self.manifest, self.folder, self.name = told, folder, name
+        # Copper files that `flatten` rewrote, and what it said of those that it refused.
+        self.flattened, self.outside = set(), {}
+        # What was left out and what was guessed, in words, where the manifest was made here.
+        self.left_out, self.guessed = [], []
+        # What the two packages say between which it lies, once they are made.
+        self.between = None
+        # How the files are called where the user has them.
+        self.home = ""
+
+    def path(self, name):
+        return os.path.join(self.folder, name)
+
+    def read(self, name):
+        with open(self.path(name), "rb") as file:
+            return file.read()
+
+    def put(self, name, data):
+        """Replaces a file in the scratch folder; what a link leads to stays as it is."""
+        if os.path.isabs(name):
+            raise Stop(UNREADABLE, f"{name}: only files beside the manifest can be changed in a copy")
+        path = self.path(name)
+        os.makedirs(os.path.dirname(path), exist_ok=True)
+        if os.path.lexists(path):
+            os.remove(path)
+        with open(path, "wb") as file:
+            file.write(data)
+
+    def link(self, name, source):
+        """Has a file under its name by a link, or not at all where there is none: then `check` says so."""
+        path = self.path(name)
+        if os.path.isabs(name) or os.path.lexists(path) or not os.path.exists(source):
+            return
+        os.makedirs(os.path.dirname(path), exist_ok=True)
+        os.symlink(os.path.abspath(source), path)
+
+    def changed(self, folder, files=None, told=None):
+        """Another package of the same files but for those that are given, in a folder of its own."""
+        copy = Package(told or self.manifest, folder, self.name)
+        copy.flattened, copy.home = set(self.flattened) - set(files or ()), self.home
+        os.makedirs(folder)
+        for name, data in (files or {}).items():
+            copy.put(name, data)
+        for name in copy.manifest.names():
+            copy.link(name, self.path(name))
+        copy.put(self.name, copy.manifest.text().encode())
+        return copy
+
+    def told_path(self, name):
+        """A file as the caller would open it."""
+        return os.path.join(self.home, name)
+
+
+def inner(scratch, names):
+    """A folder so deep in the scratch folder that names with `..` stay in it."""
+    deep = max([name.split("/").count("..") for name in names], default=0)
+    return os.path.join(scratch, *["in"] * deep, "board")
+
+
+def room(scratch, names):
+    """Such a folder, made."""
+    folder = inner(scratch, names)
+    os.makedirs(folder)
+    return folder
+
+
+def beside(package, word):
+    """A folder for a changed copy of a package, in a folder of its own beside that of the package; it is not there yet."""
+    number = 0
+    while os.path.exists(f"{package.folder}.{word}{number}"):
+        number += 1
+    return inner(f"{package.folder}.{word}{number}", package.manifest.names())
+
+
+def of_manifest(path, scratch):
+    """The package of a manifest that is there."""
+    try:
+        with open(path, "rb") as file:
+            data = file.read()
+    except OSError as error:
+        raise Stop(UNREADABLE, f"{path}: {error.strerror}") from None
+    told = manifest.of_text(data)
+    home, name = os.path.dirname(path), os.path.basename(path)
+    package = Package(told, room(scratch, told.names() if told else []), name)
+    package.home = home
+    package.put(name, data)
+    for each in told.names() if told else []:
+        package.link(each, os.path.join(home, each))
+    return package
+
+
+def of_folder(home, asked, scratch):
+    """The package of a folder without a manifest, by what the files say of themselves."""
+    found = gathered.gather(home)
+    try:
+        plan = gathered.Plan(found, asked.netlist, asked.no_drills)
+    except Refused as why:
+        left_out = "".join(f"\n  left out: {name}: {reason}" for name, reason in found.left_out)
+        raise Stop(UNCLEAR, f"{why}{left_out}") from None
+    guessed = [f"{name} as {what}: {why}" for name, what, why in plan.guessed]
+    if guessed and not asked.yes:
+        raise Stop(UNCLEAR, "the files do not say all of what they are: if this is right, say --yes; else write m.json by hand"
+                   + "".join(f"\n  would be taken: {word}" for word in guessed))
+    told = manifest.Manifest(plan.manifest)
+    package = Package(told, room(scratch, told.names()))
+    package.home, package.guessed = home, guessed
+    package.left_out = [f"{name}: {why}" for name, why in found.left_out]
+    package.put("m.json", told.text().encode())
+    for name in told.names():
+        package.link(name, os.path.join(home, name))
+    return package
+
+
+def unpacked(path, scratch):
+    """The folder of a zip archive's files, in the scratch folder."""
+    folder = os.path.join(scratch, "unpacked")
+    archives.extract(path, folder)
+    return folder
+
+
+def opened(path, asked, scratch):
+    """The package of a folder, a zip archive or a manifest."""
+    try:
+        if os.path.isfile(path) and zipfile.is_zipfile(path):
+            package = opened(unpacked(path, scratch), asked, scratch)
+            package.home = path
+            return package
+        if not os.path.isdir(path):
+            return of_manifest(path, scratch)
+        if os.path.exists(os.path.join(path, "m.json")):
+            return of_manifest(os.path.join(path, "m.json"), scratch)
+        return of_folder(path, asked, scratch)
+    except Refused as why:
+        raise Stop(UNCLEAR, str(why)) from None
+    except OSError as error:
+        raise Stop(UNREADABLE, f"{error.filename}: {error.strerror}") from None
+
+
+def keep(package, report, folder):
+    """Copies the package as it was judged, and its report, to a folder that must not be there yet."""
+    if os.path.exists(folder):
+        raise Stop(5, f"{folder} is there already: --keep wants a new folder")
+    try:
+        shutil.copytree(package.folder, folder)
+        with open(os.path.join(folder, "report.txt"), "wb") as file:
+            file.write(report)
+    except OSError as error:
+        shutil.rmtree(folder, ignore_errors=True)
+        raise Stop(5, f"{folder}: {error.strerror}: cannot be written") from None
+    except BaseException:
+        shutil.rmtree(folder, ignore_errors=True)
+        raise

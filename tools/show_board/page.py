@@ -1,0 +1,207 @@
+"""The page: one HTML file with all that it needs, and nothing fetched.
+
+The board's data are one block: a head in JSON, then columns of whole numbers, little endian, packed by zlib and written in
+base64. Lengths in it are nanometres. The browser unpacks it; the findings stand in the HTML itself, so that they can be read,
+searched and printed without it.
+"""
+import base64
+import hashlib
+import html
+import json
+import os
+import sys
+import zlib
+from array import array
+
+from .words import counted
+
+HERE = os.path.dirname(os.path.abspath(__file__))
+TITLES = {"open": "Opens", "short": "Shorts", "missing": "Points without copper"}
+# As the marks in the picture.
+SIGNS = {"open": "\u2296", "short": "\u2715", "missing": "\u25a1"}
+# So many findings of a kind stand open, the further ones in folds; their suggestions stand in the data alone, which is packed.
+OPEN, FOLD = 300, 500
+
+
+def asset(name):
+    with open(os.path.join(HERE, name), encoding="utf-8") as file:
+        return file.read()
+
+
+def script():
+    parts = "\n".join(asset(name) for name in ("data.js", "draw.js", "chosen.js", "act.js"))
+    return f'"use strict";\n(async () => {{\n{parts}}})();\n'
+
+
+def nanometres(u):
+    return (u + 5) // 10
+
+
+def steps(numbers):
+    """Each number less the one before it: neighbours in a file are near each other, and pack well."""
+    before, out = 0, []
+    for number in numbers:
+        out.append(number - before)
+        before = number
+    return out
+
+
+class Columns:
+    """Named columns of whole numbers, each of as many bytes as it wants, as byte planes, lowest first."""
+
+    def __init__(self):
+        self.heads, self.parts = [], []
+
+    def add(self, name, numbers):
+        numbers = list(numbers)
+        least, most = min(numbers, default=0), max(numbers, default=0)
+        packed = array("b" if -128 <= least and most < 128 else "h" if -32_768 <= least and most < 32_768 else "i", numbers)
+        if sys.byteorder == "big":
+            packed.byteswap()
+        data, width = packed.tobytes(), packed.itemsize
+        self.heads.append([name, width, len(packed)])
+        self.parts += [data[plane::width] for plane in range(width)]
+
+    def add_steps(self, name, numbers):
+        self.add(name, steps(numbers))
+
+
+def sides_of(findings, pieces):
+    """For each piece on a short the number, from 1, of its name among the finding's sides, else 0; and the sides of each finding."""
+    column, names = [0] * pieces, {}
+    for finding in findings:
+        if finding.kind == "short":
+            order = list(dict.fromkeys(name for meet in finding.meets for name in meet.names))
+            order += sorted(set(finding.sides.values()) - set(order))
+            number = {name: k for k, name in enumerate(order, 1)}
+            names[finding.id] = order
+            for piece, name in finding.sides.items():
+                column[piece] = number[name]
+    return column, names
+
+
+def columns_of(board, sides):
+    shapes, report, columns = board.shapes, board.report, Columns()
+    starts = shapes.start
+    columns.add("counts", [starts[k + 1] - starts[k] for k in range(len(shapes))])
+    columns.add("radii", [nanometres(r) if r >= 0 else -1 for r in shapes.radius])
+    columns.add_steps("xs", map(nanometres, shapes.x))
+    columns.add_steps("ys", map(nanometres, shapes.y))
+    columns.add_steps("nets", report.net_of)
+    columns.add_steps("sides", sides)
+    for place, name in enumerate(("pieceFiles", "commands", "copies", "tops", "bottoms")):
+        columns.add_steps(name, (source[place] for source in report.sources))
+    columns.add_steps("pointXs", (nanometres(x) for x, _ in report.spots))
+    columns.add_steps("pointYs", (nanometres(y) for _, y in report.spots))
+    for place, name in enumerate(("pointRecords", "pointLayers", "pointNames", "pointNets")):
+        columns.add_steps(name, (point[place] for point in report.points))
+    return columns
+
+
+def distinct(texts):
+    """The distinct texts, and which one each is."""
+    numbers = {}
+    which = [numbers.setdefault(text, len(numbers)) for text in texts]
+    return list(numbers), which
+
+
+def place(spot):
+    return [nanometres(round(spot[0])), nanometres(round(spot[1]))]
+
+
+def meet_data(meet, sides):
+    x, y = place(meet.place)
+    return {"first": sides.index(meet.names[0]), "second": sides.index(meet.names[1]), "chain": meet.chain, "near": meet.near, "far": meet.far,
+            "x": x, "y": y, "layer": meet.layer}
+
+
+def finding_data(finding, sides):
+    told = {"id": finding.id, "points": finding.points, "nets": finding.nets, "hints": finding.hints}
+    if finding.gap:
+        gap = finding.gap
+        told["gap"] = [*place(gap.place), gap.layer, nanometres(round(max(gap.distance, 0))), gap.below]
+    if finding.kind == "short":
+        told["sides"] = sides[finding.id]
+        told["meets"] = [meet_data(meet, sides[finding.id]) for meet in finding.meets]
+    return told
+
+
+def block(board, findings):
+    """The data, packed."""
+    manifest, (column, sides) = board.manifest, sides_of(findings, board.report.pieces)
+    columns = columns_of(board, column)
+    components, which_component = distinct(record.component for record in board.records)
+    pins, which_pin = distinct(record.pin for record in board.records)
+    columns.add_steps("recordLines", (record.line for record in board.records))
+    columns.add_steps("recordComponents", which_component)
+    columns.add_steps("recordPins", which_pin)
+    head = json.dumps({
+        "files": manifest.files, "copper": manifest.layers, "netlist": manifest.netlist, "flattened": sorted(board.package.flattened),
+        "layers": [manifest.layer_word(k + 1) for k in range(manifest.layers)], "names": board.report.names, "netCount": board.report.nets,
+        "components": components, "pins": pins, "findings": [finding_data(finding, sides) for finding in findings], "columns": columns.heads,
+    }, separators=(",", ":")).encode()
+    raw = len(head).to_bytes(4, "little") + head + b"".join(columns.parts)
+    return base64.b64encode(zlib.compress(raw, 9)).decode()
+
+
+def row(finding, is_hinted):
+    hints = "".join(f'<p class="hint">{html.escape(hint)}</p>' for hint in finding.hints) if is_hinted else ""
+    return (f'<li id="{finding.id}" class="{finding.kind}"><a href="#{finding.id}"><b>{finding.kind} {finding.number}</b> '
+            f"{html.escape(finding.words)}</a>{hints}</li>")
+
+
+def rows(findings, is_hinted):
+    return "<ol>\n" + "\n".join(row(finding, is_hinted) for finding in findings) + "\n</ol>"
+
+
+def fold(kind, findings):
+    return f"<details><summary>{kind} {findings[0].number} to {findings[-1].number}</summary>{rows(findings, False)}</details>\n"
+
+
+def list_of(kind, findings):
+    if not findings:
+        return ""
+    folds = "".join(fold(kind, findings[at:at + FOLD]) for at in range(OPEN, len(findings), FOLD))
+    head = f'<h2><i aria-hidden="true">{SIGNS[kind]}</i> {TITLES[kind]} <span>{len(findings)}</span></h2>'
+    return f"<section>{head}\n{rows(findings[:OPEN], True)}\n{folds}</section>\n"
+
+
+def verdict(shown):
+    if shown.status == 0:
+        return "Agrees: the copper joins exactly the points that the netlist joins."
+    if not shown.findings:
+        return shown.line
+    counts = shown.counts()
+    told = [counted(counts["opens"], "open"), counted(counts["shorts"], "short"),
+            counted(counts["missing"], "point without copper", "points without copper")]
+    return "Differs: " + ", ".join(words for words in told if not words.startswith("0 ")) + "."
+
+
+def facts(shown):
+    board = shown.board
+    return (f"{counted(board.report.pieces, 'piece')} of copper in {counted(board.report.nets, 'net')}; "
+            f"{counted(len(board.report.points), 'test point')} with {counted(len(board.report.names), 'name')}; "
+            f"{counted(board.manifest.layers, 'layer')}. The report was audited: it is true of these files. "
+            "Suggestions are where to look, and no part of the report.")
+
+
+def source_hash(source):
+    return "'sha256-" + base64.b64encode(hashlib.sha256(source.encode()).digest()).decode() + "'"
+
+
+def notes(shown):
+    told = [*shown.notes, *([shown.flood] if shown.flood else []), *(hint.words for hint in shown.hints)]
+    return "".join(f'<p class="advice">{html.escape(words)}</p>\n' for words in told)
+
+
+def text(shown):
+    style, code = asset("page.css"), script()
+    lists = "".join(list_of(kind, [f for f in shown.findings if f.kind == kind]) for kind in TITLES)
+    fills = {
+        "POLICY": f"default-src 'none'; script-src {source_hash(code)}; style-src {source_hash(style)}; base-uri 'none'; form-action 'none'",
+        "TITLE": html.escape(shown.title), "STYLE": style, "SCRIPT": code, "STATE": "agrees" if shown.status == 0 else "differs",
+        "VERDICT": html.escape(verdict(shown)), "FACTS": html.escape(facts(shown)), "ADVICE": notes(shown),
+        "FINDINGS": lists or '<p class="none">No open, no short, no point without copper.</p>', "DATA": block(shown.board, shown.findings),
+    }
+    parts = asset("page.html").split("@@")
+    return "".join(fills[part] if k % 2 else part for k, part in enumerate(parts))

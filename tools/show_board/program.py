@@ -1,0 +1,77 @@
+"""The program, run in the scratch folder: its status, its output, and its line."""
+import os
+import subprocess
+from typing import NamedTuple
+
+from . import Stop
+
+TOOLS = os.path.dirname(os.path.dirname(os.path.abspath(__file__)))
+# Where the program lies: beside the tools where it is installed, in a checkout where the gate or the launcher leaves it.
+PLACES = (os.path.join(TOOLS, "boardnet"), os.path.join(os.path.dirname(TOOLS), "crates", "boardnet", "out", "boardnet"))
+NO_PROGRAM = 127
+
+
+class Answer(NamedTuple):
+    """What a command of the program answered; `line` is its line without `boardnet: `."""
+
+    status: int
+    out: bytes
+    line: str
+
+
+def found():
+    """The program's place."""
+    for path in (os.environ.get("BOARDNET"), *PLACES):
+        if path and os.access(path, os.X_OK) and not os.path.isdir(path):
+            return os.path.abspath(path)
+    raise Stop(NO_PROGRAM, "the program is not built; `boardnet show` builds it, and BOARDNET names one that lies elsewhere")
+
+
+class Program:
+    def __init__(self, path, progress):
+        self.path, self.progress = path, progress
+        self.running = None
+
+    def run(self, package, *words):
+        """Runs a command on a package's files."""
+        how = {"cwd": package.folder, "stdin": subprocess.DEVNULL, "stdout": subprocess.PIPE, "stderr": subprocess.PIPE}
+        try:
+            self.running = subprocess.Popen([self.path, *words], **how)
+        except OSError as error:
+            raise Stop(NO_PROGRAM, f"{self.path}: {error.strerror}") from None
+        out, notes = self.ended()
+        status, self.running = self.running.returncode, None
+        if not 0 <= status <= 6:
+            raise Stop(NO_PROGRAM, f"{self.path} {words[0]} ended with {status}")
+        lines = [line for line in notes.decode("utf-8", "replace").split("\n") if line.startswith("boardnet: ")]
+        return Answer(status, out, lines[0][len("boardnet: "):] if lines else "")
+
+    def ended(self):
+        """The output of the running command, and what it noted."""
+        try:
+            while True:
+                try:
+                    return self.running.communicate(timeout=1)
+                except subprocess.TimeoutExpired:
+                    self.progress.tell()
+        except BaseException:
+            self.running.kill()
+            self.running.wait()
+            raise
+
+    def check(self, package):
+        self.progress.begin("checking")
+        return self.run(package, "check", package.name)
+
+    def audit(self, package, report):
+        self.progress.begin("auditing the report")
+        package.put("report.txt", report)
+        return self.run(package, "audit", package.name, "report.txt")
+
+    def flatten(self, package, name):
+        self.progress.begin(f"flattening {name}")
+        return self.run(package, "flatten", name)
+
+    def x2(self, package):
+        self.progress.begin("reading the labels of the copper")
+        return self.run(package, "x2", package.name)

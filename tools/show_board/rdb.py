@@ -1,0 +1,64 @@
+"""The findings as a marker database of KLayout (*.lyrdb): lengths are micrometres."""
+from xml.sax.saxutils import escape
+
+from .words import counted
+
+KINDS = {"open": "Parts of a name that no copper joins", "short": "Names that copper joins", "missing": "Test points without copper"}
+# Half the side of the box round a place, in u.
+HALF = 1_000_000
+
+
+def micrometres(u):
+    sign, u = "-" if u < 0 else "", abs(u)
+    return f"{sign}{u // 10_000}.{u % 10_000:04d}".rstrip("0").rstrip(".")
+
+
+def at(place):
+    return f"{micrometres(place[0])},{micrometres(place[1])}"
+
+
+def box(place):
+    x, y = place
+    return f"box: ({at((x - HALF, y - HALF))};{at((x + HALF, y + HALF))})"
+
+
+def values(board, finding):
+    """What KLayout marks: the line across an open, boxes round the places of the others."""
+    spots = [board.spot(point) for point in finding.points]
+    if finding.kind == "open" and None not in spots:
+        yield f"edge: ({at(spots[0])};{at(spots[1])})"
+    if finding.gap:
+        yield box(finding.gap.place)
+    for meet in finding.meets:
+        yield box(meet.place)
+    if finding.kind == "missing" or finding.kind == "short" and not finding.meets:
+        yield from (box(spot) for spot in spots if spot)
+    yield quoted(finding.text())
+
+
+def quoted(words):
+    return "text: '" + words.replace("\\", "\\\\").replace("'", "\\'") + "'"
+
+
+def item(kind, name, marked):
+    told = "".join(f"<value>{escape(value)}</value>" for value in marked)
+    return (f"  <item><tags/><category>{kind}</category><cell>board</cell><visited>false</visited><multiplicity>1</multiplicity>"
+            f"<comment>{escape(name)}</comment><image/><values>{told}</values></item>")
+
+
+def items_of(shown):
+    """The findings of a board, or of one that lies between two bounds."""
+    if shown.board:
+        return [item(finding.kind, finding.id, values(shown.board, finding)) for finding in shown.findings]
+    told = shown.bounds.findings if shown.bounds else []
+    return [item(kind, kind if sure else f"undecided {kind}", [*(box((x, y)) for x, y, _ in places), quoted(words)]) for kind, sure, words, places in told]
+
+
+def text(shown):
+    categories = "".join(f"<category><name>{kind}</name><description>{told}</description><categories/></category>" for kind, told in KINDS.items())
+    items = items_of(shown)
+    return "\n".join(['<?xml version="1.0" encoding="utf-8"?>', "<report-database>",
+                      f"  <description>{escape(shown.title)}: {counted(len(items), 'finding')} of boardnet</description>", "  <original-file/>",
+                      "  <generator>boardnet show</generator>", "  <top-cell>board</top-cell>", "  <tags/>",
+                      f"  <categories>{categories}</categories>", "  <cells><cell><name>board</name><variant/><layout-name/><references/></cell></cells>",
+                      "  <items>", *items, "  </items>", "</report-database>", ""])

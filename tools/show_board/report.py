@@ -1,0 +1,71 @@
+"""Reads a report of either version (docs/FORMATS.md, "The report")."""
+from array import array
+
+
+class BadReport(Exception):
+    """A text that is no report."""
+
+
+class Report:
+    """The lists of a report. Nets, pieces, points and names count from 0, records and layers from 1, as they do there.
+
+    `points` are (record, layer, name, net), with net -1 for none. `spots` (x, y in u) and `sources` (file, command, copy, top,
+    bottom) are None in a report of version 1.
+    """
+
+    def __init__(self, text):
+        self.rows = iter(text.decode("ascii", "replace").split("\n"))
+        try:
+            head, version = next(self.rows).split(" ")
+            if head != "boardnet" or version not in ("1", "2"):
+                raise ValueError
+            self.version = int(version)
+            self.read()
+        except (ValueError, IndexError, KeyError, StopIteration):
+            raise BadReport("a line of the report is missing or broken") from None
+
+    def read(self):
+        self.pieces = self.count("pieces")
+        self.net_of, self.parent = array("l", [-1]) * self.pieces, array("l", [-1]) * self.pieces
+        self.nets = self.count("nets")
+        for _ in range(self.nets):
+            self.read_net()
+        self.names = [next(self.rows).split(" ", 2)[2] for _ in range(self.count("names"))]
+        self.points = [self.point() for _ in range(self.count("points"))]
+        self.opens = [self.numbers("open") for _ in range(self.count("opens"))]
+        self.shorts = [self.short() for _ in range(self.count("shorts"))]
+        self.bare = [self.numbers("bare")[0] for _ in range(self.count("missing"))]
+        self.spots = self.sources = None
+        if self.version == 2:
+            self.spots = [tuple(self.numbers("spot")[1:]) for _ in range(self.count("spots"))]
+            self.sources = [tuple(self.numbers("source")[1:]) for _ in range(self.count("sources"))]
+            if len(self.sources) != self.pieces or len(self.spots) != len(self.points):
+                raise ValueError
+        self.agrees = {"agrees": True, "differs": False}[next(self.rows)]
+
+    def numbers(self, head):
+        parts = next(self.rows).split(" ")
+        if parts[0] != head:
+            raise ValueError
+        return [int(part) for part in parts[1:]]
+
+    def count(self, head):
+        (count,) = self.numbers(head)
+        return count
+
+    def read_net(self):
+        _, number, *twigs = next(self.rows).split(" ")
+        for twig in twigs:
+            piece, _, parent = twig.partition(":")
+            self.net_of[int(piece)] = int(number)
+            if parent:
+                self.parent[int(piece)] = int(parent)
+
+    def point(self):
+        _, _, record, layer, name, net = next(self.rows).split(" ")
+        return int(record), int(layer), int(name), -1 if net == "-" else int(net)
+
+    def short(self):
+        net, count = self.numbers("short")
+        branches = [self.numbers("branch") for _ in range(count)]
+        return net, [(name, point, pieces) for name, point, *pieces in branches]

@@ -1,0 +1,131 @@
+"""The command: its words, one board or a batch, what is written where, and the status."""
+import argparse
+import os
+import signal
+import sys
+import tempfile
+
+from . import Stop, json_form, junit, lines, rdb, written
+from .program import TOOLS, Program, found
+from .progress import Progress
+from .shown import show
+
+NOT_UNDERSTOOD, UNWRITABLE, INTERRUPTED = 2, 5, 130
+ONE_BOARD = ("rdb", "page", "svg", "keep")
+WITH_VALUES = ("--page", "--svg", "--at", "--json", "--junit", "--rdb", "--keep", "--netlist")
+OPTIONS = ("-q", "--all", *WITH_VALUES, "--yes", "--no-drills")
+
+
+class Interrupted(BaseException):
+    """A signal that ends the run."""
+
+
+def section():
+    """The command's page in the help text."""
+    with open(os.path.join(TOOLS, "help.txt"), encoding="ascii") as file:
+        parts = file.read().split("\n= ")
+    return "boardnet " + next(part for part in parts if part.startswith("show ")).strip() + "\n"
+
+
+def words(given):
+    """The caller's words; a wrong one ends with status 2."""
+    parser = argparse.ArgumentParser(prog="boardnet show", add_help=False, usage="boardnet show PATH.. [OPTION ..]; boardnet show --help prints all")
+    parser.add_argument("paths", metavar="PATH", nargs="*")
+    for name in (*OPTIONS, "--help", "-h"):
+        if name in WITH_VALUES:
+            parser.add_argument(name)
+        else:
+            parser.add_argument(name, action="store_true")
+    asked = parser.parse_args(given)
+    if asked.help or asked.h:
+        print(section(), end="")
+        sys.exit(0)
+    if not asked.paths:
+        parser.error("it wants a folder, a zip archive or a manifest")
+    for name in ONE_BOARD:
+        if len(asked.paths) > 1 and getattr(asked, name):
+            parser.error(f"--{name} is for one PATH")
+    if asked.at and not asked.svg:
+        parser.error("--at says which finding --svg draws")
+    return asked
+
+
+def status_of(all_shown):
+    """0 where all agree, 1 where all were judged and some differ, else the status of the first that was not judged."""
+    unjudged = [shown.status for shown in all_shown if shown.status not in (0, 1)]
+    return unjudged[0] if unjudged else max(shown.status for shown in all_shown)
+
+
+def told(asked, all_shown):
+    """What is printed."""
+    if asked.q:
+        return [row for shown in all_shown for row in lines.quiet(shown)]
+    if len(all_shown) > 1:
+        return [lines.summary(shown) for shown in all_shown]
+    return list(lines.reader(all_shown[0], asked.all))
+
+
+def write(asked, all_shown):
+    """Writes what was asked for, and prints the rest; where a form goes to the standard output, nothing else does."""
+    if asked.json:
+        written.write(asked.json, json_form.text(all_shown))
+    if asked.junit:
+        written.write(asked.junit, junit.text(all_shown))
+    if asked.rdb:
+        written.write(asked.rdb, rdb.text(all_shown[0]))
+    if asked.page or asked.svg:
+        pictures(asked, all_shown[0])
+    if "-" not in (asked.json, asked.junit, asked.rdb, asked.page, asked.svg):
+        written.write("-", "".join(row + "\n" for row in told(asked, all_shown)))
+
+
+def pictures(asked, shown):
+    if not shown.board or not shown.board.shapes:
+        print(f"boardnet: no picture is drawn, since the copper of {shown.path} is not known", file=sys.stderr)
+        return
+    from . import page, svg
+    if asked.page:
+        written.write(asked.page, page.text(shown))
+    if asked.svg:
+        written.write(asked.svg, svg.text(shown, asked.at))
+
+
+def boards(asked, program):
+    """Each PATH in turn, in a scratch folder of its own."""
+    all_shown = []
+    for path in asked.paths:
+        with tempfile.TemporaryDirectory(prefix="boardnet-") as scratch:
+            all_shown.append(show(path, asked, program, scratch))
+    return all_shown
+
+
+def run(asked):
+    progress = Progress(quiet=asked.q)
+    try:
+        all_shown = boards(asked, Program(found(), progress))
+        progress.begin("writing")
+        progress.end()
+        write(asked, all_shown)
+        return status_of(all_shown)
+    finally:
+        progress.end()
+
+
+def interrupted(number, _):
+    raise Interrupted(number)
+
+
+def main(given):
+    asked = words(given)
+    for number in (signal.SIGINT, signal.SIGTERM, signal.SIGHUP):
+        signal.signal(number, interrupted)
+    try:
+        return run(asked)
+    except Stop as stop:
+        print(f"boardnet: {stop}", file=sys.stderr)
+        return stop.status
+    except Interrupted as why:
+        return 128 + why.args[0]
+    except BrokenPipeError:
+        os.dup2(os.open(os.devnull, os.O_WRONLY), 1)
+        return UNWRITABLE

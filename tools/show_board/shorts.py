@@ -1,0 +1,69 @@
+"""The shorts of a report in words: which names one net joins, and where."""
+from . import cuts, words
+from .meets import Net
+
+MOST_TOLD = 3
+
+
+def findings(board, make):
+    """Each short; `make` makes a finding."""
+    budget = cuts.Budget()
+    for number, (net, branches) in enumerate(board.report.shorts):
+        names = [board.spoken_name(name) for name, _, _ in branches]
+        pins = [f"{board.spoken_name(name)} has {board.told(point)}" for name, point, _ in branches]
+        told = f"{words.spoken(names)} are joined: {words.spoken(pins, 4)}."
+        points = [point for _, point, _ in branches]
+        numbers = [name for name, _, _ in branches]
+        heading = words.spoken([board.name(name) for name in numbers], 3)
+        joined = Net(board, net) if board.shapes else None
+        meets = joined.meets(budget) if joined else []
+        hints = [*meet_hints(board, joined, meets)] if meets else by_branch(board, branches)
+        finding = make("short", number, heading, told, points, nets=[net], meets=meets, hints=hints, names=numbers)
+        finding.sides = joined.sides if joined else {}
+        finding.is_labelled = bool(joined and joined.is_labelled)
+        yield finding
+
+
+def meet_hints(board, joined, meets):
+    """A sentence for each place, the first few."""
+    if not joined.is_labelled and joined.labels:
+        yield (f"All its labelled copper says {joined.labels[0]}: the netlist's names differ from the files' own.")
+    lead = "By the files' labels" if joined.is_labelled else "Suggestion"
+    for meet in meets[:MOST_TOLD]:
+        yield f"{lead}: {meet_words(board, meet)}."
+    if joined.count > MOST_TOLD:
+        yield f"They meet in {words.counted(joined.count - MOST_TOLD, 'more place')}."
+
+
+def meet_words(board, meet):
+    where = board.copper_place(meet.place, meet.layer)
+    (one, other), (first, second) = meet.names, meet.touch
+    if not meet.between:
+        return f"{board.source(first)} of {one} touches {board.source(second)} of {other} on {where}"
+    pieces = words.spoken([board.source(piece) for piece in meet.between], 4)
+    are = "is one piece" if len(meet.between) == 1 else f"are {len(meet.between)} pieces"
+    ends = f", between {board.source(first)} and {board.source(second)}" if first != second else ""
+    return f"{one} and {other} meet on {where}; {pieces} {are} that could be either's{ends}"
+
+
+def by_branch(board, branches):
+    """Where the copper is not known, or was too much to look through: the paths of the report, piece by piece."""
+    found = []
+    for name, _, pieces in branches[1:1 + MOST_TOLD]:
+        if len(pieces) > 1:
+            found.append(f"{board.spoken_name(name)} reaches the others over {words.spoken([board.source(piece) for piece in pieces], 8)}.")
+        step = label_step(board, pieces)
+        if step:
+            found.append(f"By the files' labels: {board.source(step[0])} of {board.labels[step[0]]} reaches {board.source(step[1])} of {board.labels[step[1]]}.")
+    return found
+
+
+def label_step(board, pieces):
+    """The first step of a path on which the labels change."""
+    last = None
+    for piece in pieces:
+        if piece in board.labels:
+            if last is not None and board.labels[last] != board.labels[piece]:
+                return last, piece
+            last = piece
+    return None

@@ -1,0 +1,103 @@
+"""One board, from its files to its findings."""
+import os
+
+from . import UNJUDGED, Stop, bounds, copper, findings, hints, judged, netlist, package, report
+from .board import Board
+
+NO_PLACES = "this program writes reports of version 1, which do not say where copper is from: what is told is the report and the netlist alone"
+
+
+class Shown:
+    """What is told of one PATH. `status` and `line` say how it ended; `board` is None where nothing was judged.
+
+    `notes` are sentences on what was taken and what is not known, `hints` answers of `check` on changed copies, `bounds` the
+    answer on a board that lies between two.
+    """
+
+    def __init__(self, path):
+        self.path, self.status, self.line, self.audit = path, 0, "", ""
+        self.title = os.path.basename(os.path.normpath(path)) or path
+        self.board, self.findings, self.hints, self.bounds = None, [], [], None
+        self.notes, self.flood, self.report = [], "", b""
+
+    def counts(self):
+        told = self.board.report
+        return {"opens": len(told.opens), "shorts": len(told.shorts), "missing": len(told.bare)}
+
+
+def shapes_of(program, told):
+    """The shapes of the pieces, or None and why they are not known."""
+    if not told.report.sources:
+        return None, NO_PLACES
+    try:
+        return copper.shapes_of(told.package, told.report, judged.flat_of(program, told.package)), ""
+    except copper.BadCopper as why:
+        return None, str(why)
+
+
+def labels_of(program, told):
+    """The names that the copper files give their pieces, by the program's own reading of them."""
+    if not any(b"%TO.N," in told.package.read(name) for name in set(told.package.manifest.copper)):
+        return None
+    answer = program.x2(told.package)
+    if answer.status not in (0, 1):
+        return None
+    try:
+        own = report.Report(answer.out)
+    except report.BadReport:
+        return None
+    return {record - 1: own.names[name] for record, _, name, _ in own.points}
+
+
+def package_notes(files):
+    """What was taken as what, where the manifest was made here, and what was flattened."""
+    notes = [f"taken as {word}" for word in files.guessed]
+    if files.left_out:
+        notes.append(f"left out, {len(files.left_out)} of the folder's files: " + "; ".join(files.left_out))
+    notes += [f"{name} has macros and was flattened: commands are those of the flattened file, which --keep keeps" for name in sorted(files.flattened)]
+    notes += [f"{name} could not be flattened: {why}" for name, why in files.outside.items()]
+    return notes
+
+
+def look(program, told, shown, wants_picture):
+    """Fills in the findings of a judged board."""
+    records = netlist.records(told.package.read(told.package.manifest.netlist))
+    shapes, why, labels = None, "", None
+    if told.status == 1 or wants_picture:
+        shapes, why = shapes_of(program, told)
+    if told.report.shorts:
+        labels = labels_of(program, told)
+    program.progress.begin("looking for the places")
+    shown.board = Board(told.package, told.report, records, shapes, labels)
+    shown.findings, shown.flood = findings.all_findings(shown.board), findings.flood(shown.board)
+    shown.notes += [why] if why else []
+    if not told.report.points:
+        shown.status, shown.line = UNJUDGED, judged.NOTHING
+
+
+def show(path, asked, program, scratch):
+    """What is told of one PATH, whatever becomes of it."""
+    shown = Shown(path)
+    try:
+        files = package.opened(path, asked, scratch)
+        told = judged.judge(program, files)
+        shown.status, shown.line, shown.audit, shown.report = told.status, told.line, told.audit, told.text or b""
+        shown.notes = package_notes(files)
+        if told.report:
+            look(program, told, shown, asked.page or asked.svg)
+        outside(program, told, shown)
+        if asked.keep:
+            package.keep(files, shown.report, asked.keep)
+    except Stop as stop:
+        shown.status, shown.line = stop.status, str(stop)
+    return shown
+
+
+def outside(program, told, shown):
+    """What copies of the files say: bounds of copper outside the profile, and hints."""
+    if told.status == 3:
+        shown.bounds = bounds.bounded(program, told)
+        if shown.bounds:
+            shown.status, shown.line = shown.bounds.status, shown.bounds.line
+    if told.status in (1, 3):
+        shown.hints = hints.hints(program, told)

@@ -1,0 +1,103 @@
+"""Whole places: segments between them, even-odd, and segments by cells."""
+
+
+def cross(o, a, b):
+    return (a[0] - o[0]) * (b[1] - o[1]) - (a[1] - o[1]) * (b[0] - o[0])
+
+
+def dot(o, a, b):
+    return (a[0] - o[0]) * (b[0] - o[0]) + (a[1] - o[1]) * (b[1] - o[1])
+
+
+def edges(corners):
+    return list(zip(corners, corners[1:] + corners[:1]))
+
+
+def point_within(p, a, b, r):
+    """Whether p is at most r from the segment from a to b."""
+    length, along = dot(a, b, b), dot(a, b, p)
+    if along <= 0 or length == 0:
+        return dot(a, p, p) <= r * r
+    if along >= length:
+        return dot(b, p, p) <= r * r
+    return cross(a, b, p) ** 2 <= r * r * length
+
+
+def between(a, b, p):
+    return min(a[0], b[0]) <= p[0] <= max(a[0], b[0]) and min(a[1], b[1]) <= p[1] <= max(a[1], b[1])
+
+
+def segments_meet(a, b, c, d):
+    s, t, u, v = cross(a, b, c), cross(a, b, d), cross(c, d, a), cross(c, d, b)
+    if s and t and u and v and (s > 0) != (t > 0) and (u > 0) != (v > 0):
+        return True
+    return (s == 0 and between(a, b, c)) or (t == 0 and between(a, b, d)) or (u == 0 and between(c, d, a)) or (v == 0 and between(c, d, b))
+
+
+def segments_within(a, b, c, d, r):
+    """Whether two segments come within r of each other: they meet, or an end is within r of the other."""
+    return (segments_meet(a, b, c, d) or point_within(a, c, d, r) or point_within(b, c, d, r)
+            or point_within(c, a, b, r) or point_within(d, a, b, r))
+
+
+def odd_inside(corners, p, scale=1):
+    """Even-odd by a ray to the right; p is given times scale."""
+    odd, (px, py) = False, p
+    bx, by = corners[-1][0] * scale, corners[-1][1] * scale
+    for x, y in corners:
+        ax, ay, bx, by = bx, by, x * scale, y * scale
+        if (ay > py) != (by > py):
+            side = (bx - ax) * (py - ay) - (by - ay) * (px - ax)
+            if (side > 0) == (by > ay):
+                odd = not odd
+    return odd
+
+
+class Segments:
+    """Segments by cells; asked for those whose box may meet a box."""
+
+    def __init__(self, segments):
+        self.segments, self.cells = segments, {}
+        self.step = 1 + sum(max(abs(a[0] - b[0]), abs(a[1] - b[1])) for a, b in segments) // max(1, len(segments)) * 2
+        for k, (a, b) in enumerate(segments):
+            for cell in self.cells_of(a, b, 0):
+                self.cells.setdefault(cell, []).append(k)
+
+    def cells_of(self, a, b, r):
+        s = self.step
+        for i in range((min(a[0], b[0]) - r) // s, (max(a[0], b[0]) + r) // s + 1):
+            for j in range((min(a[1], b[1]) - r) // s, (max(a[1], b[1]) + r) // s + 1):
+                yield i, j
+
+    def near(self, a, b, r):
+        found = set()
+        for cell in self.cells_of(a, b, r):
+            found.update(self.cells.get(cell, ()))
+        return found
+
+
+class Bands:
+    """The edges of a contour by bands across its longer side, for even-odd at places times 2^21."""
+
+    def __init__(self, corners):
+        spans = [(min(c[k] for c in corners), max(c[k] for c in corners)) for k in (0, 1)]
+        self.turn = spans[0][1] - spans[0][0] > spans[1][1] - spans[1][0]
+        around = edges([(y, x) for x, y in corners] if self.turn else corners)
+        self.low, high = spans[0 if self.turn else 1]
+        heights = sum(abs(a[1] - b[1]) for a, b in around)
+        self.step = 1 + max((high - self.low) // len(corners), 2 * heights // len(corners))
+        self.rows = {}
+        for a, b in around:
+            if a[1] != b[1]:
+                for row in range((min(a[1], b[1]) - self.low) // self.step, (max(a[1], b[1]) - self.low) // self.step + 1):
+                    self.rows.setdefault(row, []).append((a, b))
+
+    def odd(self, px, py):
+        odd = False
+        if self.turn:
+            px, py = py, px
+        for a, b in self.rows.get(((py >> 21) - self.low) // self.step, ()):
+            ax, ay, bx, by = a[0] << 21, a[1] << 21, b[0] << 21, b[1] << 21
+            if (ay > py) != (by > py) and (((bx - ax) * (py - ay) - (by - ay) * (px - ax)) > 0) == (by > ay):
+                odd = not odd
+        return odd

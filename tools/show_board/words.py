@@ -1,0 +1,25 @@
+"""How lengths, counts and lists are said."""
+
+
+def millimetres(u):
+    """Exact, with three decimals or as many more as it takes."""
+    sign, u = "-" if u < 0 else "", abs(u)
+    tail = f"{u % 10_000_000:07d}"
+    return f"{sign}{u // 10_000_000}.{tail[:3]}{tail[3:].rstrip('0')}"
+
+
+def at_most(length):
+    """A length in u that is a fraction, in millimetres rounded up to a micrometre."""
+    return millimetres(-int(-length // 10_000) * 10_000)
+
+
+def spoken(words, most=6):
+    """Words as a list in a sentence; of many the first."""
+    words = list(words)
+    if len(words) > most:
+        words = words[:most] + [f"{len(words) - most} more"]
+    return words[0] if len(words) == 1 else ", ".join(words[:-1]) + " and " + words[-1]
+
+
+def counted(number, one, many=None):
+    return f"{number} {one if number == 1 else many or one + 's'}"

@@ -1,0 +1,45 @@
+"""Files that are written whole or not at all, and the standard output."""
+import os
+import sys
+import tempfile
+
+from . import Stop
+
+UNWRITABLE = 5
+
+
+def write(path, text):
+    """Writes a file by a new one that takes its place; `-` is the standard output."""
+    data = text.encode("utf-8") if isinstance(text, str) else text
+    try:
+        if path == "-":
+            sys.stdout.buffer.write(data)
+            sys.stdout.buffer.flush()
+        elif os.path.exists(path) and not os.path.isfile(path):
+            with open(path, "wb") as file:
+                file.write(data)
+        else:
+            replace(path, data)
+    except BrokenPipeError:
+        raise
+    except OSError as error:
+        raise Stop(UNWRITABLE, f"{path}: {error.strerror}: cannot be written") from None
+
+
+def replace(path, data):
+    path = os.path.realpath(path)
+    number, new = tempfile.mkstemp(dir=os.path.dirname(path), prefix=".boardnet-")
+    try:
+        with os.fdopen(number, "wb") as file:
+            file.write(data)
+        os.chmod(new, 0o666 & ~umask())
+        os.replace(new, path)
+    except BaseException:
+        os.remove(new)
+        raise
+
+
+def umask():
+    mask = os.umask(0)
+    os.umask(mask)
+    return mask

@@ -1,0 +1,247 @@
+"""Copper files between two files, and packages between two packages, over the stand-in and over the built program."""
+import os
+import random
+import tempfile
+import unittest
+
+import made
+from made import STAND_IN, flash, manifest, netlist, record
+from real_shapes import Real, fine, has, pieces_of
+from show_board import bounds, judged, manifest as manifests
+from show_board.exact import Refused
+from show_board.package import Package
+from show_board.program import Program
+from show_board.progress import Progress
+from show_board.judged import NOTHING
+from show_board.side import words_of
+from show_board.two_sides import Copper
+
+HEAD = ["%FSLAX46Y46*%", "%MOMM*%", "G75*"]
+
+
+def copper_of(*lines):
+    return Copper("\n".join(HEAD + list(lines) + ["M02*"]))
+
+
+class Files(unittest.TestCase):
+    def test_refused_by_name(self):
+        macro = "%ADD10A*%"
+        region = ["G36*", "X0Y0D02*", "X1000000Y0D01*", "X0Y1000000D01*"]
+        rows = [
+            ("clear polarity", ["%LPC*%"]), ("exposure off", ["%AMA*1,0,1,0,0*%", macro]),
+            ("moire", ["%AMA*6,0,0,1,.1,.1,2,.1,1,0*%", macro]), ("thermal", ["%AMA*7,0,0,1,.8,.1,0*%", macro]),
+            ("arc with a pen that is no circle", ["%ADD10R,1X1*%", "D10*", "X0Y0D02*", "G03X2000000Y0I1000000J0D01*"]),
+            ("draw with a pen that is no circle", ["%ADD10P,1X6*%", "D10*", "X0Y0D02*", "X2000000Y0D01*"]),
+            ("two units", ["%MOIN*%"]), ("hole that is not round", ["%ADD10C,1X.2X.2*%"]), ("obround with a hole", ["%ADD10O,1X2X.2*%"]),
+            ("outline not closed", ["%AMA*4,1,3,0,0,1,0,1,1,0,.1,0*%", macro]), ("macro that is not defined", [macro]),
+            ("a size under 0", ["%AMA*1,1,-1,0,0*%", macro]), ("arc without I and J", ["%ADD10C,1*%", "D10*", "G02X1000000D01*"]),
+            ("I or J without an arc", ["%ADD10C,1*%", "D10*", "G01X1000000I5D01*"]), ("format", ["%FSLIX46Y46*%"]),
+            ("word in a region", region + ["%SRX2Y1I5J0*%"]), ("region without an end", region), ("flash in a region", region + ["X0Y0D03*"]),
+            ("line break in a word", ["%ADD10C,\n1*%"]), ("no whole tenth", ["%SRX2Y1I.00000005J0*%"]),
+        ]
+        for words, lines in rows:
+            with self.subTest(words=words), self.assertRaisesRegex(Refused, words + ".* at command|" + words):
+                copper_of(*lines)
+        with self.assertRaisesRegex(Refused, "no format"):
+            Copper("%MOMM*%X5Y5D02*M02*")
+        with self.assertRaisesRegex(Refused, "arc before G74 or G75"):
+            Copper("%FSLAX46Y46*%%MOMM*%%ADD10C,1*%D10*G02X5Y5I1D01*M02*")
+        with self.assertRaisesRegex(Refused, "a word without an end"):
+            Copper("%FSLAX46Y46*%%MOMM*%M02")
+
+    def test_passed_on(self):
+        """What the profile has stays as it is, and so does what `check` is to refuse; each word knows its command."""
+        lines = ["%TF.Part,Single*%", "%ADD10C,1.0*%", "%ADD11R,0.5X0.4*%", "D10*", "X1000000Y0D02*", "Y2000000D01*", "%TO.N,A*%", "D11*",
+                 "D03*", "G36*", "X0Y0D02*", "X1Y0D01*", "X0Y1D01*", "X0Y0D01*", "G37*", "%LMX*%", "G91*"]
+        copper = copper_of(*lines)
+        self.assertEqual((copper.replaced, copper.lost, copper.sides[0].lines), (0, [], copper.sides[1].lines))
+        self.assertEqual(copper.sides[0].lines, [
+            "%FSLAX47Y47*%", "%MOMM*%", "%TF.Part,Single*%", "%ADD10C,1.0000000*%", "%ADD11R,0.5000000X0.4000000*%", "X10000000Y0D02*", "D10*",
+            "X10000000Y20000000D01*", "%TO.N,A*%", "D11*", "X10000000Y20000000D03*", "G36*", "X0Y0D02*", "X10Y0D01*", "X0Y10D01*", "X0Y0D01*",
+            "G37*", "%LMX*%", "G91*", "M02*"])
+        given = [word for _, word, _ in words_of("\n".join(HEAD + lines))]
+        self.assertEqual([given[source - 1] for source in copper.sides[0].sources[5:11]],
+                         ["X1000000Y0D02", "Y2000000D01", "Y2000000D01", "TO.N,A", "D03", "D03"])
+
+    def test_holes(self):
+        copper = copper_of("%ADD10C,1X.4*%", "%ADD11R,1X.6X.3*%", "D10*", "X0Y0D03*", "D11*", "X5000000Y0D03*")
+        low, high = (pieces_of(side) for side in copper.sides)
+        rows = [((0, 0), False), ((1990000, 0), False), ((2010000, 0), True), ((4990000, 0), True), ((50000000, 0), False),
+                ((50000000, 1490000), False), ((50000000, 1510000), True), ((45010000, -2990000), True)]
+        for p, inside in rows:
+            self.assertEqual(has(low, fine(p)), inside, p)
+            self.assertTrue(has(high, fine(p)))
+
+    def test_single_quadrant(self):
+        copper = copper_of("%ADD10C,0.2*%", "D10*", "G74*", "X1000000Y0D02*", "G03X0Y1000000I1000000J0D01*")
+        low, high = (pieces_of(side) for side in copper.sides)
+        for p, inside in (((7071000, 7071000), True), ((7900000, 7900000), False), ((-7071000, 7071000), False), ((7071000, -7071000), False)):
+            self.assertEqual((has(low, fine(p)), has(high, fine(p))), (inside, inside), p)
+
+    def test_steps_and_inches(self):
+        copper = Copper("%FSLAX24Y24*%\n%MOIN*%\n%AMA*21,1,.1,.1,0,0,30*%\n%ADD10A*%\n%SRX2Y1I.5J0*%\nD10*\nX10000Y0D03*\n%SR*%\nM02*")
+        self.assertIn("%SRX2Y1I12.7000000J0.0000000*%", copper.sides[0].lines)
+        area = pieces_of(copper.sides[1])[0][1]
+        self.assertTrue(all(abs(x - 254000000) < 20000000 and abs(y) < 20000000 for x, y in area))
+
+    def test_odd_sizes(self):
+        copper = copper_of("%ADD10C,0.0000003*%", "D10*", "X0Y0D03*")
+        self.assertEqual([line for side in copper.sides for line in side.lines if line.startswith("%AD")],
+                         ["%ADD10C,0.0000002*%", "%ADD10C,0.0000004*%"])
+
+    def test_turned_macros(self):
+        """A macro at many angles, in a file: places of it lie on the right side of both bounds."""
+        rng = random.Random(11)
+        for _ in range(20):
+            real = Real(rng)
+            body = ",".join([str(real.code), "1"] + [f"{part}/10000000" if k or real.code not in (4, 5) else f"{part}" for k, part in enumerate(real.parts)] + [str(real.rotation)])
+            copper = copper_of(f"%AMA*{body}*%", "%ADD10A*%", "D10*", "X0Y0D03*")
+            low, high = (pieces_of(side) for side in copper.sides)
+            for _ in range(20):
+                p = real.near_border()
+                truth = real.has(p)
+                self.assertFalse(has(low, p) and truth is False, (body, p))
+                self.assertFalse(truth is True and not has(high, p), (body, p))
+
+
+class Packages(made.Case):
+    ARC = [*HEAD, "%ADD10C,0.2*%", "%ADD11C,1.0*%", "D10*", "X1000000Y0D02*", "G03X-1000000Y0I-1000000J0D01*", "G01*"]
+
+    def judged(self, program, copper, records, files=()):
+        folder = tempfile.mkdtemp(dir=self.scratch)
+        names = {"m.json": manifest(), "top.gbr": "\n".join([*copper, "M02*", ""]), "n.ipc": netlist(*records), **dict(files)}
+        for name, text in names.items():
+            with open(os.path.join(folder, name), "w", encoding="ascii") as file:
+                file.write(text)
+        runs = Program(program, Progress(quiet=True))
+        return runs, judged.judge(runs, Package(manifests.of_text(names["m.json"].encode()), folder))
+
+    def bounded(self, program, copper, records):
+        return bounds.bounded(*self.judged(program, copper, records))
+
+    def test_agrees(self):
+        for program in self.over_both():
+            told = self.bounded(program, self.ARC, [record("A", "J1.1", 1, 0), record("A", "J1.2", -1, 0), record("A", "J1.3", 0, 1)])
+            self.assertEqual((told.status, told.findings, told.left_out), (0, [], []))
+            self.assertEqual(told.line, "agrees, between two bounds (lower agrees; upper agrees)")
+
+    def test_differs(self):
+        """What both have is the board's: a short, a point without copper, a name in two parts."""
+        records = [record("A", "J1.1", 1, 0), record("B", "J1.2", -1, 0), record("C", "J1.3", 0, 0), record("D", "J1.4", 5, 0), record("D", "J1.5", 7, 0)]
+        for program in self.over_both():
+            told = self.bounded(program, [*self.ARC, *flash(11, (5, 0), (7, 0))], records)
+            self.assertEqual(told.status, 1)
+            self.assertEqual([(kind, sure, words) for kind, sure, words, _ in told.findings], [
+                ("open", True, "D is in 2 parts: J1 pin 4 (the one layer, 5.000, 0.000 mm) and J1 pin 5 (the one layer, 7.000, 0.000 mm) are not joined"),
+                ("short", True, "A at J1 pin 1 (the one layer, 1.000, 0.000 mm) and B at J1 pin 2 (the one layer, -1.000, 0.000 mm) are joined"),
+                ("missing", True, "no copper lies under J1 pin 3 (the one layer, 0.000, 0.000 mm), of C")])
+            self.assertEqual(told.findings[2][3], [(0, 0, 1)])
+
+    # Another arc over the first, half a micrometre from it, and a pad as near as one bound alone reaches.
+    FACING = [*ARC, "X1000000Y2200500D02*", "G02X-1000000Y2200500I-1000000J0D01*"]
+    PAD = [*ARC, "D11*", "X0Y1600200D03*"]
+
+    def test_undecided(self):
+        """Copper half a micrometre from copper: by names, by parts of a name, by a point."""
+        for program in self.over_both():
+            for copper, spot, commands in ((self.FACING, (1, 2.2005), "command 8 and top.gbr command 11"), (self.PAD, (0, 1.6002), "command 8 and top.gbr command 11")):
+                for name, kind, words in (("B", "short", "A at J1 pin 1 "), ("A", "open", "A may be in 2 parts: J1 pin 1 ")):
+                    told = self.bounded(program, copper, [record("A", "J1.1", 1, 0), record("A", "J1.2", -1, 0), record(name, "J2.1", *spot)])
+                    self.assertEqual((told.status, len(told.findings)), (11, 1), told)
+                    found, sure, said, places = told.findings[0]
+                    self.assertEqual((found, sure, said.startswith(words)), (kind, False, True), said)
+                    self.assertIn(f"on the upper board alone, by top.gbr {commands} at the one layer, 0.0", said)
+                    self.assertTrue(abs(places[0][0]) < 10 ** 6 and abs(places[0][1] - 11_000_000) < 10 ** 6, places)
+            told = self.bounded(program, self.ARC, [record("A", "J1.1", 0, 1.1), record("A", "J1.2", 1, 0)])
+            self.assertEqual((told.status, [it[:2] for it in told.findings]), (11, [("missing", False)]))
+
+    def test_a_micrometre_is_enough(self):
+        """A micrometre apart is apart, a micrometre into each other is joined, whichever way it stands."""
+        rows = [("X0Y1601000D03*", 1.601, 0), ("X0Y1599000D03*", 1.599, 1), ("X0Y399000D03*", 0.399, 0), ("X0Y401000D03*", 0.401, 1)]
+        for program in self.over_both():
+            for flash_word, y, status in rows:
+                told = self.bounded(program, [*self.ARC, "D11*", flash_word], [record("A", "J1.1", 1, 0), record("B", "J2.1", 0, y)])
+                self.assertEqual((told.status, [it[:2] for it in told.findings]), (status, [("short", True)] * status), flash_word)
+
+    def test_unnamed_points(self):
+        """A pin without net on a known short is one more short in doubt; two such pins are none."""
+        pad = self.PAD
+        for program in self.over_both():
+            told = self.bounded(program, pad, [record("A", "J1.1", 1, 0), record("B", "J1.2", -1, 0), record("N/C", "J2.1", 0, 1.6002)])
+            self.assertEqual((told.status, [it[:2] for it in told.findings]), (1, [("short", True), ("short", False)]))
+            told = self.bounded(program, pad, [record("N/C", "J1.1", 1, 0), record("N/C", "J2.1", 0, 1.6002)])
+            self.assertEqual((told.status, told.findings), (0, []))
+
+    def test_left_out(self):
+        """What the lower bound does not have is told, and makes its points undecided."""
+        thin = [*HEAD, "%ADD10C,0.0002*%", "D10*", "X1000000Y0D02*", "G03X-1000000Y0I-1000000J0D01*"]
+        for program in self.over_both():
+            told = self.bounded(program, thin, [record("A", "J1.1", 1, 0), record("A", "J1.2", -1, 0)])
+            self.assertEqual((told.status, told.left_out), (11, ["top.gbr: an arc at command 7"]))
+
+    # Files that the program flattens: what is passed on and what is replaced by whole pieces comes out as the same solids.
+    WHOLE = [
+        ("profile", ["%ADD10C,1.0*%", "%ADD11R,0.5X0.4*%", "D10*", "X1000000Y0D02*", "Y2000000D01*", "D11*", "X5Y7D03*", "D10*", "X9Y9D03*", *made.region((0, 0), (3, 0), (3, 4))]),
+        ("round macro", ["%AMA*", "1,1,0.4,0,0*%", "%ADD10A*%", "D10*", "X1000000Y-3D03*"]),
+        ("inches", ["%ADD10C,0.01*%", "D10*", "X1000000Y0D02*", "Y2000000D01*"]),
+        ("steps", ["%ADD10O,1.0X0.4*%", "%SRX3Y2I2.0J3.0*%", "D10*", "X0Y0D03*", "%SR*%", "X5Y5D03*"]),
+        ("turned macros", ["%AMA*", "21,1,0.4,0.2,0.1,0,90*", "4,1,3,0,0,.1,0,.1,.1,0,0,180*", "20,1,.2,0,0,.3,0,0*", "1,1,$1+$1,0,0*%", "%ADD10A,0.1*%", "D10*", "X5Y6D03*"]),
+    ]
+
+    def test_as_flattened(self):
+        for program in self.over_both():
+            for name, lines in self.WHOLE[:2] if program == STAND_IN else self.WHOLE:
+                text = "\n".join([*HEAD, *lines, "M02*", ""])
+                text = text.replace("%FSLAX46Y46*%\n%MOMM*%", "%FSLAX26Y26*%\n%MOIN*%") if name == "inches" else text
+                copper, flat = Copper(text), []
+                for number, each in enumerate([text, *(side.text() for side in copper.sides)]):
+                    self.write(f"{name}/{number}.gbr", each)
+                    status, out, notes = self.run_words([program, "flatten", f"{number}.gbr"], self.path(name), environment={"STAND_IN_LACKS": ""})
+                    self.assertEqual(status, 0, (name, notes))
+                    flat.append(out)
+                self.assertEqual((flat[1], flat[2]), (flat[0], flat[0]), name)
+
+    def test_no_bounds(self):
+        """Refused as before, with why there are no bounds; or nothing to say."""
+        points = [record("A", "J1.1", 1, 0)]
+        for program in self.over_both():
+            for line in ("%LPC*%", "G36*"):
+                runs, told = self.judged(program, [*self.ARC, line], points)
+                answer = bounds.bounded(runs, told)
+                why = "clear polarity at command 10" if line == "%LPC*%" else "a region without an end at command 11"
+                self.assertEqual((answer.status, answer.line), (3, f"{told.line}; no bounds: top.gbr: {why}"))
+            self.assertEqual(self.bounded(program, self.ARC, [])[:2], (12, NOTHING))
+            self.assertIsNone(bounds.bounded(*self.judged(program, [*HEAD, "%ADD10C,1.0*%", *flash(10, (1, 0))], points)))
+
+    def test_names_with_dots(self):
+        """Files outside the manifest's folder: each side has its own copy, and the user's files stay."""
+        self.write("files/top.gbr", "\n".join([*self.FACING, "M02*", ""]))
+        self.write("files/n.ipc", netlist(record("A", "J1.1", 1, 0), record("B", "J2.1", 1, 2.2005)))
+        self.write("board/m.json", manifest(["../files/top.gbr"]).replace("n.ipc", "../files/n.ipc"))
+        before = self.read("files/top.gbr")
+        status, out, _ = self.show("board")
+        self.assertEqual((status, "undecided, between two bounds" in out, self.read("files/top.gbr"), len(os.listdir(self.path("files")))), (11, True, before, 2))
+
+    def test_whole_paths(self):
+        """A file by its whole path is never written: no bounds, and the file stays."""
+        self.write("files/top.gbr", "\n".join([*self.ARC, "M02*", ""]))
+        self.write("board/n.ipc", netlist(record("A", "J1.1", 1, 0)))
+        self.write("board/m.json", manifest([self.path("files/top.gbr")]))
+        before = self.read("files/top.gbr")
+        status, out, _ = self.show("board")
+        self.assertEqual((status, "; no bounds: a copper file is named by its whole path" in out, self.read("files/top.gbr")), (3, True, before), out)
+
+    def test_shown(self):
+        self.write("board/m.json", manifest())
+        self.write("board/top.gbr", "\n".join([*self.ARC, "M02*", ""]))
+        self.write("board/n.ipc", netlist(record("A", "J1.1", 0, 1.1), record("A", "J1.2", 1, 0)))
+        before = {name: os.stat(self.path("board", name)).st_mtime_ns for name in os.listdir(self.path("board"))}
+        status, out, _ = self.show("board")
+        self.assertEqual((status, out.splitlines()[0]), (11, "board: undecided, between two bounds: 1 finding that only one of them has "
+                                                             "(lower differs, opens 0, shorts 0, missing 1; upper agrees)"))
+        self.assertIn("  undecided missing: copper lies under J1 pin 1 (the one layer, 0.000, 1.100 mm), of A, on the upper board alone", out)
+        self.assertEqual({name: os.stat(self.path("board", name)).st_mtime_ns for name in os.listdir(self.path("board"))}, before)
+
+
+if __name__ == "__main__":
+    unittest.main()
