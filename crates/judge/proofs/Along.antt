@@ -16,7 +16,7 @@ begins_along a b along (p ∷ rest) h = along p h
 pub branches_along : (net : List Twig) (starts more : ℕ → ℕ → Type 0) → ((probe p : ℕ) → starts probe p → more probe p) → (lines : List PointLine) (number : ℕ) (ends : List ℕ) (branches : List Branch) → AreBranches net starts lines number ends branches → AreBranches net more lines number ends branches
 branches_along net starts more along lines number ends [] all = tt
 branches_along net starts more along lines number ends (b ∷ rest) (first, all) =
-    (record { probe = first.probe; start = begins_along (starts b.probe) (more b.probe) (along b.probe) b.pieces first.start; way = first.way }, branches_along net starts more along lines number (ends ++ b.pieces) rest all)
+    (record { probe = first.probe; start = begins_along (starts b.probe) (more b.probe) (along b.probe) b.pieces first.start; path = first.path }, branches_along net starts more along lines number (ends ++ b.pieces) rest all)
 
 hang_at : (near : ℕ → ℕ → Type 0) (earlier : List ℕ) (rest : List Twig) (k : ℕ) → Hang near earlier rest → k < length rest → (parent : ℕ) × ((twig_at rest k).parent ≡ Some parent) × Contains (earlier ++ pieces_of (take k rest)) parent
 hang_at near earlier [] k hang below = absurd (omega arith)

@@ -8,7 +8,7 @@ use Rattle.verdict.specs.declared.verdict.Branch.{Branch}
 use Rattle.verdict.specs.declared.verdict.PointLine.{PointLine}
 use Rattle.verdict.specs.declared.verdict.Mark.{Mark}
 use Rattle.verdict.specs.Forest.{first_piece}
-use Rattle.verdict.specs.Right.{IsWay, BeginsAt, IsBranch, AreBranches, HasBranches, all_shorts, names_on, outline, short_of, Outline, BeginsAtHome}
+use Rattle.verdict.specs.Right.{IsPath, BeginsAt, IsBranch, AreBranches, HasBranches, all_shorts, names_on, outline, short_of, Outline, BeginsAtHome}
 use Rattle.judge.specs.Judged.{AreFlags}
 use Rattle.judge.proofs.PointLines.{turn}
 use Rattle.std.proofs.lemmas.Option.{slice_get-get_or}
@@ -17,7 +17,7 @@ use Rattle.verdict.specs.Places.{twig_at, HasPlaces}
 use Rattle.verdict.specs.Seats.{AreFirst, AreNamed, IsFirst, mark_name, marks_at, branch_name}
 use Rattle.verdict.proofs.Holding.{one_of}
 
--- the ends of a way that follows these branches
+-- the ends of a path that follows these branches
 abbrev pub held : List ℕ → List Branch → List ℕ
 held ends [] = ends
 held ends (b ∷ rest) = held (ends ++ b.pieces) rest
@@ -68,9 +68,9 @@ branched_start net places homes marks ends some all none =
     }
 
 pub branched_more : (net : List Twig) (homes : List (Option ℕ)) (marks : List Mark) (i : ℕ) (d : Mark) (branches branches' : List Branch) (flags flags' : List Bool) (home : ℕ) (pieces : List ℕ) → i < length marks → AreBranched net homes marks i branches flags → length flags' ≡ length flags
-    → get_or homes (get_or marks i d).probe None ≡ Some home → BeginsAt (λ piece. piece ≡ home) pieces → ((ends : List ℕ) → AreFlags net ends flags → IsWay net ends pieces) → ((ends : List ℕ) → AreFlags net ends flags → AreFlags net (ends ++ pieces) flags')
+    → get_or homes (get_or marks i d).probe None ≡ Some home → BeginsAt (λ piece. piece ≡ home) pieces → ((ends : List ℕ) → AreFlags net ends flags → IsPath net ends pieces) → ((ends : List ℕ) → AreFlags net ends flags → AreFlags net (ends ++ pieces) flags')
     → branches' ≡ branches ++ record { name = (get_or marks i d).name; probe = (get_or marks i d).probe; pieces = pieces } ∷ [] → AreBranched net homes marks (i + 1) branches' flags'
-branched_more net homes marks i d branches branches' flags flags' home pieces below b long start begins way flag now =
+branched_more net homes marks i d branches branches' flags flags' home pieces below b long start begins path flag now =
     let m : Mark = get_or marks i d in
     let ends : List ℕ = first_piece net ∷ [] in
     let new : Branch = record { name = m.name; probe = m.probe; pieces = pieces } in
@@ -80,7 +80,7 @@ branched_more net homes marks i d branches branches' flags flags' home pieces be
       names = ap (map branch_name) now ∙ (map-append branch_name branches (new ∷ []) ∙ (ap (λ (xs : List ℕ). xs ++ m.name ∷ []) b.names ∙ (sym (map-append mark_name (take i marks) (m ∷ [])) ∙ ap (map mark_name) (sym (take_more marks i d below)))));
       right = λ number lines firsts. subst (λ (xs : List Branch). AreBranches net (BeginsAtHome homes) lines number ends xs) (sym now)
           (branches_push net (BeginsAtHome homes) lines number ends branches new (b.right number lines firsts)
-          (record { probe = All-get_or (IsFirst number lines) marks i d below firsts; start = begun pieces begins; way = way (held ends branches) b.flagged }));
+          (record { probe = All-get_or (IsFirst number lines) marks i d below firsts; start = begun pieces begins; path = path (held ends branches) b.flagged }));
     }
   where
     begun : (pieces : List ℕ) → BeginsAt (λ piece. piece ≡ home) pieces → BeginsAt (BeginsAtHome homes (get_or marks i d).probe) pieces

@@ -1,4 +1,4 @@
--- Lines by the numbers of nets, and ways in a net.
+-- Lines by the numbers of nets, and paths in a net.
 use Rattle.std.specs.Prelude.{◌≡◌, ◌↔◌, ℕ, ◌<◌, Bool, true, false, List, [], ◌∷◌, length, slice_index_or, Contains, Option, Some, None}
 use Rattle.verdict.specs.declared.verdict.Twig.{Twig}
 use Rattle.board_shapes.specs.declared.probe.Probe.{Probe}
@@ -16,7 +16,7 @@ abbrev pub lines_by : List ℕ → List Probe → List (Option ℕ) → List Poi
 lines_by numbers (p ∷ probes) (home ∷ homes) = line_by numbers p home ∷ lines_by numbers probes homes
 lines_by numbers probes homes = []
 
--- ---- Ways
+-- ---- Paths
 
 -- The twig at place k has a parent before it.
 pub record HasAbove (net : List Twig) (k : ℕ) : Type 0 where

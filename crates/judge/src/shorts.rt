@@ -9,7 +9,7 @@ ghost use Rattle.verdict.specs.Places.{HasPlaces};
 ghost use Rattle.verdict.specs.Seats.{AreFirst, AreNamed, IsFirst, mark_name, marks_at, branch_name};
 
 use crate::places::place_net;
-use crate::ways::{flag_way, way_of};
+use crate::paths::{flag_path, path_of};
 use lengths::{NoMemory, Rows};
 use std::alloc::Global;
 use verdict::{Branch, Mark, Short, Tree, Twig};
@@ -95,8 +95,8 @@ fn branches_of(
     flags[0] = true;
     let mut branches = Rows::new(alloc);
     for mark in marks {
-        let pieces = way_of(alloc, net, places, home_of(homes, mark.probe), flags)?;
-        flag_way(net, places, pieces.as_slice(), flags);
+        let pieces = path_of(alloc, net, places, home_of(homes, mark.probe), flags)?;
+        flag_path(net, places, pieces.as_slice(), flags);
         branches.push(Branch {
             name: mark.name,
             probe: mark.probe,

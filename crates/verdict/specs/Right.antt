@@ -101,7 +101,7 @@ abbrev pub names_on : ℕ → ℕ → List (List ℕ) → List PointLine → Lis
 names_on net n [] lines = []
 names_on net n (name ∷ names) lines = where_some (first_on net n lines) n ++ names_on net (n + 1) names lines
 
--- a short without its ways: its net, and the name of each branch
+-- a short without its paths: its net, and the name of each branch
 pub record Outline : Type 0 where
   pub net : ℕ
   pub names : List ℕ
@@ -123,11 +123,11 @@ all_shorts n (net ∷ nets) names lines = short_of n (names_on n 0 names lines) 
 abbrev pub HasParent : List Twig → ℕ → ℕ → Type 0
 HasParent net piece parent = Contains net (record { piece = piece; parent = Some parent })
 
--- A way goes from each piece to its parent, and ends at the first piece that is one of the ends.
-abbrev pub IsWay : List Twig → List ℕ → List ℕ → Type 0
-IsWay net ends [] = ⊥
-IsWay net ends (piece ∷ []) = Contains ends piece
-IsWay net ends (piece ∷ parent ∷ rest) = (Contains ends piece → ⊥) × HasParent net piece parent × IsWay net ends (parent ∷ rest)
+-- A path goes from each piece to its parent, and ends at the first piece that is one of the ends.
+abbrev pub IsPath : List Twig → List ℕ → List ℕ → Type 0
+IsPath net ends [] = ⊥
+IsPath net ends (piece ∷ []) = Contains ends piece
+IsPath net ends (piece ∷ parent ∷ rest) = (Contains ends piece → ⊥) × HasParent net piece parent × IsPath net ends (parent ∷ rest)
 
 abbrev pub IsLeastOf : List ℕ → ℕ → Type 0
 IsLeastOf pieces least = Contains pieces least × ((piece : ℕ) → Contains pieces piece → least ≤ piece)
@@ -140,7 +140,7 @@ BeginsAt start (piece ∷ rest) = start piece
 pub record IsBranch (net : List Twig) (starts : ℕ → ℕ → Type 0) (lines : List PointLine) (number : ℕ) (ends : List ℕ) (b : Branch) : Type 0 where
   pub probe : first_on number b.name lines ≡ Some b.probe
   pub start : BeginsAt (starts b.probe) b.pieces
-  pub way : IsWay net ends b.pieces
+  pub path : IsPath net ends b.pieces
 
 -- Each branch ends at the net's first piece, or before it where an earlier branch holds a piece of it.
 abbrev pub AreBranches : List Twig → (ℕ → ℕ → Type 0) → List PointLine → ℕ → List ℕ → List Branch → Type 0

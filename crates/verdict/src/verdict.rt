@@ -46,7 +46,7 @@ pub struct Open {
     pub probe: u32,
 }
 
-/// The way from a point of a name into its net.
+/// The path from a point of a name into its net.
 #[derive(Debug, PartialEq, Eq, Drop)]
 pub struct Branch {
     pub name: u32,

@@ -172,7 +172,7 @@ begins_along a b along (p ∷ rest) h = along p h
 branches_along : (net : List Twig) (starts more : ℕ → ℕ → Type 0) (lines : List PointLine) → ((probe p : ℕ) → probe < length lines → starts probe p → more probe p) → (number : ℕ) (ends : List ℕ) (branches : List Branch) → AreBranches net starts lines number ends branches → AreBranches net more lines number ends branches
 branches_along net starts more lines along number ends [] all = tt
 branches_along net starts more lines along number ends (b ∷ rest) (first, all) = (
-  record { probe = first.probe; start = begins_along (starts b.probe) (more b.probe) (λ p. along b.probe p (let w = first_within number b.name 0 lines b.probe first.probe in omega arith)) b.pieces first.start; way = first.way },
+  record { probe = first.probe; start = begins_along (starts b.probe) (more b.probe) (λ p. along b.probe p (let w = first_within number b.name 0 lines b.probe first.probe in omega arith)) b.pieces first.start; path = first.path },
   branches_along net starts more lines along number (ends ++ b.pieces) rest all,
 )
 

@@ -8,7 +8,7 @@ use Rattle.tables.specs.Chains.{IsChain}
 use Rattle.tables.specs.Consistent.{AreConsistent}
 use Rattle.tables.specs.Tables.{Tables, TestPoint, Stands}
 use Rattle.verdict.specs.Forest.{Hang, IsTree, first_piece}
-use Rattle.verdict.specs.Right.{IsRight, Trees, Points, Shorts, Branches, AreBranches, AreLines, BeginsAt, BeginsBeneath, HasBranches, HasParent, IsOn, IsWay, Outline, all_shorts, first_from, first_on, is_on, marks, names_on, outline, short_of, where_some}
+use Rattle.verdict.specs.Right.{IsRight, Trees, Points, Shorts, Branches, AreBranches, AreLines, BeginsAt, BeginsBeneath, HasBranches, HasParent, IsOn, IsPath, Outline, all_shorts, first_from, first_on, is_on, marks, names_on, outline, short_of, where_some}
 use Rattle.verdict.specs.declared.verdict.Branch.{Branch}
 use Rattle.verdict.specs.declared.verdict.PointLine.{PointLine}
 use Rattle.verdict.specs.declared.verdict.Short.{Short}
@@ -65,12 +65,12 @@ parent_near near (t ∷ rest) piece parent (root, least, hang) has =
       | inr later ↦ hung near (t.piece ∷ []) rest twig parent hang later refl
     ]
 
--- Each piece of a way is joined to where the ends are.
-way_joined : (near : ℕ → ℕ → Type 0) → ((p q : ℕ) → near p q → near q p) → (net : List Twig) → IsTree near net → (among ends pieces : List ℕ) (root : ℕ) → IsWay net ends pieces → ((p : ℕ) → Contains pieces p → Contains among p) → ((p : ℕ) → Contains ends p → AreJoinedWithin near among p root) → (p : ℕ) → Contains pieces p → AreJoinedWithin near among p root
-way_joined near both net tree among ends [] root way inside known p here = absurd way
-way_joined near both net tree among ends (x ∷ []) root way inside known p here = subst (λ (y : ℕ). AreJoinedWithin near among y root) (one_of x p here) (known x way)
-way_joined near both net tree among ends (x ∷ y ∷ rest) root (going, up, way) inside known p here =
-    let further : (q : ℕ) → Contains (y ∷ rest) q → AreJoinedWithin near among q root = way_joined near both net tree among ends (y ∷ rest) root way (λ q h. inside q (Contains-append_right (x ∷ []) (y ∷ rest) q h)) known in
+-- Each piece of a path is joined to where the ends are.
+path_joined : (near : ℕ → ℕ → Type 0) → ((p q : ℕ) → near p q → near q p) → (net : List Twig) → IsTree near net → (among ends pieces : List ℕ) (root : ℕ) → IsPath net ends pieces → ((p : ℕ) → Contains pieces p → Contains among p) → ((p : ℕ) → Contains ends p → AreJoinedWithin near among p root) → (p : ℕ) → Contains pieces p → AreJoinedWithin near among p root
+path_joined near both net tree among ends [] root path inside known p here = absurd path
+path_joined near both net tree among ends (x ∷ []) root path inside known p here = subst (λ (y : ℕ). AreJoinedWithin near among y root) (one_of x p here) (known x path)
+path_joined near both net tree among ends (x ∷ y ∷ rest) root (going, up, path) inside known p here =
+    let further : (q : ℕ) → Contains (y ∷ rest) q → AreJoinedWithin near among q root = path_joined near both net tree among ends (y ∷ rest) root path (λ q h. inside q (Contains-append_right (x ∷ []) (y ∷ rest) q h)) known in
     elim (Contains-append_cases (x ∷ []) (y ∷ rest) p here) [
       | inl first ↦ subst (λ (z : ℕ). AreJoinedWithin near among z root) (one_of x p first) (within_step near among x y root (inside x (0, omega arith, refl)) (both y x (parent_near near net x y tree up)) (further y (0, omega arith, refl)))
       | inr later ↦ further p later
@@ -81,24 +81,24 @@ branches_joined : (near : ℕ → ℕ → Type 0) → ((p q : ℕ) → near p q 
 branches_joined near both net tree among root starts lines number ends [] all inside known b (k, below, same) p here = absurd (omega arith)
 branches_joined near both net tree among root starts lines number ends (c ∷ rest) (first, all) inside known b listed p here =
     let mine : (q : ℕ) → Contains c.pieces q → AreJoinedWithin near among q root =
-    way_joined near both net tree among ends c.pieces root first.way (λ q h. inside q (Contains-append_left c.pieces (flat_map (λ b. b.pieces) rest) q h)) known in
+    path_joined near both net tree among ends c.pieces root first.path (λ q h. inside q (Contains-append_left c.pieces (flat_map (λ b. b.pieces) rest) q h)) known in
     let more : (q : ℕ) → Contains (ends ++ c.pieces) q → AreJoinedWithin near among q root = λ q h. elim (Contains-append_cases ends c.pieces q h) [ inl old ↦ known q old | inr new ↦ mine q new ] in
     elim (Contains-append_cases (c ∷ []) rest b listed) [
       | inl same ↦ mine p (subst (λ (x : Branch). Contains x.pieces p) (sym (one_of c b same)) here)
       | inr later ↦ branches_joined near both net tree among root starts lines number (ends ++ c.pieces) rest all (λ q h. inside q (Contains-append_right c.pieces (flat_map (λ b. b.pieces) rest) q h)) more b later p here
     ]
 
--- A way ends at one of the ends.
-way_end : (net : List Twig) (ends pieces : List ℕ) → IsWay net ends pieces → (p : ℕ) × Contains ends p × Contains pieces p
-way_end net ends [] way = absurd way
-way_end net ends (x ∷ []) way = (x, way, (0, omega arith, refl))
-way_end net ends (x ∷ y ∷ rest) (going, up, way) = let e = way_end net ends (y ∷ rest) way in (e.0, e.1, Contains-append_right (x ∷ []) (y ∷ rest) e.0 e.2)
+-- A path ends at one of the ends.
+way_end : (net : List Twig) (ends pieces : List ℕ) → IsPath net ends pieces → (p : ℕ) × Contains ends p × Contains pieces p
+way_end net ends [] path = absurd path
+way_end net ends (x ∷ []) path = (x, path, (0, omega arith, refl))
+way_end net ends (x ∷ y ∷ rest) (going, up, path) = let e = way_end net ends (y ∷ rest) path in (e.0, e.1, Contains-append_right (x ∷ []) (y ∷ rest) e.0 e.2)
 
 -- The first branch holds the first piece of the net.
 root_inside : (net : List Twig) (root : ℕ) (starts : ℕ → ℕ → Type 0) (lines : List PointLine) (number : ℕ) (branches : List Branch) (b : Branch) → Contains branches b → AreBranches net starts lines number (root ∷ []) branches → Contains (flat_map (λ b. b.pieces) branches) root
 root_inside net root starts lines number [] b (k, below, same) all = absurd (omega arith)
 root_inside net root starts lines number (c ∷ rest) b listed (first, all) =
-    let e = way_end net (root ∷ []) c.pieces first.way in
+    let e = way_end net (root ∷ []) c.pieces first.path in
     Contains-append_left c.pieces (flat_map (λ b. b.pieces) rest) root (subst (λ (x : ℕ). Contains c.pieces x) (sym (one_of root e.0 e.1)) e.2)
 
 -- ---- The branch of a name

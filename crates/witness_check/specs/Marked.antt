@@ -5,7 +5,7 @@ use Rattle.verdict.specs.declared.verdict.Mark.{Mark}
 use Rattle.verdict.specs.Right.{Outline, short_of}
 use Rattle.verdict.specs.Seats.{branch_name, mark_name, marks_at}
 
--- a short of a net with these marks, without its ways
+-- a short of a net with these marks, without its paths
 abbrev pub outline_of : ℕ → List Mark → Outline
 outline_of net marks = record { net = net; names = map mark_name marks }
 

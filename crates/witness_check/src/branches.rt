@@ -2,7 +2,7 @@
 ghost use Rattle.std.specs.Prelude.{◌≡◌, ℕ, ◌<◌, ◌≤◌, ◌↔◌, IsTrue, length, map, List, ◌∷◌, [], ◌++◌, Some, None, All, slice_index_or, IfOk};
 ghost use Rattle.verdict.specs.Forest.{first_piece, net_at};
 ghost use Rattle.verdict.specs.Places.{HasPlaces};
-ghost use Rattle.verdict.specs.Right.{AreBranches, BeginsAt, BeginsAtHome, HasBranches, HasParent, IsBranch, IsWay};
+ghost use Rattle.verdict.specs.Right.{AreBranches, BeginsAt, BeginsAtHome, HasBranches, HasParent, IsBranch, IsPath};
 ghost use Rattle.verdict.specs.Seats.{AreFirst, IsFirst, branch_name, mark_name};
 ghost use Rattle.verdict.specs.declared.verdict.PointLine.{PointLine};
 ghost use Rattle.witness_check.specs.Marked.{AreStamped, AreUpTo, HasMarks};
@@ -92,7 +92,7 @@ fn is_branch(
     let pieces = branch.pieces.as_slice();
     branch.probe == mark.probe
         && begins_at_home(pieces, homes, mark.probe)
-        && is_way(net, places, pieces, stamp, stamps)
+        && is_path(net, places, pieces, stamp, stamps)
 }
 
 // Whether the first piece is the home of the point.
@@ -116,11 +116,11 @@ fn home_of(homes: &[Option<u32>], probe: u32) -> Option<u32>
 }
 
 // Whether each piece has the next as its parent, and the last is the only one with the stamp.
-fn is_way(net: &[Twig], places: &[usize], pieces: &[u32], stamp: usize, stamps: &[usize]) -> bool
+fn is_path(net: &[Twig], places: &[usize], pieces: &[u32], stamp: usize, stamps: &[usize]) -> bool
     requires places { HasPlaces net.now places.now }
     requires room { length places.now ≤ length stamps.now }
     requires some { 0 < stamp }
-    ensures way { (ends : List ℕ) → AreStamped ends stamp stamps.now → IsTrue result ↔ IsWay net.now ends pieces.now }
+    ensures path { (ends : List ℕ) → AreStamped ends stamp stamps.now → IsTrue result ↔ IsPath net.now ends pieces.now }
     ensures inside { IsTrue result → All (λ piece. piece < length stamps.now) pieces.now }
 {
     if pieces.is_empty() {

@@ -150,7 +150,7 @@ fn numbers(alloc: Global, items: &[u32]) -> Result<Rows<u32>, NoMemory> {
     Ok(rows)
 }
 
-// The short of the first net, with these ways from the probes of the two names.
+// The short of the first net, with these paths from the probes of the two names.
 fn short(alloc: Global, first: &[u32], second: &[u32]) -> Result<Rows<Short>, NoMemory> {
     let mut branches = Rows::new(alloc);
     branches.push(Branch {

@@ -1,7 +1,7 @@
-// Ways from a piece to its parent and on.
+// Paths from a piece to its parent and on.
 ghost use Rattle.std.specs.Prelude.{◌≡◌, ℕ, ◌+◌, ◌<◌, length, List, ◌++◌, Some, true, false, All, Contains, slice_index_or, IfOk};
 ghost use Rattle.verdict.specs.Forest.{pieces_of};
-ghost use Rattle.verdict.specs.Right.{IsWay, BeginsAt};
+ghost use Rattle.verdict.specs.Right.{IsPath, BeginsAt};
 ghost use Rattle.judge.specs.Judged.{HangAbove, AreFlags};
 ghost use Rattle.verdict.specs.Places.{twig_at, HasPlaces};
 
@@ -9,8 +9,8 @@ use lengths::{NoMemory, Rows};
 use std::alloc::Global;
 use verdict::Twig;
 
-/// The way from a piece of a net to its first flagged piece.
-pub fn way_of(
+/// The path from a piece of a net to its first flagged piece.
+pub fn path_of(
     alloc: Global,
     net: &[Twig],
     places: &[usize],
@@ -23,7 +23,7 @@ pub fn way_of(
     requires flags { length flags.now ≡ length net.now }
     requires root { slice_index_or flags.now 0 false ≡ true }
     ensures start { IfOk result (λ pieces. BeginsAt (λ piece. piece ≡ start) pieces) }
-    ensures way { IfOk result (λ pieces. (ends : List ℕ) → AreFlags net.now ends flags.now → IsWay net.now ends pieces) }
+    ensures path { IfOk result (λ pieces. (ends : List ℕ) → AreFlags net.now ends flags.now → IsPath net.now ends pieces) }
     ensures inside { IfOk result (λ pieces. All (λ piece. Contains (pieces_of net.now) piece) pieces) }
 {
     let mut pieces = Rows::new(alloc);
@@ -51,8 +51,8 @@ fn above(net: &[Twig], places: &[usize], k: usize) -> usize
     }
 }
 
-/// Flags the pieces of a way.
-pub fn flag_way(net: &[Twig], places: &[usize], pieces: &[u32], flags: &mut [bool])
+/// Flags the pieces of a path.
+pub fn flag_path(net: &[Twig], places: &[usize], pieces: &[u32], flags: &mut [bool])
     requires places { HasPlaces net.now places.now }
     requires inside { All (λ piece. Contains (pieces_of net.now) piece) pieces.now }
     requires flags { length flags.old ≡ length net.now }

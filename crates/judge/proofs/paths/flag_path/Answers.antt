@@ -3,8 +3,8 @@ use Rattle.std.proofs.lemmas.List.{take_all, take_more}
 use Rattle.std.proofs.lemmas.List.Elements.{All-get_or}
 use Rattle.verdict.specs.Forest.{pieces_of}
 use Rattle.judge.specs.Judged.{AreFlags}
-use Rattle.judge.proofs.Paths.{AreFlagged, flagged_more}
-use Rattle.judge.proofs.ways.flag_way.Goals as goal
+use Rattle.judge.proofs.Climbing.{AreFlagged, flagged_more}
+use Rattle.judge.proofs.paths.flag_path.Goals as goal
 use Rattle.verdict.proofs.Placing.{placed}
 
 pub bounds-places-piece : goal.bounds-places-piece

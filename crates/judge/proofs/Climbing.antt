@@ -1,36 +1,36 @@
--- Ways up a tree.
+-- Paths up a tree.
 use Rattle.std.proofs.Common.{◌≡◌, inl, inr, ℕ, zero, suc, ◌<◌, Bool, true, false, List, [], ◌∷◌, ◌++◌, length, get_or, set, Contains, All, Option, Some, None, refl, sym, ap, subst, ◌∙◌, append_assoc, append-nil, arith}
 use Rattle.std.proofs.lemmas.List.{length-set, get_or-set_same, get_or-set_other, get_or_default}
 use Rattle.std.proofs.lemmas.List.Elements.{All-push, Contains-append_left, Contains-append_cases, Contains-push}
 use Rattle.std.proofs.lemmas.Bool.{cases_eq}
 use Rattle.verdict.specs.declared.verdict.Twig.{Twig}
 use Rattle.verdict.specs.Forest.{pieces_of}
-use Rattle.verdict.specs.Right.{IsWay, HasParent, BeginsAt}
+use Rattle.verdict.specs.Right.{IsPath, HasParent, BeginsAt}
 use Rattle.verdict.proofs.Placing.{placed, twig_inside}
 use Rattle.judge.specs.Judged.{HangAbove, AreFlags}
 use Rattle.verdict.specs.Places.{twig_at, HasPlaces}
 
--- a way that has not ended: its last piece has `next` as its parent
-abbrev pub IsOpenWay : List Twig → List ℕ → List ℕ → ℕ → Type 0
-IsOpenWay net ends [] next = Unit {0}
-IsOpenWay net ends (piece ∷ []) next = (Contains ends piece → ⊥) × HasParent net piece next
-IsOpenWay net ends (piece ∷ parent ∷ rest) next = (Contains ends piece → ⊥) × HasParent net piece parent × IsOpenWay net ends (parent ∷ rest) next
+-- a path that has not ended: its last piece has `next` as its parent
+abbrev pub IsOpenPath : List Twig → List ℕ → List ℕ → ℕ → Type 0
+IsOpenPath net ends [] next = Unit {0}
+IsOpenPath net ends (piece ∷ []) next = (Contains ends piece → ⊥) × HasParent net piece next
+IsOpenPath net ends (piece ∷ parent ∷ rest) next = (Contains ends piece → ⊥) × HasParent net piece parent × IsOpenPath net ends (parent ∷ rest) next
 
-pub open_more : (net : List Twig) (ends pieces : List ℕ) (cur next : ℕ) → IsOpenWay net ends pieces cur → (Contains ends cur → ⊥) → HasParent net cur next → IsOpenWay net ends (pieces ++ cur ∷ []) next
-open_more net ends [] cur next way not parent = (not, parent)
+pub open_more : (net : List Twig) (ends pieces : List ℕ) (cur next : ℕ) → IsOpenPath net ends pieces cur → (Contains ends cur → ⊥) → HasParent net cur next → IsOpenPath net ends (pieces ++ cur ∷ []) next
+open_more net ends [] cur next path not parent = (not, parent)
 open_more net ends (p ∷ []) cur next (a, b) not parent = (a, b, (not, parent))
 open_more net ends (p ∷ q ∷ rest) cur next (a, b, more) not parent = (a, b, open_more net ends (q ∷ rest) cur next more not parent)
 
-pub way_ends : (net : List Twig) (ends pieces : List ℕ) (cur : ℕ) → IsOpenWay net ends pieces cur → Contains ends cur → IsWay net ends (pieces ++ cur ∷ [])
-way_ends net ends [] cur way here = here
-way_ends net ends (p ∷ []) cur (a, b) here = (a, b, here)
-way_ends net ends (p ∷ q ∷ rest) cur (a, b, more) here = (a, b, way_ends net ends (q ∷ rest) cur more here)
+pub path_ends : (net : List Twig) (ends pieces : List ℕ) (cur : ℕ) → IsOpenPath net ends pieces cur → Contains ends cur → IsPath net ends (pieces ++ cur ∷ [])
+path_ends net ends [] cur path here = here
+path_ends net ends (p ∷ []) cur (a, b) here = (a, b, here)
+path_ends net ends (p ∷ q ∷ rest) cur (a, b, more) here = (a, b, path_ends net ends (q ∷ rest) cur more here)
 
 -- a loop that goes up has come to place k
 pub record IsUp (net : List Twig) (flags : List Bool) (from : ℕ) (pieces : List ℕ) (k : ℕ) : Type 0 where
   pub within : k < length net
   pub start : BeginsAt (λ piece. piece ≡ from) (pieces ++ (twig_at net k).piece ∷ [])
-  pub way : (ends : List ℕ) → AreFlags net ends flags → IsOpenWay net ends pieces (twig_at net k).piece
+  pub path : (ends : List ℕ) → AreFlags net ends flags → IsOpenPath net ends pieces (twig_at net k).piece
   pub inside : All (λ piece. Contains (pieces_of net) piece) pieces
 
 some_same : (a b : ℕ) → Some a ≡ Some b → a ≡ b
@@ -55,7 +55,7 @@ begins_more P (x ∷ xs) ys h = h
 pub up_start : (net : List Twig) (places : List ℕ) (flags : List Bool) (from : ℕ) → HasPlaces net places → Contains (pieces_of net) from → IsUp net flags from [] (get_or places from 0)
 up_start net places flags from all inside =
     let p = placed net places from all inside in
-    record { within = p.0; start = p.2; way = λ ends agree. tt; inside = λ k d h. absurd (omega arith) }
+    record { within = p.0; start = p.2; path = λ ends agree. tt; inside = λ k d h. absurd (omega arith) }
 
 pub up_more : (net : List Twig) (flags : List Bool) (from : ℕ) (pieces : List ℕ) (k next : ℕ) → IsUp net flags from pieces k → get_or flags k false ≡ false → next < k → (twig_at net k).parent ≡ Some (twig_at net next).piece → IsUp net flags from (pieces ++ (twig_at net k).piece ∷ []) next
 up_more net flags from pieces k next u off lower named =
@@ -66,12 +66,12 @@ up_more net flags from pieces k next u off lower named =
     record {
       within = omega arith;
       start = begins_more (λ piece. piece ≡ from) (pieces ++ (twig_at net k).piece ∷ []) ((twig_at net next).piece ∷ []) u.start;
-      way = λ ends agree. open_more net ends pieces (twig_at net k).piece (twig_at net next).piece (u.way ends agree) (λ held. let on = (agree k within).0 held in cc) parent;
+      path = λ ends agree. open_more net ends pieces (twig_at net k).piece (twig_at net next).piece (u.path ends agree) (λ held. let on = (agree k within).0 held in cc) parent;
       inside = All-push (λ piece. Contains (pieces_of net) piece) pieces (twig_at net k).piece u.inside (twig_inside net k within);
     }
 
-pub up_done : (net : List Twig) (flags : List Bool) (from : ℕ) (pieces : List ℕ) (k : ℕ) → IsUp net flags from pieces k → get_or flags k false ≡ true → (ends : List ℕ) → AreFlags net ends flags → IsWay net ends (pieces ++ (twig_at net k).piece ∷ [])
-up_done net flags from pieces k u on ends agree = way_ends net ends pieces (twig_at net k).piece (u.way ends agree) ((agree k u.within).1 on)
+pub up_done : (net : List Twig) (flags : List Bool) (from : ℕ) (pieces : List ℕ) (k : ℕ) → IsUp net flags from pieces k → get_or flags k false ≡ true → (ends : List ℕ) → AreFlags net ends flags → IsPath net ends (pieces ++ (twig_at net k).piece ∷ [])
+up_done net flags from pieces k u on ends agree = path_ends net ends pieces (twig_at net k).piece (u.path ends agree) ((agree k u.within).1 on)
 
 pub up_inside : (net : List Twig) (flags : List Bool) (from : ℕ) (pieces : List ℕ) (k : ℕ) → IsUp net flags from pieces k → All (λ piece. Contains (pieces_of net) piece) (pieces ++ (twig_at net k).piece ∷ [])
 up_inside net flags from pieces k u = All-push (λ piece. Contains (pieces_of net) piece) pieces (twig_at net k).piece u.inside (twig_inside net k u.within)
