@@ -1,6 +1,6 @@
 -- The line that ends a netlist, and prefixes without it.
-use Rattle.std.proofs.Common.{◌≡◌, ℕ, ◌+◌, ◌<◌, ◌≤◌, ◌⊎◌, inl, inr, Bool, true, false, ◌||◌, if◌then◌else◌, List, [], ◌∷◌, ◌++◌, length, map, take, drop, get_or, codes, IsOk, refl, sym, ap, ◌∙◌, subst, append_assoc, arith}
-use Rattle.std.proofs.lemmas.List.{map-append, take_all, take-append-drop, length-append}
+use Rattle.std.proofs.Common.{◌≡◌, ℕ, ◌+◌, ◌<◌, ◌≤◌, ◌⊎◌, inl, inr, Bool, true, false, ◌||◌, if◌then◌else◌, List, [], ◌∷◌, ◌++◌, length, map, take, drop, get_or, codes, Option, None, Result, Ok, IsOk, refl, sym, ap, ◌∙◌, subst, append_assoc, arith}
+use Rattle.std.proofs.lemmas.List.{append-nil, map-append, take_all, take-append-drop, length-append}
 use Rattle.std.proofs.lemmas.Slice.Eq.{starts_is}
 use Rattle.std.proofs.lemmas.Bool.Decides.{Decides-eqb, leb_tells}
 use Rattle.std.specs.List.{list_all}
@@ -8,16 +8,16 @@ use Rattle.texts.specs.Blanks.{is_blank}
 use Rattle.ipc356_records.specs.Columns.{part, words, line_to}
 use Rattle.board_shapes.specs.declared.probe.Probe.{Probe}
 use Rattle.file_reading.specs.Reading.{Item, said}
-use Rattle.file_reading.proofs.Ending.{Ends, NoneEnd, none_before_end, refused_without_end}
+use Rattle.file_reading.proofs.Ending.{Ends, NoneEnd, none_before_end, refused_without_end, same_made}
 use Rattle.texts.specs.Lines.{PlainLine, lines_of}
 use Rattle.texts.specs.Words.{begins, is}
-use Rattle.texts.proofs.Prefix.{AreCut, TellsEnd, NoneEnds, no_end_in_prefix, lines_of_prefix}
+use Rattle.texts.proofs.Prefix.{AreCut, TellsEnd, NoneEnds, end_of_prefix, no_end_in_prefix, lines_of_prefix}
 use Rattle.ipc356_records.specs.declared.kind.RecordKind.{RecordKind}
 use Rattle.ipc356_records.specs.Line.{Form, blank, unread, units, ends, continues, tests, unknown, finishes}
 use Rattle.ipc356_records.specs.Reading.{form_of, coded, parameter, unit_of, fields_in, is_continuation, is_test, is_other_three, is_other_zero}
-use Rattle.ipc356_records.specs.Settings.{is_end, has_ended, known_at}
-use Rattle.ipc356_records.specs.Table.{Known, effect, row, behind}
-use Rattle.ipc356_records.specs.NetlistFile.{netlist_of, effect_at, item_of, items, IsRead, IsRefused}
+use Rattle.ipc356_records.specs.Settings.{is_end, has_ended, known_at, name_in, names_of, with_name_if}
+use Rattle.ipc356_records.specs.Table.{Known, Effect, stays, effect, row, behind, probes_of_effect}
+use Rattle.ipc356_records.specs.NetlistFile.{Netlist, netlist_of, effect_at, item_of, items, probes_in, probes_of, IsRead, IsRefused}
 use Rattle.ipc356_records.specs.Laws.{IsEndLine, PrefixIsRefused}
 use Rattle.ipc356_records.proofs.OneAnswer.{one_answer}
 
@@ -61,6 +61,29 @@ table_ends layers = record {
   once = λ earlier form ended is ok. ended_ok (known_at layers earlier) ended (subst (λ (f : Form). IsOk (effect (known_at layers earlier) f)) (ends_of form is) ok);
   needed = λ earlier no ok. needs_end (known_at layers earlier) no ok;
 }
+
+-- behind the end a line without a fault makes nothing
+behind_stays : (form : Form) → IsOk (behind form) → (behind form ≡ Ok stays) × (name_in form ≡ None)
+behind_stays blank ok = (refl, refl)
+behind_stays unread ok = cc
+behind_stays (units unit) ok = cc
+behind_stays ends ok = cc
+behind_stays continues ok = cc
+behind_stays (tests fields) ok = cc
+behind_stays unknown ok = cc
+behind_stays finishes ok = (refl, refl)
+
+ended_behind : (k : Known) (form : Form) → k.ended ≡ true → effect k form ≡ behind form
+unfolding effect
+ended_behind k form h = rw h refl
+
+ended_idle : (layers : ℕ) (earlier : List Form) (form : Form) → has_ended earlier ≡ true → IsOk (effect_at layers earlier form) → netlist_of layers (form ∷ earlier) ≡ netlist_of layers earlier
+unfolding probes_of_effect
+ended_idle layers earlier form h ok =
+    let judged = ended_behind (known_at layers earlier) form h in
+    let nothing = behind_stays form (subst IsOk judged ok) in
+    let same_probes : probes_of layers (form ∷ earlier) ≡ probes_of layers earlier = ap (λ (r : Result Effect RecordKind). probes_of layers earlier ++ probes_in (known_at layers earlier) r) (judged ∙ nothing.0) ∙ append-nil (probes_of layers earlier) in
+    ap (λ (probes : List Probe). record { probes = probes; names = names_of (form ∷ earlier) }) same_probes ∙ ap (λ (name : Option (List ℕ)). record { probes = probes_of layers earlier; names = with_name_if name (names_of earlier) }) nothing.1
 
 -- the end's bytes
 abbrev tells : List ℕ → Bool
@@ -148,6 +171,12 @@ said_lines (line ∷ lines) last = ap (λ (fs : List Form). form_of line.text �
 said_items : (file : List ℕ) → said (items file) ≡ forms (lines_of file) ++ finishes ∷ []
 said_items file = said_lines (lines_of file) (record { says = finishes; at = length (lines_of file) + 1 })
 
+-- the same, around a line of the end's
+said_at : (file : List ℕ) (before : List PlainLine) (line : PlainLine) (after : List PlainLine) → lines_of file ≡ before ++ line ∷ after → form_of line.text ≡ ends → said (items file) ≡ forms before ++ ends ∷ (forms after ++ finishes ∷ [])
+said_at file before line after among is =
+    said_items file ∙ ap (λ (ls : List PlainLine). forms ls ++ finishes ∷ []) among ∙ ap (λ (fs : List Form). fs ++ finishes ∷ []) (map-append (λ (l : PlainLine). form_of l.text) before (line ∷ after))
+    ∙ append_assoc (forms before) (form_of line.text ∷ forms after) (finishes ∷ []) ∙ ap (λ (f : Form). forms before ++ f ∷ (forms after ++ finishes ∷ [])) is
+
 no_bytes : (lines : List PlainLine) → NoneEnd is_end (forms lines) → NoneEnds tells lines
 no_bytes [] none = tt
 no_bytes (line ∷ lines) none = (by (tells line.text) refl, no_bytes lines none.1)
@@ -177,12 +206,9 @@ refused file layers none =
 prefix_refused : (file : List ℕ) (layers : ℕ) (probes : List Probe) (names : List (List ℕ)) (line : PlainLine) (n : ℕ) → IsRead file layers probes names → IsEndLine file line → n < line.at + 3 → n ≤ length file → Refused (take n file) layers
 unfolding reach
 prefix_refused file layers probes names line n read e low within =
-    let parts : said (items file) ≡ forms e.before ++ form_of line.text ∷ (forms e.after ++ finishes ∷ []) =
-    said_items file ∙ ap (λ (ls : List PlainLine). forms ls ++ finishes ∷ []) e.among ∙ ap (λ (fs : List Form). fs ++ finishes ∷ []) (map-append (λ (l : PlainLine). form_of l.text) e.before (line ∷ e.after)) ∙ append_assoc (forms e.before) (form_of line.text ∷ forms e.after) (finishes ∷ []) in
-    let is : is_end (form_of line.text) ≡ true = ap is_end e.is in
-    let none = none_before_end (effect_at layers) (netlist_of layers) is_end has_ended finishes (items file) (record { probes = probes; names = names }) (forms e.before) (form_of line.text) (forms e.after ++ finishes ∷ []) (table_ends layers) read parts is in
+    let none = none_before_end (effect_at layers) (netlist_of layers) is_end has_ended finishes (items file) (record { probes = probes; names = names }) (forms e.before) ends (forms e.after ++ finishes ∷ []) (table_ends layers) read (said_at file e.before line e.after e.among e.is) refl in
     let cut = subst (λ (ls : List PlainLine). AreCut n ls (lines_of (take n file))) e.among (lines_of_prefix file n within) in
-    refused (take n file) layers (no_forms (lines_of (take n file)) (no_end_in_prefix tells reach n e.before line e.after (lines_of (take n file)) code_tells_end cut (no_bytes e.before none) (ends_told line.text is) low))
+    refused (take n file) layers (no_forms (lines_of (take n file)) (no_end_in_prefix tells reach n e.before line e.after (lines_of (take n file)) code_tells_end cut (no_bytes e.before none) (ends_told line.text (ap is_end e.is)) low))
 
 -- a line of the end's, or none
 record Found (lines : List PlainLine) : Type 0 where
@@ -201,12 +227,15 @@ seek (line ∷ lines) = by (is_end (form_of line.text)) refl (seek lines)
     by false h (inl f) = inl (record { line = f.line; before = line ∷ f.before; after = f.after; among = ap (λ (ls : List PlainLine). line ∷ ls) f.among; is = f.is })
     by false h (inr none) = inr (h, none)
 
+found_in : (file : List ℕ) (layers : ℕ) (probes : List Probe) (names : List (List ℕ)) → IsRead file layers probes names → Found (lines_of file)
+found_in file layers probes names read = elim (seek (lines_of file)) [
+  | inl f ↦ f
+  | inr none ↦ absurd (let r = refused file layers none in (one_answer file layers).not_both (record { probes = probes; names = names }) r.0 r.2.0 r.1 read r.2.1)
+]
+
 pub prefix_is_refused : (file : List ℕ) (layers : ℕ) → PrefixIsRefused file layers
 prefix_is_refused file layers probes names read = (
-  elim (seek (lines_of file)) [
-    | inl f ↦ (f.line, record { before = f.before; after = f.after; among = f.among; is = f.is })
-    | inr none ↦ absurd (let r = refused file layers none in (one_answer file layers).not_both (record { probes = probes; names = names }) r.0 r.2.0 r.1 read r.2.1)
-  ],
+  (let f = found_in file layers probes names read in (f.line, record { before = f.before; after = f.after; among = f.among; is = f.is })),
   λ line e n low. elim (leb_tells n (length file)) [
     | inl within ↦ prefix_refused file layers probes names line n read e low within.1
     | inr past ↦ (
@@ -215,3 +244,22 @@ prefix_is_refused file layers probes names read = (
         )
   ],
 )
+
+-- ---- A prefix that is read
+
+same_within : (file : List ℕ) (layers : ℕ) (probes others : List Probe) (names words : List (List ℕ)) (n : ℕ) → IsRead file layers probes names → IsRead (take n file) layers others words → n ≤ length file → ◌≡◌ {A = Netlist} (record { probes = others; names = words }) (record { probes = probes; names = names })
+same_within file layers probes others names words n read cut within =
+    let f = found_in (take n file) layers others words cut in
+    let lines = subst (AreCut n (lines_of file)) f.among (lines_of_prefix file n within) in
+    let e = end_of_prefix tells reach n (lines_of file) f.before f.line f.after code_tells_end lines (ends_told f.line.text (ap is_end f.is)) in
+    same_made (effect_at layers) (netlist_of layers) is_end has_ended finishes (items file) (items (take n file)) (record { probes = probes; names = names }) (record { probes = others; names = words }) (forms f.before) ends (forms e.1 ++ finishes ∷ []) (forms f.after ++ finishes ∷ []) (table_ends layers) (ended_idle layers) read cut
+    (said_at file f.before e.0 e.1 e.2 (told_ends e.0.text e.3)) (said_at (take n file) f.before f.line f.after f.among f.is) refl
+
+pub prefix_makes_the_same : (file : List ℕ) (layers : ℕ) (probes others : List Probe) (names words : List (List ℕ)) (n : ℕ) → IsRead file layers probes names → IsRead (take n file) layers others words → (others ≡ probes) × (words ≡ names)
+prefix_makes_the_same file layers probes others names words n read cut = elim (leb_tells n (length file)) [
+  | inl within ↦ both (same_within file layers probes others names words n read cut within.1)
+  | inr past ↦ both ((one_answer file layers).one_value (record { probes = others; names = words }) (record { probes = probes; names = names }) (subst (λ (xs : List ℕ). IsRead xs layers others words) (take_all n file (let h = past.1 in omega arith)) cut) read)
+]
+  where
+    both : ◌≡◌ {A = Netlist} (record { probes = others; names = words }) (record { probes = probes; names = names }) → (others ≡ probes) × (words ≡ names)
+    both e = (ap (λ (l : Netlist). l.probes) e, ap (λ (l : Netlist). l.names) e)

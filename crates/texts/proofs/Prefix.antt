@@ -193,3 +193,28 @@ no_end_in_prefix is_end reach n (first ∷ before) line after (cut ∷ cuts) tel
   | inl same ↦ (subst (λ (l : PlainLine). is_end l.text ≡ false) (sym same.0) none.0, no_end_in_prefix is_end reach n before line after cuts tells same.1 none.1 is low)
   | inr through ↦ (cut_silent is_end reach first cut tells through.1 (λ h. let yes = h.0 in let no = none.0 in cc), subst (NoneEnds is_end) (sym through.0) tt)
 ]
+
+-- where a line of a prefix tells the end, the same line of the file does, and both have the same lines before it
+pub end_of_prefix : (is_end : List ℕ → Bool) (reach : List ℕ → ℕ) (n : ℕ) (lines before : List PlainLine) (cut : PlainLine) (after : List PlainLine) → TellsEnd is_end reach → AreCut n lines (before ++ cut ∷ after) → is_end cut.text ≡ true → (line : PlainLine) × (later : List PlainLine) × (lines ≡ before ++ line ∷ later) × (is_end line.text ≡ true)
+end_of_prefix is_end reach n [] [] cut after tells a is = absurd a
+end_of_prefix is_end reach n [] (first ∷ before) cut after tells a is = absurd a
+end_of_prefix is_end reach n (line ∷ lines) [] cut after tells a is = (
+  line,
+  lines,
+  refl,
+  elim a.1 [
+    | inl same ↦ subst (λ (l : PlainLine). is_end l.text ≡ true) same.0 is
+    | inr through ↦ (cut_ends is_end reach line cut tells through.1 is).0
+  ],
+)
+end_of_prefix is_end reach n (line ∷ lines) (first ∷ before) cut after tells a is = elim a.1 [
+  | inl same ↦ (
+      let more = end_of_prefix is_end reach n lines before cut after tells same.1 is in
+      (more.0, more.1, ap (λ (ls : List PlainLine). line ∷ ls) more.2 ∙ ap (λ (l : PlainLine). l ∷ (before ++ more.0 ∷ more.1)) (sym same.0), more.3)
+      )
+  | inr through ↦ absurd (some_line before cut after through.0)
+]
+  where
+    some_line : (before : List PlainLine) (cut : PlainLine) (after : List PlainLine) → before ++ cut ∷ after ≡ [] → ⊥
+    some_line [] cut after h = cc
+    some_line (first ∷ before) cut after h = cc

@@ -1,17 +1,17 @@
 -- The line that ends a drill file, and prefixes without it.
-use Rattle.std.proofs.Common.{◌≡◌, ℕ, ◌+◌, ◌-◌, ◌<◌, ◌≤◌, ◌⊎◌, inl, inr, zero, suc, Bool, true, false, ◌||◌, ◌==◌, not, if◌then◌else◌, List, [], ◌∷◌, ◌++◌, length, map, reverse, take, drop, get_or, codes, Option, Some, None, Ok, IsOk, refl, sym, ap, ◌∙◌, subst, append_assoc, arith}
+use Rattle.std.proofs.Common.{◌≡◌, ℕ, ◌+◌, ◌-◌, ◌<◌, ◌≤◌, ◌⊎◌, inl, inr, zero, suc, Bool, true, false, ◌||◌, ◌==◌, not, if◌then◌else◌, List, [], ◌∷◌, ◌++◌, length, map, reverse, take, drop, get_or, codes, Option, Some, None, Result, Ok, IsOk, refl, sym, ap, ◌∙◌, subst, append_assoc, arith}
 use Rattle.std.specs.List.{prefix_len, suffix_len, position_or_len, list_any, before_first, after_first}
-use Rattle.std.proofs.lemmas.List.{map-append, take_all, take-append-drop, length-append, length-drop, length-reverse, reverse-append}
+use Rattle.std.proofs.lemmas.List.{append-nil, map-append, take_all, take-append-drop, length-append, length-drop, length-reverse, reverse-append}
 use Rattle.std.proofs.lemmas.Slice.Eq.{slice_eq-Decides, starts_is}
 use Rattle.std.proofs.lemmas.Bool.Decides.{Decides-eqb, leb_tells}
 use Rattle.board_shapes.specs.Plain.{PlainPiece}
 use Rattle.lengths.specs.Decimal.{Fraction}
 use Rattle.file_reading.specs.Reading.{Item, said}
-use Rattle.file_reading.proofs.Ending.{CleanOn, Ends, NoneEnd, read_clean, none_before_end, refused_without_end}
+use Rattle.file_reading.proofs.Ending.{CleanOn, Ends, NoneEnd, clean_behind, none_before_end, read_clean, refused_without_end, same_made}
 use Rattle.texts.specs.Blanks.{is_blank, trimmed, without_back, without_front}
 use Rattle.texts.specs.Lines.{PlainLine, lines_of}
 use Rattle.texts.specs.Words.{begins, is}
-use Rattle.texts.proofs.Prefix.{AreCut, TellsEnd, NoneEnds, no_end_in_prefix, lines_of_prefix}
+use Rattle.texts.proofs.Prefix.{AreCut, TellsEnd, NoneEnds, end_of_prefix, no_end_in_prefix, lines_of_prefix}
 use Rattle.xnc.specs.declared.kind.DrillKind.{DrillKind}
 use Rattle.xnc.specs.declared.kind.DrillKind.TheVariants as kind
 use Rattle.xnc.specs.declared.line.Coordinates.{Coordinates}
@@ -21,8 +21,8 @@ use Rattle.xnc.specs.declared.settings.Stage.{Stage}
 use Rattle.xnc.specs.declared.settings.Stage.TheVariants.{Opening, Header, Body, Ended}
 use Rattle.xnc.specs.Place.{Place}
 use Rattle.xnc.specs.Reading.{form_of, within_blanks, comment, file_function, command, body_line, place_line, tool_line, routs, straight, hits, slots, slot_end, defines, selects, coordinates_of, field, further, names_span, is_g, is_c, is_arc, is_metric, is_inch}
-use Rattle.xnc.specs.Table.{Known, stays, unless, effect, staged, header, body, is_ended}
-use Rattle.xnc.specs.Settings.{stage_at, known_at, effect_at, barrels_at}
+use Rattle.xnc.specs.Table.{Known, Effect, stays, unless, effect, staged, header, body, is_ended}
+use Rattle.xnc.specs.Settings.{stage_at, known_at, effect_at, piece_of, barrels_at}
 use Rattle.xnc.specs.DrillFile.{item_of, items, IsRead, IsRefused}
 use Rattle.xnc.specs.Laws.{IsEndLine, PrefixIsRefused, end_of}
 use Rattle.xnc.proofs.OneAnswer.{one_answer}
@@ -123,6 +123,39 @@ needed p earlier before ok = unended (has_ended earlier) before ok
     unended : (b : Bool) → b ≡ false → IsOk (unless (not b) kind.NotEnded (Ok stays)) → ⊥
     unended true before ok = cc
     unended false before ok = cc
+
+-- behind the end a line without a fault does nothing
+ended_stays : (p : Place) (earlier : List Form) (f : Form) → has_ended earlier ≡ true → IsOk (effect_at p earlier f) → effect_at p earlier f ≡ Ok stays
+unfolding effect
+ended_stays p earlier form.Blank h ok = refl
+ended_stays p earlier (form.Misfit kind) h ok = cc
+ended_stays p earlier form.Start h ok = absurd (staged_ended (stage_at earlier) (known_at p earlier) form.Start h ok)
+ended_stays p earlier form.Format h ok = absurd (staged_ended (stage_at earlier) (known_at p earlier) form.Format h ok)
+ended_stays p earlier form.Absolute h ok = absurd (staged_ended (stage_at earlier) (known_at p earlier) form.Absolute h ok)
+ended_stays p earlier (form.Unit unit) h ok = absurd (staged_ended (stage_at earlier) (known_at p earlier) (form.Unit unit) h ok)
+ended_stays p earlier (form.Tool n d) h ok = absurd (staged_ended (stage_at earlier) (known_at p earlier) (form.Tool n d) h ok)
+ended_stays p earlier form.HeaderEnd h ok = absurd (staged_ended (stage_at earlier) (known_at p earlier) form.HeaderEnd h ok)
+ended_stays p earlier form.Arc h ok = absurd (staged_ended (stage_at earlier) (known_at p earlier) form.Arc h ok)
+ended_stays p earlier form.NoTool h ok = absurd (staged_ended (stage_at earlier) (known_at p earlier) form.NoTool h ok)
+ended_stays p earlier (form.Select n) h ok = absurd (staged_ended (stage_at earlier) (known_at p earlier) (form.Select n) h ok)
+ended_stays p earlier form.Drill h ok = absurd (staged_ended (stage_at earlier) (known_at p earlier) form.Drill h ok)
+ended_stays p earlier (form.Rout to) h ok = absurd (staged_ended (stage_at earlier) (known_at p earlier) (form.Rout to) h ok)
+ended_stays p earlier form.Lower h ok = absurd (staged_ended (stage_at earlier) (known_at p earlier) form.Lower h ok)
+ended_stays p earlier form.Raise h ok = absurd (staged_ended (stage_at earlier) (known_at p earlier) form.Raise h ok)
+ended_stays p earlier (form.Straight to) h ok = absurd (staged_ended (stage_at earlier) (known_at p earlier) (form.Straight to) h ok)
+ended_stays p earlier (form.Hit at) h ok = absurd (staged_ended (stage_at earlier) (known_at p earlier) (form.Hit at) h ok)
+ended_stays p earlier (form.Slot from to) h ok = absurd (staged_ended (stage_at earlier) (known_at p earlier) (form.Slot from to) h ok)
+ended_stays p earlier form.End h ok = absurd (staged_ended (stage_at earlier) (known_at p earlier) form.End h ok)
+ended_stays p earlier form.Unknown h ok = absurd (staged_ended (stage_at earlier) (known_at p earlier) form.Unknown h ok)
+ended_stays p earlier form.Finish h ok = finished (has_ended earlier) h
+  where
+    finished : (b : Bool) → b ≡ true → unless (not b) kind.NotEnded (Ok stays) ≡ Ok stays
+    finished true h = refl
+    finished false h = cc
+
+ended_idle : (p : Place) (earlier : List Form) (f : Form) → has_ended earlier ≡ true → IsOk (effect_at p earlier f) → barrels_at p (f ∷ earlier) ≡ barrels_at p earlier
+unfolding barrels_at
+ended_idle p earlier f h ok = ap (λ (r : Result Effect DrillKind). barrels_at p earlier ++ piece_of p (length earlier + 1) r) (ended_stays p earlier f h ok) ∙ append-nil (barrels_at p earlier)
 
 table_ends : (p : Place) → Ends (effect_at p) is_end has_ended form.Finish
 table_ends p = record {
@@ -356,6 +389,15 @@ said_lines p (line ∷ lines) last = ap (λ (fs : List Form). form_of p.from p.t
 said_items : (file : List ℕ) (p : Place) → said (items p file) ≡ forms p (lines_of file) ++ form.Finish ∷ []
 said_items file p = said_lines p (lines_of file) (record { says = form.Finish; at = length file })
 
+-- the same, around a line, and around one of the end's
+said_around : (file : List ℕ) (p : Place) (before : List PlainLine) (line : PlainLine) (after : List PlainLine) → lines_of file ≡ before ++ line ∷ after → said (items p file) ≡ forms p before ++ form_of p.from p.to line.text ∷ (forms p after ++ form.Finish ∷ [])
+said_around file p before line after among =
+    said_items file p ∙ ap (λ (ls : List PlainLine). forms p ls ++ form.Finish ∷ []) among ∙ ap (λ (fs : List Form). fs ++ form.Finish ∷ []) (map-append (λ (l : PlainLine). form_of p.from p.to l.text) before (line ∷ after))
+    ∙ append_assoc (forms p before) (form_of p.from p.to line.text ∷ forms p after) (form.Finish ∷ [])
+
+said_at : (file : List ℕ) (p : Place) (before : List PlainLine) (line : PlainLine) (after : List PlainLine) → lines_of file ≡ before ++ line ∷ after → form_of p.from p.to line.text ≡ form.End → said (items p file) ≡ forms p before ++ form.End ∷ (forms p after ++ form.Finish ∷ [])
+said_at file p before line after among is = said_around file p before line after among ∙ ap (λ (f : Form). forms p before ++ f ∷ (forms p after ++ form.Finish ∷ [])) is
+
 -- lines before the end's do not begin so, since none of them has a fault
 no_bytes : (p : Place) (earlier : List Form) (lines : List PlainLine) (rest : List Form) → CleanOn (effect_at p) earlier (forms p lines ++ rest) → NoneEnd is_end (forms p lines) → NoneEnds tells lines
 no_bytes p earlier [] rest clean none = tt
@@ -387,14 +429,12 @@ refused file p none = refused_without_end (effect_at p) (barrels_at p) is_end ha
 -- a prefix that ends within the file
 prefix_refused : (file : List ℕ) (p : Place) (pieces : List PlainPiece) (line : PlainLine) (n : ℕ) → IsRead file p pieces → IsEndLine file p line → n < end_of line → n ≤ length file → Refused (take n file) p
 prefix_refused file p pieces line n read e low within =
-    let parts : said (items p file) ≡ forms p e.before ++ form_of p.from p.to line.text ∷ (forms p e.after ++ form.Finish ∷ []) =
-    said_items file p ∙ ap (λ (ls : List PlainLine). forms p ls ++ form.Finish ∷ []) e.among ∙ ap (λ (fs : List Form). fs ++ form.Finish ∷ []) (map-append (λ (l : PlainLine). form_of p.from p.to l.text) e.before (line ∷ e.after)) ∙ append_assoc (forms p e.before) (form_of p.from p.to line.text ∷ forms p e.after) (form.Finish ∷ []) in
-    let is : is_end (form_of p.from p.to line.text) ≡ true = ap is_end e.is in
-    let none = none_before_end (effect_at p) (barrels_at p) is_end has_ended form.Finish (items p file) pieces (forms p e.before) (form_of p.from p.to line.text) (forms p e.after ++ form.Finish ∷ []) (table_ends p) read parts is in
+    let parts = said_at file p e.before line e.after e.among e.is in
+    let none = none_before_end (effect_at p) (barrels_at p) is_end has_ended form.Finish (items p file) pieces (forms p e.before) form.End (forms p e.after ++ form.Finish ∷ []) (table_ends p) read parts refl in
     let clean = subst (CleanOn (effect_at p) []) parts (read_clean (effect_at p) (barrels_at p) (items p file) pieces read) in
     let cut = subst (λ (ls : List PlainLine). AreCut n ls (lines_of (take n file))) e.among (lines_of_prefix file n within) in
-    let bytes = no_bytes p [] e.before (form_of p.from p.to line.text ∷ (forms p e.after ++ form.Finish ∷ [])) clean none in
-    refused (take n file) p (no_forms p (lines_of (take n file)) (no_end_in_prefix tells reach n e.before line e.after (lines_of (take n file)) code_tells_end cut bytes (ends_told p.from p.to line.text is) low))
+    let bytes = no_bytes p [] e.before (form.End ∷ (forms p e.after ++ form.Finish ∷ [])) clean none in
+    refused (take n file) p (no_forms p (lines_of (take n file)) (no_end_in_prefix tells reach n e.before line e.after (lines_of (take n file)) code_tells_end cut bytes (ends_told p.from p.to line.text (ap is_end e.is)) low))
 
 -- a line of the end's, or none
 record Found (p : Place) (lines : List PlainLine) : Type 0 where
@@ -413,12 +453,15 @@ seek p (line ∷ lines) = by (is_end (form_of p.from p.to line.text)) refl (seek
     by false h (inl f) = inl (record { line = f.line; before = line ∷ f.before; after = f.after; among = ap (λ (ls : List PlainLine). line ∷ ls) f.among; is = f.is })
     by false h (inr none) = inr (h, none)
 
+found_in : (file : List ℕ) (p : Place) (pieces : List PlainPiece) → IsRead file p pieces → Found p (lines_of file)
+found_in file p pieces read = elim (seek p (lines_of file)) [
+  | inl f ↦ f
+  | inr none ↦ absurd (let r = refused file p none in (one_answer file p).not_both pieces r.0 r.1 r.2 read r.3)
+]
+
 pub prefix_is_refused : (file : List ℕ) (p : Place) → PrefixIsRefused file p
 prefix_is_refused file p pieces read = (
-  elim (seek p (lines_of file)) [
-    | inl f ↦ (f.line, record { before = f.before; after = f.after; among = f.among; is = f.is })
-    | inr none ↦ absurd (let r = refused file p none in (one_answer file p).not_both pieces r.0 r.1 r.2 read r.3)
-  ],
+  (let f = found_in file p pieces read in (f.line, record { before = f.before; after = f.after; among = f.among; is = f.is })),
   λ line e n low. elim (leb_tells n (length file)) [
     | inl within ↦ prefix_refused file p pieces line n read e low within.1
     | inr past ↦ (
@@ -427,3 +470,31 @@ prefix_is_refused file p pieces read = (
         )
   ],
 )
+
+-- ---- A prefix that is read
+
+-- a line that begins so in a file that is read is the end's
+told_is_end : (file : List ℕ) (p : Place) (pieces : List PlainPiece) (before : List PlainLine) (line : PlainLine) (after : List PlainLine) → IsRead file p pieces → lines_of file ≡ before ++ line ∷ after → tells line.text ≡ true → form_of p.from p.to line.text ≡ form.End
+told_is_end file p pieces before line after read among told = by (told_form p.from p.to line.text told)
+  where
+    by : IsEndOrUnknown (form_of p.from p.to line.text) → form_of p.from p.to line.text ≡ form.End
+    by (inl h) = h
+    by (inr h) = absurd (
+        let clean = clean_behind (effect_at p) [] (forms p before) (form_of p.from p.to line.text ∷ (forms p after ++ form.Finish ∷ [])) (subst (CleanOn (effect_at p) []) (said_around file p before line after among) (read_clean (effect_at p) (barrels_at p) (items p file) pieces read)) in
+        not_unknown p (reverse (forms p before) ++ []) (subst (λ (f : Form). IsOk (effect_at p (reverse (forms p before) ++ []) f)) h clean.0)
+        )
+
+same_within : (file : List ℕ) (p : Place) (pieces others : List PlainPiece) (n : ℕ) → IsRead file p pieces → IsRead (take n file) p others → n ≤ length file → others ≡ pieces
+same_within file p pieces others n read cut within =
+    let f = found_in (take n file) p others cut in
+    let lines = subst (AreCut n (lines_of file)) f.among (lines_of_prefix file n within) in
+    let e = end_of_prefix tells reach n (lines_of file) f.before f.line f.after code_tells_end lines (ends_told p.from p.to f.line.text (ap is_end f.is)) in
+    let parts = said_at file p f.before e.0 e.1 e.2 (told_is_end file p pieces f.before e.0 e.1 read e.2 e.3) in
+    same_made (effect_at p) (barrels_at p) is_end has_ended form.Finish (items p file) (items p (take n file)) pieces others (forms p f.before) form.End (forms p e.1 ++ form.Finish ∷ []) (forms p f.after ++ form.Finish ∷ []) (table_ends p) (ended_idle p) read cut parts
+    (said_at (take n file) p f.before f.line f.after f.among f.is) refl
+
+pub prefix_makes_the_same : (file : List ℕ) (p : Place) (pieces others : List PlainPiece) (n : ℕ) → IsRead file p pieces → IsRead (take n file) p others → others ≡ pieces
+prefix_makes_the_same file p pieces others n read cut = elim (leb_tells n (length file)) [
+  | inl within ↦ same_within file p pieces others n read cut within.1
+  | inr past ↦ (one_answer file p).one_value others pieces (subst (λ (xs : List ℕ). IsRead xs p others) (take_all n file (let h = past.1 in omega arith)) cut) read
+]

@@ -1,7 +1,8 @@
 //! Laws over the definitions alone.
-ghost use Rattle.std.specs.Prelude.{ℕ, List};
+ghost use Rattle.std.specs.Prelude.{◌≡◌, ℕ, List, take};
+ghost use Rattle.board_shapes.specs.Plain.{PlainPiece};
 ghost use Rattle.xnc.specs.declared.line.Form.{Form};
-ghost use Rattle.xnc.specs.DrillFile.{HasOneAnswer};
+ghost use Rattle.xnc.specs.DrillFile.{HasOneAnswer, IsRead};
 ghost use Rattle.xnc.specs.Laws.{HasTool, PrefixIsRefused};
 ghost use Rattle.xnc.specs.Place.{Place};
 
@@ -20,4 +21,9 @@ pub fn routs_have_tools()
 /// that line is refused.
 pub fn prefix_is_refused()
     ensures { (file : List ℕ) (p : Place) → PrefixIsRefused file p }
+{}
+
+/// A prefix of a drill file that is read is refused, or makes the same barrels.
+pub fn prefix_makes_the_same()
+    ensures { (file : List ℕ) (p : Place) (pieces others : List PlainPiece) (n : ℕ) → IsRead file p pieces → IsRead (take n file) p others → others ≡ pieces }
 {}
