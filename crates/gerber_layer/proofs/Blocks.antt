@@ -1,19 +1,18 @@
 -- The pieces before a block by looking back.
-use Rattle.std.proofs.Common.{◌≡◌, ℕ, ◌+◌, ◌≤◌, Bool, true, false, cond, List, [], ◌∷◌, ◌++◌, length, take, drop, Option, Some, None, Result, Ok, Err, IsOk, refl, sym, ◌∙◌, subst, arith, length-append}
+use Rattle.std.proofs.Common.{◌≡◌, ℕ, ◌+◌, ◌≤◌, Bool, true, false, cond, List, [], ◌∷◌, ◌++◌, length, take, drop, Option, Some, None, Result, Ok, Err, IsOk, refl, sym, ap, ◌∙◌, subst, arith, length-append}
 use Rattle.std.proofs.Math.Seq.{take-length}
 use Rattle.std.proofs.lemmas.List.{take-append-le}
 use Rattle.std.proofs.lemmas.Grind.{common_steps}
 use Rattle.board_shapes.specs.Pieces.{PlainPiece}
-use Rattle.step_repeat.specs.Copies.{copies_at}
+use Rattle.step_repeat.specs.Copies.{Refusal, copies_at}
 use Rattle.step_repeat.specs.declared.repeat.Repeat.{Repeat}
-use Rattle.step_repeat.specs.declared.fault.CopyFault.{CopyFault}
 use Rattle.file_reading.specs.Reading.{Clean}
 use Rattle.gerber_layer.specs.Command.{Command, defines, repeats, opens_region, closes_region, operates, ends, names_macro, body_word}
 use Rattle.gerber_layer.specs.declared.kind.GerberKind.{GerberKind}
 use Rattle.gerber_layer.specs.declared.kind.GerberKind.TheVariants as kind
 use Rattle.gerber_layer.specs.Table.{Place, Known, Effect, stays, makes, begins_macro, fills_macro, performs, extends, closes, opens, leaves, steps, concludes, ◌>>=◌, as_copies, with_copies, left, listed, ended_block, next_block, repeat, row, effect, code_of}
 use Rattle.gerber_layer.specs.Image.{Image, image_by, image_of, pieces_of, known_before, effect_before, made, pieces_after, start_after, with_effect}
-use Rattle.gerber_layer.specs.Laws.{is_repeat, up_to_block, LooksBackToItsBlock}
+use Rattle.gerber_layer.specs.Laws.{is_repeat, up_to_block, LooksBackToItsBlock, StandsBehind}
 use Rattle.gerber_layer.proofs.Outcome.{bind_ok, not_body, not_ok, past_test, outcome}
 use Rattle.gerber_layer.proofs.Placing.{IsSimple, simple_by, simple_effect}
 
@@ -58,8 +57,8 @@ simple_start start (extends to) simple = refl
 simple_start start opens simple = refl
 
 -- a block ends, and the pieces before it stay
-joined : (start : ℕ) (pieces : List PlainPiece) (copies : Result (List PlainPiece) CopyFault) (all : List PlainPiece) → start ≤ length pieces → as_copies (take start pieces) copies ≡ Ok all → Keeps start pieces all
-joined start pieces (Err fault) all h e = absurd (cc)
+joined : (start : ℕ) (pieces : List PlainPiece) (copies : Result (List PlainPiece) Refusal) (all : List PlainPiece) → start ≤ length pieces → as_copies (take start pieces) copies ≡ Ok all → Keeps start pieces all
+joined start pieces (Err why) all h e = absurd (cc)
 joined start pieces (Ok some) all h e =
     let same : take start pieces ++ some ≡ all = cc in
     let size : length (take start pieces) ≡ start = grind (arith, common_steps) in
@@ -146,5 +145,16 @@ before_block p (c ∷ earlier) clean = split (is_repeat c) refl (before_block p 
     split true rep had = by true rep had (effect (known_before p earlier) c) refl clean.0
     split false rep had = by false rep had (effect (known_before p earlier) c) refl clean.0
 
+-- so many are taken where so many are there
+counted : (n : ℕ) (pieces before : List PlainPiece) → n ≤ length pieces → take n pieces ≡ before → n ≡ length before
+counted n pieces before h is =
+    let size : length (take n pieces) ≡ n = grind (arith, common_steps) in
+    sym size ∙ ap length is
+
 pub looks_back_to_its_block : (p : Place) (earlier : List Command) → LooksBackToItsBlock p earlier
-looks_back_to_its_block p earlier clean = (before_block p earlier clean).are
+looks_back_to_its_block p earlier clean =
+    let had = before_block p earlier clean in
+    record {
+      counted = counted (image_of p earlier).start (pieces_of p earlier) (pieces_of p (up_to_block earlier)) had.within had.are;
+      pieces = had.are;
+    }

@@ -6,7 +6,7 @@ use Rattle.apertures.specs.declared.aperture.Aperture.{Aperture}
 use Rattle.apertures.specs.declared.fault.FlashFault.{FlashFault}
 use Rattle.apertures.specs.declared.fault.FlashFault.TheVariants as flash
 use Rattle.board_shapes.specs.Pieces.{PlainPiece}
-use Rattle.step_repeat.specs.Copies.{copies_at, IsCopyFault}
+use Rattle.step_repeat.specs.Copies.{Refusal, copies_at, IsCopyFault}
 use Rattle.step_repeat.specs.declared.repeat.Repeat.{Repeat}
 use Rattle.step_repeat.specs.declared.fault.CopyFault.{CopyFault}
 use Rattle.step_repeat.specs.declared.fault.CopyFault.TheVariants as copy
@@ -14,7 +14,7 @@ use Rattle.gerber_layer.specs.Reader.{Stops, halt_of_copy, halt_of_flash}
 use Rattle.gerber_layer.specs.Table.{Known, as_copies, ended_block, flash_by, left}
 
 -- what stops the copies stops the reader
-pub stops_copies : (before : List PlainPiece) (copies : Result (List PlainPiece) CopyFault) (fault : CopyFault) → IsCopyFault copies fault → Stops (as_copies before copies) (halt_of_copy fault)
+pub stops_copies : (before : List PlainPiece) (copies : Result (List PlainPiece) Refusal) (fault : CopyFault) → IsCopyFault copies fault → Stops (as_copies before copies) (halt_of_copy fault)
 stops_copies before copies copy.TooManyPieces e = rw e refl
 stops_copies before copies copy.TooManyEdges e = rw e refl
 stops_copies before copies copy.OutOfRange e = rw e refl

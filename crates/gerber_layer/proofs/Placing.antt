@@ -9,10 +9,8 @@ use Rattle.board_shapes.specs.Pieces.{PlainPiece, plain_piece, plain_pieces}
 use Rattle.board_shapes.specs.declared.placed.Placed.{Placed}
 use Rattle.board_shapes.specs.declared.placed.Room.{Room}
 use Rattle.board_shapes.specs.declared.shape.Shape.{Shape}
-use Rattle.step_repeat.specs.Copies.{copies_at, copies_of, placed_copies, are_placed, room_fault, column_of, block_at}
+use Rattle.step_repeat.specs.Copies.{Refusal, out_of_range, copies_at, copies_of, placed_copies, are_placed, room_fault, column_of, block_at}
 use Rattle.step_repeat.specs.declared.repeat.Repeat.{Repeat}
-use Rattle.step_repeat.specs.declared.fault.CopyFault.{CopyFault}
-use Rattle.step_repeat.specs.declared.fault.CopyFault.TheVariants.{OutOfRange}
 use Rattle.file_reading.specs.Reading.{said}
 use Rattle.gerber_layer.specs.Command.{Command, defines, repeats, opens_region, closes_region, operates, ends, names_macro, body_word}
 use Rattle.gerber_layer.specs.declared.kind.GerberKind.{GerberKind}
@@ -45,11 +43,11 @@ copies_on p r block h =
     (λ row. moved_on p (pos column *ℤ r.dx) (pos row *ℤ r.dy) (column * r.up + row) block h) (range_with_len 0 r.up))
     (range_with_len 0 r.across)
 
-placed_on : (p : Place) (copies : List PlainPiece) (fault : Option CopyFault) (all : List PlainPiece) → All (OnLayer p) copies → placed_copies copies fault ≡ Ok all → All (OnLayer p) all
+placed_on : (p : Place) (copies : List PlainPiece) (fault : Option Refusal) (all : List PlainPiece) → All (OnLayer p) copies → placed_copies copies fault ≡ Ok all → All (OnLayer p) all
 placed_on p copies (Some fault) all h e = absurd (cc)
 placed_on p copies None all h e = by (are_placed copies) e
   where
-    by : (b : Bool) → cond b (Ok copies) (Err OutOfRange) ≡ Ok all → All (OnLayer p) all
+    by : (b : Bool) → cond b (Ok copies) (Err out_of_range) ≡ Ok all → All (OnLayer p) all
     by true e = let same : copies ≡ all = cc in subst (λ xs. All (OnLayer p) xs) same h
     by false e = absurd (cc)
 
@@ -57,7 +55,7 @@ copied_on : (p : Place) (r : Repeat) (room : Room) (block all : List PlainPiece)
 unfolding copies_at
 copied_on p r room block all h e = placed_on p (copies_of r block) (room_fault r room block) all (copies_on p r block h) e
 
-joined_on : (p : Place) (before : List PlainPiece) (copies : Result (List PlainPiece) CopyFault) (all : List PlainPiece) → All (OnLayer p) before → ((some : List PlainPiece) → copies ≡ Ok some → All (OnLayer p) some) → as_copies before copies ≡ Ok all → All (OnLayer p) all
+joined_on : (p : Place) (before : List PlainPiece) (copies : Result (List PlainPiece) Refusal) (all : List PlainPiece) → All (OnLayer p) before → ((some : List PlainPiece) → copies ≡ Ok some → All (OnLayer p) some) → as_copies before copies ≡ Ok all → All (OnLayer p) all
 joined_on p before (Ok some) all h k e = let same : before ++ some ≡ all = cc in subst (λ xs. All (OnLayer p) xs) same (All-append (OnLayer p) before some h (k some refl))
 joined_on p before (Err fault) all h k e = absurd (cc)
 

@@ -1,5 +1,5 @@
 -- Laws of copper files: what the contour and the pieces before a block are by looking back over the commands, and that a file that is cut off is refused.
-use Rattle.std.specs.Prelude.{◌≡◌, ℕ, ◌≤◌, Bool, true, false, if◌then◌else◌, List, [], ◌∷◌, ◌++◌, map, take, drop}
+use Rattle.std.specs.Prelude.{◌≡◌, ℕ, ◌≤◌, Bool, true, false, if◌then◌else◌, List, [], ◌∷◌, ◌++◌, length, map, take, drop}
 use Rattle.std.specs.List.{AllByRecursion}
 use Rattle.planar.specs.declared.Spot.{Spot}
 use Rattle.file_reading.specs.Reading.{Clean}
@@ -63,9 +63,14 @@ abbrev pub up_to_block : List Command → List Command
 up_to_block [] = []
 up_to_block (c ∷ earlier) = if is_repeat c then c ∷ earlier else up_to_block earlier
 
--- Where no command has a fault, the pieces before the block are those of the history up to its beginning.
+-- Before the block stand as many pieces as the history up to its beginning makes, and they are these.
+pub record StandsBehind (p : Place) (earlier : List Command) : Type 0 where
+  pub counted : (image_of p earlier).start ≡ length (pieces_of p (up_to_block earlier))
+  pub pieces : take (image_of p earlier).start (pieces_of p earlier) ≡ pieces_of p (up_to_block earlier)
+
+-- Where no command has a fault, that is so.
 abbrev pub LooksBackToItsBlock : Place → List Command → Type 0
-LooksBackToItsBlock p earlier = Clean (effect_before p) earlier → take (image_of p earlier).start (pieces_of p earlier) ≡ pieces_of p (up_to_block earlier)
+LooksBackToItsBlock p earlier = Clean (effect_before p) earlier → StandsBehind p earlier
 
 -- ---- A file that is cut off
 

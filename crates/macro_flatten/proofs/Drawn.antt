@@ -18,8 +18,7 @@ use Rattle.apertures.specs.declared.aperture.Aperture.{Aperture}
 use Rattle.apertures.specs.declared.aperture.Aperture.TheVariants.{Circle, Rectangle, Obround}
 use Rattle.apertures.specs.declared.fault.FlashFault.{FlashFault}
 use Rattle.apertures.specs.declared.fault.FlashFault.TheVariants.{OutOfRange}
-use Rattle.regions.specs.Contours.{close_of, same_number, same_spot}
-use Rattle.regions.specs.declared.contour.CloseFault.TheVariants.{Open, Short}
+use Rattle.regions.specs.Contours.{stays_open, too_short, close_of, same_number, same_spot}
 use Rattle.macro_flatten.specs.Laws.{IsDrawn}
 
 both : (a b : Bool) → (a && b) ≡ true → (a ≡ true) × (b ≡ true)
@@ -126,7 +125,7 @@ contour_drawn [] points h few e = cc
 contour_drawn (a ∷ []) points h few e = cc
 contour_drawn (a ∷ b ∷ rest) points h few e = by (same_spot (end_from b rest) a) (nat_lt (length rest) 2) refl refl e
   where
-    by : (s t : Bool) → same_spot (end_from b rest) a ≡ s → nat_lt (length rest) 2 ≡ t → cond (not s) (Err Open) (cond t (Err Short) (Ok (Some (a ∷ b ∷ rest)))) ≡ Ok (Some points) → IsDrawn (filled points)
+    by : (s t : Bool) → same_spot (end_from b rest) a ≡ s → nat_lt (length rest) 2 ≡ t → cond (not s) (Err stays_open) (cond t (Err too_short) (Ok (Some (a ∷ b ∷ rest)))) ≡ Ok (Some points) → IsDrawn (filled points)
     by false t es et e = cc
     by true true es et e = cc
     by true false es et e =

@@ -14,12 +14,9 @@ use Rattle.apertures.specs.declared.aperture.Aperture.TheVariants.{Circle, Recta
 use Rattle.apertures.specs.declared.fault.FlashFault.{FlashFault}
 use Rattle.apertures.specs.Reading.{is_zero}
 use Rattle.apertures.specs.Flash.{IsNarrow, IsSize, IsLawful, flash_of, half}
-use Rattle.regions.specs.Contours.{close_of, same_spot}
-use Rattle.regions.specs.declared.contour.CloseFault.{CloseFault}
-use Rattle.regions.specs.declared.contour.CloseFault.TheVariants.{Open, Short}
-use Rattle.step_repeat.specs.Copies.{copies_at}
+use Rattle.regions.specs.Contours.{Flaw, stays_open, too_short, close_of, same_spot}
+use Rattle.step_repeat.specs.Copies.{Refusal, copies_at}
 use Rattle.step_repeat.specs.declared.repeat.Repeat.{Repeat}
-use Rattle.step_repeat.specs.declared.fault.CopyFault.{CopyFault}
 use Rattle.gerber_layer.specs.declared.kind.GerberKind.{GerberKind}
 use Rattle.gerber_layer.specs.declared.kind.GerberKind.TheVariants as kind
 use Rattle.gerber_layer.specs.Table.{Known, Place, Effect, performs, ◌>>=◌, needed, selected, lookup, room_for, edges_for, edges_of, edges_in, exceed, draw, flash, flash_by, flash_with, flashed, closing, closed, area_if, ended_block, with_copies, as_copies, left, listed}
@@ -180,7 +177,7 @@ flash_made k to e l there h =
 
 -- ---- Contours
 
-closed_ok : (r : Result (Option (List Spot)) CloseFault) (o : Option (List Spot)) → closed r ≡ Ok o → r ≡ Ok o
+closed_ok : (r : Result (Option (List Spot)) Flaw) (o : Option (List Spot)) → closed r ≡ Ok o → r ≡ Ok o
 closed_ok (Ok g) o h = let s : g ≡ o = cc in ap Ok s
 closed_ok (Err e) o h = cc
 
@@ -191,7 +188,7 @@ close_points [] points e = cc
 close_points (a ∷ []) points e = cc
 close_points (a ∷ b ∷ rest) points e = by (not (same_spot (end_from b rest) a)) (nat_lt (length rest) 2) e
   where
-    by : (s t : Bool) → cond s (Err Open) (cond t (Err Short) (Ok (Some (a ∷ b ∷ rest)))) ≡ Ok (Some points) → points ≡ a ∷ b ∷ rest
+    by : (s t : Bool) → cond s (Err stays_open) (cond t (Err too_short) (Ok (Some (a ∷ b ∷ rest)))) ≡ Ok (Some points) → points ≡ a ∷ b ∷ rest
     by true t e = cc
     by false true e = cc
     by false false e = let same : a ∷ b ∷ rest ≡ points = cc in sym same
@@ -228,7 +225,7 @@ pub block_made : (k : Known) (pieces : List PlainPiece) → Lawfully k → ended
 unfolding ended_block
 block_made k pieces l h = by k.settings.block h
   where
-    copied : (block : Repeat) (r : Result (List PlainPiece) CopyFault) → copies_at block (left k) (drop k.start k.pieces) ≡ r → as_copies (take k.start k.pieces) r ≡ Ok pieces → Fit k.place pieces
+    copied : (block : Repeat) (r : Result (List PlainPiece) Refusal) → copies_at block (left k) (drop k.start k.pieces) ≡ r → as_copies (take k.start k.pieces) r ≡ Ok pieces → Fit k.place pieces
     copied block (Err fault) e h = cc
     copied block (Ok copies) e h =
         let same : take k.start k.pieces ++ copies ≡ pieces = cc in

@@ -24,14 +24,18 @@ same_number (negsuc m) (pos n) = false
 abbrev pub same_spot : Spot → Spot → Bool
 same_spot a b = same_number a.x b.x && same_number a.y b.y
 
--- What a contour through the points bounds: nothing where it has no edge, else the area through exactly these points.
--- It is open where its last point is not its first, and short where it is closed with one or two edges.
-unfoldable pub close_of : List Spot → Result (Option (List Spot)) CloseFault
+-- why a contour bounds no area: its last point is not its first, or it is closed with one or two edges
+pub data Flaw : Type 0 where
+  stays_open : Flaw
+  too_short : Flaw
+
+-- what a contour through the points bounds: nothing where it has no edge, else the area through exactly these points
+unfoldable pub close_of : List Spot → Result (Option (List Spot)) Flaw
 close_of [] = Ok None
 close_of (a ∷ []) = Ok None
 close_of (a ∷ b ∷ rest) =
-    if not (same_spot (end_from b rest) a) then Err Open
-    else (if nat_lt (length rest) 2 then Err Short else Ok (Some (a ∷ b ∷ rest)))
+    if not (same_spot (end_from b rest) a) then Err stays_open
+    else (if nat_lt (length rest) 2 then Err too_short else Ok (Some (a ∷ b ∷ rest)))
 
 -- the points of the area, where there is one
 abbrev pub points_if : Option Area → Option (List Spot)
@@ -39,10 +43,10 @@ points_if None = None
 points_if (Some area) = Some (area.points.items)
 
 -- the answer is what closing gives, unless memory is wanted
-abbrev pub Closes : Result (Option Area) CloseFault → Result (Option (List Spot)) CloseFault → Type 0
+abbrev pub Closes : Result (Option Area) CloseFault → Result (Option (List Spot)) Flaw → Type 0
 Closes (Ok area) closed = Ok (points_if area) ≡ closed
-Closes (Err Open) closed = Err Open ≡ closed
-Closes (Err Short) closed = Err Short ≡ closed
+Closes (Err Open) closed = Err stays_open ≡ closed
+Closes (Err Short) closed = Err too_short ≡ closed
 Closes (Err NoMemory) closed = Unit {0}
 
 -- the points have one more, or stay; the contour is too long where it has 100,000 edges

@@ -11,9 +11,8 @@ use Rattle.board_shapes.specs.declared.placed.Room.{Room}
 use Rattle.board_shapes.specs.declared.shape.Shape.{Shape}
 use Rattle.std.proofs.Math.Nat.{eq-or-lt_of_le}
 use borrow.Author.Tests.{le-ltb, ltb-false}
-use Rattle.step_repeat.specs.Copies.{are_placed, block_at, column_of, copies_at, copies_of, edges_in, placed_copies, room_fault}
+use Rattle.step_repeat.specs.Copies.{are_placed, block_at, column_of, copies_at, copies_of, edges_in, placed_copies, room_fault, too_many_pieces, too_many_edges, out_of_range}
 use Rattle.step_repeat.specs.declared.repeat.Repeat.{Repeat}
-use Rattle.step_repeat.specs.declared.fault.CopyFault.TheVariants.{TooManyPieces, TooManyEdges, OutOfRange}
 
 -- one more list at the end
 ranged : (f : ℕ → List PlainPiece) (a n m : ℕ) → a + n ≡ m → flat_map f (range_with_len a (suc n)) ≡ flat_map f (range_with_len a n) ++ f m
@@ -97,12 +96,12 @@ pub few : (r : Repeat) (room : Room) (block : List PlainPiece) (made : List (Pla
 unfolding copies_at room_fault
 few r room block made h = by (nat_lt room.pieces (r.across * r.up * length block)) (nat_lt room.edges (r.across * r.up * edges_in block)) refl h
   where
-    by : (p e : Bool) → nat_lt room.pieces (r.across * r.up * length block) ≡ p → placed_copies (copies_of r block) (cond p (Some TooManyPieces) (cond e (Some TooManyEdges) None)) ≡ Ok (plain_pieces made) → length made ≤ room.pieces
+    by : (p e : Bool) → nat_lt room.pieces (r.across * r.up * length block) ≡ p → placed_copies (copies_of r block) (cond p (Some too_many_pieces) (cond e (Some too_many_edges) None)) ≡ Ok (plain_pieces made) → length made ≤ room.pieces
     by true e test h = cc
     by false true test h = cc
     by false false test h = kept (are_placed (copies_of r block)) h
       where
-        kept : (b : Bool) → cond b (Ok (copies_of r block)) (Err OutOfRange) ≡ Ok (plain_pieces made) → length made ≤ room.pieces
+        kept : (b : Bool) → cond b (Ok (copies_of r block)) (Err out_of_range) ≡ Ok (plain_pieces made) → length made ≤ room.pieces
         kept false h = cc
         kept true h =
             let same : copies_of r block ≡ plain_pieces made = cc in

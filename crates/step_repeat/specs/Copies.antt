@@ -43,26 +43,38 @@ are_placed pieces = list_all is_placed_piece pieces
 abbrev pub edges_in : List PlainPiece → ℕ
 edges_in pieces = sum_by (λ p. figure_edges p.figure) pieces
 
+-- why a block has no copies
+pub data Refusal : Type 0 where
+  too_many_pieces : Refusal
+  too_many_edges : Refusal
+  out_of_range : Refusal
+
 -- what the room has no place for, pieces before edges
-unfoldable pub room_fault : Repeat → Room → List PlainPiece → Option CopyFault
+unfoldable pub room_fault : Repeat → Room → List PlainPiece → Option Refusal
 room_fault r room block =
-    if nat_lt room.pieces (r.across * r.up * length block) then Some TooManyPieces
-    else (if nat_lt room.edges (r.across * r.up * edges_in block) then Some TooManyEdges
+    if nat_lt room.pieces (r.across * r.up * length block) then Some too_many_pieces
+    else (if nat_lt room.edges (r.across * r.up * edges_in block) then Some too_many_edges
     else None)
 
-abbrev pub placed_copies : List PlainPiece → Option CopyFault → Result (List PlainPiece) CopyFault
-placed_copies copies (Some fault) = Err fault
-placed_copies copies None = if are_placed copies then Ok copies else Err OutOfRange
+abbrev pub placed_copies : List PlainPiece → Option Refusal → Result (List PlainPiece) Refusal
+placed_copies copies (Some why) = Err why
+placed_copies copies None = if are_placed copies then Ok copies else Err out_of_range
 
 -- the copies of a block, where they have room and each stays within 1 m
-unfoldable pub copies_at : Repeat → Room → List PlainPiece → Result (List PlainPiece) CopyFault
+unfoldable pub copies_at : Repeat → Room → List PlainPiece → Result (List PlainPiece) Refusal
 copies_at r room block = placed_copies (copies_of r block) (room_fault r room block)
 
--- the refusal is that of the copies, unless memory is wanted
-abbrev pub IsCopyFault : Result (List PlainPiece) CopyFault → CopyFault → Type 0
-IsCopyFault copies TooManyPieces = copies ≡ Err TooManyPieces
-IsCopyFault copies TooManyEdges = copies ≡ Err TooManyEdges
-IsCopyFault copies OutOfRange = copies ≡ Err OutOfRange
+-- how a call refuses then
+abbrev pub refused_as : Refusal → CopyFault
+refused_as too_many_pieces = TooManyPieces
+refused_as too_many_edges = TooManyEdges
+refused_as out_of_range = OutOfRange
+
+-- the fault is that of the copies, unless memory is wanted
+abbrev pub IsCopyFault : Result (List PlainPiece) Refusal → CopyFault → Type 0
+IsCopyFault copies TooManyPieces = copies ≡ Err too_many_pieces
+IsCopyFault copies TooManyEdges = copies ≡ Err too_many_edges
+IsCopyFault copies OutOfRange = copies ≡ Err out_of_range
 IsCopyFault copies NoMemory = Unit {0}
 
 -- More was added at the end, each piece within 1 m; or some piece of it is not, or memory is wanted.

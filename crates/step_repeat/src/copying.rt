@@ -1,9 +1,9 @@
 // The copies of a block.
-ghost use Rattle.std.specs.Prelude.{◌≡◌, ◌+◌, ◌*◌, ◌<◌, ◌≤◌, ◌^◌, ◌*ℤ◌, pos, [], ◌∷◌, length, Option, Some, None, Result, Ok, Err, IfOk, IfErr, IsOk, IfSome, MatchOption};
+ghost use Rattle.std.specs.Prelude.{◌≡◌, ◌+◌, ◌*◌, ◌<◌, ◌≤◌, ◌^◌, ◌*ℤ◌, pos, [], ◌∷◌, length, Option, Some, None, Result, Ok, Err, IfOk, IfErr, IsOk, IfSome, MatchOption, option_map};
 ghost use Rattle.std.specs.Option.{SomeIff};
 ghost use Rattle.board_shapes.specs.Moved.{IsShift, moved_piece};
 ghost use Rattle.board_shapes.specs.Pieces.{plain_piece, plain_pieces};
-ghost use Rattle.step_repeat.specs.Copies.{Adds, IsCopyFault, block_at, column_of, copies_at, copies_of, edges_in, moved_block, room_fault};
+ghost use Rattle.step_repeat.specs.Copies.{Adds, IsCopyFault, block_at, column_of, copies_at, copies_of, edges_in, moved_block, refused_as, room_fault};
 ghost use Rattle.step_repeat.specs.Repeats.{IsLawful};
 
 use crate::fault::CopyFault;
@@ -42,7 +42,7 @@ impl Repeat {
         ensures fault { IfErr result (IsCopyFault (copies_at self.now room (plain_pieces block.now))) }
 
         // What takes no memory.
-        ensures by_room { IfSome (room_fault self.now room (plain_pieces block.now)) (λ fault. result ≡ Err fault) }
+        ensures by_room { IfSome (room_fault self.now room (plain_pieces block.now)) (λ why. result ≡ Err (refused_as why)) }
         ensures empty { length block.now ≡ 0 → IsOk result }
     {
         let mut copies = Vec::new(alloc);
@@ -60,7 +60,7 @@ impl Repeat {
     #[tactic(auto, unfolding(crate::specs::Copies::room_fault))]
     fn room_fault(&self, block: &[Piece], room: Room) -> Option<CopyFault>
         requires lawful { IsLawful self.now }
-        ensures value { result ≡ room_fault self.now room (plain_pieces block.now) }
+        ensures value { result ≡ option_map refused_as (room_fault self.now room (plain_pieces block.now)) }
         ensures few { result ≡ None → 0 < length block.now → self.now.across * self.now.up < 2 ^ 32 }
     {
         let times = u128::from(self.across) * u128::from(self.up);
