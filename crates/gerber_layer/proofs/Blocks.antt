@@ -12,7 +12,7 @@ use Rattle.gerber_layer.specs.declared.kind.GerberKind.{GerberKind}
 use Rattle.gerber_layer.specs.declared.kind.GerberKind.TheVariants as kind
 use Rattle.gerber_layer.specs.Table.{Place, Known, Effect, stays, makes, begins_macro, fills_macro, performs, extends, closes, opens, leaves, steps, concludes, ◌>>=◌, as_copies, with_copies, left, listed, ended_block, next_block, repeat, row, effect, code_of}
 use Rattle.gerber_layer.specs.Image.{Image, image_by, image_of, pieces_of, known_before, effect_before, made, pieces_after, start_after, with_effect}
-use Rattle.gerber_layer.specs.Laws.{is_repeat, up_to_block, LooksBackToItsBlock, StandsBehind}
+use Rattle.gerber_layer.specs.Laws.{is_repeat, up_to_block, LooksBackToItsBlock}
 use Rattle.gerber_layer.proofs.Outcome.{bind_ok, not_body, not_ok, past_test, outcome}
 use Rattle.gerber_layer.proofs.Placing.{IsSimple, simple_by, simple_effect}
 

@@ -1,8 +1,7 @@
 -- The words of definitions, and the macros by their names.
-use Rattle.std.proofs.Common.{◌≡◌, ℕ, ◌-◌, ◌<◌, ◌≤◌, suc, zero, Bool, true, false, not, ◌||◌, cond, List, [], ◌∷◌, ◌++◌, length, take, drop, Option, Some, None, option_map, Result, Ok, Err, refl, sym, ap, ◌∙◌, append_assoc, arith}
+use Rattle.std.proofs.Common.{◌≡◌, ℕ, ◌-◌, ◌<◌, ◌≤◌, suc, zero, Bool, true, false, ◌||◌, cond, List, [], ◌∷◌, ◌++◌, length, Option, Some, None, option_map, Result, Err, refl, sym, ap, ◌∙◌, append_assoc, arith}
 use Rattle.std.specs.Prelude.{nat_lt}
 use Rattle.std.specs.List.{after_first, before_first}
-use Rattle.std.specs.Str.Parse.{digits_value}
 use Rattle.texts.specs.Words.{is}
 use Rattle.lengths.specs.Decimal.{Fraction, decimal, fraction, is_decimal}
 use Rattle.lengths.specs.declared.decimal.Unit.{Unit as Measure}

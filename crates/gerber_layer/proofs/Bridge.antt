@@ -1,4 +1,5 @@
 -- The state of the reader is what looking back finds.
+use Rattle.std.specs.Option.{option_or}
 use Rattle.std.proofs.Common.{◌≡◌, ℕ, ◌+◌, Bool, true, false, cond, eqb, List, ◌∷◌, length, ℤ, Option, Some, None, option_map, Result, Ok, Err, refl, sym, ap, ◌∙◌, subst, arith}
 use mathlib.Core.Path.{fun_ext}
 use Rattle.lengths.specs.declared.decimal.Unit.{Unit as Measure}
@@ -14,9 +15,9 @@ use Rattle.gerber_layer.specs.declared.settings.Settings.{Settings}
 use Rattle.gerber_layer.specs.declared.dictionary.Dictionary.{Dictionary}
 use Rattle.gerber_layer.specs.declared.reader.Reader.{Reader}
 use Rattle.gerber_layer.specs.Table.{Place, Known, Effect, Profile, stays, makes, begins_macro, fills_macro, steps, concludes, code_of, coordinate}
-use Rattle.gerber_layer.specs.Tools.{Macro, Macros, Tool, begun, filled_up, latest_or, longer, macro_named}
+use Rattle.gerber_layer.specs.Tools.{Macro, Macros, Tool, begun, filled_up, latest_or, longer}
 use Rattle.gerber_layer.specs.After.{after, contour_after, heads, opened}
-use Rattle.gerber_layer.specs.Settings.{or_else, value_or, value_in, settings_before, format_before, unit_before, x_before, y_before, point_before, region_open, drawn, contour_before, defined_before, definitions_before, macros_before, ok_block, with_body}
+use Rattle.gerber_layer.specs.Settings.{value_or, value_in, settings_before, format_before, unit_before, x_before, y_before, point_before, region_open, drawn, contour_before, defined_before, definitions_before, macros_before, ok_block, with_body}
 use Rattle.gerber_layer.specs.Image.{Image, with_effect, known_with, known_by, image_by}
 use Rattle.gerber_layer.specs.Reader.{defined_in, macros_in, size_of, Adds, HasMacros, Turns, contour_of, known_of, place_of, Obeys}
 use Rattle.gerber_layer.proofs.Outcome.{Outcome, IsEffect, IsFilled}
@@ -180,7 +181,7 @@ dictionary-push old new p earlier ps (defines text) e h o t u =
       others = λ name. ap (λ (m : Macros). m.others name) adds.macros ∙ h.others name;
     }
   where
-    by : (b : Bool) (m : ℕ) → cond b (Some o.tool) (defined_before earlier m) ≡ or_else (cond b (Some o.tool) None) (defined_before earlier m)
+    by : (b : Bool) (m : ℕ) → cond b (Some o.tool) (defined_before earlier m) ≡ option_or (cond b (Some o.tool) None) (defined_before earlier m)
     by true m = refl
     by false m = refl
 dictionary-push old new p earlier ps (operates x y code) e h o t u = let f = same_found old new earlier h u in record { defined = f.defined; size = f.size; latest = f.latest; others = f.others }

@@ -1,5 +1,5 @@
 -- The flash of a macro, by the room that there is.
-use Rattle.std.proofs.Common.{◌≡◌, ℕ, List, length, Option, Some, None, Result, Ok, Err, refl, sym, ap, ◌∙◌}
+use Rattle.std.proofs.Common.{◌≡◌, ℕ, List, length, Some, Result, Ok, Err, refl, sym, ap, ◌∙◌}
 use Rattle.std.specs.Prelude.{sum_by, IfErr}
 use Rattle.std.proofs.lemmas.List.{length-map}
 use Rattle.planar.specs.declared.Spot.{Spot}
@@ -13,7 +13,7 @@ use Rattle.file_reading.specs.declared.halt.Halt.{Halt}
 use Rattle.file_reading.specs.declared.halt.Halt.TheVariants as halt
 use Rattle.gerber_layer.specs.declared.kind.GerberKind.{GerberKind}
 use Rattle.gerber_layer.specs.Tools.{composed, macro_named}
-use Rattle.gerber_layer.specs.Table.{Place, Known, performs, all_flashed, edges_of, flash, flash_with, lacks_room, macro_figures, selected}
+use Rattle.gerber_layer.specs.Table.{Place, Known, all_flashed, edges_of, flash, flash_with, lacks_room, macro_figures, selected}
 use Rattle.gerber_layer.specs.Image.{made, piece_of}
 use Rattle.gerber_layer.specs.Reader.{FlashesAll, Lacks, Stops}
 use Rattle.gerber_layer.proofs.MacroFlash.{edges_made}

@@ -64,13 +64,13 @@ up_to_block [] = []
 up_to_block (c ∷ earlier) = if is_repeat c then c ∷ earlier else up_to_block earlier
 
 -- Before the block stand as many pieces as the history up to its beginning makes, and they are these.
-pub record StandsBehind (p : Place) (earlier : List Command) : Type 0 where
+pub record AreBeforeBlock (p : Place) (earlier : List Command) : Type 0 where
   pub counted : (image_of p earlier).start ≡ length (pieces_of p (up_to_block earlier))
   pub pieces : take (image_of p earlier).start (pieces_of p earlier) ≡ pieces_of p (up_to_block earlier)
 
--- Where no command has a fault, that is so.
+-- Where no command has a fault, the pieces before the block are those of the history up to its beginning.
 abbrev pub LooksBackToItsBlock : Place → List Command → Type 0
-LooksBackToItsBlock p earlier = Clean (effect_before p) earlier → StandsBehind p earlier
+LooksBackToItsBlock p earlier = Clean (effect_before p) earlier → AreBeforeBlock p earlier
 
 -- ---- A file that is cut off
 

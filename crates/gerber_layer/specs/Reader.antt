@@ -2,7 +2,6 @@
 use Rattle.std.specs.Prelude.{◌≡◌, ℕ, ◌+◌, ◌^◌, ◌<◌, ◌≤◌, ◌==◌, if◌then◌else◌, List, [], ◌++◌, length, map, nat_eq, Option, Some, None, option_map, Result, Ok, Err, IfSome}
 use Rattle.std.specs.HashMap.{get, get_by, hash_map_len}
 use Rattle.texts.specs.Words.{is}
-use Rattle.lengths.specs.Decimal.{Fraction}
 use Rattle.planar.specs.declared.Spot.{Spot}
 use Rattle.planar.specs.Plane.{IsPlaced}
 use Rattle.board_shapes.specs.Figures.{Figure, figure_of}

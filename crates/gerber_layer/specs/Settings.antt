@@ -1,5 +1,6 @@
 -- What earlier commands have set, found by looking back. A history is a list of commands, the last first.
 use Rattle.std.specs.Prelude.{ℕ, ◌+◌, Bool, true, false, ◌||◌, ◌==◌, if◌then◌else◌, List, [], ◌∷◌, ◌++◌, ℤ, pos, Option, Some, None, Result, Ok, Err}
+use Rattle.std.specs.Option.{option_or}
 use Rattle.lengths.specs.declared.decimal.Unit.{Unit as Measure}
 use Rattle.planar.specs.declared.Spot.{Spot}
 use Rattle.aperture_macros.specs.BodyWord.{PlainPrimitive, primitive_at}
@@ -11,7 +12,7 @@ use Rattle.gerber_layer.specs.declared.command.Code.{Code}
 use Rattle.gerber_layer.specs.declared.command.Code.TheVariants.{Draw, Move, Flash}
 use Rattle.gerber_layer.specs.declared.command.Format.{Format}
 use Rattle.gerber_layer.specs.declared.settings.Settings.{Settings}
-use Rattle.gerber_layer.specs.Tools.{Macro, Macros, Tool, begun, filled_up, tool_in}
+use Rattle.gerber_layer.specs.Tools.{Macros, Tool, begun, filled_up, tool_in}
 use Rattle.gerber_layer.specs.Table.{code_of, coordinate, next_block}
 
 -- what was set first, if anything was, and otherwise what a command sets
@@ -19,11 +20,6 @@ abbrev pub keep_first : {A : Type 0} → Option A → Option A → Option A
 keep_first None first = first
 keep_first (Some x) None = Some x
 keep_first (Some x) (Some first) = Some first
-
--- the first of two that is there
-abbrev pub or_else : {A : Type 0} → Option A → Option A → Option A
-or_else (Some x) other = Some x
-or_else None other = other
 
 -- what a command says of a setting
 abbrev pub format_in : Command → Option Format
@@ -74,11 +70,11 @@ unit_before (c ∷ earlier) = keep_first (unit_in c) (unit_before earlier)
 
 abbrev pub aperture_before : List Command → Option ℕ
 aperture_before [] = None
-aperture_before (c ∷ earlier) = or_else (selection_in c) (aperture_before earlier)
+aperture_before (c ∷ earlier) = option_or (selection_in c) (aperture_before earlier)
 
 abbrev pub operation_before : List Command → Option Code
 operation_before [] = None
-operation_before (c ∷ earlier) = or_else (code_in c) (operation_before earlier)
+operation_before (c ∷ earlier) = option_or (code_in c) (operation_before earlier)
 
 -- what a command says of whether a region is open
 abbrev pub region_in : Command → Option Bool
@@ -185,7 +181,7 @@ definition_in other unit n = None
 -- the aperture that n is defined as
 abbrev pub defined_before : List Command → ℕ → Option Tool
 defined_before [] n = None
-defined_before (c ∷ earlier) n = or_else (definition_in c (unit_before earlier) n) (defined_before earlier n)
+defined_before (c ∷ earlier) n = option_or (definition_in c (unit_before earlier) n) (defined_before earlier n)
 
 -- the macros: `AM` begins one, and the words of its body give it primitives
 abbrev pub with_body : Macros → Result (Option PlainPrimitive) MacroFault → Macros

@@ -1,5 +1,5 @@
 -- What the aperture dictionary and the macros of a file hold.
-use Rattle.std.specs.Prelude.{ℕ, ◌+◌, zero, suc, Bool, true, false, nat_lt, if◌then◌else◌, List, [], ◌∷◌, ◌++◌, length, take, drop, ℤ, Option, Some, None, option_map, Result, Ok, Err}
+use Rattle.std.specs.Prelude.{ℕ, ◌+◌, zero, suc, Bool, false, nat_lt, if◌then◌else◌, List, [], ◌∷◌, ◌++◌, length, take, drop, ℤ, Option, Some, None, option_map, Result, Ok, Err}
 use Rattle.std.specs.List.{after_first, before_first, count_by, list_any}
 use Rattle.std.specs.Str.Parse.{digits_value}
 use Rattle.texts.specs.Words.{is}
@@ -11,7 +11,6 @@ use Rattle.apertures.specs.declared.fault.ApertureFault.TheVariants as aperture
 use Rattle.apertures.specs.Flash.{pen_of}
 use Rattle.apertures.specs.Reading.{aperture_at, digits_len, is_comma, is_x, name_of}
 use Rattle.aperture_macros.specs.BodyWord.{PlainPrimitive}
-use Rattle.aperture_macros.specs.declared.fault.MacroFault.{MacroFault}
 
 -- An aperture: a standard one, or the macro of a name with its parameters and their unit.
 pub data Tool : Type 0 where

@@ -1,5 +1,6 @@
 -- The head: what stands behind its lines.
 use Rattle.std.proofs.Common.{◌≡◌, ℕ, zero, suc, ◌+◌, ◌<◌, ◌≤◌, Bool, true, false, cond, eqb, List, [], ◌∷◌, length, get_or, pos, Some, None, Result, refl, ap, ◌∙◌, subst, arith, eq-eqb}
+use Rattle.std.specs.Option.{option_or}
 use Rattle.std.proofs.lemmas.Bool.{eqb-true}
 use Rattle.std.specs.List.{AllByRecursion}
 use Rattle.lengths.specs.declared.decimal.Unit.TheVariants.{Mm}
@@ -9,7 +10,7 @@ use Rattle.apertures.specs.declared.fault.ApertureFault.{ApertureFault}
 use Rattle.gerber_layer.specs.Command.{Command, formats, counts_in, defines}
 use Rattle.gerber_layer.specs.Table.{Place, stays, makes}
 use Rattle.gerber_layer.specs.Tools.{standard, composed_in, tool_by}
-use Rattle.gerber_layer.specs.Settings.{aperture_before, region_open, defined_before, definitions_before, or_else, as_number}
+use Rattle.gerber_layer.specs.Settings.{aperture_before, region_open, defined_before, definitions_before, as_number}
 use Rattle.gerber_layer.specs.Image.{known_before, pieces_of}
 use Rattle.macro_flatten.specs.FlatText.{circle, circles}
 use Rattle.macro_flatten.proofs.Operations.{seven}
@@ -41,8 +42,8 @@ begun p =
     }
 
 -- what a number is defined as behind one more definition
-defined_then : (p : Place) (n d m : ℕ) (h : List Command) → 10 ≤ n → n ≤ 70_000 → IsPen d → Stands p h → defined_before (defines (circle_text n d) ∷ h) m ≡ or_else (cond (eqb n m) (Some (standard (Circle (pos d)))) None) (defined_before h m)
-defined_then p n d m h low high small s = rw s.unit (ap (λ (r : Result (ℕ × Aperture) ApertureFault). or_else (as_number m (tool_by r (composed_in (circle_text n d) Mm))) (defined_before h m)) (defines_circle n d low high small.0 small.1))
+defined_then : (p : Place) (n d m : ℕ) (h : List Command) → 10 ≤ n → n ≤ 70_000 → IsPen d → Stands p h → defined_before (defines (circle_text n d) ∷ h) m ≡ option_or (cond (eqb n m) (Some (standard (Circle (pos d)))) None) (defined_before h m)
+defined_then p n d m h low high small s = rw s.unit (ap (λ (r : Result (ℕ × Aperture) ApertureFault). option_or (as_number m (tool_by r (composed_in (circle_text n d) Mm))) (defined_before h m)) (defines_circle n d low high small.0 small.1))
 
 other : (n m : ℕ) → (n ≡ m → ⊥) → eqb n m ≡ false
 other n m f = by (eqb n m) refl
@@ -68,7 +69,7 @@ circled p n (d ∷ pens) h k low high small =
     let is = defines_circle n d low (omega (arith, high)) small.0.0 small.0.1 in
     let count = k.counted in
     let e = makes_one (known_before p h) text n (Circle (pos d)) (is_set p h k.stands) is (k.fresh n (omega arith)) (omega (arith, count, high)) in
-    let then : (m : ℕ) → defined_before (defines text ∷ h) m ≡ or_else (cond (eqb n m) (Some (standard (Circle (pos d)))) None) (defined_before h m) = λ m. defined_then p n d m h low (omega (arith, high)) small.0 k.stands in
+    let then : (m : ℕ) → defined_before (defines text ∷ h) m ≡ option_or (cond (eqb n m) (Some (standard (Circle (pos d)))) None) (defined_before h m) = λ m. defined_then p n d m h low (omega (arith, high)) small.0 k.stands in
     let next : Heading p (n + 1) (defines text ∷ h) = record {
       stands = record { clean = clean_then p h (defines text) (makes n (standard (Circle (pos d)))) k.stands.clean e; format = k.stands.format; unit = k.stands.unit; block = k.stands.block; ended = k.stands.ended };
       outside = k.outside;
@@ -78,7 +79,7 @@ circled p n (d ∷ pens) h k low high small =
       none = pieces_then p h (defines text) (makes n (standard (Circle (pos d)))) e ∙ k.none;
     } in
     let read : Heading p (n + 1) (told (circle n d) ∷ h) = as_read (Heading p (n + 1)) h (circle n d) (defines text) (reads_definition 0 n d) next in
-    let told_then : (m : ℕ) → defined_before (told (circle n d) ∷ h) m ≡ or_else (cond (eqb n m) (Some (standard (Circle (pos d)))) None) (defined_before h m) = λ m. as_read (λ g. defined_before g m ≡ or_else (cond (eqb n m) (Some (standard (Circle (pos d)))) None) (defined_before h m)) h (circle n d) (defines text) (reads_definition 0 n d) (then m) in
+    let told_then : (m : ℕ) → defined_before (told (circle n d) ∷ h) m ≡ option_or (cond (eqb n m) (Some (standard (Circle (pos d)))) None) (defined_before h m) = λ m. as_read (λ g. defined_before g m ≡ option_or (cond (eqb n m) (Some (standard (Circle (pos d)))) None) (defined_before h m)) h (circle n d) (defines text) (reads_definition 0 n d) (then m) in
     let c = circled p (n + 1) pens (told (circle n d) ∷ h) read (omega (arith, low)) (omega (arith, high)) small.1 in
     record {
       head = subst (λ (m : ℕ). Heading p m (behind (told (circle n d) ∷ h) (circles (n + 1) pens))) (omega arith) c.head;

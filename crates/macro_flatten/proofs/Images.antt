@@ -1,5 +1,6 @@
 -- The image of a copper file can be drawn, and is within the room.
 use Rattle.std.proofs.Common.{◌≡◌, ℕ, ◌+◌, ◌<◌, ◌≤◌, Bool, true, false, not, ◌&&◌, ◌||◌, cond, eqb, nat_le, nat_lt, List, [], ◌∷◌, ◌++◌, length, ℤ, Option, Some, None, is_none, is_some, Result, Ok, Err, IsOk, refl, sym, ap, ◌∙◌, subst, arith, length-append}
+use Rattle.std.specs.Option.{option_or}
 use Rattle.std.proofs.lemmas.Bool.{leb-false, ltb-false}
 use Rattle.std.proofs.lemmas.Int.{ints}
 use Rattle.std.proofs.lemmas.List.{length-map}
@@ -29,7 +30,7 @@ use Rattle.gerber_layer.specs.declared.kind.GerberKind.TheVariants as kind
 use Rattle.gerber_layer.specs.declared.settings.Settings.{Settings}
 use Rattle.gerber_layer.specs.Tools.{Tool, standard, composed_in, tool_by}
 use Rattle.gerber_layer.specs.Table.{Known, Place, Effect, stays, makes, performs, extends, closes, opens, leaves, steps, concludes, ◌>>=◌, needed, gridded, coordinate, target, code_of, is_drawing, edges_of, edges_in, exceed, extend, closing, perform, perform_in_region, operate, leave, read, define, repeat, next_block, ended_block, row, effect, listed}
-use Rattle.gerber_layer.specs.Settings.{or_else, as_number, value_or, value_in, format_before, unit_before, x_before, y_before, point_before, region_open, contour_before, lengthened, defined_before}
+use Rattle.gerber_layer.specs.Settings.{as_number, value_or, value_in, format_before, unit_before, x_before, y_before, point_before, region_open, contour_before, lengthened, defined_before}
 use Rattle.gerber_layer.specs.Image.{effect_before, known_before, pieces_of, made}
 use Rattle.file_reading.specs.Reading.{Clean, said}
 use Rattle.gerber_layer.proofs.Outcome.{bind_ok, past_test, got, not_body, outcome}
@@ -112,7 +113,7 @@ aperture_lawful text unit r e =
     let one = past_apertures (not (starts_with nat_eq text (codes "ADD"))) BadText (numbered_at (take (digits_len rest) rest) (drop (digits_len rest) rest) unit) r e in
     numbered_lawful (take (digits_len rest) rest) (drop (digits_len rest) rest) unit (Ok r) (sym one)
 
-or_lawful : (b : Bool) (a : Tool) (o : Option Tool) (x : Tool) → IsStandard a → ((x : Tool) → o ≡ Some x → IsStandard x) → or_else (cond b (Some a) None) o ≡ Some x → IsStandard x
+or_lawful : (b : Bool) (a : Tool) (o : Option Tool) (x : Tool) → IsStandard a → ((x : Tool) → o ≡ Some x → IsStandard x) → option_or (cond b (Some a) None) o ≡ Some x → IsStandard x
 or_lawful true a o x h f e = let s : a ≡ x = cc in subst IsStandard s h
 or_lawful false a o x h f e = f x e
 
@@ -162,7 +163,7 @@ kept_defines p h text e is d k = with_pieces p h (defines text) (pieces_of p h) 
   short = k.short;
   outside = k.outside;
   apertures = λ m x g. (
-      let then : defined_before (defines text ∷ h) m ≡ or_else (cond (eqb d.n m) (Some (standard d.aperture)) None) (defined_before h m) = rw d.unit_is (ap (λ (r : Result (ℕ × Aperture) ApertureFault). or_else (as_number m (tool_by r (composed_in text d.unit))) (defined_before h m)) d.read_is) in
+      let then : defined_before (defines text ∷ h) m ≡ option_or (cond (eqb d.n m) (Some (standard d.aperture)) None) (defined_before h m) = rw d.unit_is (ap (λ (r : Result (ℕ × Aperture) ApertureFault). option_or (as_number m (tool_by r (composed_in text d.unit))) (defined_before h m)) d.read_is) in
       or_lawful (eqb d.n m) (standard d.aperture) (defined_before h m) x (aperture_lawful text d.unit (d.n, d.aperture) d.read_is) (λ y f. k.apertures m y f) (sym then ∙ g)
       );
   drawn = k.drawn;
