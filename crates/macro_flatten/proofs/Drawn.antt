@@ -31,12 +31,12 @@ reached : (z : ℤ) → unsigned_abs z ≤ 10_000_000_000 → IsReached z
 reached (pos n) h = (omega (arith, ints), omega (arith, ints, h))
 reached (negsuc n) h = (omega (arith, ints, h), omega (arith, ints))
 
-spot_placed : (p : Spot) → is_placed p ≡ true → IsPlaced p
+pub spot_placed : (p : Spot) → is_placed p ≡ true → IsPlaced p
 spot_placed p h =
     let b = both (nat_le (unsigned_abs p.x) 10_000_000_000) (nat_le (unsigned_abs p.y) 10_000_000_000) h in
     (reached p.x (leb-true _ _ b.0), reached p.y (leb-true _ _ b.1))
 
-spots_placed : (ps : List Spot) → list_all is_placed ps ≡ true → AllByRecursion IsPlaced ps
+pub spots_placed : (ps : List Spot) → list_all is_placed ps ≡ true → AllByRecursion IsPlaced ps
 spots_placed [] h = tt
 spots_placed (p ∷ ps) h = let b = both (is_placed p) (list_all is_placed ps) h in (spot_placed p b.0, spots_placed ps b.1)
 

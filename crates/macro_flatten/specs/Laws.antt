@@ -10,6 +10,7 @@ use Rattle.board_shapes.specs.declared.placed.Room.{Room}
 use Rattle.gerber_layer.specs.declared.kind.GerberKind.{GerberKind}
 use Rattle.gerber_layer.specs.Table.{Place}
 use Rattle.gerber_layer.specs.Layer.{IsRead, IsRefused}
+use Rattle.gerber_layer.specs.MacroLayer.{IsReadWithMacros}
 use Rattle.macro_flatten.specs.FlatText.{figures_in, flat_text_of, pens_of}
 
 -- ends within one metre, and a radius over 0 and of at most 25 mm; or the points of a contour
@@ -42,6 +43,10 @@ FlatTextReads = (figures : List Figure) (layer file : ℕ) → 1 ≤ layer → l
 -- the figures of a copper file that is read in this room can be flattened, where few pens draw them
 abbrev pub ImagesAreFlat : Type 0
 ImagesAreFlat = (file : List ℕ) (layer number : ℕ) (pieces : List PlainPiece) → IsRead file (record { layer = layer; file = number; room = flat_room }) pieces → length (pens_of (figures_in pieces)) ≤ 65_536 → IsFlat (figures_in pieces)
+
+-- and those of a copper file that is read with macros always can: its end counts the pens
+abbrev pub MacroImagesAreFlat : Type 0
+MacroImagesAreFlat = (file : List ℕ) (pieces : List PlainPiece) → IsReadWithMacros file pieces → IsFlat (figures_in pieces)
 
 -- a flattened text is no longer than a copper file may be
 abbrev pub FlatTextsAreShort : Type 0

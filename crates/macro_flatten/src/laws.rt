@@ -1,5 +1,5 @@
 // Laws over the definitions alone.
-ghost use Rattle.macro_flatten.specs.Laws.{FlatTextReads, FlatTextsAreShort, ImagesAreFlat};
+ghost use Rattle.macro_flatten.specs.Laws.{FlatTextReads, FlatTextsAreShort, ImagesAreFlat, MacroImagesAreFlat};
 
 use gerber_layer::laws::one_answer;
 
@@ -13,6 +13,11 @@ pub fn flat_text_reads()
 /// And every image of a copper file can be flattened, unless more pens draw it than a file can define.
 pub fn images_are_flat()
     ensures { ImagesAreFlat }
+{}
+
+/// Every image of a copper file with macros can be flattened: one that more pens draw is refused.
+pub fn macro_images_are_flat()
+    ensures { MacroImagesAreFlat }
 {}
 
 /// A flattened text is no longer than a copper file may be.

@@ -1,0 +1,232 @@
+-- What the primitives of a macro flash can be drawn.
+use Rattle.std.proofs.Common.{◌≡◌, ℕ, ◌+◌, ◌-◌, ◌/◌, ◌%◌, ◌≤◌, Bool, true, false, not, ◌&&◌, ◌||◌, cond, eqb, nat_le, nat_lt, List, [], length, map, ℤ, pos, Option, Some, None, Result, Ok, Err, refl, sym, ap, ◌∙◌, subst, arith}
+use Rattle.std.proofs.lemmas.Bool.{eqb-true, leb-true, ltb-false}
+use Rattle.std.proofs.lemmas.List.Elements.{All-from_recursion}
+use Rattle.std.specs.List.{list_all}
+use Rattle.std.specs.Ordering.{int_eq}
+use Rattle.std.specs.Prelude.{codes, unsigned_abs, int_lt}
+use Rattle.planar.specs.Plane.{IsPlaced}
+use Rattle.planar.specs.declared.Spot.{Spot}
+use Rattle.area_contact.specs.Contour.{IsClosed}
+use Rattle.board_shapes.specs.Figures.{Figure, round, filled}
+use Rattle.lengths.specs.Decimal.{Fraction, is_decimal, fraction}
+use Rattle.lengths.specs.declared.decimal.Unit.{Unit as Measure}
+use Rattle.texts.specs.Words.{begins, is}
+use Rattle.aperture_macros.specs.declared.fault.MacroFault.{MacroFault}
+use Rattle.aperture_macros.specs.declared.fault.MacroFault.TheVariants.{BadMacro, ExposureOff, OffGrid, OutOfRange, Slanted}
+use Rattle.aperture_macros.specs.declared.images.Sketch.{Sketch}
+use Rattle.aperture_macros.specs.declared.images.Sketch.TheVariants.{Disc, Rectangle}
+use Rattle.aperture_macros.specs.declared.primitive.Form.{Form}
+use Rattle.aperture_macros.specs.declared.primitive.Form.TheVariants.{Circle, Outline, VectorLine, CentreLine}
+use Rattle.aperture_macros.specs.declared.primitive.Rotation.{Rotation}
+use Rattle.aperture_macros.specs.BodyWord.{PlainPrimitive, ◌>>=◌, are_expressions, commas, count, form_at, form_in, head, is_number, outline_of, part, past, primitive_at, rotation_of, rotation_text, some_form, turned_at}
+use Rattle.aperture_macros.specs.Images.{area_at, circle_at, centre_at, centred, corners, disc_at, figure_at, figure_by, halved, is_placed, line_at, lying, outline_at, set_down, sketch_at, sketched, outlined, upright}
+use Rattle.aperture_macros.specs.Outlines.{closing_at, moved_from}
+use Rattle.aperture_macros.specs.Sized.{IsSized, IsSizedIf}
+use Rattle.aperture_macros.specs.Values.{as_size, coordinate_at, diameter_at, point_at, size_at}
+use Rattle.aperture_macros.proofs.Closings.{closing_is, outline_refused, outlined_by}
+use Rattle.macro_flatten.specs.Laws.{IsDrawn}
+use Rattle.macro_flatten.proofs.Drawn.{half_drawn, spot_placed, spots_placed}
+
+then_ok : {A B : Type 0} (r : Result A MacroFault) (f : A → Result B MacroFault) (y : B) → (r >>= f) ≡ Ok y → (x : A) × (r ≡ Ok x) × (f x ≡ Ok y)
+then_ok (Ok x) f y h = (x, refl, h)
+then_ok (Err e) f y h = cc
+
+-- what is behind a test that is not met
+passed : {A : Type 0} (b : Bool) (e : MacroFault) (r : Result A MacroFault) (y : A) → cond b (Err e) r ≡ Ok y → (b ≡ false) × (r ≡ Ok y)
+passed true e r y h = cc
+passed false e r y h = (refl, h)
+
+-- ---- Forms
+
+either_sized : (b : Bool) (o p : Option Form) → IsSizedIf o → IsSizedIf p → IsSizedIf (cond b o p)
+either_sized true o p h k = h
+either_sized false o p h k = k
+
+outline_sized : (word : List ℕ) (n : ℕ) → IsSizedIf (outline_of word n)
+unfolding outline_of
+outline_sized word n = by (nat_le 3 n) (nat_le n 5000) refl refl
+  where
+    by : (a b : Bool) → nat_le 3 n ≡ a → nat_le n 5000 ≡ b → IsSizedIf (cond (not (a && b)) None (cond (not (is_decimal (part 2 word))) None (cond (is_number (fraction (part 2 word)) n) (Some (Outline n)) None)))
+    by false b low high = tt
+    by true false low high = tt
+    by true true low high = either_sized (not (is_decimal (part 2 word))) None (cond (is_number (fraction (part 2 word)) n) (Some (Outline n)) None) tt (either_sized (is_number (fraction (part 2 word)) n) (Some (Outline n)) None (leb-true _ _ low, leb-true _ _ high) tt)
+
+-- a test that one code alone passes, and then what is more
+coded_sized : (a b : Bool) (o p : Option Form) → IsSizedIf o → IsSizedIf p → IsSizedIf (cond a (cond b o None) p)
+coded_sized true true o p h k = h
+coded_sized true false o p h k = tt
+coded_sized false b o p h k = k
+
+form_sized : (word : List ℕ) (n : ℕ) → IsSizedIf (form_at word n)
+unfolding form_at
+form_sized word n =
+    let code = λ (text : List ℕ). is (part 0 word) text in
+    let edges = outline_of word ((n - 5) / 2) in
+    let centre : Option Form = cond (code (codes "21")) (cond (eqb n 6) (Some CentreLine) None) None in
+    let vector : Option Form = cond (code (codes "20")) (cond (eqb n 7) (Some VectorLine) None) centre in
+    let outline : Option Form = cond (code (codes "4")) (cond (eqb (n % 2) 1) edges None) vector in
+    let fourth = coded_sized (code (codes "21")) (eqb n 6) (Some CentreLine) None (omega arith, omega arith) tt in
+    let third = coded_sized (code (codes "20")) (eqb n 7) (Some VectorLine) centre (omega arith, omega arith) fourth in
+    let second = coded_sized (code (codes "4")) (eqb (n % 2) 1) edges vector (outline_sized word ((n - 5) / 2)) third in
+    coded_sized (code (codes "1")) (eqb n 4 || eqb n 5) (Some Circle) outline (omega arith, omega arith) second
+
+turned_form : (form : Form) (exposure : Fraction) (lengths rotation : List ℕ) (p : PlainPrimitive) → turned_at form exposure lengths rotation ≡ Ok p → p.form ≡ form
+unfolding turned_at
+turned_form form exposure lengths rotation p h =
+    let a = passed (not (are_expressions (count form) lengths)) BadMacro _ p h in
+    let b = passed (not (is_decimal rotation)) BadMacro _ p a.1 in
+    let c = passed (not (is_number exposure 1)) ExposureOff _ p b.1 in
+    let t = then_ok (rotation_of (fraction rotation)) (λ turn. Ok (record { form = form; rotation = turn; lengths = lengths })) p c.1 in
+    let made : ◌≡◌ {A = Result PlainPrimitive MacroFault} (Ok (record { form = form; rotation = t.0; lengths = lengths })) (Ok p) = t.2 in
+    let same : ◌≡◌ {A = PlainPrimitive} (record { form = form; rotation = t.0; lengths = lengths }) p = cc in
+    sym (ap (λ (q : PlainPrimitive). q.form) same)
+
+form_kept : (form : Form) (n : ℕ) (word : List ℕ) (p : PlainPrimitive) → form_in form n word ≡ Ok p → p.form ≡ form
+unfolding form_in
+form_kept form n word p h =
+    let a = passed (not (is_decimal (part 1 word))) BadMacro _ p h in
+    turned_form form (fraction (part 1 word)) (past (head form) word) (rotation_text form n (past (head form) word)) p a.1
+
+-- a primitive that is read has a form of lawful size
+pub read_sized : (word : List ℕ) (p : PlainPrimitive) → primitive_at word ≡ Ok (Some p) → IsSized p.form
+unfolding primitive_at
+read_sized word p h = by (begins word (codes "0")) (form_at word (commas word)) (form_sized word (commas word)) h
+  where
+    by : (b : Bool) (o : Option Form) → IsSizedIf o → cond b (Ok None) (some_form o (commas word) word) ≡ Ok (Some p) → IsSized p.form
+    by true o s h = cc
+    by false None s h = cc
+    by false (Some form) s h =
+        let f = then_ok (form_in form (commas word) word) (λ primitive. Ok (Some primitive)) (Some p) h in
+        let made : ◌≡◌ {A = Result (Option PlainPrimitive) MacroFault} (Ok (Some f.0)) (Ok (Some p)) = f.2 in
+        let same : f.0 ≡ p = cc in
+        subst IsSized (sym (form_kept form (commas word) word f.0 f.1) ∙ ap (λ (q : PlainPrimitive). q.form) same) s
+
+-- ---- Sketches
+
+-- a disc has the diameter of a pen
+IsPen : Option Sketch → Type 0
+IsPen None = Unit {0}
+IsPen (Some (Disc p d)) = (d % 2 ≡ 0) × (d ≤ 500_000_000) × (eqb d 0 ≡ false)
+IsPen (Some (Rectangle low high)) = Unit {0}
+
+size_even : (text : List ℕ) (given : List Fraction) (unit : Measure) (w : ℕ) → size_at text given unit ≡ Ok w → w % 2 ≡ 0
+unfolding size_at
+size_even text given unit w h = let u = then_ok (coordinate_at text given unit) as_size w h in by u.0 (eqb (unsigned_abs u.0 % 2) 0) (int_lt u.0 (pos 0)) refl u.2
+  where
+    by : (z : ℤ) (a b : Bool) → eqb (unsigned_abs z % 2) 0 ≡ a → cond (not a) (Err OffGrid) (cond b (Err OutOfRange) (Ok (unsigned_abs z))) ≡ Ok w → w % 2 ≡ 0
+    by z false b even h = cc
+    by z true true even h = cc
+    by z true false even h = let same : unsigned_abs z ≡ w = cc in subst (λ (n : ℕ). n % 2 ≡ 0) same (eqb-true _ _ even)
+
+circle_pen : (text : List ℕ) (given : List Fraction) (unit : Measure) (s : Option Sketch) → circle_at text given unit ≡ Ok s → IsPen s
+unfolding circle_at diameter_at IsPen
+circle_pen text given unit s h =
+    let sketch = λ (d : ℕ) (p : Spot). cond (eqb d 0) None (Some (Disc p d)) in
+    let d = then_ok (diameter_at (part 0 text) given unit) (λ d. point_at (past 1 text) given unit >>= λ p. Ok (sketch d p)) s h in
+    let p = then_ok (point_at (past 1 text) given unit) (λ p. Ok (sketch d.0 p)) s d.2 in
+    let w = then_ok (size_at (part 0 text) given unit) (λ n. cond (nat_lt 500000000 n) (Err OutOfRange) (Ok n)) d.0 d.1 in
+    let few = passed (nat_lt 500000000 w.0) OutOfRange (Ok w.0) d.0 w.2 in
+    let narrow = few.1 in
+    let same : w.0 ≡ d.0 = cc in
+    by d.0 p.0 (subst (λ (n : ℕ). n % 2 ≡ 0) same (size_even (part 0 text) given unit w.0 w.1)) (subst (λ (n : ℕ). n ≤ 500_000_000) same (ltb-false _ _ few.0)) (eqb d.0 0) refl p.2
+  where
+    by : (d : ℕ) (p : Spot) → d % 2 ≡ 0 → d ≤ 500_000_000 → (b : Bool) → eqb d 0 ≡ b → ◌≡◌ {A = Result (Option Sketch) MacroFault} (Ok (cond b None (Some (Disc p d)))) (Ok s) → IsPen s
+    by d p even few true none h = let same : None ≡ s = cc in subst IsPen same tt
+    by d p even few false some h = let same : Some (Disc p d) ≡ s = cc in subst IsPen same (even, few, some)
+
+-- a test that leaves a rectangle or nothing
+rectangle_pen : (b : Bool) (low high : Spot) → IsPen (cond b None (Some (Rectangle low high)))
+unfolding IsPen
+rectangle_pen true low high = tt
+rectangle_pen false low high = tt
+
+line_pen : (text : List ℕ) (given : List Fraction) (unit : Measure) (s : Option Sketch) → line_at text given unit ≡ Ok s → IsPen s
+unfolding line_at
+line_pen text given unit s h =
+    let sketch = λ (w : ℕ) (p q : Spot). cond (int_eq p.x q.x) (Ok (upright w p q)) (cond (int_eq p.y q.y) (Ok (lying w p q)) (Err Slanted)) in
+    let w = then_ok (size_at (part 0 text) given unit) (λ w. point_at (past 1 text) given unit >>= λ p. point_at (past 3 text) given unit >>= λ q. sketch w p q) s h in
+    let p = then_ok (point_at (past 1 text) given unit) (λ p. point_at (past 3 text) given unit >>= λ q. sketch w.0 p q) s w.2 in
+    let q = then_ok (point_at (past 3 text) given unit) (λ q. sketch w.0 p.0 q) s p.2 in
+    by w.0 p.0 q.0 (int_eq p.0.x q.0.x) (int_eq p.0.y q.0.y) q.2
+  where
+    by : (w : ℕ) (p q : Spot) (a b : Bool) → ◌≡◌ {A = Result (Option Sketch) MacroFault} (cond a (Ok (upright w p q)) (cond b (Ok (lying w p q)) (Err Slanted))) (Ok s) → IsPen s
+    by w p q true b h = let same : upright w p q ≡ s = cc in subst IsPen same (rectangle_pen _ _ _)
+    by w p q false true h = let same : lying w p q ≡ s = cc in subst IsPen same (rectangle_pen _ _ _)
+    by w p q false false h = cc
+
+centre_pen : (text : List ℕ) (given : List Fraction) (unit : Measure) (s : Option Sketch) → centre_at text given unit ≡ Ok s → IsPen s
+unfolding centre_at
+centre_pen text given unit s h =
+    let w = then_ok (size_at (part 0 text) given unit) (λ w. size_at (part 1 text) given unit >>= λ h. point_at (past 2 text) given unit >>= λ p. Ok (centred w h p)) s h in
+    let t = then_ok (size_at (part 1 text) given unit) (λ h. point_at (past 2 text) given unit >>= λ p. Ok (centred w.0 h p)) s w.2 in
+    let p = then_ok (point_at (past 2 text) given unit) (λ p. Ok (centred w.0 t.0 p)) s t.2 in
+    let made : ◌≡◌ {A = Result (Option Sketch) MacroFault} (Ok (centred w.0 t.0 p.0)) (Ok s) = p.2 in
+    let same : centred w.0 t.0 p.0 ≡ s = cc in
+    subst IsPen same (rectangle_pen _ _ _)
+
+-- ---- Figures
+
+same_figure : (f g : Figure) → ◌≡◌ {A = Result (Option Figure) MacroFault} (Ok (Some f)) (Ok (Some g)) → IsDrawn f → IsDrawn g
+same_figure f g e h = let s : f ≡ g = cc in subst IsDrawn s h
+
+-- a closed line of few points, where they are within one metre
+area_drawn : (points : List Spot) (f : Figure) → IsClosed points → 4 ≤ length points → length points ≤ 100_001 → area_at points ≡ Ok (Some f) → IsDrawn f
+area_drawn points f closed enough few h = by (list_all is_placed points) refl h
+  where
+    by : (b : Bool) → list_all is_placed points ≡ b → cond b (Ok (Some (filled points))) (Err OutOfRange) ≡ Ok (Some f) → IsDrawn f
+    by false e h = cc
+    by true e h = same_figure (filled points) f h (record {
+      closed = closed;
+      enough = enough;
+      not_many = few;
+      placed = All-from_recursion IsPlaced points (spots_placed points e);
+    })
+
+disc_drawn : (p : Spot) (d : ℕ) (f : Figure) → d % 2 ≡ 0 → d ≤ 500_000_000 → eqb d 0 ≡ false → disc_at p d ≡ Ok (Some f) → IsDrawn f
+disc_drawn p d f even few some h = by (is_placed p) refl h
+  where
+    by : (b : Bool) → is_placed p ≡ b → cond b (Ok (Some (round (record { a = p; b = p; r = halved d })))) (Err OutOfRange) ≡ Ok (Some f) → IsDrawn f
+    by false e h = cc
+    by true e h =
+        let r = half_drawn d even few some in
+        let there = spot_placed p e in
+        same_figure (round (record { a = p; b = p; r = halved d })) f h (there, there, r.0, r.1)
+
+sketch_drawn : (rotation : Rotation) (at : Spot) (s : Option Sketch) (f : Figure) → IsPen s → sketch_at rotation at s ≡ Ok (Some f) → IsDrawn f
+unfolding sketch_at IsPen
+sketch_drawn rotation at None f pen h = cc
+sketch_drawn rotation at (Some (Disc p d)) f pen h = disc_drawn (set_down rotation at p) d f pen.0 pen.1 pen.2 h
+sketch_drawn rotation at (Some (Rectangle low high)) f pen h = area_drawn (map (set_down rotation at) (corners low high)) f refl (omega arith) (omega arith) h
+
+sketched_drawn : (rotation : Rotation) (at : Spot) (r : Result (Option Sketch) MacroFault) (f : Figure) → ((s : Option Sketch) → r ≡ Ok s → IsPen s) → sketched rotation at r ≡ Ok (Some f) → IsDrawn f
+sketched_drawn rotation at r f pen h =
+    let s = then_ok r (sketch_at rotation at) (Some f) h in
+    sketch_drawn rotation at s.0 f (pen s.0 s.1) s.2
+
+outline_drawn : (n : ℕ) (rotation : Rotation) (text : List ℕ) (given : List Fraction) (unit : Measure) (at : Spot) (f : Figure) → 3 ≤ n → n ≤ 5000 → outlined rotation at (outline_at n text given unit) ≡ Ok (Some f) → IsDrawn f
+outline_drawn n rotation text given unit at f low high h =
+    let o = then_ok (outline_at n text given unit) (λ ps. area_at (map (set_down rotation at) ps)) (Some f) h in
+    by o.0 o.1 o.2 (moved_from (set_down rotation at) [] (n + 1) text given unit) refl
+  where
+    by : (points : List Spot) → outline_at n text given unit ≡ Ok points → area_at (map (set_down rotation at) points) ≡ Ok (Some f) → (r : Result (List Spot) MacroFault) → moved_from (set_down rotation at) [] (n + 1) text given unit ≡ r → IsDrawn f
+    by points e h (Err fault) m = let refused : ◌≡◌ {A = Result (List Spot) MacroFault} (Ok points) (Err fault) = sym e ∙ outline_refused (set_down rotation at) n text given unit fault m in cc
+    by points e h (Ok moved) m =
+        let judged : closing_at n text given unit ≡ Ok tt = closing_is n text given unit ∙ rw e refl in
+        let o = outlined_by (set_down rotation at) n text given unit moved judged m in
+        let long = o.long in
+        let again : ◌≡◌ {A = Result (List Spot) MacroFault} (Ok points) (Ok o.points) = sym e ∙ o.outline in
+        let same : points ≡ o.points = cc in
+        let here : map (set_down rotation at) points ≡ moved = ap (map (set_down rotation at)) same ∙ sym o.each in
+        area_drawn moved f o.closed (omega (arith, long, low)) (omega (arith, long, high)) (subst (λ (ps : List Spot). area_at ps ≡ Ok (Some f)) here h)
+
+figure_by_drawn : (form : Form) (rotation : Rotation) (text : List ℕ) (given : List Fraction) (unit : Measure) (at : Spot) (f : Figure) → IsSized form → figure_by form rotation text given unit at ≡ Ok (Some f) → IsDrawn f
+unfolding figure_by
+figure_by_drawn Circle rotation text given unit at f sized h = sketched_drawn rotation at (circle_at text given unit) f (circle_pen text given unit) h
+figure_by_drawn (Outline n) rotation text given unit at f sized h = outline_drawn n rotation text given unit at f sized.0 sized.1 h
+figure_by_drawn VectorLine rotation text given unit at f sized h = sketched_drawn rotation at (line_at text given unit) f (line_pen text given unit) h
+figure_by_drawn CentreLine rotation text given unit at f sized h = sketched_drawn rotation at (centre_at text given unit) f (centre_pen text given unit) h
+
+-- what a primitive of lawful size flashes
+pub primitive_drawn : (p : PlainPrimitive) (given : List Fraction) (unit : Measure) (at : Spot) (f : Figure) → IsSized p.form → figure_at p given unit at ≡ Ok (Some f) → IsDrawn f
+primitive_drawn p given unit at f sized h = figure_by_drawn p.form p.rotation p.lengths given unit at f sized h

@@ -1,0 +1,82 @@
+-- What both tables of commands say: that of the standard apertures, and that of files with macros.
+use Rattle.std.proofs.Common.{◌≡◌, ◌≤◌, Bool, true, false, cond, length, Result, Ok, Err, refl, sym, ap, ◌∙◌, subst}
+use Rattle.std.proofs.lemmas.Bool.{ltb-false}
+use Rattle.std.specs.Prelude.{nat_lt}
+use Rattle.gerber_layer.specs.Command.{Command, repeats, opens_region, closes_region, operates, ends}
+use Rattle.gerber_layer.specs.declared.kind.GerberKind.{GerberKind}
+use Rattle.gerber_layer.specs.declared.kind.GerberKind.TheVariants as kind
+use Rattle.gerber_layer.specs.declared.macro_kind.FlattenKind.TheVariants.{Gerber, TooManyRadii}
+use Rattle.gerber_layer.specs.Radii.{radii_of}
+use Rattle.gerber_layer.specs.Table.{Known, Effect, Profile, ◌>>=◌, concludes, row, effect}
+use Rattle.gerber_layer.specs.MacroTable.{effect_with_macros, few_radii, gerber, row_with_macros}
+use Rattle.gerber_layer.proofs.Outcome.{Outcome, bind_ok, outcome, past_test}
+use Rattle.gerber_layer.proofs.MacroOutcome.{outcome_with_macros}
+
+-- the commands that make pieces or change the contour: both tables have one row for each
+abbrev pub IsShared : Command → Type 0
+IsShared (operates x y code) = Unit {0}
+IsShared opens_region = Unit {0}
+IsShared closes_region = Unit {0}
+IsShared (repeats text) = Unit {0}
+IsShared ends = Unit {0}
+IsShared other = ⊥
+
+-- what the proofs want of a table
+pub record HasRows {W : Type 0} (f : Profile W) : Type 0 where
+  pub says : (k : Known) (c : Command) (e : Effect) → f k c ≡ Ok e → Outcome k c e
+  pub shares : (k : Known) (c : Command) (e : Effect) → IsShared c → f k c ≡ Ok e → row k c ≡ Ok e
+
+-- ---- The standard apertures
+
+shared : (k : Known) (c : Command) (e : Effect) → IsShared c → effect k c ≡ Ok e → row k c ≡ Ok e
+unfolding effect
+shared k (operates x y code) e s h = past_test k.settings.ended kind.AfterEnd (row k (operates x y code)) e h
+shared k opens_region e s h = past_test k.settings.ended kind.AfterEnd (row k opens_region) e h
+shared k closes_region e s h = past_test k.settings.ended kind.AfterEnd (row k closes_region) e h
+shared k (repeats text) e s h = past_test k.settings.ended kind.AfterEnd (row k (repeats text)) e h
+shared k ends e s h = past_test k.settings.ended kind.AfterEnd (row k ends) e h
+shared k other e s h = absurd s
+
+pub standard_rows : HasRows effect
+standard_rows = record { says = outcome; shares = shared }
+
+-- ---- Files with macros
+
+gerber_ok : {A : Type 0} (r : Result A GerberKind) (x : A) → gerber r ≡ Ok x → r ≡ Ok x
+gerber_ok (Ok y) x h = let e : y ≡ x = cc in ap Ok e
+gerber_ok (Err why) x h = cc
+
+-- an end has few radii
+abbrev pub HasFewRadii : Effect → Type 0
+HasFewRadii (concludes pieces) = length (radii_of pieces) ≤ 65_536
+HasFewRadii other = Unit {0}
+
+counted : (x e : Effect) → few_radii x ≡ Ok e → (x ≡ e) × HasFewRadii e
+counted (concludes pieces) e h = by (nat_lt 65536 (length (radii_of pieces))) refl h
+  where
+    by : (b : Bool) → nat_lt 65536 (length (radii_of pieces)) ≡ b → cond b (Err TooManyRadii) (Ok (concludes pieces)) ≡ Ok e → (concludes pieces ≡ e) × HasFewRadii e
+    by true many h = cc
+    by false few h = let same : concludes pieces ≡ e = cc in (same, subst HasFewRadii same (ltb-false _ _ few))
+counted other e h = let same : other ≡ e = cc in (same, subst HasFewRadii same tt)
+
+counted_row : (k : Known) (c : Command) (e : Effect) → (row_with_macros k c >>= few_radii) ≡ Ok e → (row_with_macros k c ≡ Ok e) × HasFewRadii e
+counted_row k c e h =
+    let f = bind_ok (row_with_macros k c) few_radii e h in
+    let g = counted f.0 e f.2 in
+    (f.1 ∙ ap (λ (x : Effect). Ok x) g.0, g.1)
+
+both : (k : Known) (c : Command) (e : Effect) → row_with_macros k c ≡ gerber (row k c) → (row_with_macros k c >>= few_radii) ≡ Ok e → (row k c ≡ Ok e) × HasFewRadii e
+both k c e is h = let r = counted_row k c e h in (gerber_ok (row k c) e (sym is ∙ r.0), r.1)
+
+-- the row that both have, and few radii
+pub shared_by_macros : (k : Known) (c : Command) (e : Effect) → IsShared c → effect_with_macros k c ≡ Ok e → (row k c ≡ Ok e) × HasFewRadii e
+unfolding effect_with_macros row_with_macros
+shared_by_macros k (operates x y code) e s h = both k (operates x y code) e refl (past_test k.settings.ended (Gerber kind.AfterEnd) (gerber (row k (operates x y code)) >>= few_radii) e h)
+shared_by_macros k opens_region e s h = both k opens_region e refl (past_test k.settings.ended (Gerber kind.AfterEnd) (gerber (row k opens_region) >>= few_radii) e h)
+shared_by_macros k closes_region e s h = both k closes_region e refl (past_test k.settings.ended (Gerber kind.AfterEnd) (gerber (row k closes_region) >>= few_radii) e h)
+shared_by_macros k (repeats text) e s h = both k (repeats text) e refl (past_test k.settings.ended (Gerber kind.AfterEnd) (gerber (row k (repeats text)) >>= few_radii) e h)
+shared_by_macros k ends e s h = both k ends e refl (past_test k.settings.ended (Gerber kind.AfterEnd) (gerber (row k ends) >>= few_radii) e h)
+shared_by_macros k other e s h = absurd s
+
+pub macro_rows : HasRows effect_with_macros
+macro_rows = record { says = outcome_with_macros; shares = λ k c e s h. (shared_by_macros k c e s h).0 }
