@@ -1,3 +1,4 @@
+pub mod CutOff
 pub mod Entries
 pub mod Form
 pub mod Halting
