@@ -1,6 +1,8 @@
 -- A package of which one file is cut off is refused, or has the same board.
-use Rattle.std.proofs.Common.{◌≡◌, ◌⊎◌, inl, inr, ℕ, Bool, true, false, if◌then◌else◌, List, [], ◌∷◌, take, option_map, refl, sym, ap, ◌∙◌, arith}
-use Rattle.std.proofs.lemmas.List.{length-take}
+use Rattle.std.proofs.Common.{◌≡◌, ◌⊎◌, inl, inr, ℕ, Bool, true, false, if◌then◌else◌, List, [], ◌∷◌, ◌++◌, take, drop, Option, Some, None, option_map, refl, sym, ap, ◌∙◌, arith}
+use Rattle.std.specs.Str.{is_utf8}
+use Rattle.std.proofs.lemmas.List.{length-take, take-append-drop}
+use Rattle.std.proofs.lemmas.Str.{IsUtf8-from_is_utf8, is_utf8-from_IsUtf8}
 use Rattle.board_io.specs.Package.{Files}
 use Rattle.board_shapes.specs.Plain.{PlainBoard, PlainPiece}
 use Rattle.board_shapes.specs.declared.probe.Probe.{Probe}
@@ -9,10 +11,13 @@ use Rattle.gerber_layer.specs.Layer as layer_file
 use Rattle.xnc.specs.Place.{Place as DrillPlace}
 use Rattle.xnc.specs.DrillFile as drill_file
 use Rattle.ipc356_records.specs.NetlistFile as netlist_file
+use Rattle.serde_json.specs.Data as json
+use Rattle.serde_json.specs.Data.{Data}
 use Rattle.serde_json.specs.Read.{read}
 use Rattle.texts.specs.Words.{is}
 use Rattle.board_package.specs.Laws.{CutIsRefusedOrTheSame, cut_off}
-use Rattle.board_package.specs.PackageBoard.{Stop, refused, IsHeld, Goes, StopsAt, StopsAmong, IsManifestFile, Walks}
+use Rattle.board_package.specs.Manifest.{IsManifest, IsNotJson, manifest_of}
+use Rattle.board_package.specs.PackageBoard.{Stop, not_json, refused, IsHeld, Goes, StopsAt, StopsAmong, StopsAtManifest, IsManifestFile, Walks}
 use Rattle.board_package.specs.Parts.{empty_board, with_pieces, with_netlist}
 use Rattle.board_package.specs.Reading.{Reads, Refuses, layer_place, drill_place}
 use Rattle.board_package.specs.declared.entry.Entry.{Entry}
@@ -21,6 +26,7 @@ use Rattle.board_package.specs.declared.entry.Role.TheVariants as role
 use Rattle.board_package.specs.declared.manifest.Manifest.{Manifest}
 use Rattle.board_package.specs.declared.reading.Refusal.{Refusal}
 use Rattle.board_package.specs.declared.reading.Refusal.TheVariants as refusal
+use Rattle.board_package.proofs.JsonPrefix.{one_value}
 use Rattle.board_package.proofs.OneOutcome.{HaveAnswers}
 
 -- a prefix of a file that is read, where it is read too, makes the same
@@ -78,20 +84,47 @@ walk_goes all same files name n (e ∷ entries) before after (next, goes, walks)
   | inr stops ↦ inr (stops.0, inl stops.1)
 ]
 
--- ---- The package
+-- ---- The manifest
 
--- a manifest of another name is as it was
-manifest_kept : (files : Files) (name : List ℕ) (n : ℕ) (manifest : List ℕ) (m : Manifest) → is manifest name ≡ false → IsManifestFile files manifest m → IsManifestFile (cut_off files name n) manifest m
-manifest_kept files name n manifest m other f = record {
-  bytes = f.bytes;
-  held = record { held = ap (λ (v : Bool). if v then option_map (take n) (files manifest) else files manifest) other ∙ f.held.held; short = f.held.short };
-  good = f.good;
-}
+-- the value of a manifest is an object
+an_object : (value : Data) (m : Manifest) → manifest_of value ≡ Some m → (members : json.Members) × (value ≡ json.object members)
+unfolding manifest_of
+an_object json.null m e = absurd (cc)
+an_object (json.boolean b) m e = absurd (cc)
+an_object (json.number x) m e = absurd (cc)
+an_object (json.string s) m e = absurd (cc)
+an_object (json.array items) m e = absurd (cc)
+an_object (json.object members) m e = (members, refl)
+
+no_value : (o : Option Data) (v : Data) → o ≡ None → o ≡ Some v → ⊥
+no_value o v e f = cc
+
+prefix_manifest : (bytes : List ℕ) (n : ℕ) (m : Manifest) → IsManifest bytes m → IsManifest (take n bytes) m ⊎ IsNotJson (take n bytes)
+prefix_manifest bytes n m whole = by (is_utf8 (take n bytes)) refl (read (take n bytes)) refl
+  where
+    by : (b : Bool) → is_utf8 (take n bytes) ≡ b → (o : Option Data) → read (take n bytes) ≡ o → IsManifest (take n bytes) m ⊎ IsNotJson (take n bytes)
+    by false broken o e = inr (λ v read_as. let text = is_utf8-from_IsUtf8 (take n bytes) read_as.text in cc)
+    by true text None e = inr (λ v read_as. no_value (read (take n bytes)) v e read_as.spelled)
+    by true text (Some v) e =
+        let members = an_object whole.value m whole.form in
+        let spelled : read (take n bytes ++ drop n bytes) ≡ Some (json.object members.0) = ap read (take-append-drop n bytes) ∙ whole.read_as.spelled ∙ ap (λ (d : Data). Some d) members.1 in
+        let same : v ≡ whole.value = one_value (take n bytes) (drop n bytes) members.0 v spelled e ∙ sym members.1 in
+        inl (record { value = whole.value; read_as = record { text = IsUtf8-from_is_utf8 (take n bytes) text; spelled = e ∙ ap (λ (d : Data). Some d) same }; form = whole.form })
+
+manifest_goes : (files : Files) (name : List ℕ) (n : ℕ) (manifest : List ℕ) (m : Manifest) → IsManifestFile files manifest m → IsManifestFile (cut_off files name n) manifest m ⊎ ((stop : Stop) × StopsAtManifest (cut_off files name n) manifest stop)
+manifest_goes files name n manifest m f = elim (held_cut files name manifest f.bytes n f.held) [
+  | inl whole ↦ inl (record { bytes = f.bytes; held = whole; good = f.good })
+  | inr cut ↦ elim (prefix_manifest f.bytes n m f.good) [
+    | inl same ↦ inl (record { bytes = take n f.bytes; held = cut; good = same })
+    | inr none ↦ inr (not_json, record { bytes = take n f.bytes; held = cut; good = none })
+  ]
+]
 
 pub cut_is_refused_or_the_same : HaveAnswers → HavePrefixes → (files : Files) (manifest : List ℕ) → CutIsRefusedOrTheSame files manifest
-cut_is_refused_or_the_same all same files manifest board b name n other =
-    let listed = manifest_kept files name n manifest b.listed other b.manifest in
-    elim (walk_goes all same files name n b.listed.files (empty_board b.listed.layers) board b.walked) [
-      | inl walked ↦ inr (record { listed = b.listed; manifest = listed; walked = walked; frame = b.frame })
-      | inr stops ↦ inl (stops.0, inr (record { listed = b.listed; manifest = listed; stops = inl stops.1 }))
-    ]
+cut_is_refused_or_the_same all same files manifest board b name n = elim (manifest_goes files name n manifest b.listed b.manifest) [
+  | inl listed ↦ elim (walk_goes all same files name n b.listed.files (empty_board b.listed.layers) board b.walked) [
+    | inl walked ↦ inr (record { listed = b.listed; manifest = listed; walked = walked; frame = b.frame })
+    | inr stops ↦ inl (stops.0, inr (record { listed = b.listed; manifest = listed; stops = inl stops.1 }))
+  ]
+  | inr stops ↦ inl (stops.0, inl stops.1)
+]

@@ -2,6 +2,8 @@ pub mod CutOff
 pub mod Entries
 pub mod Form
 pub mod Halting
+pub mod JsonBrackets
+pub mod JsonPrefix
 pub mod LabelCauses
 pub mod LabelledOutcome
 pub mod Lift

@@ -1,5 +1,5 @@
 -- The laws of packages.
-use Rattle.std.specs.Prelude.{◌≡◌, ◌⊎◌, ℕ, ◌-◌, false, if◌then◌else◌, List, take, Some, slice_get, option_map}
+use Rattle.std.specs.Prelude.{◌≡◌, ◌⊎◌, ℕ, ◌-◌, if◌then◌else◌, List, take, Some, slice_get, option_map}
 use Rattle.board_io.specs.Package.{Files}
 use Rattle.board_shapes.specs.LawfulBoard.{IsLawfulBoard}
 use Rattle.board_shapes.specs.Plain.{PlainBoard}
@@ -30,8 +30,8 @@ LabelledPiecesAreUnder = (tables : List (List Label)) (b : PlainBoard) → IsLaw
 abbrev pub cut_off : Files → List ℕ → ℕ → Files
 cut_off files name n other = if is other name then option_map (take n) (files other) else files other
 
--- Of a package with a board: cutting one file off, other than the manifest, at any place is a refusal or leaves the same board.
+-- Of a package with a board: cutting one file off, the manifest or another, at any place is a refusal or leaves the same board.
 abbrev pub CutIsRefusedOrTheSame : Files → List ℕ → Type 0
 CutIsRefusedOrTheSame files manifest =
-    (board : PlainBoard) → IsBoardOf files manifest board → (name : List ℕ) (n : ℕ) → is manifest name ≡ false →
+    (board : PlainBoard) → IsBoardOf files manifest board → (name : List ℕ) (n : ℕ) →
     ((stop : Stop) × IsFirstStop (cut_off files name n) manifest stop) ⊎ IsBoardOf (cut_off files name n) manifest board

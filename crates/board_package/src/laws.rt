@@ -27,7 +27,7 @@ pub fn labelled_pieces_are_under()
     ensures { LabelledPiecesAreUnder }
 {}
 
-/// Of a package with a board: where one of its files other than the manifest is cut off at any
+/// Of a package with a board: where one of its files, the manifest or another, is cut off at any
 /// place, the package is refused or has the same board.
 pub fn cut_is_refused_or_the_same()
     ensures { (files : Files) (manifest : List ℕ) → CutIsRefusedOrTheSame files manifest }
