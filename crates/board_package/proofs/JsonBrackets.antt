@@ -155,7 +155,7 @@ abbrev walk_lexemes : ℕ → List Lexeme → Option (List Lexeme)
 walk_lexemes h [] = None
 walk_lexemes h (l ∷ ls) = on (lexeme_step l) h (λ k. walk_lexemes k ls) ls
 
--- what is walked of the tokens is walked of the lexemes
+-- What is walked of the tokens is walked of the lexemes, and what follows comes of the lexemes behind.
 record AlsoLexemes (h : ℕ) (ls : List Lexeme) (r : List Token) : Type 0 where
   behind : List Lexeme
   walked : walk_lexemes h ls ≡ Some behind
@@ -226,7 +226,7 @@ from_first (token t ∷ ls) r e = placed fresh t (begins_colon ls) 0 ls r (also_
 from_first (comma ∷ ls) r e = none_some e
 from_first (colon ∷ ls) r e = none_some e
 
--- behind a whole value no lexeme makes no token
+-- each lexeme behind a whole value makes a token
 never_empty : (b : Bool) (t : Token) (k : Place → List Token) (next : Place) → if_allowed b t k next ≡ [] → ⊥
 never_empty true t k next e = cc
 never_empty false t k next e = cc
@@ -278,6 +278,7 @@ all_good (l ∷ ls) h e = on_good (lexeme_step l) h ls (all_good ls) e
 
 -- ---- Bytes
 
+-- what a byte of a class does in a mode: strings and words are passed over where they begin
 abbrev pub byte : {A : Type 0} → ℕ → Mode → Class → ℕ → (ℕ → Mode → Option A) → A → Option A
 byte h between quote x more rest = on passes h (λ k. more k in_string) rest
 byte h between backslash x more rest = None
@@ -350,7 +351,7 @@ on_passed : (s : Step) (h : ℕ) (m : Mode) (xs : List ℕ) (ls : List Lexeme) �
 on_passed s h m xs ls (inl is) more e = on_bytes passes h m xs ls (λ c. cc) more (ap (λ (t : Step). on t h (λ k. walk_lexemes k (lex m xs)) (lex m xs)) (sym is) ∙ e)
 on_passed s h m xs ls (inr is) more e = none_some (ap (λ (t : Step). on t h (λ k. walk_lexemes k (lex m xs)) (lex m xs)) (sym is) ∙ e)
 
--- what the bytes behind one give it gives with that one
+-- what is walked of the lexemes of these bytes is walked of the bytes, from every mode
 AllAlso : List ℕ → Type 0
 AllAlso xs = (m : Mode) (h : ℕ) (ls : List Lexeme) → walk_lexemes h (lex m xs) ≡ Some ls → AlsoBytes h m xs ls
 
