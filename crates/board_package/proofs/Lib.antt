@@ -1,6 +1,9 @@
+pub mod CutOff
 pub mod Entries
 pub mod Form
 pub mod Halting
+pub mod JsonBrackets
+pub mod JsonPrefix
 pub mod LabelCauses
 pub mod LabelledOutcome
 pub mod Lift

@@ -1,5 +1,5 @@
 -- The probes of labelled pieces.
-use Rattle.std.proofs.Common.{◌≡◌, ℕ, ◌+◌, ◌<◌, ◌≤◌, suc, Bool, true, false, cond, List, [], ◌∷◌, ◌++◌, length, take, reverse, map, get_or, All, Option, Some, None, refl, sym, ap, ◌∙◌, subst, arith, length-append}
+use Rattle.std.proofs.Common.{◌≡◌, ℕ, ◌+◌, ◌<◌, ◌≤◌, Bool, true, false, cond, List, [], ◌∷◌, ◌++◌, length, take, reverse, get_or, All, Option, Some, None, refl, sym, ap, ◌∙◌, subst, arith, length-append}
 use Rattle.std.specs.List.{AllByRecursion, list_any}
 use Rattle.std.specs.Prelude.{option_and_then}
 use Rattle.std.proofs.lemmas.Option.{slice_get_past, slice_get_read}
@@ -12,7 +12,6 @@ use Rattle.board_shapes.specs.Pieces.{PlainPiece, plain_piece, plain_pieces}
 use Rattle.board_shapes.specs.Shapes.{lawful}
 use Rattle.board_shapes.specs.declared.placed.Origin.{Origin}
 use Rattle.board_shapes.specs.declared.placed.Placed.{Placed}
-use Rattle.board_shapes.specs.declared.probe.Probe.{Probe}
 use Rattle.board_shapes.specs.declared.shape.Shape.{Shape}
 use Rattle.ipc356_records.specs.Names.{index_of, is_name, with_name}
 use Rattle.ipc356_records.proofs.Fits.{index_below, more_names, names_grow}

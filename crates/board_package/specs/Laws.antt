@@ -1,11 +1,12 @@
 -- The laws of packages.
-use Rattle.std.specs.Prelude.{◌≡◌, ℕ, ◌-◌, List, Some, slice_get}
+use Rattle.std.specs.Prelude.{◌≡◌, ◌⊎◌, ℕ, ◌-◌, if◌then◌else◌, List, take, Some, slice_get, option_map}
 use Rattle.board_io.specs.Package.{Files}
 use Rattle.board_shapes.specs.LawfulBoard.{IsLawfulBoard}
 use Rattle.board_shapes.specs.Plain.{PlainBoard}
 use Rattle.board_shapes.specs.Touching.{UnderAt}
 use Rattle.board_shapes.specs.declared.probe.Probe.{Probe}
 use Rattle.board_package.specs.LabelledBoard.{IsFirstLabelledStop, IsLabelledBoardOf, LabelledStop, labelled_board_of}
+use Rattle.texts.specs.Words.{is}
 use Rattle.x2_nets.specs.declared.table.Label.{Label}
 use Rattle.board_package.specs.PackageBoard.{Stop, IsBoardOf, IsFirstStop}
 
@@ -24,3 +25,13 @@ pub record HasOneLabelledOutcome (files : Files) (manifest : List ℕ) : Type 0 
 -- Each probe of a labelled board has its piece under it: that of its record's number less 1.
 abbrev pub LabelledPiecesAreUnder : Type 0
 LabelledPiecesAreUnder = (tables : List (List Label)) (b : PlainBoard) → IsLawfulBoard (labelled_board_of tables b) → (k : ℕ) (probe : Probe) → slice_get (labelled_board_of tables b).probes k ≡ Some probe → UnderAt (labelled_board_of tables b) k (probe.number - 1)
+
+-- The package in which the file of this name, where it is held, has only its first n bytes.
+abbrev pub cut_off : Files → List ℕ → ℕ → Files
+cut_off files name n other = if is other name then option_map (take n) (files other) else files other
+
+-- Of a package with a board: cutting one file off, the manifest or another, at any place is a refusal or leaves the same board.
+abbrev pub CutIsRefusedOrTheSame : Files → List ℕ → Type 0
+CutIsRefusedOrTheSame files manifest =
+    (board : PlainBoard) → IsBoardOf files manifest board → (name : List ℕ) (n : ℕ) →
+    ((stop : Stop) × IsFirstStop (cut_off files name n) manifest stop) ⊎ IsBoardOf (cut_off files name n) manifest board

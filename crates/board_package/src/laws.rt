@@ -1,7 +1,7 @@
 //! The laws over the definitions alone.
 ghost use Rattle.std.specs.Prelude.{ℕ, List};
 ghost use Rattle.board_io.specs.Package.{Files};
-ghost use Rattle.board_package.specs.Laws.{HasOneLabelledOutcome, HasOneOutcome, LabelledPiecesAreUnder};
+ghost use Rattle.board_package.specs.Laws.{CutIsRefusedOrTheSame, HasOneLabelledOutcome, HasOneOutcome, LabelledPiecesAreUnder};
 
 /// A package has at most one board or one first stop, and not both.
 pub fn one_outcome()
@@ -26,3 +26,16 @@ pub fn one_labelled_outcome()
 pub fn labelled_pieces_are_under()
     ensures { LabelledPiecesAreUnder }
 {}
+
+/// Of a package with a board: where one of its files, the manifest or another, is cut off at any
+/// place, the package is refused or has the same board.
+pub fn cut_is_refused_or_the_same()
+    ensures { (files : Files) (manifest : List ℕ) → CutIsRefusedOrTheSame files manifest }
+{
+    gerber_layer::laws::one_answer();
+    xnc::laws::one_answer();
+    ipc356_records::laws::one_answer();
+    gerber_layer::laws::prefix_makes_the_same();
+    xnc::laws::prefix_makes_the_same();
+    ipc356_records::laws::prefix_makes_the_same();
+}

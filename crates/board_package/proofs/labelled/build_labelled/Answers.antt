@@ -1,11 +1,10 @@
-use Rattle.std.proofs.Common.{◌≡◌, List, IfSome, sym, subst, ap, ◌∙◌}
+use Rattle.std.proofs.Common.{List, IfSome, subst, ap, ◌∙◌}
 use Rattle.std.specs.List.{filter}
 use Rattle.board_io.specs.Package.{IsFaultless}
-use Rattle.board_package.specs.LabelledBoard.{GoesLabelled, LabelledComesAmong, StopsLabelledAmong, is_board_file, labelled_board_of}
+use Rattle.board_package.specs.LabelledBoard.{GoesLabelled, LabelledComesAmong, StopsLabelledAmong, labelled_board_of}
 use Rattle.board_package.specs.LabelledCauses.{HasLabelledCause, labelled_so_far}
 use Rattle.board_package.specs.PackageBoard.{WalksBy}
 use Rattle.board_package.specs.Parts.{board_so_far}
-use Rattle.board_package.specs.declared.entry.Entry.{Entry}
 use Rattle.board_package.specs.declared.fault.BuildFault.TheVariants as build
 use Rattle.board_package.specs.declared.fault.LabelledFault.TheVariants as fault
 use Rattle.x2_nets.specs.declared.table.Label.{Label}

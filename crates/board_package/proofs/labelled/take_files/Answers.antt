@@ -1,6 +1,5 @@
-use Rattle.std.proofs.Common.{rules, arith, ◌∙◌}
-use Rattle.board_package.specs.LabelledBoard.{LabelledComesAmong, StopsLabelledAmong}
-use Rattle.board_package.specs.LabelledCauses.{HasLabelledCause, KeepsLabelledFaults, labelled_so_far}
+use Rattle.std.proofs.Common.{arith, ◌∙◌}
+use Rattle.board_package.specs.LabelledCauses.{labelled_so_far}
 use Rattle.board_package.proofs.LabelCauses.{climbs, files_cause_more, files_walked_more, kept_labelled_after}
 use Rattle.board_package.proofs.Lift.{faultless_both}
 use Rattle.board_package.proofs.labelled.take_files.Goals as goal
