@@ -89,6 +89,10 @@ class Lists(unittest.TestCase):
         self.assertIn("| 1 | `Bad` | Mend it. |\n| 2 | `Worse` |  |\n", (self.top / "docs/USING.md").read_text())
         self.assertEqual(self.run_lists("--check"), (1, "USING.md: the way out of Worse is still to be written\n"))
 
+    def test_kinds_that_a_call_numbers(self):
+        source = "pub enum Kind {\n    Other(Low),\n    Bad,\n}\nmatch self {\n    Kind::Other(it) => it.number(),\n    Kind::Bad => 31,\n}\nKind::Bad => \"Bad\",\n"
+        self.assertEqual(lists.variants(source, "Kind"), [(31, "Bad")])
+
     def test_what_is_amiss_is_said(self):
         self.run_lists()
         self.put("crates/low/README.md", "# `low`\n")
