@@ -3,6 +3,7 @@ import contextlib
 import importlib.machinery
 import importlib.util
 import io
+import re
 import tempfile
 import unittest
 from pathlib import Path
@@ -104,3 +105,51 @@ class Lists(unittest.TestCase):
     def test_other_words_are_refused(self):
         self.assertEqual(self.run_lists("--chek")[0], 2)
 
+
+def answers():
+    """The rows of the table of answers in docs/ARCHITECTURE.md: crate, calls, clauses."""
+    text = (lists.TOP / "docs/ARCHITECTURE.md").read_text().split("<!-- answers: tried by tools/tests/test_lists -->")[1].split("<!-- answers end -->")[0]
+    for line in text.splitlines()[3:]:
+        crate, calls, _, causes, clauses = (cell.strip() for cell in line.strip("|").split(" | "))
+        yield crate.strip("`"), names(calls), causes, names(clauses)
+
+
+def names(cell):
+    """The last parts of the names in a cell."""
+    return [name.split("::")[-1] for name in re.findall(r"`([^`]+)`", cell)]
+
+
+def source_of(crate):
+    """All of a crate's source but its tests."""
+    files = sorted((lists.TOP / "crates" / crate / "src").rglob("*.rt"))
+    return "\n".join(path.read_text() for path in files if "tests" not in path.relative_to(lists.TOP / "crates").as_posix())
+
+
+class Answers(unittest.TestCase):
+    """The table of answers names calls, clauses and faults that are there, and every call that a root gives on."""
+
+    def test_rows(self):
+        for crate, calls, _, clauses in answers():
+            source = source_of(crate)
+            # A crate's answers may stand in the trait that it implements.
+            source += source_of("contact") if crate == "area_contact" else ""
+            for call in calls:
+                self.assertRegex(source, rf"\bfn {call}\b", crate)
+            for clause in clauses:
+                self.assertRegex(source, rf"\bensures {clause} {{", (crate, calls))
+
+    def test_calls_of_roots(self):
+        told = {(crate, call) for crate, calls, _, _ in answers() for call in calls}
+        for crate in lists.crates((lists.TOP / "crates.txt").read_text()):
+            root = lists.TOP / "crates" / crate / "src/lib.rt"
+            given = re.findall(r"(?ms)^pub use \w+::(?:\{(.*?)\}|(\w+));", root.read_text()) if root.exists() else []
+            for name in re.findall(r"\b[a-z_]\w*\b", " ".join(" ".join(it) for it in given)):
+                self.assertIn((crate, name), told)
+
+    def test_faults(self):
+        told = " ".join(causes for _, _, causes, _ in answers())
+        for crate in lists.crates((lists.TOP / "crates.txt").read_text()):
+            for enum, body in re.findall(r"(?s)\npub enum (\w*Fault) \{(.*?)\n\}", source_of(crate)):
+                for variant in re.findall(r"(?m)^    ([A-Z]\w*)", body):
+                    if variant not in ("NoMemory", "CannotRead", "Build", "Macro", "Gerber"):
+                        self.assertIn(f"`{variant}`", told, (crate, enum))
