@@ -57,9 +57,9 @@ def with_macros():
     rounded = [b"0 Rectangle with rounded corners", b"0 $1 Rounding radius", b"4,1,4,$2,$3,$4,$5,$6,$7,$8,$9,$2,$3,0"]
     rounded += [b"1,1,$1+$1,$%d,$%d" % (k, k + 1) for k in (2, 4, 6, 8)]
     rounded += [b"20,1,$1+$1,$%d,$%d,$%d,$%d,0" % (k, k + 1, k % 8 + 2, k % 8 + 3) for k in (2, 4, 6, 8)]
-    freely = [b"4,1,$1,$2,$3,$4,$5,$6,$7,$2,$3,$8", b"21,1,0.4,-$3+0.8,0.1-$2,0,$8", b"1,1,0.0,0,0"]
+    freely = [b"4,1,3,$1,$2,$3,$4,$5,$6,$1,$2,270", b"21,1,0.4,-$2+0.8,0.1-$1,0,90", b"1,1,0.0,0,0"]
     lines = [b"%AMRoundRect*" + b"*\n".join(rounded) + b"*%", b"%AMFree*" + b"*".join(freely) + b"*%", b"%ADD10C,1.0*%",
-             b"%ADD11RoundRect,0.25X-0.4X0.3X-0.4X-0.3X0.4X-0.3X0.4X0.3*%", b"%ADD12Free,3X0X0.5X-0.3X0.1X0.3X-0.1X270*%"]
+             b"%ADD11RoundRect,0.25X-0.4X0.3X-0.4X-0.3X0.4X-0.3X0.4X0.3*%", b"%ADD12Free,0X0.5X-0.3X0.1X0.3X-0.1*%"]
     lines += [b"%TO.N,A*%", b"D11*", b"X0Y0D03*", b"D12*", b"X1000000Y0D03*", b"%TO.N,B*%", b"D10*", b"X2000000Y2000000D02*", b"X5000000Y2000000D01*", b"%TD*%", b"D11*", b"X5000000Y0D03*"]
     return package(gerber(*lines), netlist(record(b"327", b"A", b"01", 0, 0), record(b"327", b"B", b"01", 2000, 2000)))
 
