@@ -30,6 +30,11 @@ class Made:
     def has(self, text):
         return any(text in data for data in self.files.values())
 
+    def size(self):
+        """The bytes that are taken: a file counts as often as the manifest names it, which it may 97 times."""
+        manifest = self.files.get("m.json", b"")
+        return sum(len(data) * min(97, max(1, manifest.count(b'"%s"' % name.encode()))) for name, data in self.files.items())
+
 
 def gerber(*lines):
     return b"\n".join([b"%FSLAX46Y46*%", b"%MOMM*%", *lines, b"M02*"]) + b"\n"
