@@ -134,9 +134,15 @@ class Answers(unittest.TestCase):
             # A crate's answers may stand in the trait that it implements.
             source += source_of("contact") if crate == "area_contact" else ""
             for call in calls:
-                self.assertRegex(source, rf"\bfn {call}\b", crate)
+                self.assertTrue(re.search(rf"\bfn {call}\b", source), f"{crate} has no call {call}")
             for clause in clauses:
-                self.assertRegex(source, rf"\bensures {clause} {{", (crate, calls))
+                self.assertTrue(re.search(rf"\bensures {clause} {{", source), f"{crate} has no clause {clause} ({calls})")
+
+    def test_pages_have_calls_and_clauses(self):
+        for crate, calls, _, clauses in answers():
+            page = (lists.TOP / "crates" / crate / "README.md").read_text()
+            for name in [*calls, *clauses]:
+                self.assertTrue(re.search(rf"\b{name}\b", page), f"{crate}: its page has no {name}")
 
     def test_calls_of_roots(self):
         told = {(crate, call) for crate, calls, _, _ in answers() for call in calls}
