@@ -8,10 +8,14 @@ M2 = b'{"copper":["t.gbr"],"drills":[{"file":"d.drl","from":1,"to":1}],"netlist"
 MOST = 67_108_864
 # A made input's file that is longer is not changed further.
 MOST_MADE = 200_000
+# Of the made inputs, so many are trials.
+TRIALS = 0.01
+REPORT = b"boardnet 1\npieces 2\nnets 1\nnet 0 0 1:0\nnames 1\nname 0 A\npoints 0\nopens 0\nshorts 0\nmissing 0\nagrees\n"
 NUMBERS = (0, 1, 2, 255, 256, 32, 33, 64, 65, 999, 1000, 1001, 65_535, 65_536, 65_537, 99_999, 100_000, 100_001, 199_999, 200_000, 200_001,
            1_999_999, 2_000_001, 2**31 - 1, 2**31, 2**32 - 1, 2**32, 2**63 - 1, 2**63, 2**64 - 1, 2**64, 10**10 - 1, 10**10, 10**10 + 1,
            9_999_999_999_999, 10**13, 10**18 - 1, 10**18, 10**19, 2**127, 2**128)
-WORDS = (b"%", b"*", b"%%", b"**", b"\r", b"\n", b"\0", b"\xff", b" ", b"\t", b",", b"X", b"Y", b"I1J1", b"D01", b"D02", b"D03", b"D10", b"G36*", b"G37*", b"M02*",
+WORDS = (b"%TO.N,A*%", b"%TO.N*%", b"%TD*%", b"%TO.N," + b"N" * 201 + b"*%", b"$1", b"$2+$3", b"$999", b"1,1,$1,0,0*", b"4,1,3,0,0,1,0,0,1,0,0,0*", b"20,1,1,0,0,1,0,0*", b"21,1,1,1,0,0,90*", b"spots 0", b"sources 0", b"spot 0 -0 1",
+         b"%", b"*", b"%%", b"**", b"\r", b"\n", b"\0", b"\xff", b" ", b"\t", b",", b"X", b"Y", b"I1J1", b"D01", b"D02", b"D03", b"D10", b"G36*", b"G37*", b"M02*",
          b"%SRX2Y2I1.0J1.0*%", b"%SR*%", b"%SRX999999999Y999999999I0J0*%", b"%ADD10C,1.0*%", b"%ADD11R,1X1*%", b"%AMA*1,1,1,0,0*%", b"%LPC*%", b"%MOIN*%", b"%FSLAX46Y46*%",
          b"G85", b"G00", b"G01X1.0", b"M15", b"M16", b"M30", b"M48", b"%\n", b"T1C0.4", b"T1", b"METRIC", b"INCH", b"; #@! TF.FileFunction,Plated,1,2", b"999", b"327A", b"317", b"017", b"P  UNITS CUST 0",
          b"C ", b"{", b"}", b"[", b"]", b'"', b"\\u0000", b"null", b"1e999", b"-0", b".", b"+", b"-", b"1.0000001", b"-", b"net ", b":", b"short 0 2", b"open 0 0 1 1", b"branch 0 0 0", b"bare 0", b"agrees", b"differs")
@@ -22,6 +26,14 @@ class Made:
 
     def __init__(self, what, files=None, trial=None, pairs=0):
         self.what, self.files, self.trial, self.pairs = what, files or {}, trial, pairs
+
+    def has(self, text):
+        return any(text in data for data in self.files.values())
+
+    def size(self):
+        """The bytes that are taken: a file counts as often as the manifest names it, which it may 97 times."""
+        manifest = self.files.get("m.json", b"")
+        return sum(len(data) * min(97, max(1, manifest.count(b'"%s"' % name.encode()))) for name, data in self.files.items())
 
 
 def gerber(*lines):
@@ -42,6 +54,29 @@ def netlist(*records):
 def package(copper=None, points=None, manifest=M1, **more):
     files = {"m.json": manifest, "t.gbr": gerber() if copper is None else copper, "n.ipc": netlist() if points is None else points}
     files.update({name.replace("_", "."): data for name, data in more.items()})
+    return files
+
+
+def with_macros():
+    """A package whose copper has the rounded, chamfered and turned pads of usual tools, as macros."""
+    rounded = [b"0 Rectangle with rounded corners", b"0 $1 Rounding radius", b"4,1,4,$2,$3,$4,$5,$6,$7,$8,$9,$2,$3,0"]
+    rounded += [b"1,1,$1+$1,$%d,$%d" % (k, k + 1) for k in (2, 4, 6, 8)]
+    rounded += [b"20,1,$1+$1,$%d,$%d,$%d,$%d,0" % (k, k + 1, k % 8 + 2, k % 8 + 3) for k in (2, 4, 6, 8)]
+    freely = [b"4,1,3,$1,$2,$3,$4,$5,$6,$1,$2,270", b"21,1,0.4,-$2+0.8,0.1-$1,0,90", b"1,1,0.0,0,0"]
+    lines = [b"%AMRoundRect*" + b"*\n".join(rounded) + b"*%", b"%AMFree*" + b"*".join(freely) + b"*%", b"%ADD10C,1.0*%",
+             b"%ADD11RoundRect,0.25X-0.4X0.3X-0.4X-0.3X0.4X-0.3X0.4X0.3*%", b"%ADD12Free,0X0.5X-0.3X0.1X0.3X-0.1*%"]
+    lines += [b"%TO.N,A*%", b"D11*", b"X0Y0D03*", b"D12*", b"X1000000Y0D03*", b"%TO.N,B*%", b"D10*", b"X2000000Y2000000D02*", b"X5000000Y2000000D01*", b"%TD*%", b"D11*", b"X5000000Y0D03*"]
+    return package(gerber(*lines), netlist(record(b"327", b"A", b"01", 0, 0), record(b"327", b"B", b"01", 2000, 2000)))
+
+
+def with_labels():
+    """A package of two layers whose copper has net names, and a repeated block."""
+    top = [b"%ADD10C,0.5*%", b"%ADD11R,0.8X0.6*%", b"%TO.N,GND*%", b"D10*", b"X0Y0D03*", b"X2000000Y0D01*", b"%TO.N,N/C*%", b"D11*", b"X0Y3000000D03*", b"%TO.N,VCC*%",
+           b"%SRX2Y2I2.0J2.0*%", b"X5000000Y5000000D03*", b"%SR*%", b"%TO.N*%", b"X9000000Y0D03*", b"%TD.N*%", b"G36*", b"X0Y8000000D02*", b"X1000000Y8000000D01*", b"X0Y9000000D01*", b"X0Y8000000D01*", b"G37*"]
+    files = package(gerber(*top), netlist(record(b"317", b"GND", b"00", 0, 0), record(b"327", b"VCC", b"01", 5000, 5000)))
+    files["m.json"] = b'{"copper":["t.gbr","b.gbr"],"drills":[{"file":"d.drl","from":1,"to":2}],"netlist":"n.ipc"}'
+    files["b.gbr"] = gerber(b"%TO.N,GND*%", b"%ADD10C,0.5*%", b"D10*", b"X0Y0D03*", b"%TO.N,A B*%", b"X4000000Y0D03*")
+    files["d.drl"] = drill(b"X0.0Y0.0", b"X2.0Y0.0")
     return files
 
 
@@ -121,6 +156,66 @@ def boards_at_limits():
         yield f"a flash at {x}", lambda x=x: Made("", package(gerber(*discs, b"X0Y0D03*", b"X%dY%dD03*" % (x, x))))
 
 
+def with_macro(body, *lines):
+    """A copper file of one macro with this body, and an aperture of it."""
+    return gerber(b"%AMM*" + b"*".join([*body, b"%"]), b"%ADD10M,1.0X0.5*%", b"D10*", *lines)
+
+
+def grid(count):
+    """So many flashes, 0.2 mm apart in rows of 500."""
+    return [b"X%dY%dD03*" % (200_000 * (k % 500), 200_000 * (k // 500)) for k in range(count)]
+
+
+def macros_at_limits():
+    """Bodies, expressions, primitives, radii and flashes of macros at their limits and past them."""
+    disc, empty = b"1,1,0.1,0,0", b"1,1,0,0,0"
+    long_zero = b"1,1," + b",".join([b"+".join([b"0"] * 64)] * 3)
+    for count in (256, 257):
+        yield f"a macro of {count} primitives", lambda n=count: Made("", package(with_macro([disc] * n, *grid(10))))
+    for count in (781, 782):
+        yield f"{count} flashes of 256 primitives", lambda n=count: Made("", package(with_macro([disc] * 256, *grid(n))), pairs=n * 256**2)
+    for count in (64, 65):
+        yield f"a length of {count} terms", lambda n=count: Made("", package(with_macro([b"1,1," + b"+".join([b"$1"] * n) + b",-$2,$2-$1"], *grid(10))))
+    for number in (999, 1000, 10**30):
+        yield f"the parameter ${number}", lambda n=number: Made("", package(with_macro([b"1,1,$1,$%d,0" % n], *grid(10))))
+    for count in (5_000, 5_001):
+        outline = b"4,1,%d,0,0," % count + b",".join(b"%d.0,%d.0" % (k % 900, k % 2) for k in range(1, count)) + b",0,0,90"
+        yield f"an outline of {count} corners", lambda o=outline: Made("", package(with_macro([o], *grid(3))))
+        yield f"200 flashes of an outline of {count} corners", lambda o=outline: Made("", package(with_macro([o.replace(b".0", b".0001")], *[b"X0Y0D03*"] * 201)))
+    yield "an outline of 10^18 corners", lambda: Made("", package(with_macro([b"4,1,%d,0,0,0" % 10**18], *grid(1))))
+    for count in (32_768, 32_769):
+        yield f"{2 * count} radii", lambda n=count: Made("", package(gerber(b"%AMM*1,1,$1,0,0*1,1,$2,1,0*%", *[b"%%ADD%dM,0.%07dX1.%07d*%%\nD%d*\nX%dY0D03*" % (10 + k, 2 * k + 2, 2 * k, 10 + k, 1000 * k) for k in range(n)])))
+    for count in (65_536, 65_537):
+        yield f"{count} apertures of a macro", lambda n=count: Made("", package(gerber(b"%AMM*1,1,$1,0,0*%", *[b"%%ADD%dM,1.0*%%" % (10 + k) for k in range(n)])))
+        yield f"{count} macros", lambda n=count: Made("", package(gerber(*[b"%%AMM%d*1,1,$1,0,0*%%" % k for k in range(n)])))
+    for count in (1_000, 100_000, 1_000_000):
+        yield f"{count} flashes of 256 primitives without an image", lambda n=count: Made("", package(with_macro([empty] * 256, *[b"X0Y0D03*"] * n)))
+    for count in (1_000, 100_000):
+        yield f"{count} flashes of 256 primitives without an image and of 64 terms a length", lambda n=count: Made("", package(with_macro([long_zero] * 256, *[b"X0Y0D03*"] * n)))
+    yield "an aperture of a macro with 1,000,000 parameters", lambda: Made("", package(gerber(b"%AMM*1,1,$1,0,0*%", b"%ADD10M," + b"X".join([b"1"] * 1_000_000) + b"*%", b"D10*", b"X0Y0D03*")))
+    yield "a body of 1,000,000 comments", lambda: Made("", package(with_macro([b"0"] * 1_000_000, b"X0Y0D03*")))
+    for size in (MOST, MOST + 1):
+        yield f"a copper file of {size} bytes in one body", lambda n=size: Made("", package(padded(b"%FSLAX46Y46*%\n%MOMM*%\n%AMM*", b"0 x*", b"%M02*\n", n)))
+        yield f"a copper file of {size} bytes in one name of a macro", lambda n=size: Made("", package(padded(b"%FSLAX46Y46*%\n%MOMM*%\n%AM", b"M", b"*%M02*\n", n)))
+
+
+def labels_at_limits():
+    """Net names in copper files: as long as they may be and longer, as many as files have room for, and odd ones."""
+    flash = (b"%ADD10C,0.1*%", b"D10*")
+    for size in (200, 201, 10_000_000):
+        yield f"a net name of {size} bytes", lambda n=size: Made("", package(gerber(*flash, b"%TO.N," + b"N" * n + b"*%", b"X0Y0D03*")))
+    for count in (200_000, 200_001):
+        yield f"{count} flashes, each with a net name of its own", lambda n=count: Made("", package(gerber(*flash, *[b"%%TO.N,N%d*%%%s" % (k, it) for k, it in enumerate(grid(n))])))
+        yield f"{count} flashes of one net name", lambda n=count: Made("", package(gerber(*flash, b"%TO.N,A*%", *grid(n))))
+    yield "32 layers of one file with 6,000 net names", lambda: Made("", package(
+        gerber(*flash, *[b"%%TO.N,N%d*%%%s" % (k, it) for k, it in enumerate(grid(6_000))]), manifest=M1.replace(b'"t.gbr"', b",".join([b'"t.gbr"'] * 32))))
+    for size in (MOST, MOST + 1):
+        yield f"a copper file of {size} bytes in net names", lambda n=size: Made("", package(padded(b"%FSLAX46Y46*%\n%MOMM*%\n", b"%TO.N,A*%", b"M02*\n", n)))
+        yield f"a copper file of {size} bytes in names that end", lambda n=size: Made("", package(padded(b"%FSLAX46Y46*%\n%MOMM*%\n", b"%TD*%", b"M02*\n", n)))
+    yield "a net name with 1,000,000 fields behind it", lambda: Made("", package(gerber(*flash, b"%TO.N,A" + b"," * 1_000_000 + b"*%", b"X0Y0D03*")))
+    yield "a net name that is no text", lambda: Made("", package(gerber(*flash, b"%TO.N,\xc3\xa9*%", b"X0Y0D03*")))
+
+
 def texts_at_limits():
     """JSON that is deep, huge or odd, reports with absurd counts, and very long lines."""
     for depth in (127, 128, 129, 100_000, 10_000_000):
@@ -134,6 +229,8 @@ def texts_at_limits():
     for count in (0, 1, 2**31, 2**32 - 1, 2**32, 2**64 - 1, 2**64, 10**30):
         for part in (b"pieces", b"nets", b"names", b"points", b"opens", b"shorts", b"missing"):
             yield f"a report of {count} {part.decode()}", lambda n=count, part=part: Made("", package(r_txt=report_with(part, n)))
+        for part in (b"spots", b"sources"):
+            yield f"a report of {count} {part.decode()}", lambda n=count, part=part: Made("", package(r_txt=report_with(part, n, 2)))
     for size in (10_000, 10_000_000):
         yield f"a Gerber word of {size} bytes", lambda n=size: Made("", package(gerber(b"X" + b"1" * n + b"D03*")))
         yield f"an aperture of {size} parameters", lambda n=size: Made("", package(gerber(b"%ADD10C," + b"1X" * n + b"*%")))
@@ -143,9 +240,10 @@ def texts_at_limits():
         yield f"a name of {size} bytes", lambda n=size: Made("", package(manifest=M1.replace(b"t.gbr", b"x" * n)))
 
 
-def report_with(part, count):
+def report_with(part, count, version=1):
     """The report of an empty board with another count in one of its lines."""
-    lines = [b"boardnet 1"] + [it + b" 0" for it in (b"pieces", b"nets", b"names", b"points", b"opens", b"shorts", b"missing")] + [b"agrees", b""]
+    parts = (b"pieces", b"nets", b"names", b"points", b"opens", b"shorts", b"missing") + ((b"spots", b"sources") if version == 2 else ())
+    lines = [b"boardnet %d" % version] + [it + b" 0" for it in parts] + [b"agrees", b""]
     return b"\n".join(lines).replace(part + b" 0", part + b" %d" % count)
 
 
@@ -160,8 +258,9 @@ class Maker:
 
     def __init__(self, top, seed):
         self.seed = seed
-        self.at_limits = [*files_at_the_limit(), *boards_at_limits(), *texts_at_limits(), *trials()]
+        self.at_limits = [*files_at_the_limit(), *boards_at_limits(), *macros_at_limits(), *labels_at_limits(), *texts_at_limits(), *trials()]
         self.packages = [self.read(os.path.join(top, "examples", name)) for name in EXAMPLES]
+        self.packages += [(files, REPORT) for files in (with_macros(), with_labels())]
 
     def read(self, folder):
         files = {}
@@ -169,8 +268,7 @@ class Maker:
             if name != "README.md":
                 with open(os.path.join(folder, name), "rb") as file:
                     files[name] = file.read()
-        report = files.pop("report.txt", b"boardnet 1\npieces 2\nnets 1\nnet 0 0 1:0\nnames 1\nname 0 A\npoints 0\nopens 0\nshorts 0\nmissing 0\nagrees\n")
-        return files, report
+        return files, files.pop("report.txt", REPORT)
 
     def limits(self):
         return len(self.at_limits)
@@ -182,6 +280,9 @@ class Maker:
             made.what = what
             return made
         chance = random.Random(f"{self.seed}/{index}")
+        if chance.random() < TRIALS:
+            seed, size = (chance.choice((chance.choice(NUMBERS), chance.randrange(2_000))) + chance.choice((-1, 0, 0, 1)) for _ in range(2))
+            return Made(f"trial {seed} {size}", trial=[str(seed), str(size)])
         files, report = chance.choice(self.packages)
         files = dict(files)
         if chance.random() < 0.25:

@@ -7,6 +7,7 @@ processors and memory, and the program is built. What was proved stays, so an in
 
     build.py --keep TOP      keeps a program that was built, for other checkouts of the same sources
 """
+import contextlib
 import os
 import re
 import signal
@@ -51,6 +52,34 @@ class Stop(Exception):
         self.status = status
 
 
+def interrupt(*_):
+    raise KeyboardInterrupt
+
+
+def heard():
+    """The signals that end a build; one that was ignored when it began stays so."""
+    return [it for it in (signal.SIGINT, signal.SIGTERM) if signal.getsignal(it) is not signal.SIG_IGN]
+
+
+@contextlib.contextmanager
+def heard_later():
+    """Signals that come meanwhile are heard at the end: so no command starts that nobody knows of, and would end."""
+    noted = []
+    handlers = [(it, signal.signal(it, lambda *_: noted.append(True))) for it in heard()]
+    try:
+        yield
+    finally:
+        for number, handler in handlers:
+            signal.signal(number, handler)
+    if noted:
+        raise KeyboardInterrupt
+
+
+def is_refused(said):
+    """Whether a crate's lines tell of a proof that failed; of a crate that was proved before, rt says nothing."""
+    return said != [] and not any(line.startswith(b"logic=proved") for line in said)
+
+
 class Build:
     def __init__(self, top, out=sys.stderr):
         self.top = top
@@ -63,31 +92,43 @@ class Build:
     def start(self, folder, words):
         os.makedirs(os.path.dirname(self.log), exist_ok=True)
         how = {"cwd": folder, "stdin": subprocess.DEVNULL, "stdout": subprocess.PIPE, "stderr": subprocess.STDOUT}
-        self.running = subprocess.Popen(words, **how)
+        with heard_later():
+            self.running = subprocess.Popen(words, **how)
         return self.running
+
+    def end(self):
+        """Ends the command that runs. A terminal tells rt too, a lone signal does not; rt's own commands end with it."""
+        for number in heard():
+            signal.signal(number, signal.SIG_IGN)
+        if self.running:
+            self.running.terminate()
+            self.running.wait()
 
     def libraries(self):
         """Proves every crate under the program's, and leaves the program's check, which alone can use all processors."""
-        left, is_left = set(self.crates) - {"boardnet"}, False
+        wanted, said, block, is_left = set(self.crates) - {"boardnet"}, {}, [], False
         running = self.start(self.top, ["rt", "all", "check", "--jobs", str(at_a_time())])
         with open(self.log, "wb") as log:
             for line in self.progress.lines(running):
                 log.write(line)
                 log.flush()
-                ended = re.match(rb"== (\w+)$", line)
-                if ended:
-                    self.progress.ended(ended.group(1).decode())
-                    left.discard(ended.group(1).decode())
-                if not left and not is_left:
+                head = re.match(rb"== (\w+)$", line)
+                if head:
+                    block = said.setdefault(head.group(1).decode(), [])
+                    self.progress.ended(head.group(1).decode())
+                elif line:
+                    block.append(line)
+                elif not is_left and wanted <= said.keys():
+                    # What a crate says comes at once, so the last one has said all of it by now.
                     is_left = True
                     running.terminate()
-        if running.wait() and not is_left:
+        if running.wait() and not is_left or any(is_refused(said.get(name, [])) for name in wanted):
             raise Stop(FAILED, self.why())
 
     def why(self):
         """The words for a build that failed: where its log is, and the log's first errors."""
         with open(self.log, encoding="utf-8", errors="replace") as log:
-            errors = [line.rstrip()[:200] for line in log if re.search(r"\berror\b|NOT PROVED|^rt: ", line)]
+            errors = [line.rstrip()[:200] for line in log if re.search(r"\berror\b|not proved|^rt: ", line)]
         return "\n".join([f"the build failed; {self.log} says where", *errors[:5]])
 
     def program(self):
@@ -109,10 +150,8 @@ class Build:
             if not self.program():
                 raise Stop(FAILED, self.why())
         except KeyboardInterrupt:
-            # A terminal tells rt too; a lone signal does not. Its own commands end with it.
-            self.running.terminate()
-            self.running.wait()
-            raise Stop(INTERRUPTED, "interrupted; what was proved is kept, and the next call goes on there") from None
+            self.end()
+            raise
         finally:
             self.progress.end()
 
@@ -128,7 +167,6 @@ def warn_of_other_kit(top):
 
 def build(top):
     """Returns once the program stands for these sources."""
-    signal.signal(signal.SIGTERM, lambda *_: (_ for _ in ()).throw(KeyboardInterrupt()))
     sum_of = kept.sum_of_sources(top, warn_of_other_kit(top))
     if kept.is_same(top, sum_of):
         return
@@ -149,11 +187,16 @@ def main(words):
     if len(words) < 2:
         sys.exit(__doc__)
     try:
+        for number in heard():
+            signal.signal(number, interrupt)
         build(words[0])
+        os.execv(words[1], words[1:])
+    except KeyboardInterrupt:
+        print("boardnet: interrupted; what was proved is kept, and the next call goes on there", file=sys.stderr)
+        return INTERRUPTED
     except Stop as stop:
         print(f"boardnet: {stop}", file=sys.stderr)
         return stop.status
-    os.execv(words[1], words[1:])
 
 
 if __name__ == "__main__":

@@ -64,7 +64,7 @@ class Progress:
             return 80
 
     def lines(self, running):
-        """The lines that a process writes, as they come; tells how far it is meanwhile."""
+        """The lines that a process writes, as they come, and nothing after each second without; tells how far it is meanwhile."""
         every = 1 if self.is_terminal else float(os.environ.get("BOARDNET_TELLS_EVERY", "60"))
         with selectors.DefaultSelector() as selector:
             selector.register(running.stdout, selectors.EVENT_READ)
@@ -74,6 +74,7 @@ class Progress:
                 if time.monotonic() - self.told >= every:
                     self.tell()
                 if not ready:
+                    yield b""
                     continue
                 data = os.read(running.stdout.fileno(), 65536)
                 if not data:

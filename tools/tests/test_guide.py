@@ -27,6 +27,7 @@ ROWS = {
     "PTH.drl: drill 12 NotPlated": {"m.json": DRILLED, "PTH.drl": MIXED.replace("WHICH", "NonPlated,1,1,NPTH")},
     "PTH.drl: drill 11 WrongSpan": {"m.json": DRILLED, "PTH.drl": MIXED.replace("WHICH", "Plated,1,2,PTH")},
     "F_Cu.gbr: Gerber 12 Macro": {"F_Cu.gbr": HEAD + "%AMRoundRect*\n1,1,$1,0,0*%\nM02*\n"},
+    "F_Cu.gbr: flatten 36 Slanted": {"F_Cu.gbr": HEAD + "%AMS*\n20,1,0.2,0,0,1.0,1.0,0*%\n%ADD10S*%\nM02*\n"},
     "F_Cu.gbr: Gerber 11 Arc": {"F_Cu.gbr": HEAD + "%ADD10C,0.2*%\nD10*\nG75*\nG02*\nX1Y1I1J0D01*\nM02*\n"},
     "F_Cu.gbr: Gerber 10 ClearPolarity": {"F_Cu.gbr": HEAD + "%LPC*%\nM02*\n"},
     "F_Cu.gbr: Gerber 25 WrongLayer": {"F_Cu.gbr": "%TF.FileFunction,Copper,L2,Bot*%\n" + PAD},
@@ -47,9 +48,11 @@ def printed():
 
 
 def words_for(head, files):
-    """The words that print the message: a label is read by `x2` alone."""
+    """The words that print the message: a label is read by `x2` alone, a macro by `flatten`."""
     if "label" in head:
         return ["x2", "m.json"]
+    if "flatten" in head:
+        return ["flatten", "F_Cu.gbr"]
     return ["audit", "m.json", "r.txt"] if "r.txt" in files else ["check", "m.json"]
 
 

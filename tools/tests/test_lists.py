@@ -3,6 +3,7 @@ import contextlib
 import importlib.machinery
 import importlib.util
 import io
+import re
 import tempfile
 import unittest
 from pathlib import Path
@@ -89,6 +90,10 @@ class Lists(unittest.TestCase):
         self.assertIn("| 1 | `Bad` | Mend it. |\n| 2 | `Worse` |  |\n", (self.top / "docs/USING.md").read_text())
         self.assertEqual(self.run_lists("--check"), (1, "USING.md: the way out of Worse is still to be written\n"))
 
+    def test_kinds_that_a_call_numbers(self):
+        source = "pub enum Kind {\n    Other(Low),\n    Bad,\n}\nmatch self {\n    Kind::Other(it) => it.number(),\n    Kind::Bad => 31,\n}\nKind::Bad => \"Bad\",\n"
+        self.assertEqual(lists.variants(source, "Kind"), [(31, "Bad")])
+
     def test_what_is_amiss_is_said(self):
         self.run_lists()
         self.put("crates/low/README.md", "# `low`\n")
@@ -100,3 +105,57 @@ class Lists(unittest.TestCase):
     def test_other_words_are_refused(self):
         self.assertEqual(self.run_lists("--chek")[0], 2)
 
+
+def answers():
+    """The rows of the table of answers in docs/ARCHITECTURE.md: crate, calls, clauses."""
+    text = (lists.TOP / "docs/ARCHITECTURE.md").read_text().split("<!-- answers: tried by tools/tests/test_lists -->")[1].split("<!-- answers end -->")[0]
+    for line in text.splitlines()[3:]:
+        crate, calls, _, causes, clauses = (cell.strip() for cell in line.strip("|").split(" | "))
+        yield crate.strip("`"), names(calls), causes, names(clauses)
+
+
+def names(cell):
+    """The last parts of the names in a cell."""
+    return [name.split("::")[-1] for name in re.findall(r"`([^`]+)`", cell)]
+
+
+def source_of(crate):
+    """All of a crate's source but its tests."""
+    files = sorted((lists.TOP / "crates" / crate / "src").rglob("*.rt"))
+    return "\n".join(path.read_text() for path in files if "tests" not in path.relative_to(lists.TOP / "crates").as_posix())
+
+
+class Answers(unittest.TestCase):
+    """The table of answers names calls, clauses and faults that are there, and every call that a root gives on."""
+
+    def test_rows(self):
+        for crate, calls, _, clauses in answers():
+            source = source_of(crate)
+            # A crate's answers may stand in the trait that it implements.
+            source += source_of("contact") if crate == "area_contact" else ""
+            for call in calls:
+                self.assertTrue(re.search(rf"\bfn {call}\b", source), f"{crate} has no call {call}")
+            for clause in clauses:
+                self.assertTrue(re.search(rf"\bensures {clause} {{", source), f"{crate} has no clause {clause} ({calls})")
+
+    def test_pages_have_calls_and_clauses(self):
+        for crate, calls, _, clauses in answers():
+            page = (lists.TOP / "crates" / crate / "README.md").read_text()
+            for name in [*calls, *clauses]:
+                self.assertTrue(re.search(rf"\b{name}\b", page), f"{crate}: its page has no {name}")
+
+    def test_calls_of_roots(self):
+        told = {(crate, call) for crate, calls, _, _ in answers() for call in calls}
+        for crate in lists.crates((lists.TOP / "crates.txt").read_text()):
+            root = lists.TOP / "crates" / crate / "src/lib.rt"
+            given = re.findall(r"(?ms)^pub use \w+::(?:\{(.*?)\}|(\w+));", root.read_text()) if root.exists() else []
+            for name in re.findall(r"\b[a-z_]\w*\b", " ".join(" ".join(it) for it in given)):
+                self.assertIn((crate, name), told)
+
+    def test_faults(self):
+        told = " ".join(causes for _, _, causes, _ in answers())
+        for crate in lists.crates((lists.TOP / "crates.txt").read_text()):
+            for enum, body in re.findall(r"(?s)\npub enum (\w*Fault) \{(.*?)\n\}", source_of(crate)):
+                for variant in re.findall(r"(?m)^    ([A-Z]\w*)", body):
+                    if variant not in ("NoMemory", "CannotRead", "Build", "Macro", "Gerber"):
+                        self.assertIn(f"`{variant}`", told, (crate, enum))
