@@ -33,7 +33,7 @@ def unpacked(text):
     raw = zlib.decompress(base64.b64decode(re.search(r'<script id="data"[^>]*>([^<]*)<', text)[1]))
     size = int.from_bytes(raw[:4], "little")
     head, at, columns = json.loads(raw[4:4 + size]), 4 + size, {}
-    for name, width, count in head["columns"]:
+    for name, width, count, _ in head["columns"]:
         planes = [raw[at + k * count:at + (k + 1) * count] for k in range(width)]
         at += width * count
         columns[name] = [int.from_bytes(bytes(plane[i] for plane in planes), "little", signed=True) for i in range(count)]
