@@ -13,18 +13,21 @@ function draw() {                                 // both pictures, whole
   paintedAt = performance.now();
   cost = paintedAt - begun;
   drawMarks();
-  tellView();
+  tell("whole");
 }
-function tellView() {                             // for tests
+function tell(painted) {                          // for tests: what was painted last, and where; "moving" while there is more to paint
+  root.dataset.painted = painted;
   root.dataset.drawn = (cost + marksCost).toFixed(1);
   root.dataset.view = [Math.round(view.x), Math.round(view.y), view.s, view.flip].join(" ");
   root.dataset.front = front;
 }
 function drawSoon() {
+  root.dataset.painted = "moving";
   cancelAnimationFrame(soon);
   soon = requestAnimationFrame(draw);
 }
 function settle() {
+  root.dataset.painted = "moving";
   if (!soon) soon = requestAnimationFrame(follow);
 }
 function follow() {                               // one frame of a movement
@@ -34,7 +37,7 @@ function follow() {                               // one frame of a movement
   if (by) moveCopper(...by); else stretch(base, copperAt);
   if (by && marksCost < CHEAP) drawMarks(); else stretch(over, marksAt);
   if (by) paintedAt = performance.now();
-  tellView();
+  tell("moving");
   clearTimeout(later);
   later = setTimeout(rest, REST);
 }
@@ -43,6 +46,7 @@ function rest() {
   if (!by) { draw(); return; }
   moveCopper(...by);
   drawMarks();
+  tell("part");
 }
 function pixelsMoved() {                          // since the copper was drawn, or null where it is another picture
   if (view.s !== copperAt.s) return null;
@@ -148,10 +152,10 @@ function findingNear(px, py) {
 }
 let asked = null;
 function askHover(place) {
-  if (!asked) requestAnimationFrame(() => { const [px, py] = asked; asked = null; tell(px, py); });
+  if (!asked) requestAnimationFrame(() => { const [px, py] = asked; asked = null; readOut(px, py); });
   asked = place;
 }
-function tell(px, py) {
+function readOut(px, py) {
   const x = fromX(px), y = fromY(py), seen = under(x, y), p = pointNear(x, y), f = chosen ? null : findingNear(px, py);
   const parts = [`${mm(x)}, ${mm(y)} mm`];
   if (f) parts.push(`${f.id.replace("-", " ")}: click to see it`);

@@ -4,7 +4,7 @@ from xml.sax.saxutils import escape
 from . import Stop
 from .grid import meet as boxes_meet
 from .rdb import micrometres
-from .tree import cover
+from .tree import apart, cover
 
 NOT_UNDERSTOOD = 2
 # Room round a finding, the least side of what is shown, both in u, and the width of the picture in pixels.
@@ -50,12 +50,22 @@ class Picture:
         return grown(cover(boxes) if boxes else (0, 0, LEAST, LEAST), ROOM // 2)
 
     def finding_box(self):
-        """Its points and its gap, or the places where the names of a short meet, with what lies round them."""
-        it, spots = self.finding, [self.board.spot(number) for number in self.finding.points]
-        places = [meet.place for meet in it.meets[:3]] or spots + ([it.gap.place] if it.gap else [])
-        box = grown(cover([tuple(place) * 2 for place in places]), ROOM)
+        """Its points with the copper beside them, or the chains of a short's names with where they meet, and what lies round them."""
+        it, shapes, meets = self.finding, self.board.shapes, self.finding.meets[:3]
+        places = [meet.place for meet in meets] or [self.board.spot(number) for number in it.points] + ([it.gap.place] if it.gap else [])
+        places += self.beside(places[0], self.board.layer(it.points[0])) if it.kind == "missing" else []
+        chains = [shapes.box(piece) for meet in meets for piece in meet.chain if not shapes.is_area(piece)]
+        box = grown(cover(chains + [tuple(place) * 2 for place in places]), ROOM)
         wide, high = max(0, LEAST - box[2] + box[0]) // 2, max(0, LEAST * 5 // 8 - box[3] + box[1]) // 2
         return box[0] - wide, box[1] - high, box[2] + wide, box[3] + high
+
+    def beside(self, spot, layer):
+        """Where the box of a layer's copper is nearest to a spot, if there is any."""
+        boxes = [self.board.touching.box(piece) for piece, source in enumerate(self.board.report.sources) if source[3] <= layer <= source[4]]
+        if not boxes:
+            return []
+        left, low, right, high = min(boxes, key=lambda box: apart(box, spot * 2))
+        return [(min(max(spot[0], left), right), min(max(spot[1], low), high))]
 
     def words(self):
         """How a piece is drawn: `a` and `b` are the sides of the finding, `c` what could be either's."""

@@ -83,20 +83,20 @@ class Browser:
 
     def rest(self):
         """Waits until the page has drawn what it was asked for."""
-        self.ask("new Promise(done => requestAnimationFrame(() => setTimeout(() => requestAnimationFrame(done), 120)))")
+        self.ask("new Promise(done => { const ask = () => document.documentElement.dataset.painted === 'moving' ? requestAnimationFrame(ask) : done();"
+                 "requestAnimationFrame(() => requestAnimationFrame(ask)); })")
 
     def open(self, path, place=""):
-        """Opens a file, and says how many seconds it took until it was drawn."""
-        begun = time.monotonic()
+        """Opens a page, and gives what it says itself: how many seconds passed until its first picture was on the screen."""
         self.call("Page.navigate", url="about:blank")
         self.call("Page.navigate", url=f"file://{os.path.abspath(path)}{place}")
-        for _ in range(2400):
-            if self.ask("document.documentElement.dataset.ready") == "yes":
+        for _ in range(6000):
+            opened = self.ask("document.documentElement?.dataset.opened")
+            if opened:
                 break
-            time.sleep(0.05)
-        took = time.monotonic() - begun
+            time.sleep(0.02)
         self.rest()
-        return took
+        return int(opened) / 1000
 
     def key(self, key):
         for kind in ("keyDown", "keyUp"):
