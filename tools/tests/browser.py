@@ -112,8 +112,8 @@ class Browser:
             self.mouse(kind, x, y, button="left", clickCount=1)
         self.rest()
 
-    def prefer(self, theme):
-        self.call("Emulation.setEmulatedMedia", features=[{"name": "prefers-color-scheme", "value": theme}])
+    def prefer(self, theme, media=""):
+        self.call("Emulation.setEmulatedMedia", media=media, features=[{"name": "prefers-color-scheme", "value": theme}])
 
     def picture(self, path):
         with open(path, "wb") as file:

@@ -1,5 +1,6 @@
 """Boards for the tests of `show`'s page and picture, looked at once by the stand-in and in this process."""
 import copy
+import functools
 import os
 import shutil
 import tempfile
@@ -55,6 +56,11 @@ def shown_of(files, name="board"):
         return shown
     finally:
         shutil.rmtree(scratch)
+
+
+@functools.lru_cache(maxsize=None)
+def odd(name):
+    return shown_of(ODD[name], name)
 
 
 def many(shown, count):
