@@ -10,6 +10,8 @@ function markLayers() {
     $("front" + k).setAttribute("aria-pressed", front === k + 1);
   });
 }
+const switches = document.querySelector("#layers details");
+switches.open = layers.length <= 12;              // else they would hide the board
 function switchRow(id, words, isOn, act) {        // a box to tick, with its label
   const row = document.createElement("div"), box = document.createElement("input"), text = document.createElement("label");
   box.type = "checkbox";
@@ -18,7 +20,7 @@ function switchRow(id, words, isOn, act) {        // a box to tick, with its lab
   text.append(...words);
   box.addEventListener("change", () => { act(box.checked); draw(); });
   row.append(box, text);
-  $("layers").append(row);
+  switches.append(row);
   return row;
 }
 layers.forEach((word, k) => {
@@ -34,7 +36,7 @@ layers.forEach((word, k) => {
   row.append(button);
 });
 switchRow("points", ["test points"], true, on => { showPoints = on; });
-switchRow("others", ["other nets than the chosen"], true, on => base.classList.toggle("alone", !on));
+switchRow("others", ["other nets"], true, on => base.classList.toggle("alone", !on));
 switchRow("flip", ["seen from below"], false, on => { view.flip = on ? -1 : 1; });
 function toFront(l) { front = l; showLayers([l]); draw(); }
 $("in").addEventListener("click", () => zoom(1.6));

@@ -102,7 +102,7 @@ function ring(p, k, text, away) {                 // a test point, and its name 
   const x = toX(pointXs[p]), y = toY(pointYs[p]), wide = 14 * ratio;
   if (x < 0 || y < 0 || x > width || y > height) return;
   haloed(colourOfLook(k), 6, 3, () => marker.arc(x, y, 9 * ratio, 0, 2 * Math.PI));
-  label(marker, text, x + (away < 0 ? -wide - textWidth(text, 13) : wide), y + 5 * ratio, 13, colourOfLook(k), true);
+  if (text) label(marker, text, x + (away < 0 ? -wide - textWidth(text, 13) : wide), y + 5 * ratio, 13, colourOfLook(k), true);
 }
 function textWidth(text, size) {
   marker.font = fontOf(size, true);

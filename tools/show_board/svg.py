@@ -12,7 +12,7 @@ ROOM, LEAST, WIDTH = 10_000_000, 60_000_000, 1000
 STYLE = """
 .copper { fill: #c9ced6; stroke: #c9ced6; } .a { fill: #0072b2; stroke: #0072b2; } .b { fill: url(#stripes); stroke: url(#stripes); }
 .c { fill: #f5d000; stroke: #f5d000; } .area { stroke: none; fill-rule: evenodd; } .line { fill: none; stroke-linecap: round; }
-.hole { fill: #ffffff; stroke: #16191d; } .mark { fill: none; stroke: #a0006b; } .path { fill: none; stroke: #000000; }
+.hole { fill: #ffffff; stroke: #16191d; } .slot { stroke: #ffffff; } .mark { fill: none; stroke: #a0006b; } .path { fill: none; stroke: #000000; }
 text { font-family: "DejaVu Sans", sans-serif; fill: #16191d; stroke: #ffffff; stroke-width: 0.25em; paint-order: stroke; }
 """.strip()
 STRIPES = ('<pattern id="stripes" patternUnits="userSpaceOnUse" width="{0}" height="{0}" patternTransform="rotate(45)">'
@@ -32,6 +32,10 @@ def solid(shapes, piece, word):
     if len(places) == 1:
         x, y = point(places[0]).split(" ")
         return f'<circle class="area {word}" cx="{x}" cy="{y}" r="{micrometres(r)}"/>'
+    return stroke(places, r, word)
+
+
+def stroke(places, r, word):
     return f'<path class="line {word}" stroke-width="{micrometres(2 * r)}" d="M{point(places[0])}L{point(places[1])}"/>'
 
 
@@ -96,8 +100,16 @@ class Picture:
             yield from (solid(self.board.shapes, piece, words.get(piece, "copper")) for piece in sorted(pieces, key=lambda piece: (piece in words, piece)))
             yield "</g>"
         yield f'<g stroke-width="{micrometres(self.pixel)}">'
-        yield from (solid(self.board.shapes, piece, "hole") for piece in sorted(holes))
+        for piece in sorted(holes):
+            yield from self.hole(piece)
         yield "</g>"
+
+    def hole(self, piece):
+        """A hole with a dark rim, of a slot by a wider stroke below."""
+        shapes = self.board.shapes
+        yield solid(shapes, piece, "hole")
+        if len(shapes.places(piece)) == 2:
+            yield stroke(shapes.places(piece), max(0, shapes.radius[piece] - self.pixel), "slot")
 
     def marks(self):
         """The places of the findings."""
@@ -129,7 +141,9 @@ class Picture:
             rows.append((f"{self.board.pin(number)} ({self.board.name(self.board.name_of(number))})", (x + size // 2, y + size // 2)))
         for told, place in rows:
             x, y = point(place).split(" ")
-            yield f'<text x="{x}" y="{y}" font-size="{micrometres(size)}">{escape(told)}</text>'
+            is_right = place[0] + size * len(told) * 6 // 10 > self.box[2]
+            anchor = ' text-anchor="end"' if is_right else ""
+            yield f'<text x="{x}" y="{y}"{anchor} font-size="{micrometres(size)}">{escape(told)}</text>'
 
     def rows(self):
         left, low, right, high = self.box

@@ -38,7 +38,7 @@ function look(box, room = 1.15, least = 4e6) {
   const w = Math.max(box[2] - box[0], least), h = Math.max(box[3] - box[1], least);
   view.x = (box[0] + box[2]) / 2;
   view.y = (box[1] + box[3]) / 2;
-  view.s = Math.min(width / (w * room), (height - 40 * ratio) / (h * room));
+  view.s = Math.min(width / (w * room), Math.max(height - 100 * ratio, height / 2) / (h * room));   // the scale stands below
   drawSoon();
 }
 
