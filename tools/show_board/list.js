@@ -39,15 +39,22 @@ function chainList(f, {first, second, chain, near, far, x, y, layer}) {
 // ---------------------------------------------------------------- the findings' rows
 
 // The rows of a fold stand in a noscript element, which costs no time until they are wanted.
+const folds = [...document.querySelectorAll("#findings details")];
+for (const fold of folds) fold.addEventListener("toggle", () => openFold(fold));
 function openFold(fold) {
   const rows = fold.querySelector("noscript");
-  if (rows) rows.outerHTML = rows.textContent;
+  if (!rows) return;
+  rows.outerHTML = rows.textContent;
+  hideRows(fold);
 }
-function openFolds() { document.querySelectorAll("#findings details").forEach(openFold); }
-for (const fold of document.querySelectorAll("#findings details")) fold.addEventListener("toggle", () => openFold(fold));
 function rowOf(id) {
-  if (!$(id)) for (const fold of document.querySelectorAll("#findings details")) if (fold.textContent.includes(`id="${id}"`)) openFold(fold);
+  if (!$(id)) openFold(folds.find(fold => fold.textContent.includes(`id="${id}"`)));
   return $(id);
+}
+let sought = null;                                // the ids of the findings that have the words sought, or null for all
+const isSought = id => sought === null || sought.has(id);
+function hideRows(part) {
+  for (const row of part.querySelectorAll("li[id]")) row.hidden = !isSought(row.id);
 }
 
 function choose(id, moving = true) {
@@ -97,8 +104,8 @@ function clear() {
   if (location.hash) history.pushState(null, "", location.pathname + location.search);
   choose("");
 }
-function stepFinding(by) {                        // through those that the search leaves
-  const ids = findings.map(f => f.id).filter(id => !$(id)?.hidden), now = ids.indexOf(document.querySelector("#findings li[aria-current]")?.id);
+function stepFinding(by) {                        // through those that are sought
+  const ids = findings.map(f => f.id).filter(isSought), now = ids.indexOf(document.querySelector("#findings li[aria-current]")?.id);
   if (ids.length) go(ids[now < 0 ? (by > 0 ? 0 : ids.length - 1) : (now + by + ids.length) % ids.length]);
 }
 function stepRow(link, by) {                      // to the next row that is seen
@@ -106,37 +113,3 @@ function stepRow(link, by) {                      // to the next row that is see
   if (now >= 0) rows[Math.max(0, Math.min(rows.length - 1, now + by))].focus();
   return now >= 0;
 }
-
-// ---------------------------------------------------------------- search
-
-const MOST_FOUND = 12, MOST_NETS = 6;
-function linkTo(id, words) {
-  const item = document.createElement("li"), link = document.createElement("a");
-  link.href = "#" + id;
-  link.textContent = words;
-  item.append(link);
-  return item;
-}
-function found(text) {                            // nets by their names, then points by component and pin
-  const rows = [];
-  for (let net = 0; net < board.netCount && rows.length < MOST_NETS; net++) {
-    if (text === "net " + net || pointsOf(net).some(p => lowNames[pointNames[p]].includes(text))) rows.push(linkTo("net-" + net, netWords(net)));
-  }
-  for (let p = 0; p < pointCount && rows.length < MOST_FOUND; p++) {
-    if ([pinWords(p), shortPin(p)].some(pin => pin.toLowerCase().startsWith(text))) rows.push(linkTo("point-" + p, pointWords(p)));
-  }
-  return rows;
-}
-let lowNames = null;
-$("seek").addEventListener("focus", openFolds, {once: true});
-$("seek").addEventListener("input", () => {
-  const text = $("seek").value.trim().toLowerCase();
-  openFolds();
-  lowNames ??= names.map(name => name.toLowerCase());
-  for (const item of document.querySelectorAll("#findings li[id]")) item.hidden = text !== "" && !item.firstElementChild.textContent.toLowerCase().includes(text);
-  for (const fold of document.querySelectorAll("#findings details")) {
-    fold.hidden = !fold.querySelector("li[id]:not([hidden])");
-    fold.open = text !== "" && !fold.hidden;
-  }
-  $("found").replaceChildren(...(text ? found(text) : []));
-});

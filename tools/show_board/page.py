@@ -21,7 +21,7 @@ TITLES = {"open": "Opens", "short": "Shorts", "missing": "Points without copper"
 SIGNS = {"open": "\u2296", "short": "\u2715", "missing": "\u25a1"}
 # So many findings of a kind stand open, the further ones in folds; their suggestions stand in the data alone, which is packed.
 OPEN, FOLD = 300, 500
-SCRIPTS = ("data", "words", "view", "paint", "draw", "marks", "chosen", "list", "move", "act")
+SCRIPTS = ("data", "words", "view", "paint", "draw", "marks", "chosen", "list", "search", "move", "act")
 
 
 def asset(name):
