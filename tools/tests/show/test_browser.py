@@ -1,5 +1,4 @@
 """The page in a real browser, where there is one: what it does, by what it tells of itself and by what it draws."""
-import os
 import unittest
 
 import browser
