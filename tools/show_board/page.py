@@ -147,7 +147,7 @@ def block(board, findings):
 
 def row(finding, is_hinted):
     hints = "".join(f'<p class="hint">{html.escape(hint)}</p>' for hint in finding.hints) if is_hinted else ""
-    return (f'<li id="{finding.id}" class="{finding.kind}"><a href="#{finding.id}"><b>{finding.kind} {finding.number}</b> '
+    return (f'<li id="{finding.id}"><a href="#{finding.id}"><b>{finding.kind} {finding.number}</b> '
             f"{html.escape(finding.words)}</a>{hints}</li>")
 
 
