@@ -43,7 +43,7 @@ $("in").addEventListener("click", () => zoom(1.6));
 $("out").addEventListener("click", () => zoom(1 / 1.6));
 $("fit").addEventListener("click", () => look(all));
 $("theme").addEventListener("click", () => setTheme(root.dataset.theme === "dark" ? "light" : "dark"));
-darkWanted.addEventListener("change", () => setTheme(darkWanted.matches ? "dark" : "light"));
+darkWanted.addEventListener("change", () => { if (!before) setTheme(darkWanted.matches ? "dark" : "light"); });
 function setTheme(theme) { root.dataset.theme = theme; readInk(); draw(); }
 
 // ---------------------------------------------------------------- keys

@@ -320,6 +320,10 @@ class InABrowser(common.Case):
         seen = self.ask("['header', '#findings', '#open-0', '#short-0', '#missing-0', '#board', '#marks', '#legend', '.seek', '.keys', '#layers', '#tools', '#copper', '.more']"
                         ".filter(it => document.querySelector(it)?.checkVisibility())")
         self.assertEqual(seen, ["header", "#findings", "#open-0", "#short-0", "#missing-0", "#board", "#marks", "#legend"])
+        self.ask("dispatchEvent(new Event('beforeprint'))")
+        self.browser.rest()
+        self.assertEqual((self.data("theme"), self.ask(f"{READ}('marks')[3] > 0")), ("light", True), "one canvas has the copper and the marks")
+        self.ask("dispatchEvent(new Event('afterprint'))")
         self.browser.prefer("dark")
         paper = self.browser.paper()
         self.assertTrue(paper.startswith(b"%PDF") and len(paper) > 20_000)
