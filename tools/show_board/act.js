@@ -113,6 +113,5 @@ new ResizeObserver(() => { if (!before && measureScreen()) drawSoon(); }).observ
 $("readout").textContent = "Point at copper to read its net, piece and source; click to see the whole net.";
 if (idInAddress()) choose(idInAddress());
 draw();
-root.dataset.ready = "yes";
 // Two frames later the picture is on the screen: milliseconds since the page was asked for.
 requestAnimationFrame(() => requestAnimationFrame(() => { root.dataset.opened = Math.round(performance.now()); }));

@@ -81,6 +81,15 @@ class Browser:
         """The value of an expression in the page."""
         return self.call("Runtime.evaluate", expression=code, returnByValue=True, awaitPromise=True)["result"].get("value")
 
+    def until(self, code):
+        """What an expression in the page says, once it says something."""
+        for _ in range(6000):
+            told = self.ask(code)
+            if told:
+                return told
+            time.sleep(0.02)
+        raise AssertionError(f"never: {code}")
+
     def rest(self):
         """Waits until the page has drawn what it was asked for."""
         self.ask("new Promise(done => { const ask = () => document.documentElement.dataset.painted === 'moving' ? requestAnimationFrame(ask) : done();"
@@ -90,11 +99,7 @@ class Browser:
         """Opens a page, and gives what it says itself: how many seconds passed until its first picture was on the screen."""
         self.call("Page.navigate", url="about:blank")
         self.call("Page.navigate", url=f"file://{os.path.abspath(path)}{place}")
-        for _ in range(6000):
-            opened = self.ask("document.documentElement?.dataset.opened")
-            if opened:
-                break
-            time.sleep(0.02)
+        opened = self.until("document.documentElement?.dataset.opened")
         self.rest()
         return int(opened) / 1000
 

@@ -344,11 +344,17 @@ class InABrowser(common.Case):
         self.assertEqual(self.ask("document.getElementById('spoken').getAttribute('role')"), "status")
 
     def test_without_scripts(self):
+        # Nor with a browser that cannot unpack: all findings stand in the page.
+        path = "file://" + self.write("many.html", page.text(pages.many(self.shown, 800)))
+        old = self.browser.call("Page.addScriptToEvaluateOnNewDocument", source="delete window.DecompressionStream")["identifier"]
+        self.addCleanup(self.browser.call, "Page.removeScriptToEvaluateOnNewDocument", identifier=old)
+        self.browser.call("Page.navigate", url=path)
+        self.browser.until("document.querySelectorAll('#findings li[id]').length === 802")
+        self.assertTrue(self.text_of("#readout").startswith("This browser cannot unpack the picture"))
         self.browser.call("Emulation.setScriptExecutionDisabled", value=True)
         self.addCleanup(self.browser.call, "Emulation.setScriptExecutionDisabled", value=False)
-        self.browser.call("Page.navigate", url="file://" + self.write("many.html", page.text(pages.many(self.shown, 800))))
-        self.browser.wait(lambda: self.ask("document.readyState") == "complete" or int("not yet"))
-        self.assertEqual(len(self.all("#findings li[id]", "id")), 802, "all findings stand in the page")
+        self.browser.call("Page.navigate", url=path)
+        self.browser.until("document.querySelectorAll('#findings li[id]').length === 802")
         self.assertEqual(self.all("main > noscript p"), ["The picture needs JavaScript. All findings stand above."])
 
     # ---- other boards
@@ -357,7 +363,7 @@ class InABrowser(common.Case):
         for name in pages.ODD:
             shown = pages.odd(name)
             self.open(page.text(shown))
-            self.assertEqual((self.text_of("h1"), self.data("ready")), (name, "yes"))
+            self.assertEqual(self.text_of("h1"), name)
             self.assertEqual(len(self.all("#layers button")), shown.board.manifest.layers, name)
             self.assertEqual(self.all("#findings li[id]", "id"), [it.id for it in shown.findings], name)
             for finding in shown.findings:

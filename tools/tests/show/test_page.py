@@ -51,8 +51,9 @@ class Files(made.Case):
         status, _, notes = self.show("board", "--page", "page.html", "--svg", "board.svg")
         self.assertEqual((status, notes), (1, ""))
         text = self.read("page.html")
-        self.show("board", "--page", "again.html")
-        self.assertEqual(text, self.read("again.html"), "the same package gives the same page")
+        for program in self.over_both():
+            self.show("board", "--page", "again.html", program=program)
+            self.assertEqual(text, self.read("again.html"), "the same package gives the same page, by the stand-in and by the program")
         self.assertIsNone(re.search(r"https?:|//[a-z]|url\(|@import|\bfetch\(|XMLHttp", re.sub('type="text/plain">[^<]*<', "", text)), "nothing is fetched")
         self.assertNotIn("</b> (", text)
         self.assertIn(html.escape("no copper of top.gbr lies under </b> ("), text)
