@@ -18,7 +18,7 @@ class Board:
             self.pieces_of[net].append(piece)
         for point, (*_, net) in enumerate(report.points):
             self.points_of[net].append(point)
-        self.touching = Touching(shapes, [source[3:] for source in report.sources]) if shapes else None
+        self.touching = Touching(shapes, [source[3:] for source in report.sources]) if shapes is not None else None
 
     # ---- names
 

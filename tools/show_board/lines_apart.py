@@ -1,33 +1,4 @@
-"""Straight lines between whole places: exactly, whether they come within a distance; in floating point, where they are nearest."""
-
-
-def side(a, b, p):
-    """Which side of the line from a to b a place lies on: twice the area of the triangle, with its sign."""
-    return (b[0] - a[0]) * (p[1] - a[1]) - (b[1] - a[1]) * (p[0] - a[0])
-
-
-def is_within(p, a, b, r):
-    """Whether a place lies at most r from the line from a to b."""
-    dx, dy, px, py = b[0] - a[0], b[1] - a[1], p[0] - a[0], p[1] - a[1]
-    along, length = px * dx + py * dy, dx * dx + dy * dy
-    if along <= 0 or not length:
-        return px * px + py * py <= r * r
-    if along >= length:
-        qx, qy = p[0] - b[0], p[1] - b[1]
-        return qx * qx + qy * qy <= r * r
-    cross = px * dy - py * dx
-    return cross * cross <= r * r * length
-
-
-def are_crossing(a, b, c, d):
-    """Whether two lines cross, each with ends strictly on both sides of the other."""
-    return side(a, b, c) * side(a, b, d) < 0 and side(c, d, a) * side(c, d, b) < 0
-
-
-def are_within(a, b, c, d, r):
-    """Whether the lines from a to b and from c to d come within r of each other."""
-    return (is_within(a, c, d, r) or is_within(b, c, d, r) or is_within(c, a, b, r) or is_within(d, a, b, r)
-            or are_crossing(a, b, c, d))
+"""Where straight lines are nearest, in floating point: for marks alone."""
 
 
 def nearest_on(line, place):

@@ -21,6 +21,7 @@ TITLES = {"open": "Opens", "short": "Shorts", "missing": "Points without copper"
 SIGNS = {"open": "\u2296", "short": "\u2715", "missing": "\u25a1"}
 # So many findings of a kind stand open, the further ones in folds; their suggestions stand in the data alone, which is packed.
 OPEN, FOLD = 300, 500
+SCRIPTS = ("data", "words", "view", "paint", "draw", "marks", "chosen", "list", "search", "move", "act")
 
 
 def asset(name):
@@ -29,7 +30,7 @@ def asset(name):
 
 
 def script():
-    parts = "\n".join(asset(name) for name in ("data.js", "draw.js", "chosen.js", "act.js"))
+    parts = "\n".join(asset(name + ".js") for name in SCRIPTS)
     return f'"use strict";\n(async () => {{\n{parts}}})();\n'
 
 
@@ -52,18 +53,18 @@ class Columns:
     def __init__(self):
         self.heads, self.parts = [], []
 
-    def add(self, name, numbers):
+    def add(self, name, numbers, are_steps=False):
         numbers = list(numbers)
         least, most = min(numbers, default=0), max(numbers, default=0)
         packed = array("b" if -128 <= least and most < 128 else "h" if -32_768 <= least and most < 32_768 else "i", numbers)
         if sys.byteorder == "big":
             packed.byteswap()
         data, width = packed.tobytes(), packed.itemsize
-        self.heads.append([name, width, len(packed)])
+        self.heads.append([name, width, len(packed), int(are_steps)])
         self.parts += [data[plane::width] for plane in range(width)]
 
     def add_steps(self, name, numbers):
-        self.add(name, steps(numbers))
+        self.add(name, steps(numbers), True)
 
 
 def sides_of(findings, pieces):
@@ -146,7 +147,7 @@ def block(board, findings):
 
 def row(finding, is_hinted):
     hints = "".join(f'<p class="hint">{html.escape(hint)}</p>' for hint in finding.hints) if is_hinted else ""
-    return (f'<li id="{finding.id}" class="{finding.kind}"><a href="#{finding.id}"><b>{finding.kind} {finding.number}</b> '
+    return (f'<li id="{finding.id}"><a href="#{finding.id}"><b>{finding.kind} {finding.number}</b> '
             f"{html.escape(finding.words)}</a>{hints}</li>")
 
 
@@ -155,7 +156,8 @@ def rows(findings, is_hinted):
 
 
 def fold(kind, findings):
-    return f"<details><summary>{kind} {findings[0].number} to {findings[-1].number}</summary>{rows(findings, False)}</details>\n"
+    """Rows that a browser with scripts reads as text, until they are wanted."""
+    return f"<details><summary>{kind} {findings[0].number} to {findings[-1].number}</summary><noscript>{rows(findings, False)}</noscript></details>\n"
 
 
 def list_of(kind, findings):

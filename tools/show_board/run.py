@@ -80,7 +80,7 @@ def write(asked, all_shown):
 
 
 def pictures(asked, shown):
-    if not shown.board or not shown.board.shapes:
+    if not shown.board or shown.board.shapes is None:
         print(f"boardnet: no picture is drawn, since the copper of {shown.path} is not known", file=sys.stderr)
         return
     from . import page, svg

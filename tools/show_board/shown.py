@@ -27,7 +27,7 @@ class Shown:
 
 def shapes_of(program, told):
     """The shapes of the pieces, or None and why they are not known."""
-    if not told.report.sources:
+    if told.report.sources is None:
         return None, NO_PLACES
     try:
         return copper.shapes_of(told.package, told.report, judged.flat_of(program, told.package)), ""

@@ -15,29 +15,26 @@ def edges(corners):
 
 def point_within(p, a, b, r):
     """Whether p is at most r from the segment from a to b."""
-    length, along = dot(a, b, b), dot(a, b, p)
-    if along <= 0 or length == 0:
-        return dot(a, p, p) <= r * r
+    dx, dy, px, py = b[0] - a[0], b[1] - a[1], p[0] - a[0], p[1] - a[1]
+    along, length = px * dx + py * dy, dx * dx + dy * dy
+    if along <= 0 or not length:
+        return px * px + py * py <= r * r
     if along >= length:
-        return dot(b, p, p) <= r * r
-    return cross(a, b, p) ** 2 <= r * r * length
+        qx, qy = p[0] - b[0], p[1] - b[1]
+        return qx * qx + qy * qy <= r * r
+    turn = px * dy - py * dx
+    return turn * turn <= r * r * length
 
 
-def between(a, b, p):
-    return min(a[0], b[0]) <= p[0] <= max(a[0], b[0]) and min(a[1], b[1]) <= p[1] <= max(a[1], b[1])
-
-
-def segments_meet(a, b, c, d):
-    s, t, u, v = cross(a, b, c), cross(a, b, d), cross(c, d, a), cross(c, d, b)
-    if s and t and u and v and (s > 0) != (t > 0) and (u > 0) != (v > 0):
-        return True
-    return (s == 0 and between(a, b, c)) or (t == 0 and between(a, b, d)) or (u == 0 and between(c, d, a)) or (v == 0 and between(c, d, b))
+def segments_cross(a, b, c, d):
+    """Whether two segments cross, each with ends strictly on both sides of the other."""
+    return cross(a, b, c) * cross(a, b, d) < 0 and cross(c, d, a) * cross(c, d, b) < 0
 
 
 def segments_within(a, b, c, d, r):
-    """Whether two segments come within r of each other: they meet, or an end is within r of the other."""
-    return (segments_meet(a, b, c, d) or point_within(a, c, d, r) or point_within(b, c, d, r)
-            or point_within(c, a, b, r) or point_within(d, a, b, r))
+    """Whether two segments come within r of each other: an end is within r of the other, or they cross."""
+    return (point_within(a, c, d, r) or point_within(b, c, d, r) or point_within(c, a, b, r) or point_within(d, a, b, r)
+            or segments_cross(a, b, c, d))
 
 
 def odd_inside(corners, p, scale=1):

@@ -4,7 +4,7 @@ from xml.sax.saxutils import escape
 from . import Stop
 from .grid import meet as boxes_meet
 from .rdb import micrometres
-from .tree import cover
+from .tree import apart, cover
 
 NOT_UNDERSTOOD = 2
 # Room round a finding, the least side of what is shown, both in u, and the width of the picture in pixels.
@@ -12,7 +12,7 @@ ROOM, LEAST, WIDTH = 10_000_000, 60_000_000, 1000
 STYLE = """
 .copper { fill: #c9ced6; stroke: #c9ced6; } .a { fill: #0072b2; stroke: #0072b2; } .b { fill: url(#stripes); stroke: url(#stripes); }
 .c { fill: #f5d000; stroke: #f5d000; } .area { stroke: none; fill-rule: evenodd; } .line { fill: none; stroke-linecap: round; }
-.hole { fill: #ffffff; stroke: #16191d; } .mark { fill: none; stroke: #a0006b; } .path { fill: none; stroke: #000000; }
+.hole { fill: #ffffff; stroke: #16191d; } .slot { stroke: #ffffff; } .mark { fill: none; stroke: #a0006b; } .path { fill: none; stroke: #000000; }
 text { font-family: "DejaVu Sans", sans-serif; fill: #16191d; stroke: #ffffff; stroke-width: 0.25em; paint-order: stroke; }
 """.strip()
 STRIPES = ('<pattern id="stripes" patternUnits="userSpaceOnUse" width="{0}" height="{0}" patternTransform="rotate(45)">'
@@ -32,6 +32,10 @@ def solid(shapes, piece, word):
     if len(places) == 1:
         x, y = point(places[0]).split(" ")
         return f'<circle class="area {word}" cx="{x}" cy="{y}" r="{micrometres(r)}"/>'
+    return stroke(places, r, word)
+
+
+def stroke(places, r, word):
     return f'<path class="line {word}" stroke-width="{micrometres(2 * r)}" d="M{point(places[0])}L{point(places[1])}"/>'
 
 
@@ -50,12 +54,22 @@ class Picture:
         return grown(cover(boxes) if boxes else (0, 0, LEAST, LEAST), ROOM // 2)
 
     def finding_box(self):
-        """Its points and its gap, or the places where the names of a short meet, with what lies round them."""
-        it, spots = self.finding, [self.board.spot(number) for number in self.finding.points]
-        places = [meet.place for meet in it.meets[:3]] or spots + ([it.gap.place] if it.gap else [])
-        box = grown(cover([tuple(place) * 2 for place in places]), ROOM)
+        """Its points with the copper beside them, or the chains of a short's names with where they meet, and what lies round them."""
+        it, shapes, meets = self.finding, self.board.shapes, self.finding.meets[:3]
+        places = [meet.place for meet in meets] or [self.board.spot(number) for number in it.points] + ([it.gap.place] if it.gap else [])
+        places += self.beside(places[0], self.board.layer(it.points[0])) if it.kind == "missing" else []
+        chains = [shapes.box(piece) for meet in meets for piece in meet.chain if not shapes.is_area(piece)]
+        box = grown(cover(chains + [tuple(place) * 2 for place in places]), ROOM)
         wide, high = max(0, LEAST - box[2] + box[0]) // 2, max(0, LEAST * 5 // 8 - box[3] + box[1]) // 2
         return box[0] - wide, box[1] - high, box[2] + wide, box[3] + high
+
+    def beside(self, spot, layer):
+        """Where the box of a layer's copper is nearest to a spot, if there is any."""
+        boxes = [self.board.touching.box(piece) for piece, source in enumerate(self.board.report.sources) if source[3] <= layer <= source[4]]
+        if not boxes:
+            return []
+        left, low, right, high = min(boxes, key=lambda box: apart(box, spot * 2))
+        return [(min(max(spot[0], left), right), min(max(spot[1], low), high))]
 
     def words(self):
         """How a piece is drawn: `a` and `b` are the sides of the finding, `c` what could be either's."""
@@ -86,8 +100,16 @@ class Picture:
             yield from (solid(self.board.shapes, piece, words.get(piece, "copper")) for piece in sorted(pieces, key=lambda piece: (piece in words, piece)))
             yield "</g>"
         yield f'<g stroke-width="{micrometres(self.pixel)}">'
-        yield from (solid(self.board.shapes, piece, "hole") for piece in sorted(holes))
+        for piece in sorted(holes):
+            yield from self.hole(piece)
         yield "</g>"
+
+    def hole(self, piece):
+        """A hole with a dark rim, of a slot by a wider stroke below."""
+        shapes = self.board.shapes
+        yield solid(shapes, piece, "hole")
+        if len(shapes.places(piece)) == 2:
+            yield stroke(shapes.places(piece), max(0, shapes.radius[piece] - self.pixel), "slot")
 
     def marks(self):
         """The places of the findings."""
@@ -119,7 +141,9 @@ class Picture:
             rows.append((f"{self.board.pin(number)} ({self.board.name(self.board.name_of(number))})", (x + size // 2, y + size // 2)))
         for told, place in rows:
             x, y = point(place).split(" ")
-            yield f'<text x="{x}" y="{y}" font-size="{micrometres(size)}">{escape(told)}</text>'
+            is_right = place[0] + size * len(told) * 6 // 10 > self.box[2]
+            anchor = ' text-anchor="end"' if is_right else ""
+            yield f'<text x="{x}" y="{y}"{anchor} font-size="{micrometres(size)}">{escape(told)}</text>'
 
     def rows(self):
         left, low, right, high = self.box

@@ -1,5 +1,6 @@
 """Which pieces touch, exactly, over whole numbers: a second look at the copper that only says where, never whether."""
 from . import grid, lines_apart
+from .spots import cross, point_within, segments_within
 from .tree import Tree
 
 FEW_EDGES = 24
@@ -54,15 +55,15 @@ class Touching:
         is_in = False
         for (x1, y1), (x2, y2) in self.lines_near(piece, (x, y, self.box(piece)[2], y)):
             if (y1 > y) != (y2 > y):
-                cross = lines_apart.side((x1, y1), (x2, y2), place)
-                is_in ^= (cross > 0) == (y2 > y1)
+                turn = cross((x1, y1), (x2, y2), place)
+                is_in ^= (turn > 0) == (y2 > y1)
         return is_in
 
     def holds(self, piece, place):
         """Whether a piece has a place."""
         r = max(self.shapes.radius[piece], 0)
         x, y = place
-        if any(lines_apart.is_within(place, a, b, r) for a, b in self.lines_near(piece, (x - r, y - r, x + r, y + r))):
+        if any(point_within(place, a, b, r) for a, b in self.lines_near(piece, (x - r, y - r, x + r, y + r))):
             return True
         return self.shapes.is_area(piece) and self.is_inside(piece, place)
 
@@ -75,10 +76,10 @@ class Touching:
             return False
         r = max(self.shapes.radius[p], 0) + max(self.shapes.radius[q], 0)
         if not self.shapes.is_area(p) and not self.shapes.is_area(q):
-            return lines_apart.are_within(*self.lines(p)[0], *self.lines(q)[0], r)
+            return segments_within(*self.lines(p)[0], *self.lines(q)[0], r)
         wide = box[0] - r, box[1] - r, box[2] + r, box[3] + r
         theirs = self.lines_near(q, wide)
-        if any(lines_apart.are_within(a, b, c, d, r) for a, b in self.lines_near(p, wide) for c, d in theirs):
+        if any(segments_within(a, b, c, d, r) for a, b in self.lines_near(p, wide) for c, d in theirs):
             return True
         return self.is_within(p, q) or self.is_within(q, p)
 

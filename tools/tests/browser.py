@@ -81,22 +81,27 @@ class Browser:
         """The value of an expression in the page."""
         return self.call("Runtime.evaluate", expression=code, returnByValue=True, awaitPromise=True)["result"].get("value")
 
+    def until(self, code):
+        """What an expression in the page says, once it says something."""
+        for _ in range(6000):
+            told = self.ask(code)
+            if told:
+                return told
+            time.sleep(0.02)
+        raise AssertionError(f"never: {code}")
+
     def rest(self):
         """Waits until the page has drawn what it was asked for."""
-        self.ask("new Promise(done => requestAnimationFrame(() => setTimeout(() => requestAnimationFrame(done), 120)))")
+        self.ask("new Promise(done => { const ask = () => document.documentElement.dataset.painted === 'moving' ? requestAnimationFrame(ask) : done();"
+                 "requestAnimationFrame(() => requestAnimationFrame(ask)); })")
 
     def open(self, path, place=""):
-        """Opens a file, and says how many seconds it took until it was drawn."""
-        begun = time.monotonic()
+        """Opens a page, and gives what it says itself: how many seconds passed until its first picture was on the screen."""
         self.call("Page.navigate", url="about:blank")
         self.call("Page.navigate", url=f"file://{os.path.abspath(path)}{place}")
-        for _ in range(2400):
-            if self.ask("document.documentElement.dataset.ready") == "yes":
-                break
-            time.sleep(0.05)
-        took = time.monotonic() - begun
+        opened = self.until("document.documentElement?.dataset.opened")
         self.rest()
-        return took
+        return int(opened) / 1000
 
     def key(self, key):
         for kind in ("keyDown", "keyUp"):
@@ -112,8 +117,8 @@ class Browser:
             self.mouse(kind, x, y, button="left", clickCount=1)
         self.rest()
 
-    def prefer(self, theme):
-        self.call("Emulation.setEmulatedMedia", features=[{"name": "prefers-color-scheme", "value": theme}])
+    def prefer(self, theme, media=""):
+        self.call("Emulation.setEmulatedMedia", media=media, features=[{"name": "prefers-color-scheme", "value": theme}])
 
     def picture(self, path):
         with open(path, "wb") as file:

@@ -8,7 +8,7 @@ from fractions import Fraction as Q
 
 from show_board.exact import cos_sin, exact, minus, plus, times, turned
 from show_board.macros import figures
-from show_board.spots import cross, dot, odd_inside, point_within
+from show_board.spots import odd_inside, point_within
 
 FINE = 4                # places are quarters of a u
 NEAR = 3 * FINE

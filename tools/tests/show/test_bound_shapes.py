@@ -5,7 +5,7 @@ import random
 import unittest
 from fractions import Fraction as Q
 
-from real_shapes import FINE, NEAR, Real, circle_ends, contour_of, every, fine, gerber_of, has, in_sector, on_circle, pieces_of, through
+from real_shapes import FINE, NEAR, Real, circle_ends, contour_of, every, fine, gerber_of, has, in_sector, pieces_of, through
 from show_board.arcs import Arc, arc_chain, chain_bounds, goes_once
 from show_board.contours import contour_lower
 from show_board.exact import Refused, cos_sin, minus, plus, root, times
