@@ -1,13 +1,36 @@
 -- What holds under the command that the words ask for holds under each that they ask for.
-use Rattle.std.proofs.Common.{◌≡◌, ◌<◌, ◌≤◌, ◌^◌, ℕ, List, [], ◌∷◌, length, decimal, Option, Some, None, IfSome, String, refl, subst, sym, ap, ◌∙◌, get_or, arith}
+use Rattle.std.proofs.Common.{◌≡◌, ◌<◌, ◌≤◌, ◌^◌, ℕ, List, [], ◌∷◌, length, decimal, Option, Some, None, IfNone, IfSome, String, refl, subst, sym, ap, ◌∙◌, get_or, arith}
 use Rattle.std.proofs.lemmas.Fmt.{decimal_injective}
+use Rattle.std.specs.Prelude.{map, string_bytes}
 use Rattle.boardnet.specs.Ends.{HasNames}
 use Rattle.boardnet.specs.Outcome.{OfFilesRead}
 use Rattle.board_io.specs.Package.{Files}
-use Rattle.boardnet.specs.Words.{Asks, Command, Check, Audit, Trial, Write, Gaps, X2, Flatten, IsAudit, IsCheck, IsFlatten, IsGaps, IsTrial, IsWrite, IsX2}
+use Rattle.boardnet.specs.Words.{Asks, CanAsk, Command, Check, Audit, Trial, Write, Gaps, X2, Flatten, IsCheck, IsFlatten, IsGaps, IsTrial, IsX2}
 use Rattle.boardnet.specs.declared.words.Version.{Version}
 use Rattle.boardnet.specs.declared.words.Version.TheVariants.{One, Two}
 use Rattle.std.specs.declared.alloc.Global.{Global}
+
+-- where no command can be asked for by words that are spelled so, these ask for none
+pub none_asks : {A : Type 0} (found : Option A) (words : List (String Global)) (spelled : List (List ℕ)) → map string_bytes words ≡ spelled
+    → IfNone found ((c : Command) → CanAsk spelled c → ⊥) → IfNone found ((c : Command) → Asks words c → ⊥)
+none_asks None words spelled same none = λ c asks. none c (words, same, asks)
+none_asks (Some given) words spelled same none = tt
+
+-- how two words are spelled, and three
+pub spelled_two : (words : List (String Global)) (a b : String Global) (x y : List ℕ) → 2 ≤ length words → length words < 3 → a ≡ get_or words 0 a → b ≡ get_or words 1 b → x ≡ string_bytes a → y ≡ string_bytes b
+    → map string_bytes words ≡ x ∷ y ∷ []
+spelled_two [] a b x y least most p q e f = absurd (omega (arith, least))
+spelled_two (w ∷ []) a b x y least most p q e f = absurd (omega (arith, least))
+spelled_two (w ∷ v ∷ []) a b x y least most p q e f = cc (p, q, e, f)
+spelled_two (w ∷ v ∷ u ∷ rest) a b x y least most p q e f = absurd (omega (arith, most))
+
+pub spelled_three : (words : List (String Global)) (a b d : String Global) (x y z : List ℕ) → 3 ≤ length words → length words < 4 → a ≡ get_or words 0 a → b ≡ get_or words 1 b → d ≡ get_or words 2 d
+    → x ≡ string_bytes a → y ≡ string_bytes b → z ≡ string_bytes d → map string_bytes words ≡ x ∷ y ∷ z ∷ []
+spelled_three [] a b d x y z least most p q r e f h = absurd (omega (arith, least))
+spelled_three (w ∷ []) a b d x y z least most p q r e f h = absurd (omega (arith, least))
+spelled_three (w ∷ v ∷ []) a b d x y z least most p q r e f h = absurd (omega (arith, least))
+spelled_three (w ∷ v ∷ u ∷ []) a b d x y z least most p q r e f h = cc (p, q, r, e, f, h)
+spelled_three (w ∷ v ∷ u ∷ t ∷ rest) a b d x y z least most p q r e f h = absurd (omega (arith, most))
 
 -- the words ask for one command
 one_trial : (words : List (String Global)) (s t k l : ℕ) → IsTrial words s k → IsTrial words t l → (t ≡ s) × (l ≡ k)
@@ -104,26 +127,10 @@ names_in words (Gaps manifest nanometres) is = (is.text, is.few)
 names_in words (X2 manifest) is = is.text
 names_in words (Flatten file) is = is.text
 
--- what holds of the command asked for, said of each command by its words
-pub of_check : (held : Option Files) (words : List (String Global)) (P : Files → Command → Type 0) → ((c : Command) → Asks words c → OfFilesRead c held (λ files. P files c))
-    → IfSome held (λ files. (version : Version) (name : List ℕ) → IsCheck words version name → P files (Check version name))
-of_check None words P h = tt
-of_check (Some files) words P h = λ version name is. h (Check version name) is
-
-pub of_audit : (held : Option Files) (words : List (String Global)) (P : Files → Command → Type 0) → ((c : Command) → Asks words c → OfFilesRead c held (λ files. P files c))
-    → IfSome held (λ files. (manifest report : List ℕ) → IsAudit words manifest report → P files (Audit manifest report))
-of_audit None words P h = tt
-of_audit (Some files) words P h = λ manifest report is. h (Audit manifest report) is
-
 pub of_gaps : (held : Option Files) (words : List (String Global)) (P : Files → Command → Type 0) → ((c : Command) → Asks words c → OfFilesRead c held (λ files. P files c))
     → IfSome held (λ files. (name : List ℕ) (nanometres : ℕ) → IsGaps words name nanometres → P files (Gaps name nanometres))
 of_gaps None words P h = tt
 of_gaps (Some files) words P h = λ name nanometres is. h (Gaps name nanometres) is
-
-pub of_write : (held : Option Files) (words : List (String Global)) (P : Files → Command → Type 0) → ((c : Command) → Asks words c → OfFilesRead c held (λ files. P files c))
-    → IfSome held (λ files. (name : List ℕ) → IsWrite words name → P files (Write name))
-of_write None words P h = tt
-of_write (Some files) words P h = λ name is. h (Write name) is
 
 pub of_x2 : (held : Option Files) (words : List (String Global)) (P : Files → Command → Type 0) → ((c : Command) → Asks words c → OfFilesRead c held (λ files. P files c))
     → IfSome held (λ files. (name : List ℕ) → IsX2 words name → P files (X2 name))

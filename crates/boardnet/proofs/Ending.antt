@@ -15,7 +15,6 @@ use Rattle.board_shapes.specs.CommonBox.{Fits}
 use Rattle.board_shapes.specs.Plain.{PlainBoard}
 use Rattle.contact.specs.declared.Bounds.{Bounds}
 use Rattle.gaps.specs.GrownBox.{grown_common}
-use Rattle.gerber_layer.specs.MacroKinds.{flatten_name, flatten_number}
 use Rattle.gerber_layer.specs.MacroLayer.{HasOneMacroAnswer, IsReadWithMacros, IsRefusedWithMacros}
 use Rattle.gerber_layer.specs.declared.macro_kind.FlattenKind.{FlattenKind}
 use Rattle.board_shapes.specs.Pieces.{PlainPiece}
@@ -24,8 +23,8 @@ use Rattle.boardnet.proofs.Audits.{misread_outcome, no_misread, no_stop, no_stop
 use Rattle.boardnet.specs.Answers.{Refuses, RefusesFor, line_of, manifest_of, report_of, status_of}
 use Rattle.boardnet.specs.Ends.{Ends, HasReason, HasText, IsGrownTooLargeFor, IsMislabelledFor, IsMisreadFor, IsTooLargeFor, IsUnflatFor, Puts, StopsFor, TakesFiles, Works, cut, whole}
 use Rattle.boardnet.specs.Kept.{LeftBy}
-use Rattle.boardnet.specs.Lines.{Says, file_line, flatten_line, frame_line, label_line, plain_line}
-use Rattle.boardnet.specs.Outcome.{ComesFor, IsLineOf, OfFilesRead, OutcomeOf, Refused, Told, read_by}
+use Rattle.boardnet.specs.Lines.{Says, file_line, frame_line, label_line, plain_line}
+use Rattle.boardnet.specs.Outcome.{ComesFor, IsLineOf, flatten_line, OfFilesRead, OutcomeOf, Refused, Told, read_by}
 use Rattle.boardnet.specs.Words.{Command, Check, Audit, Trial, Write, Gaps, X2, Flatten}
 use Rattle.boardnet.specs.declared.answer.Answer.{Answer}
 use Rattle.boardnet.specs.declared.answer.Note.{Note}
@@ -146,14 +145,14 @@ mislabelled_reason law c held before was now lost status Line name number byte s
     amiss f (Flatten file) m = absurd m
 
 unflat_reason : OneOutcome → (c : Command) (held : Option Files) (before : ℕ) (was : List ℕ) (now : ℕ) (lost : List ℕ) (status : ℕ) (Line : List ℕ → Type 0) (kind : FlattenKind) (number byte : ℕ)
-    → (status ≡ 3) × Line (flatten_line (manifest_of c) (flatten_number kind) (flatten_name kind) number byte) → OfFilesRead c held (λ f. IsUnflatFor f c kind number byte) → IsFaultless before was now lost → Reason c held before was now lost status Line
+    → (status ≡ 3) × Line (flatten_line (manifest_of c) kind number byte) → OfFilesRead c held (λ f. IsUnflatFor f c kind number byte) → IsFaultless before was now lost → Reason c held before was now lost status Line
 unflat_reason law c held before was now lost status Line kind number byte said h left =
-    refusal_of _ said.0 (told_of (read_by c held) (λ f. IsUnflatFor f c kind number byte) (λ f. OutcomeOf f c (Refused (flatten_line (manifest_of c) (flatten_number kind) (flatten_name kind) number byte)) × (HasText f c → ⊥)) (λ f m. unflat f c m) h) said.1 left
+    refusal_of _ said.0 (told_of (read_by c held) (λ f. IsUnflatFor f c kind number byte) (λ f. OutcomeOf f c (Refused (flatten_line (manifest_of c) kind number byte)) × (HasText f c → ⊥)) (λ f m. unflat f c m) h) said.1 left
   where
     both : (bytes other : List ℕ) (pieces : List PlainPiece) → other ≡ bytes → IsReadWithMacros other pieces → IsRefusedWithMacros bytes kind number byte → ⊥
     both bytes other pieces same read stop = (law.flat bytes).not_both pieces kind number byte (subst (λ (z : List ℕ). IsReadWithMacros z pieces) same read) stop
 
-    unflat : (f : Files) (c : Command) → IsUnflatFor f c kind number byte → OutcomeOf f c (Refused (flatten_line (manifest_of c) (flatten_number kind) (flatten_name kind) number byte)) × (HasText f c → ⊥)
+    unflat : (f : Files) (c : Command) → IsUnflatFor f c kind number byte → OutcomeOf f c (Refused (flatten_line (manifest_of c) kind number byte)) × (HasText f c → ⊥)
     unflat f (Check version manifest) m = absurd m
     unflat f (Audit manifest report) m = absurd m
     unflat f (Trial seed size) m = absurd m

@@ -1,8 +1,8 @@
 -- What a sink got, piece by piece.
-use Rattle.std.proofs.Common.{◌≡◌, ℕ, suc, ◌+◌, ◌<◌, ◌≤◌, List, [], ◌∷◌, ◌++◌, length, take, drop, get_or, Option, Some, None, option_map, refl, sym, ap, subst, ◌∙◌, append_assoc, length-append, arith}
+use Rattle.std.proofs.Common.{◌≡◌, ℕ, suc, ◌+◌, ◌<◌, ◌≤◌, List, ◌∷◌, ◌++◌, length, take, drop, get_or, Option, Some, None, option_map, refl, sym, ap, subst, ◌∙◌, append_assoc, length-append, arith}
 use Rattle.std.specs.List.{flat_map}
 use Rattle.std.proofs.Math.Seq.{take-append-add, split_at}
-use Rattle.std.proofs.lemmas.List.{take_more, append-nil, take-append-le}
+use Rattle.std.proofs.lemmas.List.{take-append-le}
 use Rattle.std.proofs.lemmas.Grind.{flat_map-append}
 use Rattle.board_io.specs.Causes.{Rose}
 use Rattle.board_io.specs.Sink.{Gains, GainsFrontOf, Puts, HasPutCause}
@@ -18,13 +18,6 @@ twice (Some g) xs ys = ap Some (append_assoc g xs ys)
 pub Gains-then : (a b c : Option (List ℕ)) (xs ys : List ℕ) → Gains a xs b → Gains b ys c → Gains a (xs ++ ys) c
 Gains-then a b c xs ys p q = q ∙ (ap (option_map (λ (g : List ℕ). g ++ ys)) p ∙ twice a xs ys)
 
-nothing : (a : Option (List ℕ)) → a ≡ option_map (λ g. g ++ []) a
-nothing None = refl
-nothing (Some g) = ap Some (sym (append-nil g))
-
-pub Gains-nothing : (a : Option (List ℕ)) → Gains a [] a
-Gains-nothing a = nothing a
-
 -- bytes that were got, then a front of a piece, before others
 pub GainsFrontOf-then : (a b c : Option (List ℕ)) (done piece rest : List ℕ) → Gains a done b → GainsFrontOf b piece c → GainsFrontOf a (done ++ (piece ++ rest)) c
 GainsFrontOf-then a b c done piece rest p (n, within, q) =
@@ -38,11 +31,6 @@ GainsFrontOf-then a b c done piece rest p (n, within, q) =
 -- all pieces, cut around one
 pub flat_map-around : {X : Type 0} (f : X → List ℕ) (xs : List X) (i : ℕ) (d : X) → i < length xs → flat_map f xs ≡ flat_map f (take i xs) ++ (f (get_or xs i d) ++ flat_map f (drop (suc i) xs))
 flat_map-around f xs i d below = ap (flat_map f) (split_at xs i d below) ∙ flat_map-append f (take i xs) (get_or xs i d ∷ drop (suc i) xs)
-
--- one piece more
-pub flat_map-more : {X : Type 0} (f : X → List ℕ) (xs : List X) (i : ℕ) (d : X) → i < length xs → flat_map f (take (i + 1) xs) ≡ flat_map f (take i xs) ++ f (get_or xs i d)
-flat_map-more f xs i d below =
-    ap (flat_map f) (take_more xs i d below) ∙ (flat_map-append f (take i xs) (get_or xs i d ∷ []) ∙ ap (λ (t : List ℕ). flat_map f (take i xs) ++ t) (append-nil (f (get_or xs i d))))
 
 -- a put that fails after bytes that were got
 pub says_failed : {N : Type 0} (got : N → Option (List ℕ)) (faults : N → ℕ) (old mid new : N) (r : Put) (done piece rest : List ℕ) → Gains (got old) done (got mid) → faults mid ≡ faults old → Puts r (got mid) piece (got new) → HasPutCause r (faults mid) (faults new) → r ≡ Failed → Says got faults old new (done ++ (piece ++ rest))

@@ -13,13 +13,12 @@ use Rattle.board_shapes.specs.Tables.{IsTables}
 use Rattle.board_maker.specs.declared.made.MakeFault.{MakeFault}
 use Rattle.board_maker.specs.declared.made.MakeFault.TheVariants as made
 use Rattle.boardnet.specs.Gapped.{IsTooWide}
-use Rattle.gerber_layer.specs.MacroKinds.{flatten_name, flatten_number}
 use Rattle.gerber_layer.specs.declared.macro_kind.FlattenFault.{FlattenFault}
 use Rattle.gerber_layer.specs.declared.macro_kind.FlattenFault.TheVariants as flat
 use Rattle.gaps.specs.declared.listing.GapFault.{GapFault}
 use Rattle.gaps.specs.declared.listing.GapFault.TheVariants as gap
-use Rattle.boardnet.specs.Lines.{plain_line, file_line, differs_line, flatten_line, frame_line, gaps_line, label_line, untrue_line, end}
-use Rattle.boardnet.specs.Outcome.{refusal_line, IsNoReport, IsTextOf, made_manifest}
+use Rattle.boardnet.specs.Lines.{counted_line, plain_line, file_line, differs_line, frame_line, label_line, end}
+use Rattle.boardnet.specs.Outcome.{flatten_line, refusal_line, IsNoReport, IsTextOf, made_manifest}
 use Rattle.boardnet.specs.Words.{Command, Check, Audit, Trial, Write, Gaps, X2, Flatten}
 use Rattle.boardnet.specs.declared.answer.Answer.{Answer}
 use Rattle.boardnet.specs.declared.answer.Note.{Note}
@@ -51,11 +50,11 @@ abbrev pub line_of : Note → List ℕ
 line_of note.Agrees = plain_line (codes "agrees")
 line_of (note.Differs opens shorts missing) = differs_line opens shorts missing
 line_of note.AuditTrue = plain_line (codes "audit true")
-line_of (note.AuditUntrue clause) = untrue_line clause
+line_of (note.AuditUntrue clause) = counted_line (codes "audit untrue ") clause
 line_of (note.TrialDone agrees) = plain_line (codes "trial done")
 line_of note.NetlistWritten = plain_line (codes "netlist written")
 line_of note.NoGaps = plain_line (codes "no gaps")
-line_of (note.Gaps count) = gaps_line count
+line_of (note.Gaps count) = counted_line (codes "gaps ") count
 line_of note.Flattened = plain_line (codes "flattened")
 
 -- why there is no answer where a report is not read, or no board is made
@@ -117,7 +116,7 @@ RefusesFor command NotAReport status Line = (status ≡ 3) × Line (file_line (r
 RefusesFor command SizeTooLarge status Line = (status ≡ 3) × Line (plain_line (codes "trial size too large"))
 RefusesFor command (GrownTooLarge box) status Line = (status ≡ 3) × Line (frame_line box)
 RefusesFor command (Mislabelled name number byte) status Line = (status ≡ 3) × Line (label_line name number byte)
-RefusesFor command (Unflat kind number byte) status Line = (status ≡ 3) × Line (flatten_line (manifest_of command) (flatten_number kind) (flatten_name kind) number byte)
+RefusesFor command (Unflat kind number byte) status Line = (status ≡ 3) × Line (flatten_line (manifest_of command) kind number byte)
 
 -- ---- Audits
 

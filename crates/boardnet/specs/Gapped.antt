@@ -2,7 +2,7 @@
 use Rattle.std.specs.Prelude.{◌≡◌, ◌*◌, ◌<◌, ◌⊎◌, ℕ, List, length, pos, codes, Some}
 use Rattle.board_shapes.specs.CommonBox.{Fits, FitsFrame}
 use Rattle.board_shapes.specs.Plain.{PlainBoard}
-use Rattle.boardnet.specs.Lines.{gaps_line, plain_line}
+use Rattle.boardnet.specs.Lines.{counted_line, plain_line}
 use Rattle.boardnet.specs.Right.{IsRightOn}
 use Rattle.contact.specs.declared.Bounds.{Bounds}
 use Rattle.gaps.specs.Gaps.{AreGaps, CloseAt}
@@ -13,7 +13,7 @@ use Rattle.verdict.specs.declared.verdict.Verdict.{Verdict}
 
 -- the status of so many gaps, and the line
 abbrev pub IsGapStatus : ℕ → ℕ → List ℕ → Type 0
-IsGapStatus count status line = ((count ≡ 0) × (status ≡ 0) × (line ≡ plain_line (codes "no gaps"))) ⊎ ((0 < count) × (status ≡ 1) × (line ≡ gaps_line count))
+IsGapStatus count status line = ((count ≡ 0) × (status ≡ 0) × (line ≡ plain_line (codes "no gaps"))) ⊎ ((0 < count) × (status ≡ 1) × (line ≡ counted_line (codes "gaps ") count))
 
 -- The gaps of a board at so many nanometres, between the nets of a right verdict on it, with the status and the line; a nanometre is 10 u. The pieces, grown by half the distance, fit in a frame.
 pub record IsGapListOn (board : PlainBoard) (nanometres : ℕ) (text : List ℕ) (status : ℕ) (line : List ℕ) : Type 0 where

@@ -25,21 +25,18 @@ plain_line what = concat (begin ∷ what ∷ end ∷ [])
 abbrev pub file_line : List ℕ → List ℕ → List ℕ
 file_line file what = concat (begin ∷ file ∷ codes ": " ∷ what ∷ end ∷ [])
 
--- a refusal of a copper file: the number and the name of its kind, the command and its first byte
-abbrev pub copper_line : List ℕ → ℕ → List ℕ → ℕ → ℕ → List ℕ
-copper_line file number kind command byte = concat (begin ∷ file ∷ codes ": Gerber " ∷ decimal number ∷ codes " " ∷ kind ∷ codes " at command " ∷ decimal command ∷ codes ", byte " ∷ decimal byte ∷ end ∷ [])
+-- a refusal of a file in a form: the number and the name of its kind, the command or the line, and its first byte
+abbrev pub refused_line : List ℕ → List ℕ → ℕ → List ℕ → List ℕ → ℕ → ℕ → List ℕ
+refused_line file form number kind item place byte =
+    concat (begin ∷ file ∷ codes ": " ∷ form ∷ codes " " ∷ decimal number ∷ codes " " ∷ kind ∷ codes " at " ∷ item ∷ codes " " ∷ decimal place ∷ codes ", byte " ∷ decimal byte ∷ end ∷ [])
 
 -- a label of a copper file that is amiss: the command and its first byte
 abbrev pub label_line : List ℕ → ℕ → ℕ → List ℕ
 label_line file command byte = concat (begin ∷ file ∷ codes ": label at command " ∷ decimal command ∷ codes ", byte " ∷ decimal byte ∷ end ∷ [])
 
--- a refusal of a drill file: the number and the name of its kind, the line and its first byte
-abbrev pub drill_line : List ℕ → ℕ → List ℕ → ℕ → ℕ → List ℕ
-drill_line file number kind line byte = concat (begin ∷ file ∷ codes ": drill " ∷ decimal number ∷ codes " " ∷ kind ∷ codes " at line " ∷ decimal line ∷ codes ", byte " ∷ decimal byte ∷ end ∷ [])
-
--- a refusal of a netlist: the number and the name of its kind, and the line
-abbrev pub netlist_line : List ℕ → ℕ → List ℕ → ℕ → List ℕ
-netlist_line file number kind line = concat (begin ∷ file ∷ codes ": netlist " ∷ decimal number ∷ codes " " ∷ kind ∷ codes " at line " ∷ decimal line ∷ end ∷ [])
+-- a refusal of a netlist has no byte
+abbrev pub netlist_line : List ℕ → List ℕ → ℕ → List ℕ → List ℕ → ℕ → List ℕ
+netlist_line file form number kind item place = concat (begin ∷ file ∷ codes ": " ∷ form ∷ codes " " ∷ decimal number ∷ codes " " ∷ kind ∷ codes " at " ∷ item ∷ codes " " ∷ decimal place ∷ end ∷ [])
 
 abbrev pub differs_line : ℕ → ℕ → ℕ → List ℕ
 differs_line opens shorts missing = concat (begin ∷ codes "differs, opens " ∷ decimal opens ∷ codes ", shorts " ∷ decimal shorts ∷ codes ", missing " ∷ decimal missing ∷ end ∷ [])
@@ -47,12 +44,6 @@ differs_line opens shorts missing = concat (begin ∷ codes "differs, opens " �
 abbrev pub frame_line : Bounds → List ℕ
 frame_line b = concat (begin ∷ codes "frame too large: " ∷ signed_decimal b.left ∷ codes " " ∷ signed_decimal b.low ∷ codes " " ∷ signed_decimal b.right ∷ codes " " ∷ signed_decimal b.high ∷ end ∷ [])
 
-abbrev pub gaps_line : ℕ → List ℕ
-gaps_line n = concat (begin ∷ codes "gaps " ∷ decimal n ∷ end ∷ [])
-
--- a refusal of a copper file that may have macros
-abbrev pub flatten_line : List ℕ → ℕ → List ℕ → ℕ → ℕ → List ℕ
-flatten_line file number kind command byte = concat (begin ∷ file ∷ codes ": flatten " ∷ decimal number ∷ codes " " ∷ kind ∷ codes " at command " ∷ decimal command ∷ codes ", byte " ∷ decimal byte ∷ end ∷ [])
-
-abbrev pub untrue_line : ℕ → List ℕ
-untrue_line n = concat (begin ∷ codes "audit untrue " ∷ decimal n ∷ end ∷ [])
+-- a few words and a number
+abbrev pub counted_line : List ℕ → ℕ → List ℕ
+counted_line what n = concat (begin ∷ what ∷ decimal n ∷ end ∷ [])

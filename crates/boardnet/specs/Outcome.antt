@@ -13,7 +13,7 @@ use Rattle.board_shapes.specs.Touching.{Joined}
 use Rattle.board_shapes.specs.declared.probe.Probe.{Probe}
 use Rattle.boardnet.specs.Gapped.{IsGapListOn, IsTooWide}
 use Rattle.boardnet.specs.Right.{IsOfVersion, IsRightOn}
-use Rattle.boardnet.specs.Lines.{flatten_line, plain_line, file_line, copper_line, drill_line, netlist_line, frame_line, label_line, differs_line, untrue_line, end}
+use Rattle.boardnet.specs.Lines.{counted_line, plain_line, file_line, netlist_line, frame_line, label_line, differs_line, refused_line, end}
 use Rattle.gerber_layer.specs.Kinds.{kind_number, kind_name}
 use Rattle.gerber_layer.specs.MacroKinds.{flatten_number, flatten_name}
 use Rattle.gerber_layer.specs.MacroLayer.{IsRefusedWithMacros}
@@ -51,9 +51,9 @@ pub record IsReport (files : Files) (version : Version) (manifest text : List �
 
 -- The line of a file that is refused.
 abbrev pub refusal_line : List ℕ → Refusal → List ℕ
-refusal_line name (Layer kind command byte) = copper_line name (kind_number kind) (kind_name kind) command byte
-refusal_line name (Drill kind line byte) = drill_line name (drill_number kind) (drill_name kind) line byte
-refusal_line name (Netlist kind line) = netlist_line name (record_number kind) (record_name kind) line
+refusal_line name (Layer kind command byte) = refused_line name (codes "Gerber") (kind_number kind) (kind_name kind) (codes "command") command byte
+refusal_line name (Drill kind line byte) = refused_line name (codes "drill") (drill_number kind) (drill_name kind) (codes "line") line byte
+refusal_line name (Netlist kind line) = netlist_line name (codes "netlist") (record_number kind) (record_name kind) (codes "line") line
 
 -- The line of a stop that is a refusal. A file that is not held is none.
 abbrev pub IsLineOf : List ℕ → Stop → List ℕ → Type 0
@@ -85,7 +85,7 @@ IsNoReport bytes = (verdict : Verdict) → IsTextOf bytes verdict → ⊥
 abbrev pub HasRuling : Tables → Verdict → List ℕ → ℕ → List ℕ → Type 0
 HasRuling tables v text status line =
     (IsRight tables v × (text ≡ codes "audit true" ++ end) × (status ≡ 0) × (line ≡ plain_line (codes "audit true")))
-    ⊎ ((n : ℕ) × FailsFirst tables v n × (text ≡ codes "audit untrue " ++ decimal n ++ end) × (status ≡ 1) × (line ≡ untrue_line n))
+    ⊎ ((n : ℕ) × FailsFirst tables v n × (text ≡ codes "audit untrue " ++ decimal n ++ end) × (status ≡ 1) × (line ≡ counted_line (codes "audit untrue ") n))
 
 -- The package fits, the report is held and is the text of a verdict, and this is what its audit answers.
 pub record IsAnswer (files : Files) (manifest report text : List ℕ) (status : ℕ) (line : List ℕ) : Type 0 where
@@ -244,12 +244,15 @@ pub record IsUnflat (files : Files) (name : List ℕ) (kind : FlattenKind) (comm
   pub refused : IsRefusedWithMacros bytes kind command byte
 
 -- The line of such a file.
+abbrev pub flatten_line : List ℕ → FlattenKind → ℕ → ℕ → List ℕ
+flatten_line name kind command byte = refused_line name (codes "flatten") (flatten_number kind) (flatten_name kind) (codes "command") command byte
+
 pub record IsFlatRefusal (files : Files) (name line : List ℕ) : Type 0 where
   pub kind : FlattenKind
   pub command : ℕ
   pub byte : ℕ
   pub unflat : IsUnflat files name kind command byte
-  pub line_is : line ≡ flatten_line name (flatten_number kind) (flatten_name kind) command byte
+  pub line_is : line ≡ flatten_line name kind command byte
 
 -- ---- Commands
 

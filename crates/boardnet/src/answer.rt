@@ -101,11 +101,13 @@ impl Note {
                 missing,
             } => lines::differs(notes, opens, shorts, missing),
             Note::AuditTrue => lines::plain(notes, b"audit true"),
-            Note::AuditUntrue { clause } => lines::untrue(notes, clause),
+            Note::AuditUntrue { clause } => {
+                lines::counted(notes, b"audit untrue ", u64::from(clause))
+            }
             Note::TrialDone { .. } => lines::plain(notes, b"trial done"),
             Note::NetlistWritten => lines::plain(notes, b"netlist written"),
             Note::NoGaps => lines::plain(notes, b"no gaps"),
-            Note::Gaps { count } => lines::gaps(notes, count),
+            Note::Gaps { count } => lines::counted(notes, b"gaps ", count as u64),
             Note::Flattened => lines::plain(notes, b"flattened"),
         }
     }

@@ -1,22 +1,18 @@
 // The command `x2`.
-ghost use Rattle.board_io.specs.Package.{IsFaultless};
-ghost use Rattle.board_package.specs.LabelledBoard.{IsFirstLabelledStop, IsLabelledBoardOf, LabelledComes};
-ghost use Rattle.board_package.specs.LabelledCauses.{HasLabelledCause, KeepsLabelledFaults};
-ghost use Rattle.board_package.specs.PackageBoard.{IsWithinLimits};
 ghost use Rattle.board_shapes.specs.Plain.{plain_board};
 ghost use Rattle.boardnet.specs.Answers.{line_of, status_of};
 ghost use Rattle.boardnet.specs.Ends.{Works};
 ghost use Rattle.boardnet.specs.Labelled.{IsReportOn};
 ghost use Rattle.boardnet.specs.Words.{X2};
 ghost use Rattle.lengths.specs.Text.{IsText};
-ghost use Rattle.std.specs.Prelude.{IfErr, IfOk, IfSome, ◌≡◌, ◌≤◌};
+ghost use Rattle.std.specs.Prelude.{IfOk};
 
 use crate::answer::{Answer, Note, Unanswered};
 use crate::judged::verdict_in;
 use crate::refusing::name_of;
 use crate::words::Version;
 use board_io::Package;
-use board_package::{LabelledFault, build_labelled, laws as packages};
+use board_package::{build_labelled, laws as packages};
 use board_shapes::Board;
 use lengths::NoMemory;
 use std::alloc::Global;
@@ -32,28 +28,10 @@ pub fn labelled_report<P: Package>(
     ensures { Works P.held P.faults P.lost (X2 manifest.now) «package».old «package».new result }
 {
     packages::labelled_pieces_are_under();
-    let board = labelled_board(alloc, manifest, package)?;
+    let name = name_of(alloc, manifest)?;
+    let board = build_labelled(alloc, &name, package)?;
     let answer = report_on(alloc, &board)?;
     Ok(answer)
-}
-
-// The labelled board of the package of a manifest.
-fn labelled_board<P: Package>(
-    alloc: Global,
-    manifest: &str,
-    package: &mut P,
-) -> Result<Board, LabelledFault>
-    requires { IsText manifest.now }
-    ensures held { P.held «package».new ≡ P.held «package».old }
-    ensures later { P.faults «package».old ≤ P.faults «package».new }
-    ensures calm { IfOk result (λ _. IsFaultless (P.faults «package».old) (P.lost «package».old) (P.faults «package».new) (P.lost «package».new)) }
-    ensures left { IfErr result (KeepsLabelledFaults (P.faults «package».old) (P.lost «package».old) (P.faults «package».new) (P.lost «package».new)) }
-    ensures ok { IfOk result (λ board. IfSome (P.held «package».old) (λ files. IsLabelledBoardOf files manifest.now (plain_board board))) }
-    ensures limits { IfOk result (λ board. IsWithinLimits (plain_board board)) }
-    ensures fault { IfErr result (HasLabelledCause (P.held «package».old) (λ files stop. IsFirstLabelledStop files manifest.now stop) (λ files name. LabelledComes files manifest.now name) (P.faults «package».old) (P.faults «package».new) (P.lost «package».new)) }
-{
-    let name = name_of(alloc, manifest)?;
-    build_labelled(alloc, &name, package)
 }
 
 // The report on a board, with a supplement.

@@ -1,5 +1,5 @@
 // The line to the notes, put in pieces and without memory.
-ghost use Rattle.boardnet.specs.Lines.{Says, copper_line, differs_line, drill_line, file_line, flatten_line, frame_line, label_line, gaps_line, netlist_line, plain_line, untrue_line};
+ghost use Rattle.boardnet.specs.Lines.{Says, counted_line, differs_line, file_line, frame_line, label_line, netlist_line, plain_line, refused_line};
 ghost use Rattle.std.specs.List.{flat_map};
 
 use board_io::{Put, Sink};
@@ -43,55 +43,13 @@ pub fn differs<N: Sink>(notes: &mut N, opens: usize, shorts: usize, missing: usi
     );
 }
 
-/// Puts the line of a list of gaps.
-pub fn gaps<N: Sink>(notes: &mut N, count: usize)
-    ensures { Says N.got N.faults notes.old notes.new (gaps_line count) }
+/// Puts a line of a few words and a number.
+pub fn counted<N: Sink>(notes: &mut N, what: &[u8], number: u64)
+    ensures { Says N.got N.faults notes.old notes.new (counted_line what.now number) }
 {
     put_all(
         notes,
-        &[
-            b"boardnet: ",
-            b"gaps ",
-            Numeral::of(count as u64).as_bytes(),
-            b"\n",
-        ],
-    );
-}
-
-/// Puts the line of a refusal of a copper file that may have macros, at a command and its first byte.
-pub fn unflat<N: Sink>(notes: &mut N, file: &[u8], kind: Kind, command: u32, byte: usize)
-    ensures { Says N.got N.faults notes.old notes.new (flatten_line file.now kind.entry.number kind.entry.name.now command byte) }
-{
-    put_all(
-        notes,
-        &[
-            b"boardnet: ",
-            file,
-            b": flatten ",
-            Numeral::of(u64::from(kind.number)).as_bytes(),
-            b" ",
-            kind.name.as_bytes(),
-            b" at command ",
-            Numeral::of(u64::from(command)).as_bytes(),
-            b", byte ",
-            Numeral::of(byte as u64).as_bytes(),
-            b"\n",
-        ],
-    );
-}
-
-/// Puts the line of a report that is not that of a right verdict, by the first clause that does not hold.
-pub fn untrue<N: Sink>(notes: &mut N, clause: u8)
-    ensures { Says N.got N.faults notes.old notes.new (untrue_line clause) }
-{
-    put_all(
-        notes,
-        &[
-            b"boardnet: ",
-            b"audit untrue ",
-            Numeral::of(u64::from(clause)).as_bytes(),
-            b"\n",
-        ],
+        &[b"boardnet: ", what, Numeral::of(number).as_bytes(), b"\n"],
     );
 }
 
@@ -102,28 +60,34 @@ pub fn about_file<N: Sink>(notes: &mut N, file: &[u8], what: &[u8])
     put_all(notes, &[b"boardnet: ", file, b": ", what, b"\n"]);
 }
 
-/// The number and the name of a kind of refusal.
+/// A kind of refusal: the form of the file, what stands in it, a command or a line, and the number and the name of the kind.
 #[derive(Clone, Copy)]
 pub struct Kind<'a> {
+    pub form: &'a str,
+    pub item: &'a str,
     pub number: u32,
     pub name: &'a str,
 }
 
-/// Puts the line of a refusal of a copper file at a command and its first byte.
-pub fn copper_refused<N: Sink>(notes: &mut N, file: &[u8], kind: Kind, command: u32, byte: usize)
-    ensures { Says N.got N.faults notes.old notes.new (copper_line file.now kind.entry.number kind.entry.name.now command byte) }
+/// Puts the line of a refusal of a file at an item and its first byte.
+pub fn refused<N: Sink>(notes: &mut N, file: &[u8], kind: Kind, item: u32, byte: usize)
+    ensures { Says N.got N.faults notes.old notes.new (refused_line file.now kind.entry.form.now kind.entry.number kind.entry.name.now kind.entry.item.now item byte) }
 {
     put_all(
         notes,
         &[
             b"boardnet: ",
             file,
-            b": Gerber ",
+            b": ",
+            kind.form.as_bytes(),
+            b" ",
             Numeral::of(u64::from(kind.number)).as_bytes(),
             b" ",
             kind.name.as_bytes(),
-            b" at command ",
-            Numeral::of(u64::from(command)).as_bytes(),
+            b" at ",
+            kind.item.as_bytes(),
+            b" ",
+            Numeral::of(u64::from(item)).as_bytes(),
             b", byte ",
             Numeral::of(byte as u64).as_bytes(),
             b"\n",
@@ -149,43 +113,25 @@ pub fn mislabelled<N: Sink>(notes: &mut N, file: &[u8], command: u32, byte: usiz
     );
 }
 
-/// Puts the line of a refusal of a drill file at a line and its first byte.
-pub fn drill_refused<N: Sink>(notes: &mut N, file: &[u8], kind: Kind, line: u32, byte: usize)
-    ensures { Says N.got N.faults notes.old notes.new (drill_line file.now kind.entry.number kind.entry.name.now line byte) }
+/// Puts the line of a refusal of a file at an item alone, as a netlist has it.
+pub fn netlist_refused<N: Sink>(notes: &mut N, file: &[u8], kind: Kind, item: u32)
+    ensures { Says N.got N.faults notes.old notes.new (netlist_line file.now kind.entry.form.now kind.entry.number kind.entry.name.now kind.entry.item.now item) }
 {
     put_all(
         notes,
         &[
             b"boardnet: ",
             file,
-            b": drill ",
+            b": ",
+            kind.form.as_bytes(),
+            b" ",
             Numeral::of(u64::from(kind.number)).as_bytes(),
             b" ",
             kind.name.as_bytes(),
-            b" at line ",
-            Numeral::of(u64::from(line)).as_bytes(),
-            b", byte ",
-            Numeral::of(byte as u64).as_bytes(),
-            b"\n",
-        ],
-    );
-}
-
-/// Puts the line of a refusal of a netlist at a line.
-pub fn netlist_refused<N: Sink>(notes: &mut N, file: &[u8], kind: Kind, line: u32)
-    ensures { Says N.got N.faults notes.old notes.new (netlist_line file.now kind.entry.number kind.entry.name.now line) }
-{
-    put_all(
-        notes,
-        &[
-            b"boardnet: ",
-            file,
-            b": netlist ",
-            Numeral::of(u64::from(kind.number)).as_bytes(),
+            b" at ",
+            kind.item.as_bytes(),
             b" ",
-            kind.name.as_bytes(),
-            b" at line ",
-            Numeral::of(u64::from(line)).as_bytes(),
+            Numeral::of(u64::from(item)).as_bytes(),
             b"\n",
         ],
     );

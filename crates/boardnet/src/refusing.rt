@@ -39,10 +39,12 @@ pub fn refuse<N: Sink>(command: Command, why: &Unanswered, notes: &mut N) -> u8
         }
         Unanswered::Unflat { kind, command, at } => {
             let kind = Kind {
+                form: "flatten",
+                item: "command",
                 number: kind.number(),
                 name: kind.name(),
             };
-            lines::unflat(notes, file.as_bytes(), kind, *command, *at);
+            lines::refused(notes, file.as_bytes(), kind, *command, *at);
             3
         }
     }
@@ -77,10 +79,12 @@ fn stopped<N: Sink>(manifest: &str, fault: &BuildFault, notes: &mut N) -> u8
             at,
         } => {
             let kind = Kind {
+                form: "Gerber",
+                item: "command",
                 number: kind.number(),
                 name: kind.name(),
             };
-            lines::copper_refused(notes, file.as_bytes(), kind, *command, *at);
+            lines::refused(notes, file.as_bytes(), kind, *command, *at);
             3
         }
         BuildFault::Drill {
@@ -90,14 +94,18 @@ fn stopped<N: Sink>(manifest: &str, fault: &BuildFault, notes: &mut N) -> u8
             at,
         } => {
             let kind = Kind {
+                form: "drill",
+                item: "line",
                 number: kind.number(),
                 name: kind.name(),
             };
-            lines::drill_refused(notes, file.as_bytes(), kind, *line, *at);
+            lines::refused(notes, file.as_bytes(), kind, *line, *at);
             3
         }
         BuildFault::Netlist { file, kind, line } => {
             let kind = Kind {
+                form: "netlist",
+                item: "line",
                 number: kind.number(),
                 name: kind.name(),
             };

@@ -1,18 +1,23 @@
+use Rattle.std.proofs.Common.{ℕ, List, Ok, subst}
 use Rattle.board_shapes.specs.Plain.{plain_board}
 use Rattle.boardnet.proofs.ByLabels.{reported_by, stopped_by, wanting_by}
+use Rattle.boardnet.specs.Ends.{Works}
+use Rattle.boardnet.specs.Words.{X2}
 use Rattle.boardnet.proofs.labelling.labelled_report.Goals as goal
 
 pub returns-in_err-board : goal.returns-in_err-board
 returns-in_err-board g c =
-    stopped_by g.P.Package.held g.P.Package.faults g.P.Package.lost c.args.manifest.now c.args.package.now c.labelled_board.new.package c.in_err-board.field-0.0 c.from_residual.result
-    c.from_residual.ensures.1 c.labelled_board.ensures.held c.labelled_board.ensures.later c.in_err-board.ensures.left c.in_err-board.ensures.fault
+    subst (λ (m : List ℕ). Works g.P.Package.held g.P.Package.faults g.P.Package.lost (X2 m) c.args.package.now c.build_labelled.new.package c.from_residual-in_err-board.result) c.in_ok-name.ensures.ok
+    (stopped_by g.P.Package.held g.P.Package.faults g.P.Package.lost _ c.args.package.now c.build_labelled.new.package c.in_err-board.field-0.0 c.from_residual-in_err-board.result
+    c.from_residual-in_err-board.ensures.1 c.build_labelled.ensures.held c.build_labelled.ensures.later c.in_err-board.ensures.kept c.in_err-board.ensures.fault)
 
 pub returns-in_err-answer : goal.returns-in_err-answer
 returns-in_err-answer g c =
-    wanting_by g.P.Package.held g.P.Package.faults g.P.Package.lost c.args.manifest.now c.args.package.now c.labelled_board.new.package c.from_residual-in_err-answer.result
-    c.from_residual-in_err-answer.ensures.1 c.labelled_board.ensures.held c.labelled_board.ensures.later
+    wanting_by g.P.Package.held g.P.Package.faults g.P.Package.lost c.args.manifest.now c.args.package.now c.build_labelled.new.package c.from_residual-in_err-answer.result
+    c.from_residual-in_err-answer.ensures.1 c.build_labelled.ensures.held c.build_labelled.ensures.later
 
 pub returns : goal.returns
 returns g c =
-    reported_by g.P.Package.held g.P.Package.faults g.P.Package.lost c.args.manifest.now c.args.package.now c.labelled_board.new.package (plain_board c.in_ok-board.board) c.in_ok-answer.answer c.labelled_pieces_are_under.ensures
-    c.labelled_board.ensures.held c.labelled_board.ensures.later c.in_ok-board.ensures.calm c.in_ok-board.ensures.ok c.in_ok-board.ensures.limits.lawful c.in_ok-answer.ensures
+    subst (λ (m : List ℕ). Works g.P.Package.held g.P.Package.faults g.P.Package.lost (X2 m) c.args.package.now c.build_labelled.new.package (Ok c.in_ok-answer.answer)) c.in_ok-name.ensures.ok
+    (reported_by g.P.Package.held g.P.Package.faults g.P.Package.lost _ c.args.package.now c.build_labelled.new.package (plain_board c.in_ok-board.board) c.in_ok-answer.answer c.labelled_pieces_are_under.ensures
+    c.build_labelled.ensures.held c.build_labelled.ensures.later c.in_ok-board.ensures.faultless c.in_ok-board.ensures.ok c.in_ok-board.ensures.limits.lawful c.in_ok-answer.ensures)

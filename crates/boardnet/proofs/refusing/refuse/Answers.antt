@@ -1,8 +1,8 @@
 use Rattle.std.proofs.Common.{List, ℕ, codes, refl, subst, sym, ◌∙◌}
 use Rattle.boardnet.specs.Answers.{RefusesFor}
 use Rattle.boardnet.specs.Asked.{asked}
-use Rattle.boardnet.specs.Lines.{Says, file_line, flatten_line}
-use Rattle.gerber_layer.specs.MacroKinds.{flatten_name, flatten_number}
+use Rattle.boardnet.specs.Lines.{Says, file_line}
+use Rattle.boardnet.specs.Outcome.{flatten_line}
 use Rattle.boardnet.proofs.refusing.refuse.Goals as goal
 
 pub returns-in-NotAReport-clause-line : goal.returns-in-NotAReport-clause-line
@@ -12,8 +12,8 @@ returns-in-NotAReport-clause-line g c =
 
 pub returns-in-Unflat-clause-line : goal.returns-in-Unflat-clause-line
 returns-in-Unflat-clause-line g c =
-    subst (λ why. RefusesFor (asked c.args.command) why 3 (Says g.N.Sink.got g.N.Sink.faults c.args.notes.now c.unflat.new.notes)) (sym c.in-Unflat.is) (
+    subst (λ why. RefusesFor (asked c.args.command) why 3 (Says g.N.Sink.got g.N.Sink.faults c.args.notes.now c.refused.new.notes)) (sym c.in-Unflat.is) (
       refl,
-      subst (λ (z : List ℕ). Says g.N.Sink.got g.N.Sink.faults c.args.notes.now c.unflat.new.notes (flatten_line z (flatten_number c.in-Unflat.kind) (flatten_name c.in-Unflat.kind) c.in-Unflat.command c.in-Unflat.at)) (c.as_bytes-in-Unflat.ensures.value ∙ c.manifest-file.ensures)
-          (rw (← c.number.ensures, ← c.name.ensures) c.unflat.ensures),
+      subst (λ (z : List ℕ). Says g.N.Sink.got g.N.Sink.faults c.args.notes.now c.refused.new.notes (flatten_line z c.in-Unflat.kind c.in-Unflat.command c.in-Unflat.at)) (c.as_bytes-in-Unflat.ensures.value ∙ c.manifest-file.ensures)
+          (rw (← c.number.ensures, ← c.name.ensures) c.refused.ensures),
     )

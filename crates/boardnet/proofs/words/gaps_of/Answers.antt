@@ -3,7 +3,7 @@ use Rattle.std.proofs.lemmas.Fmt.{decimal_injective}
 use Rattle.boardnet.proofs.words.gaps_of.Goals as goal
 
 pub returns-then-nanometres-gt-MOST_NANOMETRES-clause-none : goal.returns-then-nanometres-gt-MOST_NANOMETRES-clause-none
-returns-then-nanometres-gt-MOST_NANOMETRES-clause-none c = λ command text n spelled few.
+returns-then-nanometres-gt-MOST_NANOMETRES-clause-none c = λ text n spelled few.
     let small = c.in_ok-nanometres.ensures.small in
     let over = c.if-nanometres-gt-MOST_NANOMETRES.true in
     let same : n ≡ c.in_ok-nanometres.nanometres = decimal_injective n c.in_ok-nanometres.nanometres (omega (arith, few)) (omega (arith, small)) (sym spelled ∙ c.in_ok-nanometres.ensures.some) in

@@ -1,6 +1,6 @@
-use Rattle.std.proofs.Common.{subst, sym}
+use Rattle.std.proofs.Common.{ℕ, codes, subst, sym}
 use Rattle.boardnet.specs.Answers.{line_of}
-use Rattle.boardnet.specs.Lines.{Says}
+use Rattle.boardnet.specs.Lines.{Says, counted_line}
 use Rattle.boardnet.proofs.answer.Note.put.Goals as goal
 
 pub returns-in-Differs : goal.returns-in-Differs
@@ -10,7 +10,8 @@ pub returns-in-AuditTrue : goal.returns-in-AuditTrue
 returns-in-AuditTrue g c = subst (λ note. Says g.N.Sink.got g.N.Sink.faults c.args.notes.now c.plain-in-AuditTrue.new.notes (line_of note)) (sym c.in-AuditTrue.is) c.plain-in-AuditTrue.ensures
 
 pub returns-in-AuditUntrue : goal.returns-in-AuditUntrue
-returns-in-AuditUntrue g c = subst (λ note. Says g.N.Sink.got g.N.Sink.faults c.args.notes.now c.untrue.new.notes (line_of note)) (sym c.in-AuditUntrue.is) c.untrue.ensures
+returns-in-AuditUntrue g c = subst (λ note. Says g.N.Sink.got g.N.Sink.faults c.args.notes.now c.counted.new.notes (line_of note)) (sym c.in-AuditUntrue.is)
+    (subst (λ (n : ℕ). Says g.N.Sink.got g.N.Sink.faults c.args.notes.now c.counted.new.notes (counted_line (codes "audit untrue ") n)) c.from.ensures c.counted.ensures)
 
 pub returns-in-TrialDone : goal.returns-in-TrialDone
 returns-in-TrialDone g c = subst (λ note. Says g.N.Sink.got g.N.Sink.faults c.args.notes.now c.plain-in-TrialDone.new.notes (line_of note)) (sym c.in-TrialDone.is) c.plain-in-TrialDone.ensures
@@ -22,4 +23,4 @@ pub returns-in-NoGaps : goal.returns-in-NoGaps
 returns-in-NoGaps g c = subst (λ note. Says g.N.Sink.got g.N.Sink.faults c.args.notes.now c.plain-in-NoGaps.new.notes (line_of note)) (sym c.in-NoGaps.is) c.plain-in-NoGaps.ensures
 
 pub returns-in-Gaps : goal.returns-in-Gaps
-returns-in-Gaps g c = subst (λ note. Says g.N.Sink.got g.N.Sink.faults c.args.notes.now c.gaps.new.notes (line_of note)) (sym c.in-Gaps.is) c.gaps.ensures
+returns-in-Gaps g c = subst (λ note. Says g.N.Sink.got g.N.Sink.faults c.args.notes.now c.counted-in-Gaps.new.notes (line_of note)) (sym c.in-Gaps.is) c.counted-in-Gaps.ensures
