@@ -1,13 +1,13 @@
 // What a field of cells answers.
 ghost use Rattle.cell_index.specs.Among.{TouchAmong, UnderAmong, bottom_in, extent_in, top_in, turned};
-ghost use Rattle.cell_index.specs.Field.{IsNear, rivals_of};
+ghost use Rattle.cell_index.specs.Field.{IsNear, is_rival, rivals_of};
 ghost use Rattle.cell_index.specs.Finding.{IsLesser};
 ghost use Rattle.cell_index.specs.Stretched.{spot_over};
 ghost use Rattle.contact.specs.Solid.{IsInside};
 ghost use Rattle.planar.specs.Plane.{IsPlaced};
 ghost use Rattle.planar.specs.declared.Spot.{Spot};
 ghost use Rattle.std.specs.List.Sorted.{IsStrictlyIncreasing};
-ghost use Rattle.std.specs.Prelude.{◌≡◌, ◌+◌, ◌<◌, ◌≤◌, ◌^◌, ◌↔◌, IsTrue, All, Contains, IfSome, length};
+ghost use Rattle.std.specs.Prelude.{◌≡◌, ℕ, ◌+◌, ◌<◌, ◌≤◌, ◌^◌, ◌↔◌, if◌then◌else◌, IsTrue, All, Contains, IfSome, OnOk, length};
 ghost use Rattle.tables.specs.Lists.{IsLeast, Lists};
 
 use crate::cells::Cells;
@@ -21,6 +21,29 @@ use std::sync::ledger::Ledger;
 use steps::Steps;
 
 impl<'a, S: Meets<S>> Cells<'a, S> {
+    /// Puts into `into`, rising, pieces among which are all that touch piece i. No contact test is made. After a refusal
+    /// `into` holds anything.
+    pub fn candidates(&self, i: usize, into: &mut Vec<u32>) -> Result<(), NoMemory>
+        requires piece { i < length self.now.items.now }
+        ensures known { OnOk result (All (λ q. q < length self.now.items.now) into.new.items) }
+        ensures rising { OnOk result (IsStrictlyIncreasing into.new.items) }
+        ensures near { OnOk result ((q : ℕ) → IsNear (length self.now.items.now) (TouchAmong S.holds self.now.items.now) i q → Contains into.new.items q) }
+    {
+        self.finer.met(i, into)?;
+        Ok(())
+    }
+
+    /// Whether q is another piece than p, and touches it. One tick of `tests` is one contact test: there is at most one, and
+    /// none where the boxes do not meet or the spans have no common layer.
+    pub fn touches<L: Ledger>(&self, p: usize, q: usize, tests: &mut Steps<L>) -> bool
+        requires first { p < length self.now.items.now }
+        requires second { q < length self.now.items.now }
+        ensures near { IsTrue result ↔ IsNear (length self.now.items.now) (TouchAmong S.holds self.now.items.now) p q }
+        ensures ticks { tests.new ≤ tests.old + (if is_rival (extent_in S.extent self.now.items.now) (top_in self.now.items.now) (bottom_in self.now.items.now) p q then 1 else 0) }
+    {
+        is_near(self.items, self.frame, p, q, tests)
+    }
+
     // Of the pieces in the list keeps those that touch piece i.
     fn keep_near<L: Ledger>(&self, i: usize, into: &mut Vec<u32>, tests: &mut Steps<L>)
         requires piece { i < length self.now.items.now }
@@ -112,7 +135,7 @@ impl<'a, S: Meets<S>> Field for Cells<'a, S> {
         into: &mut Vec<u32>,
         tests: &mut Steps<L>,
     ) -> Result<(), NoMemory> {
-        self.finer.met(i, into)?;
+        self.candidates(i, into)?;
         self.keep_near(i, into, tests);
         Ok(())
     }

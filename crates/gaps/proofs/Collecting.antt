@@ -1,13 +1,18 @@
 -- Lines that are pushed one by one.
-use Rattle.std.proofs.Common.{◌≡◌, ◌⊎◌, ◌↔◌, inl, inr, ℕ, zero, suc, ◌+◌, ◌<◌, ◌≤◌, List, [], ◌∷◌, ◌++◌, All, Contains, get_or, max, min, refl, ap, sym, subst, arith, ◌∙◌}
+use Rattle.std.proofs.Common.{◌≡◌, ◌⊎◌, ◌↔◌, inl, inr, ℕ, zero, suc, ◌+◌, ◌<◌, ◌≤◌, List, [], ◌∷◌, ◌++◌, All, Contains, get_or, if◌then◌else◌, length, max, min, slice_get, Some, refl, ap, sym, subst, arith, ◌∙◌}
 use Rattle.std.proofs.lemmas.Bool.{cases_eq}
+use Rattle.std.proofs.lemmas.List.{get_or_default, get_or_past}
 use Rattle.std.proofs.lemmas.List.Elements.{Contains-get_or, Contains-push, Contains-push_cases, Contains-append_left}
+use Rattle.std.proofs.lemmas.Option.{get_or_from_slice_get, slice_get_within}
 use Rattle.gaps.specs.declared.gap.Gap.{Gap}
 use Rattle.gaps.specs.declared.meetings.Span.{Span}
-use Rattle.cell_index.specs.Field.{IsNear, sum_below}
-use Rattle.tables.specs.Lists.{Lists}
+use Rattle.contact.specs.declared.Bounds.{Bounds}
+use Rattle.cell_index.specs.Field.{IsNear, is_rival, rivals_of, sum_below}
+use Rattle.cell_index.proofs.Found.{next_of}
+use Rattle.cell_index.proofs.Pairs.{rivals_within}
 use Rattle.gaps.specs.Firsts.{AreFirsts, Beside, IsBeside, IsWithLess}
-use Rattle.gaps.specs.Meetings.{Covered, GainsLines, Gathers, IsFieldLine, IsLineOf, IsNearLine, IsPairLine, net_of, span_of}
+use Rattle.gaps.specs.declared.found.Pair.{Pair}
+use Rattle.gaps.specs.Meetings.{Covered, CoversLines, GainsLines, Gathers, IsFieldLine, IsLineOf, IsNearLine, IsPairLine, IsTouchLine, net_of, pair_in, span_of}
 
 -- before the first layer
 pub none_yet : (low high i j top : ℕ) (old : List Gap) → GainsLines (IsLineOf low high i j top top) old old
@@ -66,58 +71,6 @@ all_layers low high i j top past layer top' past' old lines e f over within h ga
     back (inl k) = inl k
     back (inr l) = inr record { low_is = l.low_is; high_is = l.high_is; first_is = l.first_is; second_is = l.second_is; from_top = omega (arith, l.from_top); before_past = omega (arith, l.before_past) }
 
--- ---- pairs
-
-same_lines : {P Q : Gap → Type 0} → ((g : Gap) → P g ↔ Q g) → (old new : List Gap) → GainsLines P old new → GainsLines Q old new
-same_lines {P} {Q} e old new h gap = (λ k. there ((h gap).0 k), λ k. (h gap).1 (back k))
-  where
-    there : Contains old gap ⊎ P gap → Contains old gap ⊎ Q gap
-    there (inl k) = inl k
-    there (inr l) = inr ((e gap).0 l)
-
-    back : Contains old gap ⊎ Q gap → Contains old gap ⊎ P gap
-    back (inl k) = inl k
-    back (inr l) = inr ((e gap).1 l)
-
--- no piece of the list yet
-pub no_neighbour : (numbers : List ℕ) (spans : List Span) (i : ℕ) (old : List Gap) → GainsLines (IsNearLine numbers spans i []) old old
-no_neighbour numbers spans i old gap = (λ k. inl k, back)
-  where
-    back : Contains old gap ⊎ IsNearLine numbers spans i [] gap → Contains old gap
-    back (inl k) = k
-    back (inr l) = absurd (omega (arith, l.stands.1))
-
--- one piece of the list more
-pub neighbour_more : (numbers : List ℕ) (spans : List Span) (i j : ℕ) (near : List ℕ) (old lines new : List Gap) → GainsLines (IsNearLine numbers spans i near) old lines → GainsLines (IsPairLine numbers spans i j) lines new → GainsLines (IsNearLine numbers spans i (near ++ j ∷ [])) old new
-neighbour_more numbers spans i j near old lines new h k gap = (λ c. there ((k gap).0 c), back)
-  where
-    wider : Contains old gap ⊎ IsNearLine numbers spans i near gap → Contains old gap ⊎ IsNearLine numbers spans i (near ++ j ∷ []) gap
-    wider (inl c) = inl c
-    wider (inr l) = inr record { piece = l.piece; stands = Contains-append_left near (j ∷ []) l.piece l.stands; pair = l.pair }
-
-    there : Contains lines gap ⊎ IsPairLine numbers spans i j gap → Contains old gap ⊎ IsNearLine numbers spans i (near ++ j ∷ []) gap
-    there (inl c) = wider ((h gap).0 c)
-    there (inr l) = inr record { piece = j; stands = Contains-push near j; pair = l }
-
-    back : Contains old gap ⊎ IsNearLine numbers spans i (near ++ j ∷ []) gap → Contains new gap
-    back (inl c) = (k gap).1 (inl ((h gap).1 (inl c)))
-    back (inr l) = elim (Contains-push_cases near j l.piece l.stands) [
-      | inl o ↦ (k gap).1 (inl ((h gap).1 (inr record { piece = l.piece; stands = o; pair = l.pair })))
-      | inr is ↦ (k gap).1 (inr (subst (λ (z : ℕ). IsPairLine numbers spans i z gap) (sym is) l.pair))
-    ]
-
--- where the second net is not higher, nothing comes
-pub no_pair : (numbers : List ℕ) (spans : List Span) (i j : ℕ) (old : List Gap) → net_of numbers j ≤ net_of numbers i → GainsLines (IsPairLine numbers spans i j) old old
-no_pair numbers spans i j old h gap = (λ k. inl k, back)
-  where
-    back : Contains old gap ⊎ IsPairLine numbers spans i j gap → Contains old gap
-    back (inl k) = k
-    back (inr l) = absurd (omega (arith, l.order))
-
-pub a_pair : (numbers : List ℕ) (spans : List Span) (i j : ℕ) (old new : List Gap) → net_of numbers i < net_of numbers j →
-    GainsLines (IsLineOf (net_of numbers i) (net_of numbers j) i j (max (span_of spans i).top (span_of spans j).top) (min (span_of spans i).bottom (span_of spans j).bottom + 1)) old new → GainsLines (IsPairLine numbers spans i j) old new
-a_pair numbers spans i j old new o h = same_lines (λ g. (λ l. record { order = o; line = l }, λ l. l.line)) old new h
-
 -- ---- a field
 
 -- a line covers itself
@@ -132,6 +85,77 @@ less_trans f g h (inr a) (inr b) = inr (omega (arith, a.0, b.0), omega (arith, a
 
 beside_trans : (f g h : Gap) → IsBeside f g → IsBeside g h → IsBeside f h
 beside_trans f g h a b = (a.0 ∙ b.0, a.1 ∙ b.1, a.2 ∙ b.2)
+
+-- ---- pairs
+
+nothing : (P : Gap → Type 0) (lines : List Gap) → ((gap : Gap) → P gap → Covered lines gap) → CoversLines P lines lines
+nothing P lines h = record { only = λ gap c. inl c; kept = λ gap c. c; each = h }
+
+-- the second net is not higher, or lines that stand already speak for those of the pair
+pub no_pair : (size : ℕ) (touch : ℕ → ℕ → Type 0) (pair : Pair) (old : List Gap) → (pair.high ≤ pair.low) ⊎ ((gap : Gap) → IsLineOf pair.low pair.high pair.first pair.second pair.top (pair.bottom + 1) gap → Covered old gap) → CoversLines (IsTouchLine size touch pair) old old
+no_pair size touch pair old (inl h) = nothing (IsTouchLine size touch pair) old (λ gap l. absurd (omega (arith, l.order)))
+no_pair size touch pair old (inr h) = nothing (IsTouchLine size touch pair) old (λ gap l. h gap l.line)
+
+pub apart_pair : (size : ℕ) (touch : ℕ → ℕ → Type 0) (pair : Pair) (old : List Gap) → (IsNear size touch pair.first pair.second → ⊥) → CoversLines (IsTouchLine size touch pair) old old
+apart_pair size touch pair old h = nothing (IsTouchLine size touch pair) old (λ gap l. absurd (h l.near))
+
+pub a_pair : (size : ℕ) (touch : ℕ → ℕ → Type 0) (pair : Pair) (old new : List Gap) → IsNear size touch pair.first pair.second → pair.low < pair.high →
+    GainsLines (IsLineOf pair.low pair.high pair.first pair.second pair.top (pair.bottom + 1)) old new → CoversLines (IsTouchLine size touch pair) old new
+a_pair size touch pair old new near order h = record { only = λ gap c. there gap ((h gap).0 c); kept = λ gap c. (h gap).1 (inl c); each = λ gap l. itself new gap ((h gap).1 (inr l.line)) }
+  where
+    there : (gap : Gap) → Contains old gap ⊎ IsLineOf pair.low pair.high pair.first pair.second pair.top (pair.bottom + 1) gap → Contains old gap ⊎ IsTouchLine size touch pair gap
+    there gap (inl c) = inl c
+    there gap (inr l) = inr record { near = near; order = order; line = l }
+
+still_covered : (old new : List Gap) (gap : Gap) → ((g : Gap) → Contains old g → Contains new g) → Covered old gap → Covered new gap
+still_covered old new gap kept v = record { line = v.line; stands = kept v.line v.stands; beside = v.beside; less = v.less }
+
+-- no piece of the list yet
+pub no_neighbour : (size : ℕ) (touch : ℕ → ℕ → Type 0) (numbers : List ℕ) (spans : List Span) (i : ℕ) (old : List Gap) → CoversLines (IsNearLine size touch numbers spans i []) old old
+no_neighbour size touch numbers spans i old = nothing (IsNearLine size touch numbers spans i []) old (λ gap l. absurd (omega (arith, l.stands.1)))
+
+-- one piece of the list more
+pub neighbour_more : (size : ℕ) (touch : ℕ → ℕ → Type 0) (numbers : List ℕ) (spans : List Span) (i j : ℕ) (near : List ℕ) (pair : Pair) (old lines new : List Gap) → pair ≡ pair_in numbers spans i j →
+    CoversLines (IsNearLine size touch numbers spans i near) old lines → CoversLines (IsTouchLine size touch pair) lines new → CoversLines (IsNearLine size touch numbers spans i (near ++ j ∷ [])) old new
+neighbour_more size touch numbers spans i j near pair old lines new e h k' = record { only = λ gap c. there gap (k.only gap c); kept = λ gap c. k.kept gap (h.kept gap c); each = back }
+  where
+    k : CoversLines (IsTouchLine size touch (pair_in numbers spans i j)) lines new
+    k = subst (λ (p : Pair). CoversLines (IsTouchLine size touch p) lines new) e k'
+
+    wider : (gap : Gap) → Contains old gap ⊎ IsNearLine size touch numbers spans i near gap → Contains old gap ⊎ IsNearLine size touch numbers spans i (near ++ j ∷ []) gap
+    wider gap (inl c) = inl c
+    wider gap (inr l) = inr record { piece = l.piece; stands = Contains-append_left near (j ∷ []) l.piece l.stands; near = l.near; pair = l.pair }
+
+    there : (gap : Gap) → Contains lines gap ⊎ IsTouchLine size touch (pair_in numbers spans i j) gap → Contains old gap ⊎ IsNearLine size touch numbers spans i (near ++ j ∷ []) gap
+    there gap (inl c) = wider gap (h.only gap c)
+    there gap (inr l) = inr record { piece = j; stands = Contains-push near j; near = l.near; pair = record { order = l.order; line = l.line } }
+
+    own : (gap : Gap) → IsNear size touch i j → IsPairLine numbers spans i j gap → Covered new gap
+    own gap n l = k.each gap record { near = n; order = l.order; line = l.line }
+
+    back : (gap : Gap) → IsNearLine size touch numbers spans i (near ++ j ∷ []) gap → Covered new gap
+    back gap l = elim (Contains-push_cases near j l.piece l.stands) [
+      | inl o ↦ still_covered lines new gap k.kept (h.each gap record { piece = l.piece; stands = o; near = l.near; pair = l.pair })
+      | inr is ↦ own gap (subst (λ (z : ℕ). IsNear size touch i z) (sym is) l.near) (subst (λ (z : ℕ). IsPairLine numbers spans i z gap) (sym is) l.pair)
+    ]
+
+-- ---- what lines that stand already speak for
+
+pub looked_up : (lines : List Gap) (place : ℕ) (found line : Gap) → slice_get lines place ≡ Some found → IsBeside line found → IsWithLess found line → Covered lines line
+looked_up lines place found line e b l = record { line = found; stands = subst (λ (z : Gap). Contains lines z) (get_or_from_slice_get lines place found found e) (Contains-get_or lines place found (slice_get_within lines place found e)); beside = b; less = l }
+
+pub covered_none : (low high i j top : ℕ) (lines : List Gap) → (gap : Gap) → IsLineOf low high i j top top gap → Covered lines gap
+covered_none low high i j top lines gap l = absurd (omega (arith, l.from_top, l.before_past))
+
+pub covered_more : (low high i j top layer next : ℕ) (lines : List Gap) (line : Gap) → next ≡ layer + 1 → line.layer ≡ layer → line.low ≡ low → line.high ≡ high → line.first ≡ i → line.second ≡ j →
+    Covered lines line → ((gap : Gap) → IsLineOf low high i j top layer gap → Covered lines gap) → (gap : Gap) → IsLineOf low high i j top next gap → Covered lines gap
+covered_more low high i j top layer next lines line e p q r s t now before gap l = elim (cases_eq gap.layer layer) [
+  | inl o ↦ subst (λ (z : Gap). Covered lines z) (same_line line gap (omega (arith, o, p)) (omega (arith, l.low_is, q)) (omega (arith, l.high_is, r)) (omega (arith, l.first_is, s)) (omega (arith, l.second_is, t))) now
+  | inr apart ↦ before gap record { low_is = l.low_is; high_is = l.high_is; first_is = l.first_is; second_is = l.second_is; from_top = l.from_top; before_past = omega (arith, l.before_past) }
+]
+
+pub covered_all : (low high i j top past layer : ℕ) (lines : List Gap) → past ≤ layer → ((gap : Gap) → IsLineOf low high i j top layer gap → Covered lines gap) → (gap : Gap) → IsLineOf low high i j top past gap → Covered lines gap
+covered_all low high i j top past layer lines over h gap l = h gap record { low_is = l.low_is; high_is = l.high_is; first_is = l.first_is; second_is = l.second_is; from_top = l.from_top; before_past = omega (arith, l.before_past) }
 
 -- what is thinned gathers what it did
 pub thinned : (old new : List Gap) → AreFirsts (λ gap. Contains old gap) new → Gathers (λ gap. Contains old gap) new
@@ -177,33 +201,30 @@ IsCollected size touch numbers spans i lines = Gathers (IsBeforeLine size touch 
 pub collected_none : (size : ℕ) (touch : ℕ → ℕ → Type 0) (numbers : List ℕ) (spans : List Span) → IsCollected size touch numbers spans 0 []
 collected_none size touch numbers spans = record { only = λ gap k. absurd (omega (arith, k.1)); each = λ gap h. absurd (omega (arith, h.0)) }
 
-pub collected_more : (size : ℕ) (touch : ℕ → ℕ → Type 0) (numbers : List ℕ) (spans : List Span) (i : ℕ) (near : List ℕ) (old new : List Gap) → Lists (IsNear size touch i) near →
-    IsCollected size touch numbers spans i old → GainsLines (IsNearLine numbers spans i near) old new → IsCollected size touch numbers spans (i + 1) new
-collected_more size touch numbers spans i near old new listed h k = record { only = λ gap c. there gap ((k gap).0 c); each = λ gap l. back gap l.0 l.1 }
+pub collected_more : (size : ℕ) (touch : ℕ → ℕ → Type 0) (numbers : List ℕ) (spans : List Span) (i : ℕ) (near : List ℕ) (old new : List Gap) → ((q : ℕ) → IsNear size touch i q → Contains near q) →
+    IsCollected size touch numbers spans i old → CoversLines (IsNearLine size touch numbers spans i near) old new → IsCollected size touch numbers spans (i + 1) new
+collected_more size touch numbers spans i near old new whole h k = record { only = λ gap c. there gap (k.only gap c); each = λ gap l. back gap l.0 l.1 }
   where
-    there : (gap : Gap) → Contains old gap ⊎ IsNearLine numbers spans i near gap → IsBeforeLine size touch numbers spans (i + 1) gap
+    there : (gap : Gap) → Contains old gap ⊎ IsNearLine size touch numbers spans i near gap → IsBeforeLine size touch numbers spans (i + 1) gap
     there gap (inl c) = (let l = h.only gap c in (omega (arith, l.0), l.1))
     there gap (inr l) =
         let e : i ≡ gap.first = sym l.pair.line.first_is in
         let f : l.piece ≡ gap.second = sym l.pair.line.second_is in
-        let n : IsNear size touch i gap.second = subst (λ (z : ℕ). IsNear size touch i z) f (listed.only l.piece l.stands) in
+        let n : IsNear size touch i gap.second = subst (λ (z : ℕ). IsNear size touch i z) f l.near in
         let p : IsPairLine numbers spans i gap.second gap = subst (λ (z : ℕ). IsPairLine numbers spans i z gap) f l.pair in
         (omega (arith, e), record { near = subst (λ (z : ℕ). IsNear size touch z gap.second) e n; pair = subst (λ (z : ℕ). IsPairLine numbers spans z gap.second gap) e p })
 
-    old_covers : (gap : Gap) → Covered old gap → Covered new gap
-    old_covers gap v = record { line = v.line; stands = (k v.line).1 (inl v.stands); beside = v.beside; less = v.less }
+    own : (gap : Gap) → IsNear size touch i gap.second → IsPairLine numbers spans i gap.second gap → Covered new gap
+    own gap n l = k.each gap record { piece = gap.second; stands = whole gap.second n; near = n; pair = l }
 
     back : (gap : Gap) → gap.first < i + 1 → IsFieldLine size touch numbers spans gap → Covered new gap
     back gap l f = elim (cases_eq gap.first i) [
-      | inl e ↦ itself new gap ((k gap).1 (inr record { piece = gap.second; stands = listed.all gap.second (subst (λ (z : ℕ). IsNear size touch z gap.second) e f.near); pair = subst (λ (z : ℕ). IsPairLine numbers spans z gap.second gap) e f.pair }))
-      | inr apart ↦ old_covers gap (h.each gap (omega arith, f))
+      | inl e ↦ own gap (subst (λ (z : ℕ). IsNear size touch z gap.second) e f.near) (subst (λ (z : ℕ). IsPairLine numbers spans z gap.second gap) e f.pair)
+      | inr apart ↦ still_covered old new gap k.kept (h.each gap (omega arith, f))
     ]
 
 pub collected_all : (size : ℕ) (touch : ℕ → ℕ → Type 0) (numbers : List ℕ) (spans : List Span) (i : ℕ) (lines gaps : List Gap) → size ≤ i → IsCollected size touch numbers spans i lines → AreFirsts (λ gap. Contains lines gap) gaps → AreFirsts (IsFieldLine size touch numbers spans) gaps
 collected_all size touch numbers spans i lines gaps past h f = firsts_on (IsFieldLine size touch numbers spans) lines gaps record { only = λ gap k. (h.only gap k).1; each = λ gap l. h.each gap (omega (arith, l.near.first), l) } f
-
-pub near_known : (size count : ℕ) (touch : ℕ → ℕ → Type 0) (i : ℕ) (near : List ℕ) → count ≡ size → Lists (IsNear size touch i) near → All (λ j. j < count) near
-near_known size count touch i near e listed k d l = (let n : IsNear size touch i (get_or near k d) = listed.only (get_or near k d) (Contains-get_or near k d l) in omega (arith, n.second))
 
 -- ---- tests
 
@@ -219,3 +240,14 @@ one_row w i old tests new h k = (let one : i + 1 ≡ suc i = omega arith in let 
 
 pub rows_within : (w : ℕ → ℕ) (i n old new : ℕ) → i ≤ n → new ≤ old + sum_below w i → new ≤ old + sum_below w n
 rows_within w i n old new within h = (let e = sum_grows w i n within in omega (arith, h, e))
+
+-- the tests of a list of pieces, up to one of them
+pub tested_within : (box : ℕ → Bounds) (top bottom : ℕ → ℕ) (near : List ℕ) (n i k q start before after : ℕ) → All (λ j. j < n) near → k < length near → q ≡ get_or near k 0 →
+    before ≤ start + rivals_of (next_of near n k) box top bottom i → after ≤ before + (if is_rival box top bottom i q then 1 else 0) → after ≤ start + rivals_of n box top bottom i
+tested_within box top bottom near n i k q start before after known inside is so_far step =
+    let at : next_of near n k ≡ q = get_or_default near k n 0 inside ∙ sym is in
+    let small : q < n = subst (λ (x : ℕ). x < n) (sym is) (known k 0 inside) in
+    rivals_within n box top bottom i q start before after (subst (λ (m : ℕ). before ≤ start + rivals_of m box top bottom i) at so_far) step small
+
+pub tested_all : (box : ℕ → Bounds) (top bottom : ℕ → ℕ) (near : List ℕ) (n i k start after : ℕ) → length near ≤ k → after ≤ start + rivals_of (next_of near n k) box top bottom i → after ≤ start + rivals_of n box top bottom i
+tested_all box top bottom near n i k start after past h = subst (λ (m : ℕ). after ≤ start + rivals_of m box top bottom i) (get_or_past near k n past) h

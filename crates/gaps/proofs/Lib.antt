@@ -4,7 +4,6 @@ pub mod Bridge
 pub mod Fills
 pub mod Frames
 pub mod Leasts
-pub mod Numbering
 pub mod OneList
 pub mod Sorting
 pub mod Told

@@ -1,5 +1,6 @@
 -- The lines that a loop over pairs of pieces collects.
 use Rattle.std.specs.Prelude.{ℕ, List, ◌+◌, ◌<◌, ◌≤◌, ◌≡◌, ◌⊎◌, ◌↔◌, Contains, max, min, slice_index_or}
+use Rattle.gaps.specs.declared.found.Pair.{Pair}
 use Rattle.gaps.specs.declared.meetings.Span.{Span}
 use Rattle.cell_index.specs.Field.{IsNear}
 use Rattle.gaps.specs.declared.gap.Gap.{Gap}
@@ -25,15 +26,26 @@ net_of numbers i = slice_index_or numbers i 0
 abbrev pub span_of : List Span → ℕ → Span
 span_of spans i = slice_index_or spans i (record { top = 0; bottom = 0 })
 
+-- pieces i and j with their nets, and the layers of both spans
+abbrev pub pair_in : List ℕ → List Span → ℕ → ℕ → Pair
+pair_in numbers spans i j = record { low = net_of numbers i; high = net_of numbers j; first = i; second = j; top = max (span_of spans i).top (span_of spans j).top; bottom = min (span_of spans i).bottom (span_of spans j).bottom }
+
 -- piece j stands in a higher net than piece i, and the line is theirs on a layer of both spans
 pub record IsPairLine (numbers : List ℕ) (spans : List Span) (i j : ℕ) (gap : Gap) : Type 0 where
   pub order : net_of numbers i < net_of numbers j
   pub line : IsLineOf (net_of numbers i) (net_of numbers j) i j (max (span_of spans i).top (span_of spans j).top) (min (span_of spans i).bottom (span_of spans j).bottom + 1) gap
 
--- the line is that of piece i and a piece of the list
-pub record IsNearLine (numbers : List ℕ) (spans : List Span) (i : ℕ) (near : List ℕ) (gap : Gap) : Type 0 where
+-- two pieces touch, the second stands in the higher net, and the line is theirs
+pub record IsTouchLine (size : ℕ) (touch : ℕ → ℕ → Type 0) (pair : Pair) (gap : Gap) : Type 0 where
+  pub near : IsNear size touch pair.first pair.second
+  pub order : pair.low < pair.high
+  pub line : IsLineOf pair.low pair.high pair.first pair.second pair.top (pair.bottom + 1) gap
+
+-- the line is that of piece i and a piece of the list that touches it
+pub record IsNearLine (size : ℕ) (touch : ℕ → ℕ → Type 0) (numbers : List ℕ) (spans : List Span) (i : ℕ) (list : List ℕ) (gap : Gap) : Type 0 where
   pub piece : ℕ
-  pub stands : Contains near piece
+  pub stands : Contains list piece
+  pub near : IsNear size touch i piece
   pub pair : IsPairLine numbers spans i piece gap
 
 -- two other pieces of a field touch, the second stands in a higher net, and the line is theirs
@@ -47,6 +59,12 @@ pub record Covered (lines : List Gap) (gap : Gap) : Type 0 where
   pub stands : Contains lines line
   pub beside : IsBeside gap line
   pub less : IsWithLess line gap
+
+-- the new list has what the old one has and some lines of P, and for each line of P one beside it that has no greater pieces
+pub record CoversLines (P : Gap → Type 0) (old new : List Gap) : Type 0 where
+  pub only : (gap : Gap) → Contains new gap → Contains old gap ⊎ P gap
+  pub kept : (gap : Gap) → Contains old gap → Contains new gap
+  pub each : (gap : Gap) → P gap → Covered new gap
 
 -- the list has lines of P alone, and for each line of P one beside it that has no greater pieces
 pub record Gathers (P : Gap → Type 0) (lines : List Gap) : Type 0 where

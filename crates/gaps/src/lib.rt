@@ -8,8 +8,8 @@
 //! - `listing`: the list of the gaps of a board.
 //! - `text`: its text.
 //! - `gap`: a line of the list, and lines in order.
+//! - `found`: the lines that were found, and where they stand.
 //! - `meetings`: the lines of all pieces of different nets that come close.
-//! - `numbers`: the net of each piece.
 //! - `fats`: the pieces of a board, grown.
 //! - `grown_box`: their common box.
 //! - `grown`: the grown shape as a solid.
@@ -23,6 +23,7 @@ ghost use Rattle.gaps.specs.Grown.{IsGrowth};
 
 mod areas;
 mod fats;
+mod found;
 mod gap;
 mod grown;
 mod grown_box;
@@ -30,7 +31,6 @@ pub mod laws;
 mod lines;
 mod listing;
 mod meetings;
-mod numbers;
 mod strokes;
 mod text;
 

@@ -1,11 +1,15 @@
 //! The lines of all pieces of different nets that come close, in any order.
-ghost use Rattle.cell_index.specs.Field.{rivals_of, sum_below};
+ghost use Rattle.cell_index.specs.Among.{TouchAmong, bottom_in, extent_in, top_in};
+ghost use Rattle.cell_index.specs.Field.{is_rival, rivals_of, sum_below};
 ghost use Rattle.gaps.specs.Firsts.{AreFirsts};
-ghost use Rattle.gaps.specs.Meetings.{GainsLines, Gathers, IsFieldLine, IsLineOf, IsNearLine, IsPairLine};
-ghost use Rattle.std.specs.Prelude.{All, Contains, IfOk, OnOk, length, max, min, ◌+◌, ◌<◌, ◌≡◌, ◌≤◌};
+ghost use Rattle.gaps.specs.Meetings.{CoversLines, IsFieldLine, IsNearLine, IsTouchLine, pair_in};
+ghost use Rattle.std.specs.List.Sorted.{IsStrictlyIncreasing};
+ghost use Rattle.std.specs.Prelude.{All, IfOk, OnOk, if◌then◌else◌, length, max, min, ◌+◌, ◌<◌, ◌≡◌, ◌≤◌};
 
-use super::gap::{Gap, keep_firsts};
-use cell_index::Field;
+use super::found::{Found, Pair};
+use super::gap::Gap;
+use cell_index::{Cells, Field};
+use contact::Meets;
 use lengths::NoMemory;
 use std::alloc::Global;
 use std::sync::ledger::Ledger;
@@ -18,116 +22,97 @@ pub struct Span {
     pub bottom: u8,
 }
 
-/// Adds the lines of piece `first` of the net `low` and piece `second` of the net `high`: one for each
-/// layer of both spans.
-pub fn add_lines(
-    into: &mut Vec<Gap>,
-    span: Span,
-    other: Span,
-    low: u32,
-    high: u32,
-    first: u32,
-    second: u32,
-) -> Result<(), NoMemory>
-    ensures { OnOk result (GainsLines (IsLineOf low high first second (max span.top other.top) (min span.bottom other.bottom + 1)) into.old.items into.new.items) }
-{
-    let top = span.top.max(other.top) as u16;
-    let past = span.bottom.min(other.bottom) as u16 + 1;
-    let mut layer = top;
-    while layer < past {
-        into.push(Gap {
-            layer: layer as u8,
-            low,
-            high,
-            first,
-            second,
-        })?;
-        layer += 1;
-    }
-    Ok(())
-}
-
-/// Adds the lines of pieces `i` and `j` where `j` stands in the higher net.
-fn add_pair(
-    into: &mut Vec<Gap>,
-    i: u32,
-    j: u32,
-    numbers: &[u32],
-    spans: &[Span],
-) -> Result<(), NoMemory>
+/// Pieces `i` and `j`, with their nets and the layers of both spans.
+fn pair_of(i: u32, j: u32, numbers: &[u32], spans: &[Span]) -> Pair
     requires first { i < length spans.now }
     requires second { j < length spans.now }
     requires numbered { length numbers.now ≡ length spans.now }
-    ensures { OnOk result (GainsLines (IsPairLine numbers.now spans.now i j) into.old.items into.new.items) }
+    ensures { result ≡ pair_in numbers.now spans.now i j }
 {
-    let low = numbers[i as usize];
-    let high = numbers[j as usize];
-    if low >= high {
-        return Ok(());
-    }
     let span = spans[i as usize];
     let other = spans[j as usize];
-    add_lines(into, span, other, low, high, i, j)?;
+    Pair {
+        low: numbers[i as usize],
+        high: numbers[j as usize],
+        first: i,
+        second: j,
+        top: span.top.max(other.top),
+        bottom: span.bottom.min(other.bottom),
+    }
+}
+
+/// Adds the lines of the pair where its pieces touch and the second stands in the higher net, or
+/// where lines that stand already speak for them, leaves it at that.
+fn add_pair<'a, S: Meets<S>, L: Ledger>(
+    field: &Cells<'a, S>,
+    pair: &Pair,
+    found: &mut Found,
+    tests: &mut Steps<L>,
+) -> Result<(), NoMemory>
+    requires first { pair.now.first < length field.now.items.now }
+    requires second { pair.now.second < length field.now.items.now }
+    ensures lines { OnOk result (CoversLines (IsTouchLine (length field.now.items.now) (TouchAmong S.holds field.now.items.now) pair.now) found.old.lines.items found.new.lines.items) }
+    ensures ticks { tests.new ≤ tests.old + (if is_rival (extent_in S.extent field.now.items.now) (top_in field.now.items.now) (bottom_in field.now.items.now) pair.now.first pair.now.second then 1 else 0) }
+{
+    if pair.low >= pair.high || found.covers_all(pair) {
+        return Ok(());
+    }
+    if !field.touches(pair.first as usize, pair.second as usize, tests) {
+        return Ok(());
+    }
+    found.add(pair)?;
     Ok(())
 }
 
-/// Adds the lines of piece `i` and those of the pieces of the list that stand in higher nets.
-pub fn add_neighbours(
-    into: &mut Vec<Gap>,
+/// Adds the lines of piece `i` and those of the list that touch it and stand in higher nets, but
+/// for those that lines which stand already speak for.
+fn add_piece<'a, S: Meets<S>, L: Ledger>(
+    field: &Cells<'a, S>,
     i: u32,
     near: &[u32],
     numbers: &[u32],
     spans: &[Span],
+    found: &mut Found,
+    tests: &mut Steps<L>,
 ) -> Result<(), NoMemory>
-    requires first { i < length spans.now }
-    requires known { All (λ j. j < length spans.now) near.now }
-    requires numbered { length numbers.now ≡ length spans.now }
-    ensures { OnOk result (GainsLines (IsNearLine numbers.now spans.now i near.now) into.old.items into.new.items) }
+    requires first { i < length field.now.items.now }
+    requires known { All (λ j. j < length field.now.items.now) near.now }
+    requires rising { IsStrictlyIncreasing near.now }
+    requires numbered { length numbers.now ≡ length field.now.items.now }
+    requires spanned { length spans.now ≡ length field.now.items.now }
+    ensures lines { OnOk result (CoversLines (IsNearLine (length field.now.items.now) (TouchAmong S.holds field.now.items.now) numbers.now spans.now i near.now) found.old.lines.items found.new.lines.items) }
+    ensures ticks { tests.new ≤ tests.old + rivals_of (length field.now.items.now) (extent_in S.extent field.now.items.now) (top_in field.now.items.now) (bottom_in field.now.items.now) i }
 {
     for j in near {
-        add_pair(into, i, *j, numbers, spans)?;
+        let pair = pair_of(i, *j, numbers, spans);
+        add_pair(field, &pair, found, tests)?;
     }
     Ok(())
 }
 
-/// How many lines stand before they are thinned.
-const FEW: usize = 65_536;
-
-/// Where there are as many lines as `most`, keeps of each layer and two nets the least; how many lines
-/// may stand from then on.
-fn thin(lines: &mut Vec<Gap>, most: usize) -> usize
-    ensures { Gathers (Contains lines.old.items) lines.new.items }
-{
-    if lines.len() < most {
-        return most;
-    }
-    keep_firsts(lines);
-    lines.len().saturating_mul(2).max(FEW)
-}
-
 /// Of all lines of pieces of a field that touch and stand in different nets, the lower first, on each
-/// layer of both spans, the least of each layer and two nets, in order. Memory is taken for twice the
-/// lines that are given, and for those of one piece.
-pub fn meetings<F: Field, L: Ledger>(
+/// layer of both spans, the least of each layer and two nets, in order. Pieces are not tested where a
+/// line that was found speaks for theirs. Memory is taken for twice the lines that are given, and for
+/// those of one piece.
+pub fn meetings<'a, S: Meets<S>, L: Ledger>(
     alloc: Global,
-    field: &F,
+    field: &Cells<'a, S>,
     numbers: &[u32],
     spans: &[Span],
     tests: &mut Steps<L>,
 ) -> Result<Vec<Gap>, NoMemory>
-    requires numbered { length numbers.now ≡ F.size field.now }
-    requires spanned { length spans.now ≡ F.size field.now }
-    ensures gaps { IfOk result (λ gaps. AreFirsts (IsFieldLine (F.size field.now) (F.touch field.now) numbers.now spans.now) gaps.items) }
-    ensures ticks { tests.new ≤ tests.old + sum_below (rivals_of (F.size field.now) (F.extent field.now) (F.top field.now) (F.bottom field.now)) (F.size field.now) }
+    requires numbered { length numbers.now ≡ length field.now.items.now }
+    requires spanned { length spans.now ≡ length field.now.items.now }
+    ensures gaps { IfOk result (λ gaps. AreFirsts (IsFieldLine (length field.now.items.now) (TouchAmong S.holds field.now.items.now) numbers.now spans.now) gaps.items) }
+    ensures ticks { tests.new ≤ tests.old + sum_below (rivals_of (length field.now.items.now) (extent_in S.extent field.now.items.now) (top_in field.now.items.now) (bottom_in field.now.items.now)) (length field.now.items.now) }
 {
-    let mut into = Vec::new(alloc);
+    let mut found = Found::new(alloc, field.count())?;
     let mut near = Vec::new(alloc);
-    let mut most = FEW;
+    let mut most = 0;
     for i in 0..field.count() {
-        field.neighbours(i, &mut near, tests)?;
-        add_neighbours(&mut into, i as u32, &near, numbers, spans)?;
-        most = thin(&mut into, most);
+        field.candidates(i, &mut near)?;
+        add_piece(field, i as u32, &near, numbers, spans, &mut found, tests)?;
+        most = found.thin(most);
     }
-    keep_firsts(&mut into);
-    Ok(into)
+    Ok(found.firsts())
 }

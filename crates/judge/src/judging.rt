@@ -9,13 +9,13 @@ ghost use Rattle.verdict.specs.Forest.{IsForest};
 ghost use Rattle.verdict.specs.Right.{IsRight};
 
 use crate::marks::marks_of;
-use crate::numbers::numbers_of;
 use crate::opens::opens_of;
 use crate::points::{bare_of, lines_of};
 use crate::seats::seats_of;
 use crate::shorts::shorts_of;
 use board_shapes::Board;
 use lengths::{NoMemory, Rows, Text};
+use net_numbers::numbers_of;
 use std::alloc::Global;
 use verdict::{Trees, Verdict};
 

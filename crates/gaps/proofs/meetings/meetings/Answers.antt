@@ -1,44 +1,48 @@
-use Rattle.std.proofs.Common.{◌≡◌, [], All, List, length, ◌<◌, ◌+◌, ℕ, arith, rules, subst, sym}
+use Rattle.std.proofs.Common.{◌≡◌, All, List, length, ◌<◌, ◌+◌, ℕ, Contains, arith, rules, subst, sym}
+use Rattle.std.specs.List.Sorted.{IsStrictlyIncreasing}
+use Rattle.cell_index.specs.Among.{TouchAmong, bottom_in, extent_in, top_in}
 use Rattle.cell_index.specs.Field.{IsNear, rivals_of}
-use Rattle.tables.specs.Lists.{Lists}
 use Rattle.gaps.specs.declared.gap.Gap.{Gap}
-use Rattle.gaps.proofs.Collecting.{IsCollected, collected_all, collected_more, collected_none, gathers_on, near_known, one_row, rows_within}
+use Rattle.gaps.proofs.Collecting.{IsCollected, collected_all, collected_more, collected_none, gathers_on, one_row, rows_within}
 use Rattle.gaps.proofs.meetings.meetings.Goals as goal
 
 pub loop-i-init : goal.loop-i-init
-loop-i-init g c =
-    let e : c.new-into.result.items ≡ [] = search rules in (
-      subst (λ (xs : List Gap). IsCollected (g.F.Field.size c.args.field.now) (g.F.Field.touch c.args.field.now) c.args.numbers.now c.args.spans.now 0 xs) (sym e)
-          (collected_none (g.F.Field.size c.args.field.now) (g.F.Field.touch c.args.field.now) c.args.numbers.now c.args.spans.now),
-      omega arith,
-      omega arith,
-    )
+loop-i-init g c = (
+  subst (λ (xs : List Gap). IsCollected (length c.args.field.now.items.now) (TouchAmong g.S.Closed.holds c.args.field.now.items.now) c.args.numbers.now c.args.spans.now 0 xs) (sym c.in_ok-found.ensures) (collected_none (length c.args.field.now.items.now) (TouchAmong g.S.Closed.holds c.args.field.now.items.now) c.args.numbers.now c.args.spans.now),
+  omega arith,
+  omega arith,
+)
 
-pub add_neighbours-requires-clause-known : goal.add_neighbours-requires-clause-known
-add_neighbours-requires-clause-known g c =
-    let e : c.deref.result.now ≡ c.neighbours.new.into.items = search rules in
-    subst (λ (xs : List ℕ). All (λ j. j < length c.args.spans.now) xs) (sym e)
-    (near_known (g.F.Field.size c.args.field.now) (length c.args.spans.now) (g.F.Field.touch c.args.field.now) c.loop-i.i c.neighbours.new.into.items c.requires.spanned c.in_ok-neighbours.ensures.near)
+pub add_piece-requires-clause-known : goal.add_piece-requires-clause-known
+add_piece-requires-clause-known g c =
+    let e : c.deref.result.now ≡ c.candidates.new.into.items = search rules in
+    subst (λ (xs : List ℕ). All (λ j. j < length c.args.field.now.items.now) xs) (sym e) c.in_ok-candidates.ensures.known
+
+pub add_piece-requires-clause-rising : goal.add_piece-requires-clause-rising
+add_piece-requires-clause-rising g c =
+    let e : c.deref.result.now ≡ c.candidates.new.into.items = search rules in
+    subst (λ (xs : List ℕ). IsStrictlyIncreasing xs) (sym e) c.in_ok-candidates.ensures.rising
 
 pub loop-i-preserved : goal.loop-i-preserved
 loop-i-preserved g c =
-    let e : c.deref.result.now ≡ c.neighbours.new.into.items = search rules in (
-      gathers_on c.add_neighbours.new.into.items c.thin-most.new.lines.items
-          (collected_more (g.F.Field.size c.args.field.now) (g.F.Field.touch c.args.field.now) c.args.numbers.now c.args.spans.now c.loop-i.i c.deref.result.now c.loop-i.into.items c.add_neighbours.new.into.items
-          (subst (λ (xs : List ℕ). Lists (IsNear (g.F.Field.size c.args.field.now) (g.F.Field.touch c.args.field.now) c.loop-i.i) xs) (sym e) c.in_ok-neighbours.ensures.near) c.loop-i.invariant.0 c.in_ok-add_neighbours.ensures) c.thin-most.ensures,
+    let e : c.deref.result.now ≡ c.candidates.new.into.items = search rules in (
+      gathers_on c.add_piece.new.found.lines.items c.thin-most.new.self.lines.items
+          (collected_more (length c.args.field.now.items.now) (TouchAmong g.S.Closed.holds c.args.field.now.items.now) c.args.numbers.now c.args.spans.now c.loop-i.i c.deref.result.now c.loop-i.found.lines.items c.add_piece.new.found.lines.items
+          (subst (λ (xs : List ℕ). (q : ℕ) → IsNear (length c.args.field.now.items.now) (TouchAmong g.S.Closed.holds c.args.field.now.items.now) c.loop-i.i q → Contains xs q) (sym e) c.in_ok-candidates.ensures.near) c.loop-i.invariant.0 c.in_ok-add_piece.ensures.lines) c.thin-most.ensures,
       omega arith,
-      one_row (rivals_of (g.F.Field.size c.args.field.now) (g.F.Field.extent c.args.field.now) (g.F.Field.top c.args.field.now) (g.F.Field.bottom c.args.field.now)) c.loop-i.i _ _ _ c.loop-i.invariant.2 c.in_ok-neighbours.ensures.ticks,
+      one_row (rivals_of (length c.args.field.now.items.now) (extent_in g.S.Closed.extent c.args.field.now.items.now) (top_in c.args.field.now.items.now) (bottom_in c.args.field.now.items.now)) c.loop-i.i _ _ _ c.loop-i.invariant.2 c.add_piece.ensures.ticks,
     )
 
 pub returns-clause-gaps : goal.returns-clause-gaps
-returns-clause-gaps g c = collected_all (g.F.Field.size c.args.field.now) (g.F.Field.touch c.args.field.now) c.args.numbers.now c.args.spans.now c.loop-i.i c.loop-i.into.items c.keep_firsts.new.lines.items (omega arith) c.loop-i.invariant.0 c.keep_firsts.ensures
+returns-clause-gaps g c = collected_all (length c.args.field.now.items.now) (TouchAmong g.S.Closed.holds c.args.field.now.items.now) c.args.numbers.now c.args.spans.now c.loop-i.i c.loop-i.found.lines.items c.firsts.result.items (omega arith) c.loop-i.invariant.0 c.firsts.ensures
 
-pub returns-in_err-neighbours-clause-ticks : goal.returns-in_err-neighbours-clause-ticks
-returns-in_err-neighbours-clause-ticks g c =
-    rows_within (rivals_of (g.F.Field.size c.args.field.now) (g.F.Field.extent c.args.field.now) (g.F.Field.top c.args.field.now) (g.F.Field.bottom c.args.field.now)) (c.loop-i.i + 1) (g.F.Field.size c.args.field.now) _ _ (omega arith)
-    (one_row (rivals_of (g.F.Field.size c.args.field.now) (g.F.Field.extent c.args.field.now) (g.F.Field.top c.args.field.now) (g.F.Field.bottom c.args.field.now)) c.loop-i.i _ _ _ c.loop-i.invariant.2 c.neighbours.ensures.ticks)
+pub returns-clause-ticks : goal.returns-clause-ticks
+returns-clause-ticks g c = rows_within (rivals_of (length c.args.field.now.items.now) (extent_in g.S.Closed.extent c.args.field.now.items.now) (top_in c.args.field.now.items.now) (bottom_in c.args.field.now.items.now)) c.loop-i.i (length c.args.field.now.items.now) _ _ (omega arith) c.loop-i.invariant.2
 
-pub returns-in_err-add_neighbours-clause-ticks : goal.returns-in_err-add_neighbours-clause-ticks
-returns-in_err-add_neighbours-clause-ticks g c =
-    rows_within (rivals_of (g.F.Field.size c.args.field.now) (g.F.Field.extent c.args.field.now) (g.F.Field.top c.args.field.now) (g.F.Field.bottom c.args.field.now)) (c.loop-i.i + 1) (g.F.Field.size c.args.field.now) _ _ (omega arith)
-    (one_row (rivals_of (g.F.Field.size c.args.field.now) (g.F.Field.extent c.args.field.now) (g.F.Field.top c.args.field.now) (g.F.Field.bottom c.args.field.now)) c.loop-i.i _ _ _ c.loop-i.invariant.2 c.neighbours.ensures.ticks)
+pub returns-in_err-candidates-clause-ticks : goal.returns-in_err-candidates-clause-ticks
+returns-in_err-candidates-clause-ticks g c = rows_within (rivals_of (length c.args.field.now.items.now) (extent_in g.S.Closed.extent c.args.field.now.items.now) (top_in c.args.field.now.items.now) (bottom_in c.args.field.now.items.now)) c.loop-i.i (length c.args.field.now.items.now) _ _ (omega arith) c.loop-i.invariant.2
+
+pub returns-in_err-add_piece-clause-ticks : goal.returns-in_err-add_piece-clause-ticks
+returns-in_err-add_piece-clause-ticks g c =
+    rows_within (rivals_of (length c.args.field.now.items.now) (extent_in g.S.Closed.extent c.args.field.now.items.now) (top_in c.args.field.now.items.now) (bottom_in c.args.field.now.items.now)) (c.loop-i.i + 1) (length c.args.field.now.items.now) _ _ (omega arith)
+    (one_row (rivals_of (length c.args.field.now.items.now) (extent_in g.S.Closed.extent c.args.field.now.items.now) (top_in c.args.field.now.items.now) (bottom_in c.args.field.now.items.now)) c.loop-i.i _ _ _ c.loop-i.invariant.2 c.add_piece.ensures.ticks)

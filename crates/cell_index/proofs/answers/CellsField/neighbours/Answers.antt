@@ -1,10 +1,8 @@
 use Rattle.std.proofs.Common.{length}
 use Rattle.cell_index.specs.Among.{TouchAmong}
 use Rattle.cell_index.specs.Field.{IsNear}
-use Rattle.cell_index.proofs.Whole.{finds_near, near_listed}
+use Rattle.cell_index.proofs.Whole.{near_listed}
 use Rattle.cell_index.proofs.answers.CellsField.neighbours.Goals as goal
 
 pub returns-clause-near : goal.returns-clause-near
-returns-clause-near g c = near_listed (IsNear (length c.args.self.now.items.now) (TouchAmong g.S.Closed.holds c.args.self.now.items.now) c.args.i) c.met.new.into.items c.keep_near.new.into.items
-    (finds_near g.S.Closed.holds c.args.self.now.items.now c.args.self.now.finer.copies.items c.args.i c.met.new.into.items c.args.self.now.copied c.args.self.now.met c.in_ok-met.ensures.met)
-    c.keep_near.ensures.near
+returns-clause-near g c = near_listed (IsNear (length c.args.self.now.items.now) (TouchAmong g.S.Closed.holds c.args.self.now.items.now) c.args.i) c.candidates.new.into.items c.keep_near.new.into.items c.in_ok-candidates.ensures.near c.keep_near.ensures.near

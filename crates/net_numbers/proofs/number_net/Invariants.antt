@@ -1,5 +1,5 @@
-use Rattle.judge.proofs.Numbering.{IsNumbered}
-use Rattle.judge.proofs.numbers.number_net.Given as goal
+use Rattle.net_numbers.proofs.Numbering.{IsNumbered}
+use Rattle.net_numbers.proofs.number_net.Given as goal
 
 abbrev pub invariant-loop-twig : goal.invariant-loop-twig
 invariant-loop-twig l = IsNumbered l.net l.number l.initial.numbers l.twig-index l.numbers

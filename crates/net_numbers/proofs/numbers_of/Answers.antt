@@ -1,6 +1,6 @@
 use Rattle.std.proofs.Common.{ℕ, List, arith, get_or, ◌∙◌, ap}
 use Rattle.std.proofs.lemmas.List.{with_items_is}
-use Rattle.gaps.proofs.numbers.numbers_of.Goals as goal
+use Rattle.net_numbers.proofs.numbers_of.Goals as goal
 
 pub number_nets-requires-clause-known : goal.number_nets-requires-clause-known
 number_nets-requires-clause-known c = λ i p h. let e = c.requires.known i p h in let f = c.as_mut_slice.ensures.len in let g = c.in_ok-numbers.ensures.len in omega arith

@@ -2,9 +2,9 @@ use Rattle.std.proofs.Common.{◌≡◌, List, [], arith, sym, subst, Contains, 
 use Rattle.std.proofs.lemmas.List.{get_or_read}
 use Rattle.verdict.specs.declared.verdict.Twig.{Twig}
 use Rattle.verdict.specs.Forest.{pieces_of, net_at}
-use Rattle.judge.proofs.Numbering.{numbers_more}
+use Rattle.net_numbers.proofs.Numbering.{numbers_more}
 use Rattle.verdict.proofs.Holding.{held_within}
-use Rattle.judge.proofs.numbers.number_nets.Goals as goal
+use Rattle.net_numbers.proofs.number_nets.Goals as goal
 
 pub number_net-requires : goal.number_net-requires
 number_net-requires c = λ p h.

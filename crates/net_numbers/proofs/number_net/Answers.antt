@@ -1,7 +1,7 @@
 use Rattle.std.proofs.Common.{arith}
-use Rattle.judge.proofs.Numbering.{numbered_more, numbered_inside, numbered_outside}
+use Rattle.net_numbers.proofs.Numbering.{numbered_more, numbered_inside, numbered_outside}
 use Rattle.verdict.proofs.Holding.{piece_read, piece_held}
-use Rattle.judge.proofs.numbers.number_net.Goals as goal
+use Rattle.net_numbers.proofs.number_net.Goals as goal
 
 pub bounds-numbers-twig : goal.bounds-numbers-twig
 bounds-numbers-twig c =

@@ -1,4 +1,6 @@
-// The net of each piece.
+//! The number of the net of each piece of a board, from the trees of its nets.
+#![tactic(auto)]
+
 ghost use Rattle.std.specs.Prelude.{◌≡◌, ℕ, ◌<◌, ◌^◌, length, Contains, slice_index_or, IfOk};
 ghost use Rattle.verdict.specs.Forest.{Holds, pieces_of};
 
@@ -6,7 +8,7 @@ use lengths::NoMemory;
 use std::alloc::Global;
 use verdict::{Tree, Twig};
 
-/// For each piece the number of its net.
+/// For each piece the number of its net. The trees hold each piece at most once, and there are fewer than 2^32 of them.
 pub fn numbers_of(alloc: Global, nets: &[Tree], count: usize) -> Result<Vec<u32>, NoMemory>
     requires few { length nets.now < 2 ^ 32 }
     requires known { (i piece : ℕ) → Holds nets.now i piece → piece < count }

@@ -1,0 +1,141 @@
+//! The lines that were found, and where a line of a layer and two nets stands among them.
+ghost use Rattle.gaps.specs.Firsts.{AreFirsts};
+ghost use Rattle.gaps.specs.Meetings.{Covered, GainsLines, Gathers, IsLineOf};
+ghost use Rattle.gaps.specs.declared.gap.Gap.{Gap};
+ghost use Rattle.std.specs.Prelude.{Contains, IfOk, IsTrue, OnOk, length, [], ◌+◌, ◌++◌, ◌<◌, ◌≡◌, ◌∷◌};
+
+use super::gap::{Gap, keep_firsts};
+use lengths::NoMemory;
+use std::alloc::Global;
+
+/// How many lines stand before they are thinned.
+const FEW: usize = 65_536;
+
+/// Two pieces, the lower net and the higher, and the layers of both spans: from `top` to `bottom`.
+#[derive(Clone, Copy)]
+pub struct Pair {
+    pub low: u32,
+    pub high: u32,
+    pub first: u32,
+    pub second: u32,
+    pub top: u8,
+    pub bottom: u8,
+}
+
+impl Pair {
+    /// The line of the pair on a layer.
+    fn line(&self, layer: u8) -> Gap
+        ensures layer { result.layer ≡ layer }
+        ensures low { result.low ≡ self.now.low }
+        ensures high { result.high ≡ self.now.high }
+        ensures first { result.first ≡ self.now.first }
+        ensures second { result.second ≡ self.now.second }
+    {
+        Gap {
+            layer,
+            low: self.low,
+            high: self.high,
+            first: self.first,
+            second: self.second,
+        }
+    }
+}
+
+/// Lines, and for a layer and two nets the place of the last line of theirs. Several may share an entry, and places change
+/// when lines are thinned: so an entry is a guess, and the line that stands at the place is compared.
+#[derive(Drop)]
+pub struct Found {
+    pub lines: Vec<Gap>,
+    pub entries: Vec<usize>,
+    ghost some: { 0 < length entries.items },
+}
+
+impl Found {
+    /// No lines yet, with two entries a piece.
+    pub fn new(alloc: Global, pieces: usize) -> Result<Found, NoMemory>
+        ensures { IfOk result (λ found. found.lines.items ≡ []) }
+    {
+        let many = pieces.saturating_mul(2).max(1);
+        let entries = vec![in alloc; 0; many]?;
+        let lines = Vec::new(alloc);
+        Ok(Found { lines, entries })
+    }
+
+    /// The entry of the line's layer and nets.
+    fn entry(&self, line: &Gap) -> usize
+        ensures { result < length self.now.entries.items }
+    {
+        let mixed = line.low as u64 * 1_000_003 + line.high as u64 * 64 + line.layer as u64;
+        (mixed % self.entries.len() as u64) as usize
+    }
+
+    /// Whether a line of the same layer and nets that has no greater pieces was looked up.
+    fn covers(&self, line: &Gap) -> bool
+        ensures { IsTrue result → Covered self.now.lines.items line.now }
+    {
+        let place = self.entries[self.entry(line)];
+        match self.lines.get(place) {
+            Some(found) => found.speaks_for(line),
+            None => false,
+        }
+    }
+
+    /// Whether this is so for each line of the pair.
+    pub fn covers_all(&self, pair: &Pair) -> bool
+        ensures { IsTrue result → (gap : Gap) → IsLineOf pair.now.low pair.now.high pair.now.first pair.now.second pair.now.top (pair.now.bottom + 1) gap → Covered self.now.lines.items gap }
+    {
+        let past = pair.bottom as u16 + 1;
+        let mut layer = pair.top as u16;
+        while layer < past {
+            if !self.covers(&pair.line(layer as u8)) {
+                return false;
+            }
+            layer += 1;
+        }
+        true
+    }
+
+    /// Adds a line.
+    fn push(&mut self, line: Gap) -> Result<(), NoMemory>
+        ensures { OnOk result (self.new.lines.items ≡ self.old.lines.items ++ line ∷ []) }
+    {
+        let entry = self.entry(&line);
+        self.entries[entry] = self.lines.len();
+        self.lines.push(line)?;
+        Ok(())
+    }
+
+    /// Adds the lines of the pair: one for each layer.
+    pub fn add(&mut self, pair: &Pair) -> Result<(), NoMemory>
+        ensures { OnOk result (GainsLines (IsLineOf pair.now.low pair.now.high pair.now.first pair.now.second pair.now.top (pair.now.bottom + 1)) self.old.lines.items self.new.lines.items) }
+    {
+        let past = pair.bottom as u16 + 1;
+        let mut layer = pair.top as u16;
+        while layer < past {
+            self.push(pair.line(layer as u8))?;
+            layer += 1;
+        }
+        Ok(())
+    }
+
+    /// Where there are as many lines as `most` and as `FEW`, keeps of each layer and two nets the least; how many lines may
+    /// stand from then on.
+    pub fn thin(&mut self, most: usize) -> usize
+        ensures { Gathers (Contains self.old.lines.items) self.new.lines.items }
+    {
+        if self.lines.len() < most.max(FEW) {
+            return most;
+        }
+        keep_firsts(&mut self.lines);
+        self.lines.len().saturating_mul(2)
+    }
+
+    /// The least of each layer and two nets, in order.
+    pub fn firsts(self) -> Vec<Gap>
+        ensures { AreFirsts (Contains self.lines.items) result.items }
+    {
+        let mut lines = self.lines;
+        keep_firsts(&mut lines);
+        lines
+    }
+}

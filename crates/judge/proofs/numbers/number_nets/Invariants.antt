@@ -1,6 +1,0 @@
-use Rattle.std.proofs.Common.{length}
-use Rattle.judge.proofs.Numbering.{AreNumbered}
-use Rattle.judge.proofs.numbers.number_nets.Given as goal
-
-abbrev pub invariant-loop-i : goal.invariant-loop-i
-invariant-loop-i l = AreNumbered l.nets (length l.initial.numbers) l.i l.numbers
