@@ -27,8 +27,8 @@ function paintCopper() {
   const order = layerOrder();
   for (const l of order) {
     onLayer(pen, l === front || order.length === 1 ? 1 : Math.min(0.38, Math.max(0.1, 0.6 / (order.length - 1))), () => {
-      paintDots(scratchPen, picture.layers[l - 1]);
-      paint(scratchPen, picture.layers[l - 1], ink.nets, dotSize());
+      plotSmall(scratchPen, picture.layers[l - 1]);
+      paint(scratchPen, picture.layers[l - 1], ink.nets, true);
     });
   }
   paintHoles(pen, picture.drilled, ink.nets);

@@ -30,15 +30,19 @@ function grouped(list) {                          // by layer, and the drilled p
   return {layers: parts.map(groups), drilled: groups(holes)};
 }
 
-// What is smaller than a dot is painted as one, straight into the pixels: that is most of a large board seen as a whole.
-const DOT = 1.5;
+// What is smaller than a dot is plotted as one, straight into the pixels, and so are small discs with soft edges: that is most of a large board.
+const DOT = 1.5, SMALL = 4;                       // in grains; a disc's radius
 let grain = 1;                                    // the side of a dot, in pixels
 const dotSize = () => DOT * grain / view.s;
-function paintDots(c, list) {
-  const under = dotSize(), dotted = list.filter(group => group.least < under);
-  if (!dotted.length) return;
+const isSmallDisc = group => group.form === DISC && group.radius * view.s < SMALL * grain;
+function plotSmall(c, list) {
+  const under = dotSize(), small = list.filter(group => group.least < under || isSmallDisc(group));
+  if (!small.length) return;
   const image = c.createImageData(frame.w, frame.h), pixels = new Uint32Array(image.data.buffer);
-  for (const group of dotted) plotDots(pixels, group.list, under, ink.dots[group.colour]);
+  for (const group of small) {
+    if (group.least >= under) plotDiscs(pixels, group.list, group.radius * view.s, ink.dots[group.colour]);
+    else plotDots(pixels, group.list, under, ink.dots[group.colour]);
+  }
   c.putImageData(image, frame.x, frame.y);
 }
 function plotDots(pixels, list, under, colour) {
@@ -50,11 +54,24 @@ function plot(pixels, px, py, side, colour) {     // a square of whole pixels, a
   const x = Math.floor(px - side / 2 + 0.5) - frame.x, y = Math.floor(py - side / 2 + 0.5) - frame.y, endX = Math.min(x + side, frame.w), endY = Math.min(y + side, frame.h);
   for (let b = Math.max(y, 0); b < endY; b++) for (let a = Math.max(x, 0); a < endX; a++) pixels[b * frame.w + a] = colour;
 }
+function plotDiscs(pixels, list, r, colour) {
+  for (const i of list) if (visible(i)) plotDisc(pixels, toX(xs[starts[i]]) - frame.x, toY(ys[starts[i]]) - frame.y, r, colour);
+}
+function plotDisc(pixels, x, y, r, colour) {      // a pixel is as full as its middle is deep in the disc
+  const wide = r + 0.5, endX = Math.min(Math.ceil(x + wide), frame.w), endY = Math.min(Math.ceil(y + wide), frame.h);
+  for (let b = Math.max(Math.floor(y - wide), 0); b < endY; b++) {
+    for (let a = Math.max(Math.floor(x - wide), 0); a < endX; a++) {
+      const dx = a + 0.5 - x, dy = b + 0.5 - y, full = Math.min(1, wide - Math.sqrt(dx * dx + dy * dy)) * 255 | 0, at = b * frame.w + a;
+      if (full > pixels[at] >>> 24) pixels[at] = colour & 0xffffff | full << 24;
+    }
+  }
+}
 
 const MANY = 300;                                 // as many shapes a path: longer paths are slow to fill
-function paint(c, list, how, least = 0) {         // what is not smaller than `least`
+function paint(c, list, how, isPlotted = false) {   // all of it, or what is not plotted
+  const least = isPlotted ? dotSize() : 0;
   for (const group of list) {
-    if (group.most < least) continue;
+    if (group.most < least || isPlotted && isSmallDisc(group)) continue;
     c.fillStyle = c.strokeStyle = Array.isArray(how) ? how[group.colour] : how;
     if (group.form === CAPSULE) paintCapsules(c, group, least);
     else if (group.form === CONTOUR) paintContours(c, group, least);
