@@ -1,8 +1,9 @@
 // Figures about the origin of the macro, before they are turned.
-ghost use Rattle.std.specs.Prelude.{◌≡◌, ◌≤◌, ◌^◌, IfOk};
+ghost use Rattle.std.specs.Prelude.{◌≡◌, ◌≤◌, ◌^◌, IfOk, Some};
 ghost use Rattle.planar.specs.Plane.{IsPlaced};
 ghost use Rattle.aperture_macros.specs.Images as spec;
 ghost use Rattle.aperture_macros.specs.Sketches.{IsNear, IsReachable};
+ghost use Rattle.aperture_macros.specs.declared.images.Sketch.TheVariants.{Rectangle};
 
 use crate::fault::MacroFault;
 use crate::reading::{part, past};
@@ -107,6 +108,21 @@ fn upper(p: Spot, w: u64, h: u64) -> Spot
     }
 }
 
+// The rectangle from so far to the left of and below the one spot to so far to the right of and above
+// the other.
+fn widened(p: Spot, q: Spot, w: u64, h: u64) -> Sketch
+    requires width { w ≤ 10 ^ 10 }
+    requires height { h ≤ 10 ^ 10 }
+    requires start { IsPlaced p }
+    requires end { IsPlaced q }
+    ensures value { result ≡ Rectangle (spec.lower p w h) (spec.upper q w h) }
+    ensures near { IsNear (Some result) }
+{
+    let low = lower(p, w, h);
+    let high = upper(q, w, h);
+    Sketch::Rectangle(low, high)
+}
+
 // The lesser of both coordinates.
 fn least(p: Spot, q: Spot) -> Spot
     requires start { IsPlaced p }
@@ -143,9 +159,9 @@ fn upright(w: u64, p: Spot, q: Spot) -> Option<Sketch>
     if w == 0 || p.y == q.y {
         return None;
     }
-    let low = lower(least(p, q), w, 0);
-    let high = upper(greatest(p, q), w, 0);
-    Some(Sketch::Rectangle(low, high))
+    let low = least(p, q);
+    let high = greatest(p, q);
+    Some(widened(low, high, w, 0))
 }
 
 fn lying(w: u64, p: Spot, q: Spot) -> Option<Sketch>
@@ -158,9 +174,9 @@ fn lying(w: u64, p: Spot, q: Spot) -> Option<Sketch>
     if w == 0 || p.x == q.x {
         return None;
     }
-    let low = lower(least(p, q), 0, w);
-    let high = upper(greatest(p, q), 0, w);
-    Some(Sketch::Rectangle(low, high))
+    let low = least(p, q);
+    let high = greatest(p, q);
+    Some(widened(low, high, 0, w))
 }
 
 fn centred(w: u64, h: u64, p: Spot) -> Option<Sketch>
@@ -173,7 +189,5 @@ fn centred(w: u64, h: u64, p: Spot) -> Option<Sketch>
     if w == 0 || h == 0 {
         return None;
     }
-    let low = lower(p, w, h);
-    let high = upper(p, w, h);
-    Some(Sketch::Rectangle(low, high))
+    Some(widened(p, p, w, h))
 }
