@@ -41,8 +41,8 @@ fn pair_of(i: u32, j: u32, numbers: &[u32], spans: &[Span]) -> Pair
     }
 }
 
-/// Adds the lines of the pair where its pieces touch and the second stands in the higher net, or
-/// where lines that stand already speak for them, leaves it at that.
+/// Adds the lines of the pair where its pieces touch and the second stands in the higher net. Nothing is
+/// tested where lines that stand already speak for them.
 fn add_pair<'a, S: Meets<S>, L: Ledger>(
     field: &Cells<'a, S>,
     pair: &Pair,
@@ -92,8 +92,8 @@ fn add_piece<'a, S: Meets<S>, L: Ledger>(
 
 /// Of all lines of pieces of a field that touch and stand in different nets, the lower first, on each
 /// layer of both spans, the least of each layer and two nets, in order. Pieces are not tested where a
-/// line that was found speaks for theirs. Memory is taken for twice the lines that are given, and for
-/// those of one piece.
+/// line that was found speaks for theirs. Memory is taken for twice the lines that are given, for those of
+/// one piece, and for two places a piece.
 pub fn meetings<'a, S: Meets<S>, L: Ledger>(
     alloc: Global,
     field: &Cells<'a, S>,
