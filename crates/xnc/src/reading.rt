@@ -166,12 +166,9 @@ fn hits(at: Option<Coordinates>) -> Form
 fn slots(from: Option<Coordinates>, to: Option<Coordinates>) -> Form
     ensures { result ≡ spec.slots from to }
 {
-    match from {
-        None => Form::Unknown,
-        Some(from) => match to {
-            None => Form::Unknown,
-            Some(to) => Form::Slot(from, to),
-        },
+    match (from, to) {
+        (Some(from), Some(to)) => Form::Slot(from, to),
+        _ => Form::Unknown,
     }
 }
 
@@ -204,12 +201,9 @@ fn tool_number(digits: &[u8]) -> Option<u32>
 fn defines(number: Option<u32>, diameter: Option<Decimal>) -> Form
     ensures { result ≡ spec.defines number diameter }
 {
-    match number {
-        None => Form::Unknown,
-        Some(number) => match diameter {
-            None => Form::Unknown,
-            Some(diameter) => Form::Tool(number, diameter),
-        },
+    match (number, diameter) {
+        (Some(number), Some(diameter)) => Form::Tool(number, diameter),
+        _ => Form::Unknown,
     }
 }
 
