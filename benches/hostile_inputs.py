@@ -22,10 +22,11 @@ WORDS = (b"%TO.N,A*%", b"%TO.N*%", b"%TD*%", b"%TO.N," + b"N" * 201 + b"*%", b"$
 
 
 class Made:
-    """An input: what it is, its files or the words of a trial, and how many pairs of its pieces touch where these are most pairs."""
+    """An input: what it is, its files or the words of a trial, how many pairs of its pieces touch where these are most pairs, and how
+    many bytes of macros its flashes go through where these are most of the work."""
 
-    def __init__(self, what, files=None, trial=None, pairs=0):
-        self.what, self.files, self.trial, self.pairs = what, files or {}, trial, pairs
+    def __init__(self, what, files=None, trial=None, pairs=0, text=0):
+        self.what, self.files, self.trial, self.pairs, self.text = what, files or {}, trial, pairs, text
 
     def has(self, text):
         return any(text in data for data in self.files.values())
@@ -188,10 +189,10 @@ def macros_at_limits():
     for count in (65_536, 65_537):
         yield f"{count} apertures of a macro", lambda n=count: Made("", package(gerber(b"%AMM*1,1,$1,0,0*%", *[b"%%ADD%dM,1.0*%%" % (10 + k) for k in range(n)])))
         yield f"{count} macros", lambda n=count: Made("", package(gerber(*[b"%%AMM%d*1,1,$1,0,0*%%" % k for k in range(n)])))
-    for count in (1_000, 100_000, 1_000_000):
-        yield f"{count} flashes of 256 primitives without an image", lambda n=count: Made("", package(with_macro([empty] * 256, *[b"X0Y0D03*"] * n)))
-    for count in (1_000, 100_000):
-        yield f"{count} flashes of 256 primitives without an image and of 64 terms a length", lambda n=count: Made("", package(with_macro([long_zero] * 256, *[b"X0Y0D03*"] * n)))
+    for primitive, kind, most in ((empty, "", 300_000), (long_zero, " and of 64 terms a length", 20_000)):
+        for count in (1_000, most):
+            yield f"{count} flashes of 256 primitives without an image{kind}", lambda p=primitive, n=count: Made(
+                "", package(with_macro([p] * 256, *[b"X0Y0D03*"] * n)), text=256 * (len(p) + 1) * n)
     yield "an aperture of a macro with 1,000,000 parameters", lambda: Made("", package(gerber(b"%AMM*1,1,$1,0,0*%", b"%ADD10M," + b"X".join([b"1"] * 1_000_000) + b"*%", b"D10*", b"X0Y0D03*")))
     yield "a body of 1,000,000 comments", lambda: Made("", package(with_macro([b"0"] * 1_000_000, b"X0Y0D03*")))
     for size in (MOST, MOST + 1):
