@@ -2,6 +2,7 @@
 from xml.sax.saxutils import escape, quoteattr
 
 from .lines import summary
+from .words import for_xml
 
 
 def case(shown, name, failures):
@@ -34,4 +35,4 @@ def suite(shown):
 
 def text(all_shown):
     rows = [row for shown in all_shown for row in suite(shown)]
-    return "\n".join(['<?xml version="1.0" encoding="UTF-8"?>', "<testsuites>", *rows, "</testsuites>", ""])
+    return for_xml("\n".join(['<?xml version="1.0" encoding="UTF-8"?>', "<testsuites>", *rows, "</testsuites>", ""]))

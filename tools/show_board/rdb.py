@@ -1,7 +1,7 @@
 """The findings as a marker database of KLayout (*.lyrdb): lengths are micrometres."""
 from xml.sax.saxutils import escape
 
-from .words import counted
+from .words import counted, for_xml
 
 KINDS = {"open": "Parts of a name that no copper joins", "short": "Names that copper joins", "missing": "Test points without copper"}
 # Half the side of the box round a place, in u.
@@ -57,8 +57,9 @@ def items_of(shown):
 def text(shown):
     categories = "".join(f"<category><name>{kind}</name><description>{told}</description><categories/></category>" for kind, told in KINDS.items())
     items = items_of(shown)
-    return "\n".join(['<?xml version="1.0" encoding="utf-8"?>', "<report-database>",
-                      f"  <description>{escape(shown.title)}: {counted(len(items), 'finding')} of boardnet</description>", "  <original-file/>",
-                      "  <generator>boardnet show</generator>", "  <top-cell>board</top-cell>", "  <tags/>",
-                      f"  <categories>{categories}</categories>", "  <cells><cell><name>board</name><variant/><layout-name/><references/></cell></cells>",
-                      "  <items>", *items, "  </items>", "</report-database>", ""])
+    rows = ['<?xml version="1.0" encoding="utf-8"?>', "<report-database>",
+            f"  <description>{escape(shown.title)}: {counted(len(items), 'finding')} of boardnet</description>", "  <original-file/>",
+            "  <generator>boardnet show</generator>", "  <top-cell>board</top-cell>", "  <tags/>",
+            f"  <categories>{categories}</categories>", "  <cells><cell><name>board</name><variant/><layout-name/><references/></cell></cells>",
+            "  <items>", *items, "  </items>", "</report-database>", ""]
+    return for_xml("\n".join(rows))

@@ -5,6 +5,7 @@ from . import Stop
 from .grid import meet as boxes_meet
 from .rdb import micrometres
 from .tree import apart, cover
+from .words import for_xml
 
 NOT_UNDERSTOOD = 2
 # Room round a finding, the least side of what is shown, both in u, and the width of the picture in pixels.
@@ -174,4 +175,4 @@ def text(shown, wanted):
     finding = next((it for it in shown.findings if it.id == wanted), None)
     if wanted and not finding:
         raise Stop(NOT_UNDERSTOOD, f"--at {wanted}: there is no such finding")
-    return "\n".join(Picture(shown, finding).rows())
+    return for_xml("\n".join(Picture(shown, finding).rows()))

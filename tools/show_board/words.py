@@ -1,4 +1,12 @@
 """How lengths, counts and lists are said."""
+import re
+
+NOT_XML = re.compile(r"[^\t\n\r -\ud7ff\ue000-\ufffd\U00010000-\U0010ffff]")
+
+
+def for_xml(text):
+    """A text without the characters that XML has not, as names of files may have them."""
+    return NOT_XML.sub("\ufffd", text)
 
 
 def millimetres(u):

@@ -9,8 +9,8 @@ UNWRITABLE = 5
 
 
 def write(path, text):
-    """Writes a file by a new one that takes its place; `-` is the standard output."""
-    data = text.encode("utf-8") if isinstance(text, str) else text
+    """Writes a file by a new one that takes its place; `-` is the standard output. Names that are no UTF-8 stay the bytes that they are."""
+    data = text.encode("utf-8", "surrogateescape") if isinstance(text, str) else text
     try:
         if path == "-":
             sys.stdout.buffer.write(data)

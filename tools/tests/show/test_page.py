@@ -3,6 +3,7 @@ import base64
 import hashlib
 import html
 import json
+import os
 import random
 import re
 import unittest
@@ -66,6 +67,16 @@ class Files(made.Case):
         self.assertEqual(head["findings"][1]["sides"], ["GND", "VCC"])
         self.assertIn("Differs: 1 open, 1 short, 1 point without copper.", text)
         self.assertEqual(self.show("board", "--svg", "f.svg", "--at", "open-7")[::2], (2, "boardnet: --at open-7: there is no such finding\n"))
+
+    def test_names_of_folders(self):
+        # A name that is no UTF-8, and has a character that XML has not.
+        name = "a\udcff\x01b"
+        status, _, notes = self.show(self.board(BOARD, name), "--page", "p.html", "--svg", "p.svg", "--junit", "p.xml", "--rdb", "p.rdb", "--json", "-")
+        self.assertEqual((status, notes), (1, ""))
+        for form in ("svg", "xml", "rdb"):
+            minidom.parse(self.path("p." + form))
+        with open(self.path("p.html"), "rb") as file:
+            self.assertIn(b"<title>" + os.fsencode(name) + b": boardnet</title>", file.read())
 
     def test_nothing_to_draw(self):
         # A board without pieces has a picture all the same; one that was refused has none, which is said.
