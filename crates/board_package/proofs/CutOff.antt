@@ -1,5 +1,5 @@
 -- A package of which one file is cut off is refused, or has the same board.
-use Rattle.std.proofs.Common.{◌≡◌, ◌⊎◌, inl, inr, ℕ, Bool, true, false, if◌then◌else◌, List, [], ◌∷◌, ◌++◌, take, drop, Option, Some, None, option_map, refl, sym, ap, ◌∙◌, arith}
+use Rattle.std.proofs.Common.{◌≡◌, ◌⊎◌, inl, inr, tt, ℕ, Bool, true, false, if◌then◌else◌, List, [], ◌∷◌, ◌++◌, take, drop, Option, Some, None, option_map, refl, sym, ap, ◌∙◌, arith}
 use Rattle.std.specs.Str.{is_utf8}
 use Rattle.std.proofs.lemmas.List.{length-take, take-append-drop}
 use Rattle.std.proofs.lemmas.Str.{IsUtf8-from_is_utf8, is_utf8-from_IsUtf8}
@@ -15,7 +15,7 @@ use Rattle.serde_json.specs.Data as json
 use Rattle.serde_json.specs.Data.{Data}
 use Rattle.serde_json.specs.Read.{read}
 use Rattle.texts.specs.Words.{is}
-use Rattle.board_package.specs.Laws.{CutIsRefusedOrTheSame, cut_off}
+use Rattle.board_package.specs.Laws.{CutIsRefusedOrTheSame, IsRefusing, cut_off}
 use Rattle.board_package.specs.Manifest.{IsManifest, IsNotJson, manifest_of}
 use Rattle.board_package.specs.PackageBoard.{Stop, not_json, refused, IsHeld, Goes, StopsAt, StopsAmong, StopsAtManifest, IsManifestFile, Walks}
 use Rattle.board_package.specs.Parts.{empty_board, with_pieces, with_netlist}
@@ -63,25 +63,25 @@ prefix_goes all same role.Netlist number bytes n before after (probes, names, re
   | inr cut ↦ inr (refusal.Netlist cut.0 cut.2, (cut.1, cut.3))
 ]
 
-file_goes : HaveAnswers → HavePrefixes → (files : Files) (name : List ℕ) (n : ℕ) (e : Entry) (before after : PlainBoard) → Goes files e before after → Goes (cut_off files name n) e before after ⊎ ((stop : Stop) × StopsAt (cut_off files name n) e before stop)
+file_goes : HaveAnswers → HavePrefixes → (files : Files) (name : List ℕ) (n : ℕ) (e : Entry) (before after : PlainBoard) → Goes files e before after → Goes (cut_off files name n) e before after ⊎ ((stop : Stop) × IsRefusing stop × StopsAt (cut_off files name n) e before stop)
 file_goes all same files name n e before after g = elim (held_cut files name e.name g.bytes n g.held) [
   | inl whole ↦ inl (record { bytes = g.bytes; held = whole; read = g.read })
   | inr cut ↦ elim (prefix_goes all same e.role e.number g.bytes n before after g.read) [
     | inl reads ↦ inl (record { bytes = take n g.bytes; held = cut; read = reads })
-    | inr stops ↦ inr (refused e.name stops.0, (refl, record { bytes = take n g.bytes; held = cut; refused = stops.1 }))
+    | inr stops ↦ inr (refused e.name stops.0, tt, (refl, record { bytes = take n g.bytes; held = cut; refused = stops.1 }))
   ]
 ]
 
 -- ---- The files in their order
 
-walk_goes : HaveAnswers → HavePrefixes → (files : Files) (name : List ℕ) (n : ℕ) (entries : List Entry) (before after : PlainBoard) → Walks files entries before after → Walks (cut_off files name n) entries before after ⊎ ((stop : Stop) × StopsAmong (cut_off files name n) entries before stop)
+walk_goes : HaveAnswers → HavePrefixes → (files : Files) (name : List ℕ) (n : ℕ) (entries : List Entry) (before after : PlainBoard) → Walks files entries before after → Walks (cut_off files name n) entries before after ⊎ ((stop : Stop) × IsRefusing stop × StopsAmong (cut_off files name n) entries before stop)
 walk_goes all same files name n [] before after w = inl w
 walk_goes all same files name n (e ∷ entries) before after (next, goes, walks) = elim (file_goes all same files name n e before next goes) [
   | inl on ↦ elim (walk_goes all same files name n entries next after walks) [
     | inl more ↦ inl (next, on, more)
-    | inr stops ↦ inr (stops.0, inr (next, on, stops.1))
+    | inr stops ↦ inr (stops.0, stops.1, inr (next, on, stops.2))
   ]
-  | inr stops ↦ inr (stops.0, inl stops.1)
+  | inr stops ↦ inr (stops.0, stops.1, inl stops.2)
 ]
 
 -- ---- The manifest
@@ -111,12 +111,12 @@ prefix_manifest bytes n m whole = by (is_utf8 (take n bytes)) refl (read (take n
         let same : v ≡ whole.value = one_value (take n bytes) (drop n bytes) members.0 v spelled e ∙ sym members.1 in
         inl (record { value = whole.value; read_as = record { text = IsUtf8-from_is_utf8 (take n bytes) text; spelled = e ∙ ap (λ (d : Data). Some d) same }; form = whole.form })
 
-manifest_goes : (files : Files) (name : List ℕ) (n : ℕ) (manifest : List ℕ) (m : Manifest) → IsManifestFile files manifest m → IsManifestFile (cut_off files name n) manifest m ⊎ ((stop : Stop) × StopsAtManifest (cut_off files name n) manifest stop)
+manifest_goes : (files : Files) (name : List ℕ) (n : ℕ) (manifest : List ℕ) (m : Manifest) → IsManifestFile files manifest m → IsManifestFile (cut_off files name n) manifest m ⊎ ((stop : Stop) × IsRefusing stop × StopsAtManifest (cut_off files name n) manifest stop)
 manifest_goes files name n manifest m f = elim (held_cut files name manifest f.bytes n f.held) [
   | inl whole ↦ inl (record { bytes = f.bytes; held = whole; good = f.good })
   | inr cut ↦ elim (prefix_manifest f.bytes n m f.good) [
     | inl same ↦ inl (record { bytes = take n f.bytes; held = cut; good = same })
-    | inr none ↦ inr (not_json, record { bytes = take n f.bytes; held = cut; good = none })
+    | inr none ↦ inr (not_json, tt, record { bytes = take n f.bytes; held = cut; good = none })
   ]
 ]
 
@@ -124,7 +124,7 @@ pub cut_is_refused_or_the_same : HaveAnswers → HavePrefixes → (files : Files
 cut_is_refused_or_the_same all same files manifest board b name n = elim (manifest_goes files name n manifest b.listed b.manifest) [
   | inl listed ↦ elim (walk_goes all same files name n b.listed.files (empty_board b.listed.layers) board b.walked) [
     | inl walked ↦ inr (record { listed = b.listed; manifest = listed; walked = walked; frame = b.frame })
-    | inr stops ↦ inl (stops.0, inr (record { listed = b.listed; manifest = listed; stops = inl stops.1 }))
+    | inr stops ↦ inl (stops.0, stops.1, inr (record { listed = b.listed; manifest = listed; stops = inl stops.2 }))
   ]
-  | inr stops ↦ inl (stops.0, inl stops.1)
+  | inr stops ↦ inl (stops.0, stops.1, inl stops.2)
 ]

@@ -8,7 +8,7 @@ use Rattle.board_shapes.specs.declared.probe.Probe.{Probe}
 use Rattle.board_package.specs.LabelledBoard.{IsFirstLabelledStop, IsLabelledBoardOf, LabelledStop, labelled_board_of}
 use Rattle.texts.specs.Words.{is}
 use Rattle.x2_nets.specs.declared.table.Label.{Label}
-use Rattle.board_package.specs.PackageBoard.{Stop, IsBoardOf, IsFirstStop}
+use Rattle.board_package.specs.PackageBoard.{Stop, absent, longer, not_json, bad_manifest, refused, frame_too_large, IsBoardOf, IsFirstStop}
 
 -- A package has at most one board or one first stop, and not both.
 pub record HasOneOutcome (files : Files) (manifest : List ℕ) : Type 0 where
@@ -30,8 +30,17 @@ LabelledPiecesAreUnder = (tables : List (List Label)) (b : PlainBoard) → IsLaw
 abbrev pub cut_off : Files → List ℕ → ℕ → Files
 cut_off files name n other = if is other name then option_map (take n) (files other) else files other
 
+-- the stop is a refusal, and no file that is not there
+abbrev pub IsRefusing : Stop → Type 0
+IsRefusing (absent name) = ⊥
+IsRefusing (longer name) = Unit {0}
+IsRefusing not_json = Unit {0}
+IsRefusing bad_manifest = Unit {0}
+IsRefusing (refused name why) = Unit {0}
+IsRefusing (frame_too_large box) = Unit {0}
+
 -- Of a package with a board: cutting one file off, the manifest or another, at any place is a refusal or leaves the same board.
 abbrev pub CutIsRefusedOrTheSame : Files → List ℕ → Type 0
 CutIsRefusedOrTheSame files manifest =
     (board : PlainBoard) → IsBoardOf files manifest board → (name : List ℕ) (n : ℕ) →
-    ((stop : Stop) × IsFirstStop (cut_off files name n) manifest stop) ⊎ IsBoardOf (cut_off files name n) manifest board
+    ((stop : Stop) × IsRefusing stop × IsFirstStop (cut_off files name n) manifest stop) ⊎ IsBoardOf (cut_off files name n) manifest board
