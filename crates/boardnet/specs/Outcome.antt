@@ -243,10 +243,11 @@ pub record IsUnflat (files : Files) (name : List ℕ) (kind : FlattenKind) (comm
   pub held : IsHeld files name bytes
   pub refused : IsRefusedWithMacros bytes kind command byte
 
--- The line of such a file.
+-- the line of a refusal of `flatten`
 abbrev pub flatten_line : List ℕ → FlattenKind → ℕ → ℕ → List ℕ
 flatten_line name kind command byte = refused_line name (codes "flatten") (flatten_number kind) (flatten_name kind) (codes "command") command byte
 
+-- The file is refused, and this is its line.
 pub record IsFlatRefusal (files : Files) (name line : List ℕ) : Type 0 where
   pub kind : FlattenKind
   pub command : ℕ

@@ -485,7 +485,7 @@ fn shapes(alloc: Global) -> Result<String, AllocError> {
 }
 
 // Flashes and blocks where the room for 200,000 pieces or for 1,000,000 edges is used up.
-fn of_rooms() -> [(&'static str, &'static str); 7] {
+fn of_rooms() -> [(&'static str, &'static str); 8] {
     [
         // A flash is judged as a whole.
         (
@@ -509,6 +509,10 @@ fn of_rooms() -> [(&'static str, &'static str); 7] {
         (
             "D15*%SRX1000Y1I0J0*%D03*%SR*%D13*X1000000000D03*M02*",
             "24 OutOfRange at command 31, byte 8308",
+        ),
+        (
+            "D10*%SRX200000Y1I0J0*%D03*%SR*%D13*X1000000000D03*M02*",
+            "24 OutOfRange at command 31, byte 8310",
         ),
         // The block's end.
         (
@@ -551,8 +555,17 @@ fn circles(alloc: Global) -> Result<String, AllocError> {
 }
 
 // Endings of such a file.
-fn of_radii() -> [(&'static str, &'static str); 3] {
+fn of_radii() -> [(&'static str, &'static str); 5] {
     [
+        // The end word's other conditions come before that on radii.
+        (
+            "D356*D03*G36*M02*",
+            "20 NotInRegion at command 1034, byte 11608",
+        ),
+        (
+            "D356*%SRX3Y1I1000J0*%D03*M02*",
+            "24 OutOfRange at command 1034, byte 11620",
+        ),
         ("D401*D03*D100*D03*M02*", "65793 pieces"),
         (
             "D400*D03*M2*",
