@@ -22,6 +22,8 @@ use std::test::Fail;
 
 pub const MANIFEST: &str = "{\"copper\":[\"t.gbr\"],\"drills\":[],\"netlist\":\"n.ipc\"}";
 
+pub const AUDIT: &[&str] = &["audit", "m.json", "r.txt"];
+
 // Lines as a file.
 pub fn text(alloc: Global, lines: &[&str]) -> Result<Vec<u8>, NoMemory> {
     let mut bytes = Vec::new(alloc);
@@ -55,6 +57,17 @@ pub fn package(alloc: Global, copper: &[u8], points: &[u8]) -> Result<MemoryPack
     package.hold("t.gbr", copper)?;
     package.hold("n.ipc", points)?;
     Ok(package)
+}
+
+// The same of the lines of its copper file and the records of its netlist.
+pub fn one_layer(
+    alloc: Global,
+    lines: &[&str],
+    records: &[&str],
+) -> Result<MemoryPackage, NoMemory> {
+    let copper = gerber(alloc, lines)?;
+    let points = netlist(alloc, records)?;
+    package(alloc, copper.as_slice(), points.as_slice())
 }
 
 // A package of these files under these names.
@@ -91,8 +104,84 @@ pub fn shown(sink: &MemorySink) -> &str {
     str::from_utf8(sink.bytes()).unwrap_or("no text")
 }
 
-// A package of files by their lines, the status, the line, and a part of the report.
-pub type Files<'a> = (&'a [(&'a str, &'a [&'a str])], u8, &'a [u8], &'a [u8]);
+// Wants of the words this status, this line and exactly this text.
+pub fn wants(
+    alloc: Global,
+    given: &[&str],
+    package: &mut MemoryPackage,
+    status: u8,
+    line: &str,
+    text: &str,
+) -> Result<(), Fail> {
+    let (found, out, notes) = answer(alloc, given, package)?;
+    let said = shown(&notes);
+    let put = shown(&out);
+    if found != status || said != line || put != text {
+        return Err(Fail::new(format_args!("status {found}, {said}{put}")));
+    }
+    Ok(())
+}
+
+// What an audit says of a report: it is right, not so at a clause, or none.
+#[derive(Clone, Copy)]
+pub enum Ruling {
+    True,
+    Untrue(u8),
+    NoReport,
+}
+
+// Wants this of the audit of a report on a package.
+pub fn rules(
+    alloc: Global,
+    package: &mut MemoryPackage,
+    report: &[u8],
+    ruling: Ruling,
+) -> Result<(), Fail> {
+    package.hold("r.txt", report)?;
+    match ruling {
+        Ruling::True => {
+            wants(
+                alloc,
+                AUDIT,
+                package,
+                0,
+                "boardnet: audit true\n",
+                "audit true\n",
+            )
+        }
+        Ruling::Untrue(clause) => {
+            let line = format!(in alloc; "boardnet: audit untrue {clause}\n")?;
+            let text = format!(in alloc; "audit untrue {clause}\n")?;
+            wants(alloc, AUDIT, package, 1, line.as_str(), text.as_str())
+        }
+        Ruling::NoReport => wants(
+            alloc,
+            AUDIT,
+            package,
+            3,
+            "boardnet: r.txt: not a report\n",
+            "",
+        ),
+    }
+}
+
+// A board of one layer: the lines of its copper file and the records of its netlist, without what begins and ends both; the
+// status of a check, the line, and a part of the report.
+pub type Row = (
+    &'static [&'static str],
+    &'static [&'static str],
+    u8,
+    &'static [u8],
+    &'static [u8],
+);
+
+// A package of files by their lines, the status of a check, the line, and a part of the report.
+pub type Files = (
+    &'static [(&'static str, &'static [&'static str])],
+    u8,
+    &'static [u8],
+    &'static [u8],
+);
 
 // Whether the bytes have this part.
 pub fn has(bytes: &[u8], part: &[u8]) -> bool {
@@ -125,19 +214,18 @@ fn is_supplemented(plain: &str, full: &str) -> bool {
     more.starts_with("spots ") && more.contains("\nsources ") && more.ends_with(last)
 }
 
-// Whether `check` over these files gives the status, the line, and a report of version 1 with this part, or none where it
+// Whether `check` over this package gives the status, the line, and a report of version 1 with this part, or none where it
 // is empty; and without its third word the same with a supplement.
 pub fn answers(
     alloc: Global,
-    given: &[(&str, &[&str])],
+    package: &mut MemoryPackage,
     status: u8,
     line: &[u8],
     part: &[u8],
 ) -> Result<bool, Fail> {
-    let mut package = files(alloc, given)?;
-    let (found, out, notes) = answer(alloc, &["check", "m.json", "1"], &mut package)?;
+    let (found, out, notes) = answer(alloc, &["check", "m.json", "1"], package)?;
     let silent = out.bytes().is_empty() == part.is_empty();
-    let (other, more, said) = answer(alloc, &["check", "m.json"], &mut package)?;
+    let (other, more, said) = answer(alloc, &["check", "m.json"], package)?;
     let same = other == found && said.bytes() == notes.bytes();
     let right = found == status && notes.bytes() == line && has(out.bytes(), part) && silent;
     Ok(right && same && is_supplemented(shown(&out), shown(&more)))
@@ -146,3 +234,11 @@ pub fn answers(
 pub const A_AT_0: &str = "327A                                  A01X+000000Y+000000";
 
 pub const A_AT_1: &str = "327A                                  A01X+001000Y+000000";
+
+// The two ends of a track of 1 mm.
+pub const ENDS: &[&str] = &[A_AT_0, A_AT_1];
+
+// Two discs that touch, and two that are a nanometre apart.
+pub const TIE: &[&str] = &["%ADD10C,1.0*%", "D10*", "X0Y0D03*", "X1000000Y0D03*"];
+
+pub const APART: &[&str] = &["%ADD10C,1.0*%", "D10*", "X0Y0D03*", "X1000001Y0D03*"];

@@ -1,51 +1,73 @@
 // Boards of one layer.
-use crate::tests::{A_AT_0, A_AT_1, Files, MANIFEST, answers};
+use crate::tests::{A_AT_0, APART, ENDS, Row, TIE, answers, one_layer};
 use std::test::Fail;
 
-#[test]
-fn worked_boards(rt: HostRuntime) -> Result<(), Fail> {
-    let alloc = rt.alloc();
-    let rows: [Files; 24] = [
+// A plate with a hole by a cut-in, a disc on it, and a disc in the hole.
+pub const PLATE: &[&str] = &[
+    "G36*",
+    "X0Y0D02*",
+    "X10000000Y0D01*",
+    "X10000000Y10000000D01*",
+    "X0Y10000000D01*",
+    "X0Y5000000D01*",
+    "X3000000Y5000000D01*",
+    "X3000000Y7000000D01*",
+    "X7000000Y7000000D01*",
+    "X7000000Y3000000D01*",
+    "X3000000Y3000000D01*",
+    "X3000000Y5000000D01*",
+    "X0Y5000000D01*",
+    "X0Y0D01*",
+    "G37*",
+    "%ADD10C,1.0*%",
+    "D10*",
+    "X1500000Y8000000D03*",
+    "X5000000Y5000000D03*",
+];
+
+// Discs in the far corners of a frame, which they fill.
+pub const CORNERS: &[&str] = &[
+    "%ADD10C,1.0*%",
+    "D10*",
+    "X500000Y500000D03*",
+    "X999500000Y999500000D03*",
+];
+
+// A short of three names, and what `check` prints of it.
+pub const SHORTED: &[&str] = &[
+    "%ADD10C,1.0*%",
+    "D10*",
+    "X0Y0D03*",
+    "X1000000Y0D03*",
+    "X2000000Y0D03*",
+    "X1000000Y1000000D03*",
+    "X2000000Y1000000D03*",
+];
+
+pub const THREE: &[&str] = &[
+    A_AT_0,
+    "327B                                  A01X+002000Y+000000",
+    "327C                                  A01X+002000Y+001000",
+];
+
+pub const SHORT_REPORT: &[u8] =
+    b"boardnet 1\npieces 5\nnets 1\nnet 0 0 1:0 2:1 3:1 4:2\nnames 3\nname 0 A\nname 1 B\nname 2 C\npoints 3\npoint 0 1 1 0 0\npoint 1 2 1 1 0\npoint 2 3 1 2 0\nopens 0\nshorts 1\nshort 0 3\nbranch 0 0 0\nbranch 1 1 2 1 0\nbranch 2 2 4 2\nmissing 0\ndiffers\n";
+
+// No clause: the goals of the loop do not see the rows.
+fn boards() -> [Row; 24] {
+    [
         // the tie
         (
-            &[
-                ("m.json", &[MANIFEST]),
-                (
-                    "t.gbr",
-                    &[
-                        "%FSLAX46Y46*%",
-                        "%MOMM*%",
-                        "%ADD10C,1.0*%",
-                        "D10*",
-                        "X0Y0D03*",
-                        "X1000000Y0D03*",
-                        "M02*",
-                    ],
-                ),
-                ("n.ipc", &["P  UNITS CUST 1", A_AT_0, A_AT_1, "999"]),
-            ],
+            TIE,
+            ENDS,
             0,
             b"boardnet: agrees\n",
             b"boardnet 1\npieces 2\nnets 1\nnet 0 0 1:0\nnames 1\nname 0 A\npoints 2\npoint 0 1 1 0 0\npoint 1 2 1 0 0\nopens 0\nshorts 0\nmissing 0\nagrees\n",
         ),
         // apart by one nanometre
         (
-            &[
-                ("m.json", &[MANIFEST]),
-                (
-                    "t.gbr",
-                    &[
-                        "%FSLAX46Y46*%",
-                        "%MOMM*%",
-                        "%ADD10C,1.0*%",
-                        "D10*",
-                        "X0Y0D03*",
-                        "X1000001Y0D03*",
-                        "M02*",
-                    ],
-                ),
-                ("n.ipc", &["P  UNITS CUST 1", A_AT_0, A_AT_1, "999"]),
-            ],
+            APART,
+            ENDS,
             1,
             b"boardnet: differs, opens 1, shorts 0, missing 0\n",
             b"boardnet 1\npieces 2\nnets 2\nnet 0 0\nnet 1 1\nnames 1\nname 0 A\npoints 2\npoint 0 1 1 0 0\npoint 1 2 1 0 1\nopens 1\nopen 0 0 1 1\nshorts 0\nmissing 0\ndiffers\n",
@@ -53,30 +75,16 @@ fn worked_boards(rt: HostRuntime) -> Result<(), Fail> {
         // a slanting tangent
         (
             &[
-                ("m.json", &[MANIFEST]),
-                (
-                    "t.gbr",
-                    &[
-                        "%FSLAX46Y46*%",
-                        "%MOMM*%",
-                        "%ADD10C,10.0*%",
-                        "%ADD11C,20.0*%",
-                        "D10*",
-                        "X0Y0D03*",
-                        "D11*",
-                        "X9000000Y12000000D03*",
-                        "M02*",
-                    ],
-                ),
-                (
-                    "n.ipc",
-                    &[
-                        "P  UNITS CUST 1",
-                        A_AT_0,
-                        "327A                                  A01X+009000Y+012000",
-                        "999",
-                    ],
-                ),
+                "%ADD10C,10.0*%",
+                "%ADD11C,20.0*%",
+                "D10*",
+                "X0Y0D03*",
+                "D11*",
+                "X9000000Y12000000D03*",
+            ],
+            &[
+                A_AT_0,
+                "327A                                  A01X+009000Y+012000",
             ],
             0,
             b"boardnet: agrees\n",
@@ -85,32 +93,18 @@ fn worked_boards(rt: HostRuntime) -> Result<(), Fail> {
         // no length and no width
         (
             &[
-                ("m.json", &[MANIFEST]),
-                (
-                    "t.gbr",
-                    &[
-                        "%FSLAX46Y46*%",
-                        "%MOMM*%",
-                        "%ADD10C,1.0*%",
-                        "%ADD11C,0*%",
-                        "D10*",
-                        "X0Y0D02*",
-                        "X0Y0D01*",
-                        "D11*",
-                        "X5000000Y0D03*",
-                        "X9000000Y0D01*",
-                        "M02*",
-                    ],
-                ),
-                (
-                    "n.ipc",
-                    &[
-                        "P  UNITS CUST 1",
-                        A_AT_0,
-                        "327B                                  A01X+005000Y+000000",
-                        "999",
-                    ],
-                ),
+                "%ADD10C,1.0*%",
+                "%ADD11C,0*%",
+                "D10*",
+                "X0Y0D02*",
+                "X0Y0D01*",
+                "D11*",
+                "X5000000Y0D03*",
+                "X9000000Y0D01*",
+            ],
+            &[
+                A_AT_0,
+                "327B                                  A01X+005000Y+000000",
             ],
             1,
             b"boardnet: differs, opens 0, shorts 0, missing 1\n",
@@ -119,31 +113,17 @@ fn worked_boards(rt: HostRuntime) -> Result<(), Fail> {
         // a round end
         (
             &[
-                ("m.json", &[MANIFEST]),
-                (
-                    "t.gbr",
-                    &[
-                        "%FSLAX46Y46*%",
-                        "%MOMM*%",
-                        "%ADD10O,2.0X1.0*%",
-                        "%ADD11C,0.2*%",
-                        "D10*",
-                        "X0Y0D03*",
-                        "D11*",
-                        "X3000000Y0D02*",
-                        "X1100000Y0D01*",
-                        "M02*",
-                    ],
-                ),
-                (
-                    "n.ipc",
-                    &[
-                        "P  UNITS CUST 1",
-                        A_AT_0,
-                        "327A                                  A01X+003000Y+000000",
-                        "999",
-                    ],
-                ),
+                "%ADD10O,2.0X1.0*%",
+                "%ADD11C,0.2*%",
+                "D10*",
+                "X0Y0D03*",
+                "D11*",
+                "X3000000Y0D02*",
+                "X1100000Y0D01*",
+            ],
+            &[
+                A_AT_0,
+                "327A                                  A01X+003000Y+000000",
             ],
             0,
             b"boardnet: agrees\n",
@@ -151,31 +131,17 @@ fn worked_boards(rt: HostRuntime) -> Result<(), Fail> {
         ),
         (
             &[
-                ("m.json", &[MANIFEST]),
-                (
-                    "t.gbr",
-                    &[
-                        "%FSLAX46Y46*%",
-                        "%MOMM*%",
-                        "%ADD10O,2.0X1.0*%",
-                        "%ADD11C,0.2*%",
-                        "D10*",
-                        "X0Y0D03*",
-                        "D11*",
-                        "X3000000Y0D02*",
-                        "X1100001Y0D01*",
-                        "M02*",
-                    ],
-                ),
-                (
-                    "n.ipc",
-                    &[
-                        "P  UNITS CUST 1",
-                        A_AT_0,
-                        "327A                                  A01X+003000Y+000000",
-                        "999",
-                    ],
-                ),
+                "%ADD10O,2.0X1.0*%",
+                "%ADD11C,0.2*%",
+                "D10*",
+                "X0Y0D03*",
+                "D11*",
+                "X3000000Y0D02*",
+                "X1100001Y0D01*",
+            ],
+            &[
+                A_AT_0,
+                "327A                                  A01X+003000Y+000000",
             ],
             1,
             b"boardnet: differs, opens 1, shorts 0, missing 0\n",
@@ -184,68 +150,25 @@ fn worked_boards(rt: HostRuntime) -> Result<(), Fail> {
         // crossing bars
         (
             &[
-                ("m.json", &[MANIFEST]),
-                (
-                    "t.gbr",
-                    &[
-                        "%FSLAX46Y46*%",
-                        "%MOMM*%",
-                        "%ADD10R,4.0X1.0*%",
-                        "%ADD11R,1.0X4.0*%",
-                        "D10*",
-                        "X0Y0D03*",
-                        "D11*",
-                        "X0Y0D03*",
-                        "M02*",
-                    ],
-                ),
-                ("n.ipc", &["P  UNITS CUST 1", "999"]),
+                "%ADD10R,4.0X1.0*%",
+                "%ADD11R,1.0X4.0*%",
+                "D10*",
+                "X0Y0D03*",
+                "D11*",
+                "X0Y0D03*",
             ],
+            &[],
             0,
             b"boardnet: agrees\n",
             b"nets 1\nnet 0 0 1:0\n",
         ),
         // a plate with a hole by a cut-in
         (
+            PLATE,
             &[
-                ("m.json", &[MANIFEST]),
-                (
-                    "t.gbr",
-                    &[
-                        "%FSLAX46Y46*%",
-                        "%MOMM*%",
-                        "G36*",
-                        "X0Y0D02*",
-                        "X10000000Y0D01*",
-                        "X10000000Y10000000D01*",
-                        "X0Y10000000D01*",
-                        "X0Y5000000D01*",
-                        "X3000000Y5000000D01*",
-                        "X3000000Y7000000D01*",
-                        "X7000000Y7000000D01*",
-                        "X7000000Y3000000D01*",
-                        "X3000000Y3000000D01*",
-                        "X3000000Y5000000D01*",
-                        "X0Y5000000D01*",
-                        "X0Y0D01*",
-                        "G37*",
-                        "%ADD10C,1.0*%",
-                        "D10*",
-                        "X1500000Y8000000D03*",
-                        "X5000000Y5000000D03*",
-                        "M02*",
-                    ],
-                ),
-                (
-                    "n.ipc",
-                    &[
-                        "P  UNITS CUST 1",
-                        "327G                                  A01X+001000Y+001000",
-                        "327G                                  A01X+001500Y+008000",
-                        "327G                                  A01X+005000Y+005000",
-                        "999",
-                    ],
-                ),
+                "327G                                  A01X+001000Y+001000",
+                "327G                                  A01X+001500Y+008000",
+                "327G                                  A01X+005000Y+005000",
             ],
             1,
             b"boardnet: differs, opens 1, shorts 0, missing 0\n",
@@ -254,35 +177,21 @@ fn worked_boards(rt: HostRuntime) -> Result<(), Fail> {
         // twice round
         (
             &[
-                ("m.json", &[MANIFEST]),
-                (
-                    "t.gbr",
-                    &[
-                        "%FSLAX46Y46*%",
-                        "%MOMM*%",
-                        "G36*",
-                        "X0Y0D02*",
-                        "X10000000Y0D01*",
-                        "X10000000Y10000000D01*",
-                        "X0Y10000000D01*",
-                        "X0Y0D01*",
-                        "X10000000Y0D01*",
-                        "X10000000Y10000000D01*",
-                        "X0Y10000000D01*",
-                        "X0Y0D01*",
-                        "G37*",
-                        "M02*",
-                    ],
-                ),
-                (
-                    "n.ipc",
-                    &[
-                        "P  UNITS CUST 1",
-                        "327A                                  A01X+005000Y+005000",
-                        "327B                                  A01X+000000Y+005000",
-                        "999",
-                    ],
-                ),
+                "G36*",
+                "X0Y0D02*",
+                "X10000000Y0D01*",
+                "X10000000Y10000000D01*",
+                "X0Y10000000D01*",
+                "X0Y0D01*",
+                "X10000000Y0D01*",
+                "X10000000Y10000000D01*",
+                "X0Y10000000D01*",
+                "X0Y0D01*",
+                "G37*",
+            ],
+            &[
+                "327A                                  A01X+005000Y+005000",
+                "327B                                  A01X+000000Y+005000",
             ],
             1,
             b"boardnet: differs, opens 0, shorts 0, missing 1\n",
@@ -291,45 +200,21 @@ fn worked_boards(rt: HostRuntime) -> Result<(), Fail> {
         // bad contours
         (
             &[
-                ("m.json", &[MANIFEST]),
-                (
-                    "t.gbr",
-                    &[
-                        "%FSLAX46Y46*%",
-                        "%MOMM*%",
-                        "G36*",
-                        "X0Y0D02*",
-                        "X1000000Y0D01*",
-                        "X1000000Y1000000D01*",
-                        "X0Y1000000D01*",
-                        "G37*",
-                        "M02*",
-                    ],
-                ),
-                ("n.ipc", &["P  UNITS CUST 1", "999"]),
+                "G36*",
+                "X0Y0D02*",
+                "X1000000Y0D01*",
+                "X1000000Y1000000D01*",
+                "X0Y1000000D01*",
+                "G37*",
             ],
+            &[],
             3,
             b"boardnet: t.gbr: Gerber 21 OpenContour at command 8, byte 87\n",
             b"",
         ),
         (
-            &[
-                ("m.json", &[MANIFEST]),
-                (
-                    "t.gbr",
-                    &[
-                        "%FSLAX46Y46*%",
-                        "%MOMM*%",
-                        "G36*",
-                        "X0Y0D02*",
-                        "X1000000Y0D01*",
-                        "X0Y0D01*",
-                        "G37*",
-                        "M02*",
-                    ],
-                ),
-                ("n.ipc", &["P  UNITS CUST 1", "999"]),
-            ],
+            &["G36*", "X0Y0D02*", "X1000000Y0D01*", "X0Y0D01*", "G37*"],
+            &[],
             3,
             b"boardnet: t.gbr: Gerber 22 ShortContour at command 7, byte 60\n",
             b"",
@@ -337,121 +222,54 @@ fn worked_boards(rt: HostRuntime) -> Result<(), Fail> {
         // step and repeat
         (
             &[
-                ("m.json", &[MANIFEST]),
-                (
-                    "t.gbr",
-                    &[
-                        "%FSLAX46Y46*%",
-                        "%MOMM*%",
-                        "%ADD10C,1.0*%",
-                        "D10*",
-                        "%SRX3Y2I1.0J1.0*%",
-                        "X0Y0D03*",
-                        "%SR*%",
-                        "M02*",
-                    ],
-                ),
-                ("n.ipc", &["P  UNITS CUST 1", "999"]),
+                "%ADD10C,1.0*%",
+                "D10*",
+                "%SRX3Y2I1.0J1.0*%",
+                "X0Y0D03*",
+                "%SR*%",
             ],
+            &[],
             0,
             b"boardnet: agrees\n",
             b"pieces 6\nnets 1\nnet 0 0 1:0 2:0 3:1 4:2 5:3\n",
         ),
         (
             &[
-                ("m.json", &[MANIFEST]),
-                (
-                    "t.gbr",
-                    &[
-                        "%FSLAX46Y46*%",
-                        "%MOMM*%",
-                        "%ADD10C,1.0*%",
-                        "D10*",
-                        "%SRX1000000Y1000000I1.0J1.0*%",
-                        "X0Y0D03*",
-                        "%SR*%",
-                        "M02*",
-                    ],
-                ),
-                ("n.ipc", &["P  UNITS CUST 1", "999"]),
+                "%ADD10C,1.0*%",
+                "D10*",
+                "%SRX1000000Y1000000I1.0J1.0*%",
+                "X0Y0D03*",
+                "%SR*%",
             ],
+            &[],
             3,
             b"boardnet: t.gbr: Gerber 27 TooManyPieces at command 7, byte 81\n",
             b"",
         ),
         // the grid
         (
-            &[
-                ("m.json", &[MANIFEST]),
-                (
-                    "t.gbr",
-                    &[
-                        "%FSLAX46Y46*%",
-                        "%MOMM*%",
-                        "%ADD10C,1.0000001*%",
-                        "D10*",
-                        "X0Y0D03*",
-                        "M02*",
-                    ],
-                ),
-                ("n.ipc", &["P  UNITS CUST 1", "999"]),
-            ],
+            &["%ADD10C,1.0000001*%", "D10*", "X0Y0D03*"],
+            &[],
             3,
             b"boardnet: t.gbr: Gerber 23 OffGrid at command 3, byte 23\n",
             b"",
         ),
         // points that are joined to nothing
         (
+            &["%ADD10C,1.0*%", "D10*", "X0Y0D03*"],
             &[
-                ("m.json", &[MANIFEST]),
-                (
-                    "t.gbr",
-                    &[
-                        "%FSLAX46Y46*%",
-                        "%MOMM*%",
-                        "%ADD10C,1.0*%",
-                        "D10*",
-                        "X0Y0D03*",
-                        "M02*",
-                    ],
-                ),
-                (
-                    "n.ipc",
-                    &[
-                        "P  UNITS CUST 1",
-                        "327GND                                A01X+000000Y+000000",
-                        "327N/C                                A01X+000100Y+000000",
-                        "999",
-                    ],
-                ),
+                "327GND                                A01X+000000Y+000000",
+                "327N/C                                A01X+000100Y+000000",
             ],
             1,
             b"boardnet: differs, opens 0, shorts 1, missing 0\n",
             b"name 0 GND\nname 1 N/C\npoints 2\npoint 0 1 1 0 0\npoint 1 2 1 1 0\nopens 0\nshorts 1\nshort 0 2\nbranch 0 0 0\nbranch 1 1 0\nmissing 0\ndiffers\n",
         ),
         (
+            &["%ADD10C,1.0*%", "D10*", "X0Y0D03*"],
             &[
-                ("m.json", &[MANIFEST]),
-                (
-                    "t.gbr",
-                    &[
-                        "%FSLAX46Y46*%",
-                        "%MOMM*%",
-                        "%ADD10C,1.0*%",
-                        "D10*",
-                        "X0Y0D03*",
-                        "M02*",
-                    ],
-                ),
-                (
-                    "n.ipc",
-                    &[
-                        "P  UNITS CUST 1",
-                        "327N/C                                A01X+000000Y+000000",
-                        "327                                   A01X+000100Y+000000",
-                        "999",
-                    ],
-                ),
+                "327N/C                                A01X+000000Y+000000",
+                "327                                   A01X+000100Y+000000",
             ],
             0,
             b"boardnet: agrees\n",
@@ -459,171 +277,81 @@ fn worked_boards(rt: HostRuntime) -> Result<(), Fail> {
         ),
         // a short of three names
         (
-            &[
-                ("m.json", &[MANIFEST]),
-                (
-                    "t.gbr",
-                    &[
-                        "%FSLAX46Y46*%",
-                        "%MOMM*%",
-                        "%ADD10C,1.0*%",
-                        "D10*",
-                        "X0Y0D03*",
-                        "X1000000Y0D03*",
-                        "X2000000Y0D03*",
-                        "X1000000Y1000000D03*",
-                        "X2000000Y1000000D03*",
-                        "M02*",
-                    ],
-                ),
-                (
-                    "n.ipc",
-                    &[
-                        "P  UNITS CUST 1",
-                        A_AT_0,
-                        "327B                                  A01X+002000Y+000000",
-                        "327C                                  A01X+002000Y+001000",
-                        "999",
-                    ],
-                ),
-            ],
+            SHORTED,
+            THREE,
             1,
             b"boardnet: differs, opens 0, shorts 1, missing 0\n",
-            b"boardnet 1\npieces 5\nnets 1\nnet 0 0 1:0 2:1 3:1 4:2\nnames 3\nname 0 A\nname 1 B\nname 2 C\npoints 3\npoint 0 1 1 0 0\npoint 1 2 1 1 0\npoint 2 3 1 2 0\nopens 0\nshorts 1\nshort 0 3\nbranch 0 0 0\nbranch 1 1 2 1 0\nbranch 2 2 4 2\nmissing 0\ndiffers\n",
+            SHORT_REPORT,
         ),
         // order and truncation
         (
             &[
-                ("m.json", &[MANIFEST]),
-                (
-                    "t.gbr",
-                    &[
-                        "%FSLAX46Y46*%",
-                        "%MOMM*%",
-                        "%ADD10C,1.0*%",
-                        "D10*",
-                        "X0Y0D03*",
-                        "X0Y0D02*",
-                        "G02*",
-                        "X1000000Y0D01*",
-                        "%LPC*%",
-                        "M02*",
-                    ],
-                ),
-                ("n.ipc", &["P  UNITS CUST 1", "999"]),
+                "%ADD10C,1.0*%",
+                "D10*",
+                "X0Y0D03*",
+                "X0Y0D02*",
+                "G02*",
+                "X1000000Y0D01*",
+                "%LPC*%",
             ],
+            &[],
             3,
             b"boardnet: t.gbr: Gerber 11 Arc at command 7, byte 59\n",
             b"",
         ),
         // the greatest pen
         (
-            &[
-                ("m.json", &[MANIFEST]),
-                (
-                    "t.gbr",
-                    &[
-                        "%FSLAX46Y46*%",
-                        "%MOMM*%",
-                        "%ADD10C,50.0*%",
-                        "D10*",
-                        "X50000000Y50000000D03*",
-                        "M02*",
-                    ],
-                ),
-                ("n.ipc", &["P  UNITS CUST 1", "999"]),
-            ],
+            &["%ADD10C,50.0*%", "D10*", "X50000000Y50000000D03*"],
+            &[],
             0,
             b"boardnet: agrees\n",
             b"nets 1\n",
         ),
         (
-            &[
-                ("m.json", &[MANIFEST]),
-                (
-                    "t.gbr",
-                    &["%FSLAX46Y46*%", "%MOMM*%", "%ADD10C,50.0000002*%", "M02*"],
-                ),
-                ("n.ipc", &["P  UNITS CUST 1", "999"]),
-            ],
+            &["%ADD10C,50.0000002*%"],
+            &[],
             3,
             b"boardnet: t.gbr: Gerber 24 OutOfRange at command 3, byte 23\n",
             b"",
         ),
         // the frame
+        (CORNERS, &[], 0, b"boardnet: agrees\n", b"nets 2\n"),
         (
             &[
-                ("m.json", &[MANIFEST]),
-                (
-                    "t.gbr",
-                    &[
-                        "%FSLAX46Y46*%",
-                        "%MOMM*%",
-                        "%ADD10C,1.0*%",
-                        "D10*",
-                        "X500000Y500000D03*",
-                        "X999500000Y999500000D03*",
-                        "M02*",
-                    ],
-                ),
-                ("n.ipc", &["P  UNITS CUST 1", "999"]),
+                "%ADD10C,1.0*%",
+                "D10*",
+                "X500000Y500000D03*",
+                "X999500001Y500000D03*",
             ],
-            0,
-            b"boardnet: agrees\n",
-            b"nets 2\n",
-        ),
-        (
-            &[
-                ("m.json", &[MANIFEST]),
-                (
-                    "t.gbr",
-                    &[
-                        "%FSLAX46Y46*%",
-                        "%MOMM*%",
-                        "%ADD10C,1.0*%",
-                        "D10*",
-                        "X500000Y500000D03*",
-                        "X999500001Y500000D03*",
-                        "M02*",
-                    ],
-                ),
-                ("n.ipc", &["P  UNITS CUST 1", "999"]),
-            ],
+            &[],
             3,
             b"boardnet: frame too large: 0 0 10000000010 10000000\n",
             b"",
         ),
         // netlist refusals
         (
-            &[
-                ("m.json", &[MANIFEST]),
-                ("t.gbr", &["%FSLAX46Y46*%", "%MOMM*%", "M02*"]),
-                (
-                    "n.ipc",
-                    &[
-                        "P  UNITS CUST 1",
-                        "327A                                  A02X+000000Y+000000",
-                        "999",
-                    ],
-                ),
-            ],
+            &[],
+            &["327A                                  A02X+000000Y+000000"],
             3,
             b"boardnet: n.ipc: netlist 6 BadAccess at line 2\n",
             b"",
         ),
         (
-            &[
-                ("m.json", &[MANIFEST]),
-                ("t.gbr", &["%FSLAX46Y46*%", "%MOMM*%", "M02*"]),
-                ("n.ipc", &["P  UNITS CUST 1", "017", "999"]),
-            ],
+            &[],
+            &["017"],
             3,
             b"boardnet: n.ipc: netlist 2 Continuation at line 2\n",
             b"",
         ),
-    ];
-    for (given, status, line, part) in rows {
-        assert!(rt; answers(alloc, given, status, line, part)?);
+    ]
+}
+
+#[test]
+fn worked_boards(rt: HostRuntime) -> Result<(), Fail> {
+    let alloc = rt.alloc();
+    for (lines, records, status, line, part) in boards() {
+        let mut package = one_layer(alloc, lines, records)?;
+        assert!(rt; answers(alloc, &mut package, status, line, part)?);
     }
     Ok(())
 }

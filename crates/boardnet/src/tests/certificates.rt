@@ -1,6 +1,6 @@
 // A check and the audit of its report, in one call.
 use crate::certified::{Certified, certify};
-use crate::tests::{A_AT_0, A_AT_1, gerber, netlist, package, shown, words};
+use crate::tests::{APART, AUDIT, ENDS, one_layer, shown, words};
 use board_io::MemorySink;
 use std::test::Fail;
 
@@ -8,19 +8,13 @@ use std::test::Fail;
 fn reports_are_certified(rt: HostRuntime) -> Result<(), Fail> {
     let alloc = rt.alloc();
     let checking = words(alloc, &["check", "m.json"])?;
-    let auditing = words(alloc, &["audit", "m.json", "r.txt"])?;
-    let points = netlist(alloc, &[A_AT_0, A_AT_1])?;
+    let auditing = words(alloc, AUDIT)?;
     let rows: [(&[&str], Certified, &str); 2] = [
-        (
-            &["%ADD10C,1.0*%", "D10*", "X0Y0D03*", "X1000001Y0D03*"],
-            Certified::Audited(0),
-            "audit true\n",
-        ),
+        (APART, Certified::Audited(0), "audit true\n"),
         (&["D10*"], Certified::Unreported(3), ""),
     ];
     for (lines, wanted, ruled) in rows {
-        let copper = gerber(alloc, lines)?;
-        let mut package = package(alloc, copper.as_slice(), points.as_slice())?;
+        let mut package = one_layer(alloc, lines, ENDS)?;
         let mut out = MemorySink::new(alloc, 1_048_576)?;
         let mut ruling = MemorySink::new(alloc, 64)?;
         let mut notes = MemorySink::new(alloc, 1_048_576)?;

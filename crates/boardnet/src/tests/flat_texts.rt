@@ -1,5 +1,5 @@
 // Copper files rewritten without macros, each text rewritten again and checked.
-use crate::tests::{A_AT_0, MANIFEST, answer, files, shown};
+use crate::tests::{A_AT_0, MANIFEST, answer, files, shown, wants};
 use std::test::Fail;
 
 // A disc and a bar above it.
@@ -28,6 +28,21 @@ const SLANTED: &[&str] = &[
 const TEXT: &str =
     "%FSLAX47Y47*%\n%MOMM*%\n%ADD10C,1.0000000*%\nD10*\nX0Y0D02*\nX0Y0D01*\nG36*\nX-10000000Y5000000D02*\nX10000000Y5000000D01*\nX10000000Y15000000D01*\nX-10000000Y15000000D01*\nX-10000000Y5000000D01*\nG37*\nM02*\n";
 
+// The words, the status, the line, and the text.
+fn rows() -> [(&'static [&'static str], u8, &'static str, &'static str); 4] {
+    [
+        (&["flatten", "v.gbr"], 0, "boardnet: flattened\n", TEXT),
+        (&["flatten", "t.gbr"], 0, "boardnet: flattened\n", TEXT),
+        (
+            &["flatten", "w.gbr"],
+            3,
+            "boardnet: w.gbr: flatten 36 Slanted at command 5, byte 54\n",
+            "",
+        ),
+        (&["flatten"], 2, "boardnet: words not understood\n", ""),
+    ]
+}
+
 #[test]
 fn flat_texts(rt: HostRuntime) -> Result<(), Fail> {
     let alloc = rt.alloc();
@@ -41,28 +56,11 @@ fn flat_texts(rt: HostRuntime) -> Result<(), Fail> {
         ],
     )?;
     package.hold("t.gbr", TEXT.as_bytes())?;
-    let rows: [(&[&str], u8, &str, &str); 5] = [
-        (&["flatten", "v.gbr"], 0, "boardnet: flattened\n", TEXT),
-        (&["flatten", "t.gbr"], 0, "boardnet: flattened\n", TEXT),
-        (
-            &["check", "m.json"],
-            0,
-            "boardnet: agrees\n",
-            "pieces 2\nnets 1\nnet 0 0 1:0\n",
-        ),
-        (
-            &["flatten", "w.gbr"],
-            3,
-            "boardnet: w.gbr: flatten 36 Slanted at command 5, byte 54\n",
-            "",
-        ),
-        (&["flatten"], 2, "boardnet: words not understood\n", ""),
-    ];
-    for (words, status, line, part) in rows {
-        let (found, out, notes) = answer(alloc, words, &mut package)?;
-        assert_eq!(rt; found, status);
-        assert_eq!(rt; shown(&notes), line);
-        assert!(rt; shown(&out).contains(part));
+    for (given, status, line, text) in rows() {
+        wants(alloc, given, &mut package, status, line, text)?;
     }
+    let (status, out, notes) = answer(alloc, &["check", "m.json"], &mut package)?;
+    assert_eq!(rt; (status, shown(&notes)), (0, "boardnet: agrees\n"));
+    assert!(rt; shown(&out).contains("pieces 2\nnets 1\nnet 0 0 1:0\n"));
     Ok(())
 }

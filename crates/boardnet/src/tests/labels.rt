@@ -5,6 +5,8 @@ use lengths::NoMemory;
 use std::alloc::Global;
 use std::test::Fail;
 
+const X2: &[&str] = &["x2", "m.json"];
+
 // The lines of the report on the example of KiCad that tell its findings.
 const PARTS: [&[u8]; 6] = [
     b"points 8\n",
@@ -47,7 +49,7 @@ fn the_example_by_its_labels(rt: HostRuntime) -> Result<(), Fail> {
             ("PTH.drl", KICAD_DRILL),
         ],
     )?;
-    let (status, out, notes) = answer(alloc, &["x2", "m.json"], &mut package)?;
+    let (status, out, notes) = answer(alloc, X2, &mut package)?;
     assert_eq!(rt;
         (status, shown(&notes)),
         (1, "boardnet: differs, opens 1, shorts 1, missing 0\n")
@@ -67,7 +69,7 @@ fn the_example_by_its_labels(rt: HostRuntime) -> Result<(), Fail> {
             ("PTH.drl", KICAD_DRILL),
         ],
     )?;
-    let (status, _, notes) = answer(alloc, &["x2", "m.json"], &mut package)?;
+    let (status, _, notes) = answer(alloc, X2, &mut package)?;
     assert_eq!(rt; (status, shown(&notes)), (0, "boardnet: agrees\n"));
     Ok(())
 }
@@ -92,7 +94,7 @@ fn names_of_200_bytes(rt: HostRuntime) -> Result<(), Fail> {
         let word = long_name(alloc, len)?;
         let copper = gerber(alloc, &[word.as_str()])?;
         let mut package = package(alloc, copper.as_slice(), b"")?;
-        let (status, out, notes) = answer(alloc, &["x2", "m.json"], &mut package)?;
+        let (status, out, notes) = answer(alloc, X2, &mut package)?;
         assert_eq!(rt; (status, shown(&notes)), (want, line));
         assert_eq!(rt; has(out.bytes(), b"\npoints 0\n"), want == 0);
     }
@@ -138,96 +140,85 @@ fn ordinary_use(rt: HostRuntime) -> Result<(), Fail> {
             ],
         )?;
         let mut package = package(alloc, copper.as_slice(), b"")?;
-        let (status, _, notes) = answer(alloc, &["x2", "m.json"], &mut package)?;
+        let (status, _, notes) = answer(alloc, X2, &mut package)?;
         assert_eq!(rt; (status, shown(&notes)), (want, line), "{name}");
     }
     Ok(())
 }
 
+// The manifest of two copper files and a drill file.
+pub const TWO_LAYERS: &str =
+    "{\"copper\":[\"t.gbr\",\"b.gbr\"],\"drills\":[{\"file\":\"d.drl\",\"from\":1,\"to\":2}],\"netlist\":\"n.ipc\"}";
+
+const AMISS: &[&str] = &["%TO.N,\u{7}*%", "M02*"];
+
+const BROKEN: &[&str] = &["%TO.N,\u{7}*%", "X*", "M02*"];
+
+// Files, the status of `x2` on them, its line, and how often it asks the package.
+type Stop = (
+    &'static [(&'static str, &'static [&'static str])],
+    u8,
+    &'static str,
+    u64,
+);
+
 // The stops come in their order: the file's own refusal, then its label, then the next file.
-// Whether `x2` on these files ends with this status and line, and asks the package so often.
-fn stops(
-    alloc: Global,
-    given: &[(&str, &[&str])],
-    status: u8,
-    line: &str,
-    calls: u64,
-) -> Result<bool, Fail> {
-    let mut package = files(alloc, given)?;
-    let (found, _, notes) = answer(alloc, &["x2", "m.json"], &mut package)?;
-    Ok(found == status && shown(&notes) == line && package.calls() == calls)
+fn stops() -> [Stop; 6] {
+    [
+        (
+            &[("m.json", &[MANIFEST]), ("t.gbr", DISC)],
+            0,
+            "boardnet: agrees\n",
+            2,
+        ),
+        (
+            &[("m.json", &[TWO_LAYERS]), ("t.gbr", AMISS)],
+            3,
+            "boardnet: t.gbr: label at command 1, byte 1\n",
+            2,
+        ),
+        (
+            &[("m.json", &[TWO_LAYERS]), ("t.gbr", BROKEN)],
+            3,
+            "boardnet: t.gbr: Gerber 1 BadWord at command 2, byte 10\n",
+            2,
+        ),
+        (
+            &[("m.json", &[TWO_LAYERS]), ("t.gbr", DISC)],
+            4,
+            "boardnet: b.gbr: cannot be read\n",
+            3,
+        ),
+        (
+            &[("m.json", &[TWO_LAYERS]), ("t.gbr", DISC), ("b.gbr", DISC)],
+            4,
+            "boardnet: d.drl: cannot be read\n",
+            4,
+        ),
+        (
+            &[
+                ("m.json", &[TWO_LAYERS]),
+                ("t.gbr", DISC),
+                ("b.gbr", DISC),
+                ("d.drl", BARREL),
+            ],
+            0,
+            "boardnet: agrees\n",
+            4,
+        ),
+    ]
 }
 
 #[test]
 fn stops_by_labels(rt: HostRuntime) -> Result<(), Fail> {
     let alloc = rt.alloc();
-    let manifest =
-        "{\"copper\":[\"t.gbr\",\"b.gbr\"],\"drills\":[{\"file\":\"d.drl\",\"from\":1,\"to\":2}],\"netlist\":\"n.ipc\"}";
-    let amiss: &[&str] = &["%TO.N,\u{7}*%", "M02*"];
-    let broken: &[&str] = &["%TO.N,\u{7}*%", "X*", "M02*"];
-    let agrees = "boardnet: agrees\n";
-    assert!(rt;
-        stops(
-            alloc,
-            &[("m.json", &[MANIFEST]), ("t.gbr", DISC)],
-            0,
-            agrees,
-            2
-        )?
-    );
-    let line = "boardnet: t.gbr: label at command 1, byte 1\n";
-    assert!(rt;
-        stops(
-            alloc,
-            &[("m.json", &[manifest]), ("t.gbr", amiss)],
-            3,
-            line,
-            2
-        )?
-    );
-    let line = "boardnet: t.gbr: Gerber 1 BadWord at command 2, byte 10\n";
-    assert!(rt;
-        stops(
-            alloc,
-            &[("m.json", &[manifest]), ("t.gbr", broken)],
-            3,
-            line,
-            2
-        )?
-    );
-    let line = "boardnet: b.gbr: cannot be read\n";
-    assert!(rt;
-        stops(
-            alloc,
-            &[("m.json", &[manifest]), ("t.gbr", DISC)],
-            4,
-            line,
-            3
-        )?
-    );
-    let line = "boardnet: d.drl: cannot be read\n";
-    assert!(rt;
-        stops(
-            alloc,
-            &[("m.json", &[manifest]), ("t.gbr", DISC), ("b.gbr", DISC)],
-            4,
-            line,
-            4
-        )?
-    );
-    assert!(rt;
-        stops(
-            alloc,
-            &[
-                ("m.json", &[manifest]),
-                ("t.gbr", DISC),
-                ("b.gbr", DISC),
-                ("d.drl", BARREL)
-            ],
-            0,
-            agrees,
-            4
-        )?
-    );
+    for (given, wanted, line, calls) in stops() {
+        let mut package = files(alloc, given)?;
+        let (status, _, notes) = answer(alloc, X2, &mut package)?;
+        assert_eq!(rt;
+            (status, shown(&notes), package.calls()),
+            (wanted, line, calls)
+        );
+    }
     Ok(())
 }

@@ -1,6 +1,8 @@
 // A hundred made boards. `audit` takes the report that `check` puts on each, in both versions, also with its nets listed in
 // another lawful order, and one change of each kind is untrue at the clause that it breaks.
-use crate::tests::{answer, has, text};
+use crate::tests::labels::TWO_LAYERS;
+use crate::tests::packages::BARREL;
+use crate::tests::{AUDIT, MANIFEST, TIE, answer, gerber, has, shown, text};
 use board_io::MemoryPackage;
 use lengths::{NoMemory, Rows, Text};
 use std::alloc::Global;
@@ -9,25 +11,6 @@ use verdict::{
     Branch, Open, PointLine, Short, SourceLine, SpotLine, Supplement, Tree, Trees, Twig, Verdict,
     read_report, write_report,
 };
-
-const ONE_LAYER: &str = "{\"copper\":[\"t.gbr\"],\"drills\":[],\"netlist\":\"n.ipc\"}";
-
-const TWO_LAYERS: &str =
-    "{\"copper\":[\"t.gbr\",\"b.gbr\"],\"drills\":[{\"file\":\"d.drl\",\"from\":1,\"to\":2}],\"netlist\":\"n.ipc\"}";
-
-// The second layer: two discs that touch.
-const SECOND: &[&str] = &[
-    "%FSLAX46Y46*%",
-    "%MOMM*%",
-    "%ADD10C,1.0*%",
-    "D10*",
-    "X0Y0D03*",
-    "X1000000Y0D03*",
-    "M02*",
-];
-
-// A barrel under the first disc of each layer.
-const BARREL: &[&str] = &["M48", "METRIC", "T1C0.4", "%", "T1", "X0.0Y0.0", "M30"];
 
 fn has_two_layers(k: u8) -> bool {
     k % 4 == 3
@@ -124,11 +107,11 @@ fn board(alloc: Global, k: u8) -> Result<MemoryPackage, NoMemory> {
     let manifest = if has_two_layers(k) {
         TWO_LAYERS
     } else {
-        ONE_LAYER
+        MANIFEST
     };
     package.hold("m.json", manifest.as_bytes())?;
     package.hold("t.gbr", first(alloc, k)?.as_slice())?;
-    package.hold("b.gbr", text(alloc, SECOND)?.as_slice())?;
+    package.hold("b.gbr", gerber(alloc, TIE)?.as_slice())?;
     package.hold("d.drl", text(alloc, BARREL)?.as_slice())?;
     package.hold("n.ipc", points(alloc, k)?.as_slice())?;
     Ok(package)
@@ -163,30 +146,18 @@ fn put(alloc: Global, k: u8, words: &[&str]) -> Result<Vec<u8>, Fail> {
     Ok(Vec::from_slice(alloc, out.bytes())?)
 }
 
-// What `audit` puts where a clause does not hold, or where all do.
-fn ruling(clause: u8) -> &'static [u8] {
-    match clause {
-        0 => b"audit true\n",
-        1 => b"audit untrue 1\n",
-        2 => b"audit untrue 2\n",
-        3 => b"audit untrue 3\n",
-        4 => b"audit untrue 4\n",
-        5 => b"audit untrue 5\n",
-        6 => b"audit untrue 6\n",
-        7 => b"audit untrue 7\n",
-        8 => b"audit untrue 8\n",
-        9 => b"audit untrue 9\n",
-        10 => b"audit untrue 10\n",
-        _ => b"audit untrue 11\n",
-    }
-}
-
-// Wants this ruling on a report on board k.
+// Wants of a report on board k that this clause does not hold, or that all do where it is 0.
 fn audit(alloc: Global, k: u8, report: &[u8], clause: u8) -> Result<(), Fail> {
     let mut package = board(alloc, k)?;
     package.hold("r.txt", report)?;
-    let (status, out, _notes) = answer(alloc, &["audit", "m.json", "r.txt"], &mut package)?;
-    if status != u8::from(clause != 0) || out.bytes() != ruling(clause) {
+    let (status, out, _notes) = answer(alloc, AUDIT, &mut package)?;
+    let untrue = format!(in alloc; "audit untrue {clause}\n")?;
+    let text = if clause == 0 {
+        "audit true\n"
+    } else {
+        untrue.as_str()
+    };
+    if status != u8::from(clause != 0) || shown(&out) != text {
         return Err(Fail::new(format_args!("board {k}, clause {clause}, status {status}")));
     }
     Ok(())
@@ -525,12 +496,8 @@ fn made_boards_are_taken(rt: HostRuntime) -> Result<(), Fail> {
     let reports = reports(alloc)?;
     for k in 0..100 {
         audit(alloc, k, report_at(&reports, k), 0)?;
-        audit(
-            alloc,
-            k,
-            put(alloc, k, &["check", "m.json", "1"])?.as_slice(),
-            0,
-        )?;
+        let plain = put(alloc, k, &["check", "m.json", "1"])?;
+        audit(alloc, k, plain.as_slice(), 0)?;
     }
     assert!(rt; taken_in_another_order(alloc, &reports)? >= 30);
 

@@ -1,5 +1,5 @@
 // Packages of several files.
-use crate::tests::{Files, MANIFEST, answers};
+use crate::tests::{Files, MANIFEST, answers, files};
 use std::test::Fail;
 
 pub const BURIED: &str =
@@ -151,24 +151,27 @@ pub const KICAD_NETLIST: &[&str] = &[
 pub const KICAD_REPORT: &[u8] =
     b"boardnet 1\npieces 10\nnets 3\nnet 0 0 8:0 5:8 6:8\nnet 1 1 4:1 9:1 2:4 7:9\nnet 2 3\nnames 3\nname 0 GND\nname 1 /SIG\nname 2 VCC\npoints 6\npoint 0 1 1 0 0\npoint 1 1 2 0 0\npoint 2 2 1 1 1\npoint 3 2 2 1 1\npoint 4 3 1 1 1\npoint 5 4 1 2 2\nopens 0\nshorts 0\nmissing 0\nagrees\n";
 
-#[test]
-fn worked_packages(rt: HostRuntime) -> Result<(), Fail> {
-    let alloc = rt.alloc();
-    let rows: [Files; 9] = [
+pub const BURIED_FILES: &[(&str, &[&str])] = &[
+    ("m.json", &[BURIED]),
+    ("l1.gbr", DISC),
+    ("l2.gbr", DISC),
+    ("l3.gbr", DISC),
+    ("l4.gbr", DISC),
+    ("d.drl", BARREL),
+    ("n.ipc", THROUGH_POINT),
+];
+
+pub const BURIED_REPORT: &[u8] =
+    b"boardnet 1\npieces 5\nnets 3\nnet 0 0\nnet 1 1 4:1 2:4\nnet 2 3\nnames 1\nname 0 A\npoints 2\npoint 0 1 1 0 0\npoint 1 1 4 0 2\nopens 1\nopen 0 0 2 1\nshorts 0\nmissing 0\ndiffers\n";
+
+fn packages() -> [Files; 9] {
+    [
         // a buried barrel
         (
-            &[
-                ("m.json", &[BURIED]),
-                ("l1.gbr", DISC),
-                ("l2.gbr", DISC),
-                ("l3.gbr", DISC),
-                ("l4.gbr", DISC),
-                ("d.drl", BARREL),
-                ("n.ipc", THROUGH_POINT),
-            ],
+            BURIED_FILES,
             1,
             b"boardnet: differs, opens 1, shorts 0, missing 0\n",
-            b"boardnet 1\npieces 5\nnets 3\nnet 0 0\nnet 1 1 4:1 2:4\nnet 2 3\nnames 1\nname 0 A\npoints 2\npoint 0 1 1 0 0\npoint 1 1 4 0 2\nopens 1\nopen 0 0 2 1\nshorts 0\nmissing 0\ndiffers\n",
+            BURIED_REPORT,
         ),
         // a file that is not held
         (
@@ -291,9 +294,15 @@ fn worked_packages(rt: HostRuntime) -> Result<(), Fail> {
             b"boardnet: agrees\n",
             KICAD_REPORT,
         ),
-    ];
-    for (given, status, line, part) in rows {
-        assert!(rt; answers(alloc, given, status, line, part)?);
+    ]
+}
+
+#[test]
+fn worked_packages(rt: HostRuntime) -> Result<(), Fail> {
+    let alloc = rt.alloc();
+    for (given, status, line, part) in packages() {
+        let mut package = files(alloc, given)?;
+        assert!(rt; answers(alloc, &mut package, status, line, part)?);
     }
     Ok(())
 }

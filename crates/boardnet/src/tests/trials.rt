@@ -1,12 +1,11 @@
 // Trials of made boards.
-use crate::tests::{answer, shown};
+use crate::tests::wants;
 use board_io::MemoryPackage;
 use std::test::Fail;
 
-#[test]
-fn trials(rt: HostRuntime) -> Result<(), Fail> {
-    let alloc = rt.alloc();
-    let rows: [(&[&str], u8, &str, &str); 5] = [
+// The words, the status, the line, and the text.
+fn rows() -> [(&'static [&'static str], u8, &'static str, &'static str); 5] {
+    [
         (
             &["trial", "1", "9"],
             1,
@@ -37,14 +36,16 @@ fn trials(rt: HostRuntime) -> Result<(), Fail> {
             "boardnet: words not understood\n",
             "",
         ),
-    ];
-    for (given, status, line, text) in rows {
+    ]
+}
+
+#[test]
+fn trials(rt: HostRuntime) -> Result<(), Fail> {
+    let alloc = rt.alloc();
+    for (given, status, line, text) in rows() {
         let mut package = MemoryPackage::new(alloc);
         package.fail_at(0)?;
-        let (found, out, notes) = answer(alloc, given, &mut package)?;
-        assert_eq!(rt; found, status);
-        assert_eq!(rt; shown(&notes), line);
-        assert_eq!(rt; shown(&out), text);
+        wants(alloc, given, &mut package, status, line, text)?;
         assert_eq!(rt; package.calls(), 0);
     }
     Ok(())
