@@ -8,8 +8,8 @@ ghost use Rattle.judge.specs.Judged.{HangAbove, HasHome};
 ghost use Rattle.verdict.specs.Places.{HasPlaces};
 ghost use Rattle.verdict.specs.Seats.{AreFirst, AreNamed, IsFirst, mark_name, marks_at, branch_name};
 
-use crate::places::place_net;
 use crate::paths::{flag_path, path_of};
+use crate::places::place_net;
 use lengths::{NoMemory, Rows};
 use std::alloc::Global;
 use verdict::{Branch, Mark, Short, Tree, Twig};
