@@ -156,11 +156,16 @@ class Build:
             self.progress.end()
 
 
+def logic_of(line):
+    """What the line of `rt version` says of the logic: kits of one logic prove the same, whatever their names."""
+    return line.partition(" logic ")[2] or line
+
+
 def warn_of_other_kit(top):
     with open(os.path.join(top, "tools", "toolchain"), encoding="utf-8") as file:
         wanted = file.read().strip()
     found = line_of_rt()
-    if found != wanted:
+    if logic_of(found) != logic_of(wanted):
         print(f"boardnet: rt version prints {found or 'nothing'}; these sources are made for {wanted}", file=sys.stderr)
     return found
 
