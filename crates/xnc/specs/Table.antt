@@ -19,6 +19,7 @@ use Rattle.xnc.specs.declared.settings.Stage.TheVariants.{Opening, Header, Body,
 use Rattle.xnc.specs.declared.settings.Mode.{Mode}
 use Rattle.xnc.specs.declared.settings.Mode.TheVariants.{Drill, Rout}
 use Rattle.xnc.specs.declared.settings.Settings.{Settings}
+pub use Rattle.file_reading.specs.Conditions.{◌>>=◌, unless, needed}
 
 -- What is known before a line: the settings, the diameter of each tool that is defined, how many tools are, how many pieces there are, and how many there may be.
 pub record Known : Type 0 where
@@ -34,19 +35,6 @@ pub data Effect : Type 0 where
   makes : ℕ → ℕ → Effect
   moves : Spot → Effect
   drills : Spot → Figure → Effect
-
-infixl 10 ◌>>=◌
-abbrev pub ◌>>=◌ : {A B : Type 0} → Result A DrillKind → (A → Result B DrillKind) → Result B DrillKind
-(Ok x) >>= f = f x
-(Err e) >>= f = Err e
-
--- Conditions. The fault stands where the test holds, or where there is nothing.
-abbrev pub unless : {A : Type 0} → Bool → DrillKind → Result A DrillKind → Result A DrillKind
-unless test kind more = if test then Err kind else more
-
-abbrev pub needed : {A : Type 0} → DrillKind → Option A → Result A DrillKind
-needed kind None = Err kind
-needed kind (Some x) = Ok x
 
 abbrev pub same_unit : Measure → Measure → Bool
 same_unit Mm Mm = true
