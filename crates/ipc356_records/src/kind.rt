@@ -84,7 +84,6 @@ pub enum RecordFault {
 }
 
 impl From<RecordKind> for Halt<RecordKind> {
-    ghost use Rattle.std.specs.Prelude.{◌≡◌};
     ghost use Rattle.file_reading.specs.declared.halt.Halt.TheVariants.{Fault};
 
     ghost from_gives = { λ kind stop. stop ≡ Fault kind };
@@ -95,7 +94,6 @@ impl From<RecordKind> for Halt<RecordKind> {
 }
 
 impl From<NoMemory> for RecordFault {
-    ghost use Rattle.std.specs.Prelude.{◌≡◌};
     ghost use Rattle.ipc356_records.specs.declared.kind.RecordFault.TheVariants as fault;
 
     ghost from_gives = { λ _ stop. stop ≡ fault.NoMemory };

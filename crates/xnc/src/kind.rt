@@ -1,6 +1,7 @@
 // Kinds of refusal.
 ghost use Rattle.std.specs.Prelude.{◌≡◌};
 ghost use Rattle.xnc.specs.Kind.{name_of_kind, number_of_kind};
+ghost use Rattle.xnc.specs.Table.{kind_of_grid};
 
 use file_reading::Halt;
 use lengths::GridFault;
@@ -112,9 +113,6 @@ pub enum DrillFault {
 }
 
 impl From<GridFault> for DrillKind {
-    ghost use Rattle.std.specs.Prelude.{◌≡◌};
-    ghost use Rattle.xnc.specs.Table.{kind_of_grid};
-
     ghost from_gives = { λ fault kind. kind ≡ kind_of_grid fault };
 
     fn from(fault: GridFault) -> DrillKind {
@@ -126,7 +124,6 @@ impl From<GridFault> for DrillKind {
 }
 
 impl From<DrillKind> for Halt<DrillKind> {
-    ghost use Rattle.std.specs.Prelude.{◌≡◌};
     ghost use Rattle.file_reading.specs.declared.halt.Halt.TheVariants.{Fault};
 
     ghost from_gives = { λ kind halt. halt ≡ Fault kind };
