@@ -2,12 +2,11 @@
 use Rattle.std.specs.Prelude.{ℕ, ◌/◌, Bool, true, false, ◌||◌, not, ◌==◌, nat_le, nat_lt, if◌then◌else◌, ℤ, pos, unsigned_abs, Option, Some, None, is_some, is_none, Result, Ok, Err}
 use Rattle.contact.specs.declared.TheConstants.{MOST_DIAMETER}
 use Rattle.planar.specs.declared.Spot.{Spot}
-use Rattle.lengths.specs.Decimal.{Fraction}
+use Rattle.lengths.specs.Decimal.{Fraction, chosen}
 use Rattle.lengths.specs.Grid.{position_of, size_of}
 use Rattle.lengths.specs.declared.decimal.Unit.{Unit as Measure}
 use Rattle.lengths.specs.declared.decimal.Unit.TheVariants.{Mm, Inch}
 use Rattle.lengths.specs.declared.decimal.GridFault.{GridFault}
-use Rattle.lengths.specs.declared.decimal.GridFault.TheVariants as grid
 use Rattle.board_shapes.specs.Plain.{Figure, round}
 use Rattle.xnc.specs.declared.kind.DrillKind.{DrillKind}
 use Rattle.xnc.specs.declared.kind.DrillKind.TheVariants as kind
@@ -55,8 +54,7 @@ is_start form.Start = true
 is_start other = false
 
 abbrev pub kind_of_grid : GridFault → DrillKind
-kind_of_grid grid.OffGrid = kind.OffGrid
-kind_of_grid grid.OutOfRange = kind.OutOfRange
+kind_of_grid fault = chosen fault kind.OffGrid kind.OutOfRange
 
 abbrev pub gridded : Result ℤ GridFault → Result ℤ DrillKind
 gridded (Ok u) = Ok u

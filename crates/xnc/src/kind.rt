@@ -3,7 +3,6 @@ ghost use Rattle.std.specs.Prelude.{◌≡◌};
 ghost use Rattle.xnc.specs.Kind.{name_of_kind, number_of_kind};
 ghost use Rattle.xnc.specs.Table.{kind_of_grid};
 
-use file_reading::Halt;
 use lengths::GridFault;
 use thiserror::Error;
 
@@ -116,19 +115,6 @@ impl From<GridFault> for DrillKind {
     ghost from_gives = { λ fault kind. kind ≡ kind_of_grid fault };
 
     fn from(fault: GridFault) -> DrillKind {
-        match fault {
-            GridFault::OffGrid => DrillKind::OffGrid,
-            GridFault::OutOfRange => DrillKind::OutOfRange,
-        }
-    }
-}
-
-impl From<DrillKind> for Halt<DrillKind> {
-    ghost use Rattle.file_reading.specs.declared.halt.Halt.TheVariants.{Fault};
-
-    ghost from_gives = { λ kind halt. halt ≡ Fault kind };
-
-    fn from(kind: DrillKind) -> Halt<DrillKind> {
-        Halt::Fault(kind)
+        fault.choose(DrillKind::OffGrid, DrillKind::OutOfRange)
     }
 }
