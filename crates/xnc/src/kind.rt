@@ -1,7 +1,6 @@
 // Kinds of refusal.
 ghost use Rattle.std.specs.Prelude.{◌≡◌};
 ghost use Rattle.xnc.specs.Kind.{name_of_kind, number_of_kind};
-ghost use Rattle.xnc.specs.Table.{kind_of_grid};
 
 use lengths::GridFault;
 use thiserror::Error;
@@ -112,6 +111,8 @@ pub enum DrillFault {
 }
 
 impl From<GridFault> for DrillKind {
+    ghost use Rattle.xnc.specs.Table.{kind_of_grid};
+
     ghost from_gives = { λ fault kind. kind ≡ kind_of_grid fault };
 
     fn from(fault: GridFault) -> DrillKind {
