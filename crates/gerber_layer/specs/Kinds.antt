@@ -3,68 +3,41 @@ use Rattle.std.specs.Prelude.{ℕ, List, codes}
 use Rattle.gerber_layer.specs.declared.kind.GerberKind.{GerberKind}
 use Rattle.gerber_layer.specs.declared.kind.GerberKind.TheVariants as kind
 
--- how a report numbers a kind
-abbrev pub kind_number : GerberKind → ℕ
-kind_number kind.BadWord = 1
-kind_number kind.LineBreakInWord = 2
-kind_number kind.NotEnded = 3
-kind_number kind.AfterEnd = 4
-kind_number kind.MissingFormat = 5
-kind_number kind.MissingUnit = 6
-kind_number kind.BadFormat = 7
-kind_number kind.UnitConflict = 8
-kind_number kind.Incremental = 9
-kind_number kind.ClearPolarity = 10
-kind_number kind.Arc = 11
-kind_number kind.Macro = 12
-kind_number kind.Block = 13
-kind_number kind.Polygon = 14
-kind_number kind.Hole = 15
-kind_number kind.Transform = 16
-kind_number kind.NoAperture = 17
-kind_number kind.ApertureTwice = 18
-kind_number kind.PenNotCircle = 19
-kind_number kind.NotInRegion = 20
-kind_number kind.OpenContour = 21
-kind_number kind.ShortContour = 22
-kind_number kind.OffGrid = 23
-kind_number kind.OutOfRange = 24
-kind_number kind.WrongLayer = 25
-kind_number kind.NegativeFile = 26
-kind_number kind.TooManyPieces = 27
-kind_number kind.TooManyVertices = 28
-kind_number kind.NoOperation = 29
-kind_number kind.TooManyApertures = 30
+-- how a report numbers a kind, and names it
+abbrev pub line_of : GerberKind → ℕ × List ℕ
+line_of kind.BadWord = (1, codes "BadWord")
+line_of kind.LineBreakInWord = (2, codes "LineBreakInWord")
+line_of kind.NotEnded = (3, codes "NotEnded")
+line_of kind.AfterEnd = (4, codes "AfterEnd")
+line_of kind.MissingFormat = (5, codes "MissingFormat")
+line_of kind.MissingUnit = (6, codes "MissingUnit")
+line_of kind.BadFormat = (7, codes "BadFormat")
+line_of kind.UnitConflict = (8, codes "UnitConflict")
+line_of kind.Incremental = (9, codes "Incremental")
+line_of kind.ClearPolarity = (10, codes "ClearPolarity")
+line_of kind.Arc = (11, codes "Arc")
+line_of kind.Macro = (12, codes "Macro")
+line_of kind.Block = (13, codes "Block")
+line_of kind.Polygon = (14, codes "Polygon")
+line_of kind.Hole = (15, codes "Hole")
+line_of kind.Transform = (16, codes "Transform")
+line_of kind.NoAperture = (17, codes "NoAperture")
+line_of kind.ApertureTwice = (18, codes "ApertureTwice")
+line_of kind.PenNotCircle = (19, codes "PenNotCircle")
+line_of kind.NotInRegion = (20, codes "NotInRegion")
+line_of kind.OpenContour = (21, codes "OpenContour")
+line_of kind.ShortContour = (22, codes "ShortContour")
+line_of kind.OffGrid = (23, codes "OffGrid")
+line_of kind.OutOfRange = (24, codes "OutOfRange")
+line_of kind.WrongLayer = (25, codes "WrongLayer")
+line_of kind.NegativeFile = (26, codes "NegativeFile")
+line_of kind.TooManyPieces = (27, codes "TooManyPieces")
+line_of kind.TooManyVertices = (28, codes "TooManyVertices")
+line_of kind.NoOperation = (29, codes "NoOperation")
+line_of kind.TooManyApertures = (30, codes "TooManyApertures")
 
--- and names it
+abbrev pub kind_number : GerberKind → ℕ
+kind_number kind = (line_of kind).0
+
 abbrev pub kind_name : GerberKind → List ℕ
-kind_name kind.BadWord = codes "BadWord"
-kind_name kind.LineBreakInWord = codes "LineBreakInWord"
-kind_name kind.NotEnded = codes "NotEnded"
-kind_name kind.AfterEnd = codes "AfterEnd"
-kind_name kind.MissingFormat = codes "MissingFormat"
-kind_name kind.MissingUnit = codes "MissingUnit"
-kind_name kind.BadFormat = codes "BadFormat"
-kind_name kind.UnitConflict = codes "UnitConflict"
-kind_name kind.Incremental = codes "Incremental"
-kind_name kind.ClearPolarity = codes "ClearPolarity"
-kind_name kind.Arc = codes "Arc"
-kind_name kind.Macro = codes "Macro"
-kind_name kind.Block = codes "Block"
-kind_name kind.Polygon = codes "Polygon"
-kind_name kind.Hole = codes "Hole"
-kind_name kind.Transform = codes "Transform"
-kind_name kind.NoAperture = codes "NoAperture"
-kind_name kind.ApertureTwice = codes "ApertureTwice"
-kind_name kind.PenNotCircle = codes "PenNotCircle"
-kind_name kind.NotInRegion = codes "NotInRegion"
-kind_name kind.OpenContour = codes "OpenContour"
-kind_name kind.ShortContour = codes "ShortContour"
-kind_name kind.OffGrid = codes "OffGrid"
-kind_name kind.OutOfRange = codes "OutOfRange"
-kind_name kind.WrongLayer = codes "WrongLayer"
-kind_name kind.NegativeFile = codes "NegativeFile"
-kind_name kind.TooManyPieces = codes "TooManyPieces"
-kind_name kind.TooManyVertices = codes "TooManyVertices"
-kind_name kind.NoOperation = codes "NoOperation"
-kind_name kind.TooManyApertures = codes "TooManyApertures"
+kind_name kind = (line_of kind).1

@@ -2,24 +2,20 @@
 use Rattle.std.specs.Prelude.{ℕ, List, codes}
 use Rattle.gerber_layer.specs.declared.macro_kind.FlattenKind.{FlattenKind}
 use Rattle.gerber_layer.specs.declared.macro_kind.FlattenKind.TheVariants.{Gerber, BadMacro, MacroTwice, NoMacro, ExposureOff, Turn, Slanted, TooManyRadii}
-use Rattle.gerber_layer.specs.Kinds.{kind_number, kind_name}
+use Rattle.gerber_layer.specs.Kinds.{line_of}
+
+abbrev pub flatten_line : FlattenKind → ℕ × List ℕ
+flatten_line (Gerber kind) = line_of kind
+flatten_line BadMacro = (31, codes "BadMacro")
+flatten_line MacroTwice = (32, codes "MacroTwice")
+flatten_line NoMacro = (33, codes "NoMacro")
+flatten_line ExposureOff = (34, codes "ExposureOff")
+flatten_line Turn = (35, codes "Turn")
+flatten_line Slanted = (36, codes "Slanted")
+flatten_line TooManyRadii = (37, codes "TooManyRadii")
 
 abbrev pub flatten_number : FlattenKind → ℕ
-flatten_number (Gerber kind) = kind_number kind
-flatten_number BadMacro = 31
-flatten_number MacroTwice = 32
-flatten_number NoMacro = 33
-flatten_number ExposureOff = 34
-flatten_number Turn = 35
-flatten_number Slanted = 36
-flatten_number TooManyRadii = 37
+flatten_number kind = (flatten_line kind).0
 
 abbrev pub flatten_name : FlattenKind → List ℕ
-flatten_name (Gerber kind) = kind_name kind
-flatten_name BadMacro = codes "BadMacro"
-flatten_name MacroTwice = codes "MacroTwice"
-flatten_name NoMacro = codes "NoMacro"
-flatten_name ExposureOff = codes "ExposureOff"
-flatten_name Turn = codes "Turn"
-flatten_name Slanted = codes "Slanted"
-flatten_name TooManyRadii = codes "TooManyRadii"
+flatten_name kind = (flatten_line kind).1

@@ -1,6 +1,8 @@
 -- What earlier commands have set, found by looking back. A history is a list of commands, the last first.
-use Rattle.std.specs.Prelude.{ℕ, ◌+◌, Bool, true, false, ◌||◌, ◌==◌, if◌then◌else◌, List, [], ◌∷◌, ◌++◌, ℤ, pos, Option, Some, None, Result, Ok, Err}
+use Rattle.std.specs.Prelude.{ℕ, Bool, true, false, ◌==◌, if◌then◌else◌, List, [], ◌∷◌, ◌++◌, ℤ, pos, Option, Some, None, Result, Ok, Err}
+use Rattle.std.specs.List.{list_any}
 use Rattle.std.specs.Option.{option_or}
+use Rattle.file_reading.specs.LookingBack.{latest, last_or, last_said, first_said, how_many}
 use Rattle.lengths.specs.declared.decimal.Unit.{Unit as Measure}
 use Rattle.planar.specs.declared.Spot.{Spot}
 use Rattle.aperture_macros.specs.BodyWord.{PlainPrimitive, primitive_at}
@@ -14,12 +16,6 @@ use Rattle.gerber_layer.specs.declared.command.Format.{Format}
 use Rattle.gerber_layer.specs.declared.settings.Settings.{Settings}
 use Rattle.gerber_layer.specs.Tools.{Macros, Tool, begun, filled_up, tool_in}
 use Rattle.gerber_layer.specs.Table.{code_of, coordinate, next_block}
-
--- what was set first, if anything was, and otherwise what a command sets
-abbrev pub keep_first : {A : Type 0} → Option A → Option A → Option A
-keep_first None first = first
-keep_first (Some x) None = Some x
-keep_first (Some x) (Some first) = Some first
 
 -- what a command says of a setting
 abbrev pub format_in : Command → Option Format
@@ -56,25 +52,20 @@ is_definition other = false
 
 -- how many definitions stand before
 abbrev pub definitions_before : List Command → ℕ
-definitions_before [] = 0
-definitions_before (c ∷ earlier) = if is_definition c then definitions_before earlier + 1 else definitions_before earlier
+definitions_before earlier = how_many is_definition earlier
 
 -- the first format and unit, and the last selection and operation
 abbrev pub format_before : List Command → Option Format
-format_before [] = None
-format_before (c ∷ earlier) = keep_first (format_in c) (format_before earlier)
+format_before earlier = first_said format_in earlier
 
 abbrev pub unit_before : List Command → Option Measure
-unit_before [] = None
-unit_before (c ∷ earlier) = keep_first (unit_in c) (unit_before earlier)
+unit_before earlier = first_said unit_in earlier
 
 abbrev pub aperture_before : List Command → Option ℕ
-aperture_before [] = None
-aperture_before (c ∷ earlier) = option_or (selection_in c) (aperture_before earlier)
+aperture_before earlier = last_said selection_in earlier
 
 abbrev pub operation_before : List Command → Option Code
-operation_before [] = None
-operation_before (c ∷ earlier) = option_or (code_in c) (operation_before earlier)
+operation_before earlier = last_said code_in earlier
 
 -- what a command says of whether a region is open
 abbrev pub region_in : Command → Option Bool
@@ -82,14 +73,9 @@ region_in opens_region = Some true
 region_in closes_region = Some false
 region_in other = None
 
-abbrev pub latest : {A : Type 0} → Option A → A → A
-latest (Some x) earlier = x
-latest None earlier = earlier
-
 -- a region is open where the last `G36` stands after the last `G37`
 abbrev pub region_open : List Command → Bool
-region_open [] = false
-region_open (c ∷ earlier) = latest (region_in c) (region_open earlier)
+region_open earlier = last_or false region_in earlier
 
 -- the block that a step and repeat word opens, if it has parameters
 abbrev pub ok_block : Result (Option Repeat) GerberKind → Option Repeat
@@ -106,8 +92,7 @@ block_open [] = None
 block_open (c ∷ earlier) = latest (block_in c (unit_before earlier)) (block_open earlier)
 
 abbrev pub has_ended : List Command → Bool
-has_ended [] = false
-has_ended (c ∷ earlier) = is_end c || has_ended earlier
+has_ended earlier = list_any is_end earlier
 
 -- the value of a coordinate, in the format and the unit in force
 abbrev pub value_or : ℤ → Result ℤ GerberKind → ℤ

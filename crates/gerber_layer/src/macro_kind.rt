@@ -1,4 +1,9 @@
 // Kinds of refusal where a file may have macros.
+ghost use Rattle.std.specs.Prelude.{◌≡◌};
+ghost use Rattle.gerber_layer.specs.MacroKinds.{flatten_name, flatten_number};
+ghost use Rattle.gerber_layer.specs.MacroTable.{kind_of_macro};
+ghost use Rattle.gerber_layer.specs.declared.macro_kind.FlattenKind.TheVariants.{Gerber};
+
 use crate::kind::GerberKind;
 use aperture_macros::MacroFault;
 
@@ -27,9 +32,6 @@ pub enum FlattenKind {
 }
 
 impl FlattenKind {
-    ghost use Rattle.std.specs.Prelude.{◌≡◌};
-    ghost use Rattle.gerber_layer.specs.MacroKinds.{flatten_name, flatten_number};
-
     /// Its number, from 1 to 37.
     pub fn number(self) -> u32
         ensures { result ≡ flatten_number self }
@@ -64,9 +66,6 @@ impl FlattenKind {
 }
 
 impl From<GerberKind> for FlattenKind {
-    ghost use Rattle.std.specs.Prelude.{◌≡◌};
-    ghost use Rattle.gerber_layer.specs.declared.macro_kind.FlattenKind.TheVariants.{Gerber};
-
     ghost from_gives = { λ kind refusal. refusal ≡ Gerber kind };
 
     fn from(kind: GerberKind) -> FlattenKind {
@@ -75,9 +74,6 @@ impl From<GerberKind> for FlattenKind {
 }
 
 impl From<MacroFault> for FlattenKind {
-    ghost use Rattle.std.specs.Prelude.{◌≡◌};
-    ghost use Rattle.gerber_layer.specs.MacroTable.{kind_of_macro};
-
     ghost from_gives = { λ fault refusal. refusal ≡ kind_of_macro fault };
 
     fn from(fault: MacroFault) -> FlattenKind {

@@ -14,7 +14,7 @@ use Rattle.texts.specs.Words.{begins, is}
 use Rattle.texts.proofs.Prefix.{AreCut, TellsEnd, NoneEnds, end_of_prefix, no_end_in_prefix, lines_of_prefix}
 use Rattle.ipc356_records.specs.declared.kind.RecordKind.{RecordKind}
 use Rattle.ipc356_records.specs.Line.{Form, blank, unread, units, ends, continues, tests, unknown, finishes}
-use Rattle.ipc356_records.specs.Reading.{form_of, coded, parameter, unit_of, fields_in, is_continuation, is_test, is_other_three, is_other_zero}
+use Rattle.ipc356_records.specs.Reading.{form_of, coded, parameter, unit_of, fields_in, is_other}
 use Rattle.ipc356_records.specs.Settings.{is_end, has_ended, known_at, name_in, names_of, with_name_if}
 use Rattle.ipc356_records.specs.Table.{Known, Effect, stays, effect, row, behind, probes_of_effect}
 use Rattle.ipc356_records.specs.NetlistFile.{Netlist, netlist_of, effect_at, item_of, items, probes_in, probes_of, IsRead, IsRefused}
@@ -127,13 +127,15 @@ neither false x y first second = second
 ends_told : (text : List ℕ) → is_end (form_of text) ≡ true → tells text ≡ true
 unfolding form_of coded
 ends_told text h =
-    let others = neither (is_other_three text || is_other_zero text) unread unknown refl refl in
-    let records = neither (is_test text) (tests (fields_in text)) (if is_other_three text || is_other_zero text then unread else unknown) refl others in
-    let further = neither (is_continuation text) continues (if is_test text then tests (fields_in text) else (if is_other_three text || is_other_zero text then unread else unknown)) refl records in
+    let continued = begins text (codes "017") || begins text (codes "027") in
+    let test = begins text (codes "317") || begins text (codes "327") in
+    let others = neither (is_other text) unread unknown refl refl in
+    let records = neither test (tests (fields_in text)) (if is_other text then unread else unknown) refl others in
+    let further = neither continued continues (if test then tests (fields_in text) else (if is_other text then unread else unknown)) refl records in
     let of_code = past (begins text (codes "P")) (parameter (words (part 2 line_to text))) (coded text) (no_parameter (words (part 2 line_to text)))
     (past (begins text (codes "C")) unread (if begins text (codes "P") then parameter (words (part 2 line_to text)) else coded text) refl
     (past (list_all is_blank (part 1 line_to text)) blank (if begins text (codes "C") then unread else (if begins text (codes "P") then parameter (words (part 2 line_to text)) else coded text)) refl h)) in
-    code_of_end (tells text) (if is_continuation text then continues else (if is_test text then tests (fields_in text) else (if is_other_three text || is_other_zero text then unread else unknown))) further of_code
+    code_of_end (tells text) (if continued then continues else (if test then tests (fields_in text) else (if is_other text then unread else unknown))) further of_code
 
 -- a prefix of a line with these bytes, and a line with a carriage return behind
 reach : List ℕ → ℕ

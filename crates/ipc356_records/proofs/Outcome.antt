@@ -1,5 +1,5 @@
 -- What an effect says of its line.
-use Rattle.std.proofs.Common.{◌≡◌, ℕ, Bool, true, false, cond, List, Option, Some, None, Result, Ok, Err, refl, ap}
+use Rattle.std.proofs.Common.{◌≡◌, ℕ, Bool, true, false, cond, List, Option, Some, None, Result, Ok, Err, refl, sym, ap}
 use Rattle.std.specs.Prelude.{nat_le}
 use Rattle.planar.specs.declared.Spot.{Spot}
 use Rattle.lengths.specs.declared.decimal.Unit.{Unit as Measure}
@@ -20,6 +20,9 @@ past_test false e r y h = (refl, h)
 pub got : {A : Type 0} (why : RecordKind) (o : Option A) (x : A) → needed why o ≡ Ok x → o ≡ Some x
 got why None x h = cc
 got why (Some z) x h = let e : z ≡ x = cc in ap Some e
+
+ok_is : {A : Type 0} (x y : A) → ◌≡◌ {A = Result A RecordKind} (Ok x) (Ok y) → y ≡ x
+ok_is x y h = let same : x ≡ y = cc in sym same
 
 pub within_some : (layers : ℕ) (access : Option ℕ) (n : ℕ) → within layers access ≡ Some n → nat_le n layers ≡ true
 within_some layers None n h = cc
@@ -69,5 +72,5 @@ tested k f e h =
       x_is = p.1;
       y_is = q.1;
       room = r.0;
-      is = (let i = r.1 in cc);
+      is = ok_is _ e r.1;
     }

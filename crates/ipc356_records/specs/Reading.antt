@@ -67,27 +67,19 @@ unfoldable pub parameter : List (List ℕ) → Form
 parameter [] = unread
 parameter (word ∷ further) = if is word (codes "UNITS") then units (unit_of further) else unread
 
-abbrev pub is_continuation : List ℕ → Bool
-is_continuation text = begins text (codes "017") || begins text (codes "027")
-
-abbrev pub is_test : List ℕ → Bool
-is_test text = begins text (codes "317") || begins text (codes "327")
-
 -- records that say nothing of test points
-abbrev pub is_other_three : List ℕ → Bool
-is_other_three text =
-    begins text (codes "367") || (begins text (codes "378") || (begins text (codes "379") || begins text (codes "389")))
-
-abbrev pub is_other_zero : List ℕ → Bool
-is_other_zero text = begins text (codes "078") || (begins text (codes "079") || begins text (codes "089"))
+abbrev pub is_other : List ℕ → Bool
+is_other text =
+    begins text (codes "367") || (begins text (codes "378") || (begins text (codes "379") || (begins text (codes "389")
+    || (begins text (codes "078") || (begins text (codes "079") || begins text (codes "089"))))))
 
 -- a record with its code in columns 1 to 3
 unfoldable pub coded : List ℕ → Form
 coded text =
     if begins text (codes "999") then ends
-    else (if is_continuation text then continues
-    else (if is_test text then tests (fields_in text)
-    else (if is_other_three text || is_other_zero text then unread
+    else (if begins text (codes "017") || begins text (codes "027") then continues
+    else (if begins text (codes "317") || begins text (codes "327") then tests (fields_in text)
+    else (if is_other text then unread
     else unknown)))
 
 -- Columns past the last are not read.

@@ -1,5 +1,7 @@
 -- What is known before a line, found by looking back. A history is a list of lines by their forms, the last first.
-use Rattle.std.specs.Prelude.{ℕ, ◌+◌, Bool, true, false, ◌||◌, if◌then◌else◌, List, [], ◌∷◌, Option, Some, None}
+use Rattle.std.specs.Prelude.{ℕ, Bool, true, false, List, [], ◌∷◌, Option, Some, None}
+use Rattle.std.specs.List.{list_any}
+use Rattle.file_reading.specs.LookingBack.{last_said, how_many}
 use Rattle.lengths.specs.declared.decimal.Unit.{Unit as Measure}
 use Rattle.ipc356_records.specs.Line.{Form, units, ends, tests}
 use Rattle.ipc356_records.specs.Names.{with_name}
@@ -23,30 +25,23 @@ abbrev pub name_in : Form → Option (List ℕ)
 name_in (tests fields) = fields.name
 name_in other = None
 
-abbrev pub or_else : {A : Type 0} → Option A → Option A → Option A
-or_else (Some x) other = Some x
-or_else None other = other
-
 abbrev pub with_name_if : Option (List ℕ) → List (List ℕ) → List (List ℕ)
 with_name_if None names = names
 with_name_if (Some name) names = with_name name names
 
 -- the unit, how many test records, their distinct names in first-seen order, and whether the end code stands there
 abbrev pub unit_before : List Form → Option Measure
-unit_before [] = None
-unit_before (form ∷ earlier) = or_else (unit_in form) (unit_before earlier)
+unit_before earlier = last_said unit_in earlier
 
 abbrev pub records_before : List Form → ℕ
-records_before [] = 0
-records_before (form ∷ earlier) = if is_record form then records_before earlier + 1 else records_before earlier
+records_before earlier = how_many is_record earlier
 
 abbrev pub names_of : List Form → List (List ℕ)
 names_of [] = []
 names_of (form ∷ earlier) = with_name_if (name_in form) (names_of earlier)
 
 abbrev pub has_ended : List Form → Bool
-has_ended [] = false
-has_ended (form ∷ earlier) = is_end form || has_ended earlier
+has_ended earlier = list_any is_end earlier
 
 -- what is known before the next line, on a board of so many layers
 abbrev pub known_at : ℕ → List Form → Known

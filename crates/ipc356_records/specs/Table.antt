@@ -11,6 +11,7 @@ use Rattle.ipc356_records.specs.declared.kind.RecordKind.{RecordKind}
 use Rattle.ipc356_records.specs.declared.kind.RecordKind.TheVariants as kind
 use Rattle.ipc356_records.specs.Line.{Form, TestFields, blank, unread, units, ends, continues, tests, unknown, finishes}
 use Rattle.ipc356_records.specs.Names.{index_of}
+pub use Rattle.file_reading.specs.Conditions.{◌>>=◌, unless, needed}
 
 -- What is known before a line: the unit, how many test records stand before it, their distinct names in first-seen order,
 -- whether the end code stands before it, and how many layers the board has.
@@ -27,19 +28,6 @@ pub data Effect : Type 0 where
   sets : Measure → Effect
   closes : Effect
   adds : List ℕ → ℕ → Spot → Effect
-
-infixl 10 ◌>>=◌
-abbrev pub ◌>>=◌ : {A B : Type 0} → Result A RecordKind → (A → Result B RecordKind) → Result B RecordKind
-(Ok x) >>= f = f x
-(Err e) >>= f = Err e
-
--- Conditions. The fault stands where the test holds, or where there is nothing.
-abbrev pub unless : {A : Type 0} → Bool → RecordKind → Result A RecordKind → Result A RecordKind
-unless test why more = if test then Err why else more
-
-abbrev pub needed : {A : Type 0} → RecordKind → Option A → Result A RecordKind
-needed why None = Err why
-needed why (Some x) = Ok x
 
 -- an access code from 0 to the number of layers
 abbrev pub within : ℕ → Option ℕ → Option ℕ

@@ -2,7 +2,6 @@
 ghost use Rattle.std.specs.Prelude.{◌≡◌};
 ghost use Rattle.ipc356_records.specs.Kind.{name_of_kind, number_of_kind};
 
-use lengths::NoMemory;
 use thiserror::Error;
 
 /// Why a netlist is refused.
@@ -80,15 +79,4 @@ impl RecordKind {
 pub enum RecordFault {
     Refused { kind: RecordKind, line: u32 },
     NoMemory,
-}
-
-impl From<NoMemory> for RecordFault {
-    ghost use Rattle.std.specs.Prelude.{◌≡◌};
-    ghost use Rattle.ipc356_records.specs.declared.kind.RecordFault.TheVariants as fault;
-
-    ghost from_gives = { λ _ stop. stop ≡ fault.NoMemory };
-
-    fn from(_refused: NoMemory) -> RecordFault {
-        RecordFault::NoMemory
-    }
 }

@@ -39,8 +39,10 @@ fn finished(alloc: Global, mut reader: Reader, line: u32) -> Result<Netlist, Rec
     if let Err(halt) = reader.obey(&Form::Finish) {
         return Err(fault_at(halt, line));
     }
-    let netlist = reader.into_netlist(alloc)?;
-    Ok(netlist)
+    match reader.into_netlist(alloc) {
+        Ok(netlist) => Ok(netlist),
+        Err(_) => Err(RecordFault::NoMemory),
+    }
 }
 
 /// The probes of a netlist in record order and the distinct names of its nets, or the first faulty line.

@@ -163,28 +163,17 @@ fn parameter<'a>(text: &[u8]) -> Form<'a>
     }
 }
 
-fn is_continuation(text: &[u8]) -> bool
-    ensures { result ≡ spec.is_continuation text.now }
+// Whether it is a record that says nothing of test points.
+fn is_other(text: &[u8]) -> bool
+    ensures { result ≡ spec.is_other text.now }
 {
-    begins(text, b"017") || begins(text, b"027")
-}
-
-fn is_test(text: &[u8]) -> bool
-    ensures { result ≡ spec.is_test text.now }
-{
-    begins(text, b"317") || begins(text, b"327")
-}
-
-fn is_other_three(text: &[u8]) -> bool
-    ensures { result ≡ spec.is_other_three text.now }
-{
-    begins(text, b"367") || begins(text, b"378") || begins(text, b"379") || begins(text, b"389")
-}
-
-fn is_other_zero(text: &[u8]) -> bool
-    ensures { result ≡ spec.is_other_zero text.now }
-{
-    begins(text, b"078") || begins(text, b"079") || begins(text, b"089")
+    begins(text, b"367")
+        || begins(text, b"378")
+        || begins(text, b"379")
+        || begins(text, b"389")
+        || begins(text, b"078")
+        || begins(text, b"079")
+        || begins(text, b"089")
 }
 
 // A record by its code.
@@ -196,11 +185,11 @@ fn coded<'a>(line: &Record<'a>) -> Form<'a>
     let text = line.text;
     if begins(text, b"999") {
         Form::End
-    } else if is_continuation(text) {
+    } else if begins(text, b"017") || begins(text, b"027") {
         Form::Continuation
-    } else if is_test(text) {
+    } else if begins(text, b"317") || begins(text, b"327") {
         Form::Test(fields_in(line))
-    } else if is_other_three(text) || is_other_zero(text) {
+    } else if is_other(text) {
         Form::Unread
     } else {
         Form::Unknown

@@ -15,7 +15,8 @@ use Rattle.xnc.specs.declared.tools.Tools.{Tools}
 use Rattle.xnc.specs.declared.reader.Reader.{Reader}
 use Rattle.xnc.specs.Place.{Place}
 use Rattle.xnc.specs.Table.{Known, Effect, stays, makes, moves, drills, coordinate, effect, after}
-use Rattle.xnc.specs.Settings.{or_else, value_or, value_in, settings_at, unit_at, x_at, y_at, defined_at, tools_at, piece_of, known_with, known_at, barrels_at}
+use Rattle.std.specs.Option.{option_or}
+use Rattle.xnc.specs.Settings.{value_or, value_in, settings_at, unit_at, x_at, y_at, defined_at, tools_at, piece_of, known_with, known_at, barrels_at}
 use Rattle.xnc.specs.Reader.{defined_in, count_of, Adds, Turns, known_of, place_of, Obeys}
 use Rattle.xnc.proofs.Outcome.{IsPlain, Leads, Crossed, Outcome, outcome}
 
@@ -25,7 +26,7 @@ value_is unit here to None h = cc
 value_is unit here to (Some d) h = ap (value_or here) h
 
 -- and that of the second of two
-value_then : (unit : Measure) (here first to : ℤ) (c d : Option Fraction) → coordinate unit here c ≡ Ok first → coordinate unit first d ≡ Ok to → value_in (Some unit) here (or_else d c) ≡ to
+value_then : (unit : Measure) (here first to : ℤ) (c d : Option Fraction) → coordinate unit here c ≡ Ok first → coordinate unit first d ≡ Ok to → value_in (Some unit) here (option_or d c) ≡ to
 value_then unit here first to c None h k = let e : first ≡ to = cc in value_is unit here first c h ∙ e
 value_then unit here first to c (Some d) h k = ap (value_or here) k
 
@@ -36,13 +37,13 @@ led earlier c to l =
     let up : value_in (unit_at earlier) (y_at earlier) c.y ≡ to.y = rw l.unit_is (value_is l.measure (y_at earlier) to.y c.y l.y_is) in
     rw (across, up) refl
 
-crossed : (p : Place) (earlier : List Form) (n : ℕ) (from to : Coordinates) (e : Effect) → (o : Crossed (known_with p earlier n) from to e) → ◌≡◌ {A = Spot} o.last (record { x = value_in (unit_at earlier) (x_at earlier) (or_else to.x from.x); y = value_in (unit_at earlier) (y_at earlier) (or_else to.y from.y) })
+crossed : (p : Place) (earlier : List Form) (n : ℕ) (from to : Coordinates) (e : Effect) → (o : Crossed (known_with p earlier n) from to e) → ◌≡◌ {A = Spot} o.last (record { x = value_in (unit_at earlier) (x_at earlier) (option_or to.x from.x); y = value_in (unit_at earlier) (y_at earlier) (option_or to.y from.y) })
 crossed p earlier n from to e o =
     let same : o.starts.measure ≡ o.leads.measure = (let h : Some o.starts.measure ≡ Some o.leads.measure = sym o.starts.unit_is ∙ o.leads.unit_is in cc) in
     let first_x : coordinate o.leads.measure (x_at earlier) from.x ≡ Ok o.first.x = subst (λ (m : Measure). coordinate m (x_at earlier) from.x ≡ Ok o.first.x) same o.starts.x_is in
     let first_y : coordinate o.leads.measure (y_at earlier) from.y ≡ Ok o.first.y = subst (λ (m : Measure). coordinate m (y_at earlier) from.y ≡ Ok o.first.y) same o.starts.y_is in
-    let across : value_in (unit_at earlier) (x_at earlier) (or_else to.x from.x) ≡ o.last.x = rw o.leads.unit_is (value_then o.leads.measure (x_at earlier) o.first.x o.last.x from.x to.x first_x o.leads.x_is) in
-    let up : value_in (unit_at earlier) (y_at earlier) (or_else to.y from.y) ≡ o.last.y = rw o.leads.unit_is (value_then o.leads.measure (y_at earlier) o.first.y o.last.y from.y to.y first_y o.leads.y_is) in
+    let across : value_in (unit_at earlier) (x_at earlier) (option_or to.x from.x) ≡ o.last.x = rw o.leads.unit_is (value_then o.leads.measure (x_at earlier) o.first.x o.last.x from.x to.x first_x o.leads.x_is) in
+    let up : value_in (unit_at earlier) (y_at earlier) (option_or to.y from.y) ≡ o.last.y = rw o.leads.unit_is (value_then o.leads.measure (y_at earlier) o.first.y o.last.y from.y to.y first_y o.leads.y_is) in
     rw (across, up) refl
 
 -- the settings behind a line are found by looking back from the next
@@ -95,7 +96,7 @@ tools-push old new p earlier n (form.Tool k d) e h o t =
       count = adds.more ∙ ap (λ (c : ℕ). c + 1) h.count;
     }
   where
-    by : (m : ℕ) (b : Bool) → cond b (Some o.size) (defined_at earlier m) ≡ or_else (cond b (Some o.size) None) (defined_at earlier m)
+    by : (m : ℕ) (b : Bool) → cond b (Some o.size) (defined_at earlier m) ≡ option_or (cond b (Some o.size) None) (defined_at earlier m)
     by m true = refl
     by m false = refl
 tools-push old new p earlier n (form.Rout to) e h o t = let k = kept old new earlier e h o.goes.plain t in record { defined = k.defined; count = k.count }

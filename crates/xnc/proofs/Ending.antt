@@ -20,7 +20,7 @@ use Rattle.xnc.specs.declared.line.Form.TheVariants as form
 use Rattle.xnc.specs.declared.settings.Stage.{Stage}
 use Rattle.xnc.specs.declared.settings.Stage.TheVariants.{Opening, Header, Body, Ended}
 use Rattle.xnc.specs.Place.{Place}
-use Rattle.xnc.specs.Reading.{form_of, within_blanks, comment, file_function, command, body_line, place_line, tool_line, routs, straight, hits, slots, slot_end, defines, selects, coordinates_of, field, further, names_span, is_g, is_c, is_arc, is_metric, is_inch}
+use Rattle.xnc.specs.Reading.{form_of, within_blanks, comment, file_function, command, body_line, place_line, tool_line, routs, straight, hits, slots, slot_end, defines, selects, coordinates_of, field, further, names_span, is_g, is_c, is_metric, is_inch}
 use Rattle.xnc.specs.Table.{Known, Effect, stays, unless, effect, staged, header, body, is_ended}
 use Rattle.xnc.specs.Settings.{stage_at, known_at, effect_at, piece_of, barrels_at}
 use Rattle.xnc.specs.DrillFile.{item_of, items, IsRead, IsRefused}
@@ -351,7 +351,7 @@ ends_body text h =
     (past (begins text (codes "G01")) _ _ (no_straight _)
     (past (begins text (codes "G00")) _ _ (no_routs _)
     (past (is text (codes "G05")) _ _ refl
-    (past (is_arc text) _ _ refl h))))))
+    (past (begins text (codes "G02") || begins text (codes "G03")) _ _ refl h))))))
 
 ends_command : (text : List ℕ) → is_end (command text) ≡ true → is text (codes "M30") ≡ true
 unfolding command

@@ -6,7 +6,8 @@ use Rattle.xnc.specs.declared.line.Form.{Form}
 use Rattle.xnc.specs.declared.line.Form.TheVariants as form
 use Rattle.xnc.specs.Place.{Place}
 use Rattle.xnc.specs.Table.{Known, Effect, stays, unless, is_drilling, diameter, lookup, header, body, effect}
-use Rattle.xnc.specs.Settings.{or_else, down_at, tool_at, defined_at, known_at}
+use Rattle.std.specs.Option.{option_or}
+use Rattle.xnc.specs.Settings.{down_at, tool_at, defined_at, known_at}
 use Rattle.xnc.specs.Laws.{HasTool}
 use Rattle.xnc.proofs.Outcome.{no_ok, past_test, placed}
 
@@ -44,11 +45,11 @@ clash : {A : Type 0} (b : Bool) → b ≡ true → b ≡ false → A
 clash b h k = cc
 
 -- one more definition takes no tool away
-defined_more : (o : Option ℕ) (here more : ℕ → Option ℕ) → is_some (lookup o here) ≡ true → is_some (lookup o (λ n. or_else (more n) (here n))) ≡ true
+defined_more : (o : Option ℕ) (here more : ℕ → Option ℕ) → is_some (lookup o here) ≡ true → is_some (lookup o (λ n. option_or (more n) (here n))) ≡ true
 defined_more None here more h = cc
 defined_more (Some n) here more h = by (more n) (here n) h
   where
-    by : (m o : Option ℕ) → is_some o ≡ true → is_some (or_else m o) ≡ true
+    by : (m o : Option ℕ) → is_some o ≡ true → is_some (option_or m o) ≡ true
     by (Some d) o h = refl
     by None o h = h
 

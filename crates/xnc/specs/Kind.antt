@@ -3,40 +3,28 @@ use Rattle.std.specs.Prelude.{ℕ, List, codes}
 use Rattle.xnc.specs.declared.kind.DrillKind.{DrillKind}
 use Rattle.xnc.specs.declared.kind.DrillKind.TheVariants as kind
 
+-- how a report numbers a kind, and names it
+abbrev pub line_of : DrillKind → ℕ × List ℕ
+line_of kind.NoHeader = (1, codes "NoHeader")
+line_of kind.BadLine = (2, codes "BadLine")
+line_of kind.MissingUnit = (3, codes "MissingUnit")
+line_of kind.NoTool = (4, codes "NoTool")
+line_of kind.ToolTwice = (5, codes "ToolTwice")
+line_of kind.ImpliedDecimals = (6, codes "ImpliedDecimals")
+line_of kind.OffGrid = (7, codes "OffGrid")
+line_of kind.OutOfRange = (8, codes "OutOfRange")
+line_of kind.ArcRout = (9, codes "ArcRout")
+line_of kind.WrongMode = (10, codes "WrongMode")
+line_of kind.WrongSpan = (11, codes "WrongSpan")
+line_of kind.NotPlated = (12, codes "NotPlated")
+line_of kind.MixedPlating = (13, codes "MixedPlating")
+line_of kind.NotEnded = (14, codes "NotEnded")
+line_of kind.AfterEnd = (15, codes "AfterEnd")
+line_of kind.TooManyPieces = (16, codes "TooManyPieces")
+line_of kind.TooManyTools = (17, codes "TooManyTools")
+
 abbrev pub number_of_kind : DrillKind → ℕ
-number_of_kind kind.NoHeader = 1
-number_of_kind kind.BadLine = 2
-number_of_kind kind.MissingUnit = 3
-number_of_kind kind.NoTool = 4
-number_of_kind kind.ToolTwice = 5
-number_of_kind kind.ImpliedDecimals = 6
-number_of_kind kind.OffGrid = 7
-number_of_kind kind.OutOfRange = 8
-number_of_kind kind.ArcRout = 9
-number_of_kind kind.WrongMode = 10
-number_of_kind kind.WrongSpan = 11
-number_of_kind kind.NotPlated = 12
-number_of_kind kind.MixedPlating = 13
-number_of_kind kind.NotEnded = 14
-number_of_kind kind.AfterEnd = 15
-number_of_kind kind.TooManyPieces = 16
-number_of_kind kind.TooManyTools = 17
+number_of_kind kind = (line_of kind).0
 
 abbrev pub name_of_kind : DrillKind → List ℕ
-name_of_kind kind.NoHeader = codes "NoHeader"
-name_of_kind kind.BadLine = codes "BadLine"
-name_of_kind kind.MissingUnit = codes "MissingUnit"
-name_of_kind kind.NoTool = codes "NoTool"
-name_of_kind kind.ToolTwice = codes "ToolTwice"
-name_of_kind kind.ImpliedDecimals = codes "ImpliedDecimals"
-name_of_kind kind.OffGrid = codes "OffGrid"
-name_of_kind kind.OutOfRange = codes "OutOfRange"
-name_of_kind kind.ArcRout = codes "ArcRout"
-name_of_kind kind.WrongMode = codes "WrongMode"
-name_of_kind kind.WrongSpan = codes "WrongSpan"
-name_of_kind kind.NotPlated = codes "NotPlated"
-name_of_kind kind.MixedPlating = codes "MixedPlating"
-name_of_kind kind.NotEnded = codes "NotEnded"
-name_of_kind kind.AfterEnd = codes "AfterEnd"
-name_of_kind kind.TooManyPieces = codes "TooManyPieces"
-name_of_kind kind.TooManyTools = codes "TooManyTools"
+name_of_kind kind = (line_of kind).1

@@ -124,13 +124,10 @@ is_metric text = is text (codes "METRIC") || (is text (codes "METRIC,TZ") || is 
 abbrev pub is_inch : List ℕ → Bool
 is_inch text = is text (codes "INCH") || (is text (codes "INCH,TZ") || is text (codes "INCH,LZ"))
 
-abbrev pub is_arc : List ℕ → Bool
-is_arc text = begins text (codes "G02") || begins text (codes "G03")
-
 -- lines of the body that go to places or turn on a tool
 unfoldable pub body_line : List ℕ → Form
 body_line text =
-    if is_arc text then form.Arc
+    if begins text (codes "G02") || begins text (codes "G03") then form.Arc
     else (if is text (codes "G05") then form.Drill
     else (if begins text (codes "G00") then routs (coordinates_of (drop 3 text))
     else (if begins text (codes "G01") then straight (coordinates_of (drop 3 text))

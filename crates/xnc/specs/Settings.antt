@@ -1,9 +1,12 @@
 -- What earlier lines have set, found by looking back. A history is a list of the forms of lines, the last first.
 use Rattle.std.specs.Prelude.{ℕ, ◌+◌, Bool, true, false, ◌==◌, if◌then◌else◌, List, [], ◌∷◌, ◌++◌, length, ℤ, pos, Option, Some, None, Result, Ok, Err}
+use Rattle.std.specs.Option.{option_or}
+use Rattle.file_reading.specs.LookingBack.{last_or, last_said}
 use Rattle.lengths.specs.Decimal.{Fraction}
 use Rattle.lengths.specs.declared.decimal.Unit.{Unit as Measure}
 use Rattle.board_shapes.specs.Plain.{PlainPiece}
 use Rattle.xnc.specs.declared.kind.DrillKind.{DrillKind}
+use Rattle.xnc.specs.declared.line.Coordinates.{Coordinates}
 use Rattle.xnc.specs.declared.line.Form.{Form}
 use Rattle.xnc.specs.declared.line.Form.TheVariants as form
 use Rattle.xnc.specs.declared.settings.Stage.{Stage}
@@ -15,60 +18,58 @@ use Rattle.xnc.specs.Place.{Place}
 use Rattle.xnc.specs.Table.{Known, Effect, stays, makes, moves, drills, value_of, diameter_of, effect}
 
 -- before `M48`, in the header, in the body, or behind the end
+abbrev pub stage_in : Form → Option Stage
+stage_in form.Start = Some Header
+stage_in form.HeaderEnd = Some Body
+stage_in form.End = Some Ended
+stage_in other = None
+
 abbrev pub stage_at : List Form → Stage
-stage_at [] = Opening
-stage_at (form.Start ∷ earlier) = Header
-stage_at (form.HeaderEnd ∷ earlier) = Body
-stage_at (form.End ∷ earlier) = Ended
-stage_at (other ∷ earlier) = stage_at earlier
+stage_at earlier = last_or Opening stage_in earlier
 
 -- the unit of the last unit line
+abbrev pub unit_in : Form → Option Measure
+unit_in (form.Unit unit) = Some unit
+unit_in other = None
+
 abbrev pub unit_at : List Form → Option Measure
-unit_at [] = None
-unit_at (form.Unit unit ∷ earlier) = Some unit
-unit_at (other ∷ earlier) = unit_at earlier
+unit_at earlier = last_said unit_in earlier
 
 -- the tool that was selected last, and none behind `T0`
+abbrev pub tool_in : Form → Option (Option ℕ)
+tool_in (form.Select n) = Some (Some n)
+tool_in form.NoTool = Some None
+tool_in other = None
+
 abbrev pub tool_at : List Form → Option ℕ
-tool_at [] = None
-tool_at (form.Select n ∷ earlier) = Some n
-tool_at (form.NoTool ∷ earlier) = None
-tool_at (other ∷ earlier) = tool_at earlier
+tool_at earlier = last_or None tool_in earlier
 
 -- drill mode at the start and behind `G05`, rout mode behind `G00`
+abbrev pub mode_in : Form → Option Mode
+mode_in form.Drill = Some Drill
+mode_in (form.Rout to) = Some Rout
+mode_in other = None
+
 abbrev pub mode_at : List Form → Mode
-mode_at [] = Drill
-mode_at (form.Drill ∷ earlier) = Drill
-mode_at (form.Rout to ∷ earlier) = Rout
-mode_at (other ∷ earlier) = mode_at earlier
+mode_at earlier = last_or Drill mode_in earlier
 
 -- down behind `M15`; up at the start, behind `M16` and behind `G00`
+abbrev pub down_in : Form → Option Bool
+down_in form.Lower = Some true
+down_in form.Raise = Some false
+down_in (form.Rout to) = Some false
+down_in other = None
+
 abbrev pub down_at : List Form → Bool
-down_at [] = false
-down_at (form.Lower ∷ earlier) = true
-down_at (form.Raise ∷ earlier) = false
-down_at (form.Rout to ∷ earlier) = false
-down_at (other ∷ earlier) = down_at earlier
+down_at earlier = last_or false down_in earlier
 
--- the first of two that is there
-abbrev pub or_else : {A : Type 0} → Option A → Option A → Option A
-or_else (Some x) other = Some x
-or_else None other = other
-
--- the last X or Y that a line names
-abbrev pub x_in : Form → Option Fraction
-x_in (form.Rout to) = to.x
-x_in (form.Straight to) = to.x
-x_in (form.Hit at) = at.x
-x_in (form.Slot from to) = or_else to.x from.x
-x_in other = None
-
-abbrev pub y_in : Form → Option Fraction
-y_in (form.Rout to) = to.y
-y_in (form.Straight to) = to.y
-y_in (form.Hit at) = at.y
-y_in (form.Slot from to) = or_else to.y from.y
-y_in other = None
+-- the last X or Y that a line names, of the two the one that `part` takes
+abbrev pub named_in : (Coordinates → Option Fraction) → Form → Option Fraction
+named_in part (form.Rout to) = part to
+named_in part (form.Straight to) = part to
+named_in part (form.Hit at) = part at
+named_in part (form.Slot from to) = option_or (part to) (part from)
+named_in part other = None
 
 -- the value of a coordinate in the unit in force
 abbrev pub value_or : ℤ → Result ℤ DrillKind → ℤ
@@ -81,13 +82,15 @@ value_in None here (Some d) = here
 value_in (Some unit) here (Some d) = value_or here (value_of unit d)
 
 -- the value of the last X or Y that a line named, or 0
+abbrev pub named_at : (Coordinates → Option Fraction) → List Form → ℤ
+named_at part [] = pos 0
+named_at part (f ∷ earlier) = value_in (unit_at earlier) (named_at part earlier) (named_in part f)
+
 abbrev pub x_at : List Form → ℤ
-x_at [] = pos 0
-x_at (f ∷ earlier) = value_in (unit_at earlier) (x_at earlier) (x_in f)
+x_at earlier = named_at (λ c. c.x) earlier
 
 abbrev pub y_at : List Form → ℤ
-y_at [] = pos 0
-y_at (f ∷ earlier) = value_in (unit_at earlier) (y_at earlier) (y_in f)
+y_at earlier = named_at (λ c. c.y) earlier
 
 abbrev pub settings_at : List Form → Settings
 settings_at earlier = record {
@@ -106,7 +109,7 @@ diameter_in n m (Err kind) = None
 
 abbrev pub defined_at : List Form → ℕ → Option ℕ
 defined_at [] n = None
-defined_at (form.Tool m d ∷ earlier) n = or_else (diameter_in n m (diameter_of (unit_at earlier) d)) (defined_at earlier n)
+defined_at (form.Tool m d ∷ earlier) n = option_or (diameter_in n m (diameter_of (unit_at earlier) d)) (defined_at earlier n)
 defined_at (other ∷ earlier) n = defined_at earlier n
 
 -- how many tools are defined

@@ -2,12 +2,11 @@
 use Rattle.std.specs.Prelude.{ℕ, ◌/◌, Bool, true, false, ◌||◌, not, ◌==◌, nat_le, nat_lt, if◌then◌else◌, ℤ, pos, unsigned_abs, Option, Some, None, is_some, is_none, Result, Ok, Err}
 use Rattle.contact.specs.declared.TheConstants.{MOST_DIAMETER}
 use Rattle.planar.specs.declared.Spot.{Spot}
-use Rattle.lengths.specs.Decimal.{Fraction}
+use Rattle.lengths.specs.Decimal.{Fraction, chosen}
 use Rattle.lengths.specs.Grid.{position_of, size_of}
 use Rattle.lengths.specs.declared.decimal.Unit.{Unit as Measure}
 use Rattle.lengths.specs.declared.decimal.Unit.TheVariants.{Mm, Inch}
 use Rattle.lengths.specs.declared.decimal.GridFault.{GridFault}
-use Rattle.lengths.specs.declared.decimal.GridFault.TheVariants as grid
 use Rattle.board_shapes.specs.Plain.{Figure, round}
 use Rattle.xnc.specs.declared.kind.DrillKind.{DrillKind}
 use Rattle.xnc.specs.declared.kind.DrillKind.TheVariants as kind
@@ -19,6 +18,7 @@ use Rattle.xnc.specs.declared.settings.Stage.TheVariants.{Opening, Header, Body,
 use Rattle.xnc.specs.declared.settings.Mode.{Mode}
 use Rattle.xnc.specs.declared.settings.Mode.TheVariants.{Drill, Rout}
 use Rattle.xnc.specs.declared.settings.Settings.{Settings}
+pub use Rattle.file_reading.specs.Conditions.{◌>>=◌, unless, needed}
 
 -- What is known before a line: the settings, the diameter of each tool that is defined, how many tools are, how many pieces there are, and how many there may be.
 pub record Known : Type 0 where
@@ -34,19 +34,6 @@ pub data Effect : Type 0 where
   makes : ℕ → ℕ → Effect
   moves : Spot → Effect
   drills : Spot → Figure → Effect
-
-infixl 10 ◌>>=◌
-abbrev pub ◌>>=◌ : {A B : Type 0} → Result A DrillKind → (A → Result B DrillKind) → Result B DrillKind
-(Ok x) >>= f = f x
-(Err e) >>= f = Err e
-
--- Conditions. The fault stands where the test holds, or where there is nothing.
-abbrev pub unless : {A : Type 0} → Bool → DrillKind → Result A DrillKind → Result A DrillKind
-unless test kind more = if test then Err kind else more
-
-abbrev pub needed : {A : Type 0} → DrillKind → Option A → Result A DrillKind
-needed kind None = Err kind
-needed kind (Some x) = Ok x
 
 abbrev pub same_unit : Measure → Measure → Bool
 same_unit Mm Mm = true
@@ -67,8 +54,7 @@ is_start form.Start = true
 is_start other = false
 
 abbrev pub kind_of_grid : GridFault → DrillKind
-kind_of_grid grid.OffGrid = kind.OffGrid
-kind_of_grid grid.OutOfRange = kind.OutOfRange
+kind_of_grid fault = chosen fault kind.OffGrid kind.OutOfRange
 
 abbrev pub gridded : Result ℤ GridFault → Result ℤ DrillKind
 gridded (Ok u) = Ok u
@@ -149,6 +135,14 @@ slot k from to = do
   from ← target k.settings.unit k.settings.at from
   to ← target k.settings.unit from to
   barrel k from to
+
+-- the rows of places, where the mode and the tool allow them
+unfoldable pub led : Known → Form → Result Effect DrillKind
+led k (form.Rout to) = rout k to
+led k (form.Straight to) = straight k to
+led k (form.Hit at) = hit k at
+led k (form.Slot from to) = slot k from to
+led k other = Err kind.BadLine
 
 -- the rows of the header
 unfoldable pub header : Known → Form → Result Effect DrillKind

@@ -111,15 +111,11 @@ pub enum DrillFault {
 }
 
 impl From<GridFault> for DrillKind {
-    ghost use Rattle.std.specs.Prelude.{◌≡◌};
     ghost use Rattle.xnc.specs.Table.{kind_of_grid};
 
     ghost from_gives = { λ fault kind. kind ≡ kind_of_grid fault };
 
     fn from(fault: GridFault) -> DrillKind {
-        match fault {
-            GridFault::OffGrid => DrillKind::OffGrid,
-            GridFault::OutOfRange => DrillKind::OutOfRange,
-        }
+        fault.choose(DrillKind::OffGrid, DrillKind::OutOfRange)
     }
 }

@@ -102,45 +102,35 @@ impl Reader {
         Ok(Effect::Drills(to, Shape::Round(barrel)))
     }
 
-    #[tactic(auto, unfolding(crate::specs::Table::rout))]
-    fn rout(&self, to: Coordinates) -> Result<Effect, DrillKind>
+    // What the rows of places do where the mode and the tool allow it.
+    #[tactic(auto, unfolding(crate::specs::Table::led, crate::specs::Table::rout, crate::specs::Table::straight, crate::specs::Table::hit, crate::specs::Table::slot))]
+    fn led(&self, form: &Form) -> Result<Effect, DrillKind>
         requires lawful { IsLawfulReader self.now }
-        ensures value { showing result ≡ spec.rout (known_of self.now) to }
+        ensures value { showing result ≡ spec.led (known_of self.now) form.now }
         ensures fit { IfOk result (IsFit self.now.tools) }
     {
-        let to = target(self.settings.unit, self.settings.at, to)?;
-        Ok(Effect::Moves(to))
-    }
-
-    #[tactic(auto, unfolding(crate::specs::Table::straight))]
-    fn straight(&self, to: Coordinates) -> Result<Effect, DrillKind>
-        requires lawful { IsLawfulReader self.now }
-        ensures value { showing result ≡ spec.straight (known_of self.now) to }
-        ensures fit { IfOk result (IsFit self.now.tools) }
-    {
-        let to = target(self.settings.unit, self.settings.at, to)?;
-        self.barrel(self.settings.at, to)
-    }
-
-    #[tactic(auto, unfolding(crate::specs::Table::hit))]
-    fn hit(&self, at: Coordinates) -> Result<Effect, DrillKind>
-        requires lawful { IsLawfulReader self.now }
-        ensures value { showing result ≡ spec.hit (known_of self.now) at }
-        ensures fit { IfOk result (IsFit self.now.tools) }
-    {
-        let at = target(self.settings.unit, self.settings.at, at)?;
-        self.barrel(at, at)
-    }
-
-    #[tactic(auto, unfolding(crate::specs::Table::slot))]
-    fn slot(&self, from: Coordinates, to: Coordinates) -> Result<Effect, DrillKind>
-        requires lawful { IsLawfulReader self.now }
-        ensures value { showing result ≡ spec.slot (known_of self.now) from to }
-        ensures fit { IfOk result (IsFit self.now.tools) }
-    {
-        let from = target(self.settings.unit, self.settings.at, from)?;
-        let to = target(self.settings.unit, from, to)?;
-        self.barrel(from, to)
+        let unit = self.settings.unit;
+        let here = self.settings.at;
+        match *form {
+            Form::Rout(to) => {
+                let to = target(unit, here, to)?;
+                Ok(Effect::Moves(to))
+            },
+            Form::Straight(to) => {
+                let to = target(unit, here, to)?;
+                self.barrel(here, to)
+            },
+            Form::Hit(at) => {
+                let at = target(unit, here, at)?;
+                self.barrel(at, at)
+            },
+            Form::Slot(from, to) => {
+                let from = target(unit, here, from)?;
+                let to = target(unit, from, to)?;
+                self.barrel(from, to)
+            },
+            _ => Err(DrillKind::BadLine),
+        }
     }
 
     // The rows of the header.
@@ -162,7 +152,7 @@ impl Reader {
     }
 
     // The rows of the body.
-    #[tactic(auto, unfolding(crate::specs::Table::body))]
+    #[tactic(auto, unfolding(crate::specs::Table::body, crate::specs::Table::led))]
     fn body(&self, form: &Form) -> Result<Effect, DrillKind>
         requires lawful { IsLawfulReader self.now }
         ensures value { showing result ≡ spec.body (known_of self.now) form.now }
@@ -178,18 +168,17 @@ impl Reader {
             Form::Select(n) if self.tools.find(n).is_none() => Err(DrillKind::NoTool),
             Form::Select(_) => Ok(Effect::Stays),
             Form::Rout(_) if down => Err(DrillKind::WrongMode),
-            Form::Rout(to) => self.rout(to),
+            Form::Rout(_) => self.led(form),
             Form::Lower if drilling || down => Err(DrillKind::WrongMode),
             Form::Lower if self.diameter().is_none() => Err(DrillKind::NoTool),
             Form::Lower => Ok(Effect::Stays),
             Form::Raise if !down => Err(DrillKind::WrongMode),
             Form::Raise => Ok(Effect::Stays),
             Form::Straight(_) if !down => Err(DrillKind::WrongMode),
-            Form::Straight(to) => self.straight(to),
+            Form::Straight(_) => self.led(form),
             Form::Hit(_) | Form::Slot(_, _) if !drilling => Err(DrillKind::WrongMode),
             Form::Hit(_) | Form::Slot(_, _) if self.diameter().is_none() => Err(DrillKind::NoTool),
-            Form::Hit(at) => self.hit(at),
-            Form::Slot(from, to) => self.slot(from, to),
+            Form::Hit(_) | Form::Slot(_, _) => self.led(form),
             _ => Err(DrillKind::BadLine),
         }
     }

@@ -244,17 +244,11 @@ fn is_inch(text: &[u8]) -> bool
     is(text, b"INCH") || is(text, b"INCH,TZ") || is(text, b"INCH,LZ")
 }
 
-fn is_arc(text: &[u8]) -> bool
-    ensures { result ≡ spec.is_arc text.now }
-{
-    begins(text, b"G02") || begins(text, b"G03")
-}
-
 #[tactic(auto, unfolding(crate::specs::Reading::body_line))]
 fn body_line(text: &[u8]) -> Form
     ensures { result ≡ spec.body_line text.now }
 {
-    if is_arc(text) {
+    if begins(text, b"G02") || begins(text, b"G03") {
         return Form::Arc;
     }
     if is(text, b"G05") {

@@ -116,26 +116,20 @@ fn value(unit: Unit, d: Decimal) -> Result<i64, DrillKind>
     }
 }
 
-// Where X leads.
-fn across(unit: Unit, here: Spot, x: Option<Decimal>) -> Result<i64, DrillKind>
-    requires { IsPlaced here }
-    ensures value { result ≡ spec.coordinate unit here.x x }
-    ensures reached { IfOk result IsReached }
-{
-    match x {
-        None => Ok(here.x),
-        Some(d) => value(unit, d),
-    }
+/// The current point in x or in y, in u.
+#[derive(Clone, Copy)]
+struct Here {
+    u: i64,
 }
 
-// Where Y leads.
-fn up(unit: Unit, here: Spot, y: Option<Decimal>) -> Result<i64, DrillKind>
-    requires { IsPlaced here }
-    ensures value { result ≡ spec.coordinate unit here.y y }
+// Where a coordinate leads.
+fn coordinate(unit: Unit, here: Here, to: Option<Decimal>) -> Result<i64, DrillKind>
+    requires { IsReached here.u }
+    ensures value { result ≡ spec.coordinate unit here.u to }
     ensures reached { IfOk result IsReached }
 {
-    match y {
-        None => Ok(here.y),
+    match to {
+        None => Ok(here.u),
         Some(d) => value(unit, d),
     }
 }
@@ -150,8 +144,8 @@ pub fn target(unit: Option<Unit>, here: Spot, to: Coordinates) -> Result<Spot, D
     let Some(unit) = unit else {
         return Err(DrillKind::MissingUnit);
     };
-    let x = across(unit, here, to.x)?;
-    let y = up(unit, here, to.y)?;
+    let x = coordinate(unit, Here { u: here.x }, to.x)?;
+    let y = coordinate(unit, Here { u: here.y }, to.y)?;
     Ok(Spot { x, y })
 }
 
