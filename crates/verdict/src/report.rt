@@ -9,56 +9,33 @@ use crate::verdict::{
     Branch, Open, PointLine, Short, SourceLine, SpotLine, Supplement, Tree, Twig, Verdict,
 };
 use lengths::{NoMemory, Text};
-use std::alloc::Global;
-use texts::Numeral;
-
-// Appends a word of text.
-fn push_bytes(out: &mut Vec<u8>, bytes: &[u8]) -> Result<(), NoMemory>
-    ensures { OnOk result (out.new.items ≡ out.old.items ++ bytes.now) }
-{
-    out.extend_from_slice(bytes)?;
-    Ok(())
-}
-
-// Appends the digits of a number.
-fn push_digits(out: &mut Vec<u8>, n: u64) -> Result<(), NoMemory>
-    ensures { OnOk result (out.new.items ≡ out.old.items ++ decimal n) }
-{
-    push_bytes(out, Numeral::of(n).as_bytes())
-}
-
-// Appends a blank and a number.
-fn push_word(out: &mut Vec<u8>, n: u64) -> Result<(), NoMemory>
-    ensures { OnOk result (out.new.items ≡ out.old.items ++ spec.word n) }
-{
-    push_bytes(out, b" ")?;
-    push_digits(out, n)
-}
+use std::alloc::{AllocError, Global};
+use texts::{put, put_blank_number, put_number, put_signed};
 
 // Appends a title and a count.
-fn push_count(out: &mut Vec<u8>, title: &[u8], n: u64) -> Result<(), NoMemory>
+fn push_count(out: &mut Vec<u8>, title: &[u8], n: u64) -> Result<(), AllocError>
     ensures { OnOk result (out.new.items ≡ out.old.items ++ spec.count_line title.now n) }
 {
-    push_bytes(out, title)?;
-    push_word(out, n)?;
-    push_bytes(out, b"\n")
+    put(out, title)?;
+    put_blank_number(out, n)?;
+    put(out, b"\n")
 }
 
-fn push_twig(out: &mut Vec<u8>, twig: &Twig) -> Result<(), NoMemory>
+fn push_twig(out: &mut Vec<u8>, twig: &Twig) -> Result<(), AllocError>
     ensures text { OnOk result (out.new.items ≡ out.old.items ++ spec.twig_text twig.now) }
     ensures lawful { OnOk result (IsTwig twig.now) }
 {
-    push_word(out, u64::from(twig.piece))?;
+    put_blank_number(out, u64::from(twig.piece))?;
     match twig.parent {
         None => Ok(()),
         Some(parent) => {
-            push_bytes(out, b":")?;
-            push_digits(out, u64::from(parent))
+            put(out, b":")?;
+            put_number(out, u64::from(parent))
         }
     }
 }
 
-fn push_twigs(out: &mut Vec<u8>, net: &[Twig]) -> Result<(), NoMemory>
+fn push_twigs(out: &mut Vec<u8>, net: &[Twig]) -> Result<(), AllocError>
     ensures text { OnOk result (out.new.items ≡ out.old.items ++ flat_map spec.twig_text net.now) }
     ensures lawful { OnOk result (AllByRecursion IsTwig net.now) }
 {
@@ -68,18 +45,18 @@ fn push_twigs(out: &mut Vec<u8>, net: &[Twig]) -> Result<(), NoMemory>
     Ok(())
 }
 
-fn push_net(out: &mut Vec<u8>, number: u64, net: &[Twig]) -> Result<(), NoMemory>
+fn push_net(out: &mut Vec<u8>, number: u64, net: &[Twig]) -> Result<(), AllocError>
     ensures text { OnOk result (out.new.items ≡ out.old.items ++ spec.net_line number net.now) }
     ensures lawful { OnOk result (AllByRecursion IsTwig net.now) }
 {
-    push_bytes(out, b"net")?;
-    push_word(out, number)?;
+    put(out, b"net")?;
+    put_blank_number(out, number)?;
     push_twigs(out, net)?;
-    push_bytes(out, b"\n")
+    put(out, b"\n")
 }
 
 #[tactic(auto, using(crate::proofs::Numbered::numbered_turn))]
-fn push_nets(out: &mut Vec<u8>, nets: &[Tree]) -> Result<(), NoMemory>
+fn push_nets(out: &mut Vec<u8>, nets: &[Tree]) -> Result<(), AllocError>
     ensures text { OnOk result (out.new.items ≡ out.old.items ++ spec.nets_text nets.now) }
     ensures lawful { OnOk result (AllByRecursion (AllByRecursion IsTwig) nets.now) }
 {
@@ -90,19 +67,19 @@ fn push_nets(out: &mut Vec<u8>, nets: &[Tree]) -> Result<(), NoMemory>
     Ok(())
 }
 
-fn push_name(out: &mut Vec<u8>, number: u64, name: &Text) -> Result<(), NoMemory>
+fn push_name(out: &mut Vec<u8>, number: u64, name: &Text) -> Result<(), AllocError>
     ensures text { OnOk result (out.new.items ≡ out.old.items ++ spec.name_line number name.now) }
     ensures lawful { OnOk result (IsText name.now) }
 {
-    push_bytes(out, b"name")?;
-    push_word(out, number)?;
-    push_bytes(out, b" ")?;
-    push_bytes(out, name.as_bytes())?;
-    push_bytes(out, b"\n")
+    put(out, b"name")?;
+    put_blank_number(out, number)?;
+    put(out, b" ")?;
+    put(out, name.as_bytes())?;
+    put(out, b"\n")
 }
 
 #[tactic(auto, using(crate::proofs::Numbered::numbered_turn))]
-fn push_names(out: &mut Vec<u8>, names: &[Text]) -> Result<(), NoMemory>
+fn push_names(out: &mut Vec<u8>, names: &[Text]) -> Result<(), AllocError>
     ensures text { OnOk result (out.new.items ≡ out.old.items ++ spec.names_text names.now) }
     ensures lawful { OnOk result (AllByRecursion IsText names.now) }
 {
@@ -113,31 +90,31 @@ fn push_names(out: &mut Vec<u8>, names: &[Text]) -> Result<(), NoMemory>
     Ok(())
 }
 
-fn push_net_of(out: &mut Vec<u8>, net: Option<u32>) -> Result<(), NoMemory>
+fn push_net_of(out: &mut Vec<u8>, net: Option<u32>) -> Result<(), AllocError>
     ensures text { OnOk result (out.new.items ≡ out.old.items ++ spec.net_text net) }
     ensures lawful { OnOk result (IfSome net IsNumber) }
 {
     match net {
-        None => push_bytes(out, b" -"),
-        Some(net) => push_word(out, u64::from(net)),
+        None => put(out, b" -"),
+        Some(net) => put_blank_number(out, u64::from(net)),
     }
 }
 
-fn push_point(out: &mut Vec<u8>, number: u64, point: &PointLine) -> Result<(), NoMemory>
+fn push_point(out: &mut Vec<u8>, number: u64, point: &PointLine) -> Result<(), AllocError>
     ensures text { OnOk result (out.new.items ≡ out.old.items ++ spec.point_line number point.now) }
     ensures lawful { OnOk result (IsPointLine point.now) }
 {
-    push_bytes(out, b"point")?;
-    push_word(out, number)?;
-    push_word(out, u64::from(point.number))?;
-    push_word(out, u64::from(point.layer))?;
-    push_word(out, u64::from(point.name))?;
+    put(out, b"point")?;
+    put_blank_number(out, number)?;
+    put_blank_number(out, u64::from(point.number))?;
+    put_blank_number(out, u64::from(point.layer))?;
+    put_blank_number(out, u64::from(point.name))?;
     push_net_of(out, point.net)?;
-    push_bytes(out, b"\n")
+    put(out, b"\n")
 }
 
 #[tactic(auto, using(crate::proofs::Numbered::numbered_turn))]
-fn push_points(out: &mut Vec<u8>, points: &[PointLine]) -> Result<(), NoMemory>
+fn push_points(out: &mut Vec<u8>, points: &[PointLine]) -> Result<(), AllocError>
     ensures text { OnOk result (out.new.items ≡ out.old.items ++ spec.points_text points.now) }
     ensures lawful { OnOk result (AllByRecursion IsPointLine points.now) }
 {
@@ -148,19 +125,19 @@ fn push_points(out: &mut Vec<u8>, points: &[PointLine]) -> Result<(), NoMemory>
     Ok(())
 }
 
-fn push_open(out: &mut Vec<u8>, found: &Open) -> Result<(), NoMemory>
+fn push_open(out: &mut Vec<u8>, found: &Open) -> Result<(), AllocError>
     ensures text { OnOk result (out.new.items ≡ out.old.items ++ spec.open_line found.now) }
     ensures lawful { OnOk result (IsOpen found.now) }
 {
-    push_bytes(out, b"open")?;
-    push_word(out, u64::from(found.name))?;
-    push_word(out, u64::from(found.home))?;
-    push_word(out, u64::from(found.other))?;
-    push_word(out, u64::from(found.probe))?;
-    push_bytes(out, b"\n")
+    put(out, b"open")?;
+    put_blank_number(out, u64::from(found.name))?;
+    put_blank_number(out, u64::from(found.home))?;
+    put_blank_number(out, u64::from(found.other))?;
+    put_blank_number(out, u64::from(found.probe))?;
+    put(out, b"\n")
 }
 
-fn push_opens(out: &mut Vec<u8>, opens: &[Open]) -> Result<(), NoMemory>
+fn push_opens(out: &mut Vec<u8>, opens: &[Open]) -> Result<(), AllocError>
     ensures text { OnOk result (out.new.items ≡ out.old.items ++ spec.opens_text opens.now) }
     ensures lawful { OnOk result (AllByRecursion IsOpen opens.now) }
 {
@@ -171,28 +148,28 @@ fn push_opens(out: &mut Vec<u8>, opens: &[Open]) -> Result<(), NoMemory>
     Ok(())
 }
 
-fn push_pieces(out: &mut Vec<u8>, pieces: &[u32]) -> Result<(), NoMemory>
+fn push_pieces(out: &mut Vec<u8>, pieces: &[u32]) -> Result<(), AllocError>
     ensures text { OnOk result (out.new.items ≡ out.old.items ++ flat_map spec.word pieces.now) }
     ensures lawful { OnOk result (AllByRecursion IsNumber pieces.now) }
 {
     for piece in pieces {
-        push_word(out, u64::from(*piece))?;
+        put_blank_number(out, u64::from(*piece))?;
     }
     Ok(())
 }
 
-fn push_branch(out: &mut Vec<u8>, branch: &Branch) -> Result<(), NoMemory>
+fn push_branch(out: &mut Vec<u8>, branch: &Branch) -> Result<(), AllocError>
     ensures text { OnOk result (out.new.items ≡ out.old.items ++ spec.branch_line branch.now) }
     ensures lawful { OnOk result (IsBranchLine branch.now) }
 {
-    push_bytes(out, b"branch")?;
-    push_word(out, u64::from(branch.name))?;
-    push_word(out, u64::from(branch.probe))?;
+    put(out, b"branch")?;
+    put_blank_number(out, u64::from(branch.name))?;
+    put_blank_number(out, u64::from(branch.probe))?;
     push_pieces(out, branch.pieces.as_slice())?;
-    push_bytes(out, b"\n")
+    put(out, b"\n")
 }
 
-fn push_branches(out: &mut Vec<u8>, branches: &[Branch]) -> Result<(), NoMemory>
+fn push_branches(out: &mut Vec<u8>, branches: &[Branch]) -> Result<(), AllocError>
     ensures text { OnOk result (out.new.items ≡ out.old.items ++ flat_map spec.branch_line branches.now) }
     ensures lawful { OnOk result (AllByRecursion IsBranchLine branches.now) }
 {
@@ -202,18 +179,18 @@ fn push_branches(out: &mut Vec<u8>, branches: &[Branch]) -> Result<(), NoMemory>
     Ok(())
 }
 
-fn push_short(out: &mut Vec<u8>, short: &Short) -> Result<(), NoMemory>
+fn push_short(out: &mut Vec<u8>, short: &Short) -> Result<(), AllocError>
     ensures text { OnOk result (out.new.items ≡ out.old.items ++ spec.short_lines short.now) }
     ensures lawful { OnOk result (IsShort short.now) }
 {
-    push_bytes(out, b"short")?;
-    push_word(out, u64::from(short.net))?;
-    push_word(out, short.branches.as_slice().len() as u64)?;
-    push_bytes(out, b"\n")?;
+    put(out, b"short")?;
+    put_blank_number(out, u64::from(short.net))?;
+    put_blank_number(out, short.branches.as_slice().len() as u64)?;
+    put(out, b"\n")?;
     push_branches(out, short.branches.as_slice())
 }
 
-fn push_shorts(out: &mut Vec<u8>, shorts: &[Short]) -> Result<(), NoMemory>
+fn push_shorts(out: &mut Vec<u8>, shorts: &[Short]) -> Result<(), AllocError>
     ensures text { OnOk result (out.new.items ≡ out.old.items ++ spec.shorts_text shorts.now) }
     ensures lawful { OnOk result (AllByRecursion IsShort shorts.now) }
 {
@@ -224,7 +201,7 @@ fn push_shorts(out: &mut Vec<u8>, shorts: &[Short]) -> Result<(), NoMemory>
     Ok(())
 }
 
-fn push_bare(out: &mut Vec<u8>, bare: &[u32]) -> Result<(), NoMemory>
+fn push_bare(out: &mut Vec<u8>, bare: &[u32]) -> Result<(), AllocError>
     ensures text { OnOk result (out.new.items ≡ out.old.items ++ spec.bare_text bare.now) }
     ensures lawful { OnOk result (AllByRecursion IsNumber bare.now) }
 {
@@ -235,39 +212,37 @@ fn push_bare(out: &mut Vec<u8>, bare: &[u32]) -> Result<(), NoMemory>
     Ok(())
 }
 
-fn push_bare_line(out: &mut Vec<u8>, probe: u32) -> Result<(), NoMemory>
+fn push_bare_line(out: &mut Vec<u8>, probe: u32) -> Result<(), AllocError>
     ensures { OnOk result (out.new.items ≡ out.old.items ++ spec.bare_line probe) }
 {
-    push_bytes(out, b"bare")?;
-    push_word(out, u64::from(probe))?;
-    push_bytes(out, b"\n")
+    put(out, b"bare")?;
+    put_blank_number(out, u64::from(probe))?;
+    put(out, b"\n")
 }
 
 // Appends a place: its x and its y, each behind a blank.
-fn push_place(out: &mut Vec<u8>, spot: &SpotLine) -> Result<(), NoMemory>
+fn push_place(out: &mut Vec<u8>, spot: &SpotLine) -> Result<(), AllocError>
     ensures text { OnOk result (out.new.items ≡ out.old.items ++ (spec.signed_word spot.now.x ++ spec.signed_word spot.now.y)) }
     ensures lawful { OnOk result (IsSpotLine spot.now) }
 {
-    let x = Numeral::signed(spot.x);
-    let y = Numeral::signed(spot.y);
-    push_bytes(out, b" ")?;
-    push_bytes(out, x.as_bytes())?;
-    push_bytes(out, b" ")?;
-    push_bytes(out, y.as_bytes())
+    put(out, b" ")?;
+    put_signed(out, spot.x)?;
+    put(out, b" ")?;
+    put_signed(out, spot.y)
 }
 
-fn push_spot(out: &mut Vec<u8>, number: u64, spot: &SpotLine) -> Result<(), NoMemory>
+fn push_spot(out: &mut Vec<u8>, number: u64, spot: &SpotLine) -> Result<(), AllocError>
     ensures text { OnOk result (out.new.items ≡ out.old.items ++ spec.spot_line number spot.now) }
     ensures lawful { OnOk result (IsSpotLine spot.now) }
 {
-    push_bytes(out, b"spot")?;
-    push_word(out, number)?;
+    put(out, b"spot")?;
+    put_blank_number(out, number)?;
     push_place(out, spot)?;
-    push_bytes(out, b"\n")
+    put(out, b"\n")
 }
 
 #[tactic(auto, using(crate::proofs::Numbered::numbered_turn))]
-fn push_spots(out: &mut Vec<u8>, spots: &[SpotLine]) -> Result<(), NoMemory>
+fn push_spots(out: &mut Vec<u8>, spots: &[SpotLine]) -> Result<(), AllocError>
     ensures text { OnOk result (out.new.items ≡ out.old.items ++ spec.spots_text spots.now) }
     ensures lawful { OnOk result (AllByRecursion IsSpotLine spots.now) }
 {
@@ -278,22 +253,22 @@ fn push_spots(out: &mut Vec<u8>, spots: &[SpotLine]) -> Result<(), NoMemory>
     Ok(())
 }
 
-fn push_source(out: &mut Vec<u8>, number: u64, source: &SourceLine) -> Result<(), NoMemory>
+fn push_source(out: &mut Vec<u8>, number: u64, source: &SourceLine) -> Result<(), AllocError>
     ensures text { OnOk result (out.new.items ≡ out.old.items ++ spec.source_line number source.now) }
     ensures lawful { OnOk result (IsSourceLine source.now) }
 {
-    push_bytes(out, b"source")?;
-    push_word(out, number)?;
-    push_word(out, u64::from(source.file))?;
-    push_word(out, u64::from(source.command))?;
-    push_word(out, u64::from(source.copy))?;
-    push_word(out, u64::from(source.top))?;
-    push_word(out, u64::from(source.bottom))?;
-    push_bytes(out, b"\n")
+    put(out, b"source")?;
+    put_blank_number(out, number)?;
+    put_blank_number(out, u64::from(source.file))?;
+    put_blank_number(out, u64::from(source.command))?;
+    put_blank_number(out, u64::from(source.copy))?;
+    put_blank_number(out, u64::from(source.top))?;
+    put_blank_number(out, u64::from(source.bottom))?;
+    put(out, b"\n")
 }
 
 #[tactic(auto, using(crate::proofs::Numbered::numbered_turn))]
-fn push_sources(out: &mut Vec<u8>, sources: &[SourceLine]) -> Result<(), NoMemory>
+fn push_sources(out: &mut Vec<u8>, sources: &[SourceLine]) -> Result<(), AllocError>
     ensures text { OnOk result (out.new.items ≡ out.old.items ++ spec.sources_text sources.now) }
     ensures lawful { OnOk result (AllByRecursion IsSourceLine sources.now) }
 {
@@ -305,17 +280,17 @@ fn push_sources(out: &mut Vec<u8>, sources: &[SourceLine]) -> Result<(), NoMemor
 }
 
 // Appends the first line: it tells whether there is a supplement.
-fn push_first(out: &mut Vec<u8>, more: &Option<Supplement>) -> Result<(), NoMemory>
+fn push_first(out: &mut Vec<u8>, more: &Option<Supplement>) -> Result<(), AllocError>
     ensures { OnOk result (out.new.items ≡ out.old.items ++ spec.first_line more.now) }
 {
     match more {
-        None => push_bytes(out, b"boardnet 1\n"),
-        Some(_) => push_bytes(out, b"boardnet 2\n"),
+        None => put(out, b"boardnet 1\n"),
+        Some(_) => put(out, b"boardnet 2\n"),
     }
 }
 
 // Appends the supplement, where there is one.
-fn push_more(out: &mut Vec<u8>, more: &Option<Supplement>) -> Result<(), NoMemory>
+fn push_more(out: &mut Vec<u8>, more: &Option<Supplement>) -> Result<(), AllocError>
     ensures text { OnOk result (out.new.items ≡ out.old.items ++ spec.more_text more.now) }
     ensures lawful { OnOk result (IfSome more.now IsSupplement) }
 {
@@ -328,18 +303,18 @@ fn push_more(out: &mut Vec<u8>, more: &Option<Supplement>) -> Result<(), NoMemor
     }
 }
 
-fn push_last(out: &mut Vec<u8>, v: &Verdict) -> Result<(), NoMemory>
+fn push_last(out: &mut Vec<u8>, v: &Verdict) -> Result<(), AllocError>
     ensures { OnOk result (out.new.items ≡ out.old.items ++ spec.last_line v.now.opens v.now.shorts v.now.bare) }
 {
     if v.agrees() {
-        push_bytes(out, b"agrees\n")
+        put(out, b"agrees\n")
     } else {
-        push_bytes(out, b"differs\n")
+        put(out, b"differs\n")
     }
 }
 
 // Appends the parts up to the points.
-fn push_tables(out: &mut Vec<u8>, v: &Verdict) -> Result<(), NoMemory>
+fn push_tables(out: &mut Vec<u8>, v: &Verdict) -> Result<(), AllocError>
     ensures text { OnOk result (out.new.items ≡ out.old.items ++ spec.tables_text v.now) }
     ensures pieces { OnOk result (IsNumber v.now.pieces) }
     ensures nets { OnOk result (AllByRecursion (AllByRecursion IsTwig) v.now.nets) }
@@ -354,7 +329,7 @@ fn push_tables(out: &mut Vec<u8>, v: &Verdict) -> Result<(), NoMemory>
 }
 
 // Appends the parts behind the points.
-fn push_findings(out: &mut Vec<u8>, v: &Verdict) -> Result<(), NoMemory>
+fn push_findings(out: &mut Vec<u8>, v: &Verdict) -> Result<(), AllocError>
     ensures text { OnOk result (out.new.items ≡ out.old.items ++ spec.findings_text v.now) }
     ensures opens { OnOk result (AllByRecursion IsOpen v.now.opens) }
     ensures shorts { OnOk result (AllByRecursion IsShort v.now.shorts) }
