@@ -2,6 +2,8 @@
 -- drill files count millimetres, and the netlist micrometres.
 use Rattle.std.specs.Prelude.{ℕ, zero, suc, ◌+◌, ◌*◌, ◌/◌, ◌%◌, nat_lt, Bool, not, ◌&&◌, ◌==◌, if◌then◌else◌, List, [], ◌∷◌, ◌++◌, length, drop, codes, decimal}
 use Rattle.std.specs.List.{concat}
+use Rattle.board_maker.specs.declared.files.Part.{Part}
+use Rattle.board_maker.specs.declared.files.Part.TheVariants.{Top, Bottom, Holes, Points}
 
 -- ---- Cells
 
@@ -62,14 +64,6 @@ bottom_cell seed size i =
     flash (codes "D10") (x_of i) (y_of i)
     ++ (if is_bridged seed size i then track (codes "D12") (x_of i) (y_of i) (x_of i + 2500000) else [])
 
-abbrev pub top_text : ℕ → ℕ → List ℕ
-top_text seed size =
-    (codes "%FSLAX46Y46*%\n%MOMM*%\n%ADD10C,1.0*%\n%ADD11R,0.8X0.8*%\n%ADD12C,0.2*%\n" ++ cells (top_cell seed) size) ++ codes "M02*\n"
-
-abbrev pub bottom_text : ℕ → ℕ → List ℕ
-bottom_text seed size =
-    (codes "%FSLAX46Y46*%\n%MOMM*%\n%ADD10C,1.0*%\n%ADD12C,0.2*%\n" ++ cells (bottom_cell seed size) size) ++ codes "M02*\n"
-
 -- ---- Holes
 
 -- a number of tenths, with one decimal
@@ -79,9 +73,6 @@ tenths n = concat (decimal (n / 10) ∷ codes "." ∷ decimal (n % 10) ∷ [])
 -- a hit at the place of the cell
 abbrev pub hit : ℕ → List ℕ
 hit i = concat (codes "X" ∷ tenths (25 * column i) ∷ codes "Y" ∷ tenths (25 * row i) ∷ codes "\n" ∷ [])
-
-abbrev pub drill_text : ℕ → List ℕ
-drill_text size = (codes "M48\nMETRIC\nT1C0.4\n%\nT1\n" ++ cells hit size) ++ codes "M30\n"
 
 -- ---- Test points
 
@@ -107,8 +98,31 @@ test_records i =
     test_record (codes "317") i (codes "A00") (2500 * column i) (2500 * row i)
     ++ test_record (codes "327") i (codes "A01") (2500 * column i + 1200) (2500 * row i)
 
-abbrev pub netlist_text : ℕ → List ℕ
-netlist_text size = (codes "P  UNITS CUST 1\n" ++ cells test_records size) ++ codes "999\n"
+-- ---- The files
+
+-- what stands before the cells of a file
+abbrev pub head_of : Part → List ℕ
+head_of Top = codes "%FSLAX46Y46*%\n%MOMM*%\n%ADD10C,1.0*%\n%ADD11R,0.8X0.8*%\n%ADD12C,0.2*%\n"
+head_of Bottom = codes "%FSLAX46Y46*%\n%MOMM*%\n%ADD10C,1.0*%\n%ADD12C,0.2*%\n"
+head_of Holes = codes "M48\nMETRIC\nT1C0.4\n%\nT1\n"
+head_of Points = codes "P  UNITS CUST 1\n"
+
+-- what a file has for a cell
+abbrev pub cell_of : Part → ℕ → ℕ → ℕ → List ℕ
+cell_of Top seed size = top_cell seed
+cell_of Bottom seed size = bottom_cell seed size
+cell_of Holes seed size = hit
+cell_of Points seed size = test_records
+
+-- what stands behind them
+abbrev pub end_of : Part → List ℕ
+end_of Top = codes "M02*\n"
+end_of Bottom = codes "M02*\n"
+end_of Holes = codes "M30\n"
+end_of Points = codes "999\n"
+
+abbrev pub part_text : Part → ℕ → ℕ → List ℕ
+part_text part seed size = (head_of part ++ cells (cell_of part seed size) size) ++ end_of part
 
 -- ---- The manifest
 

@@ -4,16 +4,17 @@ use Rattle.std.specs.Str.{bytes_eq}
 use Rattle.board_io.specs.Package.{Files}
 use Rattle.board_io.specs.Memory.{files_of, calls_of, faults_of, lost_of, fails}
 use Rattle.board_io.specs.declared.memory_package.MemoryPackage.{MemoryPackage}
-use Rattle.board_maker.specs.MadeBoard.{manifest_text, top_text, bottom_text, drill_text, netlist_text}
+use Rattle.board_maker.specs.MadeBoard.{manifest_text, part_text}
+use Rattle.board_maker.specs.declared.files.Part.TheVariants.{Top, Bottom, Holes, Points}
 
 -- the five files, and no other
 abbrev pub made_files : ℕ → ℕ → Files
 made_files seed size name =
     if bytes_eq (codes "m.json") name then Some manifest_text
-    else (if bytes_eq (codes "top.gbr") name then Some (top_text seed size)
-    else (if bytes_eq (codes "bot.gbr") name then Some (bottom_text seed size)
-    else (if bytes_eq (codes "pth.drl") name then Some (drill_text size)
-    else (if bytes_eq (codes "n.ipc") name then Some (netlist_text size)
+    else (if bytes_eq (codes "top.gbr") name then Some (part_text Top seed size)
+    else (if bytes_eq (codes "bot.gbr") name then Some (part_text Bottom seed size)
+    else (if bytes_eq (codes "pth.drl") name then Some (part_text Holes seed size)
+    else (if bytes_eq (codes "n.ipc") name then Some (part_text Points seed size)
     else None))))
 
 -- none of its takes is to fail, and there were none

@@ -78,42 +78,6 @@ fn push_bottom_cell(out: &mut Vec<u8>, seed: u64, size: u32, i: u32) -> Result<(
     push_track(out, b"D12", x, y, x + 2_500_000)
 }
 
-/// The copper of the top layer.
-#[tactic(auto, using(crate::proofs::Cells::cells_none, crate::proofs::Cells::cells_turn))]
-pub fn top_text(alloc: Global, seed: u64, size: u32) -> Result<Vec<u8>, NoMemory>
-    requires { size ≤ 10000 }
-    ensures { IfOk result (λ text. text.items ≡ spec.top_text seed size) }
-{
-    let mut out = Vec::new(alloc);
-    push(
-        &mut out,
-        &[b"%FSLAX46Y46*%\n%MOMM*%\n%ADD10C,1.0*%\n%ADD11R,0.8X0.8*%\n%ADD12C,0.2*%\n"],
-    )?;
-    for i in 0..size {
-        push_top_cell(&mut out, seed, i)?;
-    }
-    push(&mut out, &[b"M02*\n"])?;
-    Ok(out)
-}
-
-/// The copper of the bottom layer.
-#[tactic(auto, using(crate::proofs::Cells::cells_none, crate::proofs::Cells::cells_turn))]
-pub fn bottom_text(alloc: Global, seed: u64, size: u32) -> Result<Vec<u8>, NoMemory>
-    requires { size ≤ 10000 }
-    ensures { IfOk result (λ text. text.items ≡ spec.bottom_text seed size) }
-{
-    let mut out = Vec::new(alloc);
-    push(
-        &mut out,
-        &[b"%FSLAX46Y46*%\n%MOMM*%\n%ADD10C,1.0*%\n%ADD12C,0.2*%\n"],
-    )?;
-    for i in 0..size {
-        push_bottom_cell(&mut out, seed, size, i)?;
-    }
-    push(&mut out, &[b"M02*\n"])?;
-    Ok(out)
-}
-
 // ---- Holes
 
 fn push_tenths(out: &mut Vec<u8>, n: u32) -> Result<(), NoMemory>
@@ -138,21 +102,6 @@ fn push_hit(out: &mut Vec<u8>, i: u32) -> Result<(), NoMemory>
     push(out, &[b"Y"])?;
     push_tenths(out, 25 * row(i))?;
     push(out, &[b"\n"])
-}
-
-/// The plated holes.
-#[tactic(auto, using(crate::proofs::Cells::cells_none, crate::proofs::Cells::cells_turn))]
-pub fn drill_text(alloc: Global, size: u32) -> Result<Vec<u8>, NoMemory>
-    requires { size ≤ 10000 }
-    ensures { IfOk result (λ text. text.items ≡ spec.drill_text size) }
-{
-    let mut out = Vec::new(alloc);
-    push(&mut out, &[b"M48\nMETRIC\nT1C0.4\n%\nT1\n"])?;
-    for i in 0..size {
-        push_hit(&mut out, i)?;
-    }
-    push(&mut out, &[b"M30\n"])?;
-    Ok(out)
 }
 
 // ---- Test points
@@ -225,17 +174,67 @@ fn push_records(out: &mut Vec<u8>, i: u32) -> Result<(), NoMemory>
     push_record(out, b"327", i, b"A01", x + 1_200, y)
 }
 
-/// The netlist.
+// ---- The files
+
+/// A file that is written cell by cell.
+#[derive(Clone, Copy)]
+pub enum Part {
+    /// The copper of the top layer.
+    Top,
+    /// The copper of the bottom layer.
+    Bottom,
+    /// The plated holes.
+    Holes,
+    /// The netlist.
+    Points,
+}
+
+fn head_of(part: Part) -> &'static [u8]
+    ensures { result.now ≡ spec.head_of part }
+{
+    match part {
+        Part::Top => {
+            b"%FSLAX46Y46*%\n%MOMM*%\n%ADD10C,1.0*%\n%ADD11R,0.8X0.8*%\n%ADD12C,0.2*%\n"
+        }
+        Part::Bottom => b"%FSLAX46Y46*%\n%MOMM*%\n%ADD10C,1.0*%\n%ADD12C,0.2*%\n",
+        Part::Holes => b"M48\nMETRIC\nT1C0.4\n%\nT1\n",
+        Part::Points => b"P  UNITS CUST 1\n",
+    }
+}
+
+fn end_of(part: Part) -> &'static [u8]
+    ensures { result.now ≡ spec.end_of part }
+{
+    match part {
+        Part::Top | Part::Bottom => b"M02*\n",
+        Part::Holes => b"M30\n",
+        Part::Points => b"999\n",
+    }
+}
+
+fn push_cell(out: &mut Vec<u8>, part: Part, seed: u64, size: u32, i: u32) -> Result<(), NoMemory>
+    requires { i < 10000 }
+    ensures { OnOk result (out.new.items ≡ out.old.items ++ spec.cell_of part seed size i) }
+{
+    match part {
+        Part::Top => push_top_cell(out, seed, i),
+        Part::Bottom => push_bottom_cell(out, seed, size, i),
+        Part::Holes => push_hit(out, i),
+        Part::Points => push_records(out, i),
+    }
+}
+
+/// The text of a file.
 #[tactic(auto, using(crate::proofs::Cells::cells_none, crate::proofs::Cells::cells_turn))]
-pub fn netlist_text(alloc: Global, size: u32) -> Result<Vec<u8>, NoMemory>
+pub fn part_text(alloc: Global, part: Part, seed: u64, size: u32) -> Result<Vec<u8>, NoMemory>
     requires { size ≤ 10000 }
-    ensures { IfOk result (λ text. text.items ≡ spec.netlist_text size) }
+    ensures { IfOk result (λ text. text.items ≡ spec.part_text part seed size) }
 {
     let mut out = Vec::new(alloc);
-    push(&mut out, &[b"P  UNITS CUST 1\n"])?;
+    push(&mut out, &[head_of(part)])?;
     for i in 0..size {
-        push_records(&mut out, i)?;
+        push_cell(&mut out, part, seed, size, i)?;
     }
-    push(&mut out, &[b"999\n"])?;
+    push(&mut out, &[end_of(part)])?;
     Ok(out)
 }

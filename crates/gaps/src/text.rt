@@ -2,50 +2,33 @@
 ghost use Rattle.gaps.specs.GapsText.{gap_line, gaps_text, head_line};
 ghost use Rattle.std.specs.List.{flat_map};
 ghost use Rattle.std.specs.Prelude.{IfOk, OnOk, ◌++◌, ◌≡◌};
-ghost use Rattle.verdict.specs.ReportText.{word};
 
 use super::gap::Gap;
 use lengths::NoMemory;
-use std::alloc::Global;
-use texts::Numeral;
-
-/// Appends bytes.
-fn push_bytes(out: &mut Vec<u8>, bytes: &[u8]) -> Result<(), NoMemory>
-    ensures { OnOk result (out.new.items ≡ out.old.items ++ bytes.now) }
-{
-    out.extend_from_slice(bytes)?;
-    Ok(())
-}
-
-/// Appends a blank and a number.
-fn push_word(out: &mut Vec<u8>, n: u64) -> Result<(), NoMemory>
-    ensures { OnOk result (out.new.items ≡ out.old.items ++ word n) }
-{
-    push_bytes(out, b" ")?;
-    push_bytes(out, Numeral::of(n).as_bytes())
-}
+use std::alloc::{AllocError, Global};
+use texts::{put, put_blank_number};
 
 /// Appends the line that tells the distance and how many gaps there are.
-fn push_head(out: &mut Vec<u8>, nanometres: u32, count: u64) -> Result<(), NoMemory>
+fn push_head(out: &mut Vec<u8>, nanometres: u32, count: u64) -> Result<(), AllocError>
     ensures { OnOk result (out.new.items ≡ out.old.items ++ head_line nanometres count) }
 {
-    push_bytes(out, b"gaps")?;
-    push_word(out, u64::from(nanometres))?;
-    push_word(out, count)?;
-    push_bytes(out, b"\n")
+    put(out, b"gaps")?;
+    put_blank_number(out, u64::from(nanometres))?;
+    put_blank_number(out, count)?;
+    put(out, b"\n")
 }
 
 /// Appends the line of a gap.
-fn push_gap(out: &mut Vec<u8>, gap: &Gap) -> Result<(), NoMemory>
+fn push_gap(out: &mut Vec<u8>, gap: &Gap) -> Result<(), AllocError>
     ensures { OnOk result (out.new.items ≡ out.old.items ++ gap_line gap.now) }
 {
-    push_bytes(out, b"gap")?;
-    push_word(out, u64::from(gap.layer))?;
-    push_word(out, u64::from(gap.low))?;
-    push_word(out, u64::from(gap.high))?;
-    push_word(out, u64::from(gap.first))?;
-    push_word(out, u64::from(gap.second))?;
-    push_bytes(out, b"\n")
+    put(out, b"gap")?;
+    put_blank_number(out, u64::from(gap.layer))?;
+    put_blank_number(out, u64::from(gap.low))?;
+    put_blank_number(out, u64::from(gap.high))?;
+    put_blank_number(out, u64::from(gap.first))?;
+    put_blank_number(out, u64::from(gap.second))?;
+    put(out, b"\n")
 }
 
 /// The text of the gaps at a distance.

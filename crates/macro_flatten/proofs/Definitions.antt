@@ -12,14 +12,15 @@ use Rattle.lengths.proofs.GridLemmas.{Sizes-is}
 use Rattle.lengths.specs.Decimal.{unsigned, has_minus, is_point, front, back, is_decimal, fraction}
 use Rattle.lengths.specs.Grid.{size_of}
 use Rattle.lengths.specs.declared.decimal.Unit.TheVariants.{Mm}
-use Rattle.texts.specs.Digits.{is_decimal_digit}
+use Rattle.texts.specs.Digits.{is_decimal_digit, last_digits}
 use Rattle.apertures.specs.Reading.{is_x, is_empty, size_at, circle_at, diameter_at, solid_by, numbered_at, aperture_at}
 use Rattle.apertures.specs.declared.aperture.Aperture.TheVariants.{Circle}
 use Rattle.gerber_words.specs.Attributes.{attribute_kind}
 use Rattle.gerber_layer.specs.Command.{formats, counts_in, defines}
 use Rattle.gerber_layer.specs.Reading.{extended as row, format_word, format_of, command_of}
-use Rattle.macro_flatten.specs.FlatText.{last_digits, millimetres}
-use Rattle.macro_flatten.proofs.Digits.{runs, wider, none, digit_is_not, written, last_are_digits, length-last_digits, last_value}
+use Rattle.macro_flatten.specs.FlatText.{millimetres}
+use Rattle.macro_flatten.proofs.Digits.{runs, wider, none, digit_is_not, written}
+use Rattle.texts.proofs.LastDigits.{last_are_digits, length-last_digits, last_value}
 use Rattle.macro_flatten.proofs.Operations.{seven}
 
 -- ---- A length in millimetres

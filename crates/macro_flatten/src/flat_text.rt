@@ -12,10 +12,10 @@ use board_shapes::{Piece, Shape};
 use contact::Capsule;
 use lengths::NoMemory;
 use planar::Spot;
-use std::alloc::Global;
+use std::alloc::{AllocError, Global};
 
 // Appends the definition of each pen.
-fn push_circles(out: &mut Vec<u8>, pens: &[u64]) -> Result<(), NoMemory>
+fn push_circles(out: &mut Vec<u8>, pens: &[u64]) -> Result<(), AllocError>
     ensures { OnOk result (out.new.items ≡ out.old.items ++ flat_map spec.spelled (spec.circles 10 pens.now)) }
 {
     let mut number: u64 = 10;
@@ -27,7 +27,7 @@ fn push_circles(out: &mut Vec<u8>, pens: &[u64]) -> Result<(), NoMemory>
 }
 
 // Appends the selection of an aperture, where the last selection is another.
-fn push_selected(out: &mut Vec<u8>, last: Option<u64>, number: u64) -> Result<(), NoMemory>
+fn push_selected(out: &mut Vec<u8>, last: Option<u64>, number: u64) -> Result<(), AllocError>
     ensures { OnOk result (out.new.items ≡ out.old.items ++ flat_map spec.spelled (spec.selection last number)) }
 {
     match last {
@@ -42,7 +42,7 @@ fn push_stroke(
     last: Option<u64>,
     number: u64,
     capsule: &Capsule,
-) -> Result<(), NoMemory>
+) -> Result<(), AllocError>
     ensures { OnOk result (out.new.items ≡ out.old.items ++ flat_map spec.spelled (spec.drawn_by last number capsule.now.a capsule.now.b)) }
 {
     push_selected(out, last, number)?;
@@ -51,7 +51,7 @@ fn push_stroke(
 }
 
 // Appends draws to spots.
-fn push_draws(out: &mut Vec<u8>, spots: &[Spot]) -> Result<(), NoMemory>
+fn push_draws(out: &mut Vec<u8>, spots: &[Spot]) -> Result<(), AllocError>
     ensures { OnOk result (out.new.items ≡ out.old.items ++ flat_map spec.spelled (map spec.draw spots.now)) }
 {
     for spot in spots {
@@ -61,7 +61,7 @@ fn push_draws(out: &mut Vec<u8>, spots: &[Spot]) -> Result<(), NoMemory>
 }
 
 // Appends the lines of a contour.
-fn push_contour(out: &mut Vec<u8>, points: &[Spot]) -> Result<(), NoMemory>
+fn push_contour(out: &mut Vec<u8>, points: &[Spot]) -> Result<(), AllocError>
     ensures { OnOk result (out.new.items ≡ out.old.items ++ flat_map spec.spelled (spec.contour_lines points.now)) }
 {
     match points {
@@ -74,7 +74,7 @@ fn push_contour(out: &mut Vec<u8>, points: &[Spot]) -> Result<(), NoMemory>
 }
 
 // Appends the lines of an area.
-fn push_area(out: &mut Vec<u8>, points: &[Spot]) -> Result<(), NoMemory>
+fn push_area(out: &mut Vec<u8>, points: &[Spot]) -> Result<(), AllocError>
     ensures { OnOk result (out.new.items ≡ out.old.items ++ flat_map spec.spelled (spec.area_lines points.now)) }
 {
     push_word(out, b"G36")?;
@@ -88,7 +88,7 @@ fn push_figure(
     pens: &Pens,
     last: Option<u64>,
     shape: &Shape,
-) -> Result<Option<u64>, NoMemory>
+) -> Result<Option<u64>, AllocError>
     ensures lines { OnOk result (out.new.items ≡ out.old.items ++ flat_map spec.spelled (spec.figure_lines (pens_in pens.now) last (figure_of shape.now))) }
     ensures selected { IfOk result (λ next. next ≡ spec.selected_after (pens_in pens.now) last (figure_of shape.now)) }
 {
@@ -106,7 +106,7 @@ fn push_figure(
 }
 
 // Appends the lines of all pieces, and the end.
-fn push_figures(out: &mut Vec<u8>, pens: &Pens, pieces: &[Piece]) -> Result<(), NoMemory>
+fn push_figures(out: &mut Vec<u8>, pens: &Pens, pieces: &[Piece]) -> Result<(), AllocError>
     ensures { OnOk result (out.new.items ≡ out.old.items ++ flat_map spec.spelled (spec.figures_lines (pens_in pens.now) None (spec.figures_in (plain_pieces pieces.now)))) }
 {
     let mut last = None;

@@ -8,7 +8,7 @@ use Rattle.std.specs.Prelude.{decimal}
 use borrow.Author.Tests.{ltb-true, le-leb}
 use Rattle.planar.specs.declared.Spot.{Spot}
 use Rattle.board_shapes.specs.declared.probe.Probe.{Probe}
-use Rattle.texts.specs.Digits.{is_decimal_digit}
+use Rattle.texts.specs.Digits.{is_decimal_digit, last_digits}
 use Rattle.texts.specs.Lines.{lines_of}
 use Rattle.file_reading.specs.Reading.{Item, said}
 use Rattle.ipc356_records.specs.Line.{Form, finishes}
@@ -16,10 +16,11 @@ use Rattle.ipc356_records.specs.NetlistFile.{Netlist, items, IsRead}
 use Rattle.ipc356_records.specs.Settings.{names_of}
 use Rattle.ipc356_records.specs.Reading.{form_of}
 use Rattle.ipc356_records.proofs.OneAnswer.{one_answer}
-use Rattle.netlist_writer.specs.TestLine.{access_text, coordinate, last_digits, net_name, steps_of, test_line}
+use Rattle.netlist_writer.specs.TestLine.{access_text, coordinate, net_name, steps_of, test_line}
 use Rattle.netlist_writer.specs.WrittenNetlist.{TestPlace, netlist_lines, netlist_text, place_line, place_lines, spelled}
 use Rattle.netlist_writer.specs.Laws.{ReadsBack, names_after, present, probes_after}
-use Rattle.netlist_writer.proofs.Digits.{written, few_digits, last_are_digits}
+use Rattle.netlist_writer.proofs.Digits.{written, few_digits}
+use Rattle.texts.proofs.LastDigits.{last_are_digits}
 use Rattle.netlist_writer.proofs.TestLines.{IsCode, hole, pad, blanks, line_parts, padded, tail, wider}
 use Rattle.netlist_writer.proofs.Cut.{IsPlain, is_plain, items_from, text_cut}
 use Rattle.netlist_writer.proofs.Histories.{Ended, IsWritableIf, behind, ended-finish, netlist_then}

@@ -35,7 +35,8 @@ fn push_places(
     for p in 0..pieces.len() {
         push_place(out, &mut line, layers, p as u32, numbers[p], &pieces[p])?;
     }
-    push_line(out, b"999")
+    push_line(out, b"999")?;
+    Ok(())
 }
 
 /// The netlist of a board whose nets these are: a test record for each piece that is a test place, in order.

@@ -5,12 +5,12 @@ ghost use Rattle.board_shapes.specs.Pieces.{plain_piece};
 ghost use Rattle.netlist_writer.specs.TestLine as line_spec;
 ghost use Rattle.netlist_writer.specs.WrittenNetlist as spec;
 
-use crate::record::{push_bytes, push_line, set_record};
+use crate::record::{push_line, set_record};
 use board_shapes::{Piece, Shape};
 use contact::Capsule;
-use lengths::NoMemory;
 use planar::Spot;
-use texts::Numeral;
+use std::alloc::AllocError;
+use texts::{put, put_number};
 
 // Whether a coordinate is a whole number of steps of at most six digits.
 fn in_steps(z: i64) -> bool
@@ -74,11 +74,12 @@ fn access_of(layers: u8, piece: &Piece) -> u8
 }
 
 // Appends the comment on a piece that is no test place.
-fn push_comment(out: &mut Vec<u8>, p: u32) -> Result<(), NoMemory>
+fn push_comment(out: &mut Vec<u8>, p: u32) -> Result<(), AllocError>
     ensures { OnOk result (out.new.items ≡ out.old.items ++ spec.spelled (spec.place_line p None)) }
 {
-    push_bytes(out, b"C piece ")?;
-    push_line(out, Numeral::of(u64::from(p)).as_bytes())
+    put(out, b"C piece ")?;
+    put_number(out, u64::from(p))?;
+    put(out, b"\n")
 }
 
 /// Appends the line of piece p, which is of this net. The other line is room for a record.
@@ -89,7 +90,7 @@ pub fn push_place(
     p: u32,
     net: u32,
     piece: &Piece,
-) -> Result<(), NoMemory>
+) -> Result<(), AllocError>
     ensures { OnOk result (out.new.items ≡ out.old.items ++ spec.spelled (spec.place_line p (spec.place_of layers net (plain_piece piece.now)))) }
 {
     match spot_of(&piece.shape) {

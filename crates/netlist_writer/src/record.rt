@@ -1,12 +1,12 @@
 // A test record: each field laid into the line at its columns.
-ghost use Rattle.std.specs.Prelude.{◌≡◌, ◌≤◌, ◌++◌, ◌+◌, ◌%◌, OnOk};
+ghost use Rattle.std.specs.Prelude.{◌≡◌, ◌≤◌, ◌++◌, OnOk};
 ghost use Rattle.ipc356_records.specs.Columns.{filled, laid, access_at, name_from};
 ghost use Rattle.netlist_writer.specs.TestLine as spec;
 ghost use Rattle.netlist_writer.specs.WrittenNetlist.{spelled};
 
-use lengths::NoMemory;
 use planar::Spot;
-use texts::Numeral;
+use std::alloc::AllocError;
+use texts::{put, put_last_digits, put_number};
 
 // Where the fields begin.
 const NAME_FROM: usize = 4;
@@ -17,24 +17,16 @@ const X_AT: usize = 42;
 
 const Y_AT: usize = 50;
 
-/// Appends bytes.
-pub fn push_bytes(out: &mut Vec<u8>, bytes: &[u8]) -> Result<(), NoMemory>
-    ensures { OnOk result (out.new.items ≡ out.old.items ++ bytes.now) }
-{
-    out.extend_from_slice(bytes)?;
-    Ok(())
-}
-
 /// Appends a line.
-pub fn push_line(out: &mut Vec<u8>, line: &[u8]) -> Result<(), NoMemory>
+pub fn push_line(out: &mut Vec<u8>, line: &[u8]) -> Result<(), AllocError>
     ensures { OnOk result (out.new.items ≡ out.old.items ++ spelled line.now) }
 {
-    push_bytes(out, line)?;
-    push_bytes(out, b"\n")
+    put(out, line)?;
+    put(out, b"\n")
 }
 
 // Fills a line with blanks up to a width.
-fn fill(line: &mut Vec<u8>, width: usize) -> Result<(), NoMemory>
+fn fill(line: &mut Vec<u8>, width: usize) -> Result<(), AllocError>
     ensures { OnOk result (line.new.items ≡ filled width line.old.items) }
 {
     while line.len() < width {
@@ -44,19 +36,12 @@ fn fill(line: &mut Vec<u8>, width: usize) -> Result<(), NoMemory>
 }
 
 // Lays a text into a line from a column on.
-fn lay(line: &mut Vec<u8>, first: usize, text: &[u8]) -> Result<(), NoMemory>
+fn lay(line: &mut Vec<u8>, first: usize, text: &[u8]) -> Result<(), AllocError>
     requires { 1 ≤ first }
     ensures { OnOk result (line.new.items ≡ laid first text.now line.old.items) }
 {
     fill(line, first - 1)?;
-    push_bytes(line, text)
-}
-
-// The last digit of a number.
-fn last_digit(n: u64) -> u8
-    ensures { result ≡ 48 + n % 10 }
-{
-    b'0' + (n % 10) as u8
+    put(line, text)
 }
 
 fn sign_of(z: i64) -> u8
@@ -66,50 +51,28 @@ fn sign_of(z: i64) -> u8
 }
 
 // Lays a letter, a sign and six digits of a coordinate.
-fn lay_coordinate(line: &mut Vec<u8>, first: usize, letter: u8, z: i64) -> Result<(), NoMemory>
+fn lay_coordinate(line: &mut Vec<u8>, first: usize, letter: u8, z: i64) -> Result<(), AllocError>
     requires { 1 ≤ first }
     ensures { OnOk result (line.new.items ≡ laid first (spec.coordinate letter z) line.old.items) }
 {
-    let steps = z.unsigned_abs() / 10_000;
-    let tens = steps / 10;
-    let hundreds = tens / 10;
-    let thousands = hundreds / 10;
-    let fourth = thousands / 10;
-    let fifth = fourth / 10;
-    lay(
-        line,
-        first,
-        &[
-            letter,
-            sign_of(z),
-            last_digit(fifth),
-            last_digit(fourth),
-            last_digit(thousands),
-            last_digit(hundreds),
-            last_digit(tens),
-            last_digit(steps),
-        ],
-    )
+    lay(line, first, &[letter, sign_of(z)])?;
+    put_last_digits(line, 6, z.unsigned_abs() / 10_000)
 }
 
 // Lays the name of a net.
-fn lay_name(line: &mut Vec<u8>, net: u32) -> Result<(), NoMemory>
+fn lay_name(line: &mut Vec<u8>, net: u32) -> Result<(), AllocError>
     ensures { OnOk result (line.new.items ≡ laid name_from (spec.net_name net) line.old.items) }
 {
     lay(line, NAME_FROM, b"NET")?;
-    push_bytes(line, Numeral::of(u64::from(net)).as_bytes())
+    put_number(line, u64::from(net))
 }
 
 // Lays an access code.
-fn lay_access(line: &mut Vec<u8>, access: u8) -> Result<(), NoMemory>
+fn lay_access(line: &mut Vec<u8>, access: u8) -> Result<(), AllocError>
     ensures { OnOk result (line.new.items ≡ laid access_at (spec.access_text access) line.old.items) }
 {
-    let access = u64::from(access);
-    lay(
-        line,
-        ACCESS_AT,
-        &[b'A', last_digit(access / 10), last_digit(access)],
-    )
+    lay(line, ACCESS_AT, b"A")?;
+    put_last_digits(line, 2, u64::from(access))
 }
 
 /// Makes a line a test record.
@@ -119,11 +82,11 @@ pub fn set_record(
     net: u32,
     access: u8,
     at: Spot,
-) -> Result<(), NoMemory>
+) -> Result<(), AllocError>
     ensures { OnOk result (line.new.items ≡ spec.test_line code.now (spec.net_name net) access at) }
 {
     line.clear();
-    push_bytes(line, code)?;
+    put(line, code)?;
     lay_name(line, net)?;
     lay_access(line, access)?;
     lay_coordinate(line, X_AT, b'X', at.x)?;

@@ -2,7 +2,7 @@
 use Rattle.std.proofs.Common.{◌≡◌, ℕ, zero, suc, ◌+◌, ◌/◌, ◌%◌, ◌<◌, Bool, true, false, not, cond, eqb, ltb, List, [], ◌∷◌, ◌++◌, length, get_or, Option, Some, None, codes, refl, sym, ap, ◌∙◌, append_assoc, arith}
 use Rattle.std.specs.Prelude.{decimal, IfSome}
 use Rattle.std.specs.Fmt.{digits, digits_onto, digit_glyph}
-use Rattle.std.specs.List.{AllByRecursion, flat_map, list_all, after_first}
+use Rattle.std.specs.List.{AllByRecursion, list_all, after_first}
 use Rattle.std.proofs.lemmas.Bool.{eqb-true}
 use Rattle.texts.specs.Digits.{is_decimal_digit}
 use Rattle.lengths.specs.Text.{IsText}
@@ -14,11 +14,11 @@ use Rattle.verdict.specs.declared.verdict.Supplement.{Supplement}
 use Rattle.verdict.specs.declared.verdict.Verdict.{Verdict}
 use Rattle.verdict.specs.Lawful.{IsNumber, IsTwig, IsPointLine, IsOpen, IsBranchLine, IsShort, IsSpotLine, IsSourceLine, IsSupplement, IsVerdict}
 use Rattle.verdict.specs.Reading.{is_feed, word_at, net_at, name_at, point_at, open_at, branch_at, bare_at, spot_at, source_at}
-use Rattle.verdict.specs.ReportText.{word, end, count_line, numbered, net_line, name_line, point_line, open_line, branch_line, short_lines, bare_line, spot_line, source_line, last_line, first_line, more_text, report_text}
+use Rattle.verdict.specs.ReportText.{word, end, count_line, numbered, line_of, section_text, net_line, name_line, point_line, open_line, branch_line, short_lines, bare_line, spot_line, source_line, last_line, first_line, more_text, report_text}
 use Rattle.verdict.proofs.Steps.{some_is, starts, word_again, after_feed}
-use Rattle.verdict.proofs.ReadLines.{net_again, name_again, point_again, open_again, branch_again, bare_again}
+use Rattle.verdict.proofs.ReadLines.{net_again, name_again, point_again, open_again, branch_again, titled_again}
 use Rattle.verdict.proofs.ReadSupplement.{spot_again, source_again}
-use Rattle.verdict.proofs.ReadReport.{is_there, short_parts, flat_branches, section_text, section_parts, line_of, last_of, from_more, from_bare, from_shorts, from_opens, from_points, from_names, from_nets, from_pieces, report_parts}
+use Rattle.verdict.proofs.ReadReport.{is_there, short_parts, section_parts, last_of, from_more, from_bare, from_shorts, from_opens, from_points, from_names, from_nets, from_pieces, report_parts}
 
 -- ---- What stands in front of equal texts
 
@@ -165,7 +165,7 @@ bare_one : IsOne IsNumber (line_of bare_line) (has_at 0 98) any
 bare_one = record {
   begins = λ n x r. refl;
   goes = λ n x r. refl;
-  one = λ n x y r s h k f g e. read_one (bare_at n) _ _ x y r s (bare_again n x r h) (bare_again n y s k) e;
+  one = λ n x y r s h k f g e. read_one (bare_at n) _ _ x y r s (titled_again (codes "bare") x r h) (titled_again (codes "bare") y s k) e;
 }
 
 lacks : (t : Bool) → not t ≡ true → t ≡ false
@@ -179,8 +179,7 @@ shorts_one : (s t : Short) (r q : List ℕ) → IsShort s → IsShort t → lack
 shorts_one s t r q h k f g e =
     let parts = sym (short_parts s r) ∙ (e ∙ short_parts t q) in
     let net = word_one s.net t.net _ _ h.net k.net refl refl (cancel (codes "short") _ _ parts) in
-    let lines : flat_map branch_line s.branches ++ r ≡ flat_map branch_line t.branches ++ q = count_one (length s.branches) (length t.branches) _ _ net.1 in
-    let listed : numbered (line_of branch_line) 0 s.branches ++ r ≡ numbered (line_of branch_line) 0 t.branches ++ q = ap (λ (x : List ℕ). x ++ r) (flat_branches s.branches) ∙ (lines ∙ ap (λ (x : List ℕ). x ++ q) (sym (flat_branches t.branches))) in
+    let listed = count_one (length s.branches) (length t.branches) _ _ net.1 in
     let branches = items_one IsBranchLine (line_of branch_line) (has_at 0 98) any branch_one s.branches t.branches 0 r q h.branches k.branches (lacks (has_at 0 98 r) f) (lacks (has_at 0 98 q) g) refl refl listed in
     (short_is s t net.0 branches.0, branches.1)
 

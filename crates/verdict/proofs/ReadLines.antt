@@ -11,8 +11,8 @@ use Rattle.verdict.specs.declared.verdict.PointLine.{PointLine}
 use Rattle.verdict.specs.declared.verdict.Open.{Open}
 use Rattle.verdict.specs.declared.verdict.Branch.{Branch}
 use Rattle.verdict.specs.Lawful.{IsNumber, IsTwig, IsPointLine, IsOpen, IsBranchLine}
-use Rattle.verdict.specs.Reading.{◌>>=◌, behind, number_at, word_at, layer_at, parent_behind, parent_at, twig_at, net_behind, net_number_at, words_at, heading_at, net_at, name_at, point_at, open_at, branch_at, bare_at}
-use Rattle.verdict.specs.ReportText.{word, end, parent_text, twig_text, net_line, name_line, net_text, point_line, open_line, branch_line, bare_line}
+use Rattle.verdict.specs.Reading.{◌>>=◌, behind, number_at, word_at, layer_at, parent_behind, parent_at, twig_at, net_behind, net_number_at, words_at, heading_at, net_at, name_at, point_at, open_at, branch_at, bare_at, titled_at}
+use Rattle.verdict.specs.ReportText.{word, end, count_line, parent_text, twig_text, net_line, name_line, net_text, point_line, open_line, branch_line, bare_line}
 use Rattle.verdict.proofs.Steps.{step, some_is, and_both, front_then, starts, own, behind_takes, behind_again, number_takes, number_again, word_takes, word_again, layer_takes, layer_again, text_takes, text_again}
 use Rattle.verdict.proofs.ReadLists.{IsWord, IsLine, ends, ends_by, words_take, words_again, words_few}
 
@@ -314,28 +314,28 @@ branch_is = record {
   some = λ n x. omega arith;
 }
 
-bare_parts : (probe : ℕ) (rest : List ℕ) → bare_line probe ++ rest ≡ codes "bare" ++ (word probe ++ (end ++ rest))
-bare_parts probe rest = simp append_assoc
+titled_parts : (title : List ℕ) (n : ℕ) (rest : List ℕ) → count_line title n ++ rest ≡ title ++ (word n ++ (end ++ rest))
+titled_parts title n rest = simp append_assoc
 
-bare_takes : (n : ℕ) (bytes : List ℕ) (probe : ℕ) (rest : List ℕ) → bare_at n bytes ≡ Some (probe, rest) → (bytes ≡ bare_line probe ++ rest) × IsNumber probe
-unfolding bare_at
-bare_takes n bytes probe rest e = bind_then (behind (codes "bare") bytes) _ (probe, rest) e (λ a ha e1. bind_then (word_at a) _ (probe, rest) e1 (λ b hb e2. bind_then (behind (10 ∷ []) b.1) _ (probe, rest) e2 (λ g hg e3.
+pub titled_takes : (title bytes : List ℕ) (n : ℕ) (rest : List ℕ) → titled_at title bytes ≡ Some (n, rest) → (bytes ≡ count_line title n ++ rest) × IsNumber n
+unfolding titled_at
+titled_takes title bytes n rest e = bind_then (behind title bytes) _ (n, rest) e (λ a ha e1. bind_then (word_at a) _ (n, rest) e1 (λ b hb e2. bind_then (behind (10 ∷ []) b.1) _ (n, rest) e2 (λ g hg e3.
     let number = word_takes a b.0 b.1 hb in
     let tail : a ≡ word b.0 ++ (end ++ g) = front_then a (word b.0) b.1 _ number.0 (behind_takes (10 ∷ []) b.1 g hg) in
-    let whole : bytes ≡ bare_line b.0 ++ g = front_then bytes (codes "bare") a _ (behind_takes (codes "bare") bytes a ha) tail ∙ sym (bare_parts b.0 g) in
-    subst (λ (y : ℕ × List ℕ). (bytes ≡ bare_line y.0 ++ y.1) × IsNumber y.0) (some_is (b.0, g) (probe, rest) e3) (whole, number.1))))
+    let whole : bytes ≡ count_line title b.0 ++ g = front_then bytes title a _ (behind_takes title bytes a ha) tail ∙ sym (titled_parts title b.0 g) in
+    subst (λ (y : ℕ × List ℕ). (bytes ≡ count_line title y.0 ++ y.1) × IsNumber y.0) (some_is (b.0, g) (n, rest) e3) (whole, number.1))))
 
-pub bare_again : (n : ℕ) (probe : ℕ) (rest : List ℕ) → IsNumber probe → bare_at n (bare_line probe ++ rest) ≡ Some (probe, rest)
-unfolding bare_at
-bare_again n probe rest h =
-    ap (bare_at n) (bare_parts probe rest)
-    ∙ step (behind (codes "bare") (codes "bare" ++ (word probe ++ (end ++ rest)))) _ (word probe ++ (end ++ rest)) (Some (probe, rest)) (behind_again (codes "bare") (word probe ++ (end ++ rest)))
-    (step (word_at (word probe ++ (end ++ rest))) _ (probe, end ++ rest) (Some (probe, rest)) (word_again probe (end ++ rest) h refl)
-    (step (behind (10 ∷ []) (end ++ rest)) _ rest (Some (probe, rest)) (behind_again (10 ∷ []) rest) refl))
+pub titled_again : (title : List ℕ) (n : ℕ) (rest : List ℕ) → IsNumber n → titled_at title (count_line title n ++ rest) ≡ Some (n, rest)
+unfolding titled_at
+titled_again title n rest h =
+    ap (titled_at title) (titled_parts title n rest)
+    ∙ step (behind title (title ++ (word n ++ (end ++ rest)))) _ (word n ++ (end ++ rest)) (Some (n, rest)) (behind_again title (word n ++ (end ++ rest)))
+    (step (word_at (word n ++ (end ++ rest))) _ (n, end ++ rest) (Some (n, rest)) (word_again n (end ++ rest) h refl)
+    (step (behind (10 ∷ []) (end ++ rest)) _ rest (Some (n, rest)) (behind_again (10 ∷ []) rest) refl))
 
 pub bare_is : IsLine IsNumber (λ n probe. bare_line probe) bare_at
 bare_is = record {
-  takes = bare_takes;
-  again = λ n x rest h short. bare_again n x rest h;
+  takes = λ n. titled_takes (codes "bare");
+  again = λ n x rest h short. titled_again (codes "bare") x rest h;
   some = λ n x. omega arith;
 }

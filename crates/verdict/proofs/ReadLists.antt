@@ -187,8 +187,3 @@ items_few lawful text at is (x ∷ xs) n =
     let long = length-append (text n x) (numbered text (n + 1) xs) in
     let one = is.some n x in
     omega (arith, others, long, one)
-
--- items that are not numbered
-pub numbered-flat : {X : Type 0} (text : X → List ℕ) (n : ℕ) (xs : List X) → numbered (λ k x. text x) n xs ≡ flat_map text xs
-numbered-flat text n [] = refl
-numbered-flat text n (x ∷ xs) = ap (λ (t : List ℕ). text x ++ t) (numbered-flat text (n + 1) xs) ∙ sym (flat_map-cons text x xs)

@@ -1,7 +1,7 @@
 -- The parts of a report, and the whole: what is read stood there, and what stands there is read.
 use Rattle.std.proofs.Common.{◌≡◌, ℕ, ◌^◌, ◌<◌, Bool, true, false, cond, eqb, List, [], ◌∷◌, ◌++◌, length, Option, Some, None, Result, Ok, Err, codes, refl, sym, ap, subst, ◌∙◌, append_assoc, arith}
 use Rattle.std.specs.Prelude.{IfOk, IfErr, IfSome}
-use Rattle.std.specs.List.{AllByRecursion, flat_map}
+use Rattle.std.specs.List.{AllByRecursion}
 use Rattle.std.specs.Cmp.Lexicographic.{pointwise}
 use Rattle.std.proofs.lemmas.List.{length-append}
 use Rattle.std.proofs.lemmas.Slice.Eq.{bytes_eq-Decides}
@@ -13,11 +13,11 @@ use Rattle.verdict.specs.declared.verdict.Short.{Short}
 use Rattle.verdict.specs.declared.verdict.Supplement.{Supplement}
 use Rattle.verdict.specs.declared.verdict.Verdict.{Verdict}
 use Rattle.verdict.specs.Lawful.{IsNumber, IsTwig, IsPointLine, IsOpen, IsBranchLine, IsShort, IsSpotLine, IsSourceLine, IsSupplement, IsVerdict}
-use Rattle.verdict.specs.Reading.{Gives, behind, word_at, count_at, net_at, name_at, point_at, open_at, branch_at, items_at, short_at, bare_at, spot_at, source_at, section_at, pieces_at, first_behind, first_line_at, supplement_at, more_at, ended, report_at}
-use Rattle.verdict.specs.ReportText.{word, end, count_line, numbered, net_line, name_line, point_line, open_line, branch_line, short_lines, bare_line, spot_line, source_line, last_line, nets_text, names_text, points_text, opens_text, shorts_text, bare_text, first_line, more_text, report_text}
+use Rattle.verdict.specs.Reading.{Gives, behind, word_at, count_at, net_at, name_at, point_at, open_at, branch_at, items_at, short_at, bare_at, spot_at, source_at, section_at, titled_at, first_behind, first_line_at, supplement_at, more_at, ended, report_at}
+use Rattle.verdict.specs.ReportText.{word, end, count_line, numbered, line_of, section_text, net_line, name_line, point_line, open_line, branch_line, short_lines, bare_line, spot_line, source_line, last_line, nets_text, names_text, points_text, opens_text, shorts_text, bare_text, first_line, more_text, report_text}
 use Rattle.verdict.proofs.Steps.{step, some_is, guard_some, front_then, behind_takes, behind_again, word_takes, word_again, count_takes, count_again}
-use Rattle.verdict.proofs.ReadLists.{IsLine, items_take, items_again, items_few, numbered-flat}
-use Rattle.verdict.proofs.ReadLines.{bind_then, net_is, name_is, point_is, open_is, branch_is, bare_is}
+use Rattle.verdict.proofs.ReadLists.{IsLine, items_take, items_again, items_few}
+use Rattle.verdict.proofs.ReadLines.{bind_then, net_is, name_is, point_is, open_is, branch_is, bare_is, titled_takes, titled_again}
 use Rattle.verdict.proofs.ReadSupplement.{spot_is, source_is}
 
 -- what stands behind is no longer
@@ -38,40 +38,36 @@ counted_takes lawful text at is bytes count xs h k =
 
 -- ---- Shorts
 
-pub short_parts : (s : Short) (rest : List ℕ) → short_lines s ++ rest ≡ codes "short" ++ (word s.net ++ (word (length s.branches) ++ (end ++ (flat_map branch_line s.branches ++ rest))))
+pub short_parts : (s : Short) (rest : List ℕ) → short_lines s ++ rest ≡ codes "short" ++ (word s.net ++ (word (length s.branches) ++ (end ++ (numbered (line_of branch_line) 0 s.branches ++ rest))))
 short_parts s rest = simp append_assoc
-
-pub flat_branches : (bs : List Branch) → numbered (λ k b. branch_line b) 0 bs ≡ flat_map branch_line bs
-flat_branches bs = numbered-flat branch_line 0 bs
 
 short_takes : (n : ℕ) (bytes : List ℕ) (s : Short) (rest : List ℕ) → short_at n bytes ≡ Some (s, rest) → (bytes ≡ short_lines s ++ rest) × IsShort s
 unfolding short_at
 short_takes n bytes s rest e = bind_then (behind (codes "short") bytes) _ (s, rest) e (λ a ha e1. bind_then (word_at a) _ (s, rest) e1 (λ b hb e2. bind_then (count_at b.1) _ (s, rest) e2 (λ c hc e3. bind_then (items_at branch_at c.0 0 c.1) _ (s, rest) e3 (λ d hd e4.
     let net = word_takes a b.0 b.1 hb in
-    let branches = counted_takes IsBranchLine (λ k x. branch_line x) branch_at branch_is b.1 c d hc hd in
+    let branches = counted_takes IsBranchLine (line_of branch_line) branch_at branch_is b.1 c d hc hd in
     let made : Short = record { net = b.0; branches = d.0 } in
-    let listed : b.1 ≡ word (length d.0) ++ (end ++ (flat_map branch_line d.0 ++ d.1)) = branches.0 ∙ ap (λ (t : List ℕ). word (length d.0) ++ (end ++ (t ++ d.1))) (flat_branches d.0) in
-    let whole : bytes ≡ short_lines made ++ d.1 = front_then bytes (codes "short") a _ (behind_takes (codes "short") bytes a ha) (front_then a (word b.0) b.1 _ net.0 listed) ∙ sym (short_parts made d.1) in
+    let whole : bytes ≡ short_lines made ++ d.1 = front_then bytes (codes "short") a _ (behind_takes (codes "short") bytes a ha) (front_then a (word b.0) b.1 _ net.0 branches.0) ∙ sym (short_parts made d.1) in
     subst (λ (y : Short × List ℕ). (bytes ≡ short_lines y.0 ++ y.1) × IsShort y.0) (some_is (made, d.1) (s, rest) e4) (whole, record { net = net.1; branches = branches.1 })))))
 
 short_again : (n : ℕ) (s : Short) (rest : List ℕ) → IsShort s → length (short_lines s ++ rest) < 2 ^ 64 → short_at n (short_lines s ++ rest) ≡ Some (s, rest)
 unfolding short_at
 short_again n s rest h small =
-    let t4 = numbered (λ k b. branch_line b) 0 s.branches ++ rest in
+    let t4 = numbered (line_of branch_line) 0 s.branches ++ rest in
     let t3 = end ++ t4 in
     let t2 = word (length s.branches) ++ t3 in
     let t1 = word s.net ++ t2 in
-    let parts : short_lines s ++ rest ≡ codes "short" ++ t1 = short_parts s rest ∙ ap (λ (t : List ℕ). codes "short" ++ (word s.net ++ (word (length s.branches) ++ (end ++ (t ++ rest))))) (sym (flat_branches s.branches)) in
+    let parts : short_lines s ++ rest ≡ codes "short" ++ t1 = short_parts s rest in
     let whole : length (codes "short" ++ t1) < 2 ^ 64 = subst (λ (t : List ℕ). length t < 2 ^ 64) parts small in
     let tail : length t4 < 2 ^ 64 = rest_short (2 ^ 64) end t4 (rest_short (2 ^ 64) (word (length s.branches)) t3 (rest_short (2 ^ 64) (word s.net) t2 (rest_short (2 ^ 64) (codes "short") t1 whole))) in
-    let lines : length (numbered (λ k b. branch_line b) 0 s.branches) < 2 ^ 64 = front_short (2 ^ 64) (numbered (λ k b. branch_line b) 0 s.branches) rest tail in
-    let few = items_few IsBranchLine (λ k b. branch_line b) branch_at branch_is s.branches 0 in
+    let lines : length (numbered (line_of branch_line) 0 s.branches) < 2 ^ 64 = front_short (2 ^ 64) (numbered (line_of branch_line) 0 s.branches) rest tail in
+    let few = items_few IsBranchLine (line_of branch_line) branch_at branch_is s.branches 0 in
     let count : length s.branches < 2 ^ 64 = omega (arith, few, lines) in
     ap (short_at n) parts
     ∙ step (behind (codes "short") (codes "short" ++ t1)) _ t1 (Some (s, rest)) (behind_again (codes "short") t1)
     (step (word_at t1) _ (s.net, t2) (Some (s, rest)) (word_again s.net t2 h.net refl)
     (step (count_at t2) _ (length s.branches, t4) (Some (s, rest)) (count_again (length s.branches) t4 count)
-    (step (items_at branch_at (length s.branches) 0 t4) _ (s.branches, rest) (Some (s, rest)) (items_again IsBranchLine (λ k b. branch_line b) branch_at branch_is s.branches 0 rest h.branches tail) refl)))
+    (step (items_at branch_at (length s.branches) 0 t4) _ (s.branches, rest) (Some (s, rest)) (items_again IsBranchLine (line_of branch_line) branch_at branch_is s.branches 0 rest h.branches tail) refl)))
 
 short_is : IsLine IsShort (λ n s. short_lines s) short_at
 short_is = record {
@@ -81,9 +77,6 @@ short_is = record {
 }
 
 -- ---- Sections
-
-abbrev pub section_text : {X : Type 0} → List ℕ → (ℕ → X → List ℕ) → List X → List ℕ
-section_text title text xs = count_line title (length xs) ++ numbered text 0 xs
 
 pub section_parts : {X : Type 0} (title : List ℕ) (text : ℕ → X → List ℕ) (xs : List X) (rest : List ℕ) → section_text title text xs ++ rest ≡ title ++ (word (length xs) ++ (end ++ (numbered text 0 xs ++ rest)))
 section_parts title text xs rest = simp append_assoc
@@ -111,24 +104,6 @@ section_again lawful text at is title xs rest h small =
     ∙ step (behind title (title ++ t1)) _ t1 (Some (xs, rest)) (behind_again title t1)
     (step (count_at t1) _ (length xs, t3) (Some (xs, rest)) (count_again (length xs) t3 count)
     (items_again lawful text at is xs 0 rest h tail))
-
-pieces_takes : (bytes : List ℕ) (n : ℕ) (rest : List ℕ) → pieces_at bytes ≡ Some (n, rest) → (bytes ≡ count_line (codes "pieces") n ++ rest) × IsNumber n
-unfolding pieces_at
-pieces_takes bytes n rest e = bind_then (behind (codes "pieces") bytes) _ (n, rest) e (λ a ha e1. bind_then (word_at a) _ (n, rest) e1 (λ b hb e2. bind_then (behind (10 ∷ []) b.1) _ (n, rest) e2 (λ g hg e3.
-    let number = word_takes a b.0 b.1 hb in
-    let tail : a ≡ word b.0 ++ (end ++ g) = front_then a (word b.0) b.1 _ number.0 (behind_takes (10 ∷ []) b.1 g hg) in
-    let parts : count_line (codes "pieces") b.0 ++ g ≡ codes "pieces" ++ (word b.0 ++ (end ++ g)) = simp append_assoc in
-    let whole : bytes ≡ count_line (codes "pieces") b.0 ++ g = front_then bytes (codes "pieces") a _ (behind_takes (codes "pieces") bytes a ha) tail ∙ sym parts in
-    subst (λ (y : ℕ × List ℕ). (bytes ≡ count_line (codes "pieces") y.0 ++ y.1) × IsNumber y.0) (some_is (b.0, g) (n, rest) e3) (whole, number.1))))
-
-pieces_again : (n : ℕ) (rest : List ℕ) → IsNumber n → pieces_at (count_line (codes "pieces") n ++ rest) ≡ Some (n, rest)
-unfolding pieces_at
-pieces_again n rest h =
-    let parts : count_line (codes "pieces") n ++ rest ≡ codes "pieces" ++ (word n ++ (end ++ rest)) = simp append_assoc in
-    ap pieces_at parts
-    ∙ step (behind (codes "pieces") (codes "pieces" ++ (word n ++ (end ++ rest)))) _ (word n ++ (end ++ rest)) (Some (n, rest)) (behind_again (codes "pieces") (word n ++ (end ++ rest)))
-    (step (word_at (word n ++ (end ++ rest))) _ (n, end ++ rest) (Some (n, rest)) (word_again n (end ++ rest) h refl)
-    (step (behind (10 ∷ []) (end ++ rest)) _ rest (Some (n, rest)) (behind_again (10 ∷ []) rest) refl))
 
 -- ---- The first line and the supplement
 
@@ -202,12 +177,6 @@ more_again (Some more) rest h small =
 
 -- ---- The whole
 
-abbrev pub line_of : {X : Type 0} → (X → List ℕ) → ℕ → X → List ℕ
-line_of text n x = text x
-
-flat_section : {X : Type 0} (title : List ℕ) (text : X → List ℕ) (xs : List X) → section_text title (line_of text) xs ≡ count_line title (length xs) ++ flat_map text xs
-flat_section title text xs = ap (λ (t : List ℕ). count_line title (length xs) ++ t) (numbered-flat text 0 xs)
-
 -- the text of a verdict part by part, as it is read
 abbrev pub last_of : Verdict → List ℕ
 last_of v = last_line v.opens v.shorts v.bare
@@ -237,15 +206,11 @@ abbrev pub from_pieces : Verdict → List ℕ
 from_pieces v = count_line (codes "pieces") v.pieces ++ from_nets v
 
 pub report_parts : (v : Verdict) → report_text v ≡ first_line v.more ++ from_pieces v
-report_parts v =
-    let bare : section_text (codes "missing") (line_of bare_line) v.bare ≡ bare_text v.bare = flat_section (codes "missing") bare_line v.bare in
-    let shorts : section_text (codes "shorts") (line_of short_lines) v.shorts ≡ shorts_text v.shorts = flat_section (codes "shorts") short_lines v.shorts in
-    let opens : section_text (codes "opens") (line_of open_line) v.opens ≡ opens_text v.opens = flat_section (codes "opens") open_line v.opens in
-    joined (first_line v.more) (count_line (codes "pieces") v.pieces) (nets_text v.nets) (names_text v.names) (points_text v.points) (opens_text v.opens) _ (shorts_text v.shorts) _ (bare_text v.bare) _ (more_text v.more) (last_of v) opens shorts bare
+report_parts v = joined (first_line v.more) (count_line (codes "pieces") v.pieces) (nets_text v.nets) (names_text v.names) (points_text v.points) (opens_text v.opens) (shorts_text v.shorts) (bare_text v.bare) (more_text v.more) (last_of v)
   where
-    joined : (head pieces nets names points opens opens' shorts shorts' bare bare' more last : List ℕ) → opens' ≡ opens → shorts' ≡ shorts → bare' ≡ bare
-        → (((head ++ (((pieces ++ nets) ++ names) ++ points)) ++ ((opens ++ shorts) ++ bare)) ++ more) ++ last ≡ head ++ (pieces ++ (nets ++ (names ++ (points ++ (opens' ++ (shorts' ++ (bare' ++ (more ++ last))))))))
-    joined head pieces nets names points opens opens' shorts shorts' bare bare' more last p q r = rw (p, q, r) (simp append_assoc)
+    joined : (head pieces nets names points opens shorts bare more last : List ℕ)
+        → (((head ++ (((pieces ++ nets) ++ names) ++ points)) ++ ((opens ++ shorts) ++ bare)) ++ more) ++ last ≡ head ++ (pieces ++ (nets ++ (names ++ (points ++ (opens ++ (shorts ++ (bare ++ (more ++ last))))))))
+    joined head pieces nets names points opens shorts bare more last = simp append_assoc
 
 ended_takes : (v : Verdict) (rest : List ℕ) (w : Verdict) → ended v rest ≡ Some w → (rest ≡ last_of v) × (v ≡ w)
 ended_takes v rest w e =
@@ -257,13 +222,13 @@ ended_again v = let same : pointwise eqb (last_of v) (last_of v) ≡ true = (byt
 
 pub report_takes : (text : List ℕ) (v : Verdict) → report_at text ≡ Some v → IsVerdict v × (text ≡ report_text v)
 unfolding report_at
-report_takes text v e = bind_then (first_line_at text) _ v e (λ a ha e1. bind_then (pieces_at a.1) _ v e1 (λ b hb e2.
+report_takes text v e = bind_then (first_line_at text) _ v e (λ a ha e1. bind_then (titled_at (codes "pieces") a.1) _ v e1 (λ b hb e2.
     bind_then (section_at net_at (codes "nets") b.1) _ v e2 (λ c hc e3. bind_then (section_at name_at (codes "names") c.1) _ v e3 (λ d hd e4.
     bind_then (section_at point_at (codes "points") d.1) _ v e4 (λ f hf e5. bind_then (section_at open_at (codes "opens") f.1) _ v e5 (λ g hg e6.
     bind_then (section_at short_at (codes "shorts") g.1) _ v e6 (λ h hh e7. bind_then (section_at bare_at (codes "missing") h.1) _ v e7 (λ k hk e8.
     bind_then (more_at a.0 k.1) _ v e8 (λ m hm e9.
     let made : Verdict = record { pieces = b.0; names = d.0; nets = c.0; points = f.0; opens = g.0; shorts = h.0; bare = k.0; more = m.0 } in
-    let t1 = pieces_takes a.1 b.0 b.1 hb in
+    let t1 = titled_takes (codes "pieces") a.1 b.0 b.1 hb in
     let t2 = section_takes (AllByRecursion IsTwig) net_line net_at net_is (codes "nets") b.1 c.0 c.1 hc in
     let t3 = section_takes IsText name_line name_at name_is (codes "names") c.1 d.0 d.1 hd in
     let t4 = section_takes IsPointLine point_line point_at point_is (codes "points") d.1 f.0 f.1 hf in
@@ -300,7 +265,7 @@ report_again v is small =
     let s8 : length (from_more v) < 2 ^ 64 = rest_short (2 ^ 64) (section_text (codes "missing") (line_of bare_line) v.bare) (from_more v) s7 in
     ap report_at (report_parts v)
     ∙ step (first_line_at (first_line v.more ++ from_pieces v)) _ (is_there v.more, from_pieces v) (Some v) (first_again v.more (from_pieces v))
-    (step (pieces_at (from_pieces v)) _ (v.pieces, from_nets v) (Some v) (pieces_again v.pieces (from_nets v) is.pieces)
+    (step (titled_at (codes "pieces") (from_pieces v)) _ (v.pieces, from_nets v) (Some v) (titled_again (codes "pieces") v.pieces (from_nets v) is.pieces)
     (step (section_at net_at (codes "nets") (from_nets v)) _ (v.nets, from_names v) (Some v) (section_again (AllByRecursion IsTwig) net_line net_at net_is (codes "nets") v.nets (from_names v) is.nets s2)
     (step (section_at name_at (codes "names") (from_names v)) _ (v.names, from_points v) (Some v) (section_again IsText name_line name_at name_is (codes "names") v.names (from_points v) is.names s3)
     (step (section_at point_at (codes "points") (from_points v)) _ (v.points, from_opens v) (Some v) (section_again IsPointLine point_line point_at point_is (codes "points") v.points (from_opens v) is.points s4)

@@ -80,6 +80,14 @@ count_at bytes = do
   after ← behind (10 ∷ []) n.1
   Some (n.0, after)
 
+-- a title, a number below 2^32 and the end of the line
+unfoldable pub titled_at : List ℕ → List ℕ → Option (ℕ × List ℕ)
+titled_at title bytes = do
+  rest ← behind title bytes
+  number ← word_at rest
+  after ← behind (10 ∷ []) number.1
+  Some (number.0, after)
+
 -- so much below zero, from 1 to 2^63
 abbrev pub negated : ℕ → Option ℤ
 negated zero = None
@@ -207,12 +215,8 @@ short_at n bytes = do
   branches ← items_at branch_at count.0 0 count.1
   Some (record { net = net.0; branches = branches.0 }, branches.1)
 
-unfoldable pub bare_at : ℕ → List ℕ → Option (ℕ × List ℕ)
-bare_at n bytes = do
-  rest ← behind (codes "bare") bytes
-  probe ← word_at rest
-  after ← behind (10 ∷ []) probe.1
-  Some (probe.0, after)
+abbrev pub bare_at : ℕ → List ℕ → Option (ℕ × List ℕ)
+bare_at n bytes = titled_at (codes "bare") bytes
 
 unfoldable pub spot_at : ℕ → List ℕ → Option (SpotLine × List ℕ)
 spot_at n bytes = do
@@ -242,13 +246,6 @@ section_at at title bytes = do
   count ← count_at rest
   items_at at count.0 0 count.1
 
-unfoldable pub pieces_at : List ℕ → Option (ℕ × List ℕ)
-pieces_at bytes = do
-  rest ← behind (codes "pieces") bytes
-  pieces ← word_at rest
-  after ← behind (10 ∷ []) pieces.1
-  Some (pieces.0, after)
-
 -- whether the first line tells of a supplement
 abbrev pub first_behind : Option (List ℕ) → List ℕ → Option (Bool × List ℕ)
 first_behind (Some rest) text = Some (false, rest)
@@ -275,7 +272,7 @@ ended v rest = if pointwise ◌==◌ rest (last_line v.opens v.shorts v.bare) th
 unfoldable pub report_at : List ℕ → Option Verdict
 report_at text = do
   first ← first_line_at text
-  pieces ← pieces_at first.1
+  pieces ← titled_at (codes "pieces") first.1
   nets ← section_at net_at (codes "nets") pieces.1
   names ← section_at name_at (codes "names") nets.1
   points ← section_at point_at (codes "points") names.1

@@ -39,6 +39,14 @@ abbrev pub numbered : {X : Type 0} → (ℕ → X → List ℕ) → ℕ → List
 numbered text n [] = []
 numbered text n (x ∷ xs) = text n x ++ numbered text (n + 1) xs
 
+-- the text of an item that does not show its number
+abbrev pub line_of : {X : Type 0} → (X → List ℕ) → ℕ → X → List ℕ
+line_of text n x = text x
+
+-- a title, a count and the items
+abbrev pub section_text : {X : Type 0} → List ℕ → (ℕ → X → List ℕ) → List X → List ℕ
+section_text title text xs = count_line title (length xs) ++ numbered text 0 xs
+
 abbrev pub parent_text : Option ℕ → List ℕ
 parent_text None = []
 parent_text (Some p) = 58 ∷ decimal p
@@ -66,7 +74,7 @@ abbrev pub branch_line : Branch → List ℕ
 branch_line b = codes "branch" ++ word b.name ++ word b.probe ++ flat_map word b.pieces ++ end
 
 abbrev pub short_lines : Short → List ℕ
-short_lines s = codes "short" ++ word s.net ++ word (length s.branches) ++ end ++ flat_map branch_line s.branches
+short_lines s = codes "short" ++ word s.net ++ word (length s.branches) ++ end ++ numbered (line_of branch_line) 0 s.branches
 
 abbrev pub bare_line : ℕ → List ℕ
 bare_line probe = codes "bare" ++ word probe ++ end
@@ -83,28 +91,28 @@ last_line opens shorts bare = codes "differs" ++ end
 
 -- The text of a verdict, part by part.
 abbrev pub nets_text : List (List Twig) → List ℕ
-nets_text nets = count_line (codes "nets") (length nets) ++ numbered net_line 0 nets
+nets_text nets = section_text (codes "nets") net_line nets
 
 abbrev pub names_text : List (List ℕ) → List ℕ
-names_text names = count_line (codes "names") (length names) ++ numbered name_line 0 names
+names_text names = section_text (codes "names") name_line names
 
 abbrev pub points_text : List PointLine → List ℕ
-points_text points = count_line (codes "points") (length points) ++ numbered point_line 0 points
+points_text points = section_text (codes "points") point_line points
 
 abbrev pub opens_text : List Open → List ℕ
-opens_text opens = count_line (codes "opens") (length opens) ++ flat_map open_line opens
+opens_text opens = section_text (codes "opens") (line_of open_line) opens
 
 abbrev pub shorts_text : List Short → List ℕ
-shorts_text shorts = count_line (codes "shorts") (length shorts) ++ flat_map short_lines shorts
+shorts_text shorts = section_text (codes "shorts") (line_of short_lines) shorts
 
 abbrev pub bare_text : List ℕ → List ℕ
-bare_text bare = count_line (codes "missing") (length bare) ++ flat_map bare_line bare
+bare_text bare = section_text (codes "missing") (line_of bare_line) bare
 
 abbrev pub spots_text : List SpotLine → List ℕ
-spots_text spots = count_line (codes "spots") (length spots) ++ numbered spot_line 0 spots
+spots_text spots = section_text (codes "spots") spot_line spots
 
 abbrev pub sources_text : List SourceLine → List ℕ
-sources_text sources = count_line (codes "sources") (length sources) ++ numbered source_line 0 sources
+sources_text sources = section_text (codes "sources") source_line sources
 
 -- the first line tells whether there is a supplement
 abbrev pub first_line : Option Supplement → List ℕ

@@ -86,6 +86,17 @@ pub fn word(bytes: &[u8]) -> Result<(u32, &[u8]), ReadFault>
     number(rest)
 }
 
+// A title, a number below 2^32 and the end of the line.
+#[tactic(auto, unfolding(crate::specs::Reading::titled_at))]
+pub fn titled<'a>(bytes: &'a [u8], title: &[u8]) -> Result<(u32, &'a [u8]), ReadFault>
+    ensures { spec.Gives (λ x. (x.0, x.1.now)) result (spec.titled_at title.now bytes.now) }
+{
+    let rest = expect(bytes, title)?;
+    let (n, rest) = word(rest)?;
+    let rest = expect(rest, b"\n")?;
+    Ok((n, rest))
+}
+
 // So much below zero, from 1 to 2^63.
 fn negated(n: u64) -> Option<i64>
     ensures { result ≡ spec.negated n }

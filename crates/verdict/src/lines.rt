@@ -1,34 +1,62 @@
-// The lines of a report, and lists of them.
-ghost use Rattle.std.specs.Prelude.{◌≡◌, ℕ, List, Option, length};
+// The lines of a report and lists of them, each as it is read and as it is written.
+ghost use Rattle.std.specs.Prelude.{◌≡◌, ◌++◌, ℕ, List, Option, OnOk, IfSome, length};
+ghost use Rattle.std.specs.List.{AllByRecursion, flat_map};
+ghost use Rattle.lengths.specs.Text.{IsText};
+ghost use Rattle.verdict.specs.Lawful.{IsBranchLine, IsNumber, IsOpen, IsPointLine, IsShort, IsSourceLine, IsSpotLine, IsTwig};
 ghost use Rattle.verdict.specs.Reading as spec;
+ghost use Rattle.verdict.specs.ReportText as report;
 
-use crate::fields::{begins_blank, count, expect, layer, net_number, parent, signed_word, word};
+use crate::fields::{
+    begins_blank, count, expect, layer, net_number, parent, signed_word, titled, word,
+};
 use crate::reading::ReadFault;
 use crate::verdict::{Branch, Open, PointLine, Short, SourceLine, SpotLine, Tree, Twig};
 use lengths::{Rows, Text, TextFault};
-use std::alloc::Global;
-use texts::{Numeral, after, before, has};
+use std::alloc::{AllocError, Global};
+use texts::{Numeral, after, before, has, put, put_blank_number, put_number, put_signed};
 
 // What stands behind a blank as often as there are some, up to the end of a line.
 pub trait Word: Drop {
     ghost at: { List ℕ → Option (Self × List ℕ) };
 
+    ghost text: { Self → List ℕ };
+
+    ghost is_lawful: { Self → Type 0 };
+
     // What stands in front, and the bytes behind it.
     fn read(bytes: &[u8]) -> Result<(Self, &[u8]), ReadFault>
         ensures { spec.Gives (λ x. (x.0, x.1.now)) result (at bytes.now) };
+
+    // Its text behind others. Whoever writes it learns that its numbers and names are in range.
+    fn write(&self, out: &mut Vec<u8>) -> Result<(), AllocError>
+        ensures written { OnOk result (out.new.items ≡ out.old.items ++ text self.now) }
+        ensures lawful { OnOk result (is_lawful self.now) };
 }
 
 // What a counted list of a report has, on lines of its own.
 pub trait Line: Drop {
     ghost at: { ℕ → List ℕ → Option (Self × List ℕ) };
 
+    ghost text: { ℕ → Self → List ℕ };
+
+    ghost is_lawful: { Self → Type 0 };
+
     // What stands in front as the item of this number, and the bytes behind it.
     fn read(alloc: Global, number: u64, bytes: &[u8]) -> Result<(Self, &[u8]), ReadFault>
         ensures { spec.Gives (λ x. (x.0, x.1.now)) result (at number bytes.now) };
+
+    // Its text behind others. Whoever writes it learns that its numbers and names are in range.
+    fn write(&self, number: u64, out: &mut Vec<u8>) -> Result<(), AllocError>
+        ensures written { OnOk result (out.new.items ≡ out.old.items ++ text number self.now) }
+        ensures lawful { OnOk result (is_lawful self.now) };
 }
 
 impl Word for Twig {
     ghost at = { spec.twig_at };
+
+    ghost text = { report.twig_text };
+
+    ghost is_lawful = { IsTwig };
 
     #[tactic(auto, unfolding(crate::specs::Reading::twig_at))]
     fn read(bytes: &[u8]) -> Result<(Twig, &[u8]), ReadFault> {
@@ -36,13 +64,32 @@ impl Word for Twig {
         let (parent, rest) = parent(rest)?;
         Ok((Twig { piece, parent }, rest))
     }
+
+    fn write(&self, out: &mut Vec<u8>) -> Result<(), AllocError> {
+        put_blank_number(out, u64::from(self.piece))?;
+        match self.parent {
+            None => Ok(()),
+            Some(parent) => {
+                put(out, b":")?;
+                put_number(out, u64::from(parent))
+            }
+        }
+    }
 }
 
 impl Word for u32 {
     ghost at = { spec.word_at };
 
+    ghost text = { report.word };
+
+    ghost is_lawful = { IsNumber };
+
     fn read(bytes: &[u8]) -> Result<(u32, &[u8]), ReadFault> {
         word(bytes)
+    }
+
+    fn write(&self, out: &mut Vec<u8>) -> Result<(), AllocError> {
+        put_blank_number(out, u64::from(*self))
     }
 }
 
@@ -63,6 +110,17 @@ fn words<T: Word>(alloc: Global, bytes: &[u8]) -> Result<(Rows<T>, &[u8]), ReadF
     Err(ReadFault::NotAReport)
 }
 
+// Writes words, each behind a blank.
+fn write_words<T: Word>(out: &mut Vec<u8>, words: &[T]) -> Result<(), AllocError>
+    ensures written { OnOk result (out.new.items ≡ out.old.items ++ flat_map T.text words.now) }
+    ensures lawful { OnOk result (AllByRecursion T.is_lawful words.now) }
+{
+    for word in words {
+        word.write(out)?;
+    }
+    Ok(())
+}
+
 // A title and the number of a line.
 #[tactic(auto, unfolding(crate::specs::Reading::heading_at))]
 fn heading<'a>(bytes: &'a [u8], title: &[u8], number: u64) -> Result<&'a [u8], ReadFault>
@@ -71,6 +129,33 @@ fn heading<'a>(bytes: &'a [u8], title: &[u8], number: u64) -> Result<&'a [u8], R
     let rest = expect(bytes, title)?;
     let rest = expect(rest, b" ")?;
     expect(rest, Numeral::of(number).as_bytes())
+}
+
+// Writes a title and the number of a line.
+fn write_heading(out: &mut Vec<u8>, title: &[u8], number: u64) -> Result<(), AllocError>
+    ensures { OnOk result (out.new.items ≡ out.old.items ++ (title.now ++ report.word number)) }
+{
+    put(out, title)?;
+    put_blank_number(out, number)
+}
+
+/// Writes a title, a count and the end of the line.
+pub fn write_count(out: &mut Vec<u8>, title: &[u8], n: u64) -> Result<(), AllocError>
+    ensures { OnOk result (out.new.items ≡ out.old.items ++ report.count_line title.now n) }
+{
+    write_heading(out, title, n)?;
+    put(out, b"\n")
+}
+
+// Writes the net of a point, or a minus for none.
+fn write_net(out: &mut Vec<u8>, net: Option<u32>) -> Result<(), AllocError>
+    ensures written { OnOk result (out.new.items ≡ out.old.items ++ report.net_text net) }
+    ensures lawful { OnOk result (IfSome net IsNumber) }
+{
+    match net {
+        None => put(out, b" -"),
+        Some(net) => put_blank_number(out, u64::from(net)),
+    }
 }
 
 // A name and the end of its line.
@@ -91,6 +176,10 @@ fn text(alloc: Global, bytes: &[u8]) -> Result<(Text, &[u8]), ReadFault>
 impl Line for Tree {
     ghost at = { spec.net_at };
 
+    ghost text = { report.net_line };
+
+    ghost is_lawful = { AllByRecursion IsTwig };
+
     #[tactic(auto, unfolding(crate::specs::Reading::net_at))]
     fn read(alloc: Global, number: u64, bytes: &[u8]) -> Result<(Tree, &[u8]), ReadFault> {
         let rest = heading(bytes, b"net", number)?;
@@ -98,10 +187,20 @@ impl Line for Tree {
         let rest = expect(rest, b"\n")?;
         Ok((net, rest))
     }
+
+    fn write(&self, number: u64, out: &mut Vec<u8>) -> Result<(), AllocError> {
+        write_heading(out, b"net", number)?;
+        write_words(out, self.as_slice())?;
+        put(out, b"\n")
+    }
 }
 
 impl Line for Text {
     ghost at = { spec.name_at };
+
+    ghost text = { report.name_line };
+
+    ghost is_lawful = { IsText };
 
     #[tactic(auto, unfolding(crate::specs::Reading::name_at))]
     fn read(alloc: Global, number: u64, bytes: &[u8]) -> Result<(Text, &[u8]), ReadFault> {
@@ -109,10 +208,21 @@ impl Line for Text {
         let rest = expect(rest, b" ")?;
         text(alloc, rest)
     }
+
+    fn write(&self, number: u64, out: &mut Vec<u8>) -> Result<(), AllocError> {
+        write_heading(out, b"name", number)?;
+        put(out, b" ")?;
+        put(out, self.as_bytes())?;
+        put(out, b"\n")
+    }
 }
 
 impl Line for PointLine {
     ghost at = { spec.point_at };
+
+    ghost text = { report.point_line };
+
+    ghost is_lawful = { IsPointLine };
 
     #[tactic(auto, unfolding(crate::specs::Reading::point_at))]
     fn read(_: Global, number: u64, bytes: &[u8]) -> Result<(PointLine, &[u8]), ReadFault> {
@@ -132,10 +242,23 @@ impl Line for PointLine {
             rest,
         ))
     }
+
+    fn write(&self, number: u64, out: &mut Vec<u8>) -> Result<(), AllocError> {
+        write_heading(out, b"point", number)?;
+        put_blank_number(out, u64::from(self.number))?;
+        put_blank_number(out, u64::from(self.layer))?;
+        put_blank_number(out, u64::from(self.name))?;
+        write_net(out, self.net)?;
+        put(out, b"\n")
+    }
 }
 
 impl Line for Open {
     ghost at = { spec.open_at };
+
+    ghost text = { report.line_of report.open_line };
+
+    ghost is_lawful = { IsOpen };
 
     #[tactic(auto, unfolding(crate::specs::Reading::open_at))]
     fn read(_: Global, _: u64, bytes: &[u8]) -> Result<(Open, &[u8]), ReadFault> {
@@ -155,10 +278,20 @@ impl Line for Open {
             rest,
         ))
     }
+
+    fn write(&self, _: u64, out: &mut Vec<u8>) -> Result<(), AllocError> {
+        put(out, b"open")?;
+        write_words(out, &[self.name, self.home, self.other, self.probe])?;
+        put(out, b"\n")
+    }
 }
 
 impl Line for Branch {
     ghost at = { spec.branch_at };
+
+    ghost text = { report.line_of report.branch_line };
+
+    ghost is_lawful = { IsBranchLine };
 
     #[tactic(auto, unfolding(crate::specs::Reading::branch_at))]
     fn read(alloc: Global, _: u64, bytes: &[u8]) -> Result<(Branch, &[u8]), ReadFault> {
@@ -176,10 +309,21 @@ impl Line for Branch {
             rest,
         ))
     }
+
+    fn write(&self, _: u64, out: &mut Vec<u8>) -> Result<(), AllocError> {
+        put(out, b"branch")?;
+        write_words(out, &[self.name, self.probe])?;
+        write_words(out, self.pieces.as_slice())?;
+        put(out, b"\n")
+    }
 }
 
 impl Line for Short {
     ghost at = { spec.short_at };
+
+    ghost text = { report.line_of report.short_lines };
+
+    ghost is_lawful = { IsShort };
 
     #[tactic(auto, unfolding(crate::specs::Reading::short_at))]
     fn read(alloc: Global, _: u64, bytes: &[u8]) -> Result<(Short, &[u8]), ReadFault> {
@@ -189,23 +333,50 @@ impl Line for Short {
         let (branches, rest) = items(alloc, count, rest)?;
         Ok((Short { net, branches }, rest))
     }
+
+    fn write(&self, _: u64, out: &mut Vec<u8>) -> Result<(), AllocError> {
+        put(out, b"short")?;
+        put_blank_number(out, u64::from(self.net))?;
+        put_blank_number(out, self.branches.as_slice().len() as u64)?;
+        put(out, b"\n")?;
+        write_items(out, self.branches.as_slice())
+    }
 }
 
 // The probe of a point without a net.
 impl Line for u32 {
     ghost at = { spec.bare_at };
 
-    #[tactic(auto, unfolding(crate::specs::Reading::bare_at))]
+    ghost text = { report.line_of report.bare_line };
+
+    ghost is_lawful = { IsNumber };
+
     fn read(_: Global, _: u64, bytes: &[u8]) -> Result<(u32, &[u8]), ReadFault> {
-        let rest = expect(bytes, b"bare")?;
-        let (probe, rest) = word(rest)?;
-        let rest = expect(rest, b"\n")?;
-        Ok((probe, rest))
+        titled(bytes, b"bare")
     }
+
+    fn write(&self, _: u64, out: &mut Vec<u8>) -> Result<(), AllocError> {
+        write_count(out, b"bare", u64::from(*self))
+    }
+}
+
+// Writes a place: its x and its y, each behind a blank.
+fn write_place(out: &mut Vec<u8>, spot: &SpotLine) -> Result<(), AllocError>
+    ensures written { OnOk result (out.new.items ≡ out.old.items ++ (report.signed_word spot.now.x ++ report.signed_word spot.now.y)) }
+    ensures lawful { OnOk result (IsSpotLine spot.now) }
+{
+    put(out, b" ")?;
+    put_signed(out, spot.x)?;
+    put(out, b" ")?;
+    put_signed(out, spot.y)
 }
 
 impl Line for SpotLine {
     ghost at = { spec.spot_at };
+
+    ghost text = { report.spot_line };
+
+    ghost is_lawful = { IsSpotLine };
 
     #[tactic(auto, unfolding(crate::specs::Reading::spot_at))]
     fn read(_: Global, number: u64, bytes: &[u8]) -> Result<(SpotLine, &[u8]), ReadFault> {
@@ -215,10 +386,20 @@ impl Line for SpotLine {
         let rest = expect(rest, b"\n")?;
         Ok((SpotLine { x, y }, rest))
     }
+
+    fn write(&self, number: u64, out: &mut Vec<u8>) -> Result<(), AllocError> {
+        write_heading(out, b"spot", number)?;
+        write_place(out, self)?;
+        put(out, b"\n")
+    }
 }
 
 impl Line for SourceLine {
     ghost at = { spec.source_at };
+
+    ghost text = { report.source_line };
+
+    ghost is_lawful = { IsSourceLine };
 
     #[tactic(auto, unfolding(crate::specs::Reading::source_at))]
     fn read(_: Global, number: u64, bytes: &[u8]) -> Result<(SourceLine, &[u8]), ReadFault> {
@@ -239,6 +420,14 @@ impl Line for SourceLine {
             },
             rest,
         ))
+    }
+
+    fn write(&self, number: u64, out: &mut Vec<u8>) -> Result<(), AllocError> {
+        write_heading(out, b"source", number)?;
+        write_words(out, &[self.file, self.command, self.copy])?;
+        put_blank_number(out, u64::from(self.top))?;
+        put_blank_number(out, u64::from(self.bottom))?;
+        put(out, b"\n")
     }
 }
 
@@ -268,4 +457,29 @@ pub fn section<'a, T: Line>(
     let rest = expect(bytes, title)?;
     let (count, rest) = count(rest)?;
     items(alloc, count, rest)
+}
+
+// Writes items, each with its number.
+#[tactic(auto, using(crate::proofs::Numbered::numbered_turn))]
+fn write_items<T: Line>(out: &mut Vec<u8>, items: &[T]) -> Result<(), AllocError>
+    ensures written { OnOk result (out.new.items ≡ out.old.items ++ report.numbered T.text 0 items.now) }
+    ensures lawful { OnOk result (AllByRecursion T.is_lawful items.now) }
+{
+    for (number, item) in items.iter().enumerate() {
+        item.write(number as u64, out)?;
+    }
+    Ok(())
+}
+
+/// Writes a title, a count and so many items.
+pub fn write_section<T: Line>(
+    out: &mut Vec<u8>,
+    title: &[u8],
+    items: &[T],
+) -> Result<(), AllocError>
+    ensures written { OnOk result (out.new.items ≡ out.old.items ++ report.section_text title.now T.text items.now) }
+    ensures lawful { OnOk result (AllByRecursion T.is_lawful items.now) }
+{
+    write_count(out, title, items.len() as u64)?;
+    write_items(out, items)
 }

@@ -5,7 +5,7 @@ ghost use Rattle.verdict.specs.Reading as spec;
 ghost use Rattle.verdict.specs.ReportText.{last_line as last_line_of, report_text};
 ghost use Rattle.verdict.specs.declared.verdict.Verdict.{Verdict};
 
-use crate::fields::{behind, expect, word};
+use crate::fields::{behind, expect, titled};
 use crate::lines::section;
 use crate::verdict::{Supplement, Verdict};
 use lengths::NoMemory as Wanting;
@@ -77,23 +77,12 @@ fn more(alloc: Global, told: bool, bytes: &[u8]) -> Result<(Option<Supplement>, 
     Ok((Some(more), rest))
 }
 
-// The count of pieces.
-#[tactic(auto, unfolding(crate::specs::Reading::pieces_at))]
-fn pieces(bytes: &[u8]) -> Result<(u32, &[u8]), ReadFault>
-    ensures { spec.Gives (λ x. (x.0, x.1.now)) result (spec.pieces_at bytes.now) }
-{
-    let rest = expect(bytes, b"pieces")?;
-    let (pieces, rest) = word(rest)?;
-    let rest = expect(rest, b"\n")?;
-    Ok((pieces, rest))
-}
-
 #[tactic(auto, unfolding(crate::specs::Reading::report_at))]
 fn report(alloc: Global, text: &[u8]) -> Result<Verdict, ReadFault>
     ensures { spec.Gives (λ v. v) result (spec.report_at text.now) }
 {
     let (told, rest) = first_line(text)?;
-    let (pieces, rest) = pieces(rest)?;
+    let (pieces, rest) = titled(rest, b"pieces")?;
     let (nets, rest) = section(alloc, b"nets", rest)?;
     let (names, rest) = section(alloc, b"names", rest)?;
     let (points, rest) = section(alloc, b"points", rest)?;
