@@ -25,6 +25,10 @@ one_mark [] mark P old new (suc i) h = cc
 one_mark (x ∷ marks) mark P old new zero h = old zero h
 one_mark (x ∷ marks) mark P old new (suc i) h = one_mark marks mark (λ j. P (suc j)) (λ j k. old (suc j) k) new i h
 
+-- no mark
+pub no_marks : (body : List PlainPrimitive) (parameters : List Fraction) (unit : Measure) (marks : List Bool) → marks ≡ [] → AreBlank body parameters unit marks
+no_marks body parameters unit marks none = subst (AreBlank body parameters unit) (sym none) (λ i h. cc)
+
 primitive_here : (body : List Primitive) (i : ℕ) (here : Primitive) → i < length body → here ≡ get_or body i here → slice_get (body_of body) i ≡ Some (plain here)
 primitive_here body i here h at = slice_get-map plain body i ∙ ap (option_map plain) (slice_get_read body (length body) i here refl h at)
 

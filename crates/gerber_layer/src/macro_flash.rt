@@ -51,7 +51,10 @@ pub fn pieces_of(
 fn is_marked(marks: &[bool], i: usize) -> bool
     ensures { result ≡ get_or marks.now i false }
 {
-    i < marks.len() && marks[i]
+    match marks.get(i) {
+        Some(mark) => *mark,
+        None => false,
+    }
 }
 
 // What a primitive flashes, which is nothing where it has no image.
