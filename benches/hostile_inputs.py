@@ -23,7 +23,7 @@ WORDS = (b"%TO.N,A*%", b"%TO.N*%", b"%TD*%", b"%TO.N," + b"N" * 201 + b"*%", b"$
 
 class Made:
     """An input: what it is, its files or the words of a trial, how many pairs of its pieces touch where these are most pairs, and how
-    many bytes of macros its flashes go through where these are most of the work."""
+    many bytes of macros its definitions of apertures and its pieces go through where these are most of the work."""
 
     def __init__(self, what, files=None, trial=None, pairs=0, text=0):
         self.what, self.files, self.trial, self.pairs, self.text = what, files or {}, trial, pairs, text
@@ -170,7 +170,8 @@ def grid(count):
 def macros_at_limits():
     """Bodies, expressions, primitives, radii and flashes of macros at their limits and past them."""
     disc, empty = b"1,1,0.1,0,0", b"1,1,0,0,0"
-    long_zero = b"1,1," + b",".join([b"+".join([b"0"] * 64)] * 3)
+    zero, long = b"+".join([b"0"] * 64), b"+".join([b"0.00000000000000000"] * 64)
+    long_empty, long_disc = b"1,1," + b",".join([zero] * 3), b"1,1,0.1,%s,%s" % (long, long)
     for count in (256, 257):
         yield f"a macro of {count} primitives", lambda n=count: Made("", package(with_macro([disc] * n, *grid(10))))
     for count in (781, 782):
@@ -189,15 +190,27 @@ def macros_at_limits():
     for count in (65_536, 65_537):
         yield f"{count} apertures of a macro", lambda n=count: Made("", package(gerber(b"%AMM*1,1,$1,0,0*%", *[b"%%ADD%dM,1.0*%%" % (10 + k) for k in range(n)])))
         yield f"{count} macros", lambda n=count: Made("", package(gerber(*[b"%%AMM%d*1,1,$1,0,0*%%" % k for k in range(n)])))
-    for primitive, kind, most in ((empty, "", 300_000), (long_zero, " and of 64 terms a length", 20_000)):
-        for count in (1_000, most):
-            yield f"{count} flashes of 256 primitives without an image{kind}", lambda p=primitive, n=count: Made(
-                "", package(with_macro([p] * 256, *[b"X0Y0D03*"] * n)), text=256 * (len(p) + 1) * n)
+    for primitive, kind in ((empty, ""), (long_empty, " and of 64 terms a length")):
+        for count in (1_000, 100_000, 1_000_000):
+            yield f"{count} flashes of 256 primitives without an image{kind}", lambda p=primitive, n=count: Made("", package(with_macro([p] * 256, *[b"D03*"] * n)))
+    yield "200,000 flashes of a disc behind 255 primitives without an image and of 64 terms a length", lambda: Made("", package(with_macro([long_empty] * 255 + [disc], *grid(200_000))))
+    yield from macros_by_their_text(long_disc, long_empty)
     yield "an aperture of a macro with 1,000,000 parameters", lambda: Made("", package(gerber(b"%AMM*1,1,$1,0,0*%", b"%ADD10M," + b"X".join([b"1"] * 1_000_000) + b"*%", b"D10*", b"X0Y0D03*")))
     yield "a body of 1,000,000 comments", lambda: Made("", package(with_macro([b"0"] * 1_000_000, b"X0Y0D03*")))
     for size in (MOST, MOST + 1):
         yield f"a copper file of {size} bytes in one body", lambda n=size: Made("", package(padded(b"%FSLAX46Y46*%\n%MOMM*%\n%AMM*", b"0 x*", b"%M02*\n", n)))
         yield f"a copper file of {size} bytes in one name of a macro", lambda n=size: Made("", package(padded(b"%FSLAX46Y46*%\n%MOMM*%\n%AM", b"M", b"*%M02*\n", n)))
+
+
+def macros_by_their_text(disc, empty):
+    """Macros whose text is gone through most often: by each piece that a flash makes, and by each definition of an aperture."""
+    yield "781 flashes of 256 discs of 64 terms a length, each of 18 digits", lambda: Made("", package(with_macro([disc] * 256, *grid(781))), text=781 * 256 * len(disc))
+    corner = b",".join([b"+".join([b"0"] * 64)] * 2)
+    outline = b"4,1,5000," + b",".join([b"0,0", *[b"%d+%s" % (k % 3, corner[2:]) for k in range(1, 5_000)], b"0,0,0"])
+    yield "200 flashes of an outline of 5,000 corners of 64 terms a length", lambda: Made("", package(with_macro([outline], *grid(200))), text=200 * len(outline))
+    for count, times, primitive in ((65_536, 1, empty), (65_536, 256, b"1,1,0,0,0"), (1_000, 256, empty), (1_000, 256, disc), (100, 1, outline)):
+        yield f"{count} apertures of a macro of {times * len(primitive)} bytes", lambda n=count, t=times, p=primitive: Made(
+            "", package(gerber(b"%AMM*" + b"*".join([*[p] * t, b"%"]), *[b"%%ADD%dM,1.0*%%" % (10 + k) for k in range(n)])), text=n * t * len(p))
 
 
 def labels_at_limits():

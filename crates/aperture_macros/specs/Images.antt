@@ -1,5 +1,5 @@
 -- The figures of primitives: about the origin of the macro, and where they are flashed.
-use Rattle.std.specs.Prelude.{ℕ, zero, suc, ◌+◌, ◌/◌, Bool, true, false, ◌&&◌, ◌||◌, ◌==◌, nat_le, if◌then◌else◌, List, [], ◌∷◌, ◌++◌, map, ℤ, pos, ◌+ℤ◌, ◌-ℤ◌, neg_ℤ, unsigned_abs, int_lt, Option, Some, None, Result, Ok, Err}
+use Rattle.std.specs.Prelude.{◌≡◌, ℕ, zero, suc, ◌+◌, ◌/◌, Bool, true, false, ◌&&◌, ◌||◌, ◌==◌, nat_le, if◌then◌else◌, List, [], ◌∷◌, ◌++◌, map, ℤ, pos, ◌+ℤ◌, ◌-ℤ◌, neg_ℤ, unsigned_abs, int_lt, Option, Some, None, Result, Ok, Err}
 use Rattle.std.specs.List.{list_all}
 use Rattle.std.specs.Ordering.{int_eq}
 use Rattle.planar.specs.declared.Spot.{Spot}
@@ -146,3 +146,7 @@ figure_by CentreLine rotation text parameters unit at = sketched rotation at (ce
 -- what a primitive flashes at a spot
 abbrev pub figure_at : PlainPrimitive → List Fraction → Measure → Spot → Result (Option Figure) MacroFault
 figure_at p parameters unit at = figure_by p.form p.rotation p.lengths parameters unit at
+
+-- the primitive has no image with these parameters: it flashes nothing, wherever that is
+abbrev pub IsBlank : PlainPrimitive → List Fraction → Measure → Type 0
+IsBlank p parameters unit = (at : Spot) → figure_at p parameters unit at ≡ Ok None

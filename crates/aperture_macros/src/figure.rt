@@ -1,5 +1,5 @@
 // Primitives with their parameters: whether they are lawful, and what they flash.
-ghost use Rattle.std.specs.Prelude.{◌≡◌, ◌≤◌, ◌+◌, [], All, IfErr, IfOk, IsTrue, Ok, Some, length, map};
+ghost use Rattle.std.specs.Prelude.{◌≡◌, ◌≤◌, ◌+◌, [], false, All, IfErr, IfOk, IsTrue, Ok, Some, length, map};
 ghost use Rattle.std.specs.List.{list_all};
 ghost use Rattle.planar.specs.Plane.{IsPlaced};
 ghost use Rattle.area_contact.specs.Contour.{IsClosed};
@@ -30,24 +30,27 @@ impl<'a> Primitive<'a> {
     /// First come the lengths in the order written, each term in turn with its `OffGrid` and its
     /// `OutOfRange`, and then the length itself. Then comes `BadMacro`, where an outline's last point
     /// is not its first, or `Slanted`, where a vector line is not along an axis.
-    #[tactic(auto, unfolding(crate::specs::Images::judged_by))]
     pub fn judge(&self, parameters: &[Decimal], unit: Unit) -> Result<(), MacroFault>
         ensures { result ≡ spec.judged (plain self.now) parameters.now unit }
     {
+        self.has_image(parameters, unit)?;
+        Ok(())
+    }
+
+    /// Whether the primitive has an image with these parameters, where `judge` finds no fault.
+    #[tactic(auto, unfolding(crate::specs::Images::judged_by, crate::specs::Images::figure_by, crate::specs::Images::sketch_at))]
+    pub fn has_image(&self, parameters: &[Decimal], unit: Unit) -> Result<bool, MacroFault>
+        ensures lawful { spec.is_done result ≡ spec.judged (plain self.now) parameters.now unit }
+        ensures blank { IfOk result (λ has. has ≡ false → spec.IsBlank (plain self.now) parameters.now unit) }
+    {
         match self.form {
-            Form::Circle => {
-                circle(self.lengths, parameters, unit)?;
-                Ok(())
+            Form::Circle => Ok(circle(self.lengths, parameters, unit)?.is_some()),
+            Form::Outline(edges) => match judge_outline(edges, self.lengths, parameters, unit) {
+                Ok(()) => Ok(true),
+                Err(fault) => Err(fault),
             },
-            Form::Outline(edges) => judge_outline(edges, self.lengths, parameters, unit),
-            Form::VectorLine => {
-                line(self.lengths, parameters, unit)?;
-                Ok(())
-            },
-            Form::CentreLine => {
-                centre_line(self.lengths, parameters, unit)?;
-                Ok(())
-            },
+            Form::VectorLine => Ok(line(self.lengths, parameters, unit)?.is_some()),
+            Form::CentreLine => Ok(centre_line(self.lengths, parameters, unit)?.is_some()),
         }
     }
 

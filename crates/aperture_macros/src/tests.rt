@@ -368,6 +368,13 @@ fn parameters(alloc: Global, text: &str) -> Result<Vec<Decimal>, AllocError> {
     Ok(found)
 }
 
+fn says_image(primitive: &Primitive, given: &[Decimal]) -> bool {
+    match primitive.has_image(given, Unit::Mm) {
+        Ok(image) => image,
+        Err(_) => false,
+    }
+}
+
 fn flashed(alloc: Global, word: &str, text: &str, at: Spot) -> Result<String, AllocError> {
     let given = parameters(alloc, text)?;
     let primitive = match read_body(word.as_bytes()) {
@@ -378,11 +385,16 @@ fn flashed(alloc: Global, word: &str, text: &str, at: Spot) -> Result<String, Al
     if !is_placed(at) {
         return String::from_str(alloc, "no spot");
     }
+    let image = says_image(&primitive, &given);
     match primitive.figure(alloc, &given, Unit::Mm, at) {
         Err(FigureFault::NoMemory) => String::from_str(alloc, "NoMemory"),
         Err(FigureFault::Macro(fault)) => format!(in alloc; "{fault:?}"),
-        Ok(None) => String::from_str(alloc, "none"),
-        Ok(Some(shape)) => shown(alloc, &shape),
+        Ok(None) => String::from_str(alloc, if image { "an image" } else { "none" }),
+        Ok(Some(shape)) => if image {
+            shown(alloc, &shape)
+        } else {
+            String::from_str(alloc, "no image")
+        },
     }
 }
 

@@ -1,5 +1,5 @@
 -- What the reader keeps, and how it goes on.
-use Rattle.std.specs.Prelude.{◌≡◌, ℕ, ◌+◌, ◌^◌, ◌<◌, ◌≤◌, ◌==◌, if◌then◌else◌, List, [], ◌++◌, length, map, nat_eq, Option, Some, None, option_map, Result, Ok, Err, IfSome}
+use Rattle.std.specs.Prelude.{◌≡◌, ℕ, ◌+◌, ◌^◌, ◌<◌, ◌≤◌, ◌==◌, Bool, true, false, if◌then◌else◌, List, [], ◌++◌, get_or, length, map, nat_eq, slice_get, Option, Some, None, option_map, Result, Ok, Err, IfSome, IsSomeAnd}
 use Rattle.std.specs.HashMap.{get, get_by, hash_map_len}
 use Rattle.texts.specs.Words.{is}
 use Rattle.planar.specs.declared.Spot.{Spot}
@@ -12,9 +12,12 @@ use Rattle.aperture_macros.specs.declared.fault.FigureFault.TheVariants as figur
 use Rattle.board_shapes.specs.declared.shape.Shape.{Shape}
 use Rattle.board_shapes.specs.declared.placed.Placed.{Placed}
 use Rattle.aperture_macros.specs.BodyWord.{PlainPrimitive}
+use Rattle.aperture_macros.specs.Images.{IsBlank}
 use Rattle.aperture_macros.specs.Seen.{plain}
 use Rattle.aperture_macros.specs.declared.primitive.Primitive.{Primitive}
 use Rattle.apertures.specs.Flash.{IsLawful}
+use Rattle.lengths.specs.Decimal.{Fraction}
+use Rattle.lengths.specs.declared.decimal.Unit.{Unit as Measure}
 use Rattle.apertures.specs.declared.fault.FlashFault.{FlashFault}
 use Rattle.apertures.specs.declared.fault.FlashFault.TheVariants as flash
 use Rattle.step_repeat.specs.declared.fault.CopyFault.{CopyFault}
@@ -47,7 +50,7 @@ use Rattle.gerber_layer.specs.Settings.{settings_before}
 -- an aperture without where its name lies in memory
 abbrev pub tool_of : Given → Tool
 tool_of (given.Standard aperture) = standard aperture
-tool_of (given.Composed name parameters unit) = composed name.now parameters.items unit
+tool_of (given.Composed name parameters unit blanks) = composed name.now parameters.items unit
 
 -- the primitives of a body
 abbrev pub body_of : List Primitive → List PlainPrimitive
@@ -75,6 +78,30 @@ IsLawfulTool (composed name parameters unit) = Unit {0}
 
 abbrev pub AreLawful : Dictionary → Type 0
 AreLawful d = (n : ℕ) → IfSome (defined_in d n) IsLawfulTool
+
+-- each primitive that is marked has no image with these parameters
+abbrev pub AreBlank : List PlainPrimitive → List Fraction → Measure → List Bool → Type 0
+AreBlank body parameters unit marks = (i : ℕ) → get_or marks i false ≡ true → IsSomeAnd (slice_get body i) (λ p. IsBlank p parameters unit)
+
+-- and there is such a macro
+abbrev pub AreBlankIn : Option (List PlainPrimitive) → List Fraction → Measure → List Bool → Type 0
+AreBlankIn body parameters unit marks = IsSomeAnd body (λ b. AreBlank b parameters unit marks)
+
+-- the marks of an aperture are right where a file has these macros
+abbrev pub IsMarked : Macros → Given → Type 0
+IsMarked m (given.Standard aperture) = Unit {0}
+IsMarked m (given.Composed name parameters unit marks) = AreBlankIn (macro_named m name.now) parameters.items unit marks.items
+
+-- the aperture of n as it is kept
+abbrev pub kept_in : Dictionary → ℕ → Option Given
+kept_in d n = get nat_eq d.tools n
+
+abbrev pub AreMarked : Dictionary → Type 0
+AreMarked d = (n : ℕ) → IfSome (kept_in d n) (IsMarked (macros_in d))
+
+-- the new dictionary keeps the apertures of the old one
+abbrev pub KeepsTools : Dictionary → Dictionary → Type 0
+KeepsTools old new = (n : ℕ) → kept_in new n ≡ kept_in old n
 
 -- the new dictionary defines n besides
 pub record Adds (old new : Dictionary) (n : ℕ) (tool : Tool) : Type 0 where
@@ -190,13 +217,14 @@ pub record AreCounted (r : Reader) : Type 0 where
 pub record IsLawfulReader (r : Reader) : Type 0 where
   pub settings : AreLawfulSettings r.settings
   pub dictionary : AreLawful r.dictionary
+  pub marked : AreMarked r.dictionary
   pub counted : AreCounted r
   pub layer : r.layer ≤ 32
 
 -- an effect that the reader can carry out
 abbrev pub IsFit : Dictionary → Seen → Type 0
-IsFit d (seen.Makes n tool) = IsLawfulTool (tool_of tool) × (defined_in d n ≡ None)
-IsFit d (seen.Begins name) = Unit {0}
+IsFit d (seen.Makes n tool) = IsLawfulTool (tool_of tool) × (defined_in d n ≡ None) × IsMarked (macros_in d) tool
+IsFit d (seen.Begins name) = macro_named (macros_in d) name.now ≡ None
 IsFit d (seen.Fills primitive) = Unit {0}
 IsFit d (seen.Moves to) = IsPlaced to
 IsFit d (seen.Draws to shape) = IsPlaced to

@@ -1,10 +1,11 @@
 // What a macro flashes.
-ghost use Rattle.std.specs.Prelude.{◌≡◌, ◌++◌, ◌≤◌, IfErr, IfOk, OnOk};
-ghost use Rattle.aperture_macros.specs.Seen.{seen_shape};
+ghost use Rattle.std.specs.Prelude.{◌≡◌, ◌++◌, ◌≤◌, false, get_or, true, IfErr, IfOk, OnOk};
+ghost use Rattle.aperture_macros.specs.Images.{IsBlank, figure_at};
+ghost use Rattle.aperture_macros.specs.Seen.{Makes, plain, seen_shape};
 ghost use Rattle.board_shapes.specs.Pieces.{plain_pieces};
 ghost use Rattle.gerber_layer.specs.Image.{made};
 ghost use Rattle.planar.specs.Plane.{IsPlaced};
-ghost use Rattle.gerber_layer.specs.Reader.{FlashesAll, Stops, body_of, halt_of_figure, origin_place};
+ghost use Rattle.gerber_layer.specs.Reader.{AreBlank, FlashesAll, Stops, body_of, halt_of_figure, origin_place};
 ghost use Rattle.gerber_layer.specs.Table.{all_flashed, figures_of, listed};
 
 use crate::kind::GerberKind;
@@ -15,16 +16,19 @@ use lengths::{Decimal, Unit};
 use planar::Spot;
 use std::alloc::Global;
 
-/// The pieces that the primitives of a macro flash, in order, on a layer and of this origin.
+/// The pieces that the primitives of a macro flash, in order, on a layer and of this origin. A primitive
+/// that is marked has no image with these parameters: its lengths are not read again.
 pub fn pieces_of(
     alloc: Global,
     body: &[Primitive],
     parameters: &[Decimal],
     unit: Unit,
+    blanks: &[bool],
     to: Spot,
     layer: u8,
     origin: Origin,
 ) -> Result<Vec<Piece>, Halt<GerberKind>>
+    requires blank { AreBlank (body_of body.now) parameters.now unit blanks.now }
     requires placed { IsPlaced to }
     requires first { origin.copy ≡ 0 }
     requires from_first { 1 ≤ layer }
@@ -32,14 +36,44 @@ pub fn pieces_of(
     ensures halt { IfErr result (Stops (all_flashed (figures_of (body_of body.now) parameters.now unit to))) }
 {
     let mut pieces = Vec::new(alloc);
-    for primitive in body {
-        let shape = match primitive.figure(alloc, parameters, unit, to) {
+    for (i, primitive) in body.iter().enumerate() {
+        let blank = is_marked(blanks, i);
+        let shape = match figure_unless(alloc, blank, primitive, parameters, unit, to) {
             Ok(shape) => shape,
             Err(fault) => return Err(halt_of_figure(fault)),
         };
         push_shape(shape, layer, origin, &mut pieces)?;
     }
     Ok(pieces)
+}
+
+// Whether a number is marked. Behind the marks none is.
+fn is_marked(marks: &[bool], i: usize) -> bool
+    ensures { result ≡ get_or marks.now i false }
+{
+    match marks.get(i) {
+        Some(mark) => *mark,
+        None => false,
+    }
+}
+
+// What a primitive flashes, which is nothing where it has no image.
+fn figure_unless(
+    alloc: Global,
+    blank: bool,
+    primitive: &Primitive,
+    parameters: &[Decimal],
+    unit: Unit,
+    to: Spot,
+) -> Result<Option<Shape>, FigureFault>
+    requires blank { blank ≡ true → IsBlank (plain primitive.now) parameters.now unit }
+    requires placed { IsPlaced to }
+    ensures { Makes result (figure_at (plain primitive.now) parameters.now unit to) }
+{
+    if blank {
+        return Ok(None);
+    }
+    primitive.figure(alloc, parameters, unit, to)
 }
 
 // A piece more, if there is a shape.

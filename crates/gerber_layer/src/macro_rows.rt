@@ -1,5 +1,5 @@
 // The rows of the table of commands where a file may have macros.
-ghost use Rattle.std.specs.Prelude.{◌≡◌, ◌+◌, ◌^◌, ◌<◌, true, IfErr, IfOk, Ok, OnOk};
+ghost use Rattle.std.specs.Prelude.{◌≡◌, ◌+◌, ◌^◌, ◌<◌, true, IfErr, IfOk, Ok, OnOk, Some};
 ghost use Rattle.board_shapes.specs.Pieces.{plain_pieces};
 ghost use Rattle.gerber_layer.specs.Command.{view};
 ghost use Rattle.gerber_layer.specs.Lawful.{IsLawfulCommand};
@@ -7,7 +7,8 @@ ghost use Rattle.gerber_layer.specs.MacroTable as spec;
 ghost use Rattle.apertures.specs.Reading.{aperture_at};
 ghost use Rattle.gerber_layer.specs.MacroReader.{any_halt};
 ghost use Rattle.gerber_layer.specs.MacroTable.{as_macro, gerber};
-ghost use Rattle.gerber_layer.specs.Reader.{body_of};
+ghost use Rattle.gerber_layer.specs.Reader.{AreBlank, Stops, body_of};
+ghost use Rattle.gerber_layer.specs.Tools.{macro_named};
 ghost use Rattle.gerber_layer.specs.Table.{concludes, row};
 
 use crate::command::Command;
@@ -54,19 +55,33 @@ fn is_of_macro(text: &[u8], unit: Unit) -> bool
     }
 }
 
-// Judges the primitives of a macro with parameters.
+// Judges the primitives of a macro with parameters, and marks those that have no image with them.
 #[tactic(auto, unfolding(crate::specs::MacroTable::all_judged))]
-fn judge(body: &[Primitive], parameters: &[Decimal], unit: Unit) -> Result<(), FlattenKind>
-    ensures { result ≡ as_macro (spec.all_judged (body_of body.now) parameters.now unit) }
+fn judge(
+    alloc: Global,
+    body: &[Primitive],
+    parameters: &[Decimal],
+    unit: Unit,
+) -> Result<Vec<bool>, Halt<FlattenKind>>
+    ensures ok { IfOk result (λ marks. spec.all_judged (body_of body.now) parameters.now unit ≡ Ok tt) }
+    ensures blank { IfOk result (λ marks. AreBlank (body_of body.now) parameters.now unit marks.items) }
+    ensures halt { IfErr result (Stops (as_macro (spec.all_judged (body_of body.now) parameters.now unit))) }
 {
+    let mut marks = Vec::new(alloc);
     for primitive in body {
-        primitive.judge(parameters, unit)?;
+        let has_image = match primitive.has_image(parameters, unit) {
+            Ok(has_image) => has_image,
+            Err(fault) => return Err(Halt::Fault(FlattenKind::from(fault))),
+        };
+        if let Err(_) = marks.push(!has_image) {
+            return Err(Halt::NoMemory);
+        }
     }
-    Ok(())
+    Ok(marks)
 }
 
 impl<'a> Reader<'a> {
-    ghost use Rattle.gerber_layer.specs.Reader.{IsFit, IsLawfulReader, Obeys, Stops, known_of, shown};
+    ghost use Rattle.gerber_layer.specs.Reader.{IsFit, IsLawfulReader, Obeys, known_of, macros_in, shown};
     ghost use Rattle.gerber_layer.specs.MacroReader.{showing_any};
 
     // `AM`.
@@ -130,33 +145,33 @@ impl<'a> Reader<'a> {
         let Some(parameters) = parameters else {
             return Err(Halt::Fault(FlattenKind::BadMacro));
         };
-        match self.compose_as(number(text), name, body, parameters, unit) {
-            Ok(effect) => Ok(effect),
-            Err(kind) => Err(Halt::Fault(kind)),
-        }
+        self.compose_as(alloc, number(text), name, body, parameters, unit)
     }
 
     // An aperture of the macro of this name and body.
     #[tactic(auto, unfolding(crate::specs::MacroTable::compose_as))]
     fn compose_as(
         &self,
+        alloc: Global,
         n: u32,
         name: &'a [u8],
         body: &[Primitive],
         parameters: Vec<Decimal>,
         unit: Unit,
-    ) -> Result<Effect<'a>, FlattenKind>
-        ensures value { showing_any (known_of self.now) result ≡ spec.compose_as (known_of self.now) n name.now (body_of body.now) parameters.items unit }
+    ) -> Result<Effect<'a>, Halt<FlattenKind>>
+        requires found { macro_named (macros_in self.now.dictionary) name.now ≡ Some (body_of body.now) }
+        ensures ok { IfOk result (λ e. gerber (shown (known_of self.now) e) ≡ spec.compose_as (known_of self.now) n name.now (body_of body.now) parameters.items unit) }
         ensures fit { IfOk result (IsFit self.now.dictionary) }
+        ensures halt { IfErr result (Stops (spec.compose_as (known_of self.now) n name.now (body_of body.now) parameters.items unit)) }
     {
         if self.dictionary.defines(n) {
-            return Err(FlattenKind::Gerber(GerberKind::ApertureTwice));
+            return Err(Halt::Fault(FlattenKind::Gerber(GerberKind::ApertureTwice)));
         }
         if self.dictionary.len() >= 65_536 {
-            return Err(FlattenKind::Gerber(GerberKind::TooManyApertures));
+            return Err(Halt::Fault(FlattenKind::Gerber(GerberKind::TooManyApertures)));
         }
-        judge(body, &parameters, unit)?;
-        Ok(Effect::Makes(n, Tool::Composed(name, parameters, unit)))
+        let marks = judge(alloc, body, &parameters, unit)?;
+        Ok(Effect::Makes(n, Tool::Composed(name, parameters, unit, marks)))
     }
 
     // `AD`.

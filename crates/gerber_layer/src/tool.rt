@@ -2,11 +2,12 @@
 use apertures::Aperture;
 use lengths::{Decimal, Unit};
 
-/// An aperture: a standard one, or the macro of a name with its parameters and their unit.
+/// An aperture: a standard one, or the macro of a name with its parameters and their unit, and with a
+/// mark for each of its primitives, in order, whether it has no image with these.
 #[derive(Drop)]
 pub enum Tool<'a> {
     Standard(Aperture),
-    Composed(&'a [u8], Vec<Decimal>, Unit),
+    Composed(&'a [u8], Vec<Decimal>, Unit, Vec<bool>),
 }
 
 impl<'a> Tool<'a> {
@@ -20,7 +21,7 @@ impl<'a> Tool<'a> {
     {
         match self {
             Tool::Standard(aperture) => aperture.pen(),
-            Tool::Composed(_, _, _) => None,
+            Tool::Composed(_, _, _, _) => None,
         }
     }
 }

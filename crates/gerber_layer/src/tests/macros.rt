@@ -6,7 +6,7 @@ use std::fmt::Write;
 use std::test::Fail;
 
 // Primitives, and what they flash.
-fn of_images() -> [(&'static str, &'static str); 12] {
+fn of_images() -> [(&'static str, &'static str); 13] {
     [
         (
             "%FSLAX46Y46*%\n%MOMM*%\n%AMTwo*\n1,1,$1,0,0*\n21,1,$1+$1,$1,0,1.0,0*%\n%ADD10Two,1.0*%\nD10*\nX0Y0D03*\nM02*\n",
@@ -53,6 +53,11 @@ fn of_images() -> [(&'static str, &'static str); 12] {
         (
             "%FSLAX46Y46*%%MOMM*%%AMA*20,1,1,$1,0,0,0,0*20,1,$1,0,0,1,0,0*21,1,1,$1,0,0,0*20,1,1,0,0,0,1+$2,90*%%ADD10A*%D10*X0Y0D03*M02*",
             "[0 -5000000][0 5000000][-10000000 5000000][-10000000 -5000000] on 1 by 10.0",
+        ),
+        // Two apertures of one macro, of which each has one image.
+        (
+            "%FSLAX46Y46*%%MOMM*%%AMA*1,1,$1,0,0*1,1,$2,1,0*%%ADD10A,1X0*%%ADD11A,0X2*%D10*D03*D11*D03*M02*",
+            "0 0, 0 0, 5000000 on 1 by 9.0\n10000000 0, 10000000 0, 10000000 on 1 by 11.0",
         ),
         ("%TF.FileFunction,Soldermask,Top*%M02*", ""),
         ("%AMA*%M02*", ""),
@@ -613,6 +618,36 @@ fn a_macro_has_few_primitives(rt: HostRuntime) -> Result<(), Fail> {
     let begin = full_macro(rt.alloc())?;
     assert_eq!(rt;
         first_other_end(rt.alloc(), begin.as_str(), &of_full_macros())?.as_str(),
+        ""
+    );
+    Ok(())
+}
+
+// A macro of long primitives of which one may have an image, and so many flashes of it that their
+// text could not be read at each.
+fn blank_macro(alloc: Global) -> Result<String, AllocError> {
+    let mut file = String::new(alloc);
+    file.push_str("%FSLAX46Y46*%%MOMM*%%AMA*")?;
+    for _ in 0..255 {
+        file.push_str("1,1,0")?;
+        for _ in 0..63 {
+            file.push_str("+0")?;
+        }
+        file.push_str(",0,0*")?;
+    }
+    file.push_str("1,1,$1,0,0*%%ADD10A*%%ADD11A,1*%D10*")?;
+    for _ in 0..50_000 {
+        file.push_str("D03*")?;
+    }
+    Ok(file)
+}
+
+#[test]
+fn what_has_no_image_is_not_read_at_flashes(rt: HostRuntime) -> Result<(), Fail> {
+    let begin = blank_macro(rt.alloc())?;
+    let ends = [("M02*", "0 pieces"), ("D11*D03*M02*", "1 pieces")];
+    assert_eq!(rt;
+        first_other_end(rt.alloc(), begin.as_str(), &ends)?.as_str(),
         ""
     );
     Ok(())

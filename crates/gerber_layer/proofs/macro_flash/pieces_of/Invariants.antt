@@ -8,7 +8,7 @@ use Rattle.gerber_layer.proofs.MacroFlash.{ahead}
 use Rattle.gerber_layer.proofs.macro_flash.pieces_of.Given as goal
 
 -- the figures so far, with those of the primitives that remain, are all
-abbrev pub invariant-loop-primitive : goal.invariant-loop-primitive
-invariant-loop-primitive l = (done : List Figure)
+abbrev pub invariant-loop-i : goal.invariant-loop-i
+invariant-loop-i l = (done : List Figure)
     × (plain_pieces l.pieces.items ≡ made (origin_place l.layer l.origin) l.origin.command done)
-    × (figures_of (body_of l.body) l.parameters l.unit l.to ≡ ahead done (figures_of (body_of (drop l.primitive-index l.body)) l.parameters l.unit l.to))
+    × (figures_of (body_of l.body) l.parameters l.unit l.to ≡ ahead done (figures_of (body_of (drop l.i l.body)) l.parameters l.unit l.to))

@@ -3,8 +3,8 @@ use Rattle.gerber_layer.specs.Reader.{macro_of}
 use Rattle.gerber_layer.proofs.Bodies.{closed_is}
 use Rattle.gerber_layer.proofs.dictionary.Dictionary.close.Goals as goal
 
-pub returns-in-Ok : goal.returns-in-Ok
-returns-in-Ok c = record {
+pub returns-in-Ok-clause-closed : goal.returns-in-Ok-clause-closed
+returns-in-Ok-clause-closed c = record {
   defined = λ n. refl;
   size = refl;
   others = λ name. closed_is _ macro_of c.args.self.now.latest c.in-Some.latest c.in-Some.latest.body _ _ name (sym c.take.ensures.value ∙ c.in-Some.is) refl (c.in-Ok.ensures.updates.0 (record { ref_ptr = (0, 0); now = name }));

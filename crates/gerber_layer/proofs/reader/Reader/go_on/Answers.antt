@@ -31,6 +31,7 @@ returns-clause-lawful c =
     record {
       settings = rw (c.after-settings.ensures, c.leads.ensures, c.opens_block.ensures) (after_lawful c.args.self.now.dictionary c.args.self.now.settings (view c.args.command.now) c.args.effect c.requires.lawful.settings c.requires.command c.requires.fit);
       dictionary = c.in_ok-carry_out.ensures.dictionary;
+      marked = c.in_ok-carry_out.ensures.marked;
       counted = record { edges = counted.edges; few_pieces = counted.few_pieces; room = counted.room; start = counted.start };
       layer = rw (ap (λ (q : Place). q.layer) place) c.requires.lawful.layer;
     }
