@@ -88,7 +88,7 @@ pub fn words(alloc: Global, given: &[&str]) -> Result<Vec<String>, Fail> {
 }
 
 // The status of a call of `run`. It has no clause, so that the goals of a test see none of those of `run`.
-pub fn status(
+pub fn called(
     alloc: Global,
     words: &[String],
     package: &mut MemoryPackage,
@@ -107,7 +107,7 @@ pub fn answer(
     let mut out = MemorySink::new(alloc, 1_048_576)?;
     let mut notes = MemorySink::new(alloc, 1_048_576)?;
     let words = words(alloc, given)?;
-    let status = status(alloc, words.as_slice(), package, &mut out, &mut notes);
+    let status = called(alloc, words.as_slice(), package, &mut out, &mut notes);
     Ok((status, out, notes))
 }
 

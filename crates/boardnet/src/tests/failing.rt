@@ -1,6 +1,6 @@
 // Every read, every write and every piece of the line that can fail, on a buried barrel.
 use crate::tests::packages::{BURIED, BURIED_FILES, BURIED_REPORT, DISC};
-use crate::tests::{AUDIT, answer, files, shown, status, wants, words};
+use crate::tests::{AUDIT, answer, called, files, shown, wants, words};
 use board_io::{MemoryPackage, MemorySink};
 use std::alloc::Global;
 use std::test::Fail;
@@ -54,7 +54,7 @@ fn fronts_are_written(alloc: Global, given: &[&str], least: usize) -> Result<boo
         out.fail_at(0, passed)?;
         let mut notes = MemorySink::new(alloc, 1_048_576)?;
         let mut package = buried(alloc)?;
-        let found = status(alloc, words.as_slice(), &mut package, &mut out, &mut notes);
+        let found = called(alloc, words.as_slice(), &mut package, &mut out, &mut notes);
         let is_front = out.bytes().len() == passed && whole.bytes().starts_with(out.bytes());
         if found != 5 || !is_front || shown(&notes) != "boardnet: output cannot be written\n" {
             return Ok(false);
@@ -73,7 +73,7 @@ fn notes_fail(alloc: Global, given: &[&str]) -> Result<bool, Fail> {
         let mut notes = MemorySink::new(alloc, 1_048_576)?;
         notes.fail_at(k, 2)?;
         let mut package = buried(alloc)?;
-        let found = status(alloc, words.as_slice(), &mut package, &mut out, &mut notes);
+        let found = called(alloc, words.as_slice(), &mut package, &mut out, &mut notes);
         if found != wanted
             || out.bytes() != whole.bytes()
             || !line.bytes().starts_with(notes.bytes())

@@ -1,6 +1,6 @@
 // Words that are no command, and faults of reading and writing.
 use crate::tests::packages::{BURIED, DISC};
-use crate::tests::{ENDS, TIE, files, one_layer, shown, status, wants, words};
+use crate::tests::{ENDS, TIE, called, files, one_layer, shown, wants, words};
 use board_io::{MemoryPackage, MemorySink, Package as _, Take};
 use std::alloc::Global;
 use std::test::Fail;
@@ -46,7 +46,7 @@ fn words_that_are_no_command(rt: HostRuntime) -> Result<(), Fail> {
 fn tied(alloc: Global, out: &mut MemorySink, notes: &mut MemorySink) -> Result<u8, Fail> {
     let words = words(alloc, &["check", "m.json"])?;
     let mut package = one_layer(alloc, TIE, ENDS)?;
-    Ok(status(alloc, words.as_slice(), &mut package, out, notes))
+    Ok(called(alloc, words.as_slice(), &mut package, out, notes))
 }
 
 // The output fails at its first put, after seven bytes; or it has room for seven bytes.
