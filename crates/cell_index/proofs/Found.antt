@@ -196,8 +196,8 @@ none_is_least P list k past none x h =
 pub more : (P : ℕ → Type 0) (low k : ℕ) → ((j : ℕ) → low ≤ j → j < k → P j) → P k → (j : ℕ) → low ≤ j → j < k + 1 → P j
 more P low k before now j h l = elim (cases_eq j k) [ inl same ↦ subst P (sym same) now | inr other ↦ before j h (omega arith) ]
 
-pub finds_kept : (copies : List (Placed Plate)) (bounds : Bounds) (patch : Patch) (across up : ℕ) (listed a b : List ℕ) → ((q : ℕ) → Contains a q → Contains b q) → Finds copies bounds patch across up listed a → Finds copies bounds patch across up listed b
-finds_kept copies bounds patch across up listed a b kept finds q h m = kept q (finds q h m)
+pub finds_kept : (wanted : ℕ → Type 0) (copies : List (Placed Plate)) (bounds : Bounds) (patch : Patch) (across up : ℕ) (listed a b : List ℕ) → ((q : ℕ) → Contains a q → Contains b q) → Finds wanted copies bounds patch across up listed a → Finds wanted copies bounds patch across up listed b
+finds_kept wanted copies bounds patch across up listed a b kept finds q h m = kept q (finds q h m)
 
 known_more : (n m : ℕ) (xs : List ℕ) (b : Bool) → n < m → All (λ q. q < m) xs → All (λ q. q < m) (xs ++ (if b then n ∷ [] else []))
 known_more n m xs true h known = All-push (λ q. q < m) xs n known h

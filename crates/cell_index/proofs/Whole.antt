@@ -147,11 +147,11 @@ on_layer : (copies : List (Placed Plate)) (q : ℕ) (c : Placed Plate) → slice
 on_layer copies q c here flat = let e = all_at (λ c. (c.top ≡ 1) × (c.bottom ≡ 1)) copies q c flat here in let top = e.0 in let bottom = e.1 in (omega arith, omega arith)
 
 -- what was found has all whose copies meet the box
-pub finds_met : (copies : List (Placed Plate)) (bounds : Bounds) (patch : Patch) (found : List ℕ) → All (λ c. IsInside c.shape.bounds corner) copies → All (λ c. (c.top ≡ 1) × (c.bottom ≡ 1)) copies → IsInside bounds corner → IsPatch corner bounds patch
-    → Finds copies bounds patch patch.left patch.low (wide_of (λ s. s.bounds) corner copies 1) found
-    → ((across up : ℕ) → patch.left ≤ across → across ≤ patch.right → patch.low ≤ up → up ≤ patch.high → Finds copies bounds patch across up (cell_of (λ s. s.bounds) corner copies 1 across up) found)
-    → (q : ℕ) → q < length copies → boxes_meet bounds (copy_in copies q) ≡ true → Contains found q
-finds_met copies bounds patch found inside flat within is wide cells q below is_met =
+pub finds_met : (wanted : ℕ → Type 0) (copies : List (Placed Plate)) (bounds : Bounds) (patch : Patch) (found : List ℕ) → All (λ c. IsInside c.shape.bounds corner) copies → All (λ c. (c.top ≡ 1) × (c.bottom ≡ 1)) copies → IsInside bounds corner → IsPatch corner bounds patch
+    → Finds wanted copies bounds patch patch.left patch.low (wide_of (λ s. s.bounds) corner copies 1) found
+    → ((across up : ℕ) → patch.left ≤ across → across ≤ patch.right → patch.low ≤ up → up ≤ patch.high → Finds wanted copies bounds patch across up (cell_of (λ s. s.bounds) corner copies 1 across up) found)
+    → (q : ℕ) → q < length copies → wanted q → boxes_meet bounds (copy_in copies q) ≡ true → Contains found q
+finds_met wanted copies bounds patch found inside flat within is wide cells q below asked is_met =
     let some = slice_get_some copies q below in
     let here : slice_get copies q ≡ Some some.0 = some.1 in
     let on = on_layer copies q some.0 here flat in
@@ -160,7 +160,7 @@ finds_met copies bounds patch found inside flat within is wide cells q below is_
     let side = halves bounds some.0.shape.bounds boxes in
     let there : IsInside some.0.shape.bounds corner = all_at (λ c. IsInside c.shape.bounds corner) copies q some.0 inside here in
     elim (wide_or_not (is_wide corner some.0.shape.bounds some.0.top some.0.bottom)) [
-      | inl broad ↦ wide q (wide_at (λ s. s.bounds) corner copies 1 q some.0 here on.0 on.1 broad) (record { boxes = is_met; from_left = inl refl; from_low = inl refl })
+      | inl broad ↦ wide q (wide_at (λ s. s.bounds) corner copies 1 q some.0 here on.0 on.1 broad) (asked, record { boxes = is_met; from_left = inl refl; from_low = inl refl })
       | inr narrow ↦ (
           let x = first_place (int_max bounds.left some.0.shape.bounds.left) (lower corner.left bounds.left some.0.shape.bounds.left within.0.0) (first_upper bounds.left some.0.shape.bounds.left bounds.right some.0.shape.bounds.right side.0 within.0.1) in
           let y = first_place (int_max bounds.low some.0.shape.bounds.low) (lower corner.low bounds.low some.0.shape.bounds.low within.1.0) (first_upper bounds.low some.0.shape.bounds.low bounds.high some.0.shape.bounds.high side.1 within.1.1) in
@@ -174,7 +174,7 @@ finds_met copies bounds patch found inside flat within is wide cells q below is_
           let few = is.some_up in
           let fx = (is.across patch.left (below_last patch.left patch.right small.0 small.1)).1 (same patch.left, small.0) in
           let fy = (is.up patch.low (below_last patch.low patch.high few.0 few.1)).1 (same patch.low, few.0) in
-          cells x.0 y.0 px.0 px.1 py.0 py.1 q (cell_at (λ s. s.bounds) corner copies 1 x.0 y.0 q some.0 here on.0 on.1 narrow bx by') (record {
+          cells x.0 y.0 px.0 px.1 py.0 py.1 q (cell_at (λ s. s.bounds) corner copies 1 x.0 y.0 q some.0 here on.0 on.1 narrow bx by') (asked, record {
             boxes = is_met;
             from_left = subst (λ (b : Bounds). Begins patch.left x.0 b.left) (sym eb) (begins bounds.left some.0.shape.bounds.left bounds.right patch.left x.0 x.1 px.0 fx);
             from_low = subst (λ (b : Bounds). Begins patch.low y.0 b.low) (sym eb) (begins bounds.low some.0.shape.bounds.low bounds.high patch.low y.0 y.1 py.0 fy);
@@ -182,10 +182,10 @@ finds_met copies bounds patch found inside flat within is wide cells q below is_
     ]
 
 -- what touches is found, where the copies of what touches meet
-pub finds_near : {A : Type 0} (holds : A → Point → Type 0) (items : List (Placed A)) (copies : List (Placed Plate)) (i : ℕ) (found : List ℕ) → length copies ≡ length items
-    → ((p q : ℕ) → TouchAmong holds items p q → boxes_meet (copy_in copies p) (copy_in copies q) ≡ true) → ((q : ℕ) → q < length copies → boxes_meet (copy_in copies i) (copy_in copies q) ≡ true → Contains found q)
-    → (q : ℕ) → IsNear (length items) (TouchAmong holds items) i q → Contains found q
-finds_near holds items copies i found long met found_all q near = let below = near.second in found_all q (omega arith) (met i q near.touch)
+pub finds_near : {A : Type 0} (wanted : ℕ → Type 0) (holds : A → Point → Type 0) (items : List (Placed A)) (copies : List (Placed Plate)) (i : ℕ) (found : List ℕ) → length copies ≡ length items
+    → ((p q : ℕ) → TouchAmong holds items p q → boxes_meet (copy_in copies p) (copy_in copies q) ≡ true) → ((q : ℕ) → q < length copies → wanted q → boxes_meet (copy_in copies i) (copy_in copies q) ≡ true → Contains found q)
+    → (q : ℕ) → wanted q → IsNear (length items) (TouchAmong holds items) i q → Contains found q
+finds_near wanted holds items copies i found long met found_all q asked near = let below = near.second in found_all q (omega arith) asked (met i q near.touch)
 
 -- ---- Around a spot
 

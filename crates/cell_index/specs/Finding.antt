@@ -23,9 +23,9 @@ pub record IsMet (copy bounds : Bounds) (patch : Patch) (across up : ℕ) : Type
   pub from_left : Begins patch.left across copy.left
   pub from_low : Begins patch.low up copy.low
 
--- those of the listed that are met in the cell were found
-abbrev pub Finds : List (Placed Plate) → Bounds → Patch → ℕ → ℕ → List ℕ → List ℕ → Type 0
-Finds copies bounds patch across up listed found = (q : ℕ) → Contains listed q → IsMet (copy_in copies q) bounds patch across up → Contains found q
+-- those of the listed that are wanted and are met in the cell were found
+abbrev pub Finds : (ℕ → Type 0) → List (Placed Plate) → Bounds → Patch → ℕ → ℕ → List ℕ → List ℕ → Type 0
+Finds wanted copies bounds patch across up listed found = (q : ℕ) → Contains listed q → wanted q × IsMet (copy_in copies q) bounds patch across up → Contains found q
 
 -- the lesser of two numbers that may be missing
 abbrev pub IsLesser : Option ℕ → Option ℕ → Option ℕ → Type 0

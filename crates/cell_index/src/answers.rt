@@ -13,6 +13,7 @@ ghost use Rattle.tables.specs.Lists.{IsLeast, Lists};
 use crate::cells::Cells;
 use crate::field::Field;
 use crate::pieces::{is_near, is_under};
+use crate::wanted::{Every, Wanted};
 use board_shapes::Placed;
 use contact::{Closed, Meets};
 use lengths::NoMemory;
@@ -21,15 +22,20 @@ use std::sync::ledger::Ledger;
 use steps::Steps;
 
 impl<'a, S: Meets<S>> Cells<'a, S> {
-    /// Puts into `into`, rising, pieces among which are all that touch piece i. No contact test is made. After a refusal
-    /// `into` holds anything.
-    pub fn candidates(&self, i: usize, into: &mut Vec<u32>) -> Result<(), NoMemory>
+    /// Puts into `into`, rising, pieces among which are all that touch piece i, of those that are wanted. No contact test is
+    /// made. After a refusal `into` holds anything.
+    pub fn candidates<W: Wanted>(
+        &self,
+        i: usize,
+        wanted: &W,
+        into: &mut Vec<u32>,
+    ) -> Result<(), NoMemory>
         requires piece { i < length self.now.items.now }
         ensures known { OnOk result (All (λ q. q < length self.now.items.now) into.new.items) }
         ensures rising { OnOk result (IsStrictlyIncreasing into.new.items) }
-        ensures near { OnOk result ((q : ℕ) → IsNear (length self.now.items.now) (TouchAmong S.holds self.now.items.now) i q → Contains into.new.items q) }
+        ensures near { OnOk result ((q : ℕ) → W.wanted wanted.now q → IsNear (length self.now.items.now) (TouchAmong S.holds self.now.items.now) i q → Contains into.new.items q) }
     {
-        self.finer.met(i, into)?;
+        self.finer.met(i, wanted, into)?;
         Ok(())
     }
 
@@ -135,7 +141,7 @@ impl<'a, S: Meets<S>> Field for Cells<'a, S> {
         into: &mut Vec<u32>,
         tests: &mut Steps<L>,
     ) -> Result<(), NoMemory> {
-        self.candidates(i, into)?;
+        self.candidates(i, &Every, into)?;
         self.keep_near(i, into, tests);
         Ok(())
     }

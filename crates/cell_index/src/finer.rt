@@ -16,6 +16,7 @@ use crate::filing::{WIDE, sheet};
 use crate::patch::{CELL, CELLS, Patch};
 use crate::plate::Plate;
 use crate::stretch::Stretch;
+use crate::wanted::Wanted;
 use board_shapes::Placed;
 use contact::{Bounds, Closed};
 use lengths::NoMemory;
@@ -56,40 +57,52 @@ impl Finer {
         })
     }
 
-    /// Puts into `into`, rising, pieces among which are all whose copies meet the copy of piece i. After a refusal `into`
-    /// holds anything.
-    pub fn met(&self, i: usize, into: &mut Vec<u32>) -> Result<(), NoMemory>
+    /// Puts into `into`, rising, pieces among which are all whose copies meet the copy of piece i, of those that are wanted.
+    /// After a refusal `into` holds anything.
+    pub fn met<W: Wanted>(
+        &self,
+        i: usize,
+        wanted: &W,
+        into: &mut Vec<u32>,
+    ) -> Result<(), NoMemory>
         requires piece { i < length self.now.copies.items }
         ensures known { OnOk result (All (λ q. q < length self.now.copies.items) into.new.items) }
         ensures rising { OnOk result (IsStrictlyIncreasing into.new.items) }
-        ensures met { OnOk result ((q : ℕ) → q < length self.now.copies.items → boxes_meet (copy_in self.now.copies.items i) (copy_in self.now.copies.items q) ≡ true → Contains into.new.items q) }
+        ensures met { OnOk result ((q : ℕ) → q < length self.now.copies.items → W.wanted wanted.now q → boxes_meet (copy_in self.now.copies.items i) (copy_in self.now.copies.items q) ≡ true → Contains into.new.items q) }
     {
         into.clear();
         let bounds = self.copies[i].shape.bounds();
         let patch = Patch::of(bounds, CORNER);
-        self.gather(self.wide(), bounds, &patch, patch.left, patch.low, into)?;
-        self.in_patch(bounds, &patch, into)?;
+        self.gather(self.wide(), wanted, bounds, &patch, patch.left, patch.low, into)?;
+        self.in_patch(wanted, bounds, &patch, into)?;
         put_in_order(into);
         Ok(())
     }
 
     // Those that begin in the cells of the patch, or before them.
-    fn in_patch(&self, bounds: Bounds, patch: &Patch, into: &mut Vec<u32>) -> Result<(), NoMemory>
+    fn in_patch<W: Wanted>(
+        &self,
+        wanted: &W,
+        bounds: Bounds,
+        patch: &Patch,
+        into: &mut Vec<u32>,
+    ) -> Result<(), NoMemory>
         requires across { (patch.now.left ≤ patch.now.right) × (patch.now.right < 128) }
         requires up { (patch.now.low ≤ patch.now.high) × (patch.now.high < 128) }
         requires known { All (λ q. q < length self.now.copies.items) into.old.items }
         ensures grows { OnOk result (Grows (length self.now.copies.items) into.old.items into.new.items) }
-        ensures cells { OnOk result ((across up : ℕ) → patch.now.left ≤ across → across ≤ patch.now.right → patch.now.low ≤ up → up ≤ patch.now.high → Finds self.now.copies.items bounds patch.now across up (cell_of (λ s. s.bounds) corner self.now.copies.items 1 across up) into.new.items) }
+        ensures cells { OnOk result ((across up : ℕ) → patch.now.left ≤ across → across ≤ patch.now.right → patch.now.low ≤ up → up ≤ patch.now.high → Finds (W.wanted wanted.now) self.now.copies.items bounds patch.now across up (cell_of (λ s. s.bounds) corner self.now.copies.items 1 across up) into.new.items) }
     {
         for up in patch.low..patch.high + 1 {
-            self.in_line(up, bounds, patch, into)?;
+            self.in_line(wanted, up, bounds, patch, into)?;
         }
         Ok(())
     }
 
     // The same in one line of cells.
-    fn in_line(
+    fn in_line<W: Wanted>(
         &self,
+        wanted: &W,
         up: u32,
         bounds: Bounds,
         patch: &Patch,
@@ -99,18 +112,19 @@ impl Finer {
         requires up { up < 128 }
         requires known { All (λ q. q < length self.now.copies.items) into.old.items }
         ensures grows { OnOk result (Grows (length self.now.copies.items) into.old.items into.new.items) }
-        ensures cells { OnOk result ((across : ℕ) → patch.now.left ≤ across → across ≤ patch.now.right → Finds self.now.copies.items bounds patch.now across up (cell_of (λ s. s.bounds) corner self.now.copies.items 1 across up) into.new.items) }
+        ensures cells { OnOk result ((across : ℕ) → patch.now.left ≤ across → across ≤ patch.now.right → Finds (W.wanted wanted.now) self.now.copies.items bounds patch.now across up (cell_of (λ s. s.bounds) corner self.now.copies.items 1 across up) into.new.items) }
     {
         for across in patch.left..patch.right + 1 {
-            self.gather(self.cell(across, up), bounds, patch, across, up, into)?;
+            self.gather(self.cell(across, up), wanted, bounds, patch, across, up, into)?;
         }
         Ok(())
     }
 
-    // Puts those of the list into `into` that are met in this cell.
-    fn gather(
+    // Puts those of the list into `into` that are wanted and are met in this cell.
+    fn gather<W: Wanted>(
         &self,
         list: &[u32],
+        wanted: &W,
         bounds: Bounds,
         patch: &Patch,
         across: u32,
@@ -122,10 +136,13 @@ impl Finer {
         requires list { All (λ q. q < length self.now.copies.items) list.now }
         requires known { All (λ q. q < length self.now.copies.items) into.old.items }
         ensures grows { OnOk result (Grows (length self.now.copies.items) into.old.items into.new.items) }
-        ensures finds { OnOk result (Finds self.now.copies.items bounds patch.now across up list.now into.new.items) }
+        ensures finds { OnOk result (Finds (W.wanted wanted.now) self.now.copies.items bounds patch.now across up list.now into.new.items) }
     {
         for k in 0..list.len() {
             let q = list[k];
+            if !wanted.wants(q) {
+                continue;
+            }
             let copy = &self.copies[q as usize].shape.bounds;
             if is_met(copy, bounds, patch, across, up) {
                 into.push(q)?;

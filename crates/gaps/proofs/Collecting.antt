@@ -12,7 +12,7 @@ use Rattle.cell_index.proofs.Found.{next_of}
 use Rattle.cell_index.proofs.Pairs.{rivals_within}
 use Rattle.gaps.specs.Firsts.{AreFirsts, Beside, IsBeside, IsWithLess}
 use Rattle.gaps.specs.declared.found.Pair.{Pair}
-use Rattle.gaps.specs.Meetings.{Covered, CoversLines, GainsLines, Gathers, IsFieldLine, IsLineOf, IsNearLine, IsPairLine, IsTouchLine, net_of, pair_in, span_of}
+use Rattle.gaps.specs.Meetings.{Covered, CoversLines, GainsLines, Gathers, IsFieldLine, IsLineOf, IsNearLine, IsOver, IsPairLine, IsTouchLine, net_of, pair_in, span_of}
 
 -- before the first layer
 pub none_yet : (low high i j top : ℕ) (old : List Gap) → GainsLines (IsLineOf low high i j top top) old old
@@ -201,7 +201,11 @@ IsCollected size touch numbers spans i lines = Gathers (IsBeforeLine size touch 
 pub collected_none : (size : ℕ) (touch : ℕ → ℕ → Type 0) (numbers : List ℕ) (spans : List Span) → IsCollected size touch numbers spans 0 []
 collected_none size touch numbers spans = record { only = λ gap k. absurd (omega (arith, k.1)); each = λ gap h. absurd (omega (arith, h.0)) }
 
-pub collected_more : (size : ℕ) (touch : ℕ → ℕ → Type 0) (numbers : List ℕ) (spans : List Span) (i : ℕ) (near : List ℕ) (old new : List Gap) → ((q : ℕ) → IsNear size touch i q → Contains near q) →
+-- the second piece of a line stands over the first
+over : (numbers : List ℕ) (spans : List Span) (i j : ℕ) (gap : Gap) → IsPairLine numbers spans i j gap → IsOver numbers spans (net_of numbers i) (span_of spans i) j
+over numbers spans i j gap l = (let from = l.line.from_top in let past = l.line.before_past in record { order = l.order; layer = omega arith })
+
+pub collected_more : (size : ℕ) (touch : ℕ → ℕ → Type 0) (numbers : List ℕ) (spans : List Span) (i : ℕ) (near : List ℕ) (old new : List Gap) → ((q : ℕ) → IsOver numbers spans (net_of numbers i) (span_of spans i) q → IsNear size touch i q → Contains near q) →
     IsCollected size touch numbers spans i old → CoversLines (IsNearLine size touch numbers spans i near) old new → IsCollected size touch numbers spans (i + 1) new
 collected_more size touch numbers spans i near old new whole h k = record { only = λ gap c. there gap (k.only gap c); each = λ gap l. back gap l.0 l.1 }
   where
@@ -215,7 +219,7 @@ collected_more size touch numbers spans i near old new whole h k = record { only
         (omega (arith, e), record { near = subst (λ (z : ℕ). IsNear size touch z gap.second) e n; pair = subst (λ (z : ℕ). IsPairLine numbers spans z gap.second gap) e p })
 
     own : (gap : Gap) → IsNear size touch i gap.second → IsPairLine numbers spans i gap.second gap → Covered new gap
-    own gap n l = k.each gap record { piece = gap.second; stands = whole gap.second n; near = n; pair = l }
+    own gap n l = k.each gap record { piece = gap.second; stands = whole gap.second (over numbers spans i gap.second gap l) n; near = n; pair = l }
 
     back : (gap : Gap) → gap.first < i + 1 → IsFieldLine size touch numbers spans gap → Covered new gap
     back gap l f = elim (cases_eq gap.first i) [

@@ -35,6 +35,11 @@ pub record IsPairLine (numbers : List ℕ) (spans : List Span) (i j : ℕ) (gap 
   pub order : net_of numbers i < net_of numbers j
   pub line : IsLineOf (net_of numbers i) (net_of numbers j) i j (max (span_of spans i).top (span_of spans j).top) (min (span_of spans i).bottom (span_of spans j).bottom + 1) gap
 
+-- piece j stands in a net over this one, and its span has a common layer with this one
+pub record IsOver (numbers : List ℕ) (spans : List Span) (net : ℕ) (span : Span) (j : ℕ) : Type 0 where
+  pub order : net < net_of numbers j
+  pub layer : max span.top (span_of spans j).top ≤ min span.bottom (span_of spans j).bottom
+
 -- two pieces touch, the second stands in the higher net, and the line is theirs
 pub record IsTouchLine (size : ℕ) (touch : ℕ → ℕ → Type 0) (pair : Pair) (gap : Gap) : Type 0 where
   pub near : IsNear size touch pair.first pair.second

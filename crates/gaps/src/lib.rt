@@ -10,6 +10,7 @@
 //! - `gap`: a line of the list, and lines in order.
 //! - `found`: the lines that were found, and where they stand.
 //! - `meetings`: the lines of all pieces of different nets that come close.
+//! - `over`: the pieces that may make lines with a piece.
 //! - `fats`: the pieces of a board, grown.
 //! - `grown_box`: their common box.
 //! - `grown`: the grown shape as a solid.
@@ -31,6 +32,7 @@ pub mod laws;
 mod lines;
 mod listing;
 mod meetings;
+mod over;
 mod strokes;
 mod text;
 

@@ -8,6 +8,7 @@ ghost use Rattle.std.specs.Prelude.{All, IfOk, OnOk, if◌then◌else◌, length
 
 use super::found::{Found, Pair};
 use super::gap::Gap;
+use super::over::Over;
 use cell_index::{Cells, Field};
 use contact::Meets;
 use lengths::NoMemory;
@@ -110,7 +111,13 @@ pub fn meetings<'a, S: Meets<S>, L: Ledger>(
     let mut near = Vec::new(alloc);
     let mut most = 0;
     for i in 0..field.count() {
-        field.candidates(i, &mut near)?;
+        let over = Over {
+            numbers,
+            spans,
+            net: numbers[i],
+            span: spans[i],
+        };
+        field.candidates(i, &over, &mut near)?;
         add_piece(field, i as u32, &near, numbers, spans, &mut found, tests)?;
         most = found.thin(most);
     }
