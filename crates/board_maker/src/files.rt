@@ -226,7 +226,7 @@ fn push_cell(out: &mut Vec<u8>, part: Part, seed: u64, size: u32, i: u32) -> Res
 
 /// The text of a file.
 #[tactic(auto, using(crate::proofs::Cells::cells_none, crate::proofs::Cells::cells_turn))]
-pub fn part_text(alloc: Global, part: Part, seed: u64, size: u32) -> Result<Vec<u8>, NoMemory>
+pub fn text(alloc: Global, part: Part, seed: u64, size: u32) -> Result<Vec<u8>, NoMemory>
     requires { size ≤ 10000 }
     ensures { IfOk result (λ text. text.items ≡ spec.part_text part seed size) }
 {

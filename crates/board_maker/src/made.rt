@@ -2,7 +2,7 @@
 ghost use Rattle.std.specs.Prelude.{◌≡◌, ◌<◌, ◌≤◌, ◌↔◌, IfOk, IsErrOf};
 ghost use Rattle.board_maker.specs.MadePackage.{IsMade};
 
-use crate::files::{Part, part_text};
+use crate::files::{Part, text};
 use board_io::MemoryPackage;
 use lengths::NoMemory;
 use std::alloc::Global;
@@ -51,10 +51,10 @@ fn package(alloc: Global, seed: u64, size: u32) -> Result<MemoryPackage, NoMemor
     ensures { IfOk result (IsMade seed size) }
 {
     let mut package = MemoryPackage::new(alloc);
-    package.hold("n.ipc", part_text(alloc, Part::Points, seed, size)?.as_slice())?;
-    package.hold("pth.drl", part_text(alloc, Part::Holes, seed, size)?.as_slice())?;
-    package.hold("bot.gbr", part_text(alloc, Part::Bottom, seed, size)?.as_slice())?;
-    package.hold("top.gbr", part_text(alloc, Part::Top, seed, size)?.as_slice())?;
+    package.hold("n.ipc", text(alloc, Part::Points, seed, size)?.as_slice())?;
+    package.hold("pth.drl", text(alloc, Part::Holes, seed, size)?.as_slice())?;
+    package.hold("bot.gbr", text(alloc, Part::Bottom, seed, size)?.as_slice())?;
+    package.hold("top.gbr", text(alloc, Part::Top, seed, size)?.as_slice())?;
     package.hold("m.json", MANIFEST)?;
     Ok(package)
 }

@@ -8,7 +8,6 @@ use Rattle.std.proofs.lemmas.Slice.Eq.{bytes_eq-Decides}
 use Rattle.lengths.specs.Text.{IsText}
 use Rattle.verdict.specs.declared.reading.ReadFault.{ReadFault}
 use Rattle.verdict.specs.declared.reading.ReadFault.TheVariants.{NotAReport, NoMemory}
-use Rattle.verdict.specs.declared.verdict.Branch.{Branch}
 use Rattle.verdict.specs.declared.verdict.Short.{Short}
 use Rattle.verdict.specs.declared.verdict.Supplement.{Supplement}
 use Rattle.verdict.specs.declared.verdict.Verdict.{Verdict}

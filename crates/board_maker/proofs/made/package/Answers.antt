@@ -9,10 +9,10 @@ use Rattle.board_maker.proofs.made.package.Goals as goal
 pub returns : goal.returns
 returns c =
     let none = none_held (files_of c.new-package.result) c.new-package.ensures.files in
-    let netlist = held_more _ (files_of c.hold.new.self) _ (codes "n.ipc") c.as_slice.result.now _ c.in_ok-hold.ensures.ok (c.as_slice.ensures.value ∙ c.in_ok-part_text.ensures) none in
-    let drills = held_more _ (files_of c.hold-2.new.self) _ (codes "pth.drl") c.as_slice-2.result.now _ c.in_ok-hold-2.ensures.ok (c.as_slice-2.ensures.value ∙ c.in_ok-part_text-2.ensures) netlist in
-    let bottom = held_more _ (files_of c.hold-3.new.self) _ (codes "bot.gbr") c.as_slice-3.result.now _ c.in_ok-hold-3.ensures.ok (c.as_slice-3.ensures.value ∙ c.in_ok-part_text-3.ensures) drills in
-    let top = held_more _ (files_of c.hold-4.new.self) _ (codes "top.gbr") c.as_slice-4.result.now _ c.in_ok-hold-4.ensures.ok (c.as_slice-4.ensures.value ∙ c.in_ok-part_text-4.ensures) bottom in
+    let netlist = held_more _ (files_of c.hold.new.self) _ (codes "n.ipc") c.as_slice.result.now _ c.in_ok-hold.ensures.ok (c.as_slice.ensures.value ∙ c.in_ok-text.ensures) none in
+    let drills = held_more _ (files_of c.hold-2.new.self) _ (codes "pth.drl") c.as_slice-2.result.now _ c.in_ok-hold-2.ensures.ok (c.as_slice-2.ensures.value ∙ c.in_ok-text-2.ensures) netlist in
+    let bottom = held_more _ (files_of c.hold-3.new.self) _ (codes "bot.gbr") c.as_slice-3.result.now _ c.in_ok-hold-3.ensures.ok (c.as_slice-3.ensures.value ∙ c.in_ok-text-3.ensures) drills in
+    let top = held_more _ (files_of c.hold-4.new.self) _ (codes "top.gbr") c.as_slice-4.result.now _ c.in_ok-hold-4.ensures.ok (c.as_slice-4.ensures.value ∙ c.in_ok-text-4.ensures) bottom in
     let fresh : IsUntouched c.new-package.result = record {
       failing = c.new-package.ensures.failing;
       calls = c.new-package.ensures.calls;
