@@ -15,7 +15,7 @@ use Rattle.serde_json.specs.Data as json
 use Rattle.serde_json.specs.Data.{Data}
 use Rattle.serde_json.specs.Read.{read}
 use Rattle.texts.specs.Words.{is}
-use Rattle.board_package.specs.Laws.{CutIsRefusedOrTheSame, IsRefusing, cut_off}
+use Rattle.board_package.specs.Laws.{CutIsRefusedOrTheSame, IsRefusing, cut_off, HaveAnswers}
 use Rattle.board_package.specs.Manifest.{IsManifest, IsNotJson, manifest_of}
 use Rattle.board_package.specs.PackageBoard.{Stop, not_json, refused, IsHeld, Goes, StopsAt, StopsAmong, StopsAtManifest, IsManifestFile, Walks}
 use Rattle.board_package.specs.Parts.{empty_board, with_pieces, with_netlist}
@@ -27,7 +27,6 @@ use Rattle.board_package.specs.declared.manifest.Manifest.{Manifest}
 use Rattle.board_package.specs.declared.reading.Refusal.{Refusal}
 use Rattle.board_package.specs.declared.reading.Refusal.TheVariants as refusal
 use Rattle.board_package.proofs.JsonPrefix.{one_value}
-use Rattle.board_package.proofs.OneOutcome.{HaveAnswers}
 
 -- a prefix of a file that is read, where it is read too, makes the same
 pub record HavePrefixes : Type 0 where

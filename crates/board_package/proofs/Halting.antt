@@ -1,23 +1,49 @@
--- A fault of the reader of copper files climbs as that of a file of a package.
-use Rattle.std.proofs.Common.{◌≡◌, ℕ, List, Result, Ok, Err, IfErr, sym, subst}
-use Rattle.std.specs.Result.{IsErrAnd}
+-- A refusal of a reader is why the file of an entry is not read.
+use Rattle.std.proofs.Common.{◌≡◌, inr, ℕ, List, sym, subst}
 use Rattle.board_shapes.specs.Plain.{PlainBoard}
 use Rattle.board_shapes.specs.declared.placed.Room.{Room}
 use Rattle.gerber_layer.specs.Layer as layer_file
+use Rattle.gerber_layer.specs.declared.kind.GerberKind.{GerberKind}
 use Rattle.gerber_layer.specs.declared.kind.LayerFault.{LayerFault}
 use Rattle.gerber_layer.specs.declared.kind.LayerFault.TheVariants as layer_fault
+use Rattle.ipc356_records.specs.NetlistFile as netlist_file
+use Rattle.ipc356_records.specs.declared.kind.RecordFault.{RecordFault}
+use Rattle.ipc356_records.specs.declared.kind.RecordFault.TheVariants as record_fault
+use Rattle.ipc356_records.specs.declared.kind.RecordKind.{RecordKind}
+use Rattle.xnc.specs.DrillFile as drill_file
+use Rattle.xnc.specs.declared.kind.DrillFault.{DrillFault}
+use Rattle.xnc.specs.declared.kind.DrillFault.TheVariants as drill_fault
+use Rattle.xnc.specs.declared.kind.DrillKind.{DrillKind}
+use Rattle.board_package.specs.Causes.{Halts, HasRefusal}
 use Rattle.board_package.specs.Parts.{room_left}
-use Rattle.board_package.specs.Reading.{Halts, layer_halt}
+use Rattle.board_package.specs.Reading.{Refuses}
+use Rattle.board_package.specs.declared.entry.Entry.{Entry}
+use Rattle.board_package.specs.declared.entry.Role.{Role}
 use Rattle.board_package.specs.declared.entry.Role.TheVariants as role
-use Rattle.board_package.specs.declared.reading.Halt.{Halt}
+use Rattle.board_package.specs.declared.fault.BuildFault.{BuildFault}
+use Rattle.board_package.specs.declared.reading.Refusal.{Refusal}
+use Rattle.board_package.specs.declared.reading.Refusal.TheVariants as refusal
 
-layer_halts : (f : LayerFault) (h : Halt) (layer n : ℕ) (bytes : List ℕ) (before : PlainBoard) (room : Room) → h ≡ layer_halt f → room ≡ room_left before.pieces
-    → layer_file.IsFault bytes (record { layer = layer; file = n; room = room }) f → Halts (role.Copper layer) n bytes before h
-layer_halts (layer_fault.Refused kind command at) h layer n bytes before room e r p =
-    subst (λ (x : Halt). Halts (role.Copper layer) n bytes before x) (sym e) (subst (λ (q : Room). layer_file.IsRefused bytes (record { layer = layer; file = n; room = q }) kind command at) r p)
-layer_halts layer_fault.NoMemory h layer n bytes before room e r p = subst (λ (x : Halt). Halts (role.Copper layer) n bytes before x) (sym e) tt
+halts_as : (e : Entry) (r : Role) (bytes : List ℕ) (before : PlainBoard) (why : Refusal) (given : BuildFault) → e.role ≡ r → Refuses r e.number bytes before why → HasRefusal e.name why given → Halts e bytes before given
+halts_as e r bytes before why given is refuses has = inr (why, subst (λ (x : Role). Refuses x e.number bytes before why) (sym is) refuses, has)
 
-pub layer_climbs : {B : Type 0} (result : Result B Halt) (f : LayerFault) (layer n : ℕ) (bytes : List ℕ) (before : PlainBoard) (room : Room) → IsErrAnd result (λ h. h ≡ layer_halt f) → room ≡ room_left before.pieces
-    → layer_file.IsFault bytes (record { layer = layer; file = n; room = room }) f → IfErr result (Halts (role.Copper layer) n bytes before)
-layer_climbs (Ok x) f layer n bytes before room e r p = tt
-layer_climbs (Err h) f layer n bytes before room e r p = layer_halts f h layer n bytes before room e r p
+pub layer_halts : (e : Entry) (layer : ℕ) (bytes : List ℕ) (before : PlainBoard) (room : Room) (fault : LayerFault) (kind : GerberKind) (command at : ℕ) (given : BuildFault) → e.role ≡ role.Copper layer → room ≡ room_left before.pieces
+    → layer_file.IsFault bytes (record { layer = layer; file = e.number; room = room }) fault → fault ≡ layer_fault.Refused kind command at → HasRefusal e.name (refusal.Layer kind command at) given → Halts e bytes before given
+layer_halts e layer bytes before room fault kind command at given is left refuses same has =
+    halts_as e (role.Copper layer) bytes before (refusal.Layer kind command at) given is
+    (subst (λ (q : Room). layer_file.IsRefused bytes (record { layer = layer; file = e.number; room = q }) kind command at) left
+    (subst (λ (f : LayerFault). layer_file.IsFault bytes (record { layer = layer; file = e.number; room = room }) f) same refuses))
+    has
+
+pub drill_halts : (e : Entry) (from to : ℕ) (bytes : List ℕ) (before : PlainBoard) (room : Room) (fault : DrillFault) (kind : DrillKind) (line at : ℕ) (given : BuildFault) → e.role ≡ role.Drill from to → room ≡ room_left before.pieces
+    → drill_file.IsFault bytes (record { from = from; to = to; file = e.number; room = room.pieces }) fault → fault ≡ drill_fault.Refused kind line at → HasRefusal e.name (refusal.Drill kind line at) given → Halts e bytes before given
+drill_halts e from to bytes before room fault kind line at given is left refuses same has =
+    halts_as e (role.Drill from to) bytes before (refusal.Drill kind line at) given is
+    (subst (λ (q : Room). drill_file.IsRefused bytes (record { from = from; to = to; file = e.number; room = q.pieces }) kind line at) left
+    (subst (λ (f : DrillFault). drill_file.IsFault bytes (record { from = from; to = to; file = e.number; room = room.pieces }) f) same refuses))
+    has
+
+pub netlist_halts : (e : Entry) (bytes : List ℕ) (before : PlainBoard) (fault : RecordFault) (kind : RecordKind) (line : ℕ) (given : BuildFault) → e.role ≡ role.Netlist
+    → netlist_file.IsFault bytes before.layers fault → fault ≡ record_fault.Refused kind line → HasRefusal e.name (refusal.Netlist kind line) given → Halts e bytes before given
+netlist_halts e bytes before fault kind line given is refuses same has =
+    halts_as e role.Netlist bytes before (refusal.Netlist kind line) given is (subst (λ (f : RecordFault). netlist_file.IsFault bytes before.layers f) same refuses) has

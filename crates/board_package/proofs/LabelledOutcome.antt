@@ -5,14 +5,14 @@ use Rattle.board_shapes.specs.Plain.{PlainBoard, common_box, Fits}
 use Rattle.x2_nets.specs.Labels.{no_text}
 use Rattle.x2_nets.specs.Laws.{HasOneAnswer}
 use Rattle.x2_nets.specs.declared.table.Label.{Label}
-use Rattle.board_package.specs.Laws.{HasOneLabelledOutcome}
+use Rattle.board_package.specs.Laws.{HasOneLabelledOutcome, HaveAnswers}
 use Rattle.board_package.specs.LabelledBoard.{GoesLabelled, IsFirstLabelledStop, IsLabelledBoardOf, IsLabelledFrameStop, IsMislabelled, Labelled, LabelledStop, Lists, Mislabels, OfBuild, StopsLabelledAmong, StopsLabelledAt, labelled_board_of, labelled_order, mislabelled, nothing_labelled, unbuilt}
 use Rattle.board_package.specs.PackageBoard.{IsManifestFile, StopsAtFrame, StopsAtManifest, WalksBy}
 use Rattle.board_package.specs.declared.entry.Entry.{Entry}
 use Rattle.board_package.specs.declared.entry.Role.{Role}
 use Rattle.board_package.specs.declared.entry.Role.TheVariants as role
 use Rattle.board_package.specs.declared.manifest.Manifest.{Manifest}
-use Rattle.board_package.proofs.OneOutcome.{HaveAnswers, at_manifest_one, fits_not_stops, frame_one, goes_not_stops, goes_one, held_one, manifest_file_one, manifest_not_stops, same_name, stops_one}
+use Rattle.board_package.proofs.OneOutcome.{at_manifest_one, fits_not_stops, frame_one, goes_not_stops, goes_one, held_one, manifest_file_one, manifest_not_stops, same_name, stops_one}
 use Rattle.board_package.proofs.Walking.{one_of_walk, one_walk, walk_or_one}
 
 -- each file has one answer, and its labels have one

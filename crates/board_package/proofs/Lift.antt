@@ -110,3 +110,7 @@ kept_err (Err why) a l b m h = kept a l b m why h
 pub faultless_ok : {B : Type 0} (r : Result B BuildFault) (a : ℕ) (l : List ℕ) (b : ℕ) (m : List ℕ) → IsFaultless a l b m → OnOk r (IsFaultless a l b m)
 faultless_ok (Ok x) a l b m h = h
 faultless_ok (Err why) a l b m h = tt
+
+pub if_err : {B : Type 0} (r : Result B BuildFault) (P Q : BuildFault → Type 0) → ((why : BuildFault) → P why → Q why) → IfErr r P → IfErr r Q
+if_err (Ok x) P Q k h = tt
+if_err (Err why) P Q k h = k why h

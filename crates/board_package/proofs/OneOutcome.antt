@@ -3,14 +3,9 @@ use Rattle.std.proofs.Common.{◌≡◌, ◌⊎◌, inl, inr, ℕ, ◌<◌, List
 use Rattle.board_io.specs.Package.{Files}
 use Rattle.board_shapes.specs.Plain.{PlainBoard, common_box, Fits}
 use Rattle.contact.specs.declared.Bounds.{Bounds}
-use Rattle.gerber_layer.specs.Table.{Place as LayerPlace}
-use Rattle.gerber_layer.specs.Layer as layer_file
-use Rattle.xnc.specs.Place.{Place as DrillPlace}
-use Rattle.xnc.specs.DrillFile as drill_file
-use Rattle.ipc356_records.specs.NetlistFile as netlist_file
 use Rattle.ipc356_records.specs.NetlistFile.{Netlist}
 use Rattle.serde_json.specs.Data.{Data}
-use Rattle.board_package.specs.Laws.{HasOneOutcome}
+use Rattle.board_package.specs.Laws.{HasOneOutcome, HaveAnswers}
 use Rattle.board_package.specs.Manifest.{IsManifest, IsNotJson, IsOther, IsValueOf, manifest_of}
 use Rattle.board_package.specs.PackageBoard.{Stop, absent, longer, not_json, bad_manifest, refused, frame_too_large, IsHeld, IsHeldWith, Goes, IsRefusedFor, StopsAt, StopsAtManifest, StopsAtFrame, StopsAmong, IsManifestFile, IsBoardOf, IsFirstStop, IsFrameStop, Walks, most_bytes}
 use Rattle.board_package.specs.Parts.{with_pieces, with_netlist, empty_board}
@@ -22,12 +17,6 @@ use Rattle.board_package.specs.declared.manifest.Manifest.{Manifest}
 use Rattle.board_package.specs.declared.reading.Refusal.{Refusal}
 use Rattle.board_package.specs.declared.reading.Refusal.TheVariants as refusal
 use Rattle.board_package.proofs.Walking.{one_of_walk, one_walk, walk_or_one}
-
--- each file has one answer
-pub record HaveAnswers : Type 0 where
-  pub layer : (file : List ℕ) (p : LayerPlace) → layer_file.HasOneAnswer file p
-  pub drill : (file : List ℕ) (p : DrillPlace) → drill_file.HasOneAnswer file p
-  pub netlist : (file : List ℕ) (layers : ℕ) → netlist_file.HasOneAnswer file layers
 
 -- ---- One file
 

@@ -1,19 +1,31 @@
 -- The stages of the taking.
-use Rattle.std.proofs.Common.{◌≡◌, inl, inr, ℕ, ◌+◌, ◌<◌, ◌≤◌, List, length, take, get_or, Option, IfSome, sym, subst}
+use Rattle.std.proofs.Common.{◌≡◌, inl, inr, ℕ, ◌+◌, ◌<◌, ◌≤◌, List, length, take, get_or, Option, IfSome, refl, sym, subst}
 use Rattle.board_io.specs.Package.{Files}
 use Rattle.board_shapes.specs.Plain.{PlainBoard, common_box, Fits}
-use Rattle.board_package.specs.Causes.{HasCause, IsFrameFault}
-use Rattle.board_package.specs.PackageBoard.{Stop, Goes, IsHeld, IsHeldWith, IsManifestFile, IsBoardOf, IsFirstStop, Comes, StopsAt, StopsAtFrame, StopsAtManifest, StopsAmong, ComesAmong, Walks}
+use Rattle.board_package.specs.Causes.{Halts, HasCause, IsFrameFault}
+use Rattle.board_package.specs.PackageBoard.{Stop, refused, Goes, IsHeld, IsHeldWith, IsManifestFile, IsBoardOf, IsFirstStop, Comes, StopsAt, StopsAtFrame, StopsAtManifest, StopsAmong, ComesAmong, Walks}
 use Rattle.board_package.specs.Parts.{empty_board}
+use Rattle.board_package.specs.Reading.{Refuses}
 use Rattle.board_package.specs.declared.entry.Entry.{Entry}
 use Rattle.board_package.specs.declared.fault.BuildFault.{BuildFault}
 use Rattle.board_package.specs.declared.manifest.Manifest.{Manifest}
-use Rattle.board_package.proofs.Lift.{Carries, lift, told, told_of, told_all, frame_cause}
+use Rattle.board_package.proofs.Lift.{Carries, lift, told, told_of, told_all, frame_cause, refusal_cause}
 use Rattle.board_package.proofs.Walking.{at_one, walk_more}
 
 -- a file that is held, with what holds of its bytes
 pub held_with : (held : Option Files) (name bytes seen : List ℕ) (P : List ℕ → Type 0) → IfSome held (λ files. IsHeld files name bytes) → seen ≡ bytes → P seen → IfSome held (λ files. IsHeldWith files name P)
 held_with held name bytes seen P h same p = told_of held (λ files. IsHeld files name bytes) (λ files. IsHeldWith files name P) (λ files a. record { bytes = bytes; held = a; good = subst P same p }) h
+
+-- a file that is held and not read is a cause
+pub halted_cause : (held : Option Files) (e : Entry) (before : PlainBoard) (bytes seen : List ℕ) (count now : ℕ) (lost : List ℕ) (given : BuildFault)
+    → IfSome held (λ files. IsHeld files e.name bytes) → seen ≡ bytes → Halts e seen before given
+    → HasCause held (λ files stop. StopsAt files e before stop) (λ files name. e.name ≡ name) count now lost given
+halted_cause held e before bytes seen count now lost given h same (inl none) =
+    subst (λ f. HasCause held (λ files stop. StopsAt files e before stop) (λ files name. e.name ≡ name) count now lost f) (sym none) tt
+halted_cause held e before bytes seen count now lost given h same (inr (why, refuses, has)) =
+    refusal_cause held (λ files stop. StopsAt files e before stop) (λ files name. e.name ≡ name) count now lost e.name why given
+    (told_of held (λ files. IsHeld files e.name bytes) (λ files. StopsAt files e before (refused e.name why)) (λ files k. (refl, record { bytes = bytes; held = k; refused = subst (λ z. Refuses e.role e.number z before why) same refuses })) h)
+    has
 
 -- a cause of a file's stage is one of the files
 pub entry_cause : (held after : Option Files) (entries : List Entry) (i : ℕ) (entry : Entry) (start mid : PlainBoard) (before between now : ℕ) (lost : List ℕ) (why : BuildFault) → i < length entries → entry ≡ get_or entries i entry → after ≡ held → before ≤ between

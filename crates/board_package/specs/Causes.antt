@@ -4,6 +4,8 @@ use Rattle.board_io.specs.Causes.{Rose}
 use Rattle.board_io.specs.Package.{Files, IsFaultless}
 use Rattle.board_shapes.specs.Plain.{PlainBoard}
 use Rattle.board_package.specs.PackageBoard.{StopsAtFrame, Stop, longer, not_json, bad_manifest, refused, frame_too_large}
+use Rattle.board_package.specs.Reading.{Refuses}
+use Rattle.board_package.specs.declared.entry.Entry.{Entry}
 use Rattle.board_package.specs.declared.fault.BuildFault.{BuildFault}
 use Rattle.board_package.specs.declared.fault.BuildFault.TheVariants as fault
 use Rattle.board_package.specs.declared.reading.Refusal.{Refusal}
@@ -20,6 +22,10 @@ abbrev pub HasRefusal : List ℕ → Refusal → BuildFault → Type 0
 HasRefusal name (refusal.Layer kind command at) given = (given ≡ fault.Layer name kind command at) ⊎ (given ≡ fault.NoMemory)
 HasRefusal name (refusal.Drill kind line at) given = (given ≡ fault.Drill name kind line at) ⊎ (given ≡ fault.NoMemory)
 HasRefusal name (refusal.Netlist kind line) given = (given ≡ fault.Netlist name kind line) ⊎ (given ≡ fault.NoMemory)
+
+-- why the file of an entry is not read: its refusal, or want of memory
+abbrev pub Halts : Entry → List ℕ → PlainBoard → BuildFault → Type 0
+Halts e bytes before given = (given ≡ fault.NoMemory) ⊎ ((why : Refusal) × Refuses e.role e.number bytes before why × HasRefusal e.name why given)
 
 -- Why there is no board: a stop, where the package tells, or a fault of reading, or want of memory.
 abbrev pub HasCause : Option Files → (Files → Stop → Type 0) → (Files → List ℕ → Type 0) → ℕ → ℕ → List ℕ → BuildFault → Type 0

@@ -5,10 +5,21 @@ use Rattle.board_shapes.specs.LawfulBoard.{IsLawfulBoard}
 use Rattle.board_shapes.specs.Plain.{PlainBoard}
 use Rattle.board_shapes.specs.Touching.{UnderAt}
 use Rattle.board_shapes.specs.declared.probe.Probe.{Probe}
+use Rattle.gerber_layer.specs.Layer as layer_file
+use Rattle.gerber_layer.specs.Table.{Place as LayerPlace}
+use Rattle.ipc356_records.specs.NetlistFile as netlist_file
+use Rattle.xnc.specs.DrillFile as drill_file
+use Rattle.xnc.specs.Place.{Place as DrillPlace}
 use Rattle.board_package.specs.LabelledBoard.{IsFirstLabelledStop, IsLabelledBoardOf, LabelledStop, labelled_board_of}
 use Rattle.texts.specs.Words.{is}
 use Rattle.x2_nets.specs.declared.table.Label.{Label}
 use Rattle.board_package.specs.PackageBoard.{Stop, absent, longer, not_json, bad_manifest, refused, frame_too_large, IsBoardOf, IsFirstStop}
+
+-- Each file has one answer: copper files, drill files and netlists.
+pub record HaveAnswers : Type 0 where
+  pub layer : (file : List ℕ) (p : LayerPlace) → layer_file.HasOneAnswer file p
+  pub drill : (file : List ℕ) (p : DrillPlace) → drill_file.HasOneAnswer file p
+  pub netlist : (file : List ℕ) (layers : ℕ) → netlist_file.HasOneAnswer file layers
 
 -- A package has at most one board or one first stop, and not both.
 pub record HasOneOutcome (files : Files) (manifest : List ℕ) : Type 0 where

@@ -7,19 +7,11 @@ use Rattle.gerber_layer.specs.Layer as layer_file
 use Rattle.xnc.specs.Place.{Place as DrillPlace}
 use Rattle.xnc.specs.DrillFile as drill_file
 use Rattle.ipc356_records.specs.NetlistFile as netlist_file
-use Rattle.gerber_layer.specs.declared.kind.LayerFault.{LayerFault}
-use Rattle.gerber_layer.specs.declared.kind.LayerFault.TheVariants as layer_fault
-use Rattle.xnc.specs.declared.kind.DrillFault.{DrillFault}
-use Rattle.xnc.specs.declared.kind.DrillFault.TheVariants as drill_fault
-use Rattle.ipc356_records.specs.declared.kind.RecordFault.{RecordFault}
-use Rattle.ipc356_records.specs.declared.kind.RecordFault.TheVariants as record_fault
 use Rattle.board_package.specs.Parts.{with_pieces, with_netlist, room_left}
 use Rattle.board_package.specs.declared.entry.Role.{Role}
 use Rattle.board_package.specs.declared.entry.Role.TheVariants as role
 use Rattle.board_package.specs.declared.reading.Refusal.{Refusal}
 use Rattle.board_package.specs.declared.reading.Refusal.TheVariants as refusal
-use Rattle.board_package.specs.declared.reading.Halt.{Halt}
-use Rattle.board_package.specs.declared.reading.Halt.TheVariants.{Refused, NoMemory}
 
 -- where the pieces of a copper file come to stand, and the room that earlier files left
 abbrev pub layer_place : ℕ → ℕ → PlainBoard → LayerPlace
@@ -46,21 +38,3 @@ Refuses (role.Drill from to) number bytes before (refusal.Netlist kind line) = �
 Refuses role.Netlist number bytes before (refusal.Layer kind command at) = ⊥
 Refuses role.Netlist number bytes before (refusal.Drill kind line at) = ⊥
 Refuses role.Netlist number bytes before (refusal.Netlist kind line) = netlist_file.IsRefused bytes before.layers kind line
-
--- why a file is not read: its refusal, or want of memory
-abbrev pub Halts : Role → ℕ → List ℕ → PlainBoard → Halt → Type 0
-Halts r number bytes before (Refused why) = Refuses r number bytes before why
-Halts r number bytes before NoMemory = Unit {0}
-
--- a reader's fault, as that of a file of a package
-abbrev pub layer_halt : LayerFault → Halt
-layer_halt (layer_fault.Refused kind command at) = Refused (refusal.Layer kind command at)
-layer_halt layer_fault.NoMemory = NoMemory
-
-abbrev pub drill_halt : DrillFault → Halt
-drill_halt (drill_fault.Refused kind line at) = Refused (refusal.Drill kind line at)
-drill_halt drill_fault.NoMemory = NoMemory
-
-abbrev pub netlist_halt : RecordFault → Halt
-netlist_halt (record_fault.Refused kind line) = Refused (refusal.Netlist kind line)
-netlist_halt record_fault.NoMemory = NoMemory

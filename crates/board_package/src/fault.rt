@@ -1,6 +1,8 @@
 //! Why a package is no board.
 ghost use Rattle.std.specs.Prelude.{◌≡◌, List, ℕ};
 ghost use Rattle.board_package.specs.Causes.{HasRefusal};
+ghost use Rattle.board_package.specs.declared.fault.BuildFault.TheVariants as build;
+ghost use Rattle.board_package.specs.declared.fault.LabelledFault.TheVariants as fault;
 
 use crate::reading::Refusal;
 use contact::Bounds;
@@ -47,13 +49,45 @@ pub enum BuildFault {
     NoMemory,
 }
 
-impl From<AllocError> for BuildFault {
-    ghost use Rattle.board_package.specs.declared.fault.BuildFault.TheVariants as fault;
+/// Why a package gives no labelled board: as `build` has it, or a label that is amiss.
+#[derive(Debug, Drop)]
+pub enum LabelledFault {
+    /// What stops it without its netlist, so never a netlist's refusal; or a fault of reading; or want of memory.
+    Build(BuildFault),
+    /// A name of a net in the copper file is not 1 to 200 bytes from 32 to 126: the first such word, by its number, from
+    /// 1, and the place of its first byte, from 0.
+    Label { file: Text, command: u32, at: usize },
+}
 
-    ghost from_gives = { λ _ e. e ≡ fault.NoMemory };
+impl From<AllocError> for BuildFault {
+    ghost from_gives = { λ _ f. f ≡ build.NoMemory };
 
     fn from(_: AllocError) -> BuildFault {
         BuildFault::NoMemory
+    }
+}
+
+impl From<BuildFault> for LabelledFault {
+    ghost from_gives = { λ why f. f ≡ fault.Build why };
+
+    fn from(why: BuildFault) -> LabelledFault {
+        LabelledFault::Build(why)
+    }
+}
+
+impl From<NoMemory> for LabelledFault {
+    ghost from_gives = { λ _ f. f ≡ fault.Build build.NoMemory };
+
+    fn from(_: NoMemory) -> LabelledFault {
+        LabelledFault::Build(BuildFault::NoMemory)
+    }
+}
+
+impl From<AllocError> for LabelledFault {
+    ghost from_gives = { λ _ f. f ≡ fault.Build build.NoMemory };
+
+    fn from(_: AllocError) -> LabelledFault {
+        LabelledFault::Build(BuildFault::NoMemory)
     }
 }
 
@@ -82,47 +116,5 @@ pub fn refused(name: &Text, refusal: Refusal) -> BuildFault
             }
         }
         Refusal::Netlist { kind, line } => BuildFault::Netlist { file, kind, line },
-    }
-}
-
-/// Why a package gives no labelled board: as `build` has it, or a label that is amiss.
-#[derive(Debug, Drop)]
-pub enum LabelledFault {
-    /// What stops it without its netlist, so never a netlist's refusal; or a fault of reading; or want of memory.
-    Build(BuildFault),
-    /// A name of a net in the copper file is not 1 to 200 bytes from 32 to 126: the first such word, by its number, from
-    /// 1, and the place of its first byte, from 0.
-    Label { file: Text, command: u32, at: usize },
-}
-
-impl From<BuildFault> for LabelledFault {
-    ghost use Rattle.board_package.specs.declared.fault.LabelledFault.TheVariants as fault;
-
-    ghost from_gives = { λ why f. f ≡ fault.Build why };
-
-    fn from(why: BuildFault) -> LabelledFault {
-        LabelledFault::Build(why)
-    }
-}
-
-impl From<NoMemory> for LabelledFault {
-    ghost use Rattle.board_package.specs.declared.fault.BuildFault.TheVariants as build;
-    ghost use Rattle.board_package.specs.declared.fault.LabelledFault.TheVariants as fault;
-
-    ghost from_gives = { λ _ f. f ≡ fault.Build build.NoMemory };
-
-    fn from(_: NoMemory) -> LabelledFault {
-        LabelledFault::Build(BuildFault::NoMemory)
-    }
-}
-
-impl From<AllocError> for LabelledFault {
-    ghost use Rattle.board_package.specs.declared.fault.BuildFault.TheVariants as build;
-    ghost use Rattle.board_package.specs.declared.fault.LabelledFault.TheVariants as fault;
-
-    ghost from_gives = { λ _ f. f ≡ fault.Build build.NoMemory };
-
-    fn from(_: AllocError) -> LabelledFault {
-        LabelledFault::Build(BuildFault::NoMemory)
     }
 }

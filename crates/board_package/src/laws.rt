@@ -1,24 +1,20 @@
 //! The laws over the definitions alone.
 ghost use Rattle.std.specs.Prelude.{ℕ, List};
 ghost use Rattle.board_io.specs.Package.{Files};
-ghost use Rattle.board_package.specs.Laws.{CutIsRefusedOrTheSame, HasOneLabelledOutcome, HasOneOutcome, LabelledPiecesAreUnder};
+ghost use Rattle.board_package.specs.Laws.{CutIsRefusedOrTheSame, HasOneLabelledOutcome, HasOneOutcome, HaveAnswers, LabelledPiecesAreUnder};
 
 /// A package has at most one board or one first stop, and not both.
 pub fn one_outcome()
     ensures { (files : Files) (manifest : List ℕ) → HasOneOutcome files manifest }
 {
-    gerber_layer::laws::one_answer();
-    xnc::laws::one_answer();
-    ipc356_records::laws::one_answer();
+    files_have_one_answer();
 }
 
 /// A package has at most one labelled board or one first stop of it, and not both.
 pub fn one_labelled_outcome()
     ensures { (files : Files) (manifest : List ℕ) → HasOneLabelledOutcome files manifest }
 {
-    gerber_layer::laws::one_answer();
-    xnc::laws::one_answer();
-    ipc356_records::laws::one_answer();
+    files_have_one_answer();
     x2_nets::laws::one_answer();
 }
 
@@ -32,10 +28,17 @@ pub fn labelled_pieces_are_under()
 pub fn cut_is_refused_or_the_same()
     ensures { (files : Files) (manifest : List ℕ) → CutIsRefusedOrTheSame files manifest }
 {
-    gerber_layer::laws::one_answer();
-    xnc::laws::one_answer();
-    ipc356_records::laws::one_answer();
+    files_have_one_answer();
     gerber_layer::laws::prefix_makes_the_same();
     xnc::laws::prefix_makes_the_same();
     ipc356_records::laws::prefix_makes_the_same();
+}
+
+// Each copper file, drill file and netlist has one answer.
+fn files_have_one_answer()
+    ensures { HaveAnswers }
+{
+    gerber_layer::laws::one_answer();
+    xnc::laws::one_answer();
+    ipc356_records::laws::one_answer();
 }

@@ -3,6 +3,7 @@ ghost use Rattle.std.specs.Prelude.{◌≡◌, ◌≤◌, ◌++◌, List, length
 ghost use Rattle.serde_json.specs.View.{view};
 ghost use Rattle.board_package.specs.Manifest as spec;
 ghost use Rattle.board_package.specs.Manifest.{IsManifest, IsManifestFault, IsLawful, IsOnBoard, IsValueOf, IsNotJson, Misses, each_from, copper_entry, drill_entry, drill_from, manifest_of};
+ghost use Rattle.board_package.specs.declared.manifest.ManifestFault.TheVariants as fault;
 
 use crate::entry::{Entry, Role};
 use crate::values::{has_members, list_at, name_at, name_of, number_at};
@@ -29,8 +30,6 @@ pub enum ManifestFault {
 }
 
 impl From<NoMemory> for ManifestFault {
-    ghost use Rattle.board_package.specs.declared.manifest.ManifestFault.TheVariants as fault;
-
     ghost from_gives = { λ _ e. e ≡ fault.NoMemory };
 
     fn from(_: NoMemory) -> ManifestFault {

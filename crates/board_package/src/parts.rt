@@ -7,8 +7,8 @@ ghost use Rattle.board_package.specs.Parts as spec;
 ghost use Rattle.board_package.specs.Parts.{board_so_far, empty_board, with_pieces, IsLawfulParts};
 
 use board_shapes::{Piece, Probe, Room};
-use lengths::{NoMemory, Rows, Text};
-use std::alloc::Global;
+use lengths::{Rows, Text};
+use std::alloc::{AllocError, Global};
 
 const MOST_PIECES: u32 = 200_000;
 
@@ -40,15 +40,14 @@ impl Parts {
     }
 
     // Adds the pieces of a file, for which there is room.
-    pub fn add(&mut self, mut pieces: Vec<Piece>) -> Result<(), NoMemory>
+    pub fn add(&mut self, mut pieces: Vec<Piece>) -> Result<(), AllocError>
         requires lawful { IsLawfulParts self.old }
         requires few { length self.old.pieces.items + length pieces.items ≤ 200000 }
         requires spans { All (IsOnLayers self.old.layers) pieces.items }
         ensures ok { OnOk result (board_so_far self.new ≡ with_pieces (board_so_far self.old) (plain_pieces pieces.items)) }
         ensures lawful { OnOk result (IsLawfulParts self.new) }
     {
-        self.pieces.append(&mut pieces)?;
-        Ok(())
+        self.pieces.append(&mut pieces)
     }
 }
 

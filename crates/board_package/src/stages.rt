@@ -8,10 +8,10 @@ ghost use Rattle.board_package.specs.PackageBoard.{IsBoardOf, IsFirstStop, IsWit
 ghost use Rattle.board_package.specs.Parts.{board_so_far, IsLawfulParts};
 
 use crate::entry::Entry;
-use crate::fault::{BuildFault, refused};
+use crate::fault::BuildFault;
 use crate::manifest::{Manifest, ManifestFault, read_manifest};
 use crate::parts::Parts;
-use crate::reading::{Halt, read_file};
+use crate::reading::read_file;
 use board_io::{Package, Take};
 use board_shapes::{Board, BoardFault, laws};
 use lengths::Text;
@@ -121,11 +121,7 @@ pub fn take_entry<P: Package>(
     ensures cause { IfErr result (HasCause (P.held «package».old) (λ files stop. StopsAt files entry.now (board_so_far parts.old) stop) (λ files name. entry.now.name ≡ name) (P.faults «package».old) (P.faults «package».new) (P.lost «package».new)) }
 {
     take_file(alloc, &entry.name, package, file)?;
-    match read_file(alloc, entry.role, entry.number, file.as_slice(), parts) {
-        Ok(()) => Ok(()),
-        Err(Halt::Refused(refusal)) => Err(refused(&entry.name, refusal)),
-        Err(Halt::NoMemory) => Err(BuildFault::NoMemory),
-    }
+    read_file(alloc, entry, file.as_slice(), parts)
 }
 
 /// Takes the file of this name into `file`, if it has at most 67,108,864 bytes.

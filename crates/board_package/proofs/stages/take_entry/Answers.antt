@@ -1,10 +1,21 @@
-use Rattle.std.proofs.Common.{rules}
-use Rattle.board_package.specs.Causes.{KeepsFaults}
-use Rattle.board_package.proofs.Lift.{kept}
+use Rattle.std.proofs.Common.{◌≡◌}
+use Rattle.board_package.specs.Causes.{Halts, HasCause}
+use Rattle.board_package.specs.PackageBoard.{StopsAt}
+use Rattle.board_package.specs.Parts.{board_so_far}
+use Rattle.board_package.proofs.Lift.{faultless_ok, if_err, kept_err}
+use Rattle.board_package.proofs.Taking.{halted_cause}
 use Rattle.board_package.proofs.stages.take_entry.Goals as goal
 
-pub returns-in-Err-Refused-clause-kept : goal.returns-in-Err-Refused-clause-kept
-returns-in-Err-Refused-clause-kept g c =
-    let fact : KeepsFaults (g.P.Package.faults c.args.package.now) (g.P.Package.lost c.args.package.now) (g.P.Package.faults c.take_file.new.package) (g.P.Package.lost c.take_file.new.package) c.refused.result =
-    kept _ _ _ _ c.refused.result c.in_ok-take_file.ensures.faultless in
-    search (rules, fact)
+pub returns-clause-faultless : goal.returns-clause-faultless
+returns-clause-faultless g c = faultless_ok c.read_file.result _ _ _ _ c.in_ok-take_file.ensures.faultless
+
+pub returns-clause-kept : goal.returns-clause-kept
+returns-clause-kept g c = kept_err c.read_file.result _ _ _ _ c.in_ok-take_file.ensures.faultless
+
+pub returns-clause-cause : goal.returns-clause-cause
+returns-clause-cause g c =
+    let before = board_so_far c.args.parts.now in
+    if_err c.read_file.result (Halts c.args.entry.now c.as_slice.result.now before)
+    (HasCause (g.P.Package.held c.args.package.now) (λ files stop. StopsAt files c.args.entry.now before stop) (λ files name. c.args.entry.now.name ≡ name) (g.P.Package.faults c.args.package.now) (g.P.Package.faults c.take_file.new.package) (g.P.Package.lost c.take_file.new.package))
+    (λ why h. halted_cause (g.P.Package.held c.args.package.now) c.args.entry.now before c.take_file.new.file.items c.as_slice.result.now _ _ _ why c.in_ok-take_file.ensures.found c.as_slice.ensures.value h)
+    c.read_file.ensures.fault
