@@ -87,6 +87,17 @@ pub fn words(alloc: Global, given: &[&str]) -> Result<Vec<String>, Fail> {
     Ok(words)
 }
 
+// The status of a call of `run`. It has no clause, so that the goals of a test see none of those of `run`.
+pub fn called(
+    alloc: Global,
+    words: &[String],
+    package: &mut MemoryPackage,
+    out: &mut MemorySink,
+    notes: &mut MemorySink,
+) -> u8 {
+    run(alloc, words, package, out, notes)
+}
+
 // The status, what was put and the line of a call.
 pub fn answer(
     alloc: Global,
@@ -96,7 +107,7 @@ pub fn answer(
     let mut out = MemorySink::new(alloc, 1_048_576)?;
     let mut notes = MemorySink::new(alloc, 1_048_576)?;
     let words = words(alloc, given)?;
-    let status = run(alloc, words.as_slice(), package, &mut out, &mut notes);
+    let status = called(alloc, words.as_slice(), package, &mut out, &mut notes);
     Ok((status, out, notes))
 }
 

@@ -4,6 +4,7 @@ use crate::tests::packages::{
     KICAD_BOTTOM, KICAD_DRILL, KICAD_MANIFEST, KICAD_NETLIST, KICAD_REPORT, KICAD_TOP,
 };
 use crate::tests::{AUDIT, MANIFEST, Ruling, files, one_layer, rules, wants};
+use board_io::MemoryPackage;
 use std::alloc::Global;
 use std::test::Fail;
 
@@ -123,9 +124,9 @@ fn audits_of_hostile_reports(rt: HostRuntime) -> Result<(), Fail> {
     audits(rt.alloc(), &hostile())
 }
 
-// The report of ordinary use is that of a right verdict; a report is taken last, and only for a package that fits.
+// The report of ordinary use is that of a right verdict.
 #[test]
-fn reports_that_are_taken(rt: HostRuntime) -> Result<(), Fail> {
+fn the_report_of_ordinary_use(rt: HostRuntime) -> Result<(), Fail> {
     let alloc = rt.alloc();
     let mut ordinary = files(
         alloc,
@@ -139,24 +140,52 @@ fn reports_that_are_taken(rt: HostRuntime) -> Result<(), Fail> {
     )?;
     rules(alloc, &mut ordinary, KICAD_REPORT, Ruling::True)?;
     assert_eq!(rt; ordinary.calls(), 6);
+    Ok(())
+}
 
+// Wants of an audit this status and this line, nothing put, and so many takes.
+fn stops(
+    alloc: Global,
+    package: &mut MemoryPackage,
+    status: u8,
+    line: &str,
+    calls: u64,
+) -> Result<(), Fail> {
+    wants(alloc, AUDIT, package, status, line, "")?;
+    let found = package.calls();
+    if found != calls {
+        return Err(Fail::new(format_args!("{found} takes, {line}")));
+    }
+    Ok(())
+}
+
+// A report is taken last, and only for a package that fits.
+#[test]
+fn reports_that_are_not_taken(rt: HostRuntime) -> Result<(), Fail> {
+    let alloc = rt.alloc();
     let mut missing = one_layer(alloc, SHORTED, THREE)?;
-    let line = "boardnet: r.txt: cannot be read\n";
-    wants(alloc, AUDIT, &mut missing, 4, line, "")?;
-    assert_eq!(rt; missing.calls(), 4);
-
+    stops(
+        alloc,
+        &mut missing,
+        4,
+        "boardnet: r.txt: cannot be read\n",
+        4,
+    )?;
     let mut refused = files(
         alloc,
         &[("m.json", &[MANIFEST]), ("t.gbr", &["M02*", "G04*"])],
     )?;
     refused.hold("r.txt", SHORT_REPORT)?;
     let line = "boardnet: t.gbr: Gerber 4 AfterEnd at command 2, byte 5\n";
-    wants(alloc, AUDIT, &mut refused, 3, line, "")?;
-    assert_eq!(rt; refused.calls(), 2);
+    stops(alloc, &mut refused, 3, line, 2)
+}
 
+#[test]
+fn a_report_that_is_too_long(rt: HostRuntime) -> Result<(), Fail> {
+    let alloc = rt.alloc();
     let mut long = one_layer(alloc, SHORTED, THREE)?;
     let bytes = vec![in alloc; b'0'; 67_108_865]?;
     long.hold("r.txt", bytes.as_slice())?;
     let line = "boardnet: r.txt: longer than 67108864 bytes\n";
-    wants(alloc, AUDIT, &mut long, 3, line, "")
+    stops(alloc, &mut long, 3, line, 4)
 }

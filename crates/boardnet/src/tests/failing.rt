@@ -1,7 +1,6 @@
 // Every read, every write and every piece of the line that can fail, on a buried barrel.
-use crate::run::run;
 use crate::tests::packages::{BURIED, BURIED_FILES, BURIED_REPORT, DISC};
-use crate::tests::{AUDIT, answer, files, shown, wants, words};
+use crate::tests::{AUDIT, answer, called, files, shown, wants, words};
 use board_io::{MemoryPackage, MemorySink};
 use std::alloc::Global;
 use std::test::Fail;
@@ -55,9 +54,9 @@ fn fronts_are_written(alloc: Global, given: &[&str], least: usize) -> Result<boo
         out.fail_at(0, passed)?;
         let mut notes = MemorySink::new(alloc, 1_048_576)?;
         let mut package = buried(alloc)?;
-        let status = run(alloc, words.as_slice(), &mut package, &mut out, &mut notes);
+        let found = called(alloc, words.as_slice(), &mut package, &mut out, &mut notes);
         let is_front = out.bytes().len() == passed && whole.bytes().starts_with(out.bytes());
-        if status != 5 || !is_front || shown(&notes) != "boardnet: output cannot be written\n" {
+        if found != 5 || !is_front || shown(&notes) != "boardnet: output cannot be written\n" {
             return Ok(false);
         }
     }
@@ -74,8 +73,8 @@ fn notes_fail(alloc: Global, given: &[&str]) -> Result<bool, Fail> {
         let mut notes = MemorySink::new(alloc, 1_048_576)?;
         notes.fail_at(k, 2)?;
         let mut package = buried(alloc)?;
-        let status = run(alloc, words.as_slice(), &mut package, &mut out, &mut notes);
-        if status != wanted
+        let found = called(alloc, words.as_slice(), &mut package, &mut out, &mut notes);
+        if found != wanted
             || out.bytes() != whole.bytes()
             || !line.bytes().starts_with(notes.bytes())
         {

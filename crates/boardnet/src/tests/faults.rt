@@ -1,8 +1,8 @@
 // Words that are no command, and faults of reading and writing.
-use crate::run::run;
 use crate::tests::packages::{BURIED, DISC};
-use crate::tests::{ENDS, TIE, files, one_layer, shown, wants, words};
+use crate::tests::{ENDS, TIE, called, files, one_layer, shown, wants, words};
 use board_io::{MemoryPackage, MemorySink, Package as _, Take};
+use std::alloc::Global;
 use std::test::Fail;
 
 // Words that are no command.
@@ -31,7 +31,7 @@ fn wrong() -> [&'static [&'static str]; 19] {
 }
 
 #[test]
-fn words_and_faults(rt: HostRuntime) -> Result<(), Fail> {
+fn words_that_are_no_command(rt: HostRuntime) -> Result<(), Fail> {
     let alloc = rt.alloc();
     for given in wrong() {
         let mut package = one_layer(alloc, TIE, ENDS)?;
@@ -39,32 +39,49 @@ fn words_and_faults(rt: HostRuntime) -> Result<(), Fail> {
         wants(alloc, given, &mut package, 2, line, "")?;
         assert_eq!(rt; package.calls(), 0);
     }
+    Ok(())
+}
 
-    // The output fails at its first put, after seven bytes; or it has room for seven bytes.
+// The status of a check of the tie, with the output and the notes.
+fn tied(alloc: Global, out: &mut MemorySink, notes: &mut MemorySink) -> Result<u8, Fail> {
     let words = words(alloc, &["check", "m.json"])?;
+    let mut package = one_layer(alloc, TIE, ENDS)?;
+    Ok(called(alloc, words.as_slice(), &mut package, out, notes))
+}
+
+// The output fails at its first put, after seven bytes; or it has room for seven bytes.
+#[test]
+fn outputs_that_fail(rt: HostRuntime) -> Result<(), Fail> {
+    let alloc = rt.alloc();
     for room in [1_048_576, 7] {
-        let mut package = one_layer(alloc, TIE, ENDS)?;
         let mut out = MemorySink::new(alloc, room)?;
         if room > 7 {
             out.fail_at(0, 7)?;
         }
         let mut notes = MemorySink::new(alloc, 1_048_576)?;
-        let status = run(alloc, words.as_slice(), &mut package, &mut out, &mut notes);
-        assert_eq!(rt; status, 5);
+        assert_eq!(rt; tied(alloc, &mut out, &mut notes)?, 5);
         assert_eq!(rt; shown(&out), "boardne");
         assert_eq!(rt; shown(&notes), "boardnet: output cannot be written\n");
     }
+    Ok(())
+}
 
-    // A fault of the notes ends the line and leaves the status as it is.
-    let mut held = one_layer(alloc, TIE, ENDS)?;
+// A fault of the notes ends the line and leaves the status as it is.
+#[test]
+fn notes_that_fail(rt: HostRuntime) -> Result<(), Fail> {
+    let alloc = rt.alloc();
     let mut out = MemorySink::new(alloc, 1_048_576)?;
     let mut notes = MemorySink::new(alloc, 1_048_576)?;
     notes.fail_at(0, 4)?;
-    let status = run(alloc, words.as_slice(), &mut held, &mut out, &mut notes);
-    assert_eq!(rt; status, 0);
+    assert_eq!(rt; tied(alloc, &mut out, &mut notes)?, 0);
     assert_eq!(rt; shown(&notes), "boar");
     assert!(rt; shown(&out).ends_with("agrees\n"));
+    Ok(())
+}
 
+#[test]
+fn files_that_cannot_be_taken(rt: HostRuntime) -> Result<(), Fail> {
+    let alloc = rt.alloc();
     // A missing file stops the taking.
     let mut missing = files(alloc, &[("m.json", &[BURIED]), ("l1.gbr", DISC)])?;
     let line = "boardnet: l2.gbr: cannot be read\n";
