@@ -10,15 +10,14 @@ use Rattle.board_shapes.proofs.BoardTables.{tables_are_one}
 use Rattle.board_shapes.specs.Laws.{HasOneTables}
 use Rattle.board_shapes.specs.Plain.{PlainBoard}
 use Rattle.board_shapes.specs.Tables.{IsTables}
-use Rattle.boardnet.specs.Answers.{Answers, IsNoText, IsRuled, IsRuledOn, line_of, status_of, unread_of}
+use Rattle.boardnet.specs.Answers.{Answers, IsNoText, IsRuled, IsRuledOn, IsUnruled, line_of, status_of}
 use Rattle.boardnet.specs.Lines.{file_line}
 use Rattle.boardnet.specs.Outcome.{AuditOutcome, ComesFor, HasRuling, IsAnswer, IsAuditStop, IsNoReport, IsTextOf, Refused}
 use Rattle.boardnet.specs.Words.{Audit}
 use Rattle.boardnet.specs.declared.answer.Answer.{Answer}
 use Rattle.boardnet.specs.declared.answer.Unanswered.{Unanswered}
+use Rattle.boardnet.specs.declared.answer.Unanswered.TheVariants.{Stopped, NotAReport, SizeTooLarge, GrownTooLarge, Mislabelled, Unflat}
 use Rattle.boardnet.specs.Ends.{Works}
-use Rattle.verdict.specs.declared.reading.ReadFault.{ReadFault}
-use Rattle.verdict.specs.declared.reading.ReadFault.TheVariants as read
 use Rattle.tables.specs.Tables.{Tables}
 use Rattle.verdict.specs.Laws.{ReportTextIsInjective}
 use Rattle.verdict.specs.declared.verdict.Verdict.{Verdict}
@@ -144,17 +143,19 @@ misread_by (Some files) manifest report board bytes text (is, held) e none = rec
   held = record { bytes = bytes; held = held; good = subst (λ (z : List ℕ). IsNoReport z) e none };
 }
 
--- a report that cannot be read is no answer
-pub unread_works : {P : Type 0} (files : P → Option Files) (faults : P → ℕ) (lost : P → List ℕ) (manifest report : List ℕ) (old new : P) (board : PlainBoard) (bytes text : List ℕ) (fault : ReadFault) (why : Unanswered) (result : Result Answer Unanswered)
+-- a report that is not ruled on has no answer
+pub unruled_works : {P : Type 0} (files : P → Option Files) (faults : P → ℕ) (lost : P → List ℕ) (manifest report : List ℕ) (old new : P) (board : PlainBoard) (bytes text : List ℕ) (why : Unanswered)
     → files new ≡ files old → faults old ≤ faults new → IsFaultless (faults old) (lost old) (faults new) (lost new)
-    → IfSome (files old) (λ f. IsBoardOf f manifest board × IsHeld f report bytes) → text ≡ bytes → (fault ≡ read.NotAReport → IsNoReport text) → why ≡ unread_of fault → result ≡ Err why
-    → Works files faults lost (Audit manifest report) old new result
-unread_works files faults lost manifest report old new board bytes text fault why result held later calm is e none gives same =
-    subst (Works files faults lost (Audit manifest report) old new) (sym (same ∙ ap Err gives)) (by fault none)
-  where
-    by : (fault : ReadFault) → (fault ≡ read.NotAReport → IsNoReport text) → Works files faults lost (Audit manifest report) old new (Err (unread_of fault))
-    by read.NotAReport none = record { held = held; later = later; calm = tt; left = calm; ok = tt; reason = misread_by (files old) manifest report board bytes text is e (none refl) }
-    by read.NoMemory none = record { held = held; later = later; calm = tt; left = tt; ok = tt; reason = tt }
+    → IfSome (files old) (λ f. IsBoardOf f manifest board × IsHeld f report bytes) → text ≡ bytes → IsUnruled text why
+    → Works files faults lost (Audit manifest report) old new (Err why)
+unruled_works files faults lost manifest report old new board bytes text NotAReport held later calm is e unruled =
+    record { held = held; later = later; calm = tt; left = calm; ok = tt; reason = misread_by (files old) manifest report board bytes text is e unruled }
+unruled_works files faults lost manifest report old new board bytes text (Stopped why) held later calm is e unruled =
+    subst (λ (w : BuildFault). Works files faults lost (Audit manifest report) old new (Err (Stopped w))) (sym unruled) (record { held = held; later = later; calm = tt; left = tt; ok = tt; reason = tt })
+unruled_works files faults lost manifest report old new board bytes text SizeTooLarge held later calm is e unruled = absurd unruled
+unruled_works files faults lost manifest report old new board bytes text (GrownTooLarge box) held later calm is e unruled = absurd unruled
+unruled_works files faults lost manifest report old new board bytes text (Mislabelled name command byte) held later calm is e unruled = absurd unruled
+unruled_works files faults lost manifest report old new board bytes text (Unflat kind command byte) held later calm is e unruled = absurd unruled
 
 -- the causes of the parts are causes of the audit
 pub package_cause : (held : Option Files) (manifest report : List ℕ) (before now : ℕ) (lost : List ℕ) (why : BuildFault)

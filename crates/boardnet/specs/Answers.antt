@@ -26,8 +26,6 @@ use Rattle.boardnet.specs.declared.answer.Note.TheVariants as note
 use Rattle.boardnet.specs.declared.answer.Unanswered.{Unanswered}
 use Rattle.boardnet.specs.declared.answer.Unanswered.TheVariants.{Stopped, NotAReport, SizeTooLarge, GrownTooLarge, Mislabelled, Unflat}
 use Rattle.tables.specs.Tables.{Tables}
-use Rattle.verdict.specs.declared.reading.ReadFault.{ReadFault}
-use Rattle.verdict.specs.declared.reading.ReadFault.TheVariants as read
 use Rattle.verdict.specs.declared.verdict.Verdict.{Verdict}
 use Rattle.witness_check.specs.Ruled.{Rules}
 use Rattle.witness_check.specs.declared.auditing.Ruling.{Ruling}
@@ -57,11 +55,13 @@ line_of note.NoGaps = plain_line (codes "no gaps")
 line_of (note.Gaps count) = counted_line (codes "gaps ") count
 line_of note.Flattened = plain_line (codes "flattened")
 
--- why there is no answer where a report is not read, or no board is made
-abbrev pub unread_of : ReadFault → Unanswered
-unread_of read.NotAReport = NotAReport
-unread_of read.NoMemory = Stopped fault.NoMemory
+-- why a report is not ruled on: it is the text of no verdict, or memory is wanted
+abbrev pub IsUnruled : List ℕ → Unanswered → Type 0
+IsUnruled bytes NotAReport = IsNoReport bytes
+IsUnruled bytes (Stopped why) = why ≡ fault.NoMemory
+IsUnruled bytes other = ⊥
 
+-- why there is no answer where no board is made
 abbrev pub unmade_of : MakeFault → Unanswered
 unmade_of made.SizeTooLarge = SizeTooLarge
 unmade_of made.NoMemory = Stopped fault.NoMemory

@@ -2,8 +2,8 @@
 use Rattle.std.specs.Prelude.{◌≤◌, ℕ, List, [], ◌∷◌, Option, codes, decimal}
 use Rattle.std.specs.Fmt.{signed_decimal}
 use Rattle.std.specs.List.{concat}
-use Rattle.board_io.specs.Causes.{Rose}
-use Rattle.board_io.specs.Sink.{Gains, GainsFrontOf}
+pub use Rattle.board_io.specs.Causes.{Rose}
+pub use Rattle.board_io.specs.Sink.{Gains, GainsFrontOf}
 use Rattle.contact.specs.declared.Bounds.{Bounds}
 
 -- A sink got a front of these bytes, and all of them where none of its faults rose. Its count of faults never falls.
@@ -25,18 +25,22 @@ plain_line what = concat (begin ∷ what ∷ end ∷ [])
 abbrev pub file_line : List ℕ → List ℕ → List ℕ
 file_line file what = concat (begin ∷ file ∷ codes ": " ∷ what ∷ end ∷ [])
 
--- a refusal of a file in a form: the number and the name of its kind, the command or the line, and its first byte
+-- a refusal of a file in a form: the number and the name of its kind, the command or the line, and what stands behind it
+abbrev pub kind_line : List ℕ → List ℕ → ℕ → List ℕ → List ℕ → ℕ → List ℕ → List ℕ → List ℕ
+kind_line file form number kind item place comma byte =
+    concat (begin ∷ file ∷ codes ": " ∷ form ∷ codes " " ∷ decimal number ∷ codes " " ∷ kind ∷ codes " at " ∷ item ∷ codes " " ∷ decimal place ∷ comma ∷ byte ∷ end ∷ [])
+
+-- a refusal with its first byte
 abbrev pub refused_line : List ℕ → List ℕ → ℕ → List ℕ → List ℕ → ℕ → ℕ → List ℕ
-refused_line file form number kind item place byte =
-    concat (begin ∷ file ∷ codes ": " ∷ form ∷ codes " " ∷ decimal number ∷ codes " " ∷ kind ∷ codes " at " ∷ item ∷ codes " " ∷ decimal place ∷ codes ", byte " ∷ decimal byte ∷ end ∷ [])
+refused_line file form number kind item place byte = kind_line file form number kind item place (codes ", byte ") (decimal byte)
+
+-- a refusal of a netlist has no byte
+abbrev pub netlist_line : List ℕ → List ℕ → ℕ → List ℕ → List ℕ → ℕ → List ℕ
+netlist_line file form number kind item place = kind_line file form number kind item place [] []
 
 -- a label of a copper file that is amiss: the command and its first byte
 abbrev pub label_line : List ℕ → ℕ → ℕ → List ℕ
 label_line file command byte = concat (begin ∷ file ∷ codes ": label at command " ∷ decimal command ∷ codes ", byte " ∷ decimal byte ∷ end ∷ [])
-
--- a refusal of a netlist has no byte
-abbrev pub netlist_line : List ℕ → List ℕ → ℕ → List ℕ → List ℕ → ℕ → List ℕ
-netlist_line file form number kind item place = concat (begin ∷ file ∷ codes ": " ∷ form ∷ codes " " ∷ decimal number ∷ codes " " ∷ kind ∷ codes " at " ∷ item ∷ codes " " ∷ decimal place ∷ end ∷ [])
 
 abbrev pub differs_line : ℕ → ℕ → ℕ → List ℕ
 differs_line opens shorts missing = concat (begin ∷ codes "differs, opens " ∷ decimal opens ∷ codes ", shorts " ∷ decimal shorts ∷ codes ", missing " ∷ decimal missing ∷ end ∷ [])

@@ -1,13 +1,15 @@
--- The outcomes of the commands.
+-- The outcomes of the commands. What is imported by `pub use` is passed on to the contracts that speak of outcomes.
 use Rattle.std.specs.Prelude.{◌≡◌, ◌<◌, ◌≤◌, ◌⊎◌, ◌↔◌, ℕ, ◌-◌, List, [], ◌∷◌, ◌++◌, length, Option, Some, IfSome, slice_get, codes, decimal}
 use Rattle.std.specs.List.{concat}
-use Rattle.board_io.specs.Package.{Files}
-use Rattle.board_maker.specs.MadePackage.{made_files}
-use Rattle.board_package.specs.LabelledBoard.{IsFirstLabelledStop, IsLabelledBoardOf, LabelledComes, LabelledStop, mislabelled, unbuilt}
-use Rattle.board_package.specs.PackageBoard.{Stop, absent, longer, not_json, bad_manifest, refused, frame_too_large, Comes, IsBoardOf, IsFirstStop, IsHeld, IsHeldWith, IsWithinLimits, StopsTaking}
+pub use Rattle.board_io.specs.Package.{Files}
+pub use Rattle.board_maker.specs.MadePackage.{made_files}
+pub use Rattle.board_package.specs.LabelledBoard.{IsLabelledBoardOf}
+use Rattle.board_package.specs.LabelledBoard.{IsFirstLabelledStop, LabelledComes, LabelledStop, mislabelled, unbuilt}
+pub use Rattle.board_package.specs.PackageBoard.{IsBoardOf, IsHeld}
+use Rattle.board_package.specs.PackageBoard.{Stop, absent, longer, not_json, bad_manifest, refused, frame_too_large, Comes, IsFirstStop, IsHeldWith, IsWithinLimits, StopsTaking}
 use Rattle.board_package.specs.declared.reading.Refusal.{Refusal}
 use Rattle.board_package.specs.declared.reading.Refusal.TheVariants.{Layer, Drill, Netlist}
-use Rattle.board_shapes.specs.Plain.{PlainBoard}
+pub use Rattle.board_shapes.specs.Plain.{Fits, PlainBoard, PlainPiece}
 use Rattle.board_shapes.specs.Tables.{IsTables}
 use Rattle.board_shapes.specs.Touching.{Joined}
 use Rattle.board_shapes.specs.declared.probe.Probe.{Probe}
@@ -16,6 +18,8 @@ use Rattle.boardnet.specs.Right.{IsOfVersion, IsRightOn}
 use Rattle.boardnet.specs.Lines.{counted_line, plain_line, file_line, netlist_line, frame_line, label_line, differs_line, refused_line, end}
 use Rattle.gerber_layer.specs.Kinds.{kind_number, kind_name}
 use Rattle.gerber_layer.specs.MacroKinds.{flatten_number, flatten_name}
+pub use Rattle.gaps.specs.GrownBox.{grown_common}
+pub use Rattle.gerber_layer.specs.MacroLayer.{IsReadWithMacros}
 use Rattle.gerber_layer.specs.MacroLayer.{IsRefusedWithMacros}
 use Rattle.gerber_layer.specs.declared.macro_kind.FlattenKind.{FlattenKind}
 use Rattle.macro_flatten.specs.Flattened.{IsFlattened, IsReadBack}

@@ -1,5 +1,10 @@
 // What a command answers, and why it has no answer.
+ghost use Rattle.board_package.specs.declared.fault.BuildFault.TheVariants as build;
+ghost use Rattle.boardnet.specs.Answers.{line_of, status_of, unflat_of, ungapped_of, unlabelled_of, unmade_of};
+ghost use Rattle.boardnet.specs.Gapped.{IsGapStatus};
 ghost use Rattle.boardnet.specs.Lines.{Says};
+ghost use Rattle.boardnet.specs.Outcome.{HasStatus};
+ghost use Rattle.boardnet.specs.declared.answer.Unanswered.TheVariants as unanswered;
 ghost use Rattle.std.specs.Prelude.{◌≡◌};
 
 use crate::lines;
@@ -10,7 +15,7 @@ use contact::Bounds;
 use gaps::GapFault;
 use gerber_layer::{FlattenFault, FlattenKind};
 use lengths::{NoMemory, Text};
-use verdict::{ReadFault, Verdict};
+use verdict::Verdict;
 
 /// What a command answers: the text for the output, and what the line about it says.
 #[derive(Drop)]
@@ -44,10 +49,6 @@ pub enum Note {
 }
 
 impl Note {
-    ghost use Rattle.boardnet.specs.Answers.{line_of, status_of};
-    ghost use Rattle.boardnet.specs.Gapped.{IsGapStatus};
-    ghost use Rattle.boardnet.specs.Outcome.{HasStatus};
-
     /// What the line about a report says.
     pub fn of(verdict: &Verdict) -> Note
         ensures { HasStatus verdict.now (status_of result) (line_of result) }
@@ -139,9 +140,10 @@ pub enum Unanswered {
     },
 }
 
-impl From<BuildFault> for Unanswered {
-    ghost use Rattle.boardnet.specs.declared.answer.Unanswered.TheVariants as unanswered;
+/// What a command comes to on the package: its answer, or why it has none.
+pub type Answered = Result<Answer, Unanswered>;
 
+impl From<BuildFault> for Unanswered {
     ghost from_gives = { λ fault u. u ≡ unanswered.Stopped fault };
 
     fn from(fault: BuildFault) -> Unanswered {
@@ -150,8 +152,6 @@ impl From<BuildFault> for Unanswered {
 }
 
 impl From<LabelledFault> for Unanswered {
-    ghost use Rattle.boardnet.specs.Answers.{unlabelled_of};
-
     ghost from_gives = { λ fault u. u ≡ unlabelled_of fault };
 
     fn from(fault: LabelledFault) -> Unanswered {
@@ -165,32 +165,14 @@ impl From<LabelledFault> for Unanswered {
 }
 
 impl From<NoMemory> for Unanswered {
-    ghost use Rattle.board_package.specs.declared.fault.BuildFault.TheVariants as fault;
-    ghost use Rattle.boardnet.specs.declared.answer.Unanswered.TheVariants as unanswered;
-
-    ghost from_gives = { λ _ u. u ≡ unanswered.Stopped fault.NoMemory };
+    ghost from_gives = { λ _ u. u ≡ unanswered.Stopped build.NoMemory };
 
     fn from(_: NoMemory) -> Unanswered {
         Unanswered::Stopped(BuildFault::NoMemory)
     }
 }
 
-impl From<ReadFault> for Unanswered {
-    ghost use Rattle.boardnet.specs.Answers.{unread_of};
-
-    ghost from_gives = { λ fault u. u ≡ unread_of fault };
-
-    fn from(fault: ReadFault) -> Unanswered {
-        match fault {
-            ReadFault::NotAReport => Unanswered::NotAReport,
-            ReadFault::NoMemory => Unanswered::Stopped(BuildFault::NoMemory),
-        }
-    }
-}
-
 impl From<MakeFault> for Unanswered {
-    ghost use Rattle.boardnet.specs.Answers.{unmade_of};
-
     ghost from_gives = { λ fault u. u ≡ unmade_of fault };
 
     fn from(fault: MakeFault) -> Unanswered {
@@ -202,8 +184,6 @@ impl From<MakeFault> for Unanswered {
 }
 
 impl From<GapFault> for Unanswered {
-    ghost use Rattle.boardnet.specs.Answers.{ungapped_of};
-
     ghost from_gives = { λ fault u. u ≡ ungapped_of fault };
 
     fn from(fault: GapFault) -> Unanswered {
@@ -215,8 +195,6 @@ impl From<GapFault> for Unanswered {
 }
 
 impl From<FlattenFault> for Unanswered {
-    ghost use Rattle.boardnet.specs.Answers.{unflat_of};
-
     ghost from_gives = { λ fault u. u ≡ unflat_of fault };
 
     fn from(fault: FlattenFault) -> Unanswered {

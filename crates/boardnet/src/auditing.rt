@@ -1,17 +1,15 @@
 // The command `audit`.
 ghost use Rattle.board_io.specs.Package.{IsFaultless};
 ghost use Rattle.board_package.specs.Causes.{HasCause, KeepsFaults};
-ghost use Rattle.board_package.specs.PackageBoard.{IsBoardOf, IsHeld};
 ghost use Rattle.board_shapes.specs.Laws.{HasOneTables};
 ghost use Rattle.board_shapes.specs.Plain.{plain_board};
-ghost use Rattle.boardnet.specs.Answers.{Answers, IsRuledOn};
+ghost use Rattle.boardnet.specs.Answers.{Answers, IsRuledOn, IsUnruled};
 ghost use Rattle.boardnet.specs.Ends.{Works};
-ghost use Rattle.boardnet.specs.Outcome.{ComesFor, IsAuditStop, IsNoReport};
-ghost use Rattle.boardnet.specs.Words.{Audit};
-ghost use Rattle.lengths.specs.Text.{IsText};
+ghost use Rattle.boardnet.specs.Outcome.{ComesFor, IsAuditStop, IsBoardOf, IsHeld};
+ghost use Rattle.boardnet.specs.Words.{Audit, IsText};
 ghost use Rattle.std.specs.Prelude.{IfErr, IfOk, IfSome, ◌≡◌, ◌≤◌};
 
-use crate::answer::{Answer, Note, Unanswered};
+use crate::answer::{Answer, Answered, Note, Unanswered};
 use crate::judged::board_of;
 use crate::putting::joined;
 use crate::refusing::name_of;
@@ -25,12 +23,7 @@ use verdict::{ReadFault, read_report};
 use witness_check::{Ruling, audit};
 
 // The ruling on a report on the package of a manifest.
-pub fn ruling<P: Package>(
-    alloc: Global,
-    manifest: &str,
-    report: &str,
-    package: &mut P,
-) -> Result<Answer, Unanswered>
+pub fn ruling<P: Package>(alloc: Global, manifest: &str, report: &str, package: &mut P) -> Answered
     requires manifest { IsText manifest.now }
     requires report { IsText report.now }
     ensures { Works P.held P.faults P.lost (Audit manifest.now report.now) «package».old «package».new result }
@@ -94,16 +87,16 @@ fn taken<P: Package>(
 }
 
 // The ruling on the verdict whose text this is. The calls of laws do nothing when the program runs.
-fn ruling_on(alloc: Global, board: &Board, text: &[u8]) -> Result<Ruling, ReadFault>
+fn ruling_on(alloc: Global, board: &Board, text: &[u8]) -> Result<Ruling, Unanswered>
     ensures one { HasOneTables (plain_board board.now) }
     ensures ok { IfOk result (λ ruling. IsRuledOn (plain_board board.now) text.now ruling) }
-    ensures fault { IfErr result (λ why. why ≡ ReadFault.NotAReport → IsNoReport text.now) }
+    ensures fault { IfErr result (IsUnruled text.now) }
 {
     shapes::boards_are_lawful();
     shapes::tables_are_unique();
-    let verdict = read_report(alloc, text)?;
-    match audit(alloc, board, &verdict) {
-        Ok(ruling) => Ok(ruling),
-        Err(NoMemory) => Err(ReadFault::NoMemory),
+    match read_report(alloc, text) {
+        Ok(verdict) => Ok(audit(alloc, board, &verdict)?),
+        Err(ReadFault::NotAReport) => Err(Unanswered::NotAReport),
+        Err(ReadFault::NoMemory) => Err(Unanswered::Stopped(BuildFault::NoMemory)),
     }
 }

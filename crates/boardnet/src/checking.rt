@@ -1,9 +1,8 @@
 // The command `check`.
 ghost use Rattle.boardnet.specs.Ends.{Works};
-ghost use Rattle.boardnet.specs.Words.{Check};
-ghost use Rattle.lengths.specs.Text.{IsText};
+ghost use Rattle.boardnet.specs.Words.{Check, IsText};
 
-use crate::answer::{Answer, Note, Unanswered};
+use crate::answer::{Answer, Answered, Note};
 use crate::judged::{board_of, verdict_in};
 use crate::words::Version;
 use board_io::Package;
@@ -16,7 +15,7 @@ pub fn report<P: Package>(
     version: Version,
     manifest: &str,
     package: &mut P,
-) -> Result<Answer, Unanswered>
+) -> Answered
     requires { IsText manifest.now }
     ensures { Works P.held P.faults P.lost (Check version manifest.now) «package».old «package».new result }
 {

@@ -5,7 +5,7 @@ ghost use Rattle.boardnet.specs.Ends.{HasNames, Works};
 ghost use Rattle.boardnet.specs.Words.{Flatten, Trial, Write};
 ghost use Rattle.std.specs.Prelude.{IfOk, List, ℕ, ◌≡◌, ◌⊎◌};
 
-use crate::answer::{Answer, Unanswered};
+use crate::answer::Answered;
 use crate::auditing::ruling;
 use crate::checking::report;
 use crate::flattening::flat_text;
@@ -18,11 +18,7 @@ use board_io::Package;
 use std::alloc::Global;
 
 // The answer to a command, or why it has none.
-pub fn answer_to<P: Package>(
-    alloc: Global,
-    command: Command,
-    package: &mut P,
-) -> Result<Answer, Unanswered>
+pub fn answer_to<P: Package>(alloc: Global, command: Command, package: &mut P) -> Answered
     requires { HasNames (asked command) }
     ensures works { Works P.held P.faults P.lost (asked command.entry) «package».old «package».new result }
     ensures untouched { (seed size : ℕ) → asked command.entry ≡ Trial seed size → «package».new ≡ «package».old }

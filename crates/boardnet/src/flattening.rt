@@ -1,11 +1,10 @@
 // The command `flatten`.
 ghost use Rattle.boardnet.specs.Answers.{status_of};
 ghost use Rattle.boardnet.specs.Ends.{Works};
-ghost use Rattle.boardnet.specs.Words.{Flatten};
-ghost use Rattle.lengths.specs.Text.{IsText};
+ghost use Rattle.boardnet.specs.Words.{Flatten, IsText};
 ghost use Rattle.std.specs.Prelude.{IfOk, ◌≡◌};
 
-use crate::answer::{Answer, Note, Unanswered};
+use crate::answer::{Answer, Answered, Note};
 use crate::refusing::name_of;
 use board_io::Package;
 use board_package::take_file;
@@ -13,11 +12,7 @@ use macro_flatten::flatten;
 use std::alloc::Global;
 
 // The text of the image of a copper file.
-pub fn flat_text<P: Package>(
-    alloc: Global,
-    file: &str,
-    package: &mut P,
-) -> Result<Answer, Unanswered>
+pub fn flat_text<P: Package>(alloc: Global, file: &str, package: &mut P) -> Answered
     requires { IsText file.now }
     ensures works { Works P.held P.faults P.lost (Flatten file.now) «package».old «package».new result }
     ensures unjudged { IfOk result (λ answer. status_of answer.note ≡ 0) }

@@ -3,11 +3,10 @@ ghost use Rattle.board_shapes.specs.Plain.{plain_board};
 ghost use Rattle.boardnet.specs.Answers.{IsUngapped, line_of, status_of};
 ghost use Rattle.boardnet.specs.Ends.{Works};
 ghost use Rattle.boardnet.specs.Gapped.{IsGapListOn};
-ghost use Rattle.boardnet.specs.Words.{Gaps};
-ghost use Rattle.lengths.specs.Text.{IsText};
+ghost use Rattle.boardnet.specs.Words.{Gaps, IsText};
 ghost use Rattle.std.specs.Prelude.{IfErr, IfOk, ◌≤◌};
 
-use crate::answer::{Answer, Note, Unanswered};
+use crate::answer::{Answer, Answered, Note};
 use crate::judged::{board_of, verdict_on};
 use board_io::Package;
 use board_shapes::Board;
@@ -20,7 +19,7 @@ pub fn gap_list<P: Package>(
     manifest: &str,
     nanometres: u32,
     package: &mut P,
-) -> Result<Answer, Unanswered>
+) -> Answered
     requires text { IsText manifest.now }
     requires most { nanometres ≤ 10_000_000 }
     ensures { Works P.held P.faults P.lost (Gaps manifest.now nanometres) «package».old «package».new result }

@@ -3,11 +3,10 @@ ghost use Rattle.board_shapes.specs.Plain.{plain_board};
 ghost use Rattle.boardnet.specs.Answers.{line_of, status_of};
 ghost use Rattle.boardnet.specs.Ends.{Works};
 ghost use Rattle.boardnet.specs.Labelled.{IsReportOn};
-ghost use Rattle.boardnet.specs.Words.{X2};
-ghost use Rattle.lengths.specs.Text.{IsText};
+ghost use Rattle.boardnet.specs.Words.{IsText, X2};
 ghost use Rattle.std.specs.Prelude.{IfOk};
 
-use crate::answer::{Answer, Note, Unanswered};
+use crate::answer::{Answer, Answered, Note};
 use crate::judged::verdict_in;
 use crate::refusing::name_of;
 use crate::words::Version;
@@ -19,11 +18,7 @@ use std::alloc::Global;
 use verdict::write_report;
 
 // The report on the package of a manifest by the net names in its copper files.
-pub fn labelled_report<P: Package>(
-    alloc: Global,
-    manifest: &str,
-    package: &mut P,
-) -> Result<Answer, Unanswered>
+pub fn labelled_report<P: Package>(alloc: Global, manifest: &str, package: &mut P) -> Answered
     requires { IsText manifest.now }
     ensures { Works P.held P.faults P.lost (X2 manifest.now) «package».old «package».new result }
 {

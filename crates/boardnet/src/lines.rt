@@ -1,5 +1,5 @@
 // The line to the notes, put in pieces and without memory.
-ghost use Rattle.boardnet.specs.Lines.{Says, counted_line, differs_line, file_line, frame_line, label_line, netlist_line, plain_line, refused_line};
+ghost use Rattle.boardnet.specs.Lines.{Says, counted_line, differs_line, file_line, frame_line, kind_line, label_line, netlist_line, plain_line, refused_line};
 ghost use Rattle.std.specs.List.{flat_map};
 
 use board_io::{Put, Sink};
@@ -73,6 +73,28 @@ pub struct Kind<'a> {
 pub fn refused<N: Sink>(notes: &mut N, file: &[u8], kind: Kind, item: u32, byte: usize)
     ensures { Says N.got N.faults notes.old notes.new (refused_line file.now kind.entry.form.now kind.entry.number kind.entry.name.now kind.entry.item.now item byte) }
 {
+    let byte = Numeral::of(byte as u64);
+    put_kind(notes, file, kind, item, b", byte ", byte.as_bytes());
+}
+
+/// Puts the line of a refusal of a file at an item alone, as a netlist has it.
+pub fn netlist_refused<N: Sink>(notes: &mut N, file: &[u8], kind: Kind, item: u32)
+    ensures { Says N.got N.faults notes.old notes.new (netlist_line file.now kind.entry.form.now kind.entry.number kind.entry.name.now kind.entry.item.now item) }
+{
+    put_kind(notes, file, kind, item, b"", b"");
+}
+
+// Puts the line of a refusal of a file at an item, and what stands behind it in the line.
+fn put_kind<'a, N: Sink>(
+    notes: &mut N,
+    file: &'a [u8],
+    kind: Kind<'a>,
+    item: u32,
+    comma: &'a [u8],
+    byte: &'a [u8],
+)
+    ensures { Says N.got N.faults notes.old notes.new (kind_line file.now kind.entry.form.now kind.entry.number kind.entry.name.now kind.entry.item.now item comma.now byte.now) }
+{
     put_all(
         notes,
         &[
@@ -88,8 +110,8 @@ pub fn refused<N: Sink>(notes: &mut N, file: &[u8], kind: Kind, item: u32, byte:
             kind.item.as_bytes(),
             b" ",
             Numeral::of(u64::from(item)).as_bytes(),
-            b", byte ",
-            Numeral::of(byte as u64).as_bytes(),
+            comma,
+            byte,
             b"\n",
         ],
     );
@@ -108,30 +130,6 @@ pub fn mislabelled<N: Sink>(notes: &mut N, file: &[u8], command: u32, byte: usiz
             Numeral::of(u64::from(command)).as_bytes(),
             b", byte ",
             Numeral::of(byte as u64).as_bytes(),
-            b"\n",
-        ],
-    );
-}
-
-/// Puts the line of a refusal of a file at an item alone, as a netlist has it.
-pub fn netlist_refused<N: Sink>(notes: &mut N, file: &[u8], kind: Kind, item: u32)
-    ensures { Says N.got N.faults notes.old notes.new (netlist_line file.now kind.entry.form.now kind.entry.number kind.entry.name.now kind.entry.item.now item) }
-{
-    put_all(
-        notes,
-        &[
-            b"boardnet: ",
-            file,
-            b": ",
-            kind.form.as_bytes(),
-            b" ",
-            Numeral::of(u64::from(kind.number)).as_bytes(),
-            b" ",
-            kind.name.as_bytes(),
-            b" at ",
-            kind.item.as_bytes(),
-            b" ",
-            Numeral::of(u64::from(item)).as_bytes(),
             b"\n",
         ],
     );

@@ -1,14 +1,12 @@
 // What is put for a command: its text to the output in one piece, and a line to the notes.
-ghost use Rattle.board_io.specs.Causes.{Rose};
-ghost use Rattle.board_io.specs.Sink.{Gains, GainsFrontOf};
 ghost use Rattle.boardnet.specs.Answers.{RefusesFor};
 ghost use Rattle.boardnet.specs.Asked.{asked};
 ghost use Rattle.boardnet.specs.Ends.{Puts};
-ghost use Rattle.boardnet.specs.Lines.{Says, plain_line};
+ghost use Rattle.boardnet.specs.Lines.{Gains, GainsFrontOf, Rose, Says, plain_line};
 ghost use Rattle.std.specs.List.{flat_map};
 ghost use Rattle.std.specs.Prelude.{IfOk, MatchResult, codes, false, true, ◌≡◌, ◌≤◌};
 
-use crate::answer::{Answer, Unanswered};
+use crate::answer::Answered;
 use crate::lines;
 use crate::refusing::refuse;
 use crate::words::Command;
@@ -19,7 +17,7 @@ use std::alloc::Global;
 // Puts the answer to a command and the line about it, or the line that says why there is none, and answers the status.
 pub fn conclude<S: Sink, N: Sink>(
     command: Command,
-    given: Result<Answer, Unanswered>,
+    given: Answered,
     out: &mut S,
     notes: &mut N,
 ) -> u8

@@ -1,21 +1,10 @@
 // The top call.
-ghost use Rattle.board_io.specs.Causes.{Rose};
-ghost use Rattle.board_io.specs.Sink.{Gains, GainsFrontOf};
-ghost use Rattle.board_maker.specs.MadePackage.{made_files};
-ghost use Rattle.board_package.specs.LabelledBoard.{IsLabelledBoardOf};
-ghost use Rattle.board_package.specs.PackageBoard.{IsBoardOf, IsHeld};
-ghost use Rattle.board_shapes.specs.Pieces.{PlainPiece};
-ghost use Rattle.gerber_layer.specs.MacroLayer.{IsReadWithMacros};
-ghost use Rattle.board_shapes.specs.CommonBox.{Fits};
-ghost use Rattle.board_shapes.specs.Plain.{PlainBoard};
-ghost use Rattle.gaps.specs.GrownBox.{grown_common};
 ghost use Rattle.boardnet.specs.Asked.{asked};
 ghost use Rattle.boardnet.specs.Ends.{Ends, HasNames};
 ghost use Rattle.boardnet.specs.Kept.{Keeps};
-ghost use Rattle.boardnet.specs.Lines.{Says, file_line, plain_line};
-ghost use Rattle.boardnet.specs.Outcome.{ComesFor, IsAnswer, IsFlatText, IsGapped, IsLabelledReport, IsReport, IsTrialReport, IsWritten, OfFilesRead, OutcomeOf, Refused, Told, made_manifest};
-ghost use Rattle.boardnet.specs.declared.words.Version.{Version};
-ghost use Rattle.boardnet.specs.Words.{Asks, Command as Asked, IsAudit, IsCheck, IsFlatten, IsGaps, IsTrial, IsUnderstood, IsWrite, IsX2, Trial, Write, Flatten};
+ghost use Rattle.boardnet.specs.Lines.{Gains, GainsFrontOf, Rose, Says, file_line, plain_line};
+ghost use Rattle.boardnet.specs.Outcome.{ComesFor, Fits, IsAnswer, IsBoardOf, IsFlatText, IsGapped, IsHeld, IsLabelledBoardOf, IsLabelledReport, IsReadWithMacros, IsReport, IsTrialReport, IsWritten, OfFilesRead, OutcomeOf, PlainBoard, PlainPiece, Refused, Told, grown_common, made_files, made_manifest};
+ghost use Rattle.boardnet.specs.Words.{Asks, Command as Asked, IsAudit, IsCheck, IsFlatten, IsGaps, IsTrial, IsUnderstood, IsWrite, IsX2, Trial, Version, Write, Flatten};
 ghost use Rattle.std.specs.Prelude.{IfSome, List, codes, pos, ℕ, ◌*◌, ◌↔◌, ◌≡◌, ◌≢◌, ◌≤◌, ◌⊎◌};
 
 use crate::commands::answer_to;

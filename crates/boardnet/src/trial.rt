@@ -1,17 +1,13 @@
 // The command `trial`.
-ghost use Rattle.board_io.specs.Package.{Files};
-ghost use Rattle.board_maker.specs.MadePackage.{made_files};
-ghost use Rattle.board_package.specs.PackageBoard.{IsBoardOf};
-ghost use Rattle.board_shapes.specs.Plain.{PlainBoard};
 ghost use Rattle.boardnet.specs.Answers.{line_of, status_of};
 ghost use Rattle.boardnet.specs.Ends.{HasReason};
-ghost use Rattle.boardnet.specs.Outcome.{IsTrialReport, made_manifest, summary_text};
+ghost use Rattle.boardnet.specs.Outcome.{Files, IsBoardOf, IsTrialReport, PlainBoard, made_files, made_manifest, summary_text};
 ghost use Rattle.boardnet.specs.Right.{IsRightOn};
 ghost use Rattle.boardnet.specs.Trials.{IsUnlost};
 ghost use Rattle.boardnet.specs.Words.{Trial};
 ghost use Rattle.std.specs.Prelude.{IfErr, IfOk, List, Option, ℕ, ◌≡◌, ◌≤◌};
 
-use crate::answer::{Answer, Note, Unanswered};
+use crate::answer::{Answer, Answered, Note, Unanswered};
 use crate::judged::{board_of, verdict_on};
 use crate::putting::joined;
 use crate::words::MADE_MANIFEST;
@@ -23,7 +19,7 @@ use texts::Numeral;
 use verdict::Verdict;
 
 // The summary of a check of the made board of a seed and a size.
-pub fn summary(alloc: Global, seed: u64, size: u32) -> Result<Answer, Unanswered>
+pub fn summary(alloc: Global, seed: u64, size: u32) -> Answered
     ensures ok { IfOk result (λ answer. IsTrialReport seed size answer.text.items (status_of answer.note) (line_of answer.note)) }
     ensures reason { IfErr result (λ why. (held : Option Files) (before now : ℕ) (lost : List ℕ) → HasReason (Trial seed size) held before now lost why) }
 {

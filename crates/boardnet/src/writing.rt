@@ -2,12 +2,11 @@
 ghost use Rattle.board_shapes.specs.Plain.{plain_board};
 ghost use Rattle.boardnet.specs.Answers.{status_of};
 ghost use Rattle.boardnet.specs.Ends.{Works};
-ghost use Rattle.boardnet.specs.Words.{Write};
+ghost use Rattle.boardnet.specs.Words.{IsText, Write};
 ghost use Rattle.boardnet.specs.Written.{IsNetlistOn};
-ghost use Rattle.lengths.specs.Text.{IsText};
 ghost use Rattle.std.specs.Prelude.{IfOk, ◌≡◌};
 
-use crate::answer::{Answer, Note, Unanswered};
+use crate::answer::{Answer, Answered, Note};
 use crate::judged::{board_of, verdict_on};
 use board_io::Package;
 use board_shapes::Board;
@@ -16,11 +15,7 @@ use netlist_writer::write_netlist;
 use std::alloc::Global;
 
 // The netlist of the package of a manifest.
-pub fn netlist<P: Package>(
-    alloc: Global,
-    manifest: &str,
-    package: &mut P,
-) -> Result<Answer, Unanswered>
+pub fn netlist<P: Package>(alloc: Global, manifest: &str, package: &mut P) -> Answered
     requires { IsText manifest.now }
     ensures works { Works P.held P.faults P.lost (Write manifest.now) «package».old «package».new result }
     ensures unjudged { IfOk result (λ answer. status_of answer.note ≡ 0) }

@@ -1,15 +1,18 @@
+use Rattle.std.proofs.Common.{◌∙◌, ap, subst, sym, Err}
 use Rattle.std.proofs.lemmas.Result.{err_from_is_err_and}
 use Rattle.board_shapes.specs.Plain.{plain_board}
-use Rattle.boardnet.proofs.Audits.{answered_by, ruled_by, unread_works}
+use Rattle.boardnet.proofs.Audits.{answered_by, ruled_by, unruled_works}
 use Rattle.boardnet.proofs.Working.{answered}
+use Rattle.boardnet.specs.Ends.{Works}
 use Rattle.boardnet.specs.Words.{Audit}
 use Rattle.boardnet.proofs.auditing.ruling.Goals as goal
 
 pub returns-in_err-ruling : goal.returns-in_err-ruling
 returns-in_err-ruling g c =
     let p = err_from_is_err_and c.from_residual-in_err-ruling.result c.from_residual-in_err-ruling.ensures.1 in
-    unread_works g.P.Package.held g.P.Package.faults g.P.Package.lost c.args.manifest.now c.args.report.now c.args.package.now c.taken.new.package (plain_board c.in_ok-board.board) c.taken.new.file.items c.as_slice.result.now c.in_err-ruling.field-0.0 p.0 c.from_residual-in_err-ruling.result
-    c.taken.ensures.held c.taken.ensures.later c.in_ok-board.ensures.calm c.in_ok-board.ensures.ok c.as_slice.ensures.value c.in_err-ruling.ensures.fault p.2 p.1
+    subst (Works g.P.Package.held g.P.Package.faults g.P.Package.lost (Audit c.args.manifest.now c.args.report.now) c.args.package.now c.taken.new.package) (sym (p.1 ∙ ap Err p.2))
+    (unruled_works g.P.Package.held g.P.Package.faults g.P.Package.lost c.args.manifest.now c.args.report.now c.args.package.now c.taken.new.package (plain_board c.in_ok-board.board) c.taken.new.file.items c.as_slice.result.now c.in_err-ruling.field-0.0
+    c.taken.ensures.held c.taken.ensures.later c.in_ok-board.ensures.calm c.in_ok-board.ensures.ok c.as_slice.ensures.value c.in_err-ruling.ensures.fault)
 
 pub returns : goal.returns
 returns g c =
