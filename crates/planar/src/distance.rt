@@ -1,4 +1,5 @@
 //! Whether points of segments are at most a radius apart.
+ghost use Rattle.planar.specs.Framed.{AreFramed, IsFramed};
 ghost use Rattle.planar.specs.Plane.{AnEnd, InCapsule, IsInFrame, IsPlaced, IsRadius, IsWithin, Share, at, dot_of, square};
 ghost use Rattle.planar.specs.declared.TheConstants.{MOST_REACH};
 ghost use Rattle.std.specs.Prelude.{IsTrue, pos, ◌*ℤ◌, ◌≤ℤ◌, ◌↔◌, ◌⊎◌};
@@ -45,12 +46,8 @@ fn line_within(off: i128, whole: i128, r: u64) -> bool
 
 /// Whether `p` is at most `r` from some place on the segment from `a` to `b`.
 fn spot_within(a: Spot, b: Spot, p: Spot, r: u64, frame: Frame) -> bool
-    requires a_placed { IsPlaced a }
-    requires b_placed { IsPlaced b }
-    requires p_placed { IsPlaced p }
-    requires a_in_frame { IsInFrame frame a }
-    requires b_in_frame { IsInFrame frame b }
-    requires p_in_frame { IsInFrame frame p }
+    requires segment { AreFramed frame a b }
+    requires spot { IsFramed frame p }
     requires radius { pos r ≤ℤ MOST_REACH }
     ensures { IsTrue result ↔ InCapsule a b (pos r) (at p) }
 {
@@ -66,14 +63,8 @@ fn spot_within(a: Spot, b: Spot, p: Spot, r: u64, frame: Frame) -> bool
 
 /// Whether an end of the segment from `a` to `b` is at most `r` from the segment from `c` to `d`.
 fn end_within(a: Spot, b: Spot, c: Spot, d: Spot, r: u64, frame: Frame) -> bool
-    requires a_placed { IsPlaced a }
-    requires b_placed { IsPlaced b }
-    requires c_placed { IsPlaced c }
-    requires d_placed { IsPlaced d }
-    requires a_in_frame { IsInFrame frame a }
-    requires b_in_frame { IsInFrame frame b }
-    requires c_in_frame { IsInFrame frame c }
-    requires d_in_frame { IsInFrame frame d }
+    requires first { AreFramed frame a b }
+    requires second { AreFramed frame c d }
     requires radius { pos r ≤ℤ MOST_REACH }
     ensures { IsTrue result ↔ AnEnd a b c d (pos r) }
 {
@@ -83,14 +74,8 @@ fn end_within(a: Spot, b: Spot, c: Spot, d: Spot, r: u64, frame: Frame) -> bool
 /// Whether an end of one of the segments from `a` to `b` and from `c` to `d` is at most `r` from the
 /// other.
 fn ends_within(a: Spot, b: Spot, c: Spot, d: Spot, r: u64, frame: Frame) -> bool
-    requires a_placed { IsPlaced a }
-    requires b_placed { IsPlaced b }
-    requires c_placed { IsPlaced c }
-    requires d_placed { IsPlaced d }
-    requires a_in_frame { IsInFrame frame a }
-    requires b_in_frame { IsInFrame frame b }
-    requires c_in_frame { IsInFrame frame c }
-    requires d_in_frame { IsInFrame frame d }
+    requires first { AreFramed frame a b }
+    requires second { AreFramed frame c d }
     requires radius { pos r ≤ℤ MOST_REACH }
     ensures { IsTrue result ↔ (AnEnd a b c d (pos r) ⊎ AnEnd c d a b (pos r)) }
 {
