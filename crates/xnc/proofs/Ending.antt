@@ -342,28 +342,26 @@ no_comment from to text =
     (neither (is (field (drop 22 text)) (codes "Plated")) _ _ (neither (names_span from to (further (drop 22 text))) _ _ refl refl) refl)))
     refl
 
-ends_body : (text : List ℕ) → is_end (body_line text) ≡ true → is text (codes "M30") ≡ true
+no_body_line : (text : List ℕ) → is_end (body_line text) ≡ false
 unfolding body_line
-ends_body text h =
-    code_of_end (is text (codes "M30")) _ (no_place_line text)
-    (past (is text (codes "M16")) _ _ refl
-    (past (is text (codes "M15")) _ _ refl
-    (past (begins text (codes "G01")) _ _ (no_straight _)
-    (past (begins text (codes "G00")) _ _ (no_routs _)
-    (past (is text (codes "G05")) _ _ refl
-    (past (begins text (codes "G02") || begins text (codes "G03")) _ _ refl h))))))
+no_body_line text =
+    neither (begins text (codes "G02") || begins text (codes "G03")) _ _ refl
+    (neither (is text (codes "G05")) _ _ refl
+    (neither (begins text (codes "G00")) _ _ (no_routs _)
+    (neither (begins text (codes "G01")) _ _ (no_straight _)
+    (neither (is text (codes "M15")) _ _ refl
+    (neither (is text (codes "M16")) _ _ refl (no_place_line text))))))
 
 ends_command : (text : List ℕ) → is_end (command text) ≡ true → is text (codes "M30") ≡ true
 unfolding command
 ends_command text h =
-    ends_body text
-    (past (begins text (codes "T")) _ _ (no_tool_line (drop 1 text))
+    code_of_end (is text (codes "M30")) _ (neither (begins text (codes "T")) _ _ (no_tool_line (drop 1 text)) (no_body_line text))
     (past (is text (codes "%")) _ _ refl
     (past (is_inch text) _ _ refl
     (past (is_metric text) _ _ refl
     (past (is text (codes "G90")) _ _ refl
     (past (is text (codes "FMAT,2")) _ _ refl
-    (past (is text (codes "M48")) _ _ refl h)))))))
+    (past (is text (codes "M48")) _ _ refl h))))))
 
 ends_within : (from to : ℕ) (text : List ℕ) → is_end (within_blanks from to text) ≡ true → text ≡ codes "M30"
 unfolding within_blanks

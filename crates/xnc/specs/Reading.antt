@@ -133,8 +133,7 @@ body_line text =
     else (if begins text (codes "G01") then straight (coordinates_of (drop 3 text))
     else (if is text (codes "M15") then form.Lower
     else (if is text (codes "M16") then form.Raise
-    else (if is text (codes "M30") then form.End
-    else place_line text))))))
+    else place_line text)))))
 
 -- a line that is not empty and no comment
 unfoldable pub command : List ℕ → Form
@@ -145,8 +144,9 @@ command text =
     else (if is_metric text then form.Unit Mm
     else (if is_inch text then form.Unit Inch
     else (if is text (codes "%") then form.HeaderEnd
+    else (if is text (codes "M30") then form.End
     else (if begins text (codes "T") then tool_line (drop 1 text)
-    else body_line text))))))
+    else body_line text)))))))
 
 unfoldable pub within_blanks : ℕ → ℕ → List ℕ → Form
 within_blanks from to [] = form.Blank

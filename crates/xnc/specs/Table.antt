@@ -1,5 +1,5 @@
 -- What a line does, or its fault, by what is known before it.
-use Rattle.std.specs.Prelude.{ℕ, ◌/◌, Bool, true, false, ◌||◌, not, ◌==◌, nat_le, nat_lt, if◌then◌else◌, ℤ, pos, unsigned_abs, Option, Some, None, is_some, is_none, Result, Ok, Err}
+use Rattle.std.specs.Prelude.{ℕ, ◌/◌, Bool, true, false, ◌||◌, not, ◌==◌, nat_le, nat_lt, ℤ, pos, unsigned_abs, Option, Some, None, is_some, is_none, Result, Ok, Err}
 use Rattle.contact.specs.declared.TheConstants.{MOST_DIAMETER}
 use Rattle.planar.specs.declared.Spot.{Spot}
 use Rattle.lengths.specs.Decimal.{Fraction, chosen}

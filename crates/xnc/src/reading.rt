@@ -266,9 +266,6 @@ fn body_line(text: &[u8]) -> Form
     if is(text, b"M16") {
         return Form::Raise;
     }
-    if is(text, b"M30") {
-        return Form::End;
-    }
     place_line(text)
 }
 
@@ -293,6 +290,9 @@ fn command(text: &[u8]) -> Form
     }
     if is(text, b"%") {
         return Form::HeaderEnd;
+    }
+    if is(text, b"M30") {
+        return Form::End;
     }
     if begins(text, b"T") {
         return tool_line(&text[1..]);
