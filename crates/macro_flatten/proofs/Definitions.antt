@@ -12,7 +12,8 @@ use Rattle.lengths.proofs.GridLemmas.{Sizes-is}
 use Rattle.lengths.specs.Decimal.{unsigned, has_minus, is_point, front, back, is_decimal, fraction}
 use Rattle.lengths.specs.Grid.{size_of}
 use Rattle.lengths.specs.declared.decimal.Unit.TheVariants.{Mm}
-use Rattle.texts.specs.Digits.{is_decimal_digit, last_digits}
+use Rattle.texts.specs.Digits.{is_decimal_digit}
+use Rattle.texts.specs.LastDigits.{last_digits}
 use Rattle.apertures.specs.Reading.{is_x, is_empty, size_at, circle_at, diameter_at, solid_by, numbered_at, aperture_at}
 use Rattle.apertures.specs.declared.aperture.Aperture.TheVariants.{Circle}
 use Rattle.gerber_words.specs.Attributes.{attribute_kind}

@@ -8,7 +8,8 @@ use Rattle.std.specs.Prelude.{decimal}
 use borrow.Author.Tests.{ltb-true, le-leb}
 use Rattle.planar.specs.declared.Spot.{Spot}
 use Rattle.board_shapes.specs.declared.probe.Probe.{Probe}
-use Rattle.texts.specs.Digits.{is_decimal_digit, last_digits}
+use Rattle.texts.specs.Digits.{is_decimal_digit}
+use Rattle.texts.specs.LastDigits.{last_digits}
 use Rattle.texts.specs.Lines.{lines_of}
 use Rattle.file_reading.specs.Reading.{Item, said}
 use Rattle.ipc356_records.specs.Line.{Form, finishes}

@@ -11,7 +11,8 @@ use Rattle.std.specs.List.{list_all, suffix_len}
 use Rattle.std.specs.Prelude.{codes, decimal}
 use Rattle.std.specs.Str.Parse.{digits_value}
 use Rattle.planar.specs.declared.Spot.{Spot}
-use Rattle.texts.specs.Digits.{is_decimal_digit, last_digits}
+use Rattle.texts.specs.Digits.{is_decimal_digit}
+use Rattle.texts.specs.LastDigits.{last_digits}
 use Rattle.texts.specs.Blanks.{is_blank, trimmed, without_front, without_back}
 use Rattle.ipc356_records.specs.declared.line.Coordinate.{Coordinate}
 use Rattle.ipc356_records.specs.Columns.{laid, filled, part, column, columns, name_from, name_to, access_at, x_at, y_at}

@@ -7,7 +7,8 @@ use Rattle.std.specs.Char.{digit_value}
 use Rattle.std.specs.List.{list_all}
 use Rattle.std.specs.Str.Parse.{digits_value_after}
 use borrow.Author.Tests.{lt-ltb}
-use Rattle.texts.specs.Digits.{is_decimal_digit, last_digits}
+use Rattle.texts.specs.Digits.{is_decimal_digit}
+use Rattle.texts.specs.LastDigits.{last_digits}
 
 -- a digit's value
 pub digit_value_at : (d : ℕ) → d < 10 → digit_value (48 + d) ≡ d

@@ -1,7 +1,7 @@
 //! Bytes and whole numbers, put behind a text. Where memory is wanted, the answer is std's own error.
 ghost use Rattle.std.specs.Fmt.{decimal, signed_decimal};
 ghost use Rattle.std.specs.Prelude.{◌≡◌, ◌∷◌, ◌++◌, OnOk};
-ghost use Rattle.texts.specs.Digits.{last_digits};
+ghost use Rattle.texts.specs.LastDigits.{last_digits};
 
 use crate::numerals::Numeral;
 use std::alloc::AllocError;

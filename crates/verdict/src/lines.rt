@@ -17,17 +17,20 @@ use texts::{Numeral, after, before, has, put, put_blank_number, put_number, put_
 
 // What stands behind a blank as often as there are some, up to the end of a line.
 pub trait Word: Drop {
+    // What reading gives.
     ghost at: { List ℕ → Option (Self × List ℕ) };
 
+    // What is written.
     ghost text: { Self → List ℕ };
 
+    // Its numbers and names are in the ranges of their types.
     ghost is_lawful: { Self → Type 0 };
 
     // What stands in front, and the bytes behind it.
     fn read(bytes: &[u8]) -> Result<(Self, &[u8]), ReadFault>
         ensures { spec.Gives (λ x. (x.0, x.1.now)) result (at bytes.now) };
 
-    // Its text behind others. Whoever writes it learns that its numbers and names are in range.
+    // Puts its text behind others. Whoever does learns that the item is lawful.
     fn write(&self, out: &mut Vec<u8>) -> Result<(), AllocError>
         ensures written { OnOk result (out.new.items ≡ out.old.items ++ text self.now) }
         ensures lawful { OnOk result (is_lawful self.now) };
@@ -35,17 +38,20 @@ pub trait Word: Drop {
 
 // What a counted list of a report has, on lines of its own.
 pub trait Line: Drop {
+    // What reading gives.
     ghost at: { ℕ → List ℕ → Option (Self × List ℕ) };
 
+    // What is written.
     ghost text: { ℕ → Self → List ℕ };
 
+    // Its numbers and names are in the ranges of their types.
     ghost is_lawful: { Self → Type 0 };
 
     // What stands in front as the item of this number, and the bytes behind it.
     fn read(alloc: Global, number: u64, bytes: &[u8]) -> Result<(Self, &[u8]), ReadFault>
         ensures { spec.Gives (λ x. (x.0, x.1.now)) result (at number bytes.now) };
 
-    // Its text behind others. Whoever writes it learns that its numbers and names are in range.
+    // Puts its text behind others. Whoever does learns that the item is lawful.
     fn write(&self, number: u64, out: &mut Vec<u8>) -> Result<(), AllocError>
         ensures written { OnOk result (out.new.items ≡ out.old.items ++ text number self.now) }
         ensures lawful { OnOk result (is_lawful self.now) };
