@@ -1,9 +1,10 @@
 -- What an outline's points say of the first and the last.
-use Rattle.std.proofs.Common.{◌≡◌, ℕ, ◌+◌, suc, zero, Bool, true, false, ◌&&◌, cond, List, [], ◌∷◌, ◌++◌, length, length-append, map, Option, Some, Result, Ok, Err, ℤ, pos, negsuc, refl, sym, ap, subst, ◌∙◌, arith}
+use Rattle.std.proofs.Common.{◌≡◌, ℕ, ◌+◌, suc, zero, Bool, true, false, ◌&&◌, cond, List, [], ◌∷◌, ◌++◌, length, length-append, map, Some, Result, Ok, Err, ℤ, refl, sym, ap, subst, ◌∙◌, arith}
 use Rattle.std.proofs.lemmas.Bool.Decides.{Decides-int_eq}
 use Rattle.std.specs.Ordering.{int_eq}
 use Rattle.std.proofs.lemmas.List.{length-map, map-append}
 use Rattle.std.specs.List.{list_all}
+use Rattle.planar.specs.Plane.{is_placed}
 use Rattle.planar.specs.declared.Spot.{Spot}
 use Rattle.board_shapes.specs.Figures.{filled}
 use Rattle.area_contact.specs.Contour.{IsClosed, end_from}
@@ -13,7 +14,7 @@ use Rattle.aperture_macros.specs.declared.fault.MacroFault.{MacroFault}
 use Rattle.aperture_macros.specs.declared.fault.MacroFault.TheVariants.{BadMacro, OutOfRange}
 use Rattle.aperture_macros.specs.BodyWord.{◌>>=◌, past}
 use Rattle.aperture_macros.specs.Values.{point_at}
-use Rattle.aperture_macros.specs.Images.{area_at, is_closed, is_done, is_placed, judged_by, outlined, set_down, outline_at, points_from, same_spot}
+use Rattle.aperture_macros.specs.Images.{area_at, is_closed, is_done, judged_by, outlined, set_down, outline_at, points_from, same_spot}
 use Rattle.aperture_macros.specs.Outlines.{closing_at, last_from, moved_from}
 use Rattle.aperture_macros.specs.Seen.{IsRefusal, Makes}
 use Rattle.aperture_macros.specs.declared.primitive.Form.TheVariants.{Outline}

@@ -1,5 +1,5 @@
 -- The turns of loops, over plain variables.
-use Rattle.std.proofs.Common.{◌≡◌, ℕ, ◌-◌, ◌<◌, suc, zero, Bool, true, false, ◌&&◌, ◌||◌, List, [], ◌∷◌, ◌++◌, refl, Result, Ok, Err, ℤ, ◌+ℤ◌, cond, ◌∙◌, arith, take, drop}
+use Rattle.std.proofs.Common.{◌≡◌, ℕ, ◌-◌, ◌<◌, suc, zero, true, false, List, [], ◌∷◌, ◌++◌, refl, Ok, Err, ℤ, ◌+ℤ◌, arith}
 use Rattle.std.specs.List.{after_first, before_first}
 use Rattle.aperture_macros.specs.Expression.{further_terms, first_term, is_empty, is_expression, is_sum, is_term}
 use Rattle.planar.specs.declared.Spot.{Spot}

@@ -4,7 +4,7 @@ use Rattle.std.proofs.lemmas.Int.{ints}
 use Rattle.planar.specs.Plane.{IsPlaced, IsReached, IsWithin}
 use Rattle.planar.specs.declared.Spot.{Spot}
 use Rattle.aperture_macros.specs.Images.{set_down}
-use Rattle.aperture_macros.specs.Sketches.{IsReachable}
+use Rattle.board_shapes.specs.Rectangles.{IsReachable}
 use Rattle.aperture_macros.specs.declared.primitive.Rotation.TheVariants.{Unturned, Quarter, Half, ThreeQuarters}
 
 plus_read : (a b : ℤ) → IsReached a → IsWithin 20_000_000_000 b → to_z w64 (of_z w64 (to_z w64 (of_z w64 a) +ℤ to_z w64 (of_z w64 b))) ≡ a +ℤ b

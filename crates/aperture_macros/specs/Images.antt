@@ -1,10 +1,12 @@
 -- The figures of primitives: about the origin of the macro, and where they are flashed.
-use Rattle.std.specs.Prelude.{◌≡◌, ℕ, zero, suc, ◌+◌, ◌/◌, Bool, true, false, ◌&&◌, ◌||◌, ◌==◌, nat_le, if◌then◌else◌, List, [], ◌∷◌, ◌++◌, map, ℤ, pos, ◌+ℤ◌, ◌-ℤ◌, neg_ℤ, unsigned_abs, int_lt, Option, Some, None, Result, Ok, Err}
+use Rattle.std.specs.Prelude.{◌≡◌, ℕ, zero, suc, ◌+◌, Bool, true, false, ◌&&◌, ◌||◌, ◌==◌, if◌then◌else◌, List, [], ◌∷◌, ◌++◌, map, ◌+ℤ◌, neg_ℤ, int_lt, Option, Some, None, Result, Ok, Err}
 use Rattle.std.specs.List.{list_all}
 use Rattle.std.specs.Ordering.{int_eq}
+use Rattle.planar.specs.Plane.{is_placed}
 use Rattle.planar.specs.declared.Spot.{Spot}
 use Rattle.area_contact.specs.Contour.{end_from}
 use Rattle.board_shapes.specs.Figures.{Figure, filled, round}
+use Rattle.board_shapes.specs.Rectangles.{halved, lower, rectangle, upper}
 use Rattle.lengths.specs.Decimal.{Fraction}
 use Rattle.lengths.specs.declared.decimal.Unit.{Unit as Measure}
 use Rattle.aperture_macros.specs.declared.primitive.Form.{Form}
@@ -28,39 +30,29 @@ circle_at text parameters unit =
     diameter_at (part 0 text) parameters unit >>= λ d. point_at (past 1 text) parameters unit >>= λ p.
     Ok (if d == 0 then None else Some (Disc p d))
 
-abbrev pub halved : ℕ → ℤ
-halved n = pos (n / 2)
+-- the rectangle from a lower left spot to an upper right one, with so much more, by halves
+abbrev pub between : Spot → Spot → ℕ → ℕ → Sketch
+between p q w h = Rectangle (lower p w h) (upper q w h)
 
--- a spot so far to the left and below, or to the right and above, by halves
-abbrev pub lower : Spot → ℕ → ℕ → Spot
-lower p w h = record { x = p.x -ℤ halved w; y = p.y -ℤ halved h }
+-- the one end of a line along an axis is to the left of the other, or below it
+abbrev pub is_first : Spot → Spot → Bool
+is_first p q = int_lt p.x q.x || int_lt p.y q.y
 
-abbrev pub upper : Spot → ℕ → ℕ → Spot
-upper p w h = record { x = p.x +ℤ halved w; y = p.y +ℤ halved h }
-
--- the lesser, or the greater, of both coordinates
-abbrev pub least : Spot → Spot → Spot
-least p q = record { x = if int_lt p.x q.x then p.x else q.x; y = if int_lt p.y q.y then p.y else q.y }
-
-abbrev pub greatest : Spot → Spot → Spot
-greatest p q = record { x = if int_lt p.x q.x then q.x else p.x; y = if int_lt p.y q.y then q.y else p.y }
-
--- a line that stands, or lies, between its ends, with half its width to each side
-abbrev pub upright : ℕ → Spot → Spot → Option Sketch
-upright w p q = if w == 0 || int_eq p.y q.y then None else Some (Rectangle (lower (least p q) w 0) (upper (greatest p q) w 0))
-
-abbrev pub lying : ℕ → Spot → Spot → Option Sketch
-lying w p q = if w == 0 || int_eq p.x q.x then None else Some (Rectangle (lower (least p q) 0 w) (upper (greatest p q) 0 w))
+-- what a line along an axis is between its ends, with half its width, across or up, to each side
+abbrev pub strip : ℕ → Spot → Spot → ℕ → ℕ → Option Sketch
+strip w p q across up =
+    if w == 0 || same_spot p q then None
+    else (if is_first p q then Some (between p q across up) else Some (between q p across up))
 
 -- `w,x,y,x,y`: a vector line has flat ends (code 20); it runs along an axis. None with width or length 0.
 unfoldable pub line_at : List ℕ → List Fraction → Measure → Result (Option Sketch) MacroFault
 line_at text parameters unit =
     size_at (part 0 text) parameters unit >>= λ w. point_at (past 1 text) parameters unit >>= λ p. point_at (past 3 text) parameters unit >>= λ q.
-    if int_eq p.x q.x then Ok (upright w p q) else (if int_eq p.y q.y then Ok (lying w p q) else Err Slanted)
+    if int_eq p.x q.x then Ok (strip w p q w 0) else (if int_eq p.y q.y then Ok (strip w p q 0 w) else Err Slanted)
 
 -- so far to each side of a point, by halves
 abbrev pub centred : ℕ → ℕ → Spot → Option Sketch
-centred w h p = if w == 0 || h == 0 then None else Some (Rectangle (lower p w h) (upper p w h))
+centred w h p = if w == 0 || h == 0 then None else Some (between p p w h)
 
 -- `w,h,x,y`: a centre line (code 21) is a rectangle about its point; none with width or height 0
 unfoldable pub centre_at : List ℕ → List Fraction → Measure → Result (Option Sketch) MacroFault
@@ -110,10 +102,6 @@ turned ThreeQuarters p = record { x = p.y; y = neg_ℤ p.x }
 abbrev pub set_down : Rotation → Spot → Spot → Spot
 set_down rotation at p = record { x = at.x +ℤ (turned rotation p).x; y = at.y +ℤ (turned rotation p).y }
 
--- the spot is at most 1 m from 0 in x and y
-abbrev pub is_placed : Spot → Bool
-is_placed p = nat_le (unsigned_abs p.x) 10000000000 && nat_le (unsigned_abs p.y) 10000000000
-
 -- the figure where all its ends or corners are placed
 abbrev pub disc_at : Spot → ℕ → Result (Option Figure) MacroFault
 disc_at p d = if is_placed p then Ok (Some (round (record { a = p; b = p; r = halved d }))) else Err OutOfRange
@@ -121,14 +109,10 @@ disc_at p d = if is_placed p then Ok (Some (round (record { a = p; b = p; r = ha
 abbrev pub area_at : List Spot → Result (Option Figure) MacroFault
 area_at points = if list_all is_placed points then Ok (Some (filled points)) else Err OutOfRange
 
--- lower left, lower right, upper right, upper left, and lower left again
-abbrev pub corners : Spot → Spot → List Spot
-corners low high = low ∷ record { x = high.x; y = low.y } ∷ high ∷ record { x = low.x; y = high.y } ∷ low ∷ []
-
 unfoldable pub sketch_at : Rotation → Spot → Option Sketch → Result (Option Figure) MacroFault
 sketch_at rotation at None = Ok None
 sketch_at rotation at (Some (Disc p d)) = disc_at (set_down rotation at p) d
-sketch_at rotation at (Some (Rectangle low high)) = area_at (map (set_down rotation at) (corners low high))
+sketch_at rotation at (Some (Rectangle low high)) = area_at (map (set_down rotation at) (rectangle low high))
 
 -- what is left of a figure, or of the points of an outline, where it is set down
 abbrev pub sketched : Rotation → Spot → Result (Option Sketch) MacroFault → Result (Option Figure) MacroFault

@@ -1,24 +1,19 @@
 -- What the lengths of a primitive are, in u.
 use Rattle.std.specs.Prelude.{ℕ, zero, suc, ◌-◌, ◌%◌, Bool, ◌==◌, nat_lt, not, if◌then◌else◌, List, ℤ, pos, ◌+ℤ◌, neg_ℤ, unsigned_abs, int_lt, slice_get, Option, Some, None, Result, Ok, Err}
 use Rattle.planar.specs.declared.Spot.{Spot}
-use Rattle.lengths.specs.Decimal.{Fraction, fraction, has_minus, is_decimal, unsigned}
+use Rattle.lengths.specs.Decimal.{Fraction, chosen, fraction, has_minus, is_decimal, unsigned}
 use Rattle.lengths.specs.Grid.{position_of}
 use Rattle.lengths.specs.declared.decimal.Unit.{Unit as Measure}
 use Rattle.lengths.specs.declared.decimal.GridFault.{GridFault}
-use Rattle.lengths.specs.declared.decimal.GridFault.TheVariants as grid
 use Rattle.aperture_macros.specs.declared.fault.MacroFault.{MacroFault}
 use Rattle.aperture_macros.specs.declared.fault.MacroFault.TheVariants.{BadMacro, OffGrid, OutOfRange}
 use Rattle.aperture_macros.specs.Expression.{is_empty, variable_number, first_term, further_terms}
-use Rattle.aperture_macros.specs.BodyWord.{◌>>=◌, part, past}
+use Rattle.aperture_macros.specs.BodyWord.{◌>>=◌, part}
 
 -- how a position that is none is refused
-abbrev pub fault_of : GridFault → MacroFault
-fault_of grid.OffGrid = OffGrid
-fault_of grid.OutOfRange = OutOfRange
-
 abbrev pub as_fault : Result ℤ GridFault → Result ℤ MacroFault
 as_fault (Ok u) = Ok u
-as_fault (Err fault) = Err (fault_of fault)
+as_fault (Err fault) = Err (chosen fault OffGrid OutOfRange)
 
 -- the position that a decimal is, with a minus before it or not
 abbrev pub signed_by : Bool → ℤ → ℤ

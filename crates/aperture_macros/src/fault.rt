@@ -1,5 +1,4 @@
 // What is refused.
-use lengths::GridFault;
 use thiserror::Error;
 
 /// Why a word of a macro's body, or a primitive with its parameters, is refused.
@@ -24,20 +23,6 @@ pub enum MacroFault {
     /// A vector line is not along an axis.
     #[error("a slanted line")]
     Slanted = 6,
-}
-
-impl From<GridFault> for MacroFault {
-    ghost use Rattle.std.specs.Prelude.{◌≡◌};
-    ghost use Rattle.aperture_macros.specs.Values.{fault_of};
-
-    ghost from_gives = { λ fault e. e ≡ fault_of fault };
-
-    fn from(fault: GridFault) -> MacroFault {
-        match fault {
-            GridFault::OffGrid => MacroFault::OffGrid,
-            GridFault::OutOfRange => MacroFault::OutOfRange,
-        }
-    }
 }
 
 /// Why a primitive gives no shape.

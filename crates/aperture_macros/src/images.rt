@@ -1,13 +1,14 @@
 // Figures about the origin of the macro, before they are turned.
-ghost use Rattle.std.specs.Prelude.{◌≡◌, ◌≤◌, ◌^◌, IfOk, Some};
+ghost use Rattle.std.specs.Prelude.{◌≡◌, ◌≤◌, IfOk, Some};
 ghost use Rattle.planar.specs.Plane.{IsPlaced};
+ghost use Rattle.planar.specs.declared.TheConstants.{METRE};
 ghost use Rattle.aperture_macros.specs.Images as spec;
-ghost use Rattle.aperture_macros.specs.Sketches.{IsNear, IsReachable};
-ghost use Rattle.aperture_macros.specs.declared.images.Sketch.TheVariants.{Rectangle};
+ghost use Rattle.aperture_macros.specs.Sketches.{IsNear};
 
 use crate::fault::MacroFault;
 use crate::reading::{part, past};
 use crate::values::{diameter, point, size};
+use board_shapes::widened;
 use lengths::{Decimal, Unit};
 use planar::Spot;
 
@@ -44,9 +45,9 @@ pub fn line(text: &[u8], parameters: &[Decimal], unit: Unit) -> Result<Option<Sk
     let p = point(past(1, text), parameters, unit)?;
     let q = point(past(3, text), parameters, unit)?;
     if p.x == q.x {
-        Ok(upright(w, p, q))
+        Ok(strip(w, p, q, w, 0))
     } else if p.y == q.y {
-        Ok(lying(w, p, q))
+        Ok(strip(w, p, q, 0, w))
     } else {
         Err(MacroFault::Slanted)
     }
@@ -68,126 +69,62 @@ pub fn centre_line(
     Ok(centred(w, h, p))
 }
 
-// Half a size.
-fn half(n: u64) -> i64
-    requires { n ≤ 10 ^ 10 }
-    ensures { result ≡ spec.halved n }
+/// Whether the spots are one.
+pub fn same(p: Spot, q: Spot) -> bool
+    ensures { result ≡ spec.same_spot p q }
 {
-    (n / 2) as i64
+    p.x == q.x && p.y == q.y
 }
 
-// The spot so far to the left and below, by halves.
-fn lower(p: Spot, w: u64, h: u64) -> Spot
-    requires width { w ≤ 10 ^ 10 }
-    requires height { h ≤ 10 ^ 10 }
-    requires placed { IsPlaced p }
-    ensures value { result ≡ spec.lower p w h }
-    ensures near { IsReachable result }
+// Whether the one end of a line along an axis is to the left of the other, or below it.
+fn is_first(p: Spot, q: Spot) -> bool
+    ensures { result ≡ spec.is_first p q }
 {
-    let across = half(w);
-    let up = half(h);
-    Spot {
-        x: p.x - across,
-        y: p.y - up,
-    }
+    p.x < q.x || p.y < q.y
 }
 
-// The spot so far to the right and above, by halves.
-fn upper(p: Spot, w: u64, h: u64) -> Spot
-    requires width { w ≤ 10 ^ 10 }
-    requires height { h ≤ 10 ^ 10 }
-    requires placed { IsPlaced p }
-    ensures value { result ≡ spec.upper p w h }
-    ensures near { IsReachable result }
-{
-    let across = half(w);
-    let up = half(h);
-    Spot {
-        x: p.x + across,
-        y: p.y + up,
-    }
-}
-
-// The rectangle from so far to the left of and below the one spot to so far to the right of and above
-// the other.
-fn widened(p: Spot, q: Spot, w: u64, h: u64) -> Sketch
-    requires width { w ≤ 10 ^ 10 }
-    requires height { h ≤ 10 ^ 10 }
+// What a line along an axis is between its ends: half its width, across or up, is to each side.
+fn strip(w: u64, p: Spot, q: Spot, across: u64, up: u64) -> Option<Sketch>
+    requires across { across ≤ METRE }
+    requires up { up ≤ METRE }
     requires start { IsPlaced p }
     requires end { IsPlaced q }
-    ensures value { result ≡ Rectangle (spec.lower p w h) (spec.upper q w h) }
-    ensures near { IsNear (Some result) }
-{
-    let low = lower(p, w, h);
-    let high = upper(q, w, h);
-    Sketch::Rectangle(low, high)
-}
-
-// The lesser of both coordinates.
-fn least(p: Spot, q: Spot) -> Spot
-    requires start { IsPlaced p }
-    requires end { IsPlaced q }
-    ensures value { result ≡ spec.least p q }
-    ensures placed { IsPlaced result }
-{
-    Spot {
-        x: if p.x < q.x { p.x } else { q.x },
-        y: if p.y < q.y { p.y } else { q.y },
-    }
-}
-
-// The greater of both coordinates.
-fn greatest(p: Spot, q: Spot) -> Spot
-    requires start { IsPlaced p }
-    requires end { IsPlaced q }
-    ensures value { result ≡ spec.greatest p q }
-    ensures placed { IsPlaced result }
-{
-    Spot {
-        x: if p.x < q.x { q.x } else { p.x },
-        y: if p.y < q.y { q.y } else { p.y },
-    }
-}
-
-fn upright(w: u64, p: Spot, q: Spot) -> Option<Sketch>
-    requires size { w ≤ 10 ^ 10 }
-    requires start { IsPlaced p }
-    requires end { IsPlaced q }
-    ensures value { result ≡ spec.upright w p q }
+    ensures value { result ≡ spec.strip w p q across up }
     ensures near { IsNear result }
 {
-    if w == 0 || p.y == q.y {
+    if w == 0 || same(p, q) {
         return None;
     }
-    let low = least(p, q);
-    let high = greatest(p, q);
-    Some(widened(low, high, w, 0))
-}
-
-fn lying(w: u64, p: Spot, q: Spot) -> Option<Sketch>
-    requires size { w ≤ 10 ^ 10 }
-    requires start { IsPlaced p }
-    requires end { IsPlaced q }
-    ensures value { result ≡ spec.lying w p q }
-    ensures near { IsNear result }
-{
-    if w == 0 || p.x == q.x {
-        return None;
+    if is_first(p, q) {
+        Some(between(p, q, across, up))
+    } else {
+        Some(between(q, p, across, up))
     }
-    let low = least(p, q);
-    let high = greatest(p, q);
-    Some(widened(low, high, 0, w))
 }
 
 fn centred(w: u64, h: u64, p: Spot) -> Option<Sketch>
-    requires width { w ≤ 10 ^ 10 }
-    requires height { h ≤ 10 ^ 10 }
+    requires width { w ≤ METRE }
+    requires height { h ≤ METRE }
     requires placed { IsPlaced p }
     ensures value { result ≡ spec.centred w h p }
     ensures near { IsNear result }
 {
     if w == 0 || h == 0 {
-        return None;
+        None
+    } else {
+        Some(between(p, p, w, h))
     }
-    Some(widened(p, p, w, h))
+}
+
+// The rectangle from a lower left spot to an upper right one, with so much more, by halves.
+fn between(p: Spot, q: Spot, w: u64, h: u64) -> Sketch
+    requires width { w ≤ METRE }
+    requires height { h ≤ METRE }
+    requires start { IsPlaced p }
+    requires end { IsPlaced q }
+    ensures value { result ≡ spec.between p q w h }
+    ensures near { IsNear (Some result) }
+{
+    let (low, high) = widened(p, q, w, h);
+    Sketch::Rectangle(low, high)
 }

@@ -11,6 +11,8 @@
 //! - `reading`: how a body word is read.
 //! - `values`: what lengths are with parameters.
 //! - `images`: figures about the origin of the macro.
+//! - `placing`: where a figure is set down.
+//! - `outline`: the areas of outlines.
 //! - `figure`: figures where they are flashed.
 #![tactic(auto)]
 
@@ -18,6 +20,8 @@ mod expression;
 pub mod fault;
 mod figure;
 pub mod images;
+mod outline;
+mod placing;
 pub mod primitive;
 pub mod reading;
 mod values;

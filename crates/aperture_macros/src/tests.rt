@@ -1,11 +1,8 @@
 // Body words as they are read, and what primitives flash.
-ghost use Rattle.std.specs.Prelude.{IsTrue};
-ghost use Rattle.planar.specs.Plane.{IsPlaced};
-
 use super::*;
 use board_shapes::Shape;
 use lengths::{Decimal, Unit, read_decimal};
-use planar::Spot;
+use planar::{Spot, is_placed};
 use std::alloc::{AllocError, Global};
 use std::fmt::Write;
 use std::test::Fail;
@@ -349,12 +346,6 @@ fn shown(alloc: Global, shape: &Shape) -> Result<String, AllocError> {
         },
     }
     Ok(line)
-}
-
-fn is_placed(at: Spot) -> bool
-    ensures { IsTrue result → IsPlaced at }
-{
-    at.x.unsigned_abs() <= 10_000_000_000 && at.y.unsigned_abs() <= 10_000_000_000
 }
 
 // The parameters that a text has, cut at `X`; none for no text.

@@ -17,8 +17,10 @@ fn position(decimal: &Decimal, unit: Unit) -> Result<i64, MacroFault>
     ensures value { result ≡ spec.as_fault (position_of decimal.now unit) }
     ensures reached { IfOk result IsReached }
 {
-    let len = decimal.position(unit)?;
-    Ok(len.u())
+    match decimal.position(unit) {
+        Ok(len) => Ok(len.u()),
+        Err(fault) => Err(fault.choose(MacroFault::OffGrid, MacroFault::OutOfRange)),
+    }
 }
 
 // What the k-th parameter is, which count from 1: 0 where there is none.

@@ -1,11 +1,13 @@
 -- What an aperture flashes.
-use Rattle.std.specs.Prelude.{◌≡◌, ℕ, Bool, true, false, ◌&&◌, ◌==◌, ◌%◌, ◌/◌, ◌-◌, min, nat_le, nat_lt, if◌then◌else◌, List, [], ◌∷◌, ℤ, pos, ◌+ℤ◌, ◌≤◌, ◌≤ℤ◌, neg_ℤ, unsigned_abs, Option, Some, None, Result, Ok, Err}
+use Rattle.std.specs.Prelude.{◌≡◌, ℕ, Bool, true, false, ◌&&◌, ◌==◌, ◌%◌, ◌/◌, ◌-◌, min, nat_lt, if◌then◌else◌, ℤ, pos, ◌≤◌, ◌≤ℤ◌, unsigned_abs, Option, Some, None, Result, Ok, Err}
 use Rattle.std.specs.List.{list_all}
 use Rattle.contact.specs.declared.TheConstants.{MOST_DIAMETER}
+use Rattle.planar.specs.Plane.{is_placed}
 use Rattle.planar.specs.declared.Spot.{Spot}
 use Rattle.planar.specs.declared.TheConstants.{METRE}
 use Rattle.board_shapes.specs.declared.shape.Shape.{Shape}
 use Rattle.board_shapes.specs.Plain.{Figure, Stroke, filled, figure_of, round}
+use Rattle.board_shapes.specs.Rectangles.{lower, rectangle, upper}
 use Rattle.apertures.specs.declared.aperture.Aperture.{Aperture}
 use Rattle.apertures.specs.declared.aperture.Aperture.TheVariants.{Circle, Rectangle, Obround}
 use Rattle.apertures.specs.declared.fault.FlashFault.{FlashFault}
@@ -40,22 +42,6 @@ pen_of (Circle d) = Some d
 pen_of (Rectangle x y) = None
 pen_of (Obround x y) = None
 
--- the spot is at most 1 m from 0 in x and y
-abbrev pub is_placed : Spot → Bool
-is_placed p = nat_le (unsigned_abs p.x) METRE && nat_le (unsigned_abs p.y) METRE
-
--- the spot so far to the right
-abbrev pub across : Spot → ℤ → Spot
-across p by' = record { x = p.x +ℤ by'; y = p.y }
-
--- the spot so far up
-abbrev pub up : Spot → ℤ → Spot
-up p by' = record { x = p.x; y = p.y +ℤ by' }
-
--- so far back, to the left or down, or so far on
-abbrev pub way : Bool → ℕ → ℤ
-way back by' = if back then neg_ℤ (pos by') else pos by'
-
 -- half a size
 abbrev pub half : ℤ → ℤ
 half z = pos (unsigned_abs z / 2)
@@ -64,47 +50,42 @@ half z = pos (unsigned_abs z / 2)
 abbrev pub disc : ℕ → Spot → Option Figure
 disc d at = if d == 0 then None else Some (round (record { a = at; b = at; r = pos (d / 2) }))
 
--- lower left, lower right, upper right, upper left, and lower left again, so far from the middle
-unfoldable pub corners : ℕ → ℕ → Spot → List Spot
-corners x y at =
-    across (up at (way true y)) (way true x)
-    ∷ across (up at (way true y)) (way false x)
-    ∷ across (up at (way false y)) (way false x)
-    ∷ across (up at (way false y)) (way true x)
-    ∷ across (up at (way true y)) (way true x)
-    ∷ []
+-- why there is no flash: an end or a corner is over 1 m from 0
+pub data NoFlash : Type 0 where
+  leaves : NoFlash
 
 -- the area of four corners, each within 1 m
-abbrev pub rectangle : ℕ → ℕ → Spot → Result (Option Figure) FlashFault
-rectangle x y at = if list_all is_placed (corners (x / 2) (y / 2) at) then Ok (Some (filled (corners (x / 2) (y / 2) at))) else Err OutOfRange
+abbrev pub rectangle_at : ℕ → ℕ → Spot → Result (Option Figure) NoFlash
+rectangle_at x y at = if list_all is_placed (rectangle (lower at x y) (upper at x y)) then Ok (Some (filled (rectangle (lower at x y) (upper at x y)))) else Err leaves
 
 -- a capsule with both ends within 1 m
-abbrev pub placed : Stroke → Result (Option Figure) FlashFault
-placed s = if is_placed s.a && is_placed s.b then Ok (Some (round s)) else Err OutOfRange
+abbrev pub placed : Stroke → Result (Option Figure) NoFlash
+placed s = if is_placed s.a && is_placed s.b then Ok (Some (round s)) else Err leaves
 
 -- With x over y its segment lies across, of length x - y, and the radius is y/2; otherwise it stands, of length y - x, with x/2.
-abbrev pub obround : ℕ → ℕ → Spot → Result (Option Figure) FlashFault
+abbrev pub obround : ℕ → ℕ → Spot → Result (Option Figure) NoFlash
 obround x y at =
-    if nat_lt y x then placed (record { a = across at (way true ((x - y) / 2)); b = across at (way false ((x - y) / 2)); r = pos (y / 2) })
-    else placed (record { a = up at (way true ((y - x) / 2)); b = up at (way false ((y - x) / 2)); r = pos (x / 2) })
+    if nat_lt y x then placed (record { a = lower at (x - y) 0; b = upper at (x - y) 0; r = pos (y / 2) })
+    else placed (record { a = lower at 0 (y - x); b = upper at 0 (y - x); r = pos (x / 2) })
 
 -- what the aperture makes at a spot (Gerber Layer Format Specification, 4.4)
-unfoldable pub flash_of : Aperture → Spot → Result (Option Figure) FlashFault
+unfoldable pub flash_of : Aperture → Spot → Result (Option Figure) NoFlash
 flash_of (Circle d) at = Ok (disc (unsigned_abs d) at)
-flash_of (Rectangle x y) at = rectangle (unsigned_abs x) (unsigned_abs y) at
+flash_of (Rectangle x y) at = rectangle_at (unsigned_abs x) (unsigned_abs y) at
 flash_of (Obround x y) at = obround (unsigned_abs x) (unsigned_abs y) at
 
 abbrev pub seen_shape : Option Shape → Option Figure
 seen_shape None = None
 seen_shape (Some shape) = Some (figure_of shape)
 
--- the answer with its shape as plain data
-abbrev pub seen : Result (Option Shape) FlashFault → Result (Option Figure) FlashFault
-seen (Ok shape) = Ok (seen_shape shape)
-seen (Err e) = Err e
+-- the answer is the flash
+abbrev pub IsFlash : Result (Option Shape) FlashFault → Result (Option Figure) NoFlash → Type 0
+IsFlash (Ok shape) flash = Ok (seen_shape shape) ≡ flash
+IsFlash (Err OutOfRange) flash = Err leaves ≡ flash
+IsFlash (Err NoMemory) flash = ⊥
 
 -- the answer is the flash, unless memory is wanted
-abbrev pub Flashes : Result (Option Shape) FlashFault → Result (Option Figure) FlashFault → Type 0
+abbrev pub Flashes : Result (Option Shape) FlashFault → Result (Option Figure) NoFlash → Type 0
 Flashes (Ok shape) flash = Ok (seen_shape shape) ≡ flash
-Flashes (Err OutOfRange) flash = Err OutOfRange ≡ flash
+Flashes (Err OutOfRange) flash = Err leaves ≡ flash
 Flashes (Err NoMemory) flash = Unit {0}

@@ -1,11 +1,8 @@
 // Apertures as they are read, and what they flash.
-ghost use Rattle.std.specs.Prelude.{IsTrue};
-ghost use Rattle.planar.specs.Plane.{IsPlaced};
-
 use super::*;
 use board_shapes::Shape;
 use lengths::Unit;
-use planar::{METRE, Spot};
+use planar::{Spot, is_placed};
 use std::alloc::{AllocError, Global};
 use std::fmt::Write;
 use std::test::Fail;
@@ -200,12 +197,6 @@ fn shown(alloc: Global, shape: &Shape) -> Result<String, AllocError> {
         },
     }
     Ok(line)
-}
-
-fn is_placed(at: Spot) -> bool
-    ensures { IsTrue result → IsPlaced at }
-{
-    at.x.unsigned_abs() <= METRE && at.y.unsigned_abs() <= METRE
 }
 
 fn flashed(alloc: Global, word: &str, at: Spot) -> Result<String, AllocError> {

@@ -7,6 +7,7 @@ pub mod Laws
 pub mod Moved
 pub mod Pieces
 pub mod Plain
+pub mod Rectangles
 pub mod Shapes
 pub mod Spans
 pub mod Tables

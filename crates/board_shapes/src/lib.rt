@@ -8,6 +8,7 @@ pub mod laws;
 pub mod moved;
 pub mod placed;
 pub mod probe;
+mod rectangles;
 pub mod shape;
 
 pub use board::{Board, BoardFault};
@@ -15,6 +16,7 @@ pub use edges::edges_in;
 pub use moved::MoveFault;
 pub use placed::{Origin, Piece, Placed, Room};
 pub use probe::Probe;
+pub use rectangles::{rectangle, widened};
 pub use shape::Shape;
 
 #[cfg(test)]

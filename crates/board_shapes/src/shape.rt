@@ -1,12 +1,16 @@
 // A solid of copper: a capsule or a filled contour.
-ghost use Rattle.board_shapes.specs.Figures.{figure_edges, figure_of};
+ghost use Rattle.area_contact.specs.Contour.{IsClosed};
+ghost use Rattle.board_shapes.specs.Figures.{figure_edges, figure_of, filled};
 ghost use Rattle.board_shapes.specs.Shapes.{InShape, IsShapeLawful, boxed, not_empty, shape_box};
 ghost use Rattle.contact.specs.RoundLaws.{turned};
-ghost use Rattle.std.specs.Prelude.{◌≡◌};
+ghost use Rattle.planar.specs.Plane.{IsPlaced};
+ghost use Rattle.std.specs.Prelude.{All, IfOk, length, ◌≡◌, ◌≤◌};
 
-use area_contact::Area;
+use area_contact::{Area, AreaFault};
 use contact::{Bounds, Capsule, Closed, Meets};
+use lengths::NoMemory;
 use planar::{Frame, Spot};
+use std::alloc::Global;
 use std::sync::ledger::Ledger;
 use steps::Steps;
 
@@ -25,6 +29,23 @@ impl Shape {
         match self {
             Shape::Round(_) => 0,
             Shape::Filled(area) => area.edges(),
+        }
+    }
+
+    /// The area that points bound which are known to be a contour.
+    pub fn bounded(alloc: Global, points: Vec<Spot>) -> Result<Shape, NoMemory>
+        requires closed { IsClosed points.items }
+        requires enough { 4 ≤ length points.items }
+        requires not_many { length points.items ≤ 100_001 }
+        requires placed { All IsPlaced points.items }
+        ensures { IfOk result (λ shape. figure_of shape ≡ filled points.items) }
+    {
+        match Area::new(alloc, points) {
+            Ok(area) => Ok(Shape::Filled(area)),
+            Err(AreaFault::NoMemory) => Err(NoMemory),
+            Err(AreaFault::Open) => unreachable!(),
+            Err(AreaFault::Short) => unreachable!(),
+            Err(AreaFault::TooLong) => unreachable!(),
         }
     }
 }

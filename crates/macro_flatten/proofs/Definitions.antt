@@ -14,7 +14,7 @@ use Rattle.lengths.specs.Grid.{size_of}
 use Rattle.lengths.specs.declared.decimal.Unit.TheVariants.{Mm}
 use Rattle.texts.specs.Digits.{is_decimal_digit}
 use Rattle.texts.specs.LastDigits.{last_digits}
-use Rattle.apertures.specs.Reading.{is_x, is_empty, size_at, circle_at, diameter_at, solid_by, numbered_at, aperture_at}
+use Rattle.apertures.specs.Reading.{is_x, is_empty, size_at, last_behind, circle_at, diameter_at, solid_by, numbered_at, aperture_at}
 use Rattle.apertures.specs.declared.aperture.Aperture.TheVariants.{Circle}
 use Rattle.gerber_words.specs.Attributes.{attribute_kind}
 use Rattle.gerber_layer.specs.Command.{formats, counts_in, defines}
@@ -93,7 +93,7 @@ abbrev pub circle_text : ℕ → ℕ → List ℕ
 circle_text n d = codes "ADD" ++ (decimal n ++ (codes "C," ++ millimetres d))
 
 reads_circle : (text : List ℕ) (d : ℕ) → d ≤ 500_000_000 → size_at text Mm ≡ Ok (pos d) → list_any is_x text ≡ false → solid_by (67 ∷ []) (67 ∷ 44 ∷ text) Mm ≡ Ok (Circle (pos d))
-unfolding solid_by circle_at diameter_at
+unfolding solid_by circle_at last_behind diameter_at
 reads_circle text d narrow size plain = rw (plain, size, le-ltb _ _ narrow) refl
 
 pub defines_circle : (n d : ℕ) → 10 ≤ n → n ≤ 70_000 → d % 2 ≡ 0 → d ≤ 500_000_000 → aperture_at (circle_text n d) Mm ≡ Ok (n, Circle (pos d))

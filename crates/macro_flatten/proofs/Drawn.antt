@@ -7,17 +7,16 @@ use Rattle.std.proofs.lemmas.List.Elements.{All-from_recursion}
 use Rattle.std.specs.List.{list_all, AllByRecursion}
 use Rattle.std.specs.Prelude.{unsigned_abs, ◌<ℤ◌, ◌≤ℤ◌}
 use borrow.Author.Tests.{leb-true, ltb-false, ltb-true}
-use Rattle.planar.specs.Plane.{IsPlaced, IsReached}
+use Rattle.planar.specs.Plane.{IsPlaced, IsReached, is_placed}
 use Rattle.planar.specs.declared.Spot.{Spot}
 use Rattle.area_contact.specs.Contour.{end_from, IsClosed, IsContour}
 use Rattle.board_shapes.specs.Figures.{Figure, Stroke, round, filled}
 use Rattle.board_shapes.specs.Moved.{shifted, shifted_figure, corners as ends}
+use Rattle.board_shapes.specs.Rectangles.{lower, rectangle, upper}
 use Rattle.apertures.specs.Reading.{is_zero}
-use Rattle.apertures.specs.Flash.{IsNarrow, IsSize, IsLawful, half, disc, rectangle, obround, placed, flash_of, is_placed, corners, across, up, way}
+use Rattle.apertures.specs.Flash.{NoFlash, leaves, IsNarrow, IsSize, IsLawful, half, disc, rectangle_at, obround, placed, flash_of}
 use Rattle.apertures.specs.declared.aperture.Aperture.{Aperture}
 use Rattle.apertures.specs.declared.aperture.Aperture.TheVariants.{Circle, Rectangle, Obround}
-use Rattle.apertures.specs.declared.fault.FlashFault.{FlashFault}
-use Rattle.apertures.specs.declared.fault.FlashFault.TheVariants.{OutOfRange}
 use Rattle.regions.specs.Contours.{stays_open, too_short, close_of, same_number, same_spot}
 use Rattle.macro_flatten.specs.Laws.{IsDrawn}
 
@@ -60,42 +59,44 @@ pen_drawn a b d h k s narrow some = let r = size_drawn d s narrow some in (h, k,
 
 -- ---- Flashes
 
-same_figure : (f g : Figure) → ◌≡◌ {A = Result (Option Figure) FlashFault} (Ok (Some f)) (Ok (Some g)) → IsDrawn f → IsDrawn g
+same_figure : (f g : Figure) → ◌≡◌ {A = Result (Option Figure) NoFlash} (Ok (Some f)) (Ok (Some g)) → IsDrawn f → IsDrawn g
 same_figure f g e h = let s : f ≡ g = cc in subst IsDrawn s h
 
-disc_drawn : (n : ℕ) (to : Spot) (f : Figure) → n % 2 ≡ 0 → n ≤ 500_000_000 → IsPlaced to → ◌≡◌ {A = Result (Option Figure) FlashFault} (Ok (disc n to)) (Ok (Some f)) → IsDrawn f
+disc_drawn : (n : ℕ) (to : Spot) (f : Figure) → n % 2 ≡ 0 → n ≤ 500_000_000 → IsPlaced to → ◌≡◌ {A = Result (Option Figure) NoFlash} (Ok (disc n to)) (Ok (Some f)) → IsDrawn f
 disc_drawn n to f even most h e = by (eqb n 0) refl e
   where
-    by : (b : Bool) → eqb n 0 ≡ b → ◌≡◌ {A = Result (Option Figure) FlashFault} (Ok (cond b None (Some (round (record { a = to; b = to; r = pos (n / 2) }))))) (Ok (Some f)) → IsDrawn f
+    by : (b : Bool) → eqb n 0 ≡ b → ◌≡◌ {A = Result (Option Figure) NoFlash} (Ok (cond b None (Some (round (record { a = to; b = to; r = pos (n / 2) }))))) (Ok (Some f)) → IsDrawn f
     by true z e = cc
     by false z e = let r = half_drawn n even most z in same_figure (round (record { a = to; b = to; r = pos (n / 2) })) f e (h, h, r.0, r.1)
 
-rectangle_drawn : (x y : ℕ) (to : Spot) (f : Figure) → rectangle x y to ≡ Ok (Some f) → IsDrawn f
-unfolding corners
-rectangle_drawn x y to f e = by (list_all is_placed (corners (x / 2) (y / 2) to)) refl e
+rectangle_drawn : (x y : ℕ) (to : Spot) (f : Figure) → rectangle_at x y to ≡ Ok (Some f) → IsDrawn f
+rectangle_drawn x y to f e = by (rectangle (lower to x y) (upper to x y)) refl (omega arith) (omega arith) e
   where
-    by : (b : Bool) → list_all is_placed (corners (x / 2) (y / 2) to) ≡ b → cond b (Ok (Some (filled (corners (x / 2) (y / 2) to)))) (Err OutOfRange) ≡ Ok (Some f) → IsDrawn f
-    by false z e = cc
-    by true z e = same_figure (filled (corners (x / 2) (y / 2) to)) f e (record {
-      closed = refl;
-      enough = omega arith;
-      not_many = omega arith;
-      placed = All-from_recursion IsPlaced (corners (x / 2) (y / 2) to) (spots_placed (corners (x / 2) (y / 2) to) z);
-    })
+    by : (points : List Spot) → IsClosed points → 4 ≤ length points → length points ≤ 100_001 → cond (list_all is_placed points) (Ok (Some (filled points))) (Err leaves) ≡ Ok (Some f) → IsDrawn f
+    by points closed enough few e = placed_or_not (list_all is_placed points) refl e
+      where
+        placed_or_not : (b : Bool) → list_all is_placed points ≡ b → cond b (Ok (Some (filled points))) (Err leaves) ≡ Ok (Some f) → IsDrawn f
+        placed_or_not false z e = cc
+        placed_or_not true z e = same_figure (filled points) f e (record {
+          closed = closed;
+          enough = enough;
+          not_many = few;
+          placed = All-from_recursion IsPlaced points (spots_placed points z);
+        })
 
 ends_drawn : (s : Stroke) (f : Figure) → pos 0 <ℤ s.r → s.r ≤ℤ pos 250_000_000 → placed s ≡ Ok (Some f) → IsDrawn f
 ends_drawn s f low high e = by (is_placed s.a && is_placed s.b) refl e
   where
-    by : (b : Bool) → (is_placed s.a && is_placed s.b) ≡ b → cond b (Ok (Some (round s))) (Err OutOfRange) ≡ Ok (Some f) → IsDrawn f
+    by : (b : Bool) → (is_placed s.a && is_placed s.b) ≡ b → cond b (Ok (Some (round s))) (Err leaves) ≡ Ok (Some f) → IsDrawn f
     by false z e = cc
     by true z e = let p = both (is_placed s.a) (is_placed s.b) z in same_figure (round s) f e (spot_placed s.a p.0, spot_placed s.b p.1, low, high)
 
 obround_drawn : (x y : ℤ) (to : Spot) (f : Figure) → IsSize x → IsSize y → is_zero x ≡ false → is_zero y ≡ false → IsNarrow (min (unsigned_abs x) (unsigned_abs y)) → obround (unsigned_abs x) (unsigned_abs y) to ≡ Ok (Some f) → IsDrawn f
 obround_drawn x y to f hx hy sx sy narrow e = by (nat_lt (unsigned_abs y) (unsigned_abs x)) refl e
   where
-    by : (b : Bool) → nat_lt (unsigned_abs y) (unsigned_abs x) ≡ b → cond b (placed (record { a = across to (way true ((unsigned_abs x - unsigned_abs y) / 2)); b = across to (way false ((unsigned_abs x - unsigned_abs y) / 2)); r = pos (unsigned_abs y / 2) })) (placed (record { a = up to (way true ((unsigned_abs y - unsigned_abs x) / 2)); b = up to (way false ((unsigned_abs y - unsigned_abs x) / 2)); r = pos (unsigned_abs x / 2) })) ≡ Ok (Some f) → IsDrawn f
-    by true z e = let less = ltb-true _ _ z in let small : unsigned_abs y ≤ 500_000_000 = omega (arith, narrow, less) in let r = size_drawn y hy small sy in ends_drawn (record { a = across to (way true ((unsigned_abs x - unsigned_abs y) / 2)); b = across to (way false ((unsigned_abs x - unsigned_abs y) / 2)); r = pos (unsigned_abs y / 2) }) f r.0 r.1 e
-    by false z e = let most = ltb-false _ _ z in let small : unsigned_abs x ≤ 500_000_000 = omega (arith, narrow, most) in let r = size_drawn x hx small sx in ends_drawn (record { a = up to (way true ((unsigned_abs y - unsigned_abs x) / 2)); b = up to (way false ((unsigned_abs y - unsigned_abs x) / 2)); r = pos (unsigned_abs x / 2) }) f r.0 r.1 e
+    by : (b : Bool) → nat_lt (unsigned_abs y) (unsigned_abs x) ≡ b → cond b (placed (record { a = lower to (unsigned_abs x - unsigned_abs y) 0; b = upper to (unsigned_abs x - unsigned_abs y) 0; r = pos (unsigned_abs y / 2) })) (placed (record { a = lower to 0 (unsigned_abs y - unsigned_abs x); b = upper to 0 (unsigned_abs y - unsigned_abs x); r = pos (unsigned_abs x / 2) })) ≡ Ok (Some f) → IsDrawn f
+    by true z e = let less = ltb-true _ _ z in let small : unsigned_abs y ≤ 500_000_000 = omega (arith, narrow, less) in let r = size_drawn y hy small sy in ends_drawn (record { a = lower to (unsigned_abs x - unsigned_abs y) 0; b = upper to (unsigned_abs x - unsigned_abs y) 0; r = pos (unsigned_abs y / 2) }) f r.0 r.1 e
+    by false z e = let most = ltb-false _ _ z in let small : unsigned_abs x ≤ 500_000_000 = omega (arith, narrow, most) in let r = size_drawn x hx small sx in ends_drawn (record { a = lower to 0 (unsigned_abs y - unsigned_abs x); b = upper to 0 (unsigned_abs y - unsigned_abs x); r = pos (unsigned_abs x / 2) }) f r.0 r.1 e
 
 -- what a lawful aperture flashes
 pub flash_drawn : (a : Aperture) (to : Spot) (f : Figure) → IsLawful a → IsPlaced to → flash_of a to ≡ Ok (Some f) → IsDrawn f

@@ -14,9 +14,8 @@ use Rattle.board_shapes.specs.Figures.{Figure, round, figure_edges}
 use Rattle.board_shapes.specs.Pieces.{PlainPiece}
 use Rattle.apertures.specs.declared.aperture.Aperture.{Aperture}
 use Rattle.apertures.specs.declared.aperture.Aperture.TheVariants.{Circle, Rectangle, Obround}
-use Rattle.apertures.specs.declared.fault.FlashFault.{FlashFault}
 use Rattle.apertures.specs.Reading.{is_zero}
-use Rattle.apertures.specs.Flash.{IsNarrow, IsSize, IsLawful, flash_of, half}
+use Rattle.apertures.specs.Flash.{NoFlash, IsNarrow, IsSize, IsLawful, flash_of, half}
 use Rattle.aperture_macros.specs.BodyWord.{PlainPrimitive}
 use Rattle.aperture_macros.specs.Images.{figure_at}
 use Rattle.aperture_macros.specs.Sized.{IsSized}
@@ -174,7 +173,7 @@ draw_made k to e s w there h =
         let edges = w.edges in
         subst (FitsOne k) (sym some) (pen_drawn k.settings.at to d s.placed there size.0 size.1 e, subst (HasRoom k) some room, omega (arith, edges))
 
-flashed_ok : (r : Result (Option Figure) FlashFault) (f : Option Figure) → flashed r ≡ Ok f → r ≡ Ok f
+flashed_ok : (r : Result (Option Figure) NoFlash) (f : Option Figure) → flashed r ≡ Ok f → r ≡ Ok f
 flashed_ok (Ok g) f h = let s : g ≡ f = cc in ap Ok s
 flashed_ok (Err e) f h = cc
 

@@ -5,10 +5,11 @@ use Rattle.std.proofs.lemmas.List.Elements.{All-from_recursion}
 use Rattle.std.specs.List.{list_all}
 use Rattle.std.specs.Ordering.{int_eq}
 use Rattle.std.specs.Prelude.{codes, unsigned_abs, int_lt}
-use Rattle.planar.specs.Plane.{IsPlaced}
+use Rattle.planar.specs.Plane.{IsPlaced, is_placed}
 use Rattle.planar.specs.declared.Spot.{Spot}
 use Rattle.area_contact.specs.Contour.{IsClosed}
 use Rattle.board_shapes.specs.Figures.{Figure, round, filled}
+use Rattle.board_shapes.specs.Rectangles.{halved, rectangle}
 use Rattle.lengths.specs.Decimal.{Fraction, is_decimal, fraction}
 use Rattle.lengths.specs.declared.decimal.Unit.{Unit as Measure}
 use Rattle.texts.specs.Words.{begins, is}
@@ -20,7 +21,7 @@ use Rattle.aperture_macros.specs.declared.primitive.Form.{Form}
 use Rattle.aperture_macros.specs.declared.primitive.Form.TheVariants.{Circle, Outline, VectorLine, CentreLine}
 use Rattle.aperture_macros.specs.declared.primitive.Rotation.{Rotation}
 use Rattle.aperture_macros.specs.BodyWord.{PlainPrimitive, ◌>>=◌, are_expressions, commas, count, form_at, form_in, head, is_number, outline_of, part, past, primitive_at, rotation_of, rotation_text, some_form, turned_at}
-use Rattle.aperture_macros.specs.Images.{area_at, circle_at, centre_at, centred, corners, disc_at, figure_at, figure_by, halved, is_placed, line_at, lying, outline_at, set_down, sketch_at, sketched, outlined, upright}
+use Rattle.aperture_macros.specs.Images.{area_at, circle_at, centre_at, centred, disc_at, figure_at, figure_by, line_at, outline_at, set_down, sketch_at, sketched, outlined, strip}
 use Rattle.aperture_macros.specs.Outlines.{closing_at, moved_from}
 use Rattle.aperture_macros.specs.Sized.{IsSized, IsSizedIf}
 use Rattle.aperture_macros.specs.Values.{as_size, coordinate_at, diameter_at, point_at, size_at}
@@ -141,18 +142,25 @@ unfolding IsPen
 rectangle_pen true low high = tt
 rectangle_pen false low high = tt
 
+-- and one that leaves one of two
+strip_pen : (a b : Bool) (low high low' high' : Spot) → IsPen (cond a None (cond b (Some (Rectangle low high)) (Some (Rectangle low' high'))))
+unfolding IsPen
+strip_pen true b low high low' high' = tt
+strip_pen false true low high low' high' = tt
+strip_pen false false low high low' high' = tt
+
 line_pen : (text : List ℕ) (given : List Fraction) (unit : Measure) (s : Option Sketch) → line_at text given unit ≡ Ok s → IsPen s
 unfolding line_at
 line_pen text given unit s h =
-    let sketch = λ (w : ℕ) (p q : Spot). cond (int_eq p.x q.x) (Ok (upright w p q)) (cond (int_eq p.y q.y) (Ok (lying w p q)) (Err Slanted)) in
+    let sketch = λ (w : ℕ) (p q : Spot). cond (int_eq p.x q.x) (Ok (strip w p q w 0)) (cond (int_eq p.y q.y) (Ok (strip w p q 0 w)) (Err Slanted)) in
     let w = then_ok (size_at (part 0 text) given unit) (λ w. point_at (past 1 text) given unit >>= λ p. point_at (past 3 text) given unit >>= λ q. sketch w p q) s h in
     let p = then_ok (point_at (past 1 text) given unit) (λ p. point_at (past 3 text) given unit >>= λ q. sketch w.0 p q) s w.2 in
     let q = then_ok (point_at (past 3 text) given unit) (λ q. sketch w.0 p.0 q) s p.2 in
     by w.0 p.0 q.0 (int_eq p.0.x q.0.x) (int_eq p.0.y q.0.y) q.2
   where
-    by : (w : ℕ) (p q : Spot) (a b : Bool) → ◌≡◌ {A = Result (Option Sketch) MacroFault} (cond a (Ok (upright w p q)) (cond b (Ok (lying w p q)) (Err Slanted))) (Ok s) → IsPen s
-    by w p q true b h = let same : upright w p q ≡ s = cc in subst IsPen same (rectangle_pen _ _ _)
-    by w p q false true h = let same : lying w p q ≡ s = cc in subst IsPen same (rectangle_pen _ _ _)
+    by : (w : ℕ) (p q : Spot) (a b : Bool) → ◌≡◌ {A = Result (Option Sketch) MacroFault} (cond a (Ok (strip w p q w 0)) (cond b (Ok (strip w p q 0 w)) (Err Slanted))) (Ok s) → IsPen s
+    by w p q true b h = let same : strip w p q w 0 ≡ s = cc in subst IsPen same (strip_pen _ _ _ _ _ _)
+    by w p q false true h = let same : strip w p q 0 w ≡ s = cc in subst IsPen same (strip_pen _ _ _ _ _ _)
     by w p q false false h = cc
 
 centre_pen : (text : List ℕ) (given : List Fraction) (unit : Measure) (s : Option Sketch) → centre_at text given unit ≡ Ok s → IsPen s
@@ -197,7 +205,7 @@ sketch_drawn : (rotation : Rotation) (at : Spot) (s : Option Sketch) (f : Figure
 unfolding sketch_at IsPen
 sketch_drawn rotation at None f pen h = cc
 sketch_drawn rotation at (Some (Disc p d)) f pen h = disc_drawn (set_down rotation at p) d f pen.0 pen.1 pen.2 h
-sketch_drawn rotation at (Some (Rectangle low high)) f pen h = area_drawn (map (set_down rotation at) (corners low high)) f refl (omega arith) (omega arith) h
+sketch_drawn rotation at (Some (Rectangle low high)) f pen h = area_drawn (map (set_down rotation at) (rectangle low high)) f refl (omega arith) (omega arith) h
 
 sketched_drawn : (rotation : Rotation) (at : Spot) (r : Result (Option Sketch) MacroFault) (f : Figure) → ((s : Option Sketch) → r ≡ Ok s → IsPen s) → sketched rotation at r ≡ Ok (Some f) → IsDrawn f
 sketched_drawn rotation at r f pen h =

@@ -5,13 +5,13 @@ use Rattle.std.proofs.lemmas.List.{length-map}
 use Rattle.std.proofs.lemmas.List.Folds.{list_all-append}
 use Rattle.std.proofs.Math.Nat.{mul_assoc}
 use Rattle.board_shapes.specs.Moved.{moved_piece}
-use Rattle.board_shapes.specs.Pieces.{PlainPiece, plain_piece, plain_pieces}
+use Rattle.board_shapes.specs.Pieces.{PlainPiece, edges_in, plain_piece, plain_pieces}
 use Rattle.board_shapes.specs.declared.placed.Placed.{Placed}
 use Rattle.board_shapes.specs.declared.placed.Room.{Room}
 use Rattle.board_shapes.specs.declared.shape.Shape.{Shape}
 use Rattle.std.proofs.Math.Nat.{eq-or-lt_of_le}
 use borrow.Author.Tests.{le-ltb, ltb-false}
-use Rattle.step_repeat.specs.Copies.{are_placed, block_at, column_of, copies_at, copies_of, edges_in, placed_copies, room_fault, too_many_pieces, too_many_edges, out_of_range}
+use Rattle.step_repeat.specs.Copies.{are_placed, block_at, column_of, copies_at, copies_of, placed_copies, room_fault, too_many_pieces, too_many_edges, out_of_range}
 use Rattle.step_repeat.specs.declared.repeat.Repeat.{Repeat}
 
 -- one more list at the end

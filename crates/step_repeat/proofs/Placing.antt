@@ -5,7 +5,7 @@ use Rattle.std.specs.List.{list_all}
 use Rattle.std.proofs.lemmas.List.{map-append}
 use Rattle.std.proofs.lemmas.Int.{ints}
 use Rattle.std.proofs.lemmas.Bool.Decides.{nat_tests}
-use Rattle.planar.specs.Plane.{IsPlaced, IsReached}
+use Rattle.planar.specs.Plane.{IsPlaced, IsReached, is_placed}
 use Rattle.planar.specs.declared.Spot.{Spot}
 use Rattle.board_shapes.specs.Figures.{Figure, round, filled, figure_of, IsLawfulFigure}
 use Rattle.board_shapes.specs.Moved.{IsShift, StaysPlaced, corners, moved_piece, shifted, shifted_figure}
@@ -13,7 +13,7 @@ use Rattle.board_shapes.specs.Pieces.{PlainPiece, plain_piece, plain_pieces}
 use Rattle.board_shapes.specs.Shapes.{lawful}
 use Rattle.board_shapes.specs.declared.placed.Placed.{Placed}
 use Rattle.board_shapes.specs.declared.shape.Shape.{Shape}
-use Rattle.step_repeat.specs.Copies.{Adds, is_placed, is_placed_piece, are_placed, moved_block}
+use Rattle.step_repeat.specs.Copies.{Adds, is_placed_piece, are_placed, moved_block}
 use Rattle.step_repeat.specs.declared.fault.CopyFault.{CopyFault}
 use Rattle.step_repeat.specs.declared.fault.CopyFault.TheVariants.{TooManyPieces, TooManyEdges, OutOfRange, NoMemory}
 

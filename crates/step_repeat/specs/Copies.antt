@@ -1,12 +1,10 @@
 -- The copies of a block.
-use Rattle.std.specs.Prelude.{◌≡◌, ℕ, ◌+◌, ◌*◌, Bool, true, false, ◌&&◌, nat_le, nat_lt, if◌then◌else◌, List, ◌++◌, length, map, sum_by, ℤ, pos, ◌*ℤ◌, unsigned_abs, Option, Some, None, Result, Ok, Err}
+use Rattle.std.specs.Prelude.{◌≡◌, ℕ, ◌+◌, ◌*◌, Bool, true, false, nat_lt, if◌then◌else◌, List, ◌++◌, length, map, ℤ, pos, ◌*ℤ◌, Option, Some, None, Result, Ok, Err}
 use Rattle.std.specs.List.{flat_map, list_all, range_with_len}
-use Rattle.planar.specs.declared.Spot.{Spot}
-use Rattle.planar.specs.declared.TheConstants.{METRE}
+use Rattle.planar.specs.Plane.{is_placed}
 use Rattle.board_shapes.specs.declared.placed.Room.{Room}
-use Rattle.board_shapes.specs.Figures.{figure_edges}
 use Rattle.board_shapes.specs.Moved.{corners, moved_piece}
-use Rattle.board_shapes.specs.Pieces.{PlainPiece}
+use Rattle.board_shapes.specs.Pieces.{PlainPiece, edges_in}
 use Rattle.step_repeat.specs.declared.repeat.Repeat.{Repeat}
 use Rattle.step_repeat.specs.declared.fault.CopyFault.{CopyFault}
 use Rattle.step_repeat.specs.declared.fault.CopyFault.TheVariants.{TooManyPieces, TooManyEdges, OutOfRange, NoMemory}
@@ -27,21 +25,13 @@ column_of r block column = flat_map (block_at r block column) (range_with_len 0 
 unfoldable pub copies_of : Repeat → List PlainPiece → List PlainPiece
 copies_of r block = flat_map (column_of r block) (range_with_len 0 r.across)
 
--- the spot is at most 1 m from 0 in x and y
-abbrev pub is_placed : Spot → Bool
-is_placed p = nat_le (unsigned_abs p.x) METRE && nat_le (unsigned_abs p.y) METRE
-
--- each end or corner of the piece is
+-- each end or corner of the piece is at most 1 m from 0 in x and y
 abbrev pub is_placed_piece : PlainPiece → Bool
 is_placed_piece p = list_all is_placed (corners p.figure)
 
 -- and of each piece
 abbrev pub are_placed : List PlainPiece → Bool
 are_placed pieces = list_all is_placed_piece pieces
-
--- how many edges the pieces have
-abbrev pub edges_in : List PlainPiece → ℕ
-edges_in pieces = sum_by (λ p. figure_edges p.figure) pieces
 
 -- why a block has no copies
 pub data Refusal : Type 0 where

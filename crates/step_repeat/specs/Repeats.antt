@@ -5,11 +5,10 @@ use Rattle.std.specs.Cmp.Lexicographic.{pointwise}
 use Rattle.std.specs.Str.Parse.{digits_value}
 use Rattle.planar.specs.Plane.{IsReached}
 use Rattle.texts.specs.Digits.{is_decimal_digit}
-use Rattle.lengths.specs.Decimal.{Fraction, is_decimal, fraction}
+use Rattle.lengths.specs.Decimal.{Fraction, is_decimal, fraction, chosen}
 use Rattle.lengths.specs.Grid.{position_of}
 use Rattle.lengths.specs.declared.decimal.Unit.{Unit as Measure}
 use Rattle.lengths.specs.declared.decimal.GridFault.{GridFault}
-use Rattle.lengths.specs.declared.decimal.GridFault.TheVariants as grid
 use Rattle.step_repeat.specs.declared.repeat.Repeat.{Repeat}
 use Rattle.step_repeat.specs.declared.fault.RepeatFault.{RepeatFault}
 use Rattle.step_repeat.specs.declared.fault.RepeatFault.TheVariants.{BadText, OffGrid, OutOfRange}
@@ -51,13 +50,9 @@ unfoldable pub decimal_at : List ℕ → Result Fraction RepeatFault
 decimal_at text = if is_decimal text then Ok (fraction text) else Err BadText
 
 -- how a step that is no position is refused
-abbrev pub fault_of : GridFault → RepeatFault
-fault_of grid.OffGrid = OffGrid
-fault_of grid.OutOfRange = OutOfRange
-
 abbrev pub as_fault : Result ℤ GridFault → Result ℤ RepeatFault
 as_fault (Ok u) = Ok u
-as_fault (Err fault) = Err (fault_of fault)
+as_fault (Err fault) = Err (chosen fault OffGrid OutOfRange)
 
 -- the position that a decimal is
 unfoldable pub step_at : Fraction → Measure → Result ℤ RepeatFault

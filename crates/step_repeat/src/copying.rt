@@ -3,20 +3,32 @@ ghost use Rattle.std.specs.Prelude.{◌≡◌, ◌+◌, ◌*◌, ◌<◌, ◌≤
 ghost use Rattle.std.specs.Option.{SomeIff};
 ghost use Rattle.board_shapes.specs.Moved.{IsShift, moved_piece};
 ghost use Rattle.board_shapes.specs.Pieces.{plain_piece, plain_pieces};
-ghost use Rattle.step_repeat.specs.Copies.{Adds, IsCopyFault, block_at, column_of, copies_at, copies_of, edges_in, moved_block, refused_as, room_fault};
+ghost use Rattle.step_repeat.specs.Copies.{Adds, IsCopyFault, block_at, column_of, copies_at, copies_of, moved_block, refused_as, room_fault};
 ghost use Rattle.step_repeat.specs.Repeats.{IsLawful};
 
 use crate::fault::CopyFault;
 use crate::repeat::Repeat;
-use board_shapes::{MoveFault, Piece, Room};
+use board_shapes::{MoveFault, Piece, Room, edges_in};
 use planar::TWO_METRES;
 use std::alloc::Global;
 
-/// How far a copy stands from the block, in u.
+/// How far a copy stands from the block, in u, and its number.
 #[derive(Clone, Copy)]
 struct Shift {
     x: i64,
     y: i64,
+    copy: u32,
+    ghost across: { IsShift x },
+    ghost up: { IsShift y },
+}
+
+/// A block that is not empty, and how it is repeated.
+#[derive(Drop)]
+struct Grid<'a> {
+    repeat: Repeat,
+    block: &'a [Piece],
+    ghost some: { 0 < length block.now },
+    ghost few: { repeat.across * repeat.up < 2 ^ 32 },
 }
 
 impl Repeat {
@@ -52,7 +64,11 @@ impl Repeat {
         if let Some(fault) = self.room_fault(block, room) {
             return Err(fault);
         }
-        self.push_all(alloc, block, &mut copies)?;
+        let grid = Grid {
+            repeat: *self,
+            block,
+        };
+        grid.push_all(&mut copies)?;
         Ok(copies)
     }
 
@@ -67,102 +83,67 @@ impl Repeat {
         if times * block.len() as u128 > u128::from(room.pieces) {
             return Some(CopyFault::TooManyPieces);
         }
-        if times * u128::from(edges_of(block)) > u128::from(room.edges) {
+        if times * u128::from(edges_in(block)) > u128::from(room.edges) {
             return Some(CopyFault::TooManyEdges);
         }
         None
     }
+}
 
+impl Grid<'_> {
     #[tactic(auto, unfolding(crate::specs::Copies::copies_of))]
-    fn push_all(
-        &self,
-        alloc: Global,
-        block: &[Piece],
-        copies: &mut Vec<Piece>,
-    ) -> Result<(), CopyFault>
-        requires some { 0 < length block.now }
-        requires few { self.now.across * self.now.up < 2 ^ 32 }
-        requires lawful { IsLawful self.now }
-        ensures { Adds (plain_pieces copies.old.items) result (plain_pieces copies.new.items) (copies_of self.now (plain_pieces block.now)) }
+    fn push_all(&self, copies: &mut Vec<Piece>) -> Result<(), CopyFault>
+        ensures { Adds (plain_pieces copies.old.items) result (plain_pieces copies.new.items) (copies_of self.now.repeat (plain_pieces self.now.block.now)) }
     {
-        for column in 0..self.across {
-            self.push_column(alloc, block, column, copies)?;
+        for column in 0..self.repeat.across {
+            self.push_column(column, copies)?;
         }
         Ok(())
     }
 
-    fn push_column(
-        &self,
-        alloc: Global,
-        block: &[Piece],
-        column: u32,
-        copies: &mut Vec<Piece>,
-    ) -> Result<(), CopyFault>
-        requires some { 0 < length block.now }
-        requires few { self.now.across * self.now.up < 2 ^ 32 }
-        requires lawful { IsLawful self.now }
-        requires within { column < self.now.across }
-        ensures { Adds (plain_pieces copies.old.items) result (plain_pieces copies.new.items) (column_of self.now (plain_pieces block.now) column) }
+    fn push_column(&self, column: u32, copies: &mut Vec<Piece>) -> Result<(), CopyFault>
+        requires within { column < self.now.repeat.across }
+        ensures { Adds (plain_pieces copies.old.items) result (plain_pieces copies.new.items) (column_of self.now.repeat (plain_pieces self.now.block.now) column) }
     {
-        for row in 0..self.up {
-            self.push_block(alloc, block, column, row, copies)?;
+        for row in 0..self.repeat.up {
+            self.push_block(column, row, copies)?;
         }
         Ok(())
     }
 
-    fn push_block(
-        &self,
-        alloc: Global,
-        block: &[Piece],
-        column: u32,
-        row: u32,
-        copies: &mut Vec<Piece>,
-    ) -> Result<(), CopyFault>
-        requires some { 0 < length block.now }
-        requires few { self.now.across * self.now.up < 2 ^ 32 }
-        requires lawful { IsLawful self.now }
-        requires within_across { column < self.now.across }
-        requires within_up { row < self.now.up }
-        ensures { Adds (plain_pieces copies.old.items) result (plain_pieces copies.new.items) (block_at self.now (plain_pieces block.now) column row) }
+    fn push_block(&self, column: u32, row: u32, copies: &mut Vec<Piece>) -> Result<(), CopyFault>
+        requires within_across { column < self.now.repeat.across }
+        requires within_up { row < self.now.repeat.up }
+        ensures { Adds (plain_pieces copies.old.items) result (plain_pieces copies.new.items) (block_at self.now.repeat (plain_pieces self.now.block.now) column row) }
     {
         match self.shift(column, row) {
             None => Err(CopyFault::OutOfRange),
-            Some(by) => push_pieces(alloc, block, by, self.copy_number(column, row), copies),
+            Some(by) => push_pieces(self.block, by, copies),
         }
     }
 
     // How far the copy in this column and row stands from the block, where that is at most 2 m: a
     // piece within 1 m that is moved farther is not within 1 m.
     fn shift(&self, column: u32, row: u32) -> Option<Shift>
+        requires within_across { column < self.now.repeat.across }
+        requires within_up { row < self.now.repeat.up }
         ensures { MatchOption result
-            (¬ (IsShift (pos column *ℤ self.now.dx) × IsShift (pos row *ℤ self.now.dy)))
-            (λ by. (by.x ≡ pos column *ℤ self.now.dx) × (by.y ≡ pos row *ℤ self.now.dy) × IsShift by.x × IsShift by.y) }
+            (¬ (IsShift (pos column *ℤ self.now.repeat.dx) × IsShift (pos row *ℤ self.now.repeat.dy)))
+            (λ by. (by.x ≡ pos column *ℤ self.now.repeat.dx) × (by.y ≡ pos row *ℤ self.now.repeat.dy) × (by.copy ≡ column * self.now.repeat.up + row)) }
     {
-        let x = way(column, self.dx)?;
-        let y = way(row, self.dy)?;
-        Some(Shift { x, y })
+        let x = way(column, self.repeat.dx)?;
+        let y = way(row, self.repeat.dy)?;
+        let copy = self.copy_number(column, row);
+        Some(Shift { x, y, copy })
     }
 
     fn copy_number(&self, column: u32, row: u32) -> u32
-        requires few { self.now.across * self.now.up < 2 ^ 32 }
-        requires within_across { column < self.now.across }
-        requires within_up { row < self.now.up }
-        ensures { result ≡ column * self.now.up + row }
+        requires within_across { column < self.now.repeat.across }
+        requires within_up { row < self.now.repeat.up }
+        ensures { result ≡ column * self.now.repeat.up + row }
     {
-        column * self.up + row
+        column * self.repeat.up + row
     }
-}
-
-// How many edges the pieces have.
-fn edges_of(block: &[Piece]) -> u64
-    requires { length block.now < 2 ^ 32 }
-    ensures { result ≡ edges_in (plain_pieces block.now) }
-{
-    let mut edges = 0;
-    for piece in block {
-        edges += u64::from(piece.shape.edges());
-    }
-    edges
 }
 
 // So many steps, where that is at most 2 m.
@@ -178,36 +159,21 @@ fn way(n: u32, step: i64) -> Option<i64>
 }
 
 // The block's pieces moved, at the end of the copies.
-fn push_pieces(
-    alloc: Global,
-    block: &[Piece],
-    by: Shift,
-    copy: u32,
-    copies: &mut Vec<Piece>,
-) -> Result<(), CopyFault>
-    requires across { IsShift by.x }
-    requires up { IsShift by.y }
-    ensures { Adds (plain_pieces copies.old.items) result (plain_pieces copies.new.items) (moved_block by.x by.y copy (plain_pieces block.now)) }
+fn push_pieces(block: &[Piece], by: Shift, copies: &mut Vec<Piece>) -> Result<(), CopyFault>
+    ensures { Adds (plain_pieces copies.old.items) result (plain_pieces copies.new.items) (moved_block by.x by.y by.copy (plain_pieces block.now)) }
 {
     for piece in block {
-        push_moved(alloc, piece, by, copy, copies)?;
+        push_moved(piece, by, copies)?;
     }
     Ok(())
 }
 
 // The piece moved, at the end of the copies.
-fn push_moved(
-    alloc: Global,
-    piece: &Piece,
-    by: Shift,
-    copy: u32,
-    copies: &mut Vec<Piece>,
-) -> Result<(), CopyFault>
-    requires across { IsShift by.x }
-    requires up { IsShift by.y }
-    ensures { Adds (plain_pieces copies.old.items) result (plain_pieces copies.new.items) (moved_piece by.x by.y copy (plain_piece piece.now) ∷ []) }
+fn push_moved(piece: &Piece, by: Shift, copies: &mut Vec<Piece>) -> Result<(), CopyFault>
+    ensures { Adds (plain_pieces copies.old.items) result (plain_pieces copies.new.items) (moved_piece by.x by.y by.copy (plain_piece piece.now) ∷ []) }
 {
-    let moved = match piece.moved(alloc, by.x, by.y, copy) {
+    let alloc = *copies.allocator();
+    let moved = match piece.moved(alloc, by.x, by.y, by.copy) {
         Ok(moved) => moved,
         Err(MoveFault::OutOfRange) => return Err(CopyFault::OutOfRange),
         Err(MoveFault::NoMemory) => return Err(CopyFault::NoMemory),

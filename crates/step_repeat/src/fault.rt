@@ -1,5 +1,4 @@
 // What is refused.
-use lengths::GridFault;
 use thiserror::Error;
 
 /// Why a word opens and ends no block.
@@ -14,20 +13,6 @@ pub enum RepeatFault {
     /// A step is over 1 m.
     #[error("a step out of range")]
     OutOfRange = 3,
-}
-
-impl From<GridFault> for RepeatFault {
-    ghost use Rattle.std.specs.Prelude.{◌≡◌};
-    ghost use Rattle.step_repeat.specs.Repeats.{fault_of};
-
-    ghost from_gives = { λ fault e. e ≡ fault_of fault };
-
-    fn from(fault: GridFault) -> RepeatFault {
-        match fault {
-            GridFault::OffGrid => RepeatFault::OffGrid,
-            GridFault::OutOfRange => RepeatFault::OutOfRange,
-        }
-    }
 }
 
 /// Why there are no copies of a block.

@@ -122,6 +122,8 @@ fn step(decimal: Decimal, unit: Unit) -> Result<i64, RepeatFault>
     ensures value { result ≡ spec.step_at decimal unit }
     ensures short { IfOk result IsReached }
 {
-    let len = decimal.position(unit)?;
-    Ok(len.u())
+    match decimal.position(unit) {
+        Ok(len) => Ok(len.u()),
+        Err(fault) => Err(fault.choose(RepeatFault::OffGrid, RepeatFault::OutOfRange)),
+    }
 }

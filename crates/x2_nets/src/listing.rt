@@ -7,7 +7,7 @@ use crate::said::{Said, said_by};
 use crate::table::Label;
 use gerber_words::laws::words_lie_ahead;
 use gerber_words::{Step, Words};
-use lengths::{NoMemory, Rows, Text, TextFault};
+use lengths::{Rows, Text, TextFault};
 use std::alloc::Global;
 
 /// Why the labels of a file are not listed.
@@ -16,16 +16,6 @@ pub enum LabelFault {
     /// The name is not 1 to 200 bytes from 32 to 126: the word's number, from 1, and the place of its first byte, from 0.
     Bad { command: u32, at: usize },
     NoMemory,
-}
-
-impl From<NoMemory> for LabelFault {
-    ghost use Rattle.x2_nets.specs.declared.listing.LabelFault.TheVariants as fault;
-
-    ghost from_gives = { λ _ f. f ≡ fault.NoMemory };
-
-    fn from(_: NoMemory) -> LabelFault {
-        LabelFault::NoMemory
-    }
 }
 
 // The name that the word of this number, at this place, gives.
@@ -58,7 +48,9 @@ fn list_word(
         Said::Unnamed => None,
         Said::Named(text) => Some(name_of(alloc, text, command, at)?),
     };
-    labels.push(Label { command, name })?;
+    let Ok(()) = labels.push(Label { command, name }) else {
+        return Err(LabelFault::NoMemory);
+    };
     Ok(())
 }
 

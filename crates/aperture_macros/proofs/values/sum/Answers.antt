@@ -1,7 +1,7 @@
-use Rattle.std.proofs.Common.{◌≡◌, ◌∙◌, ◌-◌, false, true, ap, arith, rules, sym, Ok, Err, ℤ, ◌+ℤ◌, to_z, of_z, w64}
+use Rattle.std.proofs.Common.{◌≡◌, ◌∙◌, false, true, ap, arith, rules, sym, ℤ, ◌+ℤ◌, to_z, of_z, w64}
 use Rattle.std.proofs.lemmas.Result.{err_from_is_err_and}
-use Rattle.aperture_macros.specs.Expression.{first_term, is_empty}
-use Rattle.aperture_macros.specs.Values.{sum_from, term_at}
+use Rattle.aperture_macros.specs.Expression.{is_empty}
+use Rattle.aperture_macros.specs.Values.{term_at}
 use Rattle.aperture_macros.proofs.Steps.{value_bad, value_end, value_more, value_over}
 use Rattle.aperture_macros.proofs.Turns.{sum_high, sum_low, sum_read}
 use Rattle.aperture_macros.proofs.values.sum.Goals as goal

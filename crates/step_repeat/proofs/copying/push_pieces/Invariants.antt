@@ -5,6 +5,6 @@ use Rattle.step_repeat.proofs.copying.push_pieces.Given as goal
 
 abbrev pub invariant-loop-piece : goal.invariant-loop-piece
 invariant-loop-piece l = record {
-  listed : plain_pieces l.copies.items ≡ plain_pieces l.initial.copies.items ++ moved_block l.by.x l.by.y l.copy (plain_pieces (take l.piece-index l.block));
-  placed : are_placed (moved_block l.by.x l.by.y l.copy (plain_pieces (take l.piece-index l.block))) ≡ true;
+  listed : plain_pieces l.copies.items ≡ plain_pieces l.initial.copies.items ++ moved_block l.by.x l.by.y l.by.copy (plain_pieces (take l.piece-index l.block));
+  placed : are_placed (moved_block l.by.x l.by.y l.by.copy (plain_pieces (take l.piece-index l.block))) ≡ true;
 }
