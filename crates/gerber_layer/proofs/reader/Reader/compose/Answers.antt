@@ -1,4 +1,4 @@
-use Rattle.std.proofs.Common.{Result, IfErr, IfOk, subst, sym, ◌≡◌, ◌∙◌}
+use Rattle.std.proofs.Common.{◌≡◌, Result, IfErr, IfOk, subst, sym}
 use Rattle.gerber_layer.specs.declared.macro_kind.FlattenKind.{FlattenKind}
 use Rattle.gerber_layer.specs.MacroTable.{gerber}
 use Rattle.gerber_layer.specs.Table.{Effect}
