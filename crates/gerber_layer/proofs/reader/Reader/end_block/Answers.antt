@@ -12,7 +12,7 @@ overflow_add-edges c =
     let all = edges_few c.args.self.now.pieces.items in
     let new = edges_few c.in_ok-copies.copies.items in
     let before = c.edges_before-before.ensures in
-    let counted = rw c.deref.ensures.value at c.edges_of.ensures in
+    let counted = rw c.deref.ensures.value at c.edges_in.ensures in
     let few = c.in_ok-copies.ensures.few in
     omega (arith, split, all, new, before, counted, few)
 
@@ -35,7 +35,7 @@ returns-clause-counted c =
     let appended = rw (c.in_default-append.is, c.truncate.ensures.items) at c.append.ensures.items in
     let all : plain_pieces c.append.new.self.items ≡ take c.args.self.now.start (plain_pieces c.args.self.now.pieces.items) ++ plain_pieces c.in_ok-copies.copies.items = ap plain_pieces appended ∙ plain_after c.args.self.now.pieces.items c.in_ok-copies.copies.items c.args.self.now.start in
     let sum = edges_after (take c.args.self.now.start (plain_pieces c.args.self.now.pieces.items)) (plain_pieces c.in_ok-copies.copies.items) in
-    let counted = rw c.deref.ensures.value at c.edges_of.ensures in
+    let counted = rw c.deref.ensures.value at c.edges_in.ensures in
     let before = c.edges_before-before.ensures in
     let few = c.in_ok-copies.ensures.few in
     let size = ap length appended ∙ length-append (take c.args.self.now.start c.args.self.now.pieces.items) c.in_ok-copies.copies.items in

@@ -6,5 +6,5 @@ pub overflow_add-self : goal.overflow_add-self
 overflow_add-self c =
     let few = edges_few c.args.self.now.pieces.items in
     let more = edges_few c.args.more.items in
-    let counted = rw c.deref.ensures.value at c.edges_of-edges.ensures in
+    let counted = rw c.deref.ensures.value at c.edges_in-edges.ensures in
     omega (arith, few, more, counted)
