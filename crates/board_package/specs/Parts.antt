@@ -1,7 +1,7 @@
 -- What the files of a package give, one after another.
-use Rattle.std.specs.Prelude.{ℕ, ◌-◌, ◌≤◌, List, [], ◌++◌, length, sum_by, All}
-use Rattle.board_shapes.specs.Figures.{figure_edges}
+use Rattle.std.specs.Prelude.{ℕ, ◌-◌, ◌≤◌, List, [], ◌++◌, length, All}
 use Rattle.board_shapes.specs.Lawful.{IsOnLayers, IsProbe}
+use Rattle.board_shapes.specs.Pieces.{edges_in}
 use Rattle.board_shapes.specs.Plain.{PlainBoard, PlainPiece, plain_parts}
 use Rattle.board_shapes.specs.declared.placed.Room.{Room}
 use Rattle.board_shapes.specs.declared.probe.Probe.{Probe}
@@ -18,10 +18,6 @@ with_pieces b pieces = record { pieces = b.pieces ++ pieces; probes = b.probes; 
 -- the board with these probes and names
 abbrev pub with_netlist : PlainBoard → List Probe → List (List ℕ) → PlainBoard
 with_netlist b probes names = record { pieces = b.pieces; probes = probes; names = names; layers = b.layers }
-
--- how many edges filled pieces have
-abbrev pub edges_in : List PlainPiece → ℕ
-edges_in pieces = sum_by (λ p. figure_edges p.figure) pieces
 
 -- the pieces and edges that may still come: a board has at most 200,000 pieces, and their contours 2,000,000 edges
 abbrev pub room_left : List PlainPiece → Room

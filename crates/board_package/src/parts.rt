@@ -1,12 +1,11 @@
 //! The parts of a board, as files give them.
-ghost use Rattle.std.specs.Prelude.{◌≡◌, ◌≤◌, ◌+◌, length, map, All, OnOk, sum_by};
-ghost use Rattle.board_shapes.specs.Figures.{figure_of, figure_edges};
+ghost use Rattle.std.specs.Prelude.{◌≡◌, ◌≤◌, ◌+◌, length, All, OnOk};
 ghost use Rattle.board_shapes.specs.Lawful.{IsOnLayers};
 ghost use Rattle.board_shapes.specs.Plain.{plain_pieces};
 ghost use Rattle.board_package.specs.Parts as spec;
 ghost use Rattle.board_package.specs.Parts.{board_so_far, empty_board, with_pieces, IsLawfulParts};
 
-use board_shapes::{Piece, Probe, Room};
+use board_shapes::{Piece, Probe, Room, edges_in};
 use lengths::{Rows, Text};
 use std::alloc::{AllocError, Global};
 
@@ -61,16 +60,4 @@ pub fn room_left(pieces: &[Piece]) -> Room
         pieces: MOST_PIECES - pieces.len() as u32,
         edges: MOST_EDGES.saturating_sub(edges) as u32,
     }
-}
-
-// How many edges filled pieces have.
-fn edges_in(pieces: &[Piece]) -> u64
-    requires { length pieces.now ≤ 200000 }
-    ensures { result ≡ spec.edges_in (plain_pieces pieces.now) }
-{
-    let mut edges = 0u64;
-    for piece in pieces {
-        edges += u64::from(piece.shape.edges());
-    }
-    edges
 }
