@@ -1,5 +1,5 @@
 -- How far the words of a file are read.
-use Rattle.std.proofs.Common.{◌≡◌, ℕ, ◌+◌, ◌-◌, ◌<◌, ◌≤◌, Some, None, List, [], ◌∷◌, ◌++◌, length, get_or, All, Ok, Err, refl, sym, ap, ◌∙◌, subst, arith}
+use Rattle.std.proofs.Common.{◌≡◌, ℕ, ◌+◌, ◌-◌, ◌≤◌, Some, None, List, [], ◌∷◌, ◌++◌, length, All, Ok, refl, sym, ap, ◌∙◌, subst, arith}
 use Rattle.std.proofs.lemmas.List.{append-nil, length-map}
 use Rattle.std.proofs.lemmas.List.Elements.{All-push, All-weaker}
 use Rattle.std.proofs.lemmas.List.Sorted.{IsNonDecreasingBy-push}
@@ -8,7 +8,7 @@ use Rattle.file_reading.proofs.Turning.{read-start, read-more}
 use Rattle.gerber_words.specs.Words.{Ahead, Entry, Stop, HasWords, start}
 use Rattle.gerber_words.specs.Items.{word_item, stop_item, items_with}
 use Rattle.gerber_words.specs.Laws.{HasOneReadingAhead}
-use Rattle.x2_nets.specs.Labels.{AreSaid, IsFault, IsRead, Rise, Said, nothing, named, unnamed, judged, judged_after, label_of, labels_of, no_text, said_of, stop_says}
+use Rattle.x2_nets.specs.Labels.{AreSaid, IsFault, IsRead, Rise, Said, nothing, named, unnamed, judged, judged_after, label_of, labels_of, said_of, stop_says}
 use Rattle.x2_nets.specs.Seen.{IsAmiss}
 use Rattle.x2_nets.specs.declared.listing.LabelFault.{LabelFault}
 use Rattle.x2_nets.specs.declared.listing.LabelFault.TheVariants as fault

@@ -2,7 +2,6 @@
 use Rattle.std.specs.Prelude.{◌≡◌, ℕ, List}
 use Rattle.file_reading.specs.Reading as reading
 use Rattle.x2_nets.specs.Labels.{Said, IsRead, IsRefused, before_command, label_before, labels_of, name_at}
-use Rattle.x2_nets.specs.declared.table.Label.{Label}
 
 -- The list of labels knows what looking back over the words finds.
 abbrev pub LooksBack : Type 0

@@ -1,5 +1,5 @@
 -- What a word says, without where it lies in memory, and what an answer on it tells.
-use Rattle.std.specs.Prelude.{◌≡◌, ℕ, List, Err}
+use Rattle.std.specs.Prelude.{◌≡◌, ℕ, Err}
 use Rattle.x2_nets.specs.Labels.{Said, nothing, named, unnamed, judged, no_text}
 use Rattle.x2_nets.specs.declared.said.Said.{Said as Seen}
 use Rattle.x2_nets.specs.declared.said.Said.TheVariants as seen

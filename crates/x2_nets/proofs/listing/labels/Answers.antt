@@ -1,4 +1,4 @@
-use Rattle.std.proofs.Common.{rules, ◌≡◌, ◌+◌, length, ap, arith}
+use Rattle.std.proofs.Common.{rules, ◌≡◌, length, ap, arith}
 use Rattle.gerber_words.specs.Words.{Ahead, start, ended, broken}
 use Rattle.gerber_words.specs.Stepping.{ahead, entry_of}
 use Rattle.x2_nets.specs.Labels.{IsFault, said_of}

@@ -1,4 +1,4 @@
-use Rattle.std.proofs.Common.{◌≡◌, List, sym, ap, ◌∙◌}
+use Rattle.std.proofs.Common.{List, ap, ◌∙◌}
 use Rattle.x2_nets.proofs.InForce.{no_name, name_found}
 use Rattle.x2_nets.specs.Labels.{name_at}
 use Rattle.x2_nets.specs.declared.table.Label.{Label}
