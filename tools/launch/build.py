@@ -2,8 +2,8 @@
 """Builds the program of a checkout and then runs a command: build.py TOP COMMAND [WORD ..]
 
 The program is taken where it stands for the very same sources: in the checkout, where the gate left it, or among the
-programs that this user's earlier builds and gates kept. Else every crate is proved, as many at a time as there are
-processors and memory, and the program is built. What was proved stays, so an interrupted call goes on where it was.
+programs that this user's earlier builds and gates kept. Else every crate is proved, as many at a time as processors
+and memory serve, and the program is built. What was proved stays, so an interrupted call goes on where it was.
 
     build.py --keep TOP      keeps a program that was built, for other checkouts of the same sources
 """
@@ -31,12 +31,11 @@ def crates_of(top):
         return [line.split(":")[0].split()[0] for line in file if ":" in line and not line.startswith("#")]
 
 
-def at_a_time():
-    """As many checks as there are processors and free memory."""
-    processors = len(os.sched_getaffinity(0))
+def checks(each):
+    """So many checks for each processor, as far as free memory goes."""
     with open("/proc/meminfo", encoding="ascii") as file:
         free = next((int(line.split()[1]) << 10 for line in file if line.startswith("MemAvailable:")), 0)
-    return max(1, min(processors, free // MEMORY_OF_A_CHECK))
+    return max(1, min(each * len(os.sched_getaffinity(0)), free // MEMORY_OF_A_CHECK))
 
 
 def line_of_rt():
@@ -107,7 +106,8 @@ class Build:
     def libraries(self):
         """Proves every crate under the program's, and leaves the program's check, which alone can use all processors."""
         wanted, said, block, is_left = set(self.crates) - {"boardnet"}, {}, [], False
-        running = self.start(self.top, ["rt", "all", "check", "--jobs", str(at_a_time())])
+        # Of the checks that rt begins some only wait for the crates below theirs: so it gets more of them than processors.
+        running = self.start(self.top, ["rt", "all", "check", "--jobs", str(checks(2))])
         with open(self.log, "wb") as log:
             for line in self.progress.lines(running):
                 log.write(line)
@@ -134,7 +134,7 @@ class Build:
     def program(self):
         """Proves the crate of the program and builds it; rt then runs the program without words, which answers 2."""
         self.progress.says = "proving and building the program"
-        running = self.start(self.crate, ["rt", "run", "--jobs", str(at_a_time())])
+        running = self.start(self.crate, ["rt", "run", "--jobs", str(checks(1))])
         is_run = False
         with open(self.log, "ab") as log:
             for line in self.progress.lines(running):
@@ -156,11 +156,16 @@ class Build:
             self.progress.end()
 
 
+def logic_of(line):
+    """What the line of `rt version` says of the logic: kits of one logic prove the same, whatever their names."""
+    return line.partition(" logic ")[2] or line
+
+
 def warn_of_other_kit(top):
     with open(os.path.join(top, "tools", "toolchain"), encoding="utf-8") as file:
         wanted = file.read().strip()
     found = line_of_rt()
-    if found != wanted:
+    if logic_of(found) != logic_of(wanted):
         print(f"boardnet: rt version prints {found or 'nothing'}; these sources are made for {wanted}", file=sys.stderr)
     return found
 

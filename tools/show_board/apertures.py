@@ -37,7 +37,8 @@ def standard(name, lengths, hole):
         raise Refused("a size under 0")
     low, high = [even_down(v) for v in lengths], [even_up(v) for v in lengths]
     if hole:
-        return Shape(holed(name, low, hole), solid(name, high))
+        lower, upper = holed(name, low, hole), solid(name, high)
+        return Shape(lower, upper, "a shape with a hole" if upper and not lower else None)
     if low != high and 0 in low:
         return Shape([], solid(name, high), "a size under 0.2 nm")
     return Pen(lengths[0] / 2 if name == CIRCLE else None, (low, high))

@@ -69,7 +69,7 @@ class Lists(unittest.TestCase):
         self.assertEqual(self.run_lists("--check"), (0, "lists: current\n"))
 
     def test_readme_is_short(self):
-        self.assertLessEqual(len((lists.TOP / "README.md").read_bytes()), 9600)
+        self.assertLessEqual(len((lists.TOP / "README.md").read_bytes()), 9000)
 
     def test_first_sentences(self):
         for source, wanted in SENTENCES:

@@ -1,10 +1,10 @@
 -- A contour, and the points of the area that it bounds.
 use Rattle.std.specs.Prelude.{List, [], ◌∷◌, ℤ, pos, ◌+ℤ◌, ◌-ℤ◌, ◌*ℤ◌, ◌≤ℤ◌, ◌<ℤ◌, ◌≡◌, ◌≤◌, ◌<◌, ◌⊎◌, length, All}
 use Rattle.planar.specs.Plane.{RayCrosses, InCapsule, IsPlaced, Point, Share}
-use Rattle.std.specs.Int.{int_min, int_max}
 use lib.IntN.{ℤ_set}
 use Rattle.planar.specs.declared.Spot.{Spot}
 use Rattle.contact.specs.declared.Bounds.{Bounds}
+use Rattle.contact.specs.Solid.{joined}
 use Rattle.area_contact.specs.declared.AreaFault.{AreaFault}
 use Rattle.area_contact.specs.declared.AreaFault.TheVariants.{Open, Short, TooLong, NoMemory}
 use Rattle.area_contact.specs.declared.Edge.{Edge}
@@ -64,9 +64,13 @@ pub IsClosed-prop : (points : List Spot) → IsProp (IsClosed points)
 IsClosed-prop [] = hlevel (ℤ_set)
 IsClosed-prop (a ∷ rest) = hlevel (ℤ_set)
 
+-- the box of one spot
+abbrev pub box_of_spot : Spot → Bounds
+box_of_spot p = record { left = p.x; low = p.y; right = p.x; high = p.y }
+
 -- the least box with b in it and the spot
 abbrev pub widened : Bounds → Spot → Bounds
-widened b p = record { left = int_min b.left p.x; low = int_min b.low p.y; right = int_max b.right p.x; high = int_max b.high p.y }
+widened b p = joined b (box_of_spot p)
 
 -- and with each spot of the list
 abbrev pub widened_by : Bounds → List Spot → Bounds
@@ -75,7 +79,7 @@ widened_by b (p ∷ rest) = widened_by (widened b p) rest
 
 -- from the least to the greatest coordinates of the corners
 abbrev pub box_from : Spot → List Spot → Bounds
-box_from a rest = widened_by (record { left = a.x; low = a.y; right = a.x; high = a.y }) rest
+box_from a rest = widened_by (box_of_spot a) rest
 
 -- and of a list of corners
 abbrev pub area_box : List Spot → Bounds

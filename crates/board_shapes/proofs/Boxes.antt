@@ -4,9 +4,10 @@ use Rattle.std.proofs.lemmas.Int.{ints, clamps}
 use Rattle.std.proofs.lemmas.List.Elements.{All-nil, All-cons, All-weaker}
 use Rattle.planar.specs.declared.Frame.{Frame}
 use Rattle.contact.specs.declared.Bounds.{Bounds}
+use Rattle.contact.specs.Solid.{joined}
 use Rattle.board_shapes.specs.declared.shape.Shape.{Shape}
 use Rattle.board_shapes.specs.declared.placed.Placed.{Placed}
-use Rattle.board_shapes.specs.CommonBox.{joined, box_around, common_box, FitsFrame, frame_over}
+use Rattle.board_shapes.specs.CommonBox.{box_around, common_box, FitsFrame, frame_over}
 use Rattle.board_shapes.specs.Lawful.{IsInsideFrame}
 use Rattle.board_shapes.specs.Pieces.{PlainPiece, plain_pieces}
 use Rattle.board_shapes.specs.Figures.{figure_box}

@@ -1,15 +1,11 @@
 -- The common box of pieces, and the frame that lies over it.
 use Rattle.std.specs.Prelude.{pos, ◌-ℤ◌, ◌≤ℤ◌, List, [], ◌∷◌, Option, Some, None}
-use Rattle.std.specs.Int.{int_min, int_max}
 use Rattle.planar.specs.declared.Frame.{Frame}
 use Rattle.planar.specs.declared.TheConstants.{SIDE}
 use Rattle.contact.specs.declared.Bounds.{Bounds}
+use Rattle.contact.specs.Solid.{joined}
 use Rattle.board_shapes.specs.Figures.{figure_box}
 use Rattle.board_shapes.specs.Pieces.{PlainPiece}
-
--- the least box with both boxes in it
-abbrev pub joined : Bounds → Bounds → Bounds
-joined b c = record { left = int_min b.left c.left; low = int_min b.low c.low; right = int_max b.right c.right; high = int_max b.high c.high }
 
 -- the least box with the box in it and the boxes of the pieces
 abbrev pub box_around : Bounds → List PlainPiece → Bounds

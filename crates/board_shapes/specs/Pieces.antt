@@ -1,9 +1,9 @@
 -- Pieces as plain data.
-use Rattle.std.specs.Prelude.{ℕ, List, map}
+use Rattle.std.specs.Prelude.{ℕ, List, map, sum_by}
 use Rattle.board_shapes.specs.declared.shape.Shape.{Shape}
 use Rattle.board_shapes.specs.declared.placed.Origin.{Origin}
 use Rattle.board_shapes.specs.declared.placed.Placed.{Placed}
-use Rattle.board_shapes.specs.Figures.{Figure, figure_of}
+use Rattle.board_shapes.specs.Figures.{Figure, figure_edges, figure_of}
 
 -- a figure on a span of layers
 pub record PlainPiece : Type 0 where
@@ -17,3 +17,7 @@ plain_piece p = record { figure = figure_of p.shape; top = p.top; bottom = p.bot
 
 abbrev pub plain_pieces : List (Placed Shape) → List PlainPiece
 plain_pieces pieces = map plain_piece pieces
+
+-- how many edges the figures of the pieces have
+abbrev pub edges_in : List PlainPiece → ℕ
+edges_in pieces = sum_by (λ p. figure_edges p.figure) pieces

@@ -1,5 +1,5 @@
 // The common box of pieces, and whether it fits a frame.
-ghost use Rattle.board_shapes.specs.CommonBox.{FitsFrame, box_around, common_box, frame_over, joined};
+ghost use Rattle.board_shapes.specs.CommonBox.{FitsFrame, box_around, common_box, frame_over};
 ghost use Rattle.board_shapes.specs.Pieces.{plain_pieces};
 ghost use Rattle.planar.specs.declared.TheConstants.{SIDE};
 ghost use Rattle.std.specs.Prelude.{IsTrue, ◌-ℤ◌, ◌≡◌, ◌≤ℤ◌, ◌↔◌};
@@ -24,21 +24,9 @@ fn widened(first: Bounds, pieces: &[Piece]) -> Bounds
 {
     let mut all = first;
     for piece in pieces {
-        all = join(all, piece.shape.bounds());
+        all = all.joined_with(&piece.shape.bounds());
     }
     all
-}
-
-/// The least box with both boxes in it.
-fn join(b: Bounds, c: Bounds) -> Bounds
-    ensures { result ≡ joined b c }
-{
-    Bounds {
-        left: b.left.min(c.left),
-        low: b.low.min(c.low),
-        right: b.right.max(c.right),
-        high: b.high.max(c.high),
-    }
 }
 
 /// The frame from the lower left corner of the box.

@@ -3,6 +3,7 @@
 
 pub mod board;
 mod common_box;
+mod edges;
 pub mod laws;
 pub mod moved;
 pub mod placed;
@@ -10,6 +11,7 @@ pub mod probe;
 pub mod shape;
 
 pub use board::{Board, BoardFault};
+pub use edges::edges_in;
 pub use moved::MoveFault;
 pub use placed::{Origin, Piece, Placed, Room};
 pub use probe::Probe;

@@ -2,14 +2,14 @@
 ghost use Rattle.board_shapes.specs.Figures.{area_figure, capsule_figure, figure_of};
 ghost use Rattle.board_shapes.specs.Moved.{IsMoveFault, IsShift, StaysPlaced, moved_piece, shifted, shifted_figure};
 ghost use Rattle.board_shapes.specs.Pieces.{plain_piece};
-ghost use Rattle.planar.specs.Plane.{IsPlaced, IsReached};
-ghost use Rattle.std.specs.Prelude.{All, IfErr, IfOk, IsTrue, map, ◌≡◌, ◌↔◌};
+ghost use Rattle.planar.specs.Plane.{IsPlaced};
+ghost use Rattle.std.specs.Prelude.{All, IfErr, IfOk, map, ◌≡◌};
 
 use crate::placed::{Origin, Piece, Placed};
 use crate::shape::Shape;
 use area_contact::{Area, AreaFault};
 use contact::Capsule;
-use planar::{METRE, Spot};
+use planar::{Spot, is_placed};
 use std::alloc::Global;
 use thiserror::Error;
 
@@ -151,23 +151,4 @@ fn shift_spot(p: Spot, by: Shift) -> Spot
         x: p.x + by.x,
         y: p.y + by.y,
     }
-}
-
-/// Whether the spot is within 1 m.
-fn is_placed(p: Spot) -> bool
-    ensures { IsTrue result ↔ IsPlaced p }
-{
-    is_placed_across(p) && is_placed_up(p)
-}
-
-fn is_placed_across(p: Spot) -> bool
-    ensures { IsTrue result ↔ IsReached p.x }
-{
-    p.x.unsigned_abs() <= METRE
-}
-
-fn is_placed_up(p: Spot) -> bool
-    ensures { IsTrue result ↔ IsReached p.y }
-{
-    p.y.unsigned_abs() <= METRE
 }

@@ -1,7 +1,7 @@
-//! What is asked of boxes.
-ghost use Rattle.contact.specs.Solid.{InBox, IsBetween, IsInside, LiesIn, Overlap, SharePoint};
+//! What is asked of boxes, and the box of two.
+ghost use Rattle.contact.specs.Solid.{InBox, IsBetween, IsInside, LiesIn, Overlap, SharePoint, joined};
 ghost use Rattle.planar.specs.Plane.{at};
-ghost use Rattle.std.specs.Prelude.{IsTrue, ◌↔◌};
+ghost use Rattle.std.specs.Prelude.{IsTrue, ◌≡◌, ◌↔◌};
 
 use super::Bounds;
 use planar::{Frame, SIDE, Spot};
@@ -25,6 +25,18 @@ impl Bounds {
         ensures { IsTrue result ↔ Overlap self.now.low self.now.high other.now.low other.now.high }
     {
         self.low.max(other.low) <= self.high.min(other.high)
+    }
+
+    /// The least box with both boxes in it.
+    pub fn joined_with(&self, other: &Bounds) -> Bounds
+        ensures { result ≡ joined self.now other.now }
+    {
+        Bounds {
+            left: self.left.min(other.left),
+            low: self.low.min(other.low),
+            right: self.right.max(other.right),
+            high: self.high.max(other.high),
+        }
     }
 
     /// Whether the box lies in the frame, wherever the frame's corner is.

@@ -4,7 +4,7 @@
 //! rational points lie in it; the traits carry the laws that the crates above rest on, whatever the
 //! solid. No call takes memory or refuses.
 //!
-//! - `extents`: whether boxes share a point, lie in a frame, hold a spot.
+//! - `extents`: whether boxes share a point, lie in a frame, hold a spot; the box of two.
 //! - `round`: the segment with a radius as a solid.
 //! - `laws`: laws over the definitions alone.
 #![tactic(auto)]

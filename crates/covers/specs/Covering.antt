@@ -11,7 +11,7 @@ pub record HasAt (holds : ℕ → Point → Type 0) (b : Layout) (i layer : ℕ)
   pub layers : InSpan span.top span.bottom layer
   pub place : holds i p
 
--- Some pieces of board c have all copper of piece i of board b, layer by layer, and are joined among themselves.
+-- Some pieces of board c have all copper of piece i of board b, layer by layer, and are joined with one another on c.
 pub record IsCovered (holds : ℕ → Point → Type 0) (b : Layout) (holds' : ℕ → Point → Type 0) (c : Layout) (i : ℕ) : Type 0 where
   pub cover : List ℕ
   pub covers : (layer : ℕ) (p : Point) → HasAt holds b i layer p → (j : ℕ) × Contains cover j × HasAt holds' c j layer p

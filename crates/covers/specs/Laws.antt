@@ -39,7 +39,7 @@ pub record IsBetween (lower upper : PlainBoard) (v w : Verdict) (holds : ℕ →
 pub record Decides (v w : Verdict) (holds : ℕ → Point → Type 0) (real : Layout) : Type 0 where
   -- What is on one net below is joined, so shorts below are the board's.
   pub shorts : (k l : ℕ) → HaveOneNet v k l → PointsJoined holds real k l
-  -- What is joined is on one net above, so opens above are the board's.
+  -- What is joined is on one net above, so points that an open above parts are not joined.
   pub opens : (k l : ℕ) → PointsJoined holds real k l → HaveOneNet w k l
   -- A point without a net above has no copper.
   pub missing : (k : ℕ) → IsWithoutNet w k → HasCopper holds real k → ⊥

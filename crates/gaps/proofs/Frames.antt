@@ -3,8 +3,8 @@ use Rattle.std.proofs.Common.{ℤ, List, [], ◌∷◌, All, Some, None, arith}
 use Rattle.std.proofs.lemmas.Int.{ints, clamps}
 use Rattle.std.proofs.lemmas.List.Elements.{All-nil, All-cons, All-weaker}
 use Rattle.contact.specs.declared.Bounds.{Bounds}
-use Rattle.contact.specs.Solid.{IsInside}
-use Rattle.board_shapes.specs.CommonBox.{joined, Fits, FitsFrame, frame_over}
+use Rattle.contact.specs.Solid.{IsInside, joined}
+use Rattle.board_shapes.specs.CommonBox.{Fits, FitsFrame, frame_over}
 use Rattle.board_shapes.specs.Pieces.{PlainPiece}
 use Rattle.board_shapes.proofs.Boxes.{LiesWithin}
 use Rattle.gaps.specs.GrownBox.{grown_around, grown_box, grown_common}

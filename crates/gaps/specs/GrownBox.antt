@@ -1,7 +1,8 @@
 -- The common box of the pieces of a board, each grown by a distance, and what stands where it fits no frame.
 use Rattle.std.specs.Prelude.{◌≡◌, ℤ, List, [], ◌∷◌, Option, Some, None}
 use Rattle.contact.specs.declared.Bounds.{Bounds}
-use Rattle.board_shapes.specs.CommonBox.{Fits, FitsFrame, joined}
+use Rattle.contact.specs.Solid.{joined}
+use Rattle.board_shapes.specs.CommonBox.{Fits, FitsFrame}
 use Rattle.board_shapes.specs.Figures.{figure_box}
 use Rattle.board_shapes.specs.Pieces.{PlainPiece}
 use Rattle.gaps.specs.Grown.{wider_box}

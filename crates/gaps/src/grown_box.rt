@@ -1,5 +1,5 @@
 //! The common box of grown pieces, and the frame that lies over it.
-ghost use Rattle.board_shapes.specs.CommonBox.{Fits, frame_over, joined};
+ghost use Rattle.board_shapes.specs.CommonBox.{Fits, frame_over};
 ghost use Rattle.board_shapes.specs.Pieces.{plain_piece, plain_pieces};
 ghost use Rattle.gaps.specs.GrownBox.{IsGapFault, grown_around, grown_box, grown_common};
 ghost use Rattle.std.specs.Prelude.{IfErr, IfOk, pos, ◌≡◌, ◌≤◌};
@@ -36,21 +36,9 @@ fn around(first: Bounds, pieces: &[Piece], grow: u32) -> Bounds
 {
     let mut all = first;
     for piece in pieces {
-        all = join(all, grown(piece, grow));
+        all = all.joined_with(&grown(piece, grow));
     }
     all
-}
-
-/// The least box with both boxes in it.
-fn join(b: Bounds, c: Bounds) -> Bounds
-    ensures { result ≡ joined b c }
-{
-    Bounds {
-        left: b.left.min(c.left),
-        low: b.low.min(c.low),
-        right: b.right.max(c.right),
-        high: b.high.max(c.high),
-    }
 }
 
 /// The frame from the lower left corner of the box. A box with a side over the frame's is a fault.

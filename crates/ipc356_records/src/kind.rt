@@ -2,7 +2,6 @@
 ghost use Rattle.std.specs.Prelude.{◌≡◌};
 ghost use Rattle.ipc356_records.specs.Kind.{name_of_kind, number_of_kind};
 
-use file_reading::Halt;
 use lengths::NoMemory;
 use thiserror::Error;
 
@@ -81,17 +80,6 @@ impl RecordKind {
 pub enum RecordFault {
     Refused { kind: RecordKind, line: u32 },
     NoMemory,
-}
-
-impl From<RecordKind> for Halt<RecordKind> {
-    ghost use Rattle.std.specs.Prelude.{◌≡◌};
-    ghost use Rattle.file_reading.specs.declared.halt.Halt.TheVariants.{Fault};
-
-    ghost from_gives = { λ kind stop. stop ≡ Fault kind };
-
-    fn from(kind: RecordKind) -> Halt<RecordKind> {
-        Halt::Fault(kind)
-    }
 }
 
 impl From<NoMemory> for RecordFault {

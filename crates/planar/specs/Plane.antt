@@ -1,5 +1,5 @@
 -- The plane: points with rational coordinates, and what it means to lie in a capsule.
-use Rattle.std.specs.Prelude.{ℕ, ℤ, pos, neg_ℤ, ◌+ℤ◌, ◌-ℤ◌, ◌*ℤ◌, ◌≤ℤ◌, ◌<ℤ◌, ◌⊎◌}
+use Rattle.std.specs.Prelude.{ℕ, nat_le, Bool, ◌&&◌, ℤ, pos, neg_ℤ, unsigned_abs, ◌+ℤ◌, ◌-ℤ◌, ◌*ℤ◌, ◌≤ℤ◌, ◌<ℤ◌, ◌⊎◌}
 use Rattle.planar.specs.declared.Frame.{Frame}
 use Rattle.planar.specs.declared.Spot.{Spot}
 use Rattle.planar.specs.declared.TheConstants.{METRE, MOST_REACH, SIDE, TWO_METRES}
@@ -68,6 +68,10 @@ IsReached z = IsWithin METRE z
 -- a spot whose coordinates are
 abbrev pub IsPlaced : Spot → Type 0
 IsPlaced p = IsReached p.x × IsReached p.y
+
+-- the same as a test
+abbrev pub is_placed : Spot → Bool
+is_placed p = nat_le (unsigned_abs p.x) METRE && nat_le (unsigned_abs p.y) METRE
 
 -- a way between two such spots
 abbrev pub IsShort : Way → Type 0

@@ -4,6 +4,7 @@
 //! coordinate lies between -10^10 and 10^10, one metre to each side of 0. Points of segments are
 //! rational: no call rounds, takes memory or refuses.
 //!
+//! - `places`: whether spots lie within one metre.
 //! - `ways`: the cross and the scalar product of two ways.
 //! - `sides`: the hand of a line that a spot lies on; whether a ray crosses an edge.
 //! - `meeting`: whether two closed segments share a point.
@@ -14,11 +15,13 @@
 mod distance;
 pub mod laws;
 mod meeting;
+mod places;
 mod sides;
 mod ways;
 
 pub use distance::segments_within;
 pub use meeting::segments_meet;
+pub use places::{are_placed, is_placed};
 pub use sides::{ray_crosses, which_side};
 pub use ways::{cross, dot};
 

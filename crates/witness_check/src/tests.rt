@@ -201,108 +201,144 @@ fn supplement(alloc: Global, x: i64, copy: u32) -> Result<Supplement, NoMemory> 
     Ok(Supplement { spots, sources })
 }
 
-#[test]
-fn verdicts_from_anywhere(rt: HostRuntime) -> Result<(), Fail> {
-    let alloc = rt.alloc();
-    let board = Board::new(discs(alloc)?, probes(alloc)?, names(alloc)?, 1).expect(&rt, "a board");
-    let rows: [(&str, &[Word], &[Option<u32>], u8); 18] = [
-        ("no nets", &[], &[], 2),
-        (
+// A verdict with these nets and points, and the first clause that fails.
+#[derive(Clone, Copy)]
+struct Case {
+    what: &'static str,
+    words: &'static [Word],
+    points: &'static [Option<u32>],
+    clause: u8,
+}
+
+fn row(
+    what: &'static str,
+    words: &'static [Word],
+    points: &'static [Option<u32>],
+    clause: u8,
+) -> Case {
+    Case {
+        what,
+        words,
+        points,
+        clause,
+    }
+}
+
+fn rows() -> [Case; 18] {
+    [
+        row("no nets", &[], &[], 2),
+        row(
             "an empty net",
             &[End, Root(0), On(1, 0), End, Root(2), End],
             &[],
             1,
         ),
-        (
+        row(
             "parents in a circle",
             &[Root(0), On(1, 2), On(2, 1), End],
             &[],
             1,
         ),
-        (
+        row(
             "its own parent",
             &[Root(0), On(1, 1), End, Root(2), End],
             &[],
             1,
         ),
-        (
+        row(
             "its own parent again",
             &[Root(0), On(1, 0), On(1, 1), End, Root(2), End],
             &[],
             1,
         ),
-        (
+        row(
             "a parent of another net",
             &[Root(0), End, Root(1), On(1, 0), End, Root(2), End],
             &[],
             1,
         ),
-        (
+        row(
             "a parent that does not touch",
             &[Root(0), On(1, 0), On(2, 1), End],
             &[],
             1,
         ),
-        ("past the board", &[Root(0), On(3, 0), End], &[], 1),
-        ("far past the board", &[Root(u32::MAX), End], &[], 1),
-        (
+        row("past the board", &[Root(0), On(3, 0), End], &[], 1),
+        row("far past the board", &[Root(u32::MAX), End], &[], 1),
+        row(
             "a parent past the board",
             &[Root(0), On(1, u32::MAX), End],
             &[],
             1,
         ),
-        (
+        row(
             "the first is not the least",
             &[Root(1), On(0, 1), End, Root(2), End],
             &[],
             1,
         ),
-        (
+        row(
             "equal first pieces",
             &[Root(0), On(1, 0), End, Root(0), End, Root(2), End],
             &[],
             1,
         ),
-        (
+        row(
             "a piece twice",
             &[Root(0), On(1, 0), On(1, 0), End, Root(2), End],
             &[],
             2,
         ),
-        (
+        row(
             "the first piece twice",
             &[Root(0), On(1, 0), On(0, 1), End, Root(2), End],
             &[],
             2,
         ),
-        (
+        row(
             "a piece of two nets",
             &[Root(0), On(1, 0), End, Root(1), End, Root(2), End],
             &[],
             2,
         ),
-        (
+        row(
             "a net in two",
             &[Root(0), End, Root(1), End, Root(2), End],
             &[],
             3,
         ),
-        (
+        row(
             "a net that is not there",
             &[Root(0), On(1, 0), End, Root(2), End],
             &[Some(9), Some(0), None],
             4,
         ),
-        (
+        row(
             "a line too few",
             &[Root(0), On(1, 0), End, Root(2), End],
             &[Some(0), Some(0)],
             4,
         ),
-    ];
-    for (what, words, points, clause) in rows {
-        let v = verdict(alloc, words, points)?;
-        assert_eq!(rt; audit(alloc, &board, &v)?, Ruling::Untrue(clause), "{what}");
+    ]
+}
+
+// What the audit says of the verdict of a row.
+fn ruling(alloc: Global, board: &Board, row: &Case) -> Result<Ruling, NoMemory> {
+    let v = verdict(alloc, row.words, row.points)?;
+    audit(alloc, board, &v)
+}
+
+#[test]
+fn verdicts_from_anywhere(rt: HostRuntime) -> Result<(), Fail> {
+    let alloc = rt.alloc();
+    let board = Board::new(discs(alloc)?, probes(alloc)?, names(alloc)?, 1).expect(&rt, "a board");
+    for row in rows() {
+        assert_eq!(rt;
+            ruling(alloc, &board, &row)?,
+            Ruling::Untrue(row.clause),
+            "{}",
+            row.what
+        );
     }
     Ok(())
 }

@@ -2,7 +2,6 @@
 ghost use Rattle.std.specs.Prelude.{◌≡◌};
 ghost use Rattle.xnc.specs.Kind.{name_of_kind, number_of_kind};
 
-use file_reading::Halt;
 use lengths::GridFault;
 use thiserror::Error;
 
@@ -122,16 +121,5 @@ impl From<GridFault> for DrillKind {
             GridFault::OffGrid => DrillKind::OffGrid,
             GridFault::OutOfRange => DrillKind::OutOfRange,
         }
-    }
-}
-
-impl From<DrillKind> for Halt<DrillKind> {
-    ghost use Rattle.std.specs.Prelude.{◌≡◌};
-    ghost use Rattle.file_reading.specs.declared.halt.Halt.TheVariants.{Fault};
-
-    ghost from_gives = { λ kind halt. halt ≡ Fault kind };
-
-    fn from(kind: DrillKind) -> Halt<DrillKind> {
-        Halt::Fault(kind)
     }
 }

@@ -71,6 +71,8 @@ class Files(unittest.TestCase):
         for p, inside in rows:
             self.assertEqual(has(low, fine(p)), inside, p)
             self.assertTrue(has(high, fine(p)))
+        for aperture, lost in (("C,1X1", ["a shape with a hole at command 6"]), ("C,0X1", []), ("C,1X.4", [])):
+            self.assertEqual(copper_of(f"%ADD10{aperture}*%", "D10*", "X0Y0D03*").lost, lost)
 
     def test_single_quadrant(self):
         copper = copper_of("%ADD10C,0.2*%", "D10*", "G74*", "X1000000Y0D02*", "G03X0Y1000000I1000000J0D01*")
