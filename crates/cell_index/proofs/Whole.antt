@@ -174,11 +174,14 @@ finds_met wanted copies bounds patch found inside flat within is wide cells q be
           let few = is.some_up in
           let fx = (is.across patch.left (below_last patch.left patch.right small.0 small.1)).1 (same patch.left, small.0) in
           let fy = (is.up patch.low (below_last patch.low patch.high few.0 few.1)).1 (same patch.low, few.0) in
-          cells x.0 y.0 px.0 px.1 py.0 py.1 q (cell_at (λ s. s.bounds) corner copies 1 x.0 y.0 q some.0 here on.0 on.1 narrow bx by') (asked, record {
-            boxes = is_met;
-            from_left = subst (λ (b : Bounds). Begins patch.left x.0 b.left) (sym eb) (begins bounds.left some.0.shape.bounds.left bounds.right patch.left x.0 x.1 px.0 fx);
-            from_low = subst (λ (b : Bounds). Begins patch.low y.0 b.low) (sym eb) (begins bounds.low some.0.shape.bounds.low bounds.high patch.low y.0 y.1 py.0 fy);
-          }))
+          cells x.0 y.0 px.0 px.1 py.0 py.1 q (cell_at (λ s. s.bounds) corner copies 1 x.0 y.0 q some.0 here on.0 on.1 narrow bx by') (
+            asked,
+            record {
+              boxes = is_met;
+              from_left = subst (λ (b : Bounds). Begins patch.left x.0 b.left) (sym eb) (begins bounds.left some.0.shape.bounds.left bounds.right patch.left x.0 x.1 px.0 fx);
+              from_low = subst (λ (b : Bounds). Begins patch.low y.0 b.low) (sym eb) (begins bounds.low some.0.shape.bounds.low bounds.high patch.low y.0 y.1 py.0 fy);
+            },
+          ))
     ]
 
 -- what touches is found, where the copies of what touches meet

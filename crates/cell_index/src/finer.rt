@@ -59,12 +59,7 @@ impl Finer {
 
     /// Puts into `into`, rising, pieces among which are all whose copies meet the copy of piece i, of those that are wanted.
     /// After a refusal `into` holds anything.
-    pub fn met<W: Wanted>(
-        &self,
-        i: usize,
-        wanted: &W,
-        into: &mut Vec<u32>,
-    ) -> Result<(), NoMemory>
+    pub fn met<W: Wanted>(&self, i: usize, wanted: &W, into: &mut Vec<u32>) -> Result<(), NoMemory>
         requires piece { i < length self.now.copies.items }
         ensures known { OnOk result (All (λ q. q < length self.now.copies.items) into.new.items) }
         ensures rising { OnOk result (IsStrictlyIncreasing into.new.items) }
@@ -73,7 +68,15 @@ impl Finer {
         into.clear();
         let bounds = self.copies[i].shape.bounds();
         let patch = Patch::of(bounds, CORNER);
-        self.gather(self.wide(), wanted, bounds, &patch, patch.left, patch.low, into)?;
+        self.gather(
+            self.wide(),
+            wanted,
+            bounds,
+            &patch,
+            patch.left,
+            patch.low,
+            into,
+        )?;
         self.in_patch(wanted, bounds, &patch, into)?;
         put_in_order(into);
         Ok(())
@@ -115,7 +118,15 @@ impl Finer {
         ensures cells { OnOk result ((across : ℕ) → patch.now.left ≤ across → across ≤ patch.now.right → Finds (W.wanted wanted.now) self.now.copies.items bounds patch.now across up (cell_of (λ s. s.bounds) corner self.now.copies.items 1 across up) into.new.items) }
     {
         for across in patch.left..patch.right + 1 {
-            self.gather(self.cell(across, up), wanted, bounds, patch, across, up, into)?;
+            self.gather(
+                self.cell(across, up),
+                wanted,
+                bounds,
+                patch,
+                across,
+                up,
+                into,
+            )?;
         }
         Ok(())
     }
