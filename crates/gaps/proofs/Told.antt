@@ -1,16 +1,18 @@
 -- What the calls read.
-use Rattle.std.proofs.Common.{Bool, false, IsTrue, FitsSigned, to_z, of_z, to_z-of_z, w64, ◌≡◌, ◌↔◌, ℕ, ℤ, pos, ◌+ℤ◌, ◌-ℤ◌, ◌≤ℤ◌, suc, List, [], ◌∷◌, All, arith, sym, subst}
+use Rattle.std.proofs.Common.{Bool, false, IsTrue, FitsSigned, to_z, of_z, to_z-of_z, w64, ◌≡◌, ◌↔◌, ℕ, ℤ, pos, ◌+ℤ◌, ◌-ℤ◌, ◌≤ℤ◌, suc, List, [], ◌∷◌, All, arith, ap, sym, subst, ◌∙◌}
 use Rattle.std.proofs.lemmas.Int.{ints, clamps}
 use Rattle.std.specs.Int.{int_min, int_max}
 use Rattle.planar.specs.declared.Frame.{Frame}
 use Rattle.planar.specs.declared.Spot.{Spot}
 use Rattle.planar.specs.declared.TheConstants.{METRE}
-use Rattle.planar.specs.Plane.{Point, at, InCapsule, IsInFrame, IsPlaced, IsWithin, Share}
+use Rattle.planar.specs.Plane.{Point, at, InCapsule, IsInFrame, IsPlaced, IsWithin, Share, dot_of, square}
+use Rattle.planar.proofs.Ring.{linear, ring}
+use Rattle.planar.proofs.SpotWithin.{spot_before, whole_from_zero}
 use Rattle.contact.specs.declared.Bounds.{Bounds}
 use Rattle.contact.specs.declared.Capsule.{Capsule}
 use Rattle.contact.specs.Round.{box_of}
 use Rattle.contact.specs.Solid.{InBox, IsInside, LiesIn, SharePoint}
-use Rattle.contact.proofs.Rounds.{in_frame}
+use Rattle.contact.proofs.Rounds.{in_frame, share_spot}
 use Rattle.area_contact.proofs.Ladders.{points_in_frame}
 use Rattle.area_contact.specs.declared.Area.{Area}
 use Rattle.area_contact.specs.Contour.{area_box, box_from, edges_from, edges_of, InArea, Reaches, SomeEdge, widened, widened_by}
@@ -29,6 +31,27 @@ reach_read start end a b r t f h = subst (λ (z : ℤ). IsTrue t ↔ Share start
 
 follow : {P Q R : Type 0} → P ↔ Q → R ↔ Q → P ↔ R
 follow e f = (λ h. f.1 (e.0 h), λ h. e.1 (f.0 h))
+
+-- two spots share a point with a reach exactly where they are that near
+spots_share : (p q : Spot) (r : ℤ) → pos 0 ≤ℤ r → Share p p (pos 0) q q r ↔ ((dot_of p q q) ≤ℤ square r)
+spots_share p q r h =
+    let none : dot_of p q p ≡ pos 0 = simp ring (omega (arith, linear)) in
+    let back : (dot_of p q p) ≤ℤ pos 0 = omega (arith, linear, none) in
+    let one : Share p p (pos 0) q q r ↔ InCapsule p p r (at q) = share_spot p p q r h in
+    let two : InCapsule p p r (at q) ↔ ((dot_of p q q) ≤ℤ square r) = spot_before p p r q back in
+    (λ k. two.0 (one.0 k), λ k. one.1 (two.1 k))
+
+pub apart_from_zero : (p q : Spot) → pos 0 ≤ℤ (dot_of p q q)
+apart_from_zero p q = whole_from_zero p q
+
+same_spot : (a b : Spot) → (a.x ≡ b.x) × (a.y ≡ b.y) → a ≡ b
+same_spot a b e = ap (λ (z : ℤ). let p : Spot = record { x = z; y = a.y } in p) e.0 ∙ ap (λ (z : ℤ). let p : Spot = record { x = b.x; y = z } in p) e.1
+
+-- segments that have no length
+pub spots_read : (a b c d : Spot) (r : ℤ) (t : Bool) → ((a.x ≡ b.x) × (a.y ≡ b.y)) × ((c.x ≡ d.x) × (c.y ≡ d.y)) → pos 0 ≤ℤ r → IsTrue t ↔ ((dot_of a c c) ≤ℤ square r) → IsTrue t ↔ Share a b (pos 0) c d r
+spots_read a b c d r t e h k =
+    let l : IsTrue t ↔ Share a a (pos 0) c c r = follow k (spots_share a c r h) in
+    subst (λ (z : Spot). IsTrue t ↔ Share a b (pos 0) c z r) (same_spot c d e.1) (subst (λ (z : Spot). IsTrue t ↔ Share a z (pos 0) c c r) (same_spot a b e.0) l)
 
 -- ---- the box
 
