@@ -211,13 +211,7 @@ fn common_box<S: Closed>(items: &[Placed<S>]) -> Bounds {
         high: i64::MIN,
     };
     for item in items {
-        let one = item.shape.bounds();
-        all = Bounds {
-            left: all.left.min(one.left),
-            low: all.low.min(one.low),
-            right: all.right.max(one.right),
-            high: all.high.max(one.high),
-        };
+        all = all.joined_with(&item.shape.bounds());
     }
     all
 }

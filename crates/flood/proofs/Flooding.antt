@@ -1,11 +1,12 @@
 -- Whole nets one after another.
-use Rattle.std.proofs.Common.{◌≡◌, ◌≢◌, ◌⊎◌, inl, inr, ℕ, ◌+◌, ◌<◌, Bool, false, List, [], ◌∷◌, ◌++◌, length, get_or, replicate, Contains, All, AllPairs, refl, sym, ap, subst, ◌∙◌, arith, length-append}
+use Rattle.std.proofs.Common.{◌≡◌, ◌≢◌, ◌⊎◌, inl, inr, ℕ, ◌+◌, ◌*◌, ◌<◌, ◌≤◌, Bool, false, List, [], ◌∷◌, ◌++◌, length, get_or, replicate, Contains, All, AllPairs, refl, sym, ap, subst, ◌∙◌, arith, length-append}
 use Rattle.std.proofs.lemmas.List.{get_or_append_left, get_or_at, get_or_past, get_or-replicate, length-replicate}
 use Rattle.std.proofs.lemmas.List.Elements.{All-push, All-get_or, All-weaker}
 use Rattle.std.proofs.lemmas.List.Quantifiers.{all_pairs_push}
 use Rattle.std.proofs.lemmas.Bool.{cases_eq}
 use Rattle.verdict.specs.declared.verdict.Twig.{Twig}
 use Rattle.verdict.specs.Forest.{IsTree, IsForest, Holds, pieces_of, first_piece}
+use Rattle.cell_index.specs.Field.{sum_below}
 use Rattle.flood.specs.Flood.{IsSeen, IsWhole}
 use Rattle.flood.proofs.Seen.{le_or_lt, seen_within}
 
@@ -134,3 +135,7 @@ flooded_all count near nets seen f = record {
   };
   apart = λ i j p q h k touches. f.one_net i j q (f.closed i p q h touches) k;
 }
+
+-- what is asked of all pieces is at most twice the pairs
+pub within_pairs : (asked : ℕ → ℕ) (count size pairs start tests : ℕ) → count ≡ size → sum_below asked size ≡ 2 * pairs → tests ≤ start + sum_below asked count → tests ≤ start + 2 * pairs
+within_pairs asked count size pairs start tests same twice within = (let whole : sum_below asked count ≡ sum_below asked size = ap (sum_below asked) same in omega arith)

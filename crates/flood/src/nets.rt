@@ -13,8 +13,8 @@ use std::sync::ledger::Ledger;
 use steps::Steps;
 use verdict::{Tree, Trees, Twig};
 
-/// The nets as trees: by rising least piece, each breadth first. There are at most two contact tests for each pair of
-/// pieces whose boxes meet and whose spans have a common layer.
+/// The nets as trees: by rising least piece, each breadth first. Each piece is asked for its neighbours once, so there are
+/// at most two contact tests for each pair of pieces whose boxes meet and whose spans have a common layer.
 pub fn flood<F: Field, L: Ledger>(
     alloc: Global,
     field: &F,
@@ -25,18 +25,6 @@ pub fn flood<F: Field, L: Ledger>(
     ensures pairs { tests.new ≤ tests.old + 2 * pairs_of (F.size field.now) (F.extent field.now) (F.top field.now) (F.bottom field.now) }
 {
     rivals_are_twice_the_pairs();
-    forest_of(alloc, field, tests)
-}
-
-// The same, where each piece is asked for its neighbours once.
-fn forest_of<F: Field, L: Ledger>(
-    alloc: Global,
-    field: &F,
-    tests: &mut Steps<L>,
-) -> Result<Trees, NoMemory>
-    ensures nets { IfOk result (IsForest (F.size field.now) (IsNear (F.size field.now) (F.touch field.now))) }
-    ensures ticks { tests.new ≤ tests.old + sum_below (rivals_of (F.size field.now) (F.extent field.now) (F.top field.now) (F.bottom field.now)) (F.size field.now) }
-{
     let count = field.count();
     let mut flags = vec![in alloc; false; count]?;
     let seen = flags.as_mut_slice();

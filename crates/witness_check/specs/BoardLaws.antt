@@ -1,5 +1,5 @@
 -- Laws of right verdicts, said of boards themselves: of their pieces, probes and names, and not of tables.
-use Rattle.std.specs.Prelude.{◌≡◌, ◌≢◌, ◌⊎◌, ◌↔◌, ◌<◌, ℕ, false, List, length, Contains, Some, slice_get}
+use Rattle.std.specs.Prelude.{◌≡◌, ◌≢◌, ◌⊎◌, ◌↔◌, ◌<◌, ℕ, false, List, length, Some, slice_get}
 use Rattle.board_shapes.specs.Plain.{PlainBoard}
 use Rattle.board_shapes.specs.Tables.{IsNear, IsTables}
 use Rattle.board_shapes.specs.Touching.{ProbesJoined, UnderAt}
@@ -7,11 +7,10 @@ use Rattle.board_shapes.specs.declared.probe.Probe.{Probe}
 use Rattle.tables.specs.Lists.{IsLeast}
 use Rattle.tables.specs.Tables.{Tables}
 use Rattle.verdict.specs.Forest.{Holds}
-use Rattle.verdict.specs.Right.{BeginsAt, HaveOneNet, IsOn, IsRight, first_on, is_unconnected}
-use Rattle.verdict.specs.declared.verdict.Branch.{Branch}
+use Rattle.verdict.specs.Right.{HaveOneNet, IsOn, IsRight, is_unconnected}
 use Rattle.verdict.specs.declared.verdict.Short.{Short}
 use Rattle.verdict.specs.declared.verdict.Verdict.{Verdict}
-use Rattle.witness_check.specs.Laws.{AreJoinedWithin, HasEnd, HasOther, IsSeated, IsWithoutNet, branch_pieces}
+use Rattle.witness_check.specs.Laws.{HasBranch, HasEnd, HasOther, HasPathAlong, IsSeated, IsWithoutNet}
 
 -- The verdict is right for the board.
 abbrev pub IsRightFor : PlainBoard → Verdict → Type 0
@@ -37,25 +36,12 @@ abbrev pub HasName : PlainBoard → ℕ → ℕ → Type 0
 HasName b k name = (probe : Probe) × (slice_get b.probes k ≡ Some probe) × (probe.name ≡ name) × (name < length b.names)
 
 -- A short has a branch of the name, from the first point of the name on its net. It begins at the least piece under that probe.
-pub record HasBranchAt (b : PlainBoard) (v : Verdict) (s : Short) (name first : ℕ) : Type 0 where
-  pub branch : Branch
-  pub listed : Contains s.branches branch
-  pub named : branch.name ≡ name
-  pub probe : first_on s.net name v.points ≡ Some branch.probe
-  pub begins : BeginsAt (λ piece. piece ≡ first) branch.pieces
-  pub least : IsLeast (UnderAt b branch.probe) (Some first)
+abbrev pub HasBranchAt : PlainBoard → Verdict → Short → ℕ → ℕ → Type 0
+HasBranchAt b v s name first = HasBranch (λ probe piece. IsLeast (UnderAt b probe) (Some piece)) v s name first
 
--- A short with a branch for each of two names is listed, and chains of touching pieces of its branches lead from the first piece of each to that of the other.
-pub record HasPathOn (b : PlainBoard) (v : Verdict) (net name other : ℕ) : Type 0 where
-  pub short : Short
-  pub listed : Contains v.shorts short
-  pub number : short.net ≡ net
-  pub first : ℕ
-  pub last : ℕ
-  pub one : HasBranchAt b v short name first
-  pub two : HasBranchAt b v short other last
-  pub forth : AreJoinedWithin (IsNear b) (branch_pieces short) first last
-  pub back : AreJoinedWithin (IsNear b) (branch_pieces short) last first
+-- A short with such a branch for each of two names is listed, and chains of touching pieces of its branches lead from the first piece of each to that of the other.
+abbrev pub HasPathOn : PlainBoard → Verdict → ℕ → ℕ → ℕ → Type 0
+HasPathOn b v net name other = HasPathAlong (IsNear b) (λ probe piece. IsLeast (UnderAt b probe) (Some piece)) v net name other
 
 -- Two joined probes of different names are on one net, whose short is listed with a path.
 abbrev pub ShortsHavePathsOn : PlainBoard → Verdict → Type 0

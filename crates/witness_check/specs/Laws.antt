@@ -117,26 +117,33 @@ pub record AreJoinedWithin (near : ℕ → ℕ → Type 0) (pieces : List ℕ) (
 abbrev pub branch_pieces : Short → List ℕ
 branch_pieces s = flat_map (λ b. b.pieces) s.branches
 
--- A short has a branch of the name, from the first point of the name on its net. It begins at the least piece under that point.
-pub record HasBranchFrom (board : Tables) (v : Verdict) (s : Short) (name first : ℕ) : Type 0 where
+-- A short has a branch of the name, from the first point of the name on its net. It begins at the least piece under that point, as `least_under` tells.
+pub record HasBranch (least_under : ℕ → ℕ → Type 0) (v : Verdict) (s : Short) (name first : ℕ) : Type 0 where
   pub branch : Branch
   pub listed : Contains s.branches branch
   pub named : branch.name ≡ name
   pub probe : first_on s.net name v.points ≡ Some branch.probe
   pub begins : BeginsAt (λ piece. piece ≡ first) branch.pieces
-  pub least : IsLeastOf (row_at board.beneath branch.probe) first
+  pub least : least_under branch.probe first
 
--- A short with a branch for each of two names is listed, and chains of pieces of its branches lead from the first piece of each to that of the other.
-pub record HasPath (board : Tables) (v : Verdict) (net name other : ℕ) : Type 0 where
+-- A short with a branch for each of two names is listed, and chains of touching pieces of its branches lead from the first piece of each to that of the other.
+pub record HasPathAlong (near least_under : ℕ → ℕ → Type 0) (v : Verdict) (net name other : ℕ) : Type 0 where
   pub short : Short
   pub listed : Contains v.shorts short
   pub number : short.net ≡ net
   pub first : ℕ
   pub last : ℕ
-  pub one : HasBranchFrom board v short name first
-  pub two : HasBranchFrom board v short other last
-  pub forth : AreJoinedWithin (Stands board.near) (branch_pieces short) first last
-  pub back : AreJoinedWithin (Stands board.near) (branch_pieces short) last first
+  pub one : HasBranch least_under v short name first
+  pub two : HasBranch least_under v short other last
+  pub forth : AreJoinedWithin near (branch_pieces short) first last
+  pub back : AreJoinedWithin near (branch_pieces short) last first
+
+-- both by the tables of a board
+abbrev pub HasBranchFrom : Tables → Verdict → Short → ℕ → ℕ → Type 0
+HasBranchFrom board v s name first = HasBranch (λ probe piece. IsLeastOf (row_at board.beneath probe) piece) v s name first
+
+abbrev pub HasPath : Tables → Verdict → ℕ → ℕ → ℕ → Type 0
+HasPath board v net name other = HasPathAlong (Stands board.near) (λ probe piece. IsLeastOf (row_at board.beneath probe) piece) v net name other
 
 -- Point k of the board has the name, which is one of the board's.
 abbrev pub IsNamed : Tables → ℕ → ℕ → Type 0
