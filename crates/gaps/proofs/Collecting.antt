@@ -1,6 +1,8 @@
 -- Lines that are pushed one by one.
 use Rattle.std.proofs.Common.{◌≡◌, ◌⊎◌, ◌↔◌, inl, inr, ℕ, zero, suc, ◌+◌, ◌<◌, ◌≤◌, List, [], ◌∷◌, ◌++◌, All, Contains, get_or, if◌then◌else◌, length, max, min, slice_get, Some, refl, ap, sym, subst, arith, ◌∙◌}
 use Rattle.std.proofs.lemmas.Bool.{cases_eq}
+use Rattle.std.proofs.lemmas.Nat.{and_le_r}
+use Rattle.std.specs.Int.Bits.{bit_and}
 use Rattle.std.proofs.lemmas.List.{get_or_default, get_or_past}
 use Rattle.std.proofs.lemmas.List.Elements.{Contains-get_or, Contains-push, Contains-push_cases, Contains-append_left}
 use Rattle.std.proofs.lemmas.Option.{get_or_from_slice_get, slice_get_within}
@@ -140,6 +142,9 @@ neighbour_more size touch numbers spans i j near pair old lines new e h k' = rec
     ]
 
 -- ---- what lines that stand already speak for
+
+pub entry_within : (mixed last many : ℕ) → last < many → bit_and mixed last < many
+entry_within mixed last many h = (let l = and_le_r mixed last in omega arith)
 
 pub looked_up : (lines : List Gap) (place : ℕ) (found line : Gap) → slice_get lines place ≡ Some found → IsBeside line found → IsWithLess found line → Covered lines line
 looked_up lines place found line e b l = record { line = found; stands = subst (λ (z : Gap). Contains lines z) (get_or_from_slice_get lines place found found e) (Contains-get_or lines place found (slice_get_within lines place found e)); beside = b; less = l }

@@ -8,8 +8,11 @@ use super::gap::{Gap, keep_firsts};
 use lengths::NoMemory;
 use std::alloc::Global;
 
-/// How many lines stand before they are thinned.
+/// How many lines stand at least before they are thinned.
 const FEW: usize = 65_536;
+
+/// The most entries, a power of two.
+const MOST_ENTRIES: usize = 4_294_967_296;
 
 /// Two pieces, the lower net and the higher, and the layers of both spans: from `top` to `bottom`.
 #[derive(Clone, Copy)]
@@ -42,31 +45,39 @@ impl Pair {
 }
 
 /// Lines, and for a layer and two nets the place of the last line of theirs. Several may share an entry, and places change
-/// when lines are thinned: so an entry is a guess, and the line that stands at the place is compared.
+/// when lines are thinned: so an entry is a guess, and the line that stands at the place is compared. The entries are a
+/// power of two, and `last` is one less, so that none is found by a division.
 #[derive(Drop)]
 pub struct Found {
     pub lines: Vec<Gap>,
     pub entries: Vec<usize>,
-    ghost some: { 0 < length entries.items },
+    pub last: usize,
+    ghost inside: { last < length entries.items },
 }
 
 impl Found {
-    /// No lines yet, with two entries a piece.
+    /// No lines yet, with two to four entries a piece.
     pub fn new(alloc: Global, pieces: usize) -> Result<Found, NoMemory>
         ensures { IfOk result (λ found. found.lines.items ≡ []) }
     {
-        let many = pieces.saturating_mul(2).max(1);
+        let many = pieces.saturating_mul(2).max(1).min(MOST_ENTRIES);
+        let many = many.next_power_of_two();
         let entries = vec![in alloc; 0; many]?;
         let lines = Vec::new(alloc);
-        Ok(Found { lines, entries })
+        Ok(Found {
+            lines,
+            entries,
+            last: many - 1,
+        })
     }
 
     /// The entry of the line's layer and nets.
+    #[tactic(auto, using(crate::proofs::Collecting::entry_within))]
     fn entry(&self, line: &Gap) -> usize
         ensures { result < length self.now.entries.items }
     {
         let mixed = line.low as u64 * 1_000_003 + line.high as u64 * 64 + line.layer as u64;
-        (mixed % self.entries.len() as u64) as usize
+        mixed as usize & self.last
     }
 
     /// Whether a line of the same layer and nets that has no greater pieces was looked up.

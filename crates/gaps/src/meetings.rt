@@ -93,8 +93,8 @@ fn add_piece<'a, S: Meets<S>, L: Ledger>(
 
 /// Of all lines of pieces of a field that touch and stand in different nets, the lower first, on each
 /// layer of both spans, the least of each layer and two nets, in order. Pieces are not tested where a
-/// line that was found speaks for theirs. Memory is taken for twice the lines that are given, for those of
-/// one piece, and for two places a piece.
+/// line that was found speaks for theirs. Memory is taken for twice the lines that are given or four a
+/// piece, for those of one piece, and for two to four places a piece.
 pub fn meetings<'a, S: Meets<S>, L: Ledger>(
     alloc: Global,
     field: &Cells<'a, S>,
@@ -109,7 +109,7 @@ pub fn meetings<'a, S: Meets<S>, L: Ledger>(
 {
     let mut found = Found::new(alloc, field.count())?;
     let mut near = Vec::new(alloc);
-    let mut most = 0;
+    let mut most = field.count().saturating_mul(4);
     for i in 0..field.count() {
         let over = Over {
             numbers,
