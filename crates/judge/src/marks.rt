@@ -2,8 +2,7 @@
 ghost use Rattle.verdict.specs.Seats.{marks_at, marks_from, marks_of_seats, seats_at};
 ghost use Rattle.std.specs.Prelude.{◌≡◌, ℕ, ◌<◌, ◌^◌, ◌++◌, length, All, IfOk, OnOk};
 
-use crate::seats::empty_rows;
-use lengths::{NoMemory, Rows};
+use lengths::{NoMemory, Rows, empty_rows};
 use std::alloc::Global;
 use verdict::{Mark, Seat};
 

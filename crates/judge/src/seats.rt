@@ -4,7 +4,7 @@ ghost use Rattle.verdict.specs.Seats.{AreFirstSeats, seats_at};
 ghost use Rattle.std.specs.Prelude.{◌≡◌, ◌≢◌, ℕ, ◌<◌, ◌^◌, [], length, All, IfOk, OnOk};
 
 use indexmap::IndexSet;
-use lengths::{NoMemory, Rows};
+use lengths::{NoMemory, Rows, empty_rows};
 use std::alloc::Global;
 use verdict::{PointLine, Seat};
 
@@ -22,18 +22,6 @@ pub fn seats_of(
     let mut groups = empty_rows(alloc, names)?;
     seat_points(alloc, lines, groups.as_mut_slice())?;
     Ok(groups)
-}
-
-// So many empty lists.
-pub fn empty_rows<T: Drop>(alloc: Global, count: usize) -> Result<Vec<Rows<T>>, NoMemory>
-    ensures long { IfOk result (λ rows. length rows.items ≡ count) }
-    ensures empty { IfOk result (λ rows. All (λ row. row ≡ []) rows.items) }
-{
-    let mut rows = Vec::new(alloc);
-    for _ in 0..count {
-        rows.push(Rows::new(alloc))?;
-    }
-    Ok(rows)
 }
 
 // Gives each point on a net its seat, if it is the first of its name there.

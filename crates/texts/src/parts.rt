@@ -8,6 +8,8 @@ ghost use Rattle.texts.specs.Blanks as spec;
 ghost use Rattle.texts.specs.Digits.{is_decimal_digit};
 ghost use Rattle.texts.specs.Words as words;
 
+use crate::classes::{run_len, Blank, Digit};
+
 /// Whether the text is this word.
 pub fn is(text: &[u8], word: &[u8]) -> bool
     ensures { result ≡ words.is text.now word.now }
@@ -67,12 +69,7 @@ pub fn digits_len(text: &[u8]) -> usize
     ensures within { result ≤ length text.now }
     ensures digits { list_all is_decimal_digit (take result text.now) ≡ true }
 {
-    for (i, b) in text.iter().enumerate() {
-        if !b.is_ascii_digit() {
-            return i;
-        }
-    }
-    text.len()
+    run_len::<Digit>(text)
 }
 
 /// Whether a byte is a digit.
@@ -96,17 +93,11 @@ pub fn is_blank(byte: u8) -> bool
     byte == b'\t' || byte == b' '
 }
 
-// How many blanks stand in front.
-fn blanks_before(text: &[u8]) -> usize
-    ensures value { result ≡ prefix_len spec.is_blank text.now }
-    ensures within { result ≤ length text.now }
+/// What stands behind the tabs and spaces in front.
+pub fn without_front(text: &[u8]) -> &[u8]
+    ensures { result.now ≡ spec.without_front text.now }
 {
-    for (i, b) in text.iter().enumerate() {
-        if !is_blank(*b) {
-            return i;
-        }
-    }
-    text.len()
+    &text[run_len::<Blank>(text)..]
 }
 
 // What stands before the blanks at the end.
@@ -124,5 +115,5 @@ fn without_back(text: &[u8]) -> &[u8]
 pub fn trimmed(text: &[u8]) -> &[u8]
     ensures { result.now ≡ spec.trimmed text.now }
 {
-    without_back(&text[blanks_before(text)..])
+    without_back(without_front(text))
 }

@@ -6,7 +6,7 @@ ghost use Rattle.verdict.specs.Seats.{AreFirstSeats, marks_at, marks_from, marks
 ghost use Rattle.witness_check.specs.Marked.{AreUpTo};
 ghost use Rattle.witness_check.specs.Seated.{AreAllSeats};
 
-use lengths::{NoMemory, Rows};
+use lengths::{NoMemory, Rows, empty_rows};
 use std::alloc::Global;
 use verdict::{Mark, PointLine, Seat};
 
@@ -75,18 +75,6 @@ fn all_seats(alloc: Global, names: usize, lines: &[PointLine]) -> Result<Vec<Row
     let mut table = empty_rows(alloc, names)?;
     seat_all(lines, table.as_mut_slice())?;
     Ok(table)
-}
-
-// So many empty lists.
-fn empty_rows<T: Drop>(alloc: Global, count: usize) -> Result<Vec<Rows<T>>, NoMemory>
-    ensures long { IfOk result (λ rows. length rows.items ≡ count) }
-    ensures empty { IfOk result (λ rows. All (λ row. row ≡ []) rows.items) }
-{
-    let mut rows = Vec::new(alloc);
-    for _ in 0..count {
-        rows.push(Rows::new(alloc))?;
-    }
-    Ok(rows)
 }
 
 // Gives each point on a net its seat.
