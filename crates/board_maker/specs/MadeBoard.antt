@@ -107,14 +107,14 @@ head_of Bottom = codes "%FSLAX46Y46*%\n%MOMM*%\n%ADD10C,1.0*%\n%ADD12C,0.2*%\n"
 head_of Holes = codes "M48\nMETRIC\nT1C0.4\n%\nT1\n"
 head_of Points = codes "P  UNITS CUST 1\n"
 
--- what a file has for a cell
+-- what a file has for each cell of the board
 abbrev pub cell_of : Part → ℕ → ℕ → ℕ → List ℕ
 cell_of Top seed size = top_cell seed
 cell_of Bottom seed size = bottom_cell seed size
 cell_of Holes seed size = hit
 cell_of Points seed size = test_records
 
--- what stands behind them
+-- what stands behind the cells of a file
 abbrev pub end_of : Part → List ℕ
 end_of Top = codes "M02*\n"
 end_of Bottom = codes "M02*\n"

@@ -1,7 +1,8 @@
 //! How the readers of files read: item by item, up to the first that has a fault.
 //!
-//! The definitions (specs/Reading.antt) speak of items of any kind: commands, lines. Each reader
-//! gives its own table to them. `Halt` is what stops each of them at an item.
+//! The definitions (specs/Reading.antt) speak of items of any kind, such as commands and lines, and of
+//! any table of what an item does; each reader gives its own table. `Halt` is what stops a reader at an
+//! item.
 #![tactic(auto)]
 
 mod halt;

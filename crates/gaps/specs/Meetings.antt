@@ -35,7 +35,7 @@ pub record IsPairLine (numbers : List ℕ) (spans : List Span) (i j : ℕ) (gap 
   pub order : net_of numbers i < net_of numbers j
   pub line : IsLineOf (net_of numbers i) (net_of numbers j) i j (max (span_of spans i).top (span_of spans j).top) (min (span_of spans i).bottom (span_of spans j).bottom + 1) gap
 
--- piece j stands in a net over this one, and its span has a common layer with this one
+-- piece j stands in a net with a higher number than this net, and its span has a layer of this span
 pub record IsOver (numbers : List ℕ) (spans : List Span) (net : ℕ) (span : Span) (j : ℕ) : Type 0 where
   pub order : net < net_of numbers j
   pub layer : max span.top (span_of spans j).top ≤ min span.bottom (span_of spans j).bottom
