@@ -8,7 +8,7 @@ ghost use Rattle.texts.specs.Blanks as spec;
 ghost use Rattle.texts.specs.Digits.{is_decimal_digit};
 ghost use Rattle.texts.specs.Words as words;
 
-use crate::classes::{run_len, Blank, Digit};
+use crate::classes::{Blank, Digit, run_len};
 
 /// Whether the text is this word.
 pub fn is(text: &[u8], word: &[u8]) -> bool
