@@ -7,10 +7,15 @@ use Rattle.board_shapes.specs.Figures.{Figure, round, filled}
 use Rattle.board_shapes.specs.Pieces.{PlainPiece}
 use Rattle.board_shapes.specs.declared.moved.MoveFault.{MoveFault}
 use Rattle.board_shapes.specs.declared.moved.MoveFault.TheVariants.{OutOfRange, NoMemory}
+use Rattle.board_shapes.specs.declared.moved.Shift.{Shift}
 
 -- a way of at most two metres
 abbrev pub IsShift : ℤ → Type 0
 IsShift z = IsWithin TWO_METRES z
+
+-- a way of at most two metres across and up
+abbrev pub IsWay : Shift → Type 0
+IsWay by = IsShift by.x × IsShift by.y
 
 abbrev pub shifted : ℤ → ℤ → Spot → Spot
 shifted dx dy p = record { x = p.x +ℤ dx; y = p.y +ℤ dy }

@@ -1,6 +1,6 @@
 // Pieces shifted.
 ghost use Rattle.board_shapes.specs.Figures.{area_figure, capsule_figure, figure_of};
-ghost use Rattle.board_shapes.specs.Moved.{IsMoveFault, IsShift, StaysPlaced, moved_piece, shifted, shifted_figure};
+ghost use Rattle.board_shapes.specs.Moved.{IsMoveFault, IsShift, IsWay, StaysPlaced, moved_piece, shifted, shifted_figure};
 ghost use Rattle.board_shapes.specs.Pieces.{plain_piece};
 ghost use Rattle.planar.specs.Plane.{IsPlaced};
 ghost use Rattle.std.specs.Prelude.{All, IfErr, IfOk, map, ◌≡◌};
@@ -58,8 +58,7 @@ impl Piece {
 
 /// The shape shifted.
 fn moved_shape(alloc: Global, shape: &Shape, by: Shift) -> Result<Shape, MoveFault>
-    requires across { IsShift by.x }
-    requires up { IsShift by.y }
+    requires way { IsWay by }
     ensures ok { IfOk result (λ s. figure_of s ≡ shifted_figure by.x by.y (figure_of shape.now)) }
     ensures placed { IfOk result (λ s. StaysPlaced by.x by.y (figure_of shape.now)) }
     ensures fault { IfErr result (IsMoveFault by.x by.y (figure_of shape.now)) }
@@ -72,8 +71,7 @@ fn moved_shape(alloc: Global, shape: &Shape, by: Shift) -> Result<Shape, MoveFau
 
 /// The capsule shifted.
 fn moved_capsule(capsule: &Capsule, by: Shift) -> Result<Capsule, MoveFault>
-    requires across { IsShift by.x }
-    requires up { IsShift by.y }
+    requires way { IsWay by }
     ensures ok { IfOk result (λ c. capsule_figure c ≡ shifted_figure by.x by.y (capsule_figure capsule.now)) }
     ensures placed { IfOk result (λ c. StaysPlaced by.x by.y (capsule_figure capsule.now)) }
     ensures fault { IfErr result (IsMoveFault by.x by.y (capsule_figure capsule.now)) }
@@ -86,8 +84,7 @@ fn moved_capsule(capsule: &Capsule, by: Shift) -> Result<Capsule, MoveFault>
 
 /// The area shifted.
 fn moved_area(alloc: Global, area: &Area, by: Shift) -> Result<Area, MoveFault>
-    requires across { IsShift by.x }
-    requires up { IsShift by.y }
+    requires way { IsWay by }
     ensures ok { IfOk result (λ a. area_figure a ≡ shifted_figure by.x by.y (area_figure area.now)) }
     ensures placed { IfOk result (λ a. StaysPlaced by.x by.y (area_figure area.now)) }
     ensures fault { IfErr result (IsMoveFault by.x by.y (area_figure area.now)) }
@@ -105,8 +102,7 @@ fn moved_area(alloc: Global, area: &Area, by: Shift) -> Result<Area, MoveFault>
 
 /// The points of the contour shifted: each corner, and the first one again.
 fn moved_points(alloc: Global, area: &Area, by: Shift) -> Result<Vec<Spot>, MoveFault>
-    requires across { IsShift by.x }
-    requires up { IsShift by.y }
+    requires way { IsWay by }
     ensures ok { IfOk result (λ points. points.items ≡ map (shifted by.x by.y) area.now.points.items) }
     ensures placed { IfOk result (λ points. All IsPlaced points.items) }
     ensures fault { IfErr result (IsMoveFault by.x by.y (area_figure area.now)) }
@@ -128,8 +124,7 @@ fn moved_points(alloc: Global, area: &Area, by: Shift) -> Result<Vec<Spot>, Move
 /// The spot shifted, where it stays within 1 m.
 fn moved_spot(spot: Spot, by: Shift) -> Result<Spot, MoveFault>
     requires placed { IsPlaced spot }
-    requires across { IsShift by.x }
-    requires up { IsShift by.y }
+    requires way { IsWay by }
     ensures ok { IfOk result (λ p. p ≡ shifted by.x by.y spot) }
     ensures placed { IfOk result (λ p. IsPlaced p) }
     ensures fault { IfErr result (λ fault. (fault ≡ MoveFault.OutOfRange) × ¬ IsPlaced (shifted by.x by.y spot)) }
@@ -143,8 +138,7 @@ fn moved_spot(spot: Spot, by: Shift) -> Result<Spot, MoveFault>
 
 fn shift_spot(p: Spot, by: Shift) -> Spot
     requires placed { IsPlaced p }
-    requires across { IsShift by.x }
-    requires up { IsShift by.y }
+    requires way { IsWay by }
     ensures { result ≡ shifted by.x by.y p }
 {
     Spot {
