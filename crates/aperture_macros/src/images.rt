@@ -8,7 +8,7 @@ ghost use Rattle.aperture_macros.specs.Sketches.{IsNear};
 use crate::fault::MacroFault;
 use crate::reading::{part, past};
 use crate::values::{diameter, point, size};
-use board_shapes::widened;
+use board_shapes::corners_around;
 use lengths::{Decimal, Unit};
 use planar::Spot;
 
@@ -125,6 +125,6 @@ fn between(p: Spot, q: Spot, w: u64, h: u64) -> Sketch
     ensures value { result ≡ spec.between p q w h }
     ensures near { IsNear (Some result) }
 {
-    let (low, high) = widened(p, q, w, h);
+    let (low, high) = corners_around(p, q, w, h);
     Sketch::Rectangle(low, high)
 }

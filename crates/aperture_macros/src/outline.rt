@@ -123,7 +123,7 @@ pub fn bounded(alloc: Global, points: Vec<Spot>) -> Result<Option<Shape>, Figure
     requires placed { All IsPlaced points.items }
     ensures { Makes result (Ok (Some (filled points.items))) }
 {
-    match Shape::bounded(alloc, points) {
+    match Shape::area_of(alloc, points) {
         Ok(shape) => Ok(Some(shape)),
         Err(_) => Err(FigureFault::NoMemory),
     }

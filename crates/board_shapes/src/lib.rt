@@ -16,7 +16,7 @@ pub use edges::edges_in;
 pub use moved::MoveFault;
 pub use placed::{Origin, Piece, Placed, Room};
 pub use probe::Probe;
-pub use rectangles::{rectangle, widened};
+pub use rectangles::{corners_around, rectangle};
 pub use shape::Shape;
 
 #[cfg(test)]

@@ -10,7 +10,7 @@ use planar::Spot;
 
 /// The corners of what lies between two spots, with half a width and half a height more to each
 /// side: so far to the left of and below the first, and to the right of and above the second.
-pub fn widened(p: Spot, q: Spot, w: u64, h: u64) -> (Spot, Spot)
+pub fn corners_around(p: Spot, q: Spot, w: u64, h: u64) -> (Spot, Spot)
     requires width { w ≤ METRE }
     requires height { h ≤ METRE }
     requires first { IsPlaced p }

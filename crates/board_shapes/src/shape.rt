@@ -33,7 +33,7 @@ impl Shape {
     }
 
     /// The area that points bound which are known to be a contour.
-    pub fn bounded(alloc: Global, points: Vec<Spot>) -> Result<Shape, NoMemory>
+    pub fn area_of(alloc: Global, points: Vec<Spot>) -> Result<Shape, NoMemory>
         requires closed { IsClosed points.items }
         requires enough { 4 ≤ length points.items }
         requires not_many { length points.items ≤ 100_001 }

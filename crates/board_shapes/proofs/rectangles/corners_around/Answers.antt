@@ -1,6 +1,6 @@
 use Rattle.std.proofs.Common.{refl}
 use Rattle.board_shapes.proofs.Halves.{less_half, plus_half}
-use Rattle.board_shapes.proofs.rectangles.widened.Goals as goal
+use Rattle.board_shapes.proofs.rectangles.corners_around.Goals as goal
 
 pub returns-clause-low : goal.returns-clause-low
 returns-clause-low c =
