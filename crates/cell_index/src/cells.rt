@@ -3,7 +3,7 @@ ghost use Rattle.cell_index.specs.Among.{TouchAmong, UnderAmong};
 ghost use Rattle.cell_index.specs.Bins.{bin_of};
 ghost use Rattle.cell_index.specs.Cells.{cell_of, wide_of};
 ghost use Rattle.cell_index.specs.Field.{boxes_meet};
-ghost use Rattle.cell_index.specs.Rows.{IsSheet, row_of};
+ghost use Rattle.cell_index.specs.Rows.{CanBeFiled, IsSheet, row_of};
 ghost use Rattle.cell_index.specs.Stretched.{copy_in, spot_over};
 ghost use Rattle.cell_index.specs.declared.bins.Bins.{Bins};
 ghost use Rattle.contact.specs.Solid.{InBox, IsInside};
@@ -103,9 +103,7 @@ fn sheets_of<S: Meets<S>>(
     frame: Frame,
     layers: u8,
 ) -> Result<Vec<Bins>, NoMemory>
-    requires few { length items.now < 2 ^ 32 }
-    requires inside { All (λ p. IsInside (S.extent p.shape) frame) items.now }
-    requires spans { All (λ p. p.top ≤ p.bottom) items.now }
+    requires filed { CanBeFiled S.extent frame items.now }
     ensures many { IfOk result (λ v. length v.items ≡ layers) }
     ensures each { IfOk result (λ v. (k : ℕ) (b : Bins) → slice_get v.items k ≡ Some b → IsSheet S.extent frame items.now (k + 1) b) }
 {

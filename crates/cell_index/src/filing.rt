@@ -1,6 +1,6 @@
 // The pieces of a layer, filed under its cells.
 ghost use Rattle.cell_index.specs.Bins.{pieces_in};
-ghost use Rattle.cell_index.specs.Rows.{Files, IsSheet, in_patch, in_row, in_run, row_of};
+ghost use Rattle.cell_index.specs.Rows.{CanBeFiled, Files, IsSheet, in_patch, in_row, in_run, row_of};
 ghost use Rattle.contact.specs.Solid.{IsInside};
 ghost use Rattle.std.specs.Prelude.{◌≡◌, ℕ, ◌+◌, ◌<◌, ◌≤◌, ◌^◌, All, IfOk, OnOk, length};
 
@@ -25,9 +25,7 @@ pub fn sheet<S: Closed>(
     frame: Frame,
     layer: u8,
 ) -> Result<Bins, NoMemory>
-    requires few { length items.now < 2 ^ 32 }
-    requires inside { All (λ p. IsInside (S.extent p.shape) frame) items.now }
-    requires spans { All (λ p. p.top ≤ p.bottom) items.now }
+    requires filed { CanBeFiled S.extent frame items.now }
     ensures sheet { IfOk result (IsSheet S.extent frame items.now layer) }
 {
     let filings = filings_on(alloc, items, frame, layer)?;
@@ -41,9 +39,7 @@ fn filings_on<S: Closed>(
     frame: Frame,
     layer: u8,
 ) -> Result<Vec<Filing>, NoMemory>
-    requires few { length items.now < 2 ^ 32 }
-    requires inside { All (λ p. IsInside (S.extent p.shape) frame) items.now }
-    requires spans { All (λ p. p.top ≤ p.bottom) items.now }
+    requires filed { CanBeFiled S.extent frame items.now }
     ensures rows { IfOk result (λ v. All (λ f. f.row < 16385) v.items) }
     ensures each { IfOk result (λ v. (row : ℕ) → row < 16385 → pieces_in row v.items ≡ row_of S.extent frame items.now layer row) }
 {
