@@ -114,7 +114,7 @@ cell_of Bottom seed size = bottom_cell seed size
 cell_of Holes seed size = hit
 cell_of Points seed size = test_records
 
--- what stands behind the cells of a file
+-- the end of a file
 abbrev pub end_of : Part → List ℕ
 end_of Top = codes "M02*\n"
 end_of Bottom = codes "M02*\n"
