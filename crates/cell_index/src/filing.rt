@@ -28,16 +28,16 @@ pub fn sheet<S: Closed>(
     requires filed { CanBeFiled S.extent frame items.now }
     ensures sheet { IfOk result (IsSheet S.extent frame items.now layer) }
 {
-    let filings = filings_on(alloc, layer, items, frame)?;
+    let filings = filings_on(alloc, items, frame, layer)?;
     Bins::new(alloc, ROWS as usize, filings.as_slice())
 }
 
 // What the pieces of the layer are filed under, piece by piece.
 fn filings_on<S: Closed>(
     alloc: Global,
-    layer: u8,
     items: &[Placed<S>],
     frame: Frame,
+    layer: u8,
 ) -> Result<Vec<Filing>, NoMemory>
     requires filed { CanBeFiled S.extent frame items.now }
     ensures rows { IfOk result (λ v. All (λ f. f.row < 16385) v.items) }
