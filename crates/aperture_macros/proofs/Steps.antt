@@ -1,5 +1,5 @@
 -- The turns of loops, over plain variables.
-use Rattle.std.proofs.Common.{◌≡◌, ℕ, ◌-◌, ◌<◌, suc, zero, true, false, List, [], ◌∷◌, ◌++◌, refl, Ok, Err, ℤ, ◌+ℤ◌, arith}
+use Rattle.std.proofs.Common.{◌≡◌, ℕ, ◌+◌, ◌-◌, ◌<◌, suc, zero, true, false, List, [], ◌∷◌, ◌++◌, refl, Ok, Err, ℤ, ◌+ℤ◌, arith}
 use Rattle.std.specs.List.{after_first, before_first}
 use Rattle.aperture_macros.specs.Expression.{further_terms, first_term, is_empty, is_expression, is_sum, is_term}
 use Rattle.planar.specs.declared.Spot.{Spot}
@@ -11,24 +11,17 @@ use Rattle.aperture_macros.specs.BodyWord.{are_expressions, is_comma, past}
 use Rattle.aperture_macros.specs.Values.{point_at, sum_from, term_at}
 use Rattle.aperture_macros.specs.Outlines.{last_from, moved_from}
 
-pub past_more : (n : ℕ) (text : List ℕ) → 0 < n → past n text ≡ past (n - 1) (after_first is_comma text)
+pub past_more : (n k : ℕ) (text : List ℕ) → k < n → past (n - k) text ≡ past (n - (k + 1)) (after_first is_comma text)
 unfolding past
-past_more zero text some = absurd (omega (arith, some))
-past_more (suc n) text some = let e : suc n - 1 ≡ n = omega arith in rw e refl
+past_more n k text some = let e : n - k ≡ suc (n - (k + 1)) = omega (arith, some) in rw e refl
 
-pub past_none : (text : List ℕ) → past 0 text ≡ text
-unfolding past
-past_none text = refl
-
-pub sum_more : (n : ℕ) (text : List ℕ) → 0 < n → is_empty text ≡ false → is_term (first_term text) ≡ true → is_sum n text ≡ is_sum (n - 1) (further_terms text)
+pub sum_more : (n k : ℕ) (text : List ℕ) → k < n → is_empty text ≡ false → is_term (first_term text) ≡ true → is_sum (n - k) text ≡ is_sum (n - (k + 1)) (further_terms text)
 unfolding is_sum
-sum_more zero text some full term = absurd (omega (arith, some))
-sum_more (suc n) text some full term = let e : suc n - 1 ≡ n = omega arith in rw (full, term, e) refl
+sum_more n k text some full term = let e : n - k ≡ suc (n - (k + 1)) = omega (arith, some) in rw (e, full, term) refl
 
-pub sum_bad : (n : ℕ) (text : List ℕ) → 0 < n → is_empty text ≡ false → is_term (first_term text) ≡ false → is_sum n text ≡ false
+pub sum_bad : (n k : ℕ) (text : List ℕ) → k < n → is_empty text ≡ false → is_term (first_term text) ≡ false → is_sum (n - k) text ≡ false
 unfolding is_sum
-sum_bad zero text some full term = absurd (omega (arith, some))
-sum_bad (suc n) text some full term = rw (full, term) refl
+sum_bad n k text some full term = let e : n - k ≡ suc (n - (k + 1)) = omega (arith, some) in rw (e, full, term) refl
 
 pub sum_end : (n : ℕ) (text : List ℕ) → is_empty text ≡ true → is_sum n text ≡ true
 unfolding is_sum
@@ -39,15 +32,13 @@ pub sum_none : (text : List ℕ) → is_sum 0 text ≡ is_empty text
 unfolding is_sum
 sum_none text = refl
 
-pub expressions_more : (n : ℕ) (text : List ℕ) → 0 < n → is_expression (before_first is_comma text) ≡ true → are_expressions n text ≡ are_expressions (n - 1) (after_first is_comma text)
+pub expressions_more : (n k : ℕ) (text : List ℕ) → k < n → is_expression (before_first is_comma text) ≡ true → are_expressions (n - k) text ≡ are_expressions (n - (k + 1)) (after_first is_comma text)
 unfolding are_expressions
-expressions_more zero text some this = absurd (omega (arith, some))
-expressions_more (suc n) text some this = let e : suc n - 1 ≡ n = omega arith in rw (this, e) refl
+expressions_more n k text some this = let e : n - k ≡ suc (n - (k + 1)) = omega (arith, some) in rw (e, this) refl
 
-pub expressions_bad : (n : ℕ) (text : List ℕ) → 0 < n → is_expression (before_first is_comma text) ≡ false → are_expressions n text ≡ false
+pub expressions_bad : (n k : ℕ) (text : List ℕ) → k < n → is_expression (before_first is_comma text) ≡ false → are_expressions (n - k) text ≡ false
 unfolding are_expressions
-expressions_bad zero text some this = absurd (omega (arith, some))
-expressions_bad (suc n) text some this = rw this refl
+expressions_bad n k text some this = let e : n - k ≡ suc (n - (k + 1)) = omega (arith, some) in rw (e, this) refl
 
 pub expressions_none : (text : List ℕ) → are_expressions 0 text ≡ true
 unfolding are_expressions

@@ -1,5 +1,5 @@
 -- The figures of primitives: about the origin of the macro, and where they are flashed.
-use Rattle.std.specs.Prelude.{◌≡◌, ℕ, zero, suc, ◌+◌, Bool, true, false, ◌&&◌, ◌||◌, ◌==◌, if◌then◌else◌, List, [], ◌∷◌, ◌++◌, map, ◌+ℤ◌, neg_ℤ, int_lt, Option, Some, None, Result, Ok, Err}
+use Rattle.std.specs.Prelude.{◌≡◌, ◌≢◌, ℕ, zero, suc, ◌+◌, Bool, true, ◌&&◌, ◌||◌, ◌==◌, if◌then◌else◌, List, [], ◌∷◌, ◌++◌, map, ◌+ℤ◌, neg_ℤ, int_lt, Option, Some, None, Result, Ok, Err}
 use Rattle.std.specs.List.{list_all}
 use Rattle.std.specs.Ordering.{int_eq}
 use Rattle.planar.specs.Plane.{is_placed}
@@ -134,3 +134,7 @@ figure_at p parameters unit at = figure_by p.form p.rotation p.lengths parameter
 -- the primitive has no image with these parameters: it flashes nothing, wherever that is
 abbrev pub IsBlank : PlainPrimitive → List Fraction → Measure → Type 0
 IsBlank p parameters unit = (at : Spot) → figure_at p parameters unit at ≡ Ok None
+
+-- the primitive has an image with these parameters: wherever it is flashed, there is a figure or a fault
+abbrev pub HasImage : PlainPrimitive → List Fraction → Measure → Type 0
+HasImage p parameters unit = (at : Spot) → figure_at p parameters unit at ≢ Ok None

@@ -1,13 +1,13 @@
 // How lengths are written.
 ghost use Rattle.std.specs.Prelude.{◌≡◌, ◌≤◌, true, IfSome, length};
-ghost use Rattle.std.specs.List.{list_all, prefix_len};
+ghost use Rattle.std.specs.List.{list_all};
 ghost use Rattle.std.specs.Str.Parse.{digits_value as value_of_digits};
 ghost use Rattle.texts.specs.Digits.{is_decimal_digit};
 ghost use Rattle.lengths.specs.Decimal.{has_minus as minus_stands, unsigned as unsigned_text};
 ghost use Rattle.aperture_macros.specs.Expression as spec;
 
 use lengths::{digits_value, read_decimal};
-use texts::all_digits;
+use texts::{ByteClass, all_digits, run_len};
 
 /// The most terms of an expression.
 pub const MOST_TERMS: u32 = 64;
@@ -16,6 +16,17 @@ fn is_sign(byte: u8) -> bool
     ensures { result ≡ spec.is_sign byte }
 {
     byte == b'+' || byte == b'-'
+}
+
+// What is no sign.
+struct Plain;
+
+impl ByteClass for Plain {
+    ghost member = { spec.is_plain };
+
+    fn has(byte: u8) -> bool {
+        !is_sign(byte)
+    }
 }
 
 /// A text without its sign, if it has one.
@@ -51,26 +62,13 @@ fn sign_len(text: &[u8]) -> usize
     }
 }
 
-// How many bytes stand before the first sign.
-fn plain_len(text: &[u8]) -> usize
-    ensures value { result ≡ prefix_len spec.is_plain text.now }
-    ensures within { result ≤ length text.now }
-{
-    for (i, b) in text.iter().enumerate() {
-        if is_sign(*b) {
-            return i;
-        }
-    }
-    text.len()
-}
-
 // How long the first term is, with the sign before it.
 fn term_len(text: &[u8]) -> usize
     ensures value { result ≡ spec.term_len text.now }
     ensures within { result ≤ length text.now }
 {
     let sign = sign_len(text);
-    sign + plain_len(&text[sign..])
+    sign + run_len::<Plain>(&text[sign..])
 }
 
 /// The first term, with the sign before it.
@@ -141,9 +139,8 @@ pub fn is_expression(text: &[u8]) -> bool
 fn is_sum(most: u32, text: &[u8]) -> bool
     ensures { result ≡ spec.is_sum most text.now }
 {
-    let mut left = most;
     let mut rest = text;
-    while left > 0 {
+    for _ in 0..most {
         if rest.is_empty() {
             return true;
         }
@@ -152,7 +149,6 @@ fn is_sum(most: u32, text: &[u8]) -> bool
             return false;
         }
         rest = further_terms(rest);
-        left -= 1;
     }
     rest.is_empty()
 }

@@ -1,5 +1,5 @@
 // Primitives with their parameters: whether they are lawful, and what they flash.
-ghost use Rattle.std.specs.Prelude.{◌≡◌, ◌≤◌, false, IfOk, length, map};
+ghost use Rattle.std.specs.Prelude.{◌≡◌, ◌≤◌, false, true, IfOk, length, map};
 ghost use Rattle.planar.specs.Plane.{IsPlaced};
 ghost use Rattle.area_contact.specs.Contour.{IsClosed};
 ghost use Rattle.board_shapes.specs.Rectangles.{IsReachable, rectangle};
@@ -37,6 +37,7 @@ impl<'a> Primitive<'a> {
     pub fn has_image(&self, parameters: &[Decimal], unit: Unit) -> Result<bool, MacroFault>
         ensures lawful { spec.is_done result ≡ spec.judged (plain self.now) parameters.now unit }
         ensures blank { IfOk result (λ has. has ≡ false → spec.IsBlank (plain self.now) parameters.now unit) }
+        ensures image { IfOk result (λ has. has ≡ true → spec.HasImage (plain self.now) parameters.now unit) }
     {
         match self.form {
             Form::Circle => Ok(circle(self.lengths, parameters, unit)?.is_some()),

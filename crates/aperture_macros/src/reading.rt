@@ -45,11 +45,9 @@ fn commas(word: &[u8]) -> usize
 pub fn past(n: u32, word: &[u8]) -> &[u8]
     ensures { result.now ≡ spec.past n word.now }
 {
-    let mut left = n;
     let mut rest = word;
-    while left > 0 {
+    for _ in 0..n {
         rest = after(rest, b',');
-        left -= 1;
     }
     rest
 }
@@ -216,14 +214,12 @@ fn turned<'a>(
 fn are_expressions(n: u32, text: &[u8]) -> bool
     ensures { result ≡ spec.are_expressions n text.now }
 {
-    let mut left = n;
     let mut rest = text;
-    while left > 0 {
+    for _ in 0..n {
         if !is_expression(before(rest, b',')) {
             return false;
         }
         rest = after(rest, b',');
-        left -= 1;
     }
     true
 }

@@ -8,11 +8,11 @@ ghost use Rattle.ipc356_records.specs.Line.{view, view_fields};
 ghost use Rattle.ipc356_records.specs.Lawful.{IsLawfulForm, IsName};
 ghost use Rattle.ipc356_records.specs.Reading as spec;
 
-use crate::blanks::{next_word, without_front};
+use crate::blanks::next_word;
 use crate::line::{Coordinate, Form, TestFields};
 use crate::record::Record;
 use lengths::{Unit, digits_value};
-use texts::{all_digits, begins, is, is_blank};
+use texts::{all_digits, begins, is, is_blank, without_front};
 
 fn all_blank(text: &[u8]) -> bool
     ensures { result ≡ list_all blank text.now }

@@ -8,5 +8,5 @@ returns-then-text-width c = record { value = sym (number_of-short c.args.width c
 
 pub returns : goal.returns
 returns c = record {
-  value = c.digits_in.ensures ∙ ap digits_in c.without_front.ensures.value ∙ ap number_of (sym (filled-full c.args.width c.args.text.now c.if-text-width.false));
+  value = c.digits_in.ensures ∙ ap digits_in c.without_front.ensures ∙ ap number_of (sym (filled-full c.args.width c.args.text.now c.if-text-width.false));
 }
