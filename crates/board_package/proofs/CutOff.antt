@@ -15,7 +15,7 @@ use Rattle.serde_json.specs.Data as json
 use Rattle.serde_json.specs.Data.{Data}
 use Rattle.serde_json.specs.Read.{read}
 use Rattle.texts.specs.Words.{is}
-use Rattle.board_package.specs.Laws.{CutIsRefusedOrTheSame, IsRefusing, cut_off, HaveAnswers}
+use Rattle.board_package.specs.Laws.{CutIsRefusedOrTheSame, IsRefusing, cut_off, FilesHaveOneAnswer}
 use Rattle.board_package.specs.Manifest.{IsManifest, IsNotJson, manifest_of}
 use Rattle.board_package.specs.PackageBoard.{Stop, not_json, refused, IsHeld, Goes, StopsAt, StopsAmong, StopsAtManifest, IsManifestFile, Walks}
 use Rattle.board_package.specs.Parts.{empty_board, with_pieces, with_netlist}
@@ -45,7 +45,7 @@ held_cut files name other bytes n h = by (is other name) refl
     by true e = inr (record { held = ap (λ (v : Bool). if v then option_map (take n) (files other) else files other) e ∙ ap (option_map (take n)) h.held; short = (let l = length-take n bytes in let s = h.short in omega (arith, l, s)) })
 
 -- a prefix is read and leads to the same board, or is refused
-prefix_goes : HaveAnswers → HavePrefixes → (r : Role) (number : ℕ) (bytes : List ℕ) (n : ℕ) (before after : PlainBoard) → Reads r number bytes before after → Reads r number (take n bytes) before after ⊎ ((why : Refusal) × Refuses r number (take n bytes) before why)
+prefix_goes : FilesHaveOneAnswer → HavePrefixes → (r : Role) (number : ℕ) (bytes : List ℕ) (n : ℕ) (before after : PlainBoard) → Reads r number bytes before after → Reads r number (take n bytes) before after ⊎ ((why : Refusal) × Refuses r number (take n bytes) before why)
 prefix_goes all same (role.Copper layer) number bytes n before after (pieces, read, is) = elim (all.layer (take n bytes) (layer_place layer number before)).some_answer [
   | inl cut ↦ inl (cut.0, cut.1, is ∙ ap (with_pieces before) (sym (same.layer bytes (layer_place layer number before) pieces cut.0 n read cut.1)))
   | inr cut ↦ inr (refusal.Layer cut.0 cut.1 cut.2, cut.3)
@@ -62,7 +62,7 @@ prefix_goes all same role.Netlist number bytes n before after (probes, names, re
   | inr cut ↦ inr (refusal.Netlist cut.0 cut.2, (cut.1, cut.3))
 ]
 
-file_goes : HaveAnswers → HavePrefixes → (files : Files) (name : List ℕ) (n : ℕ) (e : Entry) (before after : PlainBoard) → Goes files e before after → Goes (cut_off files name n) e before after ⊎ ((stop : Stop) × IsRefusing stop × StopsAt (cut_off files name n) e before stop)
+file_goes : FilesHaveOneAnswer → HavePrefixes → (files : Files) (name : List ℕ) (n : ℕ) (e : Entry) (before after : PlainBoard) → Goes files e before after → Goes (cut_off files name n) e before after ⊎ ((stop : Stop) × IsRefusing stop × StopsAt (cut_off files name n) e before stop)
 file_goes all same files name n e before after g = elim (held_cut files name e.name g.bytes n g.held) [
   | inl whole ↦ inl (record { bytes = g.bytes; held = whole; read = g.read })
   | inr cut ↦ elim (prefix_goes all same e.role e.number g.bytes n before after g.read) [
@@ -73,7 +73,7 @@ file_goes all same files name n e before after g = elim (held_cut files name e.n
 
 -- ---- The files in their order
 
-walk_goes : HaveAnswers → HavePrefixes → (files : Files) (name : List ℕ) (n : ℕ) (entries : List Entry) (before after : PlainBoard) → Walks files entries before after → Walks (cut_off files name n) entries before after ⊎ ((stop : Stop) × IsRefusing stop × StopsAmong (cut_off files name n) entries before stop)
+walk_goes : FilesHaveOneAnswer → HavePrefixes → (files : Files) (name : List ℕ) (n : ℕ) (entries : List Entry) (before after : PlainBoard) → Walks files entries before after → Walks (cut_off files name n) entries before after ⊎ ((stop : Stop) × IsRefusing stop × StopsAmong (cut_off files name n) entries before stop)
 walk_goes all same files name n [] before after w = inl w
 walk_goes all same files name n (e ∷ entries) before after (next, goes, walks) = elim (file_goes all same files name n e before next goes) [
   | inl on ↦ elim (walk_goes all same files name n entries next after walks) [
@@ -119,7 +119,7 @@ manifest_goes files name n manifest m f = elim (held_cut files name manifest f.b
   ]
 ]
 
-pub cut_is_refused_or_the_same : HaveAnswers → HavePrefixes → (files : Files) (manifest : List ℕ) → CutIsRefusedOrTheSame files manifest
+pub cut_is_refused_or_the_same : FilesHaveOneAnswer → HavePrefixes → (files : Files) (manifest : List ℕ) → CutIsRefusedOrTheSame files manifest
 cut_is_refused_or_the_same all same files manifest board b name n = elim (manifest_goes files name n manifest b.listed b.manifest) [
   | inl listed ↦ elim (walk_goes all same files name n b.listed.files (empty_board b.listed.layers) board b.walked) [
     | inl walked ↦ inr (record { listed = b.listed; manifest = listed; walked = walked; frame = b.frame })

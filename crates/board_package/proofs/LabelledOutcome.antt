@@ -5,7 +5,7 @@ use Rattle.board_shapes.specs.Plain.{PlainBoard, common_box, Fits}
 use Rattle.x2_nets.specs.Labels.{no_text}
 use Rattle.x2_nets.specs.Laws.{HasOneAnswer}
 use Rattle.x2_nets.specs.declared.table.Label.{Label}
-use Rattle.board_package.specs.Laws.{HasOneLabelledOutcome, HaveAnswers}
+use Rattle.board_package.specs.Laws.{HasOneLabelledOutcome, FilesHaveOneAnswer}
 use Rattle.board_package.specs.LabelledBoard.{GoesLabelled, IsFirstLabelledStop, IsLabelledBoardOf, IsLabelledFrameStop, IsMislabelled, Labelled, LabelledStop, Lists, Mislabels, OfBuild, StopsLabelledAmong, StopsLabelledAt, labelled_board_of, labelled_order, mislabelled, nothing_labelled, unbuilt}
 use Rattle.board_package.specs.PackageBoard.{IsManifestFile, StopsAtFrame, StopsAtManifest, WalksBy}
 use Rattle.board_package.specs.declared.entry.Entry.{Entry}
@@ -17,7 +17,7 @@ use Rattle.board_package.proofs.Walking.{one_of_walk, one_walk, walk_or_one}
 
 -- each file has one answer, and its labels have one
 pub record HaveLabelAnswers : Type 0 where
-  pub files : HaveAnswers
+  pub files : FilesHaveOneAnswer
   pub labels : (file : List ℕ) → HasOneAnswer file
 
 -- ---- One file

@@ -5,7 +5,7 @@ use Rattle.board_shapes.specs.Plain.{PlainBoard, common_box, Fits}
 use Rattle.contact.specs.declared.Bounds.{Bounds}
 use Rattle.ipc356_records.specs.NetlistFile.{Netlist}
 use Rattle.serde_json.specs.Data.{Data}
-use Rattle.board_package.specs.Laws.{HasOneOutcome, HaveAnswers}
+use Rattle.board_package.specs.Laws.{HasOneOutcome, FilesHaveOneAnswer}
 use Rattle.board_package.specs.Manifest.{IsManifest, IsNotJson, IsOther, IsValueOf, manifest_of}
 use Rattle.board_package.specs.PackageBoard.{Stop, absent, longer, not_json, bad_manifest, refused, frame_too_large, IsHeld, IsHeldWith, Goes, IsRefusedFor, StopsAt, StopsAtManifest, StopsAtFrame, StopsAmong, IsManifestFile, IsBoardOf, IsFirstStop, IsFrameStop, Walks, most_bytes}
 use Rattle.board_package.specs.Parts.{with_pieces, with_netlist, empty_board}
@@ -20,7 +20,7 @@ use Rattle.board_package.proofs.Walking.{one_of_walk, one_walk, walk_or_one}
 
 -- ---- One file
 
-reads_one : HaveAnswers → (r : Role) (n : ℕ) (bytes : List ℕ) (before x y : PlainBoard) → Reads r n bytes before x → Reads r n bytes before y → x ≡ y
+reads_one : FilesHaveOneAnswer → (r : Role) (n : ℕ) (bytes : List ℕ) (before x y : PlainBoard) → Reads r n bytes before x → Reads r n bytes before y → x ≡ y
 reads_one all (role.Copper layer) n bytes before x y (a, read, is) (b, read', is') =
     let e : a ≡ b = (all.layer bytes (layer_place layer n before)).one_value a b read read' in is ∙ (ap (with_pieces before) e ∙ sym is')
 reads_one all (role.Drill from to) n bytes before x y (a, read, is) (b, read', is') =
@@ -29,7 +29,7 @@ reads_one all role.Netlist n bytes before x y (a, names, read, is) (b, names', r
     let e = (all.netlist bytes before.layers).one_value (record { probes = a; names = names }) (record { probes = b; names = names' }) read read' in
     is ∙ (ap (λ (l : Netlist). with_netlist before l.probes l.names) e ∙ sym is')
 
-reads_not_refused : HaveAnswers → (r : Role) (n : ℕ) (bytes : List ℕ) (before x : PlainBoard) (why : Refusal) → Reads r n bytes before x → Refuses r n bytes before why → ⊥
+reads_not_refused : FilesHaveOneAnswer → (r : Role) (n : ℕ) (bytes : List ℕ) (before x : PlainBoard) (why : Refusal) → Reads r n bytes before x → Refuses r n bytes before why → ⊥
 reads_not_refused all (role.Copper layer) n bytes before x (refusal.Layer kind command at) (a, read, is) no' = (all.layer bytes (layer_place layer n before)).not_both a kind command at read no'
 reads_not_refused all (role.Copper layer) n bytes before x (refusal.Drill kind line at) read no' = no'
 reads_not_refused all (role.Copper layer) n bytes before x (refusal.Netlist kind line) read no' = no'
@@ -40,7 +40,7 @@ reads_not_refused all role.Netlist n bytes before x (refusal.Layer kind command 
 reads_not_refused all role.Netlist n bytes before x (refusal.Drill kind line at) read no' = no'
 reads_not_refused all role.Netlist n bytes before x (refusal.Netlist kind line) (a, names, read, is) (count, no') = (all.netlist bytes before.layers).not_both (record { probes = a; names = names }) kind count line read no'
 
-refuses_one : HaveAnswers → (r : Role) (n : ℕ) (bytes : List ℕ) (before : PlainBoard) (why other : Refusal) → Refuses r n bytes before why → Refuses r n bytes before other → why ≡ other
+refuses_one : FilesHaveOneAnswer → (r : Role) (n : ℕ) (bytes : List ℕ) (before : PlainBoard) (why other : Refusal) → Refuses r n bytes before why → Refuses r n bytes before other → why ≡ other
 refuses_one all (role.Copper layer) n bytes before (refusal.Layer kind command at) (refusal.Layer kind' command' at') p q =
     let e = (all.layer bytes (layer_place layer n before)).one_fault kind kind' command command' at at' p q in cc (e.0, e.1, e.2)
 refuses_one all (role.Copper layer) n bytes before (refusal.Layer kind command at) (refusal.Drill kind' line at') p q = absurd q
@@ -86,12 +86,12 @@ absent_not_longer o e h = subst (λ (p : Option (List ℕ)). IsSomeAnd p (λ byt
 pub same_name : (name a b : List ℕ) → a ≡ name → b ≡ name → a ≡ b
 same_name name a b p q = p ∙ sym q
 
-pub goes_one : HaveAnswers → (files : Files) (e : Entry) (before x y : PlainBoard) → Goes files e before x → Goes files e before y → x ≡ y
+pub goes_one : FilesHaveOneAnswer → (files : Files) (e : Entry) (before x y : PlainBoard) → Goes files e before x → Goes files e before y → x ≡ y
 goes_one all files e before x y g h =
     let same = held_one files e.name g.bytes h.bytes g.held h.held in
     reads_one all e.role e.number h.bytes before x y (subst (λ bytes. Reads e.role e.number bytes before x) same g.read) h.read
 
-pub goes_not_stops : HaveAnswers → (files : Files) (e : Entry) (before x : PlainBoard) (stop : Stop) → Goes files e before x → StopsAt files e before stop → ⊥
+pub goes_not_stops : FilesHaveOneAnswer → (files : Files) (e : Entry) (before x : PlainBoard) (stop : Stop) → Goes files e before x → StopsAt files e before stop → ⊥
 goes_not_stops all files e before x (absent name) g s = held_not_absent files e.name g.bytes g.held s.1
 goes_not_stops all files e before x (longer name) g s = held_not_longer files e.name g.bytes g.held s.1
 goes_not_stops all files e before x not_json g s = s
@@ -101,12 +101,12 @@ goes_not_stops all files e before x (refused name why) g s =
     reads_not_refused all e.role e.number s.1.bytes before x why (subst (λ bytes. Reads e.role e.number bytes before x) same g.read) s.1.refused
 goes_not_stops all files e before x (frame_too_large box) g s = s
 
-refused_one : HaveAnswers → (files : Files) (e : Entry) (before : PlainBoard) (why other : Refusal) → IsRefusedFor files e before why → IsRefusedFor files e before other → why ≡ other
+refused_one : FilesHaveOneAnswer → (files : Files) (e : Entry) (before : PlainBoard) (why other : Refusal) → IsRefusedFor files e before why → IsRefusedFor files e before other → why ≡ other
 refused_one all files e before why other r s =
     let same = held_one files e.name r.bytes s.bytes r.held s.held in
     refuses_one all e.role e.number s.bytes before why other (subst (λ bytes. Refuses e.role e.number bytes before why) same r.refused) s.refused
 
-pub stops_one : HaveAnswers → (files : Files) (e : Entry) (before : PlainBoard) (stop other : Stop) → StopsAt files e before stop → StopsAt files e before other → stop ≡ other
+pub stops_one : FilesHaveOneAnswer → (files : Files) (e : Entry) (before : PlainBoard) (stop other : Stop) → StopsAt files e before stop → StopsAt files e before other → stop ≡ other
 stops_one all files e before (absent a) (absent b) s t = ap absent (same_name e.name a b s.0 t.0)
 stops_one all files e before (absent a) (longer b) s t = absurd (absent_not_longer (files e.name) s.1 t.1)
 stops_one all files e before (absent a) (refused b why) s t = absurd (held_not_absent files e.name t.1.bytes t.1.held s.1)
@@ -134,13 +134,13 @@ stops_one all files e before (frame_too_large box) other s t = absurd s
 
 -- ---- The order
 
-walks_one : HaveAnswers → (files : Files) (entries : List Entry) (start x y : PlainBoard) → Walks files entries start x → Walks files entries start y → x ≡ y
+walks_one : FilesHaveOneAnswer → (files : Files) (entries : List Entry) (start x y : PlainBoard) → Walks files entries start x → Walks files entries start y → x ≡ y
 walks_one all files entries start x y p q = one_walk (Goes files) (goes_one all files) entries start x y p q
 
-walks_not_stops : HaveAnswers → (files : Files) (entries : List Entry) (start x : PlainBoard) (stop : Stop) → Walks files entries start x → StopsAmong files entries start stop → ⊥
+walks_not_stops : FilesHaveOneAnswer → (files : Files) (entries : List Entry) (start x : PlainBoard) (stop : Stop) → Walks files entries start x → StopsAmong files entries start stop → ⊥
 walks_not_stops all files entries start x stop p s = walk_or_one (Goes files) (goes_one all files) (λ e b. StopsAt files e b stop) (λ e b y g h. goes_not_stops all files e b y stop g h) entries start x p s
 
-among_one : HaveAnswers → (files : Files) (entries : List Entry) (start : PlainBoard) (stop other : Stop) → StopsAmong files entries start stop → StopsAmong files entries start other → stop ≡ other
+among_one : FilesHaveOneAnswer → (files : Files) (entries : List Entry) (start : PlainBoard) (stop other : Stop) → StopsAmong files entries start stop → StopsAmong files entries start other → stop ≡ other
 among_one all files entries start stop other s t =
     one_of_walk (Goes files) (goes_one all files) (λ e b. StopsAt files e b stop) (λ e b. StopsAt files e b other) (stop ≡ other)
     (λ e b y g h. goes_not_stops all files e b y stop g h) (λ e b y g h. goes_not_stops all files e b y other g h) (λ e b h k. stops_one all files e b stop other h k) entries start s t
@@ -247,7 +247,7 @@ fits_not_stops b (refused a why) fits s = s
 abbrev Later : Files → Manifest → Stop → Type 0
 Later files m stop = StopsAmong files m.files (empty_board m.layers) stop ⊎ IsFrameStop files m stop
 
-later_one : HaveAnswers → (files : Files) (m : Manifest) (stop other : Stop) → Later files m stop → Later files m other → stop ≡ other
+later_one : FilesHaveOneAnswer → (files : Files) (m : Manifest) (stop other : Stop) → Later files m stop → Later files m other → stop ≡ other
 later_one all files m stop other (inl s) (inl t) = among_one all files m.files (empty_board m.layers) stop other s t
 later_one all files m stop other (inl s) (inr t) = absurd (walks_not_stops all files m.files (empty_board m.layers) t.board stop t.walked s)
 later_one all files m stop other (inr s) (inl t) = absurd (walks_not_stops all files m.files (empty_board m.layers) s.board other s.walked t)
@@ -255,13 +255,13 @@ later_one all files m stop other (inr s) (inr t) =
     let same = walks_one all files m.files (empty_board m.layers) s.board t.board s.walked t.walked in
     frame_one t.board stop other (subst (λ b. StopsAtFrame b stop) same s.frame) t.frame
 
-later_not_board : HaveAnswers → (files : Files) (m : Manifest) (board : PlainBoard) (stop : Stop) → Walks files m.files (empty_board m.layers) board → Fits (common_box board.pieces) → Later files m stop → ⊥
+later_not_board : FilesHaveOneAnswer → (files : Files) (m : Manifest) (board : PlainBoard) (stop : Stop) → Walks files m.files (empty_board m.layers) board → Fits (common_box board.pieces) → Later files m stop → ⊥
 later_not_board all files m board stop walks fits (inl s) = walks_not_stops all files m.files (empty_board m.layers) board stop walks s
 later_not_board all files m board stop walks fits (inr s) =
     let same = walks_one all files m.files (empty_board m.layers) s.board board s.walked walks in
     fits_not_stops board stop fits (subst (λ b. StopsAtFrame b stop) same s.frame)
 
-first_one : HaveAnswers → (files : Files) (name : List ℕ) (stop other : Stop) → IsFirstStop files name stop → IsFirstStop files name other → stop ≡ other
+first_one : FilesHaveOneAnswer → (files : Files) (name : List ℕ) (stop other : Stop) → IsFirstStop files name stop → IsFirstStop files name other → stop ≡ other
 first_one all files name stop other (inl s) (inl t) = at_manifest_one files name stop other s t
 first_one all files name stop other (inl s) (inr t) = absurd (manifest_not_stops files name t.listed stop t.manifest s)
 first_one all files name stop other (inr s) (inl t) = absurd (manifest_not_stops files name s.listed other s.manifest t)
@@ -269,18 +269,18 @@ first_one all files name stop other (inr s) (inr t) =
     let same = manifest_file_one files name s.listed t.listed s.manifest t.manifest in
     later_one all files t.listed stop other (subst (λ m. Later files m stop) same s.stops) t.stops
 
-board_not_stop : HaveAnswers → (files : Files) (name : List ℕ) (board : PlainBoard) (stop : Stop) → IsBoardOf files name board → IsFirstStop files name stop → ⊥
+board_not_stop : FilesHaveOneAnswer → (files : Files) (name : List ℕ) (board : PlainBoard) (stop : Stop) → IsBoardOf files name board → IsFirstStop files name stop → ⊥
 board_not_stop all files name board stop b (inl s) = manifest_not_stops files name b.listed stop b.manifest s
 board_not_stop all files name board stop b (inr s) =
     let same = manifest_file_one files name s.listed b.listed s.manifest b.manifest in
     later_not_board all files b.listed board stop b.walked b.frame (subst (λ m. Later files m stop) same s.stops)
 
-board_one : HaveAnswers → (files : Files) (name : List ℕ) (board other : PlainBoard) → IsBoardOf files name board → IsBoardOf files name other → board ≡ other
+board_one : FilesHaveOneAnswer → (files : Files) (name : List ℕ) (board other : PlainBoard) → IsBoardOf files name board → IsBoardOf files name other → board ≡ other
 board_one all files name board other a b =
     let same = manifest_file_one files name a.listed b.listed a.manifest b.manifest in
     walks_one all files b.listed.files (empty_board b.listed.layers) board other (subst (λ (m : Manifest). Walks files m.files (empty_board m.layers) board) same a.walked) b.walked
 
-pub one_outcome : HaveAnswers → (files : Files) (name : List ℕ) → HasOneOutcome files name
+pub one_outcome : FilesHaveOneAnswer → (files : Files) (name : List ℕ) → HasOneOutcome files name
 one_outcome all files name = record {
   one_board = λ board other a b. board_one all files name board other a b;
   not_both = λ board stop a b. board_not_stop all files name board stop a b;

@@ -16,7 +16,7 @@ use Rattle.x2_nets.specs.declared.table.Label.{Label}
 use Rattle.board_package.specs.PackageBoard.{Stop, absent, longer, not_json, bad_manifest, refused, frame_too_large, IsBoardOf, IsFirstStop}
 
 -- Each file has one answer: copper files, drill files and netlists.
-pub record HaveAnswers : Type 0 where
+pub record FilesHaveOneAnswer : Type 0 where
   pub layer : (file : List ℕ) (p : LayerPlace) → layer_file.HasOneAnswer file p
   pub drill : (file : List ℕ) (p : DrillPlace) → drill_file.HasOneAnswer file p
   pub netlist : (file : List ℕ) (layers : ℕ) → netlist_file.HasOneAnswer file layers

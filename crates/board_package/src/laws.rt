@@ -1,7 +1,7 @@
 //! The laws over the definitions alone.
 ghost use Rattle.std.specs.Prelude.{ℕ, List};
 ghost use Rattle.board_io.specs.Package.{Files};
-ghost use Rattle.board_package.specs.Laws.{CutIsRefusedOrTheSame, HasOneLabelledOutcome, HasOneOutcome, HaveAnswers, LabelledPiecesAreUnder};
+ghost use Rattle.board_package.specs.Laws.{CutIsRefusedOrTheSame, FilesHaveOneAnswer, HasOneLabelledOutcome, HasOneOutcome, LabelledPiecesAreUnder};
 
 /// A package has at most one board or one first stop, and not both.
 pub fn one_outcome()
@@ -36,7 +36,7 @@ pub fn cut_is_refused_or_the_same()
 
 // Each copper file, drill file and netlist has one answer.
 fn files_have_one_answer()
-    ensures { HaveAnswers }
+    ensures { FilesHaveOneAnswer }
 {
     gerber_layer::laws::one_answer();
     xnc::laws::one_answer();

@@ -83,17 +83,27 @@ abbrev pub unflat_of : FlattenFault → Unanswered
 unflat_of (flat.Refused kind command at) = Unflat kind command at
 unflat_of flat.NoMemory = Stopped fault.NoMemory
 
--- the status of a fault and its line
+-- the status of a fault
+abbrev pub fault_status : BuildFault → ℕ
+fault_status (fault.CannotRead name) = 4
+fault_status fault.NoMemory = 6
+fault_status other = 3
+
+-- the line of a fault
+abbrev pub fault_line : List ℕ → BuildFault → List ℕ
+fault_line manifest fault.NotJson = file_line manifest (codes "not JSON")
+fault_line manifest fault.BadManifest = file_line manifest (codes "not a manifest")
+fault_line manifest (fault.Longer name) = file_line name (codes "longer than 67108864 bytes")
+fault_line manifest (fault.CannotRead name) = file_line name (codes "cannot be read")
+fault_line manifest (fault.Layer name kind command byte) = refusal_line name (Layer kind command byte)
+fault_line manifest (fault.Drill name kind number byte) = refusal_line name (Drill kind number byte)
+fault_line manifest (fault.Netlist name kind number) = refusal_line name (Netlist kind number)
+fault_line manifest (fault.FrameTooLarge box) = frame_line box
+fault_line manifest fault.NoMemory = plain_line (codes "out of memory")
+
+-- the status is that of a fault, and so is the line
 abbrev pub Refuses : List ℕ → BuildFault → ℕ → (List ℕ → Type 0) → Type 0
-Refuses manifest fault.NotJson status Line = (status ≡ 3) × Line (file_line manifest (codes "not JSON"))
-Refuses manifest fault.BadManifest status Line = (status ≡ 3) × Line (file_line manifest (codes "not a manifest"))
-Refuses manifest (fault.Longer name) status Line = (status ≡ 3) × Line (file_line name (codes "longer than 67108864 bytes"))
-Refuses manifest (fault.CannotRead name) status Line = (status ≡ 4) × Line (file_line name (codes "cannot be read"))
-Refuses manifest (fault.Layer name kind command byte) status Line = (status ≡ 3) × Line (refusal_line name (Layer kind command byte))
-Refuses manifest (fault.Drill name kind number byte) status Line = (status ≡ 3) × Line (refusal_line name (Drill kind number byte))
-Refuses manifest (fault.Netlist name kind number) status Line = (status ≡ 3) × Line (refusal_line name (Netlist kind number))
-Refuses manifest (fault.FrameTooLarge box) status Line = (status ≡ 3) × Line (frame_line box)
-Refuses manifest fault.NoMemory status Line = (status ≡ 6) × Line (plain_line (codes "out of memory"))
+Refuses manifest why status Line = (status ≡ fault_status why) × Line (fault_line manifest why)
 
 -- the manifest or the copper file that a command is about, and the report
 abbrev pub manifest_of : Command → List ℕ

@@ -1,5 +1,5 @@
 -- The lines to the notes.
-use Rattle.std.specs.Prelude.{◌≤◌, ℕ, List, [], ◌∷◌, Option, codes, decimal}
+use Rattle.std.specs.Prelude.{◌≤◌, ℕ, List, [], ◌∷◌, ◌++◌, Option, codes, decimal}
 use Rattle.std.specs.Fmt.{signed_decimal}
 use Rattle.std.specs.List.{concat}
 pub use Rattle.board_io.specs.Causes.{Rose}
@@ -25,18 +25,18 @@ plain_line what = concat (begin ∷ what ∷ end ∷ [])
 abbrev pub file_line : List ℕ → List ℕ → List ℕ
 file_line file what = concat (begin ∷ file ∷ codes ": " ∷ what ∷ end ∷ [])
 
--- a refusal of a file in a form: the number and the name of its kind, the command or the line, and what stands behind it
-abbrev pub kind_line : List ℕ → List ℕ → ℕ → List ℕ → List ℕ → ℕ → List ℕ → List ℕ → List ℕ
-kind_line file form number kind item place comma byte =
-    concat (begin ∷ file ∷ codes ": " ∷ form ∷ codes " " ∷ decimal number ∷ codes " " ∷ kind ∷ codes " at " ∷ item ∷ codes " " ∷ decimal place ∷ comma ∷ byte ∷ end ∷ [])
+-- a place in a file: a command or a line, and its first byte
+abbrev pub at_byte : List ℕ → ℕ → ℕ → List ℕ
+at_byte item number byte = concat (item ∷ codes " " ∷ decimal number ∷ codes ", byte " ∷ decimal byte ∷ end ∷ [])
 
--- a refusal with its first byte
-abbrev pub refused_line : List ℕ → List ℕ → ℕ → List ℕ → List ℕ → ℕ → ℕ → List ℕ
-refused_line file form number kind item place byte = kind_line file form number kind item place (codes ", byte ") (decimal byte)
+-- the same without a byte
+abbrev pub at_item : List ℕ → ℕ → List ℕ
+at_item item number = concat (item ∷ codes " " ∷ decimal number ∷ end ∷ [])
 
--- a refusal of a netlist has no byte
-abbrev pub netlist_line : List ℕ → List ℕ → ℕ → List ℕ → List ℕ → ℕ → List ℕ
-netlist_line file form number kind item place = kind_line file form number kind item place [] []
+-- a refusal of a file in a form: the number and the name of its kind, and its place, which ends the line
+abbrev pub kind_line : List ℕ → List ℕ → ℕ → List ℕ → List ℕ → List ℕ
+kind_line file form number kind place =
+    concat (begin ∷ file ∷ codes ": " ∷ form ∷ codes " " ∷ decimal number ∷ codes " " ∷ kind ∷ codes " at " ∷ []) ++ place
 
 -- a label of a copper file that is amiss: the command and its first byte
 abbrev pub label_line : List ℕ → ℕ → ℕ → List ℕ

@@ -7,6 +7,7 @@ pub use Rattle.board_package.specs.LabelledBoard.{IsLabelledBoardOf}
 use Rattle.board_package.specs.LabelledBoard.{IsFirstLabelledStop, LabelledComes, LabelledStop, mislabelled, unbuilt}
 pub use Rattle.board_package.specs.PackageBoard.{IsBoardOf, IsHeld}
 use Rattle.board_package.specs.PackageBoard.{Stop, absent, longer, not_json, bad_manifest, refused, frame_too_large, Comes, IsFirstStop, IsHeldWith, IsWithinLimits, StopsTaking}
+use Rattle.board_package.specs.Refusals.{refusal_number, refusal_name}
 use Rattle.board_package.specs.declared.reading.Refusal.{Refusal}
 use Rattle.board_package.specs.declared.reading.Refusal.TheVariants.{Layer, Drill, Netlist}
 pub use Rattle.board_shapes.specs.Plain.{Fits, PlainBoard, PlainPiece}
@@ -15,15 +16,13 @@ use Rattle.board_shapes.specs.Touching.{Joined}
 use Rattle.board_shapes.specs.declared.probe.Probe.{Probe}
 use Rattle.boardnet.specs.Gapped.{IsGapListOn, IsTooWide}
 use Rattle.boardnet.specs.Right.{IsOfVersion, IsRightOn}
-use Rattle.boardnet.specs.Lines.{counted_line, plain_line, file_line, netlist_line, frame_line, label_line, differs_line, refused_line, end}
-use Rattle.gerber_layer.specs.Kinds.{kind_number, kind_name}
+use Rattle.boardnet.specs.Lines.{at_byte, at_item, counted_line, plain_line, file_line, frame_line, kind_line, label_line, differs_line, end}
 use Rattle.gerber_layer.specs.MacroKinds.{flatten_number, flatten_name}
 pub use Rattle.gaps.specs.GrownBox.{grown_common}
 pub use Rattle.gerber_layer.specs.MacroLayer.{IsReadWithMacros}
 use Rattle.gerber_layer.specs.MacroLayer.{IsRefusedWithMacros}
 use Rattle.gerber_layer.specs.declared.macro_kind.FlattenKind.{FlattenKind}
 use Rattle.macro_flatten.specs.Flattened.{IsFlattened, IsReadBack}
-use Rattle.ipc356_records.specs.Kind.{number_of_kind as record_number, name_of_kind as record_name}
 use Rattle.tables.specs.Tables.{Tables}
 use Rattle.boardnet.specs.Words.{Command, Check, Audit, Trial, Write, Gaps, X2, Flatten}
 use Rattle.boardnet.specs.declared.words.Version.{Version}
@@ -34,7 +33,6 @@ use Rattle.verdict.specs.Lawful.{IsVerdict}
 use Rattle.verdict.specs.ReportText.{report_text, Agrees}
 use Rattle.verdict.specs.Right.{FailsFirst, HaveOneNet, IsRight}
 use Rattle.verdict.specs.declared.verdict.Verdict.{Verdict}
-use Rattle.xnc.specs.Kind.{number_of_kind as drill_number, name_of_kind as drill_name}
 
 -- The status of a verdict, and its line.
 abbrev pub HasStatus : Verdict → ℕ → List ℕ → Type 0
@@ -53,11 +51,21 @@ pub record IsReport (files : Files) (version : Version) (manifest text : List �
   pub text_is : text ≡ report_text verdict
   pub status_is : HasStatus verdict status line
 
+-- the form of a file that is refused
+abbrev pub form_of : Refusal → List ℕ
+form_of (Layer kind command byte) = codes "Gerber"
+form_of (Drill kind line byte) = codes "drill"
+form_of (Netlist kind line) = codes "netlist"
+
+-- where it is refused; a netlist has no byte
+abbrev pub place_of : Refusal → List ℕ
+place_of (Layer kind command byte) = at_byte (codes "command") command byte
+place_of (Drill kind line byte) = at_byte (codes "line") line byte
+place_of (Netlist kind line) = at_item (codes "line") line
+
 -- The line of a file that is refused.
 abbrev pub refusal_line : List ℕ → Refusal → List ℕ
-refusal_line name (Layer kind command byte) = refused_line name (codes "Gerber") (kind_number kind) (kind_name kind) (codes "command") command byte
-refusal_line name (Drill kind line byte) = refused_line name (codes "drill") (drill_number kind) (drill_name kind) (codes "line") line byte
-refusal_line name (Netlist kind line) = netlist_line name (codes "netlist") (record_number kind) (record_name kind) (codes "line") line
+refusal_line name why = kind_line name (form_of why) (refusal_number why) (refusal_name why) (place_of why)
 
 -- The line of a stop that is a refusal. A file that is not held is none.
 abbrev pub IsLineOf : List ℕ → Stop → List ℕ → Type 0
@@ -249,7 +257,7 @@ pub record IsUnflat (files : Files) (name : List ℕ) (kind : FlattenKind) (comm
 
 -- the line of a refusal of `flatten`
 abbrev pub flatten_line : List ℕ → FlattenKind → ℕ → ℕ → List ℕ
-flatten_line name kind command byte = refused_line name (codes "flatten") (flatten_number kind) (flatten_name kind) (codes "command") command byte
+flatten_line name kind command byte = kind_line name (codes "flatten") (flatten_number kind) (flatten_name kind) (at_byte (codes "command") command byte)
 
 -- The file is refused, and this is its line.
 pub record IsFlatRefusal (files : Files) (name line : List ℕ) : Type 0 where

@@ -1,20 +1,24 @@
 // The line to the notes, put in pieces and without memory.
-ghost use Rattle.boardnet.specs.Lines.{Says, counted_line, differs_line, file_line, frame_line, kind_line, label_line, netlist_line, plain_line, refused_line};
+ghost use Rattle.boardnet.specs.Lines.{Gains, Rose, Says, at_byte, at_item, counted_line, differs_line, file_line, frame_line, kind_line, label_line, plain_line};
 ghost use Rattle.std.specs.List.{flat_map};
+ghost use Rattle.std.specs.Prelude.{false, true, ◌≡◌};
 
 use board_io::{Put, Sink};
 use contact::Bounds;
 use texts::Numeral;
 
-/// Puts the pieces of a line one by one, as long as none fails.
-pub fn put_all<N: Sink>(notes: &mut N, pieces: &[&[u8]])
-    ensures { Says N.got N.faults notes.old notes.new (flat_map (λ piece. piece.now) pieces.now) }
+/// Puts the pieces of a line one by one, as long as none fails, and answers whether all were put.
+pub fn put_all<N: Sink>(notes: &mut N, pieces: &[&[u8]]) -> bool
+    ensures says { Says N.got N.faults notes.old notes.new (flat_map (λ piece. piece.now) pieces.now) }
+    ensures whole { result ≡ true → Gains (N.got notes.old) (flat_map (λ piece. piece.now) pieces.now) (N.got notes.new) × (N.faults notes.new ≡ N.faults notes.old) }
+    ensures cut { result ≡ false → Rose (N.faults notes.old) (N.faults notes.new) }
 {
     for piece in pieces {
         if notes.put(*piece) == Put::Failed {
-            return;
+            return false;
         }
     }
+    true
 }
 
 /// Puts a line of a few words.
@@ -60,42 +64,56 @@ pub fn about_file<N: Sink>(notes: &mut N, file: &[u8], what: &[u8])
     put_all(notes, &[b"boardnet: ", file, b": ", what, b"\n"]);
 }
 
-/// A kind of refusal: the form of the file, what stands in it, a command or a line, and the number and the name of the kind.
+/// A kind of refusal: the form of the file, and the number and the name of the kind.
 #[derive(Clone, Copy)]
 pub struct Kind<'a> {
     pub form: &'a str,
-    pub item: &'a str,
     pub number: u32,
     pub name: &'a str,
 }
 
-/// Puts the line of a refusal of a file at an item and its first byte.
-pub fn refused<N: Sink>(notes: &mut N, file: &[u8], kind: Kind, item: u32, byte: usize)
-    ensures { Says N.got N.faults notes.old notes.new (refused_line file.now kind.entry.form.now kind.entry.number kind.entry.name.now kind.entry.item.now item byte) }
+/// Puts the line of a refusal of a file at an item, a command or a line, and its first byte.
+pub fn refused_at_byte<N: Sink>(
+    notes: &mut N,
+    file: &[u8],
+    kind: Kind,
+    item: &[u8],
+    number: u32,
+    byte: usize,
+)
+    ensures { Says N.got N.faults notes.old notes.new (kind_line file.now kind.entry.form.now kind.entry.number kind.entry.name.now (at_byte item.now number byte)) }
 {
+    let number = Numeral::of(u64::from(number));
     let byte = Numeral::of(byte as u64);
-    put_kind(notes, file, kind, item, b", byte ", byte.as_bytes());
+    put_kind(
+        notes,
+        file,
+        kind,
+        &[
+            item,
+            b" ",
+            number.as_bytes(),
+            b", byte ",
+            byte.as_bytes(),
+            b"\n",
+        ],
+    );
 }
 
 /// Puts the line of a refusal of a file at an item alone, as a netlist has it.
-pub fn netlist_refused<N: Sink>(notes: &mut N, file: &[u8], kind: Kind, item: u32)
-    ensures { Says N.got N.faults notes.old notes.new (netlist_line file.now kind.entry.form.now kind.entry.number kind.entry.name.now kind.entry.item.now item) }
+pub fn refused_at<N: Sink>(notes: &mut N, file: &[u8], kind: Kind, item: &[u8], number: u32)
+    ensures { Says N.got N.faults notes.old notes.new (kind_line file.now kind.entry.form.now kind.entry.number kind.entry.name.now (at_item item.now number)) }
 {
-    put_kind(notes, file, kind, item, b"", b"");
+    let number = Numeral::of(u64::from(number));
+    put_kind(notes, file, kind, &[item, b" ", number.as_bytes(), b"\n"]);
 }
 
-// Puts the line of a refusal of a file at an item, and what stands behind it in the line.
-fn put_kind<'a, N: Sink>(
-    notes: &mut N,
-    file: &'a [u8],
-    kind: Kind<'a>,
-    item: u32,
-    comma: &'a [u8],
-    byte: &'a [u8],
-)
-    ensures { Says N.got N.faults notes.old notes.new (kind_line file.now kind.entry.form.now kind.entry.number kind.entry.name.now kind.entry.item.now item comma.now byte.now) }
+// Puts the line of a refusal of a file, which ends with its place in the file.
+fn put_kind<'a, N: Sink>(notes: &mut N, file: &'a [u8], kind: Kind<'a>, place: &[&[u8]])
+    ensures { Says N.got N.faults notes.old notes.new (kind_line file.now kind.entry.form.now kind.entry.number kind.entry.name.now (flat_map (λ piece. piece.now) place.now)) }
 {
-    put_all(
+    let number = Numeral::of(u64::from(kind.number));
+    let whole = put_all(
         notes,
         &[
             b"boardnet: ",
@@ -103,18 +121,16 @@ fn put_kind<'a, N: Sink>(
             b": ",
             kind.form.as_bytes(),
             b" ",
-            Numeral::of(u64::from(kind.number)).as_bytes(),
+            number.as_bytes(),
             b" ",
             kind.name.as_bytes(),
             b" at ",
-            kind.item.as_bytes(),
-            b" ",
-            Numeral::of(u64::from(item)).as_bytes(),
-            comma,
-            byte,
-            b"\n",
         ],
     );
+    if !whole {
+        return;
+    }
+    put_all(notes, place);
 }
 
 /// Puts the line of a label of a copper file that is amiss, at a command and its first byte.

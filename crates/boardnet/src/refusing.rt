@@ -1,7 +1,8 @@
 // Refusals: the line of each, and its status.
-ghost use Rattle.boardnet.specs.Answers.{Refuses, RefusesFor};
+ghost use Rattle.boardnet.specs.Answers.{Refuses, RefusesFor, fault_line};
 ghost use Rattle.boardnet.specs.Asked.{asked};
 ghost use Rattle.boardnet.specs.Lines.{Says};
+ghost use Rattle.boardnet.specs.Outcome.{form_of, refusal_line};
 ghost use Rattle.lengths.specs.Text.{IsText};
 ghost use Rattle.std.specs.Prelude.{IfErr, IfOk, ◌≡◌, ◌≤◌};
 
@@ -9,7 +10,7 @@ use crate::answer::Unanswered;
 use crate::lines::{self, Kind};
 use crate::words::Command;
 use board_io::Sink;
-use board_package::BuildFault;
+use board_package::{BuildFault, Refusal};
 use lengths::Text;
 use std::alloc::Global;
 
@@ -40,11 +41,10 @@ pub fn refuse<N: Sink>(command: Command, why: &Unanswered, notes: &mut N) -> u8
         Unanswered::Unflat { kind, command, at } => {
             let kind = Kind {
                 form: "flatten",
-                item: "command",
                 number: kind.number(),
                 name: kind.name(),
             };
-            lines::refused(notes, file.as_bytes(), kind, *command, *at);
+            lines::refused_at_byte(notes, file.as_bytes(), kind, b"command", *command, *at);
             3
         }
     }
@@ -55,71 +55,77 @@ fn stopped<N: Sink>(manifest: &str, fault: &BuildFault, notes: &mut N) -> u8
     ensures line { Refuses manifest.now fault.now result (Says N.got N.faults notes.old notes.new) }
     ensures later { N.faults notes.old ≤ N.faults notes.new }
 {
+    put_fault(manifest.as_bytes(), fault, notes);
     match fault {
-        BuildFault::NotJson => {
-            lines::about_file(notes, manifest.as_bytes(), b"not JSON");
-            3
+        BuildFault::CannotRead(_) => 4,
+        BuildFault::NoMemory => 6,
+        _ => 3,
+    }
+}
+
+// Puts the line of a fault of a package.
+fn put_fault<N: Sink>(manifest: &[u8], fault: &BuildFault, notes: &mut N)
+    ensures { Says N.got N.faults notes.old notes.new (fault_line manifest.now fault.now) }
+{
+    match *fault {
+        BuildFault::NotJson => lines::about_file(notes, manifest, b"not JSON"),
+        BuildFault::BadManifest => lines::about_file(notes, manifest, b"not a manifest"),
+        BuildFault::Longer(ref file) => {
+            lines::about_file(notes, file.as_bytes(), b"longer than 67108864 bytes")
         }
-        BuildFault::BadManifest => {
-            lines::about_file(notes, manifest.as_bytes(), b"not a manifest");
-            3
-        }
-        BuildFault::Longer(file) => {
-            lines::about_file(notes, file.as_bytes(), b"longer than 67108864 bytes");
-            3
-        }
-        BuildFault::CannotRead(file) => {
-            lines::about_file(notes, file.as_bytes(), b"cannot be read");
-            4
+        BuildFault::CannotRead(ref file) => {
+            lines::about_file(notes, file.as_bytes(), b"cannot be read")
         }
         BuildFault::Layer {
-            file,
+            ref file,
             kind,
             command,
             at,
-        } => {
-            let kind = Kind {
-                form: "Gerber",
-                item: "command",
-                number: kind.number(),
-                name: kind.name(),
-            };
-            lines::refused(notes, file.as_bytes(), kind, *command, *at);
-            3
-        }
+        } => put_refusal(file.as_bytes(), Refusal::Layer { kind, command, at }, notes),
         BuildFault::Drill {
-            file,
+            ref file,
             kind,
             line,
             at,
-        } => {
-            let kind = Kind {
-                form: "drill",
-                item: "line",
-                number: kind.number(),
-                name: kind.name(),
-            };
-            lines::refused(notes, file.as_bytes(), kind, *line, *at);
-            3
+        } => put_refusal(file.as_bytes(), Refusal::Drill { kind, line, at }, notes),
+        BuildFault::Netlist {
+            ref file,
+            kind,
+            line,
+        } => put_refusal(file.as_bytes(), Refusal::Netlist { kind, line }, notes),
+        BuildFault::FrameTooLarge(bounds) => lines::frame(notes, bounds),
+        BuildFault::NoMemory => lines::plain(notes, b"out of memory"),
+    }
+}
+
+// Puts the line of a file that is refused.
+fn put_refusal<N: Sink>(file: &[u8], why: Refusal, notes: &mut N)
+    ensures { Says N.got N.faults notes.old notes.new (refusal_line file.now why) }
+{
+    let kind = Kind {
+        form: form(why),
+        number: why.number(),
+        name: why.name(),
+    };
+    match why {
+        Refusal::Layer { command, at, .. } => {
+            lines::refused_at_byte(notes, file, kind, b"command", command, at)
         }
-        BuildFault::Netlist { file, kind, line } => {
-            let kind = Kind {
-                form: "netlist",
-                item: "line",
-                number: kind.number(),
-                name: kind.name(),
-            };
-            lines::netlist_refused(notes, file.as_bytes(), kind, *line);
-            3
+        Refusal::Drill { line, at, .. } => {
+            lines::refused_at_byte(notes, file, kind, b"line", line, at)
         }
-        BuildFault::FrameTooLarge(bounds) => {
-            lines::frame(notes, *bounds);
-            3
-        }
-        BuildFault::NoMemory => {
-            lines::plain(notes, b"out of memory");
-            6
-        }
+        Refusal::Netlist { line, .. } => lines::refused_at(notes, file, kind, b"line", line),
+    }
+}
+
+// The form of a file that is refused.
+fn form(why: Refusal) -> &'static str
+    ensures { result.now ≡ form_of why }
+{
+    match why {
+        Refusal::Layer { .. } => "Gerber",
+        Refusal::Drill { .. } => "drill",
+        Refusal::Netlist { .. } => "netlist",
     }
 }
 

@@ -14,4 +14,4 @@ returns g c =
     let low : c.as_bytes-2.result.now ≡ signed_decimal c.args.bounds.low = c.as_bytes-2.ensures ∙ (c.signed-2.ensures ∙ ap signed_decimal (to_z-of_z w64 _ f2)) in
     let right : c.as_bytes-3.result.now ≡ signed_decimal c.args.bounds.right = c.as_bytes-3.ensures ∙ (c.signed-3.ensures ∙ ap signed_decimal (to_z-of_z w64 _ f3)) in
     let high : c.as_bytes-4.result.now ≡ signed_decimal c.args.bounds.high = c.as_bytes-4.ensures ∙ (c.signed-4.ensures ∙ ap signed_decimal (to_z-of_z w64 _ f4)) in
-    rw (← left, ← low, ← right, ← high) c.put_all.ensures
+    rw (← left, ← low, ← right, ← high) c.put_all.ensures.says
