@@ -59,8 +59,7 @@ pub says_failed : {N : Type 0} (got : N → Option (List ℕ)) (faults : N → �
 says_failed got faults old mid new r done piece rest gains calm put cause failed =
     let part : GainsFrontOf (got mid) piece (got new) = subst (λ (x : Put). Puts x (got mid) piece (got new)) failed put in
     let rose : HasPutCause Failed (faults mid) (faults new) = subst (λ (x : Put). HasPutCause x (faults mid) (faults new)) failed cause in
-    let said : Says got faults mid new piece = record { front = part; whole = λ none. absurd (none rose.0); later = rose.1 } in
-    (
+    let said : Says got faults mid new piece = record { front = part; whole = λ none. absurd (none rose.0); later = rose.1 } in (
       says_then got faults old mid new done (piece ++ rest) gains calm (says_before got faults mid new piece rest rose.0 said),
       subst (λ (x : ℕ). Rose x (faults new)) calm rose.0,
     )
