@@ -25,9 +25,10 @@ use Rattle.board_shapes.specs.Touching.{UnderAt}
 use Rattle.board_shapes.specs.declared.probe.Probe.{Probe}
 use Rattle.board_shapes.specs.declared.shape.Shape.{Shape}
 use Rattle.verdict.proofs.Holding.{le_or_lt}
-use Rattle.witness_check.specs.Strips.{AreFiled, AreStretches, Files, IsAway, IsExtent, IsExtentAt, IsFiled, place_in, stretch_in, strip_of}
-use Rattle.witness_check.specs.declared.strips.Away.{Away}
-use Rattle.witness_check.specs.declared.strips.Extent.{Extent}
+use Rattle.witness_check.specs.Extents.{IsAway, IsExtent, IsExtentAt}
+use Rattle.witness_check.specs.Strips.{AreFiled, AreStretches, Files, IsFiled, place_in, stretch_in, strip_of}
+use Rattle.witness_check.specs.declared.extent.Away.{Away}
+use Rattle.witness_check.specs.declared.extent.Extent.{Extent}
 use Rattle.witness_check.specs.declared.strips.Stretch.{Stretch}
 use Rattle.witness_check.specs.declared.strips.TheConstants.{LEAST_HEIGHT}
 
@@ -101,9 +102,6 @@ stretches_sorted b height xs ys high are moved rising = record {
   filed = λ p below. let f = are.filed p below in record { extent = f.extent; is = f.is; each = λ k from to. Contains-permutation xs ys (stretch_in f.extent height p k) moved (f.each k from to) };
   rising = rising;
 }
-
-pub stretches_same : (b : PlainBoard) (height : ℕ) (xs ys : List Stretch) → xs ≡ ys → AreStretches b height ys → AreStretches b height xs
-stretches_same b height xs ys same are = subst (λ (zs : List Stretch). AreStretches b height zs) (sym same) are
 
 -- ---- Two pieces that touch
 

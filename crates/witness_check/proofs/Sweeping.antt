@@ -1,25 +1,55 @@
 -- What a sweep over sorted stretches tells: that nets stand apart, and the least piece under a probe.
-use Rattle.std.proofs.Common.{◌≡◌, ◌⊎◌, inl, inr, ℕ, ◌+◌, ◌<◌, ◌≤◌, List, length, get_or, All, Option, None, Some, IfSome, sym, ap, subst, ◌∙◌, arith}
+use Rattle.std.proofs.Common.{◌≡◌, ◌↔◌, ◌⊎◌, inl, inr, ℕ, zero, suc, ◌+◌, ◌<◌, ◌≤◌, List, [], ◌∷◌, length, get_or, All, Option, None, Some, IfSome, sym, ap, subst, ◌∙◌, arith}
 use Rattle.std.proofs.lemmas.Bool.{cases_eq}
 use Rattle.std.proofs.lemmas.List.{get_or_default}
-use Rattle.std.proofs.lemmas.List.Elements.{All-get_or}
+use Rattle.std.proofs.lemmas.List.Elements.{All-tail}
 use Rattle.std.specs.List.Sorted.{IsNonDecreasingBy}
 use Rattle.tables.specs.Lists.{IsLeast}
 use Rattle.verdict.specs.declared.verdict.Twig.{Twig}
 use Rattle.verdict.specs.Forest.{StandOnce, StandApart, Holds}
 use Rattle.verdict.proofs.Holding.{le_or_lt}
-use Rattle.witness_check.specs.Strips.{AreAgreed, ComeTogether, IsAtMost, IsClear, IsCounted}
+use Rattle.witness_check.specs.Strips.{AreAgreed, AreClear, ComeTogether, IsAtMost, IsClear, IsCounted}
 use Rattle.witness_check.specs.declared.strips.Stretch.{Stretch}
 use Rattle.witness_check.proofs.Filing.{Comes, HasPlace}
 
 -- ---- Nets apart
 
 -- where nets stand apart, each stretch agrees with each later one
-pub apart_clear : (near : ℕ → ℕ → Type 0) (count : ℕ) (nets : List (List Twig)) (numbers : List ℕ) (xs : List Stretch) → StandOnce count nets → ((i p : ℕ) → Holds nets i p → get_or numbers p 0 ≡ i) → StandApart near nets → All (λ (s : Stretch). s.piece < count) xs → (i : ℕ) → IsClear near numbers xs i
-apart_clear near count nets numbers xs once numbered apart known i j d less below come touches =
-    let here = once.held (get_or xs i d).piece (All-get_or (λ (s : Stretch). s.piece < count) xs i d (omega arith) known) in
-    let there = once.held (get_or xs j d).piece (All-get_or (λ (s : Stretch). s.piece < count) xs j d below known) in
-    numbered here.0 (get_or xs i d).piece here.1 ∙ (apart here.0 there.0 (get_or xs i d).piece (get_or xs j d).piece here.1 there.1 touches ∙ sym (numbered there.0 (get_or xs j d).piece there.1))
+pub apart_clear : (near : ℕ → ℕ → Type 0) (count : ℕ) (nets : List (List Twig)) (numbers : List ℕ) → StandOnce count nets → ((i p : ℕ) → Holds nets i p → get_or numbers p 0 ≡ i) → StandApart near nets → (xs : List Stretch) → All (λ (s : Stretch). s.piece < count) xs → AreClear near numbers xs
+apart_clear near count nets numbers once numbered apart [] known = tt
+apart_clear near count nets numbers once numbered apart (one ∷ later) known = (
+  λ k d below come touches.
+      let here = once.held one.piece (known 0 one (omega arith)) in
+      let there = once.held (get_or later k d).piece (behind k d below) in
+      numbered here.0 one.piece here.1 ∙ (apart here.0 there.0 one.piece (get_or later k d).piece here.1 there.1 touches ∙ sym (numbered there.0 (get_or later k d).piece there.1)),
+  apart_clear near count nets numbers once numbered apart later behind,
+)
+  where
+    behind : All (λ (s : Stretch). s.piece < count) later
+    behind = All-tail (λ (s : Stretch). s.piece < count) one later known
+
+clear_at : (near : ℕ → ℕ → Type 0) (numbers : List ℕ) (xs : List Stretch) (i j : ℕ) (d : Stretch) → AreClear near numbers xs → i < j → j < length xs → AreAgreed near numbers (get_or xs i d) (get_or xs j d)
+clear_at near numbers [] i j d clear less below = absurd (omega arith)
+clear_at near numbers (one ∷ later) i zero d clear less below = absurd (omega arith)
+clear_at near numbers (one ∷ later) zero (suc j) d clear less below = clear.0 j d (omega arith)
+clear_at near numbers (one ∷ later) (suc i) (suc j) d clear less below = clear_at near numbers later i j d clear.1 (omega arith) (omega arith)
+
+-- ---- One stretch after another
+
+pub rest_rises : (rest : List Stretch) (one : Stretch) (later : List Stretch) → rest ≡ one ∷ later → IsNonDecreasingBy (λ (s : Stretch). s.start) rest → IsNonDecreasingBy (λ (s : Stretch). s.start) later
+rest_rises rest one later is rising i j d le below =
+    let all : IsNonDecreasingBy (λ (s : Stretch). s.start) (one ∷ later) = subst (IsNonDecreasingBy (λ (s : Stretch). s.start)) is rising in
+    all (suc i) (suc j) d (omega arith) (omega arith)
+
+-- where the rest begins with a stretch, it is clear exactly where that stretch is and what comes later
+pub rest_clear : (near : ℕ → ℕ → Type 0) (numbers : List ℕ) (rest : List Stretch) (one : Stretch) (later : List Stretch) → rest ≡ one ∷ later → AreClear near numbers rest ↔ (IsClear near numbers one later × AreClear near numbers later)
+rest_clear near numbers rest one later is = ((λ clear. subst (AreClear near numbers) is clear), λ clear. subst (AreClear near numbers) (sym is) clear)
+
+pub none_left : (near : ℕ → ℕ → Type 0) (numbers : List ℕ) (rest : List Stretch) → length rest ≡ 0 → AreClear near numbers rest
+none_left near numbers [] none = tt
+none_left near numbers (one ∷ later) none = absurd (omega arith)
+
+-- ---- Two that come together
 
 -- the later of two stretches starts no earlier
 agreed : (near : ℕ → ℕ → Type 0) (numbers : List ℕ) (one two : Stretch) (p q : ℕ) → one.piece ≡ p → two.piece ≡ q → AreAgreed near numbers one two → ComeTogether one two → near p q → get_or numbers p 0 ≡ get_or numbers q 0
@@ -32,7 +62,7 @@ flip (inl a) = inr a
 flip (inr b) = inl b
 
 -- pieces that come together and touch are of one net
-pub one_net : (near : ℕ → ℕ → Type 0) (numbers : List ℕ) (xs : List Stretch) (p q : ℕ) → ((p q : ℕ) → near p q → near q p) → ((i : ℕ) → i < length xs → IsClear near numbers xs i) → Comes xs p q → (p ≡ q → ⊥) → near p q → get_or numbers p 0 ≡ get_or numbers q 0
+pub one_net : (near : ℕ → ℕ → Type 0) (numbers : List ℕ) (xs : List Stretch) (p q : ℕ) → ((p q : ℕ) → near p q → near q p) → AreClear near numbers xs → Comes xs p q → (p ≡ q → ⊥) → near p q → get_or numbers p 0 ≡ get_or numbers q 0
 one_net near numbers xs p q both clear comes other touches =
     let one = comes.one in
     let two = comes.two in
@@ -41,8 +71,8 @@ one_net near numbers xs p q both clear comes other touches =
     elim (cases_eq i j) [
       | inl same ↦ absurd (other (sym comes.of_one ∙ (ap (λ (s : Stretch). s.piece) (meets i j i_in j_in i_is j_is same) ∙ comes.of_two)))
       | inr differ ↦ elim (le_or_lt i j) [
-        | inl le ↦ agreed near numbers one two p q comes.of_one comes.of_two (placed i j one two i_in j_in i_is j_is (clear i i_in j one (omega arith) j_in)) (record { meet = comes.forth; lowest = comes.lowest }) touches
-        | inr less ↦ sym (agreed near numbers two one q p comes.of_two comes.of_one (placed j i two one j_in i_in j_is i_is (clear j j_in i two less i_in)) (record { meet = comes.back; lowest = flip comes.lowest }) (both p q touches))
+        | inl le ↦ agreed near numbers one two p q comes.of_one comes.of_two (placed i j one two i_in j_in i_is j_is (clear_at near numbers xs i j one clear (omega arith) j_in)) (record { meet = comes.forth; lowest = comes.lowest }) touches
+        | inr less ↦ sym (agreed near numbers two one q p comes.of_two comes.of_one (placed j i two one j_in i_in j_is i_is (clear_at near numbers xs j i two clear less i_in)) (record { meet = comes.back; lowest = flip comes.lowest }) (both p q touches))
       ]
     ]
   where
@@ -58,23 +88,22 @@ all_apart near count nets numbers once known numbered one i j p q h k touches = 
   | inr other ↦ sym (numbered i p h) ∙ (one p q (known i p h) (known j q k) other touches ∙ numbered j q k)
 ]
 
--- what two stretches read say of them at any default
-pub agreed_at : (near : ℕ → ℕ → Type 0) (numbers : List ℕ) (xs : List Stretch) (i j : ℕ) (d e f : Stretch) → i < length xs → j < length xs → AreAgreed near numbers (get_or xs i e) (get_or xs j f) → AreAgreed near numbers (get_or xs i d) (get_or xs j d)
-agreed_at near numbers xs i j d e f here there agree = subst (λ (x : Stretch). AreAgreed near numbers x (get_or xs j d)) (get_or_default xs i e d here) (subst (λ (x : Stretch). AreAgreed near numbers (get_or xs i e) x) (get_or_default xs j f d there) agree)
+-- what a stretch read says of it at any default
+pub agreed_at : (near : ℕ → ℕ → Type 0) (numbers : List ℕ) (one : Stretch) (later : List Stretch) (j : ℕ) (d e : Stretch) → j < length later → AreAgreed near numbers one (get_or later j e) → AreAgreed near numbers one (get_or later j d)
+agreed_at near numbers one later j d e there agree = subst (λ (x : Stretch). AreAgreed near numbers one x) (get_or_default later j e d there) agree
 
 -- past a stretch that starts beyond the end none comes together
-pub past_end : (near : ℕ → ℕ → Type 0) (numbers : List ℕ) (xs : List Stretch) (i j : ℕ) (e f : Stretch) → IsNonDecreasingBy (λ (s : Stretch). s.start) xs → i < length xs → j < length xs → (get_or xs i e).end < (get_or xs j f).start
-    → ((k : ℕ) (d : Stretch) → i < k → k < j → AreAgreed near numbers (get_or xs i d) (get_or xs k d)) → IsClear near numbers xs i
-past_end near numbers xs i j e f rising here there past before k d less below = elim (le_or_lt j k) [
-  | inl le ↦ λ come touches. absurd (far k d le below come.meet)
-  | inr sooner ↦ before k d less sooner
+pub past_end : (near : ℕ → ℕ → Type 0) (numbers : List ℕ) (one : Stretch) (later : List Stretch) (j : ℕ) (e : Stretch) → IsNonDecreasingBy (λ (s : Stretch). s.start) later → j < length later → one.end < (get_or later j e).start
+    → ((k : ℕ) (d : Stretch) → k < j → AreAgreed near numbers one (get_or later k d)) → IsClear near numbers one later
+past_end near numbers one later j e rising there past before k d below = elim (le_or_lt j k) [
+  | inl le ↦ λ come touches. absurd (far le come.meet)
+  | inr sooner ↦ before k d sooner
 ]
   where
-    far : (k : ℕ) (d : Stretch) → j ≤ k → k < length xs → (get_or xs k d).start ≤ (get_or xs i d).end → ⊥
-    far k d le below meet =
+    far : j ≤ k → (get_or later k d).start ≤ one.end → ⊥
+    far le meet =
         let up = rising j k d le below in
-        let at_j : (get_or xs j d).start ≡ (get_or xs j f).start = ap (λ (s : Stretch). s.start) (get_or_default xs j d f there) in
-        let at_i : (get_or xs i d).end ≡ (get_or xs i e).end = ap (λ (s : Stretch). s.end) (get_or_default xs i d e here) in
+        let at_j : (get_or later j d).start ≡ (get_or later j e).start = ap (λ (s : Stretch). s.start) (get_or_default later j d e there) in
         omega arith
 
 -- ---- The least piece

@@ -138,10 +138,11 @@ pub record HasPathAlong (near least_under : ℕ → ℕ → Type 0) (v : Verdict
   pub forth : AreJoinedWithin near (branch_pieces short) first last
   pub back : AreJoinedWithin near (branch_pieces short) last first
 
--- both by the tables of a board
+-- A short has a branch of the name that begins at this piece, where the least piece under a point is the least in the point's row of `beneath`.
 abbrev pub HasBranchFrom : Tables → Verdict → Short → ℕ → ℕ → Type 0
 HasBranchFrom board v s name first = HasBranch (λ probe piece. IsLeastOf (row_at board.beneath probe) piece) v s name first
 
+-- A short of the net is listed with a path between two names, where pieces touch that `near` lists, and the least piece under a point is the least in its row of `beneath`.
 abbrev pub HasPath : Tables → Verdict → ℕ → ℕ → ℕ → Type 0
 HasPath board v net name other = HasPathAlong (Stands board.near) (λ probe piece. IsLeastOf (row_at board.beneath probe) piece) v net name other
 

@@ -37,15 +37,8 @@ fn ruling_of(board: &Board, more: &Supplement) -> Option<u8>
 fn spots_hold(probes: &[Probe], spots: &[SpotLine]) -> bool
     ensures { IsTrue result ↔ (spots.now ≡ map spot_of (map point_of probes.now)) }
 {
-    if spots.len() != probes.len() {
-        return false;
-    }
-    for k in 0..probes.len() {
-        if !is_spot(&probes[k], &spots[k]) {
-            return false;
-        }
-    }
-    true
+    let mut pairs = probes.iter().zip(spots);
+    probes.len() == spots.len() && pairs.all(|(probe, spot)| is_spot(probe, spot))
 }
 
 // Whether the place is the probe's.
@@ -59,15 +52,8 @@ fn is_spot(probe: &Probe, spot: &SpotLine) -> bool
 fn sources_hold(pieces: &[Piece], sources: &[SourceLine]) -> bool
     ensures { IsTrue result ↔ (sources.now ≡ map source_of (map source_on (plain_pieces pieces.now))) }
 {
-    if sources.len() != pieces.len() {
-        return false;
-    }
-    for k in 0..pieces.len() {
-        if !is_source(&pieces[k], &sources[k]) {
-            return false;
-        }
-    }
-    true
+    let mut pairs = pieces.iter().zip(sources);
+    pieces.len() == sources.len() && pairs.all(|(piece, source)| is_source(piece, source))
 }
 
 // Whether the source is the piece's: its origin and its span.

@@ -1,14 +1,13 @@
-use Rattle.std.proofs.Common.{arith}
+use Rattle.std.proofs.Common.{◌≢◌, rules, tests}
+use Rattle.std.proofs.lemmas.Iterator.{YieldsList-from_slice, YieldsList-from_zip, cases_from_all}
 use Rattle.board_shapes.specs.Tables.{point_of}
+use Rattle.board_shapes.specs.declared.probe.Probe.{Probe}
 use Rattle.verdict.specs.Right.{spot_of}
-use Rattle.witness_check.proofs.Mapped.{alike_all, alike_at, both_maps}
-use Rattle.witness_check.proofs.Told.{denied, proved, refuted}
+use Rattle.witness_check.proofs.Mapped.{IsMade, all_tell, both_maps}
 use Rattle.witness_check.proofs.supplements.spots_hold.Goals as goal
 
-pub returns-then-not-is_spot : goal.returns-then-not-is_spot
-returns-then-not-is_spot c =
-    refuted _ (λ same. denied c.is_spot.result _ c.is_spot.ensures c.if-not-is_spot.true
-    (alike_at (λ p. spot_of (point_of p)) c.args.probes.now c.args.spots.now _ c.loop-k.k _ _ (both_maps spot_of point_of c.args.probes.now) (omega arith) same))
-
-pub returns : goal.returns
-returns c = proved _ (alike_all (λ p. spot_of (point_of p)) c.args.probes.now c.args.spots.now _ c.loop-k.k (both_maps spot_of point_of c.args.probes.now) (omega arith) (omega arith) c.loop-k.invariant)
+pub returns-then-probes-spots : goal.returns-then-probes-spots
+returns-then-probes-spots c =
+    let made = λ (p : Probe). spot_of (point_of p) in
+    all_tell made c.args.probes.now c.args.spots.now _ c.all.result (both_maps spot_of point_of c.args.probes.now) c.if-probes-spots.true
+    (cases_from_all c.all.new.self _ c.all.result (IsMade made) (λ p. p.1 ≢ made p.0) c.all.ensures.ran (YieldsList-from_zip (YieldsList-from_slice c.args.probes.now cc) (YieldsList-from_slice c.args.spots.now cc)) (λ x q k. search (rules, tests)) (λ x q k. search (rules, tests)))
