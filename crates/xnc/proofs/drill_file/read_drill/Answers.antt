@@ -1,4 +1,4 @@
-use Rattle.std.proofs.Common.{◌≡◌, ◌+◌, length, sym, ap, subst, arith}
+use Rattle.std.proofs.Common.{◌≡◌, length, sym, ap, subst, arith}
 use Rattle.std.proofs.lemmas.Result.{err_from_is_err_and}
 use Rattle.texts.specs.Lines.{Ahead, start}
 use Rattle.texts.specs.Stepping.{ahead, plain_line}
