@@ -16,7 +16,7 @@ use Rattle.gerber_layer.specs.declared.kind.GerberKind.{GerberKind}
 use Rattle.gerber_layer.specs.declared.kind.GerberKind.TheVariants as kind
 use Rattle.gerber_layer.specs.declared.macro_kind.FlattenKind.{FlattenKind}
 use Rattle.gerber_layer.specs.declared.macro_kind.FlattenKind.TheVariants.{Gerber, BadMacro, MacroTwice, NoMacro, TooManyRadii}
-use Rattle.gerber_layer.specs.Tools.{Macro, Tool, composed, composed_in, has_room, macro_named, name_text, number_digits, parameters_in, tool_by, tool_in}
+use Rattle.gerber_layer.specs.Tools.{Tool, composed, composed_in, has_room, macro_named, name_text, number_digits, parameters_in, tool_by}
 use Rattle.gerber_layer.specs.Table.{Known, Effect, stays, makes, begins_macro, fills_macro, concludes, ◌>>=◌, unless, needed, define, is_finish, row}
 use Rattle.gerber_layer.specs.MacroTable.{gerber, as_macro, all_judged, is_reserved, name_macro, fill_by, fill_macro, compose, compose_as, is_of_macro, define_any, few_radii, row_with_macros, effect_with_macros}
 use Rattle.gerber_layer.proofs.Outcome.{Defined, IsFilled, Outcome, bind_ok, past_test, got, ok_stays, define_did, row_outcome, end_outcome}

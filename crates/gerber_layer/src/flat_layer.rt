@@ -1,12 +1,12 @@
 // Reads a copper file that may have macros.
-ghost use Rattle.std.specs.Prelude.{◌≡◌, ◌+◌, ◌^◌, ◌<◌, ◌≤◌, length, IfOk, IfErr};
+ghost use Rattle.std.specs.Prelude.{◌≡◌, ◌+◌, ◌^◌, ◌<◌, ◌≤◌, length, IfOk, IfErr, OnOk};
 ghost use Rattle.board_shapes.specs.Pieces.{plain_pieces};
 ghost use Rattle.gerber_layer.specs.Command.{view};
 ghost use Rattle.gerber_layer.specs.Lawful.{IsLawfulCommand};
 ghost use Rattle.gerber_layer.specs.MacroLayer.{IsMacroFault, IsReadWithMacros};
 ghost use Rattle.gerber_layer.specs.MacroReader.{MacroFaults, macro_fault_at};
 ghost use Rattle.gerber_layer.specs.MacroTable.{effect_with_macros};
-ghost use Rattle.gerber_layer.specs.Reader.{IsLawfulReader, Leaves};
+ghost use Rattle.gerber_layer.specs.Reader.{IsLawfulReader, Leaves, Obeys, known_of};
 
 use crate::command::Command;
 use crate::macro_kind::{FlattenFault, FlattenKind};
@@ -27,6 +27,26 @@ fn macro_fault_at(halt: Halt<FlattenKind>, command: u32, at: usize) -> FlattenFa
     }
 }
 
+// Obeys a command that stands at a place.
+fn obey_at<'a>(
+    alloc: Global,
+    reader: &mut Reader<'a>,
+    command: &Command<'a>,
+    at: usize,
+) -> Result<(), FlattenFault>
+    requires lawful { IsLawfulReader reader.old }
+    requires command { IsLawfulCommand (view command.now) }
+    requires few { reader.old.commands + 1 < 2 ^ 32 }
+    ensures ok { OnOk result (Obeys reader.old (view command.now) (effect_with_macros (known_of reader.old) (view command.now)) reader.new) }
+    ensures lawful { OnOk result (IsLawfulReader reader.new) }
+    ensures fault { IfErr result (MacroFaults reader.old (view command.now) at) }
+{
+    let number = reader.commands + 1;
+    reader
+        .obey_with_macros(alloc, command)
+        .map_err(|halt| macro_fault_at(halt, number, at))
+}
+
 // Obeys the last command, and gives the pieces.
 fn finished<'a>(
     alloc: Global,
@@ -41,11 +61,8 @@ fn finished<'a>(
     ensures few { IfOk result (λ pieces. length pieces.items ≤ reader.entry.room.pieces) }
     ensures fault { IfErr result (MacroFaults reader.entry (view command.entry) at) }
 {
-    let number = reader.commands + 1;
-    match reader.obey_with_macros(alloc, &command) {
-        Ok(()) => Ok(reader.into_pieces()),
-        Err(halt) => Err(macro_fault_at(halt, number, at)),
-    }
+    obey_at(alloc, &mut reader, &command, at)?;
+    Ok(reader.into_pieces())
 }
 
 /// The pieces of a copper file that may have aperture macros (Gerber Layer Format Specification,
@@ -70,12 +87,8 @@ pub fn read_flat(alloc: Global, file: &[u8]) -> Result<Vec<Piece>, FlattenFault>
     };
     let mut reader = Reader::new(alloc, 1, 0, room);
     loop {
-        let number = reader.commands + 1;
         match words.next_word() {
-            Step::Word(word) => match reader.obey_with_macros(alloc, &read_macro_command(word)) {
-                Ok(()) => (),
-                Err(halt) => return Err(macro_fault_at(halt, number, word.at)),
-            },
+            Step::Word(word) => obey_at(alloc, &mut reader, &read_macro_command(word), word.at)?,
             Step::End => return finished(alloc, reader, Command::Finish, file.len()),
             Step::Broken(fault, at) => return finished(alloc, reader, Command::Broken(fault), at),
         }

@@ -1,10 +1,10 @@
 // Reads a layer.
-ghost use Rattle.std.specs.Prelude.{◌≡◌, ◌+◌, ◌^◌, ◌<◌, ◌≤◌, length, All, IfOk, IfErr, IsSomeAnd};
+ghost use Rattle.std.specs.Prelude.{◌≡◌, ◌+◌, ◌^◌, ◌<◌, ◌≤◌, length, All, IfOk, IfErr, OnOk};
 ghost use Rattle.board_shapes.specs.Pieces.{plain_pieces};
 ghost use Rattle.gerber_layer.specs.Command.{view};
 ghost use Rattle.gerber_layer.specs.Lawful.{IsLawfulCommand};
 ghost use Rattle.gerber_layer.specs.Layer.{IsFault, IsRead};
-ghost use Rattle.gerber_layer.specs.Reader.{Faults, IsLawfulReader, Leaves, fault_at};
+ghost use Rattle.gerber_layer.specs.Reader.{Faults, IsLawfulReader, Leaves, Obeys, fault_at, known_of};
 ghost use Rattle.gerber_layer.specs.Table.{effect};
 
 use crate::command::Command;
@@ -26,6 +26,26 @@ fn fault_at(halt: Halt<GerberKind>, command: u32, at: usize) -> LayerFault
     }
 }
 
+// Obeys a command that stands at a place.
+fn obey_at<'a>(
+    alloc: Global,
+    reader: &mut Reader<'a>,
+    command: &Command<'a>,
+    at: usize,
+) -> Result<(), LayerFault>
+    requires lawful { IsLawfulReader reader.old }
+    requires command { IsLawfulCommand (view command.now) }
+    requires few { reader.old.commands + 1 < 2 ^ 32 }
+    ensures ok { OnOk result (Obeys reader.old (view command.now) (effect (known_of reader.old) (view command.now)) reader.new) }
+    ensures lawful { OnOk result (IsLawfulReader reader.new) }
+    ensures fault { IfErr result (Faults reader.old (view command.now) at) }
+{
+    let number = reader.commands + 1;
+    reader
+        .obey(alloc, command)
+        .map_err(|halt| fault_at(halt, number, at))
+}
+
 // Obeys the last command, and gives the pieces.
 fn finished<'a>(
     alloc: Global,
@@ -40,11 +60,8 @@ fn finished<'a>(
     ensures few { IfOk result (λ pieces. length pieces.items ≤ reader.entry.room.pieces) }
     ensures fault { IfErr result (Faults reader.entry (view command.entry) at) }
 {
-    let number = reader.commands + 1;
-    match reader.obey(alloc, &command) {
-        Ok(()) => Ok(reader.into_pieces()),
-        Err(halt) => Err(fault_at(halt, number, at)),
-    }
+    obey_at(alloc, &mut reader, &command, at)?;
+    Ok(reader.into_pieces())
 }
 
 /// The pieces of a layer's copper, in the order of the commands that make them; all lengths are in u,
@@ -71,12 +88,8 @@ pub fn read_layer(
     let mut words = Words::new(file);
     let mut reader = Reader::new(alloc, layer, file_number, room);
     loop {
-        let number = reader.commands + 1;
         match words.next_word() {
-            Step::Word(word) => match reader.obey(alloc, &read_command(word)) {
-                Ok(()) => (),
-                Err(halt) => return Err(fault_at(halt, number, word.at)),
-            },
+            Step::Word(word) => obey_at(alloc, &mut reader, &read_command(word), word.at)?,
             Step::End => return finished(alloc, reader, Command::Finish, file.len()),
             Step::Broken(fault, at) => return finished(alloc, reader, Command::Broken(fault), at),
         }

@@ -47,7 +47,7 @@ pub fn pieces_of(
     Ok(pieces)
 }
 
-// Whether a number is marked. Behind the marks none is.
+// Whether the primitive of this number is marked: where there are fewer marks, it is not.
 fn is_marked(marks: &[bool], i: usize) -> bool
     ensures { result ≡ get_or marks.now i false }
 {

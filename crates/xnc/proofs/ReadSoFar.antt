@@ -77,9 +77,12 @@ item-fault file p earlier later item r (halt.Fault kind) number read state h n =
 }
 item-fault file p earlier later item r halt.NoMemory number read state h n = tt
 
-pub line-fault : (file : List ℕ) (p : Place) (old new : Ahead) (line : PlainLine) (r : Reader) (why : Halt DrillKind) (number : ℕ) → ReadSoFar file p old r → lines_from old ≡ line ∷ lines_from new → Halts (known_of r) (item_of p line).says why → number ≡ r.lines + 1 → IsFault file p (fault_at why number line.at)
+line-fault : (file : List ℕ) (p : Place) (old new : Ahead) (line : PlainLine) (r : Reader) (why : Halt DrillKind) (number : ℕ) → ReadSoFar file p old r → lines_from old ≡ line ∷ lines_from new → Halts (known_of r) (item_of p line).says why → number ≡ r.lines + 1 → IsFault file p (fault_at why number line.at)
 line-fault file p old new line r why number s next h n =
     item-fault file p s.earlier (items_with p (length file) (lines_from new)) (item_of p line) r why number (ahead_is file p old r (line ∷ lines_from new) s next) s.state h n
+
+pub line-refused : (file : List ℕ) (p : Place) (old new : Ahead) (line : PlainLine) (r : Reader) (why : DrillFault) → ReadSoFar file p old r → lines_from old ≡ line ∷ lines_from new → Faults r (item_of p line).says line.at why → IsFault file p why
+line-refused file p old new line r why s next h = rw h.is (line-fault file p old new line r h.halt (r.lines + 1) s next h.halts refl)
 
 -- the file's end
 abbrev last_item : List ℕ → Item Form

@@ -7,17 +7,19 @@ use Rattle.board_shapes.specs.Plain.{Figure, figure_of, plain_pieces}
 use Rattle.board_shapes.specs.declared.shape.Shape.{Shape}
 use Rattle.board_shapes.specs.declared.placed.Placed.{Placed}
 use Rattle.xnc.specs.declared.kind.DrillKind.{DrillKind}
+use Rattle.xnc.specs.declared.kind.DrillKind.TheVariants as kind
 use Rattle.xnc.specs.declared.kind.DrillFault.{DrillFault}
 use Rattle.xnc.specs.declared.kind.DrillFault.TheVariants as fault
 use Rattle.file_reading.specs.declared.halt.Halt.{Halt}
 use Rattle.file_reading.specs.declared.halt.Halt.TheVariants as halt
 use Rattle.xnc.specs.declared.line.Form.{Form}
+use Rattle.xnc.specs.declared.line.Form.TheVariants as form
 use Rattle.xnc.specs.declared.effect.Effect.{Effect as Seen}
 use Rattle.xnc.specs.declared.effect.Effect.TheVariants as seen
 use Rattle.xnc.specs.declared.tools.Tools.{Tools}
 use Rattle.xnc.specs.declared.reader.Reader.{Reader}
 use Rattle.xnc.specs.Place.{Place}
-use Rattle.xnc.specs.Table.{Known, Effect, stays, makes, moves, drills, effect, after}
+use Rattle.xnc.specs.Table.{Known, Effect, stays, makes, moves, drills, rout, straight, hit, slot, effect, after}
 use Rattle.xnc.specs.Settings.{piece_of, settings_at}
 
 abbrev pub shown : Seen → Effect
@@ -29,6 +31,14 @@ shown (seen.Drills to shape) = drills to (figure_of shape)
 abbrev pub showing : Result Seen DrillKind → Result Effect DrillKind
 showing (Ok e) = Ok (shown e)
 showing (Err kind) = Err kind
+
+-- the row of a line that names a place, behind its conditions on the mode and the tool
+unfoldable pub placed_row : Known → Form → Result Effect DrillKind
+placed_row k (form.Rout to) = rout k to
+placed_row k (form.Straight to) = straight k to
+placed_row k (form.Hit at) = hit k at
+placed_row k (form.Slot from to) = slot k from to
+placed_row k other = Err kind.BadLine
 
 -- the diameter that n is defined with, and how many tools are defined
 abbrev pub defined_in : Tools → ℕ → Option ℕ

@@ -124,7 +124,7 @@ is_metric text = is text (codes "METRIC") || (is text (codes "METRIC,TZ") || is 
 abbrev pub is_inch : List ℕ → Bool
 is_inch text = is text (codes "INCH") || (is text (codes "INCH,TZ") || is text (codes "INCH,LZ"))
 
--- lines of the body that go to places or turn on a tool
+-- lines of the body alone: arcs, drill mode, routs, the tool down or up, and places
 unfoldable pub body_line : List ℕ → Form
 body_line text =
     if begins text (codes "G02") || begins text (codes "G03") then form.Arc

@@ -17,49 +17,54 @@ use Rattle.xnc.specs.declared.settings.Settings.{Settings}
 use Rattle.xnc.specs.Place.{Place}
 use Rattle.xnc.specs.Table.{Known, Effect, stays, makes, moves, drills, value_of, diameter_of, effect}
 
--- before `M48`, in the header, in the body, or behind the end
+-- the stage that a line begins
 abbrev pub stage_in : Form → Option Stage
 stage_in form.Start = Some Header
 stage_in form.HeaderEnd = Some Body
 stage_in form.End = Some Ended
 stage_in other = None
 
+-- before `M48`, in the header, in the body, or behind the end
 abbrev pub stage_at : List Form → Stage
 stage_at earlier = last_or Opening stage_in earlier
 
--- the unit of the last unit line
+-- the unit that a line says
 abbrev pub unit_in : Form → Option Measure
 unit_in (form.Unit unit) = Some unit
 unit_in other = None
 
+-- the unit of the last unit line
 abbrev pub unit_at : List Form → Option Measure
 unit_at earlier = last_said unit_in earlier
 
--- the tool that was selected last, and none behind `T0`
+-- the tool that a line selects, which for `T0` is none
 abbrev pub tool_in : Form → Option (Option ℕ)
 tool_in (form.Select n) = Some (Some n)
 tool_in form.NoTool = Some None
 tool_in other = None
 
+-- the tool that was selected last, and none behind `T0`
 abbrev pub tool_at : List Form → Option ℕ
 tool_at earlier = last_or None tool_in earlier
 
--- drill mode at the start and behind `G05`, rout mode behind `G00`
+-- the mode that a line asks for
 abbrev pub mode_in : Form → Option Mode
 mode_in form.Drill = Some Drill
 mode_in (form.Rout to) = Some Rout
 mode_in other = None
 
+-- drill mode at the start and behind `G05`, rout mode behind `G00`
 abbrev pub mode_at : List Form → Mode
 mode_at earlier = last_or Drill mode_in earlier
 
--- down behind `M15`; up at the start, behind `M16` and behind `G00`
+-- whether the tool is down behind a line that lowers or raises it
 abbrev pub down_in : Form → Option Bool
 down_in form.Lower = Some true
 down_in form.Raise = Some false
 down_in (form.Rout to) = Some false
 down_in other = None
 
+-- down behind `M15`; up at the start, behind `M16` and behind `G00`
 abbrev pub down_at : List Form → Bool
 down_at earlier = last_or false down_in earlier
 
@@ -71,11 +76,12 @@ named_in part (form.Hit at) = part at
 named_in part (form.Slot from to) = option_or (part to) (part from)
 named_in part other = None
 
--- the value of a coordinate in the unit in force
+-- the value, or where there is a fault, here
 abbrev pub value_or : ℤ → Result ℤ DrillKind → ℤ
 value_or here (Ok z) = z
 value_or here (Err kind) = here
 
+-- the value of a coordinate in the unit in force, or where none is named, here
 abbrev pub value_in : Option Measure → ℤ → Option Fraction → ℤ
 value_in unit here None = here
 value_in None here (Some d) = here
@@ -102,11 +108,12 @@ settings_at earlier = record {
   at = record { x = x_at earlier; y = y_at earlier };
 }
 
--- the diameter that n is defined with
+-- the diameter that a definition of m gives n
 abbrev pub diameter_in : ℕ → ℕ → Result ℕ DrillKind → Option ℕ
 diameter_in n m (Ok d) = if m == n then Some d else None
 diameter_in n m (Err kind) = None
 
+-- the diameter that n is defined with
 abbrev pub defined_at : List Form → ℕ → Option ℕ
 defined_at [] n = None
 defined_at (form.Tool m d ∷ earlier) n = option_or (diameter_in n m (diameter_of (unit_at earlier) d)) (defined_at earlier n)

@@ -136,14 +136,6 @@ slot k from to = do
   to ← target k.settings.unit from to
   barrel k from to
 
--- the rows of places, where the mode and the tool allow them
-unfoldable pub led : Known → Form → Result Effect DrillKind
-led k (form.Rout to) = rout k to
-led k (form.Straight to) = straight k to
-led k (form.Hit at) = hit k at
-led k (form.Slot from to) = slot k from to
-led k other = Err kind.BadLine
-
 -- the rows of the header
 unfoldable pub header : Known → Form → Result Effect DrillKind
 header k (form.Unit unit) = unless (other_unit k.settings.unit unit) kind.BadLine (Ok stays)

@@ -1,9 +1,9 @@
 // Reads a drill file.
-ghost use Rattle.std.specs.Prelude.{◌≡◌, ◌+◌, ◌^◌, ◌<◌, ◌≤◌, length, All, IfOk, IfErr};
+ghost use Rattle.std.specs.Prelude.{◌≡◌, ◌+◌, ◌^◌, ◌<◌, ◌≤◌, length, All, IfOk, IfErr, OnOk};
 ghost use Rattle.board_shapes.specs.Plain.{plain_pieces};
 ghost use Rattle.xnc.specs.DrillFile.{IsFault, IsRead};
 ghost use Rattle.xnc.specs.declared.line.Form.TheVariants as form;
-ghost use Rattle.xnc.specs.Reader.{Faults, IsLawfulReader, Leaves, fault_at};
+ghost use Rattle.xnc.specs.Reader.{Faults, IsLawfulReader, Leaves, Obeys, fault_at};
 
 use crate::kind::{DrillFault, DrillKind};
 use crate::line::Form;
@@ -24,6 +24,18 @@ fn fault_at(halt: Halt<DrillKind>, line: u32, at: usize) -> DrillFault
     }
 }
 
+// Obeys a line that stands at a place.
+fn obey_at(reader: &mut Reader, form: &Form, at: usize) -> Result<(), DrillFault>
+    requires lawful { IsLawfulReader reader.old }
+    requires few { reader.old.lines + 1 < 2 ^ 32 }
+    ensures ok { OnOk result (Obeys reader.old form.now reader.new) }
+    ensures lawful { OnOk result (IsLawfulReader reader.new) }
+    ensures fault { IfErr result (Faults reader.old form.now at) }
+{
+    let number = reader.lines + 1;
+    reader.obey(form).map_err(|halt| fault_at(halt, number, at))
+}
+
 // Obeys the file's end, and gives the pieces.
 fn finished(mut reader: Reader, at: usize) -> Result<Vec<Piece>, DrillFault>
     requires lawful { IsLawfulReader reader }
@@ -31,11 +43,8 @@ fn finished(mut reader: Reader, at: usize) -> Result<Vec<Piece>, DrillFault>
     ensures ok { IfOk result (λ pieces. Leaves reader form.Finish pieces.items) }
     ensures fault { IfErr result (Faults reader form.Finish at) }
 {
-    let number = reader.lines + 1;
-    match reader.obey(&Form::Finish) {
-        Ok(()) => Ok(reader.into_pieces()),
-        Err(halt) => Err(fault_at(halt, number, at)),
-    }
+    obey_at(&mut reader, &Form::Finish, at)?;
+    Ok(reader.into_pieces())
 }
 
 /// The barrels of a drill file: one for each hit, slot and straight rout, in the order of the
@@ -61,13 +70,9 @@ pub fn read_drill(
     let mut lines = Lines::new(file);
     let mut reader = Reader::new(alloc, span, file_number, room.pieces);
     loop {
-        let number = reader.lines + 1;
         match lines.next_line() {
             None => return finished(reader, file.len()),
-            Some(line) => match reader.obey(&read_line(span, line.text)) {
-                Ok(()) => (),
-                Err(halt) => return Err(fault_at(halt, number, line.at)),
-            },
+            Some(line) => obey_at(&mut reader, &read_line(span, line.text), line.at)?,
         }
     }
 }

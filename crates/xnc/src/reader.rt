@@ -4,7 +4,7 @@ ghost use Rattle.contact.specs.declared.TheConstants.{MOST_DIAMETER};
 
 use crate::effect::Effect;
 use crate::kind::DrillKind;
-use crate::line::{Coordinates, Form};
+use crate::line::Form;
 use crate::settings::{Mode, Settings, Stage};
 use crate::span::Span;
 use crate::table::{after, diameter, half, is_drilling, is_ended, is_start, other_unit, target};
@@ -33,7 +33,7 @@ impl Reader {
     ghost use Rattle.std.specs.Prelude.{◌≡◌, ◌+◌, ◌^◌, ◌<◌, ◌≤◌, IfOk, IfErr, IfSome, OnOk};
     ghost use Rattle.planar.specs.Plane.{IsPlaced};
     ghost use Rattle.board_shapes.specs.Plain.{figure_of};
-    ghost use Rattle.xnc.specs.Reader.{Applies, AreLawful, Halts, IsFit, IsLawfulReader, IsNew, Obeys, Places, known_of, showing, shown};
+    ghost use Rattle.xnc.specs.Reader.{Applies, AreLawful, Halts, IsFit, IsLawfulReader, IsNew, Obeys, Places, known_of, placed_row, showing, shown};
     ghost use Rattle.xnc.specs.Table as spec;
 
     pub fn new(alloc: Global, span: Span, file: u32, room: u32) -> Reader
@@ -102,11 +102,11 @@ impl Reader {
         Ok(Effect::Drills(to, Shape::Round(barrel)))
     }
 
-    // What the rows of places do where the mode and the tool allow it.
-    #[tactic(auto, unfolding(crate::specs::Table::led, crate::specs::Table::rout, crate::specs::Table::straight, crate::specs::Table::hit, crate::specs::Table::slot))]
-    fn led(&self, form: &Form) -> Result<Effect, DrillKind>
+    // What a line does that names a place, where the mode and the tool allow it.
+    #[tactic(auto, unfolding(crate::specs::Reader::placed_row, crate::specs::Table::rout, crate::specs::Table::straight, crate::specs::Table::hit, crate::specs::Table::slot))]
+    fn placed_row(&self, form: &Form) -> Result<Effect, DrillKind>
         requires lawful { IsLawfulReader self.now }
-        ensures value { showing result ≡ spec.led (known_of self.now) form.now }
+        ensures value { showing result ≡ placed_row (known_of self.now) form.now }
         ensures fit { IfOk result (IsFit self.now.tools) }
     {
         let unit = self.settings.unit;
@@ -152,7 +152,7 @@ impl Reader {
     }
 
     // The rows of the body.
-    #[tactic(auto, unfolding(crate::specs::Table::body, crate::specs::Table::led))]
+    #[tactic(auto, unfolding(crate::specs::Table::body, crate::specs::Reader::placed_row))]
     fn body(&self, form: &Form) -> Result<Effect, DrillKind>
         requires lawful { IsLawfulReader self.now }
         ensures value { showing result ≡ spec.body (known_of self.now) form.now }
@@ -168,17 +168,17 @@ impl Reader {
             Form::Select(n) if self.tools.find(n).is_none() => Err(DrillKind::NoTool),
             Form::Select(_) => Ok(Effect::Stays),
             Form::Rout(_) if down => Err(DrillKind::WrongMode),
-            Form::Rout(_) => self.led(form),
+            Form::Rout(_) => self.placed_row(form),
             Form::Lower if drilling || down => Err(DrillKind::WrongMode),
             Form::Lower if self.diameter().is_none() => Err(DrillKind::NoTool),
             Form::Lower => Ok(Effect::Stays),
             Form::Raise if !down => Err(DrillKind::WrongMode),
             Form::Raise => Ok(Effect::Stays),
             Form::Straight(_) if !down => Err(DrillKind::WrongMode),
-            Form::Straight(_) => self.led(form),
+            Form::Straight(_) => self.placed_row(form),
             Form::Hit(_) | Form::Slot(_, _) if !drilling => Err(DrillKind::WrongMode),
             Form::Hit(_) | Form::Slot(_, _) if self.diameter().is_none() => Err(DrillKind::NoTool),
-            Form::Hit(_) | Form::Slot(_, _) => self.led(form),
+            Form::Hit(_) | Form::Slot(_, _) => self.placed_row(form),
             _ => Err(DrillKind::BadLine),
         }
     }

@@ -116,7 +116,8 @@ fn value(unit: Unit, d: Decimal) -> Result<i64, DrillKind>
     }
 }
 
-/// The current point in x or in y, in u.
+/// Where a coordinate stays that is not named, in u: of the current point, or of a slot's first place. A struct,
+/// since a signed number by itself comes wrapped into the clauses of a call.
 #[derive(Clone, Copy)]
 struct Here {
     u: i64,

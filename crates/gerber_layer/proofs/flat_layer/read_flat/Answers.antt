@@ -1,10 +1,11 @@
-use Rattle.std.proofs.Common.{◌≡◌, ◌+◌, length, sym, ap, subst, arith}
+use Rattle.std.proofs.Common.{◌≡◌, length, sym, ap, subst, arith}
+use Rattle.std.proofs.lemmas.Result.{err_from_is_err_and}
 use Rattle.gerber_words.specs.Words.{Ahead, start, ended, broken}
 use Rattle.gerber_words.specs.Stepping.{ahead, entry_of}
 use Rattle.gerber_layer.specs.Table.{Place}
 use Rattle.gerber_layer.proofs.MacroOutcome.{outcome_with_macros}
-use Rattle.gerber_layer.proofs.ReadSoFar.{ReadSoFar, nothing-read, word-read, word-fault, stop-read}
-use Rattle.gerber_layer.proofs.WithMacros.{with_macros, as_macro_fault, last-macro-fault}
+use Rattle.gerber_layer.proofs.ReadSoFar.{ReadSoFar, nothing-read, word-read, stop-read}
+use Rattle.gerber_layer.proofs.WithMacros.{with_macros, word-macro-refused, last-macro-fault}
 use Rattle.gerber_layer.specs.MacroLayer.{flat_place}
 use Rattle.gerber_layer.proofs.flat_layer.read_flat.Goals as goal
 
@@ -23,18 +24,18 @@ loop-word-init c =
 pub loop-word-preserved : goal.loop-word-preserved
 loop-word-preserved c =
     let p : Place = flat_place in
-    let obeys = rw c.read_macro_command.ensures.value at c.in-Ok.ensures.ok in
+    let obeys = rw c.read_macro_command.ensures.value at c.in_ok-obey_at-in-Word.ensures.ok in
     record {
-      read = word-read with_macros outcome_with_macros c.args.file.now p (ahead c.loop-word.words) (ahead c.next_word.new.self) (entry_of c.in-Word.word) c.loop-word.reader c.obey_with_macros.new.self c.loop-word.invariant.read c.in-Word.ensures.next obeys;
-      lawful = c.in-Ok.ensures.lawful;
-      few = omega (arith, c.in-Ok.ensures.ok.counts, c.in-Word.ensures.shorter, c.loop-word.invariant.few);
+      read = word-read with_macros outcome_with_macros c.args.file.now p (ahead c.loop-word.words) (ahead c.next_word.new.self) (entry_of c.in-Word.word) c.loop-word.reader c.obey_at.new.reader c.loop-word.invariant.read c.in-Word.ensures.next obeys;
+      lawful = c.in_ok-obey_at-in-Word.ensures.lawful;
+      few = omega (arith, c.in_ok-obey_at-in-Word.ensures.ok.counts, c.in-Word.ensures.shorter, c.loop-word.invariant.few);
     }
 
-pub returns-in-Err-clause-fault : goal.returns-in-Err-clause-fault
-returns-in-Err-clause-fault c =
-    let p : Place = flat_place in
-    let halts = rw c.read_macro_command.ensures.value at c.in-Err.ensures.halt in
-    rw c.macro_fault_at.ensures (as_macro_fault c.args.file.now c.in-Err.halt (c.loop-word.reader.commands + 1) c.in-Word.word.at (word-fault with_macros c.words_lie_ahead.ensures c.args.file.now p (ahead c.loop-word.words) (ahead c.next_word.new.self) (entry_of c.in-Word.word) c.loop-word.reader c.in-Err.halt c.loop-word.invariant.read c.in-Word.ensures.next halts))
+pub returns-in_err-obey_at-in-Word-clause-fault : goal.returns-in_err-obey_at-in-Word-clause-fault
+returns-in_err-obey_at-in-Word-clause-fault c =
+    let e = err_from_is_err_and c.from_residual.result c.from_residual.ensures.1 in
+    let faults = rw c.read_macro_command.ensures.value at c.in_err-obey_at-in-Word.ensures.fault in
+    rw (e.1, e.2) (word-macro-refused c.words_lie_ahead.ensures c.args.file.now (ahead c.loop-word.words) (ahead c.next_word.new.self) (entry_of c.in-Word.word) c.loop-word.reader c.in_err-obey_at-in-Word.field-0.0 c.loop-word.invariant.read c.in-Word.ensures.next faults)
 
 pub returns-in-End-clause-ok : goal.returns-in-End-clause-ok
 returns-in-End-clause-ok c =

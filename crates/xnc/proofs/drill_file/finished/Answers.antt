@@ -1,5 +1,5 @@
 use Rattle.std.proofs.Common.{ap}
 use Rattle.xnc.proofs.drill_file.finished.Goals as goal
 
-pub returns-in-Ok-clause-ok : goal.returns-in-Ok-clause-ok
-returns-in-Ok-clause-ok c = record { last = c.obey.new.self; obeys = c.in-Ok.ensures.ok; are = (let h = c.into_pieces.ensures in ap (λ v. v.items) h) }
+pub returns-clause-ok : goal.returns-clause-ok
+returns-clause-ok c = record { last = c.obey_at.new.reader; obeys = c.in_ok-obey_at.ensures.ok; are = (let h = c.into_pieces.ensures in ap (λ v. v.items) h) }

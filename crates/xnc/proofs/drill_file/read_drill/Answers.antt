@@ -1,9 +1,10 @@
-use Rattle.std.proofs.Common.{◌≡◌, ◌+◌, length, refl, sym, ap, subst, arith}
+use Rattle.std.proofs.Common.{◌≡◌, length, sym, ap, subst, arith}
+use Rattle.std.proofs.lemmas.Result.{err_from_is_err_and}
 use Rattle.texts.specs.Lines.{Ahead, start}
 use Rattle.texts.specs.Stepping.{ahead, plain_line}
 use Rattle.xnc.specs.Place.{Place}
 use Rattle.xnc.proofs.Placing.{few_read, span_read}
-use Rattle.xnc.proofs.ReadSoFar.{ReadSoFar, nothing-read, line-read, line-fault, end-read, end-fault}
+use Rattle.xnc.proofs.ReadSoFar.{ReadSoFar, nothing-read, line-read, line-refused, end-read, end-fault}
 use Rattle.xnc.proofs.drill_file.read_drill.Goals as goal
 
 pub loop-reader-init : goal.loop-reader-init
@@ -21,18 +22,19 @@ loop-reader-init c =
 pub loop-reader-preserved : goal.loop-reader-preserved
 loop-reader-preserved c =
     let p : Place = record { from = c.args.span.from; to = c.args.span.to; file = c.args.file_number; room = c.args.room.pieces } in
-    let obeys = rw c.read_line.ensures at c.in-Ok.ensures.ok in
+    let obeys = rw c.read_line.ensures at c.in_ok-obey_at-in-Some.ensures.ok in
     record {
-      read = line-read c.args.file.now p (ahead c.loop-reader.lines) (ahead c.next_line.new.self) (plain_line c.in-Some.line) c.loop-reader.reader c.obey.new.self c.loop-reader.invariant.read c.in-Some.ensures.next.0 obeys;
-      lawful = c.in-Ok.ensures.lawful;
-      few = omega (arith, c.in-Ok.ensures.ok.counts, c.in-Some.ensures.shorter, c.loop-reader.invariant.few);
+      read = line-read c.args.file.now p (ahead c.loop-reader.lines) (ahead c.next_line.new.self) (plain_line c.in-Some.line) c.loop-reader.reader c.obey_at.new.reader c.loop-reader.invariant.read c.in-Some.ensures.next.0 obeys;
+      lawful = c.in_ok-obey_at-in-Some.ensures.lawful;
+      few = omega (arith, c.in_ok-obey_at-in-Some.ensures.ok.counts, c.in-Some.ensures.shorter, c.loop-reader.invariant.few);
     }
 
-pub returns-in-Err-clause-fault : goal.returns-in-Err-clause-fault
-returns-in-Err-clause-fault c =
+pub returns-in_err-obey_at-in-Some-clause-fault : goal.returns-in_err-obey_at-in-Some-clause-fault
+returns-in_err-obey_at-in-Some-clause-fault c =
     let p : Place = record { from = c.args.span.from; to = c.args.span.to; file = c.args.file_number; room = c.args.room.pieces } in
-    let halts = rw c.read_line.ensures at c.in-Err.ensures.halt in
-    rw c.fault_at.ensures (line-fault c.args.file.now p (ahead c.loop-reader.lines) (ahead c.next_line.new.self) (plain_line c.in-Some.line) c.loop-reader.reader c.in-Err.halt (c.loop-reader.reader.lines + 1) c.loop-reader.invariant.read c.in-Some.ensures.next.0 halts refl)
+    let e = err_from_is_err_and c.from_residual.result c.from_residual.ensures.1 in
+    let faults = rw c.read_line.ensures at c.in_err-obey_at-in-Some.ensures.fault in
+    rw (e.1, e.2) (line-refused c.args.file.now p (ahead c.loop-reader.lines) (ahead c.next_line.new.self) (plain_line c.in-Some.line) c.loop-reader.reader c.in_err-obey_at-in-Some.field-0.0 c.loop-reader.invariant.read c.in-Some.ensures.next.0 faults)
 
 pub returns-in-None-clause-ok : goal.returns-in-None-clause-ok
 returns-in-None-clause-ok c =
