@@ -101,7 +101,7 @@ fault_line manifest (fault.Netlist name kind number) = refusal_line name (Netlis
 fault_line manifest (fault.FrameTooLarge box) = frame_line box
 fault_line manifest fault.NoMemory = plain_line (codes "out of memory")
 
--- the status is that of a fault, and so is the line
+-- the status is the fault's, and `Line` holds of its line
 abbrev pub Refuses : List ℕ → BuildFault → ℕ → (List ℕ → Type 0) → Type 0
 Refuses manifest why status Line = (status ≡ fault_status why) × Line (fault_line manifest why)
 

@@ -25,11 +25,11 @@ plain_line what = concat (begin ∷ what ∷ end ∷ [])
 abbrev pub file_line : List ℕ → List ℕ → List ℕ
 file_line file what = concat (begin ∷ file ∷ codes ": " ∷ what ∷ end ∷ [])
 
--- a place in a file: a command or a line, and its first byte
+-- a place in a file, to the end of the line: a command or a line, its number and its first byte
 abbrev pub at_byte : List ℕ → ℕ → ℕ → List ℕ
 at_byte item number byte = concat (item ∷ codes " " ∷ decimal number ∷ codes ", byte " ∷ decimal byte ∷ end ∷ [])
 
--- the same without a byte
+-- the same without a byte, to the end of the line too
 abbrev pub at_item : List ℕ → ℕ → List ℕ
 at_item item number = concat (item ∷ codes " " ∷ decimal number ∷ end ∷ [])
 

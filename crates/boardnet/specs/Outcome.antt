@@ -57,7 +57,7 @@ form_of (Layer kind command byte) = codes "Gerber"
 form_of (Drill kind line byte) = codes "drill"
 form_of (Netlist kind line) = codes "netlist"
 
--- where it is refused; a netlist has no byte
+-- where it is refused; the refusal of a netlist has no byte
 abbrev pub place_of : Refusal → List ℕ
 place_of (Layer kind command byte) = at_byte (codes "command") command byte
 place_of (Drill kind line byte) = at_byte (codes "line") line byte

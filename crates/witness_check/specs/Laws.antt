@@ -142,7 +142,7 @@ pub record HasPathAlong (near least_under : ℕ → ℕ → Type 0) (v : Verdict
 abbrev pub HasBranchFrom : Tables → Verdict → Short → ℕ → ℕ → Type 0
 HasBranchFrom board v s name first = HasBranch (λ probe piece. IsLeastOf (row_at board.beneath probe) piece) v s name first
 
--- A short of the net is listed with a path between two names, where pieces touch that `near` lists, and the least piece under a point is the least in its row of `beneath`.
+-- A short of the net is listed with a path between two names, where the pieces that touch are those that `near` lists, and the least piece under a point is the least in its row of `beneath`.
 abbrev pub HasPath : Tables → Verdict → ℕ → ℕ → ℕ → Type 0
 HasPath board v net name other = HasPathAlong (Stands board.near) (λ probe piece. IsLeastOf (row_at board.beneath probe) piece) v net name other
 

@@ -76,12 +76,12 @@ named_in part (form.Hit at) = part at
 named_in part (form.Slot from to) = option_or (part to) (part from)
 named_in part other = None
 
--- the value, or where there is a fault, here
+-- the value; here, where there is a fault
 abbrev pub value_or : ℤ → Result ℤ DrillKind → ℤ
 value_or here (Ok z) = z
 value_or here (Err kind) = here
 
--- the value of a coordinate in the unit in force, or where none is named, here
+-- the value of a coordinate in the unit in force; here, where none is named, no unit is in force or there is a fault
 abbrev pub value_in : Option Measure → ℤ → Option Fraction → ℤ
 value_in unit here None = here
 value_in None here (Some d) = here

@@ -116,8 +116,8 @@ fn value(unit: Unit, d: Decimal) -> Result<i64, DrillKind>
     }
 }
 
-/// Where a coordinate stays that is not named, in u: of the current point, or of a slot's first place. A struct,
-/// since a signed number by itself comes wrapped into the clauses of a call.
+/// Where a coordinate that is not named stays, in u: that of the current point, or of a slot's first place. A
+/// struct, since a signed number by itself comes wrapped into the clauses of a call.
 #[derive(Clone, Copy)]
 struct Here {
     u: i64,
