@@ -1,5 +1,5 @@
 -- From what the parts of an audit give to its outcome.
-use Rattle.std.proofs.Common.{◌≡◌, ◌<◌, ◌≤◌, inl, inr, ℕ, List, length, Option, Some, None, IfSome, IsSomeAnd, Result, Err, codes, ap, refl, subst, sym, ◌∙◌, arith}
+use Rattle.std.proofs.Common.{◌≡◌, ◌<◌, ◌≤◌, inl, inr, ℕ, List, length, Option, Some, None, IfSome, IsSomeAnd, Err, codes, ap, refl, subst, sym, ◌∙◌, arith}
 use Rattle.board_io.specs.Package.{Files, IsFaultless}
 use Rattle.board_package.proofs.Lift.{Carries, lift, told_of}
 use Rattle.board_package.specs.Causes.{HasCause}
