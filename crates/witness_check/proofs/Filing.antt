@@ -1,4 +1,4 @@
--- Extents of boxes, the stretches of pieces, and where those of two pieces that touch come together.
+-- Extents of boxes, the intervals of pieces, and where those of two pieces that touch come together.
 use Rattle.std.proofs.Common.{FitsSigned, w64, to_z, of_z, to_z-of_z, unsigned_abs, ◌≡◌, ◌⊎◌, inl, inr, ℕ, ◌+◌, ◌/◌, ◌<◌, ◌≤◌, true, ℤ, pos, ◌+ℤ◌, ◌-ℤ◌, ◌*ℤ◌, ◌≤ℤ◌, List, [], ◌∷◌, ◌++◌, length, get_or, All, Contains, Some, slice_get, refl, sym, ap, subst, ◌∙◌, arith}
 use Rattle.std.proofs.Math.Nat.{div-mul-le_self}
 use Rattle.std.proofs.lemmas.Bool.{cases_eq, eq-eqb}
@@ -26,10 +26,10 @@ use Rattle.board_shapes.specs.declared.probe.Probe.{Probe}
 use Rattle.board_shapes.specs.declared.shape.Shape.{Shape}
 use Rattle.verdict.proofs.Holding.{le_or_lt}
 use Rattle.witness_check.specs.Extents.{IsAway, IsExtent, IsExtentAt}
-use Rattle.witness_check.specs.Strips.{AreFiled, AreStretches, Files, IsFiled, place_in, stretch_in, strip_of}
+use Rattle.witness_check.specs.Strips.{AreFiled, AreIntervals, Files, IsFiled, place_in, interval_in, strip_of}
 use Rattle.witness_check.specs.declared.extent.Away.{Away}
 use Rattle.witness_check.specs.declared.extent.Extent.{Extent}
-use Rattle.witness_check.specs.declared.strips.Stretch.{Stretch}
+use Rattle.witness_check.specs.declared.strips.Interval.{Interval}
 use Rattle.witness_check.specs.declared.strips.TheConstants.{LEAST_HEIGHT}
 
 -- ---- Extents
@@ -70,22 +70,22 @@ extent_moved f f' b b' e p q is = subst (λ (x : Frame). IsExtent x b' e) p (sub
 
 -- ---- Filing
 
-pub files_none : (e : Extent) (height piece : ℕ) (old : List Stretch) → Files e height piece (strip_of height e.low) old old
+pub files_none : (e : Extent) (height piece : ℕ) (old : List Interval) → Files e height piece (strip_of height e.low) old old
 files_none e height piece old = record { kept = λ s h. h; only = λ n all below. all; each = λ k from to. absurd (omega arith) }
 
-pub files_more : (e : Extent) (height piece k : ℕ) (old new : List Stretch) (s : Stretch) → s ≡ stretch_in e height piece k → Files e height piece k old new → Files e height piece (k + 1) old (new ++ s ∷ [])
+pub files_more : (e : Extent) (height piece k : ℕ) (old new : List Interval) (s : Interval) → s ≡ interval_in e height piece k → Files e height piece k old new → Files e height piece (k + 1) old (new ++ s ∷ [])
 files_more e height piece k old new s is files = record {
   kept = λ x h. Contains-append_left new (s ∷ []) x (files.kept x h);
-  only = λ n all below. All-push (λ (x : Stretch). x.piece < n) new s (files.only n all below) (let same = ap (λ (x : Stretch). x.piece) is in omega arith);
+  only = λ n all below. All-push (λ (x : Interval). x.piece < n) new s (files.only n all below) (let same = ap (λ (x : Interval). x.piece) is in omega arith);
   each = λ j from to. elim (cases_eq j k) [
-    | inl same ↦ subst (λ (i : ℕ). Contains (new ++ s ∷ []) (stretch_in e height piece i)) (sym same) (subst (λ (x : Stretch). Contains (new ++ s ∷ []) x) is (Contains-push new s))
-    | inr other ↦ Contains-append_left new (s ∷ []) (stretch_in e height piece j) (files.each j from (omega arith))
+    | inl same ↦ subst (λ (i : ℕ). Contains (new ++ s ∷ []) (interval_in e height piece i)) (sym same) (subst (λ (x : Interval). Contains (new ++ s ∷ []) x) is (Contains-push new s))
+    | inr other ↦ Contains-append_left new (s ∷ []) (interval_in e height piece j) (files.each j from (omega arith))
   ];
 }
 
-pub filed_more : (b : PlainBoard) (height p : ℕ) (e : Extent) (old new : List Stretch) → AreFiled b height p old → IsExtentAt b p e → Files e height p (strip_of height e.high + 1) old new → AreFiled b height (p + 1) new
+pub filed_more : (b : PlainBoard) (height p : ℕ) (e : Extent) (old new : List Interval) → AreFiled b height p old → IsExtentAt b p e → Files e height p (strip_of height e.high + 1) old new → AreFiled b height (p + 1) new
 filed_more b height p e old new are is files = record {
-  known = files.only (p + 1) (All-weaker (λ (s : Stretch). s.piece < p) (λ (s : Stretch). s.piece < p + 1) (λ s h. omega arith) old are.known) (omega arith);
+  known = files.only (p + 1) (All-weaker (λ (s : Interval). s.piece < p) (λ (s : Interval). s.piece < p + 1) (λ s h. omega arith) old are.known) (omega arith);
   filed = λ q below. elim (cases_eq q p) [
     | inl same ↦ subst (λ (i : ℕ). IsFiled b height new i) (sym same) (record { extent = e; is = is; each = λ k from to. files.each k from (omega arith) })
     | inr other ↦ kept q (are.filed q (omega arith))
@@ -93,22 +93,22 @@ filed_more b height p e old new are is files = record {
 }
   where
     kept : (q : ℕ) → IsFiled b height old q → IsFiled b height new q
-    kept q f = record { extent = f.extent; is = f.is; each = λ k from to. files.kept (stretch_in f.extent height q k) (f.each k from to) }
+    kept q f = record { extent = f.extent; is = f.is; each = λ k from to. files.kept (interval_in f.extent height q k) (f.each k from to) }
 
-pub stretches_sorted : (b : PlainBoard) (height : ℕ) (xs ys : List Stretch) → LEAST_HEIGHT ≤ height → AreFiled b height (length b.pieces) xs → IsPermutation xs ys → IsNonDecreasingBy (λ (s : Stretch). s.start) ys → AreStretches b height ys
-stretches_sorted b height xs ys high are moved rising = record {
+pub intervals_sorted : (b : PlainBoard) (height : ℕ) (xs ys : List Interval) → LEAST_HEIGHT ≤ height → AreFiled b height (length b.pieces) xs → IsPermutation xs ys → IsNonDecreasingBy (λ (s : Interval). s.start) ys → AreIntervals b height ys
+intervals_sorted b height xs ys high are moved rising = record {
   high = high;
-  known = All-permutation (λ (s : Stretch). s.piece < length b.pieces) xs ys moved are.known;
-  filed = λ p below. let f = are.filed p below in record { extent = f.extent; is = f.is; each = λ k from to. Contains-permutation xs ys (stretch_in f.extent height p k) moved (f.each k from to) };
+  known = All-permutation (λ (s : Interval). s.piece < length b.pieces) xs ys moved are.known;
+  filed = λ p below. let f = are.filed p below in record { extent = f.extent; is = f.is; each = λ k from to. Contains-permutation xs ys (interval_in f.extent height p k) moved (f.each k from to) };
   rising = rising;
 }
 
 -- ---- Two pieces that touch
 
--- Stretches of p and q meet in the lowest strip of one of them.
-pub record Comes (xs : List Stretch) (p q : ℕ) : Type 0 where
-  pub one : Stretch
-  pub two : Stretch
+-- Intervales of p and q meet in the lowest strip of one of them.
+pub record Comes (xs : List Interval) (p q : ℕ) : Type 0 where
+  pub one : Interval
+  pub two : Interval
   pub one_in : Contains xs one
   pub two_in : Contains xs two
   pub of_one : one.piece ≡ p
@@ -133,10 +133,10 @@ overlap_told from low high low' high' a c a' c' e f g h o = (omega (arith, ints,
 pub strips_rise : (height low high : ℕ) → 0 < height → low ≤ high → strip_of height low ≤ strip_of height high
 strips_rise height low high some rise = le-div (low / height) high height some (let below = div-mul-le_self low height in omega arith)
 
-comes_in : (xs : List Stretch) (height p q : ℕ) (e f : Extent) (k : ℕ) → Contains xs (stretch_in e height p k) → Contains xs (stretch_in f height q k) → f.left ≤ e.right → e.left ≤ f.right → (k ≡ strip_of height e.low) ⊎ (k ≡ strip_of height f.low) → Comes xs p q
+comes_in : (xs : List Interval) (height p q : ℕ) (e f : Extent) (k : ℕ) → Contains xs (interval_in e height p k) → Contains xs (interval_in f height q k) → f.left ≤ e.right → e.left ≤ f.right → (k ≡ strip_of height e.low) ⊎ (k ≡ strip_of height f.low) → Comes xs p q
 comes_in xs height p q e f k here there forth back lowest = record {
-  one = stretch_in e height p k;
-  two = stretch_in f height q k;
+  one = interval_in e height p k;
+  two = interval_in f height q k;
   one_in = here;
   two_in = there;
   of_one = refl;
@@ -146,7 +146,7 @@ comes_in xs height p q e f k here there forth back lowest = record {
   lowest = elim lowest [ inl h ↦ inl (eq-eqb k (strip_of height e.low) h) | inr h ↦ inr (eq-eqb k (strip_of height f.low) h) ];
 }
 
-pub near_comes : (b : PlainBoard) (height p q : ℕ) (xs : List Stretch) → IsLawfulBoard b → 0 < height → IsNear b p q → IsFiled b height xs p → IsFiled b height xs q → Comes xs p q
+pub near_comes : (b : PlainBoard) (height p q : ℕ) (xs : List Interval) → IsLawfulBoard b → 0 < height → IsNear b p q → IsFiled b height xs p → IsFiled b height xs q → Comes xs p q
 near_comes b height p q xs law some near one two =
     let t = near.1 in
     let same : t.first ≡ one.is.piece = some_one t.first one.is.piece (sym t.first_is ∙ one.is.is) in
@@ -172,14 +172,14 @@ near_comes b height p q xs law some near one two =
 
 -- ---- A piece under a probe
 
--- A stretch of piece p starts from the floor on and has the place.
-pub record HasPlace (xs : List Stretch) (floor place p : ℕ) : Type 0 where
-  pub stretch : Stretch
-  pub listed : Contains xs stretch
-  pub of_it : stretch.piece ≡ p
-  pub above : floor ≤ stretch.start
-  pub starts : stretch.start ≤ place
-  pub ends : place ≤ stretch.end
+-- An interval of piece p starts from the floor on and has the place.
+pub record HasPlace (xs : List Interval) (floor place p : ℕ) : Type 0 where
+  pub interval : Interval
+  pub listed : Contains xs interval
+  pub of_it : interval.piece ≡ p
+  pub above : floor ≤ interval.start
+  pub starts : interval.start ≤ place
+  pub ends : place ≤ interval.end
 
 -- where a place z between the ends of a box's side stands
 place_told : (from low high z : ℤ) (a c along : ℕ) → low ≡ from +ℤ pos a → high ≡ from +ℤ pos c → (low ≤ℤ z) × (z ≤ℤ high) → (from ≤ℤ z → z ≡ from +ℤ pos along) → (a ≤ along) × (along ≤ c)
@@ -201,7 +201,7 @@ probe_spot probes own k d probe same below is =
     let one : get_or own k d ≡ probe = some_one (get_or own k d) probe (sym (slice_get-get_or own k d below) ∙ is) in
     ap (λ (x : Probe). x.at) (sym one ∙ ap (λ (xs : List Probe). get_or xs k d) (sym same))
 
-pub under_within : (b : PlainBoard) (height k p : ℕ) (xs : List Stretch) (probes : List Probe) (d : Probe) (frame : Frame) (a : Away) → IsLawfulBoard b → 0 < height → (one : IsFiled b height xs p) → frame ≡ frame_of b → probes ≡ b.probes → k < length b.probes → IsAway frame (get_or probes k d).at a → UnderAt b k p → StandsWithin one.extent a
+pub under_within : (b : PlainBoard) (height k p : ℕ) (xs : List Interval) (probes : List Probe) (d : Probe) (frame : Frame) (a : Away) → IsLawfulBoard b → 0 < height → (one : IsFiled b height xs p) → frame ≡ frame_of b → probes ≡ b.probes → k < length b.probes → IsAway frame (get_or probes k d).at a → UnderAt b k p → StandsWithin one.extent a
 under_within b height k p xs probes d frame a law some one corner same_probes below away u =
     let same : u.piece ≡ one.is.piece = some_one u.piece one.is.piece (sym u.piece_is ∙ one.is.is) in
     let inside : InBox (figure_box u.piece.figure) (at u.probe.at) = boxed_figure u.piece.figure (at u.probe.at) (piece_at (λ x. IsLawfulFigure x.figure) b.pieces p u.piece law.figures u.piece_is) u.under.1 in
@@ -214,12 +214,12 @@ under_within b height k p xs probes d frame a law some one corner same_probes be
     let flat = e.flat in
     record { not_left = x.0; not_right = x.1; not_below = y.0; not_above = y.1; along = omega (arith, ints, x.1, short); up = omega (arith, ints, y.1, flat) }
 
-pub has_place : (b : PlainBoard) (height p : ℕ) (xs : List Stretch) (a : Away) → 0 < height → (one : IsFiled b height xs p) → StandsWithin one.extent a → HasPlace xs (place_in (strip_of height a.up) 0) (place_in (strip_of height a.up) a.along) p
+pub has_place : (b : PlainBoard) (height p : ℕ) (xs : List Interval) (a : Away) → 0 < height → (one : IsFiled b height xs p) → StandsWithin one.extent a → HasPlace xs (place_in (strip_of height a.up) 0) (place_in (strip_of height a.up) a.along) p
 has_place b height p xs a some one within =
     let l = within.not_left in
     let r = within.not_right in
     record {
-      stretch = stretch_in one.extent height p (strip_of height a.up);
+      interval = interval_in one.extent height p (strip_of height a.up);
       listed = one.each (strip_of height a.up) (strips_rise height one.extent.low a.up some within.not_below) (strips_rise height a.up one.extent.high some within.not_above);
       of_it = refl;
       above = omega arith;
