@@ -17,13 +17,13 @@
 #![tactic(auto)]
 
 mod expression;
-pub mod fault;
+mod fault;
 mod figure;
-pub mod images;
+mod images;
 mod outline;
 mod placing;
-pub mod primitive;
-pub mod reading;
+mod primitive;
+mod reading;
 mod values;
 
 pub use fault::{FigureFault, MacroFault};

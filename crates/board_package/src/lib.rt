@@ -7,15 +7,15 @@
 //! definitions stand in `laws`.
 #![tactic(auto)]
 
-pub mod entry;
-pub mod fault;
-pub mod labelled;
+mod entry;
+mod fault;
+mod labelled;
 mod labelling;
 pub mod laws;
-pub mod manifest;
+mod manifest;
 mod parts;
-pub mod reading;
-pub mod stages;
+mod reading;
+mod stages;
 mod values;
 
 pub use entry::{Entry, Role};

@@ -1,15 +1,15 @@
 //! Shapes on the layers of a board: pieces of copper, test points, and the board of both.
 #![tactic(auto)]
 
-pub mod board;
+mod board;
 mod common_box;
 mod edges;
 pub mod laws;
-pub mod moved;
-pub mod placed;
-pub mod probe;
+mod moved;
+mod placed;
+mod probe;
 mod rectangles;
-pub mod shape;
+mod shape;
 
 pub use board::{Board, BoardFault};
 pub use edges::edges_in;

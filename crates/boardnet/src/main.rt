@@ -8,25 +8,25 @@
 //! without aperture macros (`flattening`). The text goes to the output, and a line to the notes (`putting`, `lines`, `refusing`).
 #![tactic(auto)]
 
-pub mod answer;
-pub mod auditing;
-pub mod certified;
-pub mod checking;
-pub mod commands;
-pub mod flattening;
-pub mod gapping;
-pub mod judged;
-pub mod labelling;
+mod answer;
+mod auditing;
+mod certified;
+mod checking;
+mod commands;
+mod flattening;
+mod gapping;
+mod judged;
+mod labelling;
 pub mod laws;
-pub mod lines;
-pub mod putting;
-pub mod refusing;
+mod lines;
+mod putting;
+mod refusing;
 pub mod run;
 #[cfg(test)]
 mod tests;
-pub mod trial;
-pub mod words;
-pub mod writing;
+mod trial;
+mod words;
+mod writing;
 
 use board_io::{FolderPackage, StreamSink};
 use run::run;

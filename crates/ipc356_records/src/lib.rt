@@ -9,14 +9,14 @@
 
 mod blanks;
 mod effect;
-pub mod kind;
+mod kind;
 pub mod laws;
 mod line;
-pub mod names;
-pub mod netlist;
+mod names;
+mod netlist;
 mod reader;
 mod reading;
-pub mod record;
+mod record;
 mod table;
 
 pub use kind::{RecordFault, RecordKind};

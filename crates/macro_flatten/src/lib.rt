@@ -7,8 +7,8 @@
 //! of `laws`: the reader of copper files reads exactly these figures from the text.
 #![tactic(auto)]
 
-pub mod flat_text;
-pub mod flattening;
+mod flat_text;
+mod flattening;
 pub mod laws;
 mod lines;
 mod pens;

@@ -6,9 +6,9 @@
 #![tactic(auto)]
 
 mod copying;
-pub mod fault;
+mod fault;
 mod reading;
-pub mod repeat;
+mod repeat;
 
 pub use fault::{CopyFault, RepeatFault};
 pub use repeat::Repeat;

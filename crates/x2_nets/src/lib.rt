@@ -7,9 +7,9 @@
 #![tactic(auto)]
 
 pub mod laws;
-pub mod listing;
+mod listing;
 mod said;
-pub mod table;
+mod table;
 
 pub use listing::{LabelFault, labels};
 pub use table::{Label, label_among, label_at};

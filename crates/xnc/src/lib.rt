@@ -7,15 +7,15 @@
 //! `file_reading` says for all files.
 #![tactic(auto)]
 
-pub mod drill_file;
+mod drill_file;
 mod effect;
-pub mod kind;
+mod kind;
 pub mod laws;
 mod line;
 mod reader;
 mod reading;
 mod settings;
-pub mod span;
+mod span;
 mod table;
 mod tools;
 
