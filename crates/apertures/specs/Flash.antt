@@ -74,6 +74,7 @@ flash_of (Circle d) at = Ok (disc (unsigned_abs d) at)
 flash_of (Rectangle x y) at = rectangle_at (unsigned_abs x) (unsigned_abs y) at
 flash_of (Obround x y) at = obround (unsigned_abs x) (unsigned_abs y) at
 
+-- the figure of a shape, if there is one
 abbrev pub seen_shape : Option Shape → Option Figure
 seen_shape None = None
 seen_shape (Some shape) = Some (figure_of shape)

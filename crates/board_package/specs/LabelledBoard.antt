@@ -34,6 +34,7 @@ pub record Named : Type 0 where
   pub probes : List Probe
   pub names : List (List ℕ)
 
+-- the probe of a piece, at the first spot of its figure on its top layer
 abbrev pub probe_of : ℕ → PlainPiece → ℕ → Probe
 probe_of number p name = record { number = number; at = first_spot p.figure; layer = p.top; name = name }
 
@@ -53,6 +54,7 @@ labelled_board_of tables b = with_netlist b (named_by tables (reverse b.pieces))
 
 -- ---- One file
 
+-- a copper file or a drill file
 abbrev pub is_board_file : Role → Bool
 is_board_file (Copper layer) = true
 is_board_file (Drill from to) = true
@@ -67,6 +69,7 @@ pub record Labelled : Type 0 where
   pub board : PlainBoard
   pub tables : List (List Label)
 
+-- before the first file: a board with nothing on it, and no labels
 abbrev pub nothing_labelled : ℕ → Labelled
 nothing_labelled layers = record { board = empty_board layers; tables = [] }
 
@@ -100,6 +103,7 @@ pub data LabelledStop : Type 0 where
   unbuilt : Stop → LabelledStop
   mislabelled : List ℕ → ℕ → ℕ → LabelledStop
 
+-- a stop of the board without its labels, of which P holds
 abbrev pub OfBuild : (Stop → Type 0) → LabelledStop → Type 0
 OfBuild P (unbuilt stop) = P stop
 OfBuild P (mislabelled name command at) = ⊥

@@ -82,7 +82,9 @@ HasReason command held before now lost (Unflat kind number byte) = OfFilesRead c
 pub record Works {P : Type 0} (files : P → Option Files) (faults : P → ℕ) (lost : P → List ℕ) (command : Command) (old new : P) (result : Result Answer Unanswered) : Type 0 where
   pub held : files new ≡ files old
   pub later : faults old ≤ faults new
+  -- an answer leaves the count of faults and the lost name as they were
   pub calm : IfOk result (λ answer. IsFaultless (faults old) (lost old) (faults new) (lost new))
+  -- and where there is none they change only by a fault of reading or want of memory
   pub left : IfErr result (LeftBy (faults old) (lost old) (faults new) (lost new))
   pub ok : IfOk result (λ answer. OfFilesRead command (files old) (λ f. OutcomeOf f command (Told answer.text.items (status_of answer.note) (line_of answer.note))))
   pub reason : IfErr result (HasReason command (files old) (faults old) (faults new) (lost new))

@@ -1,4 +1,4 @@
--- The law of the program.
+-- The laws of the program.
 use Rattle.std.specs.Prelude.{◌≡◌, ◌≤◌, ℕ, List, ◌++◌, length, Some, codes}
 use Rattle.board_io.specs.Package.{Files}
 use Rattle.board_package.specs.PackageBoard.{most_bytes}

@@ -17,6 +17,7 @@ use Rattle.gerber_layer.specs.Layer.{IsRefused}
 
 -- ---- The contour by looking back (Gerber Layer Format Specification, 4.10)
 
+-- a `D02`
 abbrev pub is_move : Code → Bool
 is_move Draw = false
 is_move Move = true
@@ -54,6 +55,7 @@ LooksBackToItsContour earlier = region_open earlier ≡ true → contour_before 
 
 -- ---- The pieces before a block by looking back (Gerber Layer Format Specification, 4.12)
 
+-- a step and repeat word
 abbrev pub is_repeat : Command → Bool
 is_repeat (repeats text) = true
 is_repeat other = false

@@ -76,6 +76,7 @@ pub record ShortPoints : Type 0 where
   pub net : ℕ
   pub branches : List BranchPoint
 
+-- what is left of a branch, and of a short
 abbrev pub branch_point : Branch → BranchPoint
 branch_point b = record { name = b.name; probe = b.probe }
 

@@ -41,18 +41,22 @@ same_unit Inch Inch = true
 same_unit Mm Inch = false
 same_unit Inch Mm = false
 
+-- another unit was set
 abbrev pub other_unit : Option Measure → Measure → Bool
 other_unit None unit = false
 other_unit (Some first) unit = not (same_unit first unit)
 
+-- drill mode
 abbrev pub is_drilling : Mode → Bool
 is_drilling Drill = true
 is_drilling Rout = false
 
+-- `M48`
 abbrev pub is_start : Form → Bool
 is_start form.Start = true
 is_start other = false
 
+-- how a length that is none is refused, and a length or its refusal
 abbrev pub kind_of_grid : GridFault → DrillKind
 kind_of_grid fault = chosen fault kind.OffGrid kind.OutOfRange
 
@@ -94,11 +98,12 @@ target unit here to = do
   y ← coordinate unit here.y to.y
   Ok (record { x = x; y = y })
 
--- the diameter of the selected tool
+-- the diameter of a tool, if there is one and it is defined
 abbrev pub lookup : Option ℕ → (ℕ → Option ℕ) → Option ℕ
 lookup None defined = None
 lookup (Some n) defined = defined n
 
+-- the diameter of the selected tool
 abbrev pub diameter : Known → Option ℕ
 diameter k = lookup k.settings.tool k.defined
 
