@@ -24,7 +24,8 @@ pub record IsSize (z : ℤ) : Type 0 where
 abbrev pub IsNarrow : ℕ → Type 0
 IsNarrow size = size ≤ MOST_DIAMETER
 
--- every size is one, only a circle has a size of 0, and neither a circle's diameter nor an obround's lesser side is over MOST_DIAMETER
+-- every size is one, only a circle has a size of 0, and neither a circle's diameter nor an obround's lesser side is over
+-- MOST_DIAMETER
 abbrev pub IsLawful : Aperture → Type 0
 IsLawful (Circle d) = IsSize d × IsNarrow (unsigned_abs d)
 IsLawful (Rectangle x y) = IsSize x × IsSize y × (is_zero x ≡ false) × (is_zero y ≡ false)

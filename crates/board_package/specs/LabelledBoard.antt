@@ -133,7 +133,8 @@ pub record IsLaterLabelledStop (files : Files) (name : List ℕ) (stop : Labelle
   pub manifest : IsManifestFile files name listed
   pub stops : StopsLabelledAmong files (labelled_order listed) (nothing_labelled listed.layers) stop ⊎ IsLabelledFrameStop files listed stop
 
--- the first stop of the package under the name of a manifest: the manifest's, or that of the first file with one, or that of the frame
+-- the first stop of the package under the name of a manifest: the manifest's, or that of the first file with one, or that of
+-- the frame
 abbrev pub IsFirstLabelledStop : Files → List ℕ → LabelledStop → Type 0
 IsFirstLabelledStop files name stop = OfBuild (StopsAtManifest files name) stop ⊎ IsLaterLabelledStop files name stop
 
@@ -152,6 +153,7 @@ pub record LabelledComesLater (files : Files) (manifest name : List ℕ) : Type 
   pub manifest_file : IsManifestFile files manifest listed
   pub comes : LabelledComesAmong files (labelled_order listed) (nothing_labelled listed.layers) name
 
--- the name is that of the manifest or of a file of its order but the netlist, and every file before it is held and has no refusal
+-- the name is that of the manifest or of a file of its order but the netlist, and every file before it is held and has no
+-- refusal
 abbrev pub LabelledComes : Files → List ℕ → List ℕ → Type 0
 LabelledComes files manifest name = (name ≡ manifest) ⊎ LabelledComesLater files manifest name

@@ -171,7 +171,8 @@ pub record IsMadeRefusal (seed size : ℕ) (line : List ℕ) : Type 0 where
 
 -- ---- Written netlists
 
--- The package fits, its board is within the limits of a package, and this is the written netlist of it for the nets of a right verdict on it, with the status and the line.
+-- The package fits, its board is within the limits of a package, and this is the written netlist of it for the nets of a
+-- right verdict on it, with the status and the line.
 pub record IsWritten (files : Files) (manifest text : List ℕ) (status : ℕ) (line : List ℕ) : Type 0 where
   pub board : PlainBoard
   pub board_is : IsBoardOf files manifest board
@@ -204,11 +205,13 @@ pub record IsGrownRefusal (files : Files) (manifest : List ℕ) (nanometres : �
 
 -- ---- Nets by labels
 
--- Two labelled pieces have one net number exactly where a finite chain of touching pieces joins them. Each probe has the number of its piece plus 1.
+-- Two labelled pieces have one net number exactly where a finite chain of touching pieces joins them. Each probe has the
+-- number of its piece plus 1.
 abbrev pub JoinsPieces : PlainBoard → Verdict → Type 0
 JoinsPieces board verdict = (k l : ℕ) (p q : Probe) → slice_get board.probes k ≡ Some p → slice_get board.probes l ≡ Some q → HaveOneNet verdict k l ↔ Joined board (p.number - 1) (q.number - 1)
 
--- The package fits without its netlist, and this is the text of a right verdict on its labelled board, with a supplement, with its status and its line. No probe is bare.
+-- The package fits without its netlist, and this is the text of a right verdict on its labelled board, with a supplement,
+-- with its status and its line. No probe is bare.
 pub record IsLabelledReport (files : Files) (manifest text : List ℕ) (status : ℕ) (line : List ℕ) : Type 0 where
   pub board : PlainBoard
   pub board_is : IsLabelledBoardOf files manifest board
@@ -234,7 +237,8 @@ pub record IsLabelledRefusal (files : Files) (manifest line : List ℕ) : Type 0
 
 -- ---- Flattened copper files
 
--- The file is held and not too long, it has an image, and this is the text of that image, which every layer reads as the same copper; with the status and the line.
+-- The file is held and not too long, it has an image, and this is the text of that image, which every layer reads as the same
+-- copper; with the status and the line.
 pub record IsFlatText (files : Files) (name text : List ℕ) (status : ℕ) (line : List ℕ) : Type 0 where
   pub bytes : List ℕ
   pub held : IsHeld files name bytes
@@ -339,7 +343,8 @@ pub record IsReportNext (files : Files) (manifest report name : List ℕ) : Type
   pub board_is : IsBoardOf files manifest board
   pub name_is : name ≡ report
 
--- The name is that of a file of the command's order, and every file before it is held and has no refusal. A trial takes no file of the package.
+-- The name is that of a file of the command's order, and every file before it is held and has no refusal. A trial takes no
+-- file of the package.
 abbrev pub ComesFor : Files → Command → List ℕ → Type 0
 ComesFor files (Check version manifest) name = Comes files manifest name
 ComesFor files (Audit manifest report) name = Comes files manifest name ⊎ IsReportNext files manifest report name

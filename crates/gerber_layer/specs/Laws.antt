@@ -1,4 +1,5 @@
--- Laws of copper files: what the contour and the pieces before a block are by looking back over the commands, and that a file that is cut off is refused.
+-- Laws of copper files: what the contour and the pieces before a block are by looking back over the commands, and that a file
+-- that is cut off is refused.
 use Rattle.std.specs.Prelude.{◌≡◌, ℕ, ◌≤◌, Bool, true, false, if◌then◌else◌, List, [], ◌∷◌, ◌++◌, length, map, take, drop}
 use Rattle.std.specs.List.{AllByRecursion}
 use Rattle.planar.specs.declared.Spot.{Spot}

@@ -21,7 +21,8 @@ block_at r block column row = moved_block (pos column *ℤ r.dx) (pos row *ℤ r
 abbrev pub column_of : Repeat → List PlainPiece → ℕ → List PlainPiece
 column_of r block column = flat_map (block_at r block column) (range_with_len 0 r.up)
 
--- the pieces that stand for a block (Gerber Layer Format Specification, step and repeat): column by column, and in each row by row
+-- the pieces that stand for a block (Gerber Layer Format Specification, step and repeat): column by column, and in each row
+-- by row
 unfoldable pub copies_of : Repeat → List PlainPiece → List PlainPiece
 copies_of r block = flat_map (column_of r block) (range_with_len 0 r.across)
 

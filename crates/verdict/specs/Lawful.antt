@@ -69,7 +69,8 @@ pub record IsSupplement (more : Supplement) : Type 0 where
   pub spots : AllByRecursion IsSpotLine more.spots
   pub sources : AllByRecursion IsSourceLine more.sources
 
--- The places of points are signed numbers of 64 bits, layers are below 2^8 and all other numbers below 2^32, and the names are lawful texts.
+-- The places of points are signed numbers of 64 bits, layers are below 2^8 and all other numbers below 2^32, and the names
+-- are lawful texts.
 pub record IsVerdict (v : Verdict) : Type 0 where
   pub pieces : IsNumber v.pieces
   pub nets : AllByRecursion (AllByRecursion IsTwig) v.nets

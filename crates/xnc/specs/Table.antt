@@ -20,7 +20,8 @@ use Rattle.xnc.specs.declared.settings.Mode.TheVariants.{Drill, Rout}
 use Rattle.xnc.specs.declared.settings.Settings.{Settings}
 pub use Rattle.file_reading.specs.Conditions.{◌>>=◌, unless, needed}
 
--- What is known before a line: the settings, the diameter of each tool that is defined, how many tools are, how many pieces there are, and how many there may be.
+-- What is known before a line: the settings, the diameter of each tool that is defined, how many tools are, how many pieces
+-- there are, and how many there may be.
 pub record Known : Type 0 where
   pub settings : Settings
   pub defined : ℕ → Option ℕ
@@ -173,6 +174,7 @@ staged Header k f = header k f
 staged Body k f = body k f
 staged Ended k f = Err kind.AfterEnd
 
+-- behind the end
 abbrev pub is_ended : Stage → Bool
 is_ended Ended = true
 is_ended other = false
