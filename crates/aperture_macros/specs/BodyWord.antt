@@ -11,7 +11,7 @@ use Rattle.aperture_macros.specs.declared.fault.MacroFault.{MacroFault}
 use Rattle.aperture_macros.specs.declared.fault.MacroFault.TheVariants.{BadMacro, ExposureOff, Turn}
 use Rattle.aperture_macros.specs.Expression.{is_expression}
 
--- what comes behind something without a fault; a fault stays
+-- and then, unless there is a fault
 infixl 10 ◌>>=◌
 abbrev pub ◌>>=◌ : {A B : Type 0} → Result A MacroFault → (A → Result B MacroFault) → Result B MacroFault
 (Ok x) >>= f = f x

@@ -52,7 +52,7 @@ abbrev pub placed_copies : List PlainPiece → Option Refusal → Result (List P
 placed_copies copies (Some why) = Err why
 placed_copies copies None = if are_placed copies then Ok copies else Err out_of_range
 
--- the copies of a block, or why it has none: no room before the range
+-- the copies of a block, or why it has none; want of room is told before the range
 unfoldable pub copies_at : Repeat → Room → List PlainPiece → Result (List PlainPiece) Refusal
 copies_at r room block = placed_copies (copies_of r block) (room_fault r room block)
 

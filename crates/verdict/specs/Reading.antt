@@ -19,7 +19,7 @@ use Rattle.verdict.specs.declared.verdict.SourceLine.{SourceLine}
 use Rattle.verdict.specs.declared.verdict.Supplement.{Supplement}
 use Rattle.verdict.specs.declared.verdict.Verdict.{Verdict}
 
--- the next reading goes on from what was read; nothing is read where nothing was
+-- and then, from what was read; where that is nothing, nothing
 infixl 10 ◌>>=◌
 abbrev pub ◌>>=◌ : {A B : Type 0} → Option A → (A → Option B) → Option B
 None >>= f = None

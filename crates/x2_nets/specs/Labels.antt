@@ -42,7 +42,7 @@ named_by fields = if is_field (field_of fields 0) (codes ".N") then named (name_
 abbrev pub ended_by : List ℕ → Said
 ended_by fields = if is_field (field_of fields 0) [] || is_field (field_of fields 0) (codes ".N") then unnamed else nothing
 
--- of nets say attributes of objects, and what deletes attributes
+-- attributes of objects, and the words that delete attributes, alone say something of nets
 abbrev pub by_kind : AttributeKind → List ℕ → Said
 by_kind File fields = nothing
 by_kind Aperture fields = nothing
