@@ -11,6 +11,7 @@ use Rattle.aperture_macros.specs.declared.fault.MacroFault.{MacroFault}
 use Rattle.aperture_macros.specs.declared.fault.MacroFault.TheVariants.{BadMacro, ExposureOff, Turn}
 use Rattle.aperture_macros.specs.Expression.{is_expression}
 
+-- and then, unless there is a fault
 infixl 10 ◌>>=◌
 abbrev pub ◌>>=◌ : {A B : Type 0} → Result A MacroFault → (A → Result B MacroFault) → Result B MacroFault
 (Ok x) >>= f = f x
@@ -107,11 +108,13 @@ turned_at form exposure lengths rotation =
     else (if not (is_number exposure 1) then Err ExposureOff
     else (rotation_of (fraction rotation) >>= λ turn. Ok (record { form = form; rotation = turn; lengths = lengths }))))
 
+-- a word of n commas as a primitive of this form; its exposure is a decimal
 unfoldable pub form_in : Form → ℕ → List ℕ → Result PlainPrimitive MacroFault
 form_in form n word =
     if not (is_decimal (part 1 word)) then Err BadMacro
     else turned_at form (fraction (part 1 word)) (past (head form) word) (rotation_text form n (past (head form) word))
 
+-- a word whose code and commas give no form is no primitive
 abbrev pub some_form : Option Form → ℕ → List ℕ → Result (Option PlainPrimitive) MacroFault
 some_form None n word = Err BadMacro
 some_form (Some form) n word = form_in form n word >>= λ primitive. Ok (Some primitive)

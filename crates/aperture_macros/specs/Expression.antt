@@ -13,6 +13,7 @@ is_empty (b ∷ text) = false
 abbrev pub is_sign : ℕ → Bool
 is_sign b = b == 43 || b == 45
 
+-- a byte of a term behind its sign
 abbrev pub is_plain : ℕ → Bool
 is_plain b = not (is_sign b)
 
@@ -25,6 +26,7 @@ sign_len (b ∷ text) = if is_sign b then 1 else 0
 abbrev pub term_len : List ℕ → ℕ
 term_len text = sign_len text + prefix_len is_plain (drop (sign_len text) text)
 
+-- that term
 abbrev pub first_term : List ℕ → List ℕ
 first_term text = take (term_len text) text
 
@@ -36,6 +38,7 @@ further_terms text = drop (term_len text) text
 abbrev pub is_parameter_number : List ℕ → Bool
 is_parameter_number digits = (nat_le 1 (length digits) && nat_le (length digits) 3) && (list_all is_decimal_digit digits && nat_le 1 (digits_value 10 digits))
 
+-- the number that such digits spell
 abbrev pub parameter_number : List ℕ → Option ℕ
 parameter_number digits = if is_parameter_number digits then Some (digits_value 10 digits) else None
 

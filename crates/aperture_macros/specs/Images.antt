@@ -81,6 +81,7 @@ abbrev pub is_done : {A : Type 0} → Result A MacroFault → Result (Unit {0}) 
 is_done (Ok x) = Ok tt
 is_done (Err fault) = Err fault
 
+-- by the form of the primitive and the text of its lengths
 unfoldable pub judged_by : Form → List ℕ → List Fraction → Measure → Result (Unit {0}) MacroFault
 judged_by Circle text parameters unit = is_done (circle_at text parameters unit)
 judged_by (Outline n) text parameters unit = is_done (outline_at n text parameters unit)
@@ -109,6 +110,7 @@ disc_at p d = if is_placed p then Ok (Some (round (record { a = p; b = p; r = ha
 abbrev pub area_at : List Spot → Result (Option Figure) MacroFault
 area_at points = if list_all is_placed points then Ok (Some (filled points)) else Err OutOfRange
 
+-- a figure about the origin, turned and set down at a spot
 unfoldable pub sketch_at : Rotation → Spot → Option Sketch → Result (Option Figure) MacroFault
 sketch_at rotation at None = Ok None
 sketch_at rotation at (Some (Disc p d)) = disc_at (set_down rotation at p) d
@@ -121,6 +123,7 @@ sketched rotation at sketch = sketch >>= sketch_at rotation at
 abbrev pub outlined : Rotation → Spot → Result (List Spot) MacroFault → Result (Option Figure) MacroFault
 outlined rotation at points = points >>= λ ps. area_at (map (set_down rotation at) ps)
 
+-- by the form of the primitive, how it is turned, and the text of its lengths
 unfoldable pub figure_by : Form → Rotation → List ℕ → List Fraction → Measure → Spot → Result (Option Figure) MacroFault
 figure_by Circle rotation text parameters unit at = sketched rotation at (circle_at text parameters unit)
 figure_by (Outline n) rotation text parameters unit at = outlined rotation at (outline_at n text parameters unit)

@@ -13,6 +13,7 @@ use Rattle.aperture_macros.specs.BodyWord.{PlainPrimitive}
 abbrev pub plain : Primitive → PlainPrimitive
 plain p = record { form = p.form; rotation = p.rotation; lengths = p.lengths.now }
 
+-- and where there may be none, or a fault
 abbrev pub seen_primitive : Option Primitive → Option PlainPrimitive
 seen_primitive None = None
 seen_primitive (Some p) = Some (plain p)
@@ -25,6 +26,7 @@ abbrev pub seen_one : Result Primitive MacroFault → Result PlainPrimitive Macr
 seen_one (Ok p) = Ok (plain p)
 seen_one (Err fault) = Err fault
 
+-- the figure of a shape, if there is one
 abbrev pub seen_shape : Option Shape → Option Figure
 seen_shape None = None
 seen_shape (Some shape) = Some (figure_of shape)

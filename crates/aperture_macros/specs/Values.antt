@@ -15,10 +15,11 @@ abbrev pub as_fault : Result ℤ GridFault → Result ℤ MacroFault
 as_fault (Ok u) = Ok u
 as_fault (Err fault) = Err (chosen fault OffGrid OutOfRange)
 
--- the position that a decimal is, with a minus before it or not
+-- the number, or with a minus before it its negative
 abbrev pub signed_by : Bool → ℤ → ℤ
 signed_by minus u = if minus then neg_ℤ u else u
 
+-- the position that a parameter is, with a minus before it or not; 0 where there is none
 abbrev pub parameter_value : Bool → Option Fraction → Measure → Result ℤ MacroFault
 parameter_value minus None unit = Ok (pos 0)
 parameter_value minus (Some d) unit = as_fault (position_of d unit) >>= λ u. Ok (signed_by minus u)
@@ -27,6 +28,7 @@ parameter_value minus (Some d) unit = as_fault (position_of d unit) >>= λ u. Ok
 unfoldable pub variable_at : Bool → ℕ → List Fraction → Measure → Result ℤ MacroFault
 variable_at minus k parameters unit = parameter_value minus (slice_get parameters (k - 1)) unit
 
+-- by the number of the parameter that a term names, if it names one
 abbrev pub term_by : Option ℕ → List ℕ → List Fraction → Measure → Result ℤ MacroFault
 term_by (Some k) text parameters unit = variable_at (has_minus text) k parameters unit
 term_by None text parameters unit = if is_decimal text then as_fault (position_of (fraction text) unit) else Err BadMacro
@@ -47,10 +49,11 @@ unfoldable pub coordinate_at : List ℕ → List Fraction → Measure → Result
 coordinate_at text parameters unit =
     sum_from 64 (pos 0) text parameters unit >>= λ u. if nat_lt 10000000000 (unsigned_abs u) then Err OutOfRange else Ok u
 
--- a width, a height or a diameter: even, and not negative
+-- a size is even, and not negative
 abbrev pub as_size : ℤ → Result ℕ MacroFault
 as_size u = if not (unsigned_abs u % 2 == 0) then Err OffGrid else (if int_lt u (pos 0) then Err OutOfRange else Ok (unsigned_abs u))
 
+-- a width, a height or a diameter
 unfoldable pub size_at : List ℕ → List Fraction → Measure → Result ℕ MacroFault
 size_at text parameters unit = coordinate_at text parameters unit >>= as_size
 

@@ -24,7 +24,8 @@ pub record IsSize (z : ℤ) : Type 0 where
 abbrev pub IsNarrow : ℕ → Type 0
 IsNarrow size = size ≤ MOST_DIAMETER
 
--- every size is one, only a circle has a size of 0, and neither a circle's diameter nor an obround's lesser side is over MOST_DIAMETER
+-- every size is one, only a circle has a size of 0, and neither a circle's diameter nor an obround's lesser side is over
+-- MOST_DIAMETER
 abbrev pub IsLawful : Aperture → Type 0
 IsLawful (Circle d) = IsSize d × IsNarrow (unsigned_abs d)
 IsLawful (Rectangle x y) = IsSize x × IsSize y × (is_zero x ≡ false) × (is_zero y ≡ false)
@@ -74,6 +75,7 @@ flash_of (Circle d) at = Ok (disc (unsigned_abs d) at)
 flash_of (Rectangle x y) at = rectangle_at (unsigned_abs x) (unsigned_abs y) at
 flash_of (Obround x y) at = obround (unsigned_abs x) (unsigned_abs y) at
 
+-- the figure of a shape, if there is one
 abbrev pub seen_shape : Option Shape → Option Figure
 seen_shape None = None
 seen_shape (Some shape) = Some (figure_of shape)

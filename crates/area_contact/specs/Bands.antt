@@ -1,4 +1,5 @@
--- The bands of a contour: its box is cut into strips of one height, from its low side up. An edge stands in each strip from that of its lower end to that of its upper end; an edge that would stand in more than 8 is tall, and stands in none.
+-- The bands of a contour: its box is cut into strips of one height, from its low side up. An edge stands in each strip from
+-- that of its lower end to that of its upper end; an edge that would stand in more than 8 is tall, and stands in none.
 use Rattle.std.specs.Prelude.{ℕ, ◌+◌, ◌-◌, ◌/◌, ◌≤◌, ◌<◌, ◌≡◌, Bool, not, ◌&&◌, cond, nat_le, nat_lt, List, map, filter, length, get_or, slice_index, slice_range, ℤ, pos, ◌-ℤ◌, ◌≤ℤ◌, nat_abs, All}
 use Rattle.std.specs.Int.{int_min, int_max}
 use Rattle.std.specs.List.{range_with_len}
@@ -35,7 +36,8 @@ lowest points = (area_box points).low
 abbrev pub band_height : List Spot → ℕ
 band_height points = height_of (area_box points) (length points - 1)
 
--- the band of y, which is not below low, where bands of that height begin at low: how far y is above low over the height, rounded down
+-- the band of y, which is not below low, where bands of that height begin at low: how far y is above low over the height,
+-- rounded down
 unfoldable pub band_of : ℤ → ℕ → ℤ → ℕ
 band_of low height y = nat_abs (y -ℤ low) / height
 

@@ -60,6 +60,7 @@ abbrev pub IsClosed : List Spot → Type 0
 IsClosed [] = Unit {0}
 IsClosed (a ∷ rest) = end_from a rest ≡ a
 
+-- there is one proof of that
 pub IsClosed-prop : (points : List Spot) → IsProp (IsClosed points)
 IsClosed-prop [] = hlevel (ℤ_set)
 IsClosed-prop (a ∷ rest) = hlevel (ℤ_set)

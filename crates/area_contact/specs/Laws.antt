@@ -12,7 +12,8 @@ use Rattle.planar.specs.declared.Spot.{Spot}
 abbrev pub EdgeLaw : Type 0
 EdgeLaw = (e : Edge) (p q : Point) → p.n ≡ q.n → p.y ≤ℤ q.y → ¬ MeetsWay p q e → ExactlyOne (RayCrosses e.start e.end p) (RayCrosses e.start e.end q) ↔ ExactlyOne (Swept p q e.start) (Swept p q e.end)
 
--- Let p and q have one n. Where no edge of a closed contour shares a point with the segment from p to q, both lie in the area or neither does
+-- Let p and q have one n. Where no edge of a closed contour shares a point with the segment from p to q, both lie in the area
+-- or neither does
 abbrev pub ParityLaw : Type 0
 ParityLaw = (points : List Spot) (p q : Point) → IsClosed points → p.n ≡ q.n → ¬ SomeEdge (MeetsWay p q) (edges_of points) → InArea (edges_of points) p ↔ InArea (edges_of points) q
 

@@ -15,9 +15,11 @@ use Rattle.area_contact.specs.Contour.{OddCrossed, ExactlyOne}
 abbrev pub side_of : Spot → Spot → ℤ → ℤ → ℤ → ℤ
 side_of low high x y n = (high.x -ℤ low.x) *ℤ (y -ℤ n *ℤ low.y) +ℤ (n *ℤ low.x -ℤ x) *ℤ (high.y -ℤ low.y)
 
+-- the edge goes up past the height of the place, to the right of it
 abbrev pub passes : Spot → Spot → ℤ → ℤ → ℤ → Bool
 passes low high x y n = crosses (pos 0) (n *ℤ low.y -ℤ y) (n *ℤ high.y -ℤ y) (side_of low high x y n)
 
+-- the ray from the place to the right crosses the edge, and an odd number of the edges
 abbrev pub crossed : Edge → ℤ → ℤ → ℤ → Bool
 crossed e x y n = passes e.start e.end x y n || passes e.end e.start x y n
 
@@ -27,6 +29,7 @@ odd (e ∷ es) x y n = xor (crossed e x y n) (odd es x y n)
 
 -- ---- Bool
 
+-- laws of exclusive or, and of or
 pub xor-same : (b : Bool) → xor b b ≡ false
 xor-same true = refl
 xor-same false = refl
@@ -73,6 +76,7 @@ xor-over false false false = refl
 pub xor-chain : (a b c d s t u : Bool) → xor a b ≡ xor s t → xor c d ≡ xor t u → xor (xor a c) (xor b d) ≡ xor s u
 xor-chain a b c d s t u h k = xor-middle a b c d ∙ rw (h, k) (xor-over s t u)
 
+-- where neither of two holds alone they are the same
 pub xor-equal : (a b : Bool) → xor a b ≡ false → a ≡ b
 xor-equal true true h = refl
 xor-equal true false h = cc
@@ -81,6 +85,7 @@ xor-equal false false h = refl
 
 -- ---- tests of places that are told in two ways
 
+-- a comparison and its test
 pub is_lt : (a b : ℤ) → a <ℤ b → lt_z a b ≡ true
 is_lt a b h = sym (omega (arith, ints))
 
@@ -93,6 +98,7 @@ is_le a b h = sym (omega (arith, ints))
 pub not_le : (a b : ℤ) → b <ℤ a → le_z a b ≡ false
 not_le a b h = sym (omega (arith, ints))
 
+-- comparisons that agree both ways have one test
 pub same_lt : (a b c d : ℤ) → (a <ℤ b → c <ℤ d) → (b ≤ℤ a → d ≤ℤ c) → lt_z a b ≡ lt_z c d
 same_lt a b c d f g = elim (le_or_lt b a) [ inl k ↦ not_lt a b k ∙ sym (not_lt c d (g k)) | inr k ↦ is_lt a b k ∙ sym (is_lt c d (f k)) ]
 
@@ -112,6 +118,7 @@ sign k z w h e = same_lt (pos 0) w (pos 0) z up down
     down : w ≤ℤ pos 0 → z ≤ℤ pos 0
     down l = times_cancel k z (pos 0) h (omega (arith, linear, times-zero k, e))
 
+-- so do crossings whose comparisons do
 pub same_crosses : (h low high f h' low' high' f' : ℤ) → le_z low h ≡ le_z low' h' → lt_z h high ≡ lt_z h' high' → lt_z (pos 0) f ≡ lt_z (pos 0) f' → crosses h low high f ≡ crosses h' low' high' f'
 same_crosses h low high f h' low' high' f' p q r = rw (p, q, r)
 
@@ -135,6 +142,7 @@ crosses_is h low high f = (there, λ k. back k.0 k.1 k.2)
     back : low ≤ℤ h → h <ℤ high → pos 0 <ℤ f → IsTrue (crosses h low high f)
     back k l m = rw (is_le low h k, is_lt h high l, is_lt (pos 0) f m) refl
 
+-- the tests hold exactly where the relations do
 pub passes_is : (low high : Spot) (p : Point) → IsTrue (passes low high p.x p.y p.n) ↔ PassesRight low high p
 passes_is low high p =
     let d : IsTrue (passes low high p.x p.y p.n) ↔ (((p.n *ℤ low.y -ℤ p.y) ≤ℤ pos 0) × (pos 0 <ℤ (p.n *ℤ high.y -ℤ p.y)) × (pos 0 <ℤ (side_of low high p.x p.y p.n))) =
@@ -149,12 +157,15 @@ either_is {P} {Q} false t f g = (λ h. inr (g.0 h), back)
     back (inl k) = let l : false ≡ true = f.1 k in cc
     back (inr k) = g.1 k
 
+-- of the ray and an edge
 pub crossed_is : (e : Edge) (p : Point) → IsTrue (crossed e p.x p.y p.n) ↔ RayCrosses e.start e.end p
 crossed_is e p = either_is (passes e.start e.end p.x p.y p.n) (passes e.end e.start p.x p.y p.n) (passes_is e.start e.end p) (passes_is e.end e.start p)
 
+-- what has a test that fails does not hold
 pub no_true : {P : Type 0} → IsTrue false ↔ P → P → ⊥
 no_true f k = let l : false ≡ true = f.1 k in cc
 
+-- exactly one of two holds where exactly one of their tests does
 pub one_is : {P Q : Type 0} (s t : Bool) → IsTrue s ↔ P → IsTrue t ↔ Q → IsTrue (xor s t) ↔ ExactlyOne P Q
 one_is {P} {Q} true true f g = (λ h. absurd (no h), back)
   where
@@ -175,6 +186,7 @@ one_is {P} {Q} false false f g = (λ h. absurd (no h), back)
     back (inl k) = f.1 k.0
     back (inr k) = g.1 k.0
 
+-- and so of an odd number of crossed edges
 pub odd_is : (es : List Edge) (p : Point) → IsTrue (odd es p.x p.y p.n) ↔ OddCrossed es p
 odd_is [] p = (no, absurd)
   where
@@ -184,6 +196,7 @@ odd_is (e ∷ es) p = one_is (crossed e p.x p.y p.n) (odd es p.x p.y p.n) (cross
 
 -- ---- a length of nothing
 
+-- places at most nothing apart are one
 pub none_apart : (m gx gy : ℤ) → (square gx +ℤ square gy) ≤ℤ square (m *ℤ pos 0) → (gx ≡ pos 0) × (gy ≡ pos 0)
 none_apart m gx gy h =
     let none : square (m *ℤ pos 0) ≡ pos 0 = simp ring in

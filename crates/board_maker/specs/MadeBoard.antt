@@ -121,10 +121,12 @@ end_of Bottom = codes "M02*\n"
 end_of Holes = codes "M30\n"
 end_of Points = codes "999\n"
 
+-- a file of a made package: its head, its cells and its end
 abbrev pub part_text : Part → ℕ → ℕ → List ℕ
 part_text part seed size = (head_of part ++ cells (cell_of part seed size) size) ++ end_of part
 
 -- ---- The manifest
 
+-- two copper files, a drill file through both layers, and the netlist
 abbrev pub manifest_text : List ℕ
 manifest_text = codes "{\"copper\":[\"top.gbr\",\"bot.gbr\"],\"drills\":[{\"file\":\"pth.drl\",\"from\":1,\"to\":2}],\"netlist\":\"n.ipc\"}\n"

@@ -34,6 +34,7 @@ pub record Named : Type 0 where
   pub probes : List Probe
   pub names : List (List ℕ)
 
+-- the probe of a piece, at the first spot of its figure on its top layer
 abbrev pub probe_of : ℕ → PlainPiece → ℕ → Probe
 probe_of number p name = record { number = number; at = first_spot p.figure; layer = p.top; name = name }
 
@@ -53,6 +54,7 @@ labelled_board_of tables b = with_netlist b (named_by tables (reverse b.pieces))
 
 -- ---- One file
 
+-- a copper file or a drill file
 abbrev pub is_board_file : Role → Bool
 is_board_file (Copper layer) = true
 is_board_file (Drill from to) = true
@@ -67,6 +69,7 @@ pub record Labelled : Type 0 where
   pub board : PlainBoard
   pub tables : List (List Label)
 
+-- before the first file: a board with nothing on it, and no labels
 abbrev pub nothing_labelled : ℕ → Labelled
 nothing_labelled layers = record { board = empty_board layers; tables = [] }
 
@@ -100,6 +103,7 @@ pub data LabelledStop : Type 0 where
   unbuilt : Stop → LabelledStop
   mislabelled : List ℕ → ℕ → ℕ → LabelledStop
 
+-- a stop of the board without its labels, of which P holds
 abbrev pub OfBuild : (Stop → Type 0) → LabelledStop → Type 0
 OfBuild P (unbuilt stop) = P stop
 OfBuild P (mislabelled name command at) = ⊥
@@ -129,7 +133,8 @@ pub record IsLaterLabelledStop (files : Files) (name : List ℕ) (stop : Labelle
   pub manifest : IsManifestFile files name listed
   pub stops : StopsLabelledAmong files (labelled_order listed) (nothing_labelled listed.layers) stop ⊎ IsLabelledFrameStop files listed stop
 
--- the first stop of the package under the name of a manifest: the manifest's, or that of the first file with one, or that of the frame
+-- the first stop of the package under the name of a manifest: the manifest's, or that of the first file with one, or that of
+-- the frame
 abbrev pub IsFirstLabelledStop : Files → List ℕ → LabelledStop → Type 0
 IsFirstLabelledStop files name stop = OfBuild (StopsAtManifest files name) stop ⊎ IsLaterLabelledStop files name stop
 
@@ -148,6 +153,7 @@ pub record LabelledComesLater (files : Files) (manifest name : List ℕ) : Type 
   pub manifest_file : IsManifestFile files manifest listed
   pub comes : LabelledComesAmong files (labelled_order listed) (nothing_labelled listed.layers) name
 
--- the name is that of the manifest or of a file of its order but the netlist, and every file before it is held and has no refusal
+-- the name is that of the manifest or of a file of its order but the netlist, and every file before it is held and has no
+-- refusal
 abbrev pub LabelledComes : Files → List ℕ → List ℕ → Type 0
 LabelledComes files manifest name = (name ≡ manifest) ⊎ LabelledComesLater files manifest name

@@ -135,7 +135,8 @@ pub record IsLaterStop (files : Files) (name : List ℕ) (stop : Stop) : Type 0 
   pub manifest : IsManifestFile files name listed
   pub stops : StopsAmong files (order_of listed) (empty_board listed.layers) stop ⊎ IsFrameStop files listed stop
 
--- The first stop of the package under the name of a manifest: the manifest's, or that of the first file with one, or that of the frame.
+-- The first stop of the package under the name of a manifest: the manifest's, or that of the first file with one, or that of
+-- the frame.
 abbrev pub IsFirstStop : Files → List ℕ → Stop → Type 0
 IsFirstStop files name stop = StopsAtManifest files name stop ⊎ IsLaterStop files name stop
 

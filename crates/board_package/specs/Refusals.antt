@@ -6,6 +6,7 @@ use Rattle.xnc.specs.Kind.{number_of_kind as drill_number, name_of_kind as drill
 use Rattle.board_package.specs.declared.reading.Refusal.{Refusal}
 use Rattle.board_package.specs.declared.reading.Refusal.TheVariants.{Layer, Drill, Netlist}
 
+-- as the reader of that form of file numbers and names it
 abbrev pub refusal_number : Refusal → ℕ
 refusal_number (Layer kind command at) = kind_number kind
 refusal_number (Drill kind line at) = drill_number kind

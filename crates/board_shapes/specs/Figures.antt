@@ -21,6 +21,7 @@ pub data Figure : Type 0 where
   round : Stroke → Figure
   filled : List Spot → Figure
 
+-- the figure of a capsule, of an area, and of a shape, which is one of the two
 abbrev pub capsule_figure : Capsule → Figure
 capsule_figure c = round (record { a = c.a; b = c.b; r = c.r })
 
@@ -46,7 +47,7 @@ abbrev pub figure_box : Figure → Bounds
 figure_box (round s) = box_of s.a s.b s.r
 figure_box (filled points) = area_box points
 
--- ends within one metre and a radius from 0 to one metre, or the points of a contour
+-- ends within one metre and a radius from 0 to MOST_RADIUS, or the points of a contour
 abbrev pub IsLawfulFigure : Figure → Type 0
 IsLawfulFigure (round s) = IsLawful s.a s.b s.r
 IsLawfulFigure (filled points) = IsContour points

@@ -5,7 +5,8 @@ use Rattle.board_shapes.specs.Figures.{IsLawfulFigure, figure_box}
 use Rattle.board_shapes.specs.Lawful.{IsSpan, IsProbe}
 use Rattle.board_shapes.specs.Plain.{PlainBoard, frame_of}
 
--- fewer than 2^32 pieces, probes and names; lawful figures with boxes inside the board's frame, on spans of its layers; probes with its names and layers
+-- fewer than 2^32 pieces, probes and names; lawful figures with boxes inside the board's frame, on spans of its layers;
+-- probes with its names and layers
 pub record IsLawfulBoard (b : PlainBoard) : Type 0 where
   pub few_pieces : length b.pieces < 2 ^ 32
   pub few_probes : length b.probes < 2 ^ 32

@@ -17,6 +17,7 @@ IsShift z = IsWithin TWO_METRES z
 abbrev pub IsWay : Shift → Type 0
 IsWay by = IsShift by.x × IsShift by.y
 
+-- the spot, so much further to the right and up
 abbrev pub shifted : ℤ → ℤ → Spot → Spot
 shifted dx dy p = record { x = p.x +ℤ dx; y = p.y +ℤ dy }
 

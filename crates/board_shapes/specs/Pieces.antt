@@ -12,6 +12,7 @@ pub record PlainPiece : Type 0 where
   pub bottom : ℕ
   pub origin : Origin
 
+-- a piece with the figure of its shape, and each of a list
 abbrev pub plain_piece : Placed Shape → PlainPiece
 plain_piece p = record { figure = figure_of p.shape; top = p.top; bottom = p.bottom; origin = p.origin }
 

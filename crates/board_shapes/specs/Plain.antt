@@ -22,6 +22,7 @@ pub record PlainBoard : Type 0 where
 abbrev pub plain_parts : List (Placed Shape) → List Probe → List (List ℕ) → ℕ → PlainBoard
 plain_parts pieces probes names layers = record { pieces = plain_pieces pieces; probes = probes; names = names; layers = layers }
 
+-- a board without its invariant
 abbrev pub plain_board : Board → PlainBoard
 plain_board b = plain_parts b.pieces.items b.probes b.names b.layers
 

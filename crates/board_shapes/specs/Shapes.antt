@@ -27,6 +27,7 @@ pub lawful : (s : Shape) → IsShapeLawful s
 lawful (Round c) = (c.start, c.end, c.radius)
 lawful (Filled a) = record { closed = a.closed; enough = a.enough; not_many = a.not_many; placed = a.placed }
 
+-- a lawful figure has a point, and its points lie in its box
 pub not_empty_figure : (f : Figure) → IsLawfulFigure f → (p : Point) × InFigure f p
 not_empty_figure (round s) h = round_not_empty s.a s.b s.r h
 not_empty_figure (filled points) h = area_not_empty points h
@@ -35,6 +36,7 @@ pub boxed_figure : (f : Figure) (p : Point) → IsLawfulFigure f → InFigure f 
 boxed_figure (round s) p h k = round_boxed s.a s.b s.r p h k
 boxed_figure (filled points) p h k = area_boxed points p h k
 
+-- and so with shapes
 pub not_empty : (s : Shape) → IsShapeLawful s → (p : Point) × InShape s p
 not_empty s h = not_empty_figure (figure_of s) h
 

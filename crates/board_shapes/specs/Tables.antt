@@ -18,7 +18,8 @@ point_of probe = record { number = probe.number; x = probe.at.x; y = probe.at.y;
 abbrev pub source_of : PlainPiece → Source
 source_of piece = record { file = piece.origin.file; command = piece.origin.command; copy = piece.origin.copy; top = piece.top; bottom = piece.bottom }
 
--- `near` lists for each piece the other pieces that touch it, `beneath` for each probe the pieces under it, and the probes, the pieces' sources and the names are the board's
+-- `near` lists for each piece the other pieces that touch it, `beneath` for each probe the pieces under it, and the probes,
+-- the pieces' sources and the names are the board's
 pub record IsTables (b : PlainBoard) (t : Tables) : Type 0 where
   pub near : AreRows (length b.pieces) (IsNear b) t.near
   pub beneath : AreRows (length b.probes) (UnderAt b) t.beneath

@@ -66,10 +66,12 @@ abbrev pub unmade_of : MakeFault → Unanswered
 unmade_of made.SizeTooLarge = SizeTooLarge
 unmade_of made.NoMemory = Stopped fault.NoMemory
 
+-- why there is no answer where the gaps of a board are not listed
 abbrev pub ungapped_of : GapFault → Unanswered
 ungapped_of (gap.FrameTooLarge box) = GrownTooLarge box
 ungapped_of gap.NoMemory = Stopped fault.NoMemory
 
+-- why there is no answer where no board is made by the net names in copper files
 abbrev pub unlabelled_of : LabelledFault → Unanswered
 unlabelled_of (labelled.Build why) = Stopped why
 unlabelled_of (labelled.Label name command byte) = Mislabelled name command byte
@@ -79,6 +81,7 @@ abbrev pub IsUngapped : PlainBoard → ℕ → GapFault → Type 0
 IsUngapped board nanometres (gap.FrameTooLarge box) = IsTooWide board nanometres box
 IsUngapped board nanometres gap.NoMemory = Unit {0}
 
+-- why there is no answer where a copper file is not flattened
 abbrev pub unflat_of : FlattenFault → Unanswered
 unflat_of (flat.Refused kind command at) = Unflat kind command at
 unflat_of flat.NoMemory = Stopped fault.NoMemory
@@ -105,7 +108,7 @@ fault_line manifest fault.NoMemory = plain_line (codes "out of memory")
 abbrev pub Refuses : List ℕ → BuildFault → ℕ → (List ℕ → Type 0) → Type 0
 Refuses manifest why status Line = (status ≡ fault_status why) × Line (fault_line manifest why)
 
--- the manifest or the copper file that a command is about, and the report
+-- the name of the manifest or of the copper file that a command is about
 abbrev pub manifest_of : Command → List ℕ
 manifest_of (Check version manifest) = manifest
 manifest_of (Audit manifest report) = manifest
@@ -115,6 +118,7 @@ manifest_of (Gaps manifest nanometres) = manifest
 manifest_of (X2 manifest) = manifest
 manifest_of (Flatten file) = file
 
+-- the name of the report, which only an audit has
 abbrev pub report_of : Command → List ℕ
 report_of (Audit manifest report) = report
 report_of other = []

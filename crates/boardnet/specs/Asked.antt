@@ -3,6 +3,7 @@ use Rattle.boardnet.specs.Words.{Command, Check, Audit, Trial, Write, Gaps, X2, 
 use Rattle.boardnet.specs.declared.words.Command.{Command as Given}
 use Rattle.boardnet.specs.declared.words.Command.TheVariants as given
 
+-- the same command, its names as the bytes that they hold
 abbrev pub asked : Given → Command
 asked (given.Check version manifest) = Check version manifest.now
 asked (given.Audit manifest report) = Audit manifest.now report.now

@@ -78,16 +78,19 @@ HasReason command held before now lost (GrownTooLarge box) = OfFilesRead command
 HasReason command held before now lost (Mislabelled name number byte) = OfFilesRead command held (λ files. IsMislabelledFor files command name number byte)
 HasReason command held before now lost (Unflat kind number byte) = OfFilesRead command held (λ files. IsUnflatFor files command kind number byte)
 
--- The work of a command on a package that it was lent: the answer is the command's outcome, or there is a reason why there is none.
+-- The work of a command on a package that it was lent: the answer is the command's outcome, or there is a reason why there is
+-- none.
 pub record Works {P : Type 0} (files : P → Option Files) (faults : P → ℕ) (lost : P → List ℕ) (command : Command) (old new : P) (result : Result Answer Unanswered) : Type 0 where
   pub held : files new ≡ files old
   pub later : faults old ≤ faults new
+  -- an answer leaves the count of faults and the lost name as they were
   pub calm : IfOk result (λ answer. IsFaultless (faults old) (lost old) (faults new) (lost new))
+  -- and where there is none they change only by a fault of reading or want of memory
   pub left : IfErr result (LeftBy (faults old) (lost old) (faults new) (lost new))
   pub ok : IfOk result (λ answer. OfFilesRead command (files old) (λ f. OutcomeOf f command (Told answer.text.items (status_of answer.note) (line_of answer.note))))
   pub reason : IfErr result (HasReason command (files old) (faults old) (faults new) (lost new))
 
--- An answer that was put, whole or in part.
+-- An answer that was put: whole, or cut at a fault of the output, which is status 5.
 pub data Puts {S N : Type 0} (got : S → Option (List ℕ)) (broken : S → ℕ) (noted : N → Option (List ℕ)) (failed : N → ℕ) (answer : Answer) (o o' : S) (n n' : N) (status : ℕ) : Type 0 where
   whole : status ≡ status_of answer.note → Gains (got o) answer.text.items (got o') → Says noted failed n n' (line_of answer.note) → Puts got broken noted failed answer o o' n n' status
   cut : status ≡ 5 → Rose (broken o) (broken o') → GainsFrontOf (got o) answer.text.items (got o') → Says noted failed n n' (plain_line (codes "output cannot be written")) → Puts got broken noted failed answer o o' n n' status
@@ -107,7 +110,8 @@ abbrev pub TakesFiles : Command → Type 0
 TakesFiles (Trial seed size) = ⊥
 TakesFiles other = Unit {0}
 
--- What a command comes to, by the status that it answers: of the package `p`, the output `o` and the notes `n`, before and after.
+-- What a command comes to, by the status that it answers: of the package `p`, the output `o` and the notes `n`, before and
+-- after.
 pub record Ends {P S N : Type 0} (files : P → Option Files) (faults : P → ℕ) (lost : P → List ℕ) (got : S → Option (List ℕ)) (broken : S → ℕ) (noted : N → Option (List ℕ)) (failed : N → ℕ)
     (command : Command) (p p' : P) (o o' : S) (n n' : N) (status : ℕ) : Type 0 where
   pub few : status ≤ 6

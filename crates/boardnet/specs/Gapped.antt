@@ -15,7 +15,8 @@ use Rattle.verdict.specs.declared.verdict.Verdict.{Verdict}
 abbrev pub IsGapStatus : ℕ → ℕ → List ℕ → Type 0
 IsGapStatus count status line = ((count ≡ 0) × (status ≡ 0) × (line ≡ plain_line (codes "no gaps"))) ⊎ ((0 < count) × (status ≡ 1) × (line ≡ counted_line (codes "gaps ") count))
 
--- The gaps of a board at so many nanometres, between the nets of a right verdict on it, with the status and the line; a nanometre is 10 u. The pieces, grown by half the distance, fit in a frame.
+-- The gaps of a board at so many nanometres, between the nets of a right verdict on it, with the status and the line; a
+-- nanometre is 10 u. The pieces, grown by half the distance, fit in a frame.
 pub record IsGapListOn (board : PlainBoard) (nanometres : ℕ) (text : List ℕ) (status : ℕ) (line : List ℕ) : Type 0 where
   pub verdict : Verdict
   pub right : IsRightOn board verdict

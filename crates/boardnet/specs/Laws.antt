@@ -1,4 +1,4 @@
--- The law of the program.
+-- The laws of the program.
 use Rattle.std.specs.Prelude.{◌≡◌, ◌≤◌, ℕ, List, ◌++◌, length, Some, codes}
 use Rattle.board_io.specs.Package.{Files}
 use Rattle.board_package.specs.PackageBoard.{most_bytes}
@@ -12,7 +12,8 @@ pub record HoldsReport (before after : Files) (report text : List ℕ) : Type 0 
   pub held : after report ≡ Some text
   pub short : length text ≤ most_bytes
 
--- The report that `check` writes, of either version, passes the audit: where the package also holds it, the outcome of the audit is `audit true`.
+-- The report that `check` writes, of either version, passes the audit: where the package also holds it, the outcome of the
+-- audit is `audit true`.
 abbrev pub ReportsPass : Type 0
 ReportsPass = (before after : Files) (version : Version) (manifest report text line : List ℕ) (status : ℕ) → CheckOutcome before version manifest (Told text status line) → HoldsReport before after report text
     → AuditOutcome after manifest report (Told (codes "audit true" ++ end) 0 (plain_line (codes "audit true")))

@@ -16,12 +16,15 @@ pub record Says {N : Type 0} (got : N → Option (List ℕ)) (faults : N → ℕ
 abbrev pub begin : List ℕ
 begin = codes "boardnet: "
 
+-- a line feed ends it
 abbrev pub end : List ℕ
 end = 10 ∷ []
 
+-- a line of a few words
 abbrev pub plain_line : List ℕ → List ℕ
 plain_line what = concat (begin ∷ what ∷ end ∷ [])
 
+-- what is said of a file, behind its name
 abbrev pub file_line : List ℕ → List ℕ → List ℕ
 file_line file what = concat (begin ∷ file ∷ codes ": " ∷ what ∷ end ∷ [])
 
@@ -42,9 +45,11 @@ kind_line file form number kind place =
 abbrev pub label_line : List ℕ → ℕ → ℕ → List ℕ
 label_line file command byte = concat (begin ∷ file ∷ codes ": label at command " ∷ decimal command ∷ codes ", byte " ∷ decimal byte ∷ end ∷ [])
 
+-- how many opens, shorts and points without copper a verdict lists
 abbrev pub differs_line : ℕ → ℕ → ℕ → List ℕ
 differs_line opens shorts missing = concat (begin ∷ codes "differs, opens " ∷ decimal opens ∷ codes ", shorts " ∷ decimal shorts ∷ codes ", missing " ∷ decimal missing ∷ end ∷ [])
 
+-- the box that fits in no frame: its left, low, right and high side, in u
 abbrev pub frame_line : Bounds → List ℕ
 frame_line b = concat (begin ∷ codes "frame too large: " ∷ signed_decimal b.left ∷ codes " " ∷ signed_decimal b.low ∷ codes " " ∷ signed_decimal b.right ∷ codes " " ∷ signed_decimal b.high ∷ end ∷ [])
 

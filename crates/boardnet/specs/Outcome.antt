@@ -171,7 +171,8 @@ pub record IsMadeRefusal (seed size : ℕ) (line : List ℕ) : Type 0 where
 
 -- ---- Written netlists
 
--- The package fits, its board is within the limits of a package, and this is the written netlist of it for the nets of a right verdict on it, with the status and the line.
+-- The package fits, its board is within the limits of a package, and this is the written netlist of it for the nets of a
+-- right verdict on it, with the status and the line.
 pub record IsWritten (files : Files) (manifest text : List ℕ) (status : ℕ) (line : List ℕ) : Type 0 where
   pub board : PlainBoard
   pub board_is : IsBoardOf files manifest board
@@ -204,11 +205,13 @@ pub record IsGrownRefusal (files : Files) (manifest : List ℕ) (nanometres : �
 
 -- ---- Nets by labels
 
--- Two labelled pieces have one net number exactly where a finite chain of touching pieces joins them. Each probe has the number of its piece plus 1.
+-- Two labelled pieces have one net number exactly where a finite chain of touching pieces joins them. Each probe has the
+-- number of its piece plus 1.
 abbrev pub JoinsPieces : PlainBoard → Verdict → Type 0
 JoinsPieces board verdict = (k l : ℕ) (p q : Probe) → slice_get board.probes k ≡ Some p → slice_get board.probes l ≡ Some q → HaveOneNet verdict k l ↔ Joined board (p.number - 1) (q.number - 1)
 
--- The package fits without its netlist, and this is the text of a right verdict on its labelled board, with a supplement, with its status and its line. No probe is bare.
+-- The package fits without its netlist, and this is the text of a right verdict on its labelled board, with a supplement,
+-- with its status and its line. No probe is bare.
 pub record IsLabelledReport (files : Files) (manifest text : List ℕ) (status : ℕ) (line : List ℕ) : Type 0 where
   pub board : PlainBoard
   pub board_is : IsLabelledBoardOf files manifest board
@@ -234,7 +237,8 @@ pub record IsLabelledRefusal (files : Files) (manifest line : List ℕ) : Type 0
 
 -- ---- Flattened copper files
 
--- The file is held and not too long, it has an image, and this is the text of that image, which every layer reads as the same copper; with the status and the line.
+-- The file is held and not too long, it has an image, and this is the text of that image, which every layer reads as the same
+-- copper; with the status and the line.
 pub record IsFlatText (files : Files) (name text : List ℕ) (status : ℕ) (line : List ℕ) : Type 0 where
   pub bytes : List ℕ
   pub held : IsHeld files name bytes
@@ -274,35 +278,42 @@ pub data Outcome : Type 0 where
   Told : List ℕ → ℕ → List ℕ → Outcome
   Refused : List ℕ → Outcome
 
+-- `check` over the files comes to a report, or to the refusal of the package
 abbrev pub CheckOutcome : Files → Version → List ℕ → Outcome → Type 0
 CheckOutcome files version manifest (Told text status line) = IsReport files version manifest text status line
 CheckOutcome files version manifest (Refused line) = IsRefusal files manifest line
 
+-- `audit` over the files comes to its ruling on the report, or to the refusal of the package or of the report
 abbrev pub AuditOutcome : Files → List ℕ → List ℕ → Outcome → Type 0
 AuditOutcome files manifest report (Told text status line) = IsAnswer files manifest report text status line
 AuditOutcome files manifest report (Refused line) = IsAuditRefusal files manifest report line ⊎ IsMisread files manifest report line
 
+-- `trial` comes to the summary of a made board, or to the refusal of its size or of the made package
 abbrev pub TrialOutcome : ℕ → ℕ → Outcome → Type 0
 TrialOutcome seed size (Told text status line) = IsTrialReport seed size text status line
 TrialOutcome seed size (Refused line) = IsTooLarge size line ⊎ IsMadeRefusal seed size line
 
+-- `write` comes to a netlist of the copper, or to the refusal of the package
 abbrev pub WriteOutcome : Files → List ℕ → Outcome → Type 0
 WriteOutcome files manifest (Told text status line) = IsWritten files manifest text status line
 WriteOutcome files manifest (Refused line) = IsRefusal files manifest line
 
+-- `gaps` comes to the list of gaps, or to the refusal of the package, or of its pieces grown by half the distance
 abbrev pub GapsOutcome : Files → List ℕ → ℕ → Outcome → Type 0
 GapsOutcome files manifest nanometres (Told text status line) = IsGapped files manifest nanometres text status line
 GapsOutcome files manifest nanometres (Refused line) = IsRefusal files manifest line ⊎ IsGrownRefusal files manifest nanometres line
 
+-- `x2` comes to a report by the net names in the copper files, or to the refusal of the package without its netlist
 abbrev pub X2Outcome : Files → List ℕ → Outcome → Type 0
 X2Outcome files manifest (Told text status line) = IsLabelledReport files manifest text status line
 X2Outcome files manifest (Refused line) = IsLabelledRefusal files manifest line
 
+-- `flatten` comes to the text of a copper file's image, or to the refusal of the file
 abbrev pub FlattenOutcome : Files → List ℕ → Outcome → Type 0
 FlattenOutcome files name (Told text status line) = IsFlatText files name text status line
 FlattenOutcome files name (Refused line) = IsUntaken files name line ⊎ IsFlatRefusal files name line
 
--- A trial asks nothing of the package.
+-- Each command has its own outcome. A trial asks nothing of the package.
 abbrev pub OutcomeOf : Files → Command → Outcome → Type 0
 OutcomeOf files (Check version manifest) outcome = CheckOutcome files version manifest outcome
 OutcomeOf files (Audit manifest report) outcome = AuditOutcome files manifest report outcome
@@ -332,7 +343,8 @@ pub record IsReportNext (files : Files) (manifest report name : List ℕ) : Type
   pub board_is : IsBoardOf files manifest board
   pub name_is : name ≡ report
 
--- The name is that of a file of the command's order, and every file before it is held and has no refusal. A trial takes no file of the package.
+-- The name is that of a file of the command's order, and every file before it is held and has no refusal. A trial takes no
+-- file of the package.
 abbrev pub ComesFor : Files → Command → List ℕ → Type 0
 ComesFor files (Check version manifest) name = Comes files manifest name
 ComesFor files (Audit manifest report) name = Comes files manifest name ⊎ IsReportNext files manifest report name

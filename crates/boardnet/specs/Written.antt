@@ -18,7 +18,8 @@ pub record IsNetlistOn (board : PlainBoard) (text : List ℕ) : Type 0 where
   pub right : IsRightOn board verdict
   pub text_is : text ≡ written_netlist_of board.layers verdict.nets board.pieces
 
--- One package has the netlist of another replaced by a text: it holds the same manifest, which lists these files, the netlist last, and the same files but that.
+-- One package has the netlist of another replaced by a text: it holds the same manifest, which lists these files, the netlist
+-- last, and the same files but that.
 pub record HasNetlist (before after : Files) (manifest : List ℕ) (listed : Manifest) (text : List ℕ) : Type 0 where
   pub still_listed : IsManifestFile after manifest listed
   pub front : List Entry

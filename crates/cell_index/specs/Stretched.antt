@@ -20,6 +20,7 @@ corner = record { left = pos 0; low = pos 0 }
 abbrev pub place_of : Side → ℤ → ℤ
 place_of s z = int_min SIDE (int_max (pos 0) (z -ℤ s.from) *ℤ pos s.times)
 
+-- a box and a spot, each place of which is stretched
 abbrev pub box_over : Stretch → Bounds → Bounds
 box_over s b = record { left = place_of s.across b.left; low = place_of s.up b.low; right = place_of s.across b.right; high = place_of s.up b.high }
 

@@ -9,6 +9,7 @@ use Rattle.covers.specs.Boards.{Layout, Span}
 abbrev pub InDisc : ℤ → Point → Type 0
 InDisc s p = (square p.x +ℤ square p.y) ≤ℤ (s *ℤ square p.n)
 
+-- each piece is the disc of radius 1 about (0, 0)
 abbrev pub inner : ℕ → Point → Type 0
 inner i p = InDisc (pos 1) p
 
@@ -18,6 +19,7 @@ halves zero p = InDisc (pos 2) p × (p.x ≤ℤ pos 0)
 halves (suc zero) p = InDisc (pos 2) p × (pos 0 ≤ℤ p.x)
 halves (suc (suc i)) p = InDisc (pos 2) p
 
+-- and that of radius 2
 abbrev pub outer : ℕ → Point → Type 0
 outer i p = InDisc (pos 4) p
 

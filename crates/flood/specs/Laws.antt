@@ -13,8 +13,10 @@ use Rattle.tables.specs.Lists.{AreLeast}
 use Rattle.verdict.specs.Forest.{IsForest}
 use Rattle.verdict.specs.declared.verdict.Twig.{Twig}
 
+-- The nets of placed shapes are those of the board, where its pieces are these shapes.
 abbrev pub NetsAreOfTheBoard : PlainBoard → List (Placed Shape) → List (List Twig) → Type 0
 NetsAreOfTheBoard b items nets = b.pieces ≡ plain_pieces items → IsForest (length items) (IsNear (length items) (TouchAmong InShape items)) nets → IsForest (length b.pieces) (IsNearOn b) nets
 
+-- So are the least pieces under its probes.
 abbrev pub HomesAreOfTheBoard : PlainBoard → List (Placed Shape) → List (Option ℕ) → Type 0
 HomesAreOfTheBoard b items homes = b.pieces ≡ plain_pieces items → AreLeast (length b.probes) (UnderProbe (UnderAmong InShape items) b.probes) homes → AreLeast (length b.probes) (UnderAt b) homes

@@ -12,5 +12,6 @@ gap_line g = codes "gap" ++ word g.layer ++ word g.low ++ word g.high ++ word g.
 abbrev pub head_line : ℕ → ℕ → List ℕ
 head_line nanometres count = codes "gaps" ++ word nanometres ++ word count ++ end
 
+-- that line, and one for each gap
 abbrev pub gaps_text : ℕ → List Gap → List ℕ
 gaps_text nanometres gaps = head_line nanometres (length gaps) ++ flat_map gap_line gaps

@@ -15,5 +15,6 @@ pub record AreGrown (g : ℤ) (pieces : List PlainPiece) (fats : List (Placed Fa
   pub pieces_are : map piece_in fats ≡ pieces
   pub growths : All (λ f. f.shape.grow ≡ g) fats
 
+-- the first and the last layer of a piece
 abbrev pub piece_span : PlainPiece → Span
 piece_span p = record { top = p.top; bottom = p.bottom }

@@ -21,6 +21,7 @@ GapsAreOne = (b : PlainBoard) (g : ℤ) (nets : List (List Twig)) (gaps gaps' : 
 abbrev pub FirstsAreGaps : Type 0
 FirstsAreGaps = (b : PlainBoard) (g : ℤ) (nets : List (List Twig)) (meetings gaps : List Gap) → ((gap : Gap) → Contains meetings gap ↔ IsMeeting (CloseAt b g) nets gap) → AreFirsts (Contains meetings) gaps → AreGaps (CloseAt b g) nets gaps
 
--- Two pieces, grown by g and by h, share a point, and a layer lies from the greater top to the lesser bottom, exactly where the pieces are close on the layer at g + h
+-- Two pieces, grown by g and by h, share a point, and a layer lies from the greater top to the lesser bottom, exactly where
+-- the pieces are close on the layer at g + h
 abbrev pub GrownOnLayer : Type 0
 GrownOnLayer = (p q : PlainPiece) (g h : ℤ) (layer : ℕ) → pos 0 ≤ℤ g → pos 0 ≤ℤ h → ((SharePoint (Grown (InFigure p.figure) g) (Grown (InFigure q.figure) h)) × (max p.top q.top ≤ layer) × (layer < min p.bottom q.bottom + 1)) ↔ AreCloseOn (g +ℤ h) layer p q

@@ -1,4 +1,5 @@
--- Laws of copper files: what the contour and the pieces before a block are by looking back over the commands, and that a file that is cut off is refused.
+-- Laws of copper files: what the contour and the pieces before a block are by looking back over the commands, and that a file
+-- that is cut off is refused.
 use Rattle.std.specs.Prelude.{◌≡◌, ℕ, ◌≤◌, Bool, true, false, if◌then◌else◌, List, [], ◌∷◌, ◌++◌, length, map, take, drop}
 use Rattle.std.specs.List.{AllByRecursion}
 use Rattle.planar.specs.declared.Spot.{Spot}
@@ -17,6 +18,7 @@ use Rattle.gerber_layer.specs.Layer.{IsRefused}
 
 -- ---- The contour by looking back (Gerber Layer Format Specification, 4.10)
 
+-- a `D02`
 abbrev pub is_move : Code → Bool
 is_move Draw = false
 is_move Move = true
@@ -54,6 +56,7 @@ LooksBackToItsContour earlier = region_open earlier ≡ true → contour_before 
 
 -- ---- The pieces before a block by looking back (Gerber Layer Format Specification, 4.12)
 
+-- a step and repeat word
 abbrev pub is_repeat : Command → Bool
 is_repeat (repeats text) = true
 is_repeat other = false

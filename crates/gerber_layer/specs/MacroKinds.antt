@@ -4,6 +4,7 @@ use Rattle.gerber_layer.specs.declared.macro_kind.FlattenKind.{FlattenKind}
 use Rattle.gerber_layer.specs.declared.macro_kind.FlattenKind.TheVariants.{Gerber, BadMacro, MacroTwice, NoMacro, ExposureOff, Turn, Slanted, TooManyRadii}
 use Rattle.gerber_layer.specs.Kinds.{line_of}
 
+-- how a report numbers a kind, and names it: the kinds of a macro come behind those without macros
 abbrev pub flatten_line : FlattenKind → ℕ × List ℕ
 flatten_line (Gerber kind) = line_of kind
 flatten_line BadMacro = (31, codes "BadMacro")

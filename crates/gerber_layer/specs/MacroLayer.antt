@@ -30,6 +30,7 @@ IsReadWithMacros file pieces = (items : List (Item Command)) × AreMacroItems fi
 abbrev pub IsRefusedWithMacros : List ℕ → FlattenKind → ℕ → ℕ → Type 0
 IsRefusedWithMacros file kind number place = (items : List (Item Command)) × AreMacroItems file items × reading.IsRefused (effect_by effect_with_macros flat_place) items kind number place
 
+-- why there are no pieces
 abbrev pub IsMacroFault : List ℕ → FlattenFault → Type 0
 IsMacroFault file (fault.Refused kind number place) = IsRefusedWithMacros file kind number place
 IsMacroFault file fault.NoMemory = Unit {0}

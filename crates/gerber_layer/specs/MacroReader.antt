@@ -16,10 +16,12 @@ use Rattle.gerber_layer.specs.Table.{Known, Effect}
 use Rattle.gerber_layer.specs.MacroTable.{effect_with_macros, gerber}
 use Rattle.gerber_layer.specs.Reader.{Stops, known_of, shown}
 
+-- what an effect comes to, or the fault of a command
 abbrev pub showing_any : Known → Result Seen FlattenKind → Result Effect FlattenKind
 showing_any k (Ok e) = gerber (shown k e)
 showing_any k (Err fault) = Err fault
 
+-- the radii that were met, in order of first use
 abbrev pub radii_in : Radii → List ℕ
 radii_in r = r.radii.keys
 
@@ -33,6 +35,7 @@ abbrev pub any_halt : Halt GerberKind → Halt FlattenKind
 any_halt (halt.Fault kind) = halt.Fault (Gerber kind)
 any_halt halt.NoMemory = halt.NoMemory
 
+-- what stops the reader, as the fault of the file at the command of this number and place
 abbrev pub macro_fault_at : Halt FlattenKind → ℕ → ℕ → FlattenFault
 macro_fault_at (halt.Fault kind) number at = flatten.Refused kind number at
 macro_fault_at halt.NoMemory number at = flatten.NoMemory

@@ -37,11 +37,12 @@ kind_of_macro shape.OffGrid = Gerber kind.OffGrid
 kind_of_macro shape.OutOfRange = Gerber kind.OutOfRange
 kind_of_macro shape.Slanted = Slanted
 
+-- what a macro says, or how its fault is refused
 abbrev pub as_macro : {A : Type 0} → Result A MacroFault → Result A FlattenKind
 as_macro (Ok x) = Ok x
 as_macro (Err fault) = Err (kind_of_macro fault)
 
--- a macro has a name that is none of a standard aperture
+-- a name that no macro may have: an empty one, or that of a standard aperture
 abbrev pub is_reserved : List ℕ → Bool
 is_reserved name = is_empty name || ((is name (codes "C") || is name (codes "R")) || (is name (codes "O") || is name (codes "P")))
 
@@ -49,12 +50,13 @@ is_reserved name = is_empty name || ((is name (codes "C") || is name (codes "R")
 unfoldable pub name_macro : Known → List ℕ → Result Effect FlattenKind
 name_macro k name = unless (is_reserved name) BadMacro (unless (is_some (macro_named k.macros name)) MacroTwice (Ok (begins_macro name)))
 
--- the row of a word of a macro's body: a comment, or a primitive
+-- by what the word says, where the macro has room for one primitive more or has none
 abbrev pub fill_by : Bool → Result (Option PlainPrimitive) MacroFault → Result Effect FlattenKind
 fill_by room (Ok None) = Ok stays
 fill_by room (Ok (Some primitive)) = if room then Ok (fills_macro primitive) else Err BadMacro
 fill_by room (Err fault) = if room then Err (kind_of_macro fault) else Err BadMacro
 
+-- the row of a word of a macro's body: a comment, or a primitive
 unfoldable pub fill_macro : Known → List ℕ → Result Effect FlattenKind
 fill_macro k text = fill_by (has_room k.macros.latest) (primitive_at text)
 
@@ -106,6 +108,7 @@ abbrev pub few_radii : Effect → Result Effect FlattenKind
 few_radii (concludes pieces) = unless (nat_lt 65536 (length (radii_of pieces))) TooManyRadii (Ok (concludes pieces))
 few_radii other = Ok other
 
+-- and a fault stays
 abbrev pub with_few_radii : Result Effect FlattenKind → Result Effect FlattenKind
 with_few_radii what = what >>= few_radii
 

@@ -56,6 +56,7 @@ tool_of (given.Composed name parameters unit blanks) = composed name.now paramet
 abbrev pub body_of : List Primitive → List PlainPrimitive
 body_of body = map plain body
 
+-- a macro without where it lies in memory
 abbrev pub macro_of : Begun → Macro
 macro_of m = record { name = m.name.now; body = body_of m.body.items }
 
@@ -72,10 +73,12 @@ macros_in d = record {
   others = λ name. option_map (λ b. body_of b.items) (get_by (λ k. is name k.now) d.others);
 }
 
+-- a standard aperture is lawful; of one of a macro nothing is asked
 abbrev pub IsLawfulTool : Tool → Type 0
 IsLawfulTool (standard aperture) = IsLawful aperture
 IsLawfulTool (composed name parameters unit) = Unit {0}
 
+-- so of each aperture that is defined
 abbrev pub AreLawful : Dictionary → Type 0
 AreLawful d = (n : ℕ) → IfSome (defined_in d n) IsLawfulTool
 
@@ -96,6 +99,7 @@ IsMarked m (given.Composed name parameters unit marks) = AreBlankIn (macro_named
 abbrev pub kept_in : Dictionary → ℕ → Option Given
 kept_in d n = get nat_eq d.tools n
 
+-- so of each aperture that is kept
 abbrev pub AreMarked : Dictionary → Type 0
 AreMarked d = (n : ℕ) → IfSome (kept_in d n) (IsMarked (macros_in d))
 
@@ -127,6 +131,7 @@ abbrev pub contour_of : Option Contour → List Spot
 contour_of None = []
 contour_of (Some c) = points_of c
 
+-- where the pieces of a reader come to stand, and what it knows before the next command
 abbrev pub place_of : Reader → Place
 place_of r = record { layer = r.layer; file = r.file; room = r.room }
 
@@ -158,10 +163,12 @@ shown k seen.Ends = ended_block k >>= λ pieces. Ok (concludes pieces)
 shown k seen.Opens = Ok opens
 shown k seen.Leaves = closing k >>= λ area. Ok (leaves area)
 
+-- and the fault of a command stays
 abbrev pub showing : Known → Result Seen GerberKind → Result Effect GerberKind
 showing k (Ok e) = shown k e
 showing k (Err fault) = Err fault
 
+-- where an effect leads, and the block that it opens
 abbrev pub leads : Seen → Option Spot
 leads (seen.Moves to) = Some to
 leads (seen.Draws to shape) = Some to
@@ -214,6 +221,7 @@ pub record AreCounted (r : Reader) : Type 0 where
   pub room : r.room.pieces < 2 ^ 32
   pub start : r.start ≤ length r.pieces.items
 
+-- what a reader keeps between two commands
 pub record IsLawfulReader (r : Reader) : Type 0 where
   pub settings : AreLawfulSettings r.settings
   pub dictionary : AreLawful r.dictionary
@@ -247,6 +255,7 @@ pub record Carries (old : Reader) (e : Effect) (new : Reader) : Type 0 where
   pub counts : new.commands ≡ old.commands
   pub place : place_of new ≡ place_of old
 
+-- What a command does is no fault, and the reader has carried it out.
 pub record CarriesOut (old : Reader) (what : Result Effect GerberKind) (new : Reader) : Type 0 where
   pub effect_is : Effect
   pub is : what ≡ Ok effect_is
@@ -343,6 +352,7 @@ pub record IsNew (p : Place) (r : Reader) : Type 0 where
   pub counts : r.commands ≡ 0
   pub place : place_of r ≡ p
 
+-- what stops the reader, as the fault of the file at the command of this number and place
 abbrev pub fault_at : Halt GerberKind → ℕ → ℕ → LayerFault
 fault_at (halt.Fault kind) number at = layer.Refused kind number at
 fault_at halt.NoMemory number at = layer.NoMemory

@@ -42,6 +42,7 @@ abbrev pub y_in : Command → Option (List ℕ)
 y_in (operates x y code) = y
 y_in other = None
 
+-- an end word, and a definition of an aperture
 abbrev pub is_end : Command → Bool
 is_end ends = true
 is_end other = false
@@ -77,11 +78,12 @@ region_in other = None
 abbrev pub region_open : List Command → Bool
 region_open earlier = last_or false region_in earlier
 
--- the block that a step and repeat word opens, if it has parameters
+-- the block, and none where the word is refused
 abbrev pub ok_block : Result (Option Repeat) GerberKind → Option Repeat
 ok_block (Ok next) = next
 ok_block (Err fault) = None
 
+-- the block that a step and repeat word opens, if it has parameters
 abbrev pub block_in : Command → Option Measure → Option (Option Repeat)
 block_in (repeats text) unit = Some (ok_block (next_block unit text))
 block_in other unit = None
@@ -91,21 +93,23 @@ abbrev pub block_open : List Command → Option Repeat
 block_open [] = None
 block_open (c ∷ earlier) = latest (block_in c (unit_before earlier)) (block_open earlier)
 
+-- an end word stands before
 abbrev pub has_ended : List Command → Bool
 has_ended earlier = list_any is_end earlier
 
--- the value of a coordinate, in the format and the unit in force
+-- the value, and here where it is refused
 abbrev pub value_or : ℤ → Result ℤ GerberKind → ℤ
 value_or here (Ok z) = z
 value_or here (Err fault) = here
 
+-- the value of a coordinate in the format and the unit in force; here, where none stands or it has no value
 abbrev pub value_in : Option (List ℕ) → Option Format → Option Measure → ℤ → ℤ
 value_in None format unit here = here
 value_in (Some digits) (Some format) (Some unit) here = value_or here (coordinate format unit here (Some digits))
 value_in (Some digits) (Some format) None here = here
 value_in (Some digits) None unit here = here
 
--- the value of the last coordinate, or 0
+-- the value of the last X, and of the last Y, or 0
 abbrev pub x_before : List Command → ℤ
 x_before [] = pos 0
 x_before (c ∷ earlier) = value_in (x_in c) (format_before earlier) (unit_before earlier) (x_before earlier)
@@ -118,6 +122,7 @@ y_before (c ∷ earlier) = value_in (y_in c) (format_before earlier) (unit_befor
 abbrev pub point_before : List Command → Spot
 point_before earlier = record { x = x_before earlier; y = y_before earlier }
 
+-- all settings that the next command finds
 abbrev pub settings_before : List Command → Settings
 settings_before earlier = record {
   format = format_before earlier;
@@ -135,7 +140,7 @@ abbrev pub lengthened : List Spot → Spot → Spot → List Spot
 lengthened [] from to = from ∷ to ∷ []
 lengthened (a ∷ rest) from to = (a ∷ rest) ++ to ∷ []
 
--- The contour so far: the current point before the first `D01` in the open region since the last `G36` or `D02`, and where each leads.
+-- behind an operation: in a region a `D01` adds an edge, and a `D02` ends the contour
 abbrev pub drawn : Code → Bool → List Spot → Spot → Spot → List Spot
 drawn Draw true contour from to = lengthened contour from to
 drawn Draw false contour from to = contour
@@ -143,21 +148,24 @@ drawn Move true contour from to = []
 drawn Move false contour from to = contour
 drawn Flash inside contour from to = contour
 
+-- the contour behind a command
 abbrev pub contour_by : Command → Bool → List Spot → Spot → Spot → List Spot
 contour_by (operates x y code) inside contour from to = drawn (code_of code) inside contour from to
 contour_by opens_region inside contour from to = []
 contour_by closes_region inside contour from to = []
 contour_by other inside contour from to = contour
 
+-- The contour so far: the point before the first `D01` since the last `G36` or `D02` of the region, and where each `D01` leads.
 abbrev pub contour_before : List Command → List Spot
 contour_before [] = []
 contour_before (c ∷ earlier) = contour_by c (region_open earlier) (contour_before earlier) (point_before earlier) (point_before (c ∷ earlier))
 
--- what a definition defines n as
+-- the aperture, where n is its number
 abbrev pub as_number : ℕ → Option (ℕ × Tool) → Option Tool
 as_number n (Some made) = if made.0 == n then Some made.1 else None
 as_number n None = None
 
+-- what a command defines n as, in the unit in force
 abbrev pub definition_in : Command → Option Measure → ℕ → Option Tool
 definition_in (defines text) (Some unit) n = as_number n (tool_in text unit)
 definition_in (defines text) None n = None
@@ -168,17 +176,19 @@ abbrev pub defined_before : List Command → ℕ → Option Tool
 defined_before [] n = None
 defined_before (c ∷ earlier) n = option_or (definition_in c (unit_before earlier) n) (defined_before earlier n)
 
--- the macros: `AM` begins one, and the words of its body give it primitives
+-- a word of a body gives the last macro its primitive, if it is one
 abbrev pub with_body : Macros → Result (Option PlainPrimitive) MacroFault → Macros
 with_body m (Ok (Some p)) = filled_up m p
 with_body m (Ok None) = m
 with_body m (Err fault) = m
 
+-- the macros behind a command
 abbrev pub macros_by : Command → Macros → Macros
 macros_by (names_macro name) m = begun m name
 macros_by (body_word text) m = with_body m (primitive_at text)
 macros_by other m = m
 
+-- the macros: `AM` begins one, and the words of its body give it primitives
 abbrev pub macros_before : List Command → Macros
 macros_before [] = record { latest = None; others = λ name. None }
 macros_before (c ∷ earlier) = macros_by c (macros_before earlier)

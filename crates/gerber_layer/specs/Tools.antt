@@ -32,11 +32,12 @@ pub record Macros : Type 0 where
   pub latest : Option Macro
   pub others : List ℕ → Option (List PlainPrimitive)
 
--- the body of the macro of a name
+-- the body of the last macro, where that has the name, and else the other
 abbrev pub latest_or : Option Macro → Option (List PlainPrimitive) → List ℕ → Option (List PlainPrimitive)
 latest_or None other name = other
 latest_or (Some m) other name = if is m.name name then Some m.body else other
 
+-- the body of the macro of a name
 abbrev pub macro_named : Macros → List ℕ → Option (List PlainPrimitive)
 macro_named m name = latest_or m.latest (m.others name) name
 
@@ -45,13 +46,15 @@ abbrev pub has_room : Option Macro → Bool
 has_room None = false
 has_room (Some m) = nat_lt (length m.body) 256
 
--- a macro is begun, or the last gets a primitive more
+-- a macro of this name is begun, and the one that was last is among the others
 abbrev pub begun : Macros → List ℕ → Macros
 begun m name = record { latest = Some (record { name = name; body = [] }); others = macro_named m }
 
+-- the macro with a primitive more
 abbrev pub longer : PlainPrimitive → Macro → Macro
 longer p m = record { name = m.name; body = m.body ++ p ∷ [] }
 
+-- the last macro gets a primitive more
 abbrev pub filled_up : Macros → PlainPrimitive → Macros
 filled_up m p = record { latest = option_map (longer p) m.latest; others = m.others }
 
@@ -77,12 +80,12 @@ parameters_in text =
     if list_any is_comma text then decimals_in (count_by is_x (after_first is_comma text) + 1) (after_first is_comma text)
     else Some []
 
--- what such a word defines
+-- the number and the aperture that such a word defines
 abbrev pub composed_in : List ℕ → Measure → Option (ℕ × Tool)
 composed_in word unit =
     option_map (λ parameters. (digits_value 10 (number_digits word), composed (name_of (name_text word)) parameters unit)) (parameters_in (name_text word))
 
--- what an `AD` word defines: a standard aperture, or one of a macro
+-- a standard aperture, or the other where the name is none of a standard aperture
 abbrev pub tool_by : Result (ℕ × Aperture) ApertureFault → Option (ℕ × Tool) → Option (ℕ × Tool)
 tool_by (Ok made) other = Some (made.0, standard made.1)
 tool_by (Err aperture.Macro) other = other
@@ -93,5 +96,6 @@ tool_by (Err aperture.OffGrid) other = None
 tool_by (Err aperture.OutOfRange) other = None
 tool_by (Err aperture.Number) other = None
 
+-- what an `AD` word defines: a standard aperture, or one of a macro
 abbrev pub tool_in : List ℕ → Measure → Option (ℕ × Tool)
 tool_in word unit = tool_by (aperture_at word unit) (composed_in word unit)

@@ -44,6 +44,7 @@ attribute_of word = if word.extended then with_fields word.text (attribute_kind 
 abbrev pub plain_attribute : Attribute → PlainAttribute
 plain_attribute a = record { kind = a.kind; fields = a.text.now }
 
+-- and where there is one
 abbrev pub plain_attributes : Option Attribute → Option PlainAttribute
 plain_attributes None = None
 plain_attributes (Some a) = Some (plain_attribute a)

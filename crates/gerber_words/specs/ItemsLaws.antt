@@ -5,6 +5,7 @@ use Rattle.gerber_words.specs.Words.{Ahead, Entry, Stop, start}
 use Rattle.gerber_words.specs.Laws.{HasOneReadingAhead}
 use Rattle.gerber_words.specs.Items.{AreItems, items_with}
 
+-- there is a list of items, and there is no other
 pub some_items : {A : Type 0} → ((a : Ahead) → HasOneReadingAhead a) → (read : Entry → A) (conclude : Stop → A) (file : List ℕ) → (items : List (Item A)) × AreItems read conclude file items
 some_items one read conclude file =
     let w = one (start file) in

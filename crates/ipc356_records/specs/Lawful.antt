@@ -8,6 +8,7 @@ abbrev pub IsName : Option (List ℕ) → Type 0
 IsName None = Unit {0}
 IsName (Some name) = IsText name
 
+-- a test record whose name, where it has one, can be kept; nothing is asked of other lines
 abbrev pub IsLawfulForm : Form → Type 0
 IsLawfulForm (tests fields) = IsName fields.name
 IsLawfulForm other = Unit {0}

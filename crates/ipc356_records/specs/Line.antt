@@ -25,6 +25,7 @@ pub data Form : Type 0 where
   unknown : Form
   finishes : Form
 
+-- what was seen in a test record and in a line, the name as its bytes
 abbrev pub view_fields : SeenFields → TestFields
 view_fields f = record { name = option_copied f.name; access = f.access; x = f.x; y = f.y }
 

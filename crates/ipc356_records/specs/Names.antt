@@ -3,6 +3,7 @@ use Rattle.std.specs.Prelude.{ℕ, Bool, nat_eq, if◌then◌else◌, List, [], 
 use Rattle.std.specs.List.{list_any, position_or_len}
 use Rattle.std.specs.Cmp.Lexicographic.{pointwise}
 
+-- the same name
 abbrev pub is_name : List ℕ → List ℕ → Bool
 is_name name other = pointwise nat_eq name other
 

@@ -32,6 +32,7 @@ pub record Netlist : Type 0 where
   pub probes : List Probe
   pub names : List (List ℕ)
 
+-- the netlist of lines on a board of so many layers
 abbrev pub netlist_of : ℕ → List Form → Netlist
 netlist_of layers earlier = record { probes = probes_of layers earlier; names = names_of earlier }
 
@@ -51,6 +52,7 @@ IsRead file layers probes names = reading.IsRead (effect_at layers) (netlist_of 
 abbrev pub IsRefused : List ℕ → ℕ → RecordKind → ℕ → Type 0
 IsRefused file layers why line = (count : ℕ) × reading.IsRefused (effect_at layers) (items file) why count line
 
+-- why there is no netlist: the file is refused, or memory is wanted
 abbrev pub IsFault : List ℕ → ℕ → RecordFault → Type 0
 IsFault file layers (fault.Refused why line) = IsRefused file layers why line
 IsFault file layers fault.NoMemory = Unit {0}

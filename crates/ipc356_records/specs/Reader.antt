@@ -15,6 +15,7 @@ use Rattle.ipc356_records.specs.Names.{with_name}
 use Rattle.ipc356_records.specs.NameTable.{names_in}
 use Rattle.ipc356_records.specs.Table.{Known, Effect, stays, sets, closes, adds, effect, probes_of_effect}
 
+-- the effect that was seen, the name as its bytes, or the fault of a line
 abbrev pub shown : Seen → Effect
 shown seen.Stays = stays
 shown (seen.Sets unit) = sets unit
@@ -25,6 +26,7 @@ abbrev pub showing : Result Seen RecordKind → Result Effect RecordKind
 showing (Ok e) = Ok (shown e)
 showing (Err why) = Err why
 
+-- what a reader knows before the next line
 abbrev pub known_of : Reader → Known
 known_of r = record {
   unit = r.unit;
@@ -57,6 +59,7 @@ pub record Pushes (old : Reader) (more : List Probe) (new : Reader) : Type 0 whe
   pub is : new ≡ record old { probes = new.probes }
   pub probes : new.probes ≡ old.probes ++ more
 
+-- what a reader keeps between two lines: at most 200,000 test records, and no more names than records
 pub record IsLawfulReader (r : Reader) : Type 0 where
   pub records : r.records ≤ 200000
   pub few : length (names_in r.names) ≤ r.records
@@ -70,6 +73,7 @@ IsFit r (sets unit) = Unit {0}
 IsFit r closes = Unit {0}
 IsFit r (adds name access at) = IsText name × (access ≤ r.layers) × (r.records < 200000)
 
+-- why the reader stops at a line: its fault, or want of memory
 abbrev pub Halts : Known → Form → Halt RecordKind → Type 0
 Halts k form (halt.Fault why) = effect k form ≡ Err why
 Halts k form halt.NoMemory = Unit {0}
@@ -79,6 +83,7 @@ pub record IsNew (layers : ℕ) (r : Reader) : Type 0 where
   pub known : known_of r ≡ record { unit = None; records = 0; names = []; ended = false; layers = layers }
   pub probes : r.probes ≡ []
 
+-- what stops the reader, as the fault of the file at the line of this number
 abbrev pub fault_at : Halt RecordKind → ℕ → RecordFault
 fault_at (halt.Fault why) line = fault.Refused why line
 fault_at halt.NoMemory line = fault.NoMemory

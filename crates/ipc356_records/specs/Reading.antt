@@ -44,7 +44,7 @@ unfoldable pub coordinate_in : ℕ → ℕ → List ℕ → Option Coordinate
 coordinate_in letter at text =
     if column at text == letter then signed_number (column (at + 1) text) (number_of (columns (at + 2) (at + 7) text)) else None
 
--- each field at its columns
+-- the fields of a test record, each at its columns
 unfoldable pub fields_in : List ℕ → TestFields
 fields_in text = record {
   name = name_of (trimmed (part name_from name_to text));
@@ -73,7 +73,7 @@ is_other text =
     begins text (codes "367") || (begins text (codes "378") || (begins text (codes "379") || (begins text (codes "389")
     || (begins text (codes "078") || (begins text (codes "079") || begins text (codes "089"))))))
 
--- a record with its code in columns 1 to 3
+-- a record by its code in columns 1 to 3 (IPC-D-356A): `999` ends, `017` and `027` continue, `317` and `327` test
 unfoldable pub coded : List ℕ → Form
 coded text =
     if begins text (codes "999") then ends
@@ -82,6 +82,7 @@ coded text =
     else (if is_other text then unread
     else unknown)))
 
+-- What a line is: blank, a comment where it begins with `C`, a parameter record where with `P`, and else a record by its code.
 -- Columns past the last are not read.
 unfoldable pub form_of : List ℕ → Form
 form_of text =

@@ -14,17 +14,19 @@ pub record IsLine (r : Record) (line : PlainLine) : Type 0 where
   pub number : r.line ≡ line.number
   pub text : r.text.now ≡ line.text
 
--- The answer is the first line ahead, and then the others lie ahead; or there is none.
+-- the record is the first line ahead, and then the others lie ahead
 pub record GivesLine (old : Ahead) (r : Record) (new : Ahead) : Type 0 where
   pub line : PlainLine
   pub is : IsLine r line
   pub first : lines_from old ≡ line ∷ lines_from new
   pub counts : new.number ≡ old.number + 1
 
+-- no line lies ahead, and that stays so
 pub record GivesNone (old new : Ahead) : Type 0 where
   pub none : lines_from old ≡ []
   pub stays : new ≡ old
 
+-- The answer is the next line, or there is none.
 abbrev pub Gives : Ahead → Option Record → Ahead → Type 0
 Gives old (Some r) new = GivesLine old r new
 Gives old None new = GivesNone old new

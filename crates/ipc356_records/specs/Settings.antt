@@ -12,10 +12,12 @@ abbrev pub unit_in : Form → Option Measure
 unit_in (units unit) = unit
 unit_in other = None
 
+-- the end code
 abbrev pub is_end : Form → Bool
 is_end ends = true
 is_end other = false
 
+-- a test record
 abbrev pub is_record : Form → Bool
 is_record (tests fields) = true
 is_record other = false
@@ -25,6 +27,7 @@ abbrev pub name_in : Form → Option (List ℕ)
 name_in (tests fields) = fields.name
 name_in other = None
 
+-- the names with that of a line, if it has one
 abbrev pub with_name_if : Option (List ℕ) → List (List ℕ) → List (List ℕ)
 with_name_if None names = names
 with_name_if (Some name) names = with_name name names

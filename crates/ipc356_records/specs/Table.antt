@@ -83,6 +83,7 @@ behind (tests fields) = Err kind.AfterEnd
 behind unknown = Err kind.AfterEnd
 behind finishes = Ok stays
 
+-- what a line does, or its fault: by the table, and behind the end code by the rule for what stands there
 unfoldable pub effect : Known → Form → Result Effect RecordKind
 effect k form = if k.ended then behind form else row k form
 

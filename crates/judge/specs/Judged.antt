@@ -8,6 +8,7 @@ use Rattle.verdict.specs.Forest.{pieces_of}
 use Rattle.verdict.specs.Seats.{net_by}
 use Rattle.verdict.specs.Places.{twig_at}
 
+-- the line of a probe with its home
 abbrev pub line_by : List ℕ → Probe → Option ℕ → PointLine
 line_by numbers p home = record { number = p.number; layer = p.layer; name = p.name; net = net_by numbers home }
 
@@ -24,6 +25,7 @@ pub record HasAbove (net : List Twig) (k : ℕ) : Type 0 where
   pub before : place < k
   pub named : (twig_at net k).parent ≡ Some (twig_at net place).piece
 
+-- So has each twig but the first.
 abbrev pub HangAbove : List Twig → Type 0
 HangAbove net = (k : ℕ) → 0 < k → k < length net → HasAbove net k
 

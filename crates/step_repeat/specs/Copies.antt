@@ -21,7 +21,8 @@ block_at r block column row = moved_block (pos column *ℤ r.dx) (pos row *ℤ r
 abbrev pub column_of : Repeat → List PlainPiece → ℕ → List PlainPiece
 column_of r block column = flat_map (block_at r block column) (range_with_len 0 r.up)
 
--- the pieces that stand for a block (Gerber Layer Format Specification, step and repeat): column by column, and in each row by row
+-- the pieces that stand for a block (Gerber Layer Format Specification, step and repeat): column by column, and in each row
+-- by row
 unfoldable pub copies_of : Repeat → List PlainPiece → List PlainPiece
 copies_of r block = flat_map (column_of r block) (range_with_len 0 r.across)
 
@@ -46,11 +47,12 @@ room_fault r room block =
     else (if nat_lt room.edges (r.across * r.up * edges_in block) then Some too_many_edges
     else None)
 
+-- the copies, unless they have no room or one leaves the range of 1 m
 abbrev pub placed_copies : List PlainPiece → Option Refusal → Result (List PlainPiece) Refusal
 placed_copies copies (Some why) = Err why
 placed_copies copies None = if are_placed copies then Ok copies else Err out_of_range
 
--- the copies of a block, where they have room and each stays within 1 m
+-- the copies of a block, or why it has none; want of room is told before the range
 unfoldable pub copies_at : Repeat → Room → List PlainPiece → Result (List PlainPiece) Refusal
 copies_at r room block = placed_copies (copies_of r block) (room_fault r room block)
 

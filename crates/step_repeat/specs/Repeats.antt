@@ -37,6 +37,7 @@ is_j b = b == 74
 abbrev pub is_y : ℕ → Bool
 is_y b = b == 89
 
+-- no count is 0
 abbrev pub not_zero : ℕ → Result ℕ RepeatFault
 not_zero n = if n == 0 then Err BadText else Ok n
 
@@ -46,6 +47,7 @@ count_at digits =
     if length digits == 0 || nat_lt 9 (length digits) then Err BadText
     else (if list_all is_decimal_digit digits then not_zero (digits_value 10 digits) else Err BadText)
 
+-- the decimal that a text is
 unfoldable pub decimal_at : List ℕ → Result Fraction RepeatFault
 decimal_at text = if is_decimal text then Ok (fraction text) else Err BadText
 

@@ -3,7 +3,8 @@ use Rattle.std.specs.Prelude.{ℕ, ◌≡◌, ◌<◌, ◌⊎◌, length}
 use Rattle.tables.specs.Chains.{AreJoined}
 use Rattle.tables.specs.Tables.{Tables, Stands}
 
--- `near` has pieces of the board and lists each pair both ways; `beneath` has pieces of the board, and of two under one test point each is near the other
+-- `near` has pieces of the board and lists each pair both ways; `beneath` has pieces of the board, and of two under one test
+-- point each is near the other
 pub record AreConsistent (t : Tables) : Type 0 where
   pub known : (p q : ℕ) → Stands t.near p q → q < length t.near
   pub both : (p q : ℕ) → Stands t.near p q → Stands t.near q p

@@ -17,7 +17,8 @@ pub record Source : Type 0 where
   pub top : ℕ
   pub bottom : ℕ
 
--- for each piece the other pieces that touch it, for each test point the pieces under it, the test points, the pieces' sources, the names
+-- for each piece the other pieces that touch it, for each test point the pieces under it, the test points, the pieces'
+-- sources, the names
 pub record Tables : Type 0 where
   pub near : List (List ℕ)
   pub beneath : List (List ℕ)

@@ -6,6 +6,7 @@ use Rattle.std.specs.List.{prefix_len, suffix_len}
 abbrev pub is_blank : ℕ → Bool
 is_blank b = b == 9 || b == 32
 
+-- a text without the blanks at its front, at its back, and at both ends
 abbrev pub without_front : List ℕ → List ℕ
 without_front text = drop (prefix_len is_blank text) text
 

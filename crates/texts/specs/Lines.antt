@@ -33,6 +33,7 @@ pub record Ahead : Type 0 where
   pub at : ℕ
   pub bytes : List ℕ
 
+-- the first byte of a file, which is of line 1
 abbrev pub start : List ℕ → Ahead
 start file = record { number = 1; at = 0; bytes = file }
 
@@ -40,5 +41,6 @@ start file = record { number = 1; at = 0; bytes = file }
 unfoldable pub lines_from : Ahead → List PlainLine
 lines_from a = lines_in a.number a.at (slice_split is_feed a.bytes)
 
+-- all lines of a file
 abbrev pub lines_of : List ℕ → List PlainLine
 lines_of file = lines_from (start file)

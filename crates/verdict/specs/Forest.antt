@@ -3,12 +3,14 @@
 use Rattle.std.specs.Prelude.{◌≡◌, ◌≢◌, ℕ, ◌<◌, ◌≤◌, List, [], ◌∷◌, ◌++◌, map, slice_index_or, All, AllPairs, Contains, Some, None}
 use Rattle.verdict.specs.declared.verdict.Twig.{Twig}
 
+-- the piece of a twig, and the pieces of a net in the order of its twigs
 abbrev pub piece_of : Twig → ℕ
 piece_of t = t.piece
 
 abbrev pub pieces_of : List Twig → List ℕ
 pieces_of net = map piece_of net
 
+-- net i, and the empty one past the last
 abbrev pub net_at : List (List Twig) → ℕ → List Twig
 net_at nets i = slice_index_or nets i []
 
@@ -16,6 +18,7 @@ net_at nets i = slice_index_or nets i []
 abbrev pub Holds : List (List Twig) → ℕ → ℕ → Type 0
 Holds nets i piece = Contains (pieces_of (net_at nets i)) piece
 
+-- the piece of the first twig of a net that has one
 abbrev pub first_piece : List Twig → ℕ
 first_piece [] = 0
 first_piece (t ∷ rest) = t.piece
@@ -53,6 +56,7 @@ pub record StandOnce (count : ℕ) (nets : List (List Twig)) : Type 0 where
 abbrev pub StandApart : (ℕ → ℕ → Type 0) → List (List Twig) → Type 0
 StandApart near nets = (i j p q : ℕ) → Holds nets i p → Holds nets j q → near p q → i ≡ j
 
+-- The nets are spanning trees of the classes of touching pieces: clauses 1 to 3.
 pub record IsForest (count : ℕ) (near : ℕ → ℕ → Type 0) (nets : List (List Twig)) : Type 0 where
   pub trees : AreTrees count near nets
   pub covers : StandOnce count nets

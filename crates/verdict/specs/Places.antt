@@ -2,6 +2,7 @@
 use Rattle.std.specs.Prelude.{◌≡◌, ℕ, ◌<◌, List, length, slice_index_or, None}
 use Rattle.verdict.specs.declared.verdict.Twig.{Twig}
 
+-- twig k of a net, which past the last is one of piece 0 without a parent
 abbrev pub twig_at : List Twig → ℕ → Twig
 twig_at net k = slice_index_or net k (record { piece = 0; parent = None })
 

@@ -19,16 +19,18 @@ use Rattle.verdict.specs.declared.verdict.SourceLine.{SourceLine}
 use Rattle.verdict.specs.declared.verdict.Supplement.{Supplement}
 use Rattle.verdict.specs.declared.verdict.Verdict.{Verdict}
 
+-- and then, from what was read; where that is nothing, nothing
 infixl 10 ◌>>=◌
 abbrev pub ◌>>=◌ : {A B : Type 0} → Option A → (A → Option B) → Option B
 None >>= f = None
 (Some x) >>= f = f x
 
--- What a function returned, seen by view, is what reading gives, unless memory ran out.
+-- a function fails only where reading gives nothing, or memory ran out
 abbrev pub Fails : {Y : Type 0} → ReadFault → Option Y → Type 0
 Fails NotAReport read = read ≡ None
 Fails NoMemory read = Unit {0}
 
+-- What a function returned, seen by view, is what reading gives, unless memory ran out.
 abbrev pub Gives : {X Y : Type 0} → (X → Y) → Result X ReadFault → Option Y → Type 0
 Gives view (Ok x) read = read ≡ Some (view x)
 Gives view (Err fault) read = Fails fault read
@@ -39,6 +41,7 @@ Gives view (Err fault) read = Fails fault read
 unfoldable pub behind : List ℕ → List ℕ → Option (List ℕ)
 behind front bytes = if pointwise ◌==◌ (take (length front) bytes) front then Some (drop (length front) bytes) else None
 
+-- the digits in front
 abbrev pub run_of : List ℕ → List ℕ
 run_of bytes = take_while is_decimal_digit bytes
 
@@ -52,6 +55,7 @@ is_numeral (c ∷ d ∷ rest) = not (c == 48)
 unfoldable pub value_of : List ℕ → Option ℕ
 value_of digits = if nat_lt (digits_value 10 digits) (2 ^ 64) then Some (digits_value 10 digits) else None
 
+-- a number below 2^64, and one below 2^32
 unfoldable pub wide_at : List ℕ → Option (ℕ × List ℕ)
 wide_at bytes =
     if is_numeral (run_of bytes) then (value_of (run_of bytes) >>= λ n. Some (n, drop (prefix_len is_decimal_digit bytes) bytes)) else None
@@ -61,12 +65,13 @@ number_at bytes = do
   n ← wide_at bytes
   if nat_lt n.0 (2 ^ 32) then Some n else None
 
--- a blank and a number below 2^32, 2^8 or 2^64
+-- a blank and a number below 2^32
 unfoldable pub word_at : List ℕ → Option (ℕ × List ℕ)
 word_at bytes = do
   rest ← behind (32 ∷ []) bytes
   number_at rest
 
+-- and one below 2^8
 unfoldable pub layer_at : List ℕ → Option (ℕ × List ℕ)
 layer_at bytes = do
   n ← word_at bytes
@@ -93,11 +98,12 @@ abbrev pub negated : ℕ → Option ℤ
 negated zero = None
 negated (suc m) = if nat_lt m (2 ^ 63) then Some (negsuc m) else None
 
--- a number below 2^63, or a minus and a number from 1 to 2^63
+-- by what stands behind a minus, where there is one
 abbrev pub signed_behind : Option (List ℕ) → List ℕ → Option (ℤ × List ℕ)
 signed_behind None bytes = wide_at bytes >>= λ n. if nat_lt n.0 (2 ^ 63) then Some (pos n.0, n.1) else None
 signed_behind (Some rest) bytes = wide_at rest >>= λ n. negated n.0 >>= λ z. Some (z, n.1)
 
+-- a number below 2^63, or a minus and a number from 1 to 2^63
 unfoldable pub signed_at : List ℕ → Option (ℤ × List ℕ)
 signed_at bytes = signed_behind (behind (45 ∷ []) bytes) bytes
 
@@ -107,30 +113,37 @@ signed_word_at bytes = do
   rest ← behind (32 ∷ []) bytes
   signed_at rest
 
+-- by what stands behind a colon, where there is one
 abbrev pub parent_behind : Option (List ℕ) → List ℕ → Option (Option ℕ × List ℕ)
 parent_behind None bytes = Some (None, bytes)
 parent_behind (Some rest) bytes = number_at rest >>= λ n. Some (Some n.0, n.1)
 
+-- a colon and a parent, or no parent
 unfoldable pub parent_at : List ℕ → Option (Option ℕ × List ℕ)
 parent_at bytes = parent_behind (behind (58 ∷ []) bytes) bytes
 
+-- a blank, a piece, and its parent where it has one
 unfoldable pub twig_at : List ℕ → Option (Twig × List ℕ)
 twig_at bytes = do
   piece ← word_at bytes
   parent ← parent_at piece.1
   Some (record { piece = piece.0; parent = parent.0 }, parent.1)
 
+-- by what stands behind ` -`, where it stands there
 abbrev pub net_behind : Option (List ℕ) → List ℕ → Option (Option ℕ × List ℕ)
 net_behind (Some rest) bytes = Some (None, rest)
 net_behind None bytes = word_at bytes >>= λ n. Some (Some n.0, n.1)
 
+-- the net of a point, or ` -` where it has none
 unfoldable pub net_number_at : List ℕ → Option (Option ℕ × List ℕ)
 net_number_at bytes = net_behind (behind (codes " -") bytes) bytes
 
+-- whether a blank comes next
 abbrev pub begins_blank : List ℕ → Bool
 begins_blank [] = false
 begins_blank (b ∷ bytes) = b == 32
 
+-- an item, and those that were read behind it
 abbrev pub with_first : {X : Type 0} → X → Option (List X × List ℕ) → Option (List X × List ℕ)
 with_first x read = read >>= λ xs. Some (x ∷ xs.0, xs.1)
 
@@ -139,6 +152,7 @@ unfoldable pub words_at : {X : Type 0} → (List ℕ → Option (X × List ℕ))
 words_at at zero bytes = None
 words_at at (suc k) bytes = if begins_blank bytes then (at bytes >>= λ x. with_first x.0 (words_at at k x.1)) else Some ([], bytes)
 
+-- a line feed
 abbrev pub is_feed : ℕ → Bool
 is_feed b = b == 10
 
@@ -160,6 +174,7 @@ heading_at title n bytes = do
   number ← behind (32 ∷ []) rest
   behind (decimal n) number
 
+-- the lines of nets, names, points, opens and branches, each with what stands behind it
 unfoldable pub net_at : ℕ → List ℕ → Option (List Twig × List ℕ)
 net_at n bytes = do
   rest ← heading_at (codes "net") n bytes
@@ -207,6 +222,7 @@ unfoldable pub items_at : {X : Type 0} → (ℕ → List ℕ → Option (X × Li
 items_at at zero n bytes = Some ([], bytes)
 items_at at (suc k) n bytes = at n bytes >>= λ x. with_first x.0 (items_at at k (n + 1) x.1)
 
+-- the line of a short and its branches
 unfoldable pub short_at : ℕ → List ℕ → Option (Short × List ℕ)
 short_at n bytes = do
   rest ← behind (codes "short") bytes
@@ -215,9 +231,11 @@ short_at n bytes = do
   branches ← items_at branch_at count.0 0 count.1
   Some (record { net = net.0; branches = branches.0 }, branches.1)
 
+-- the line of a point without copper
 abbrev pub bare_at : ℕ → List ℕ → Option (ℕ × List ℕ)
 bare_at n bytes = titled_at (codes "bare") bytes
 
+-- the lines of the supplement: the place of a point, and the origin and span of a piece
 unfoldable pub spot_at : ℕ → List ℕ → Option (SpotLine × List ℕ)
 spot_at n bytes = do
   rest ← heading_at (codes "spot") n bytes
@@ -246,14 +264,16 @@ section_at at title bytes = do
   count ← count_at rest
   items_at at count.0 0 count.1
 
--- whether the first line tells of a supplement
+-- by what stands behind the first line of version 1, where it stands there
 abbrev pub first_behind : Option (List ℕ) → List ℕ → Option (Bool × List ℕ)
 first_behind (Some rest) text = Some (false, rest)
 first_behind None text = behind (codes "boardnet 2" ++ 10 ∷ []) text >>= λ rest. Some (true, rest)
 
+-- whether the first line tells of a supplement
 unfoldable pub first_line_at : List ℕ → Option (Bool × List ℕ)
 first_line_at text = first_behind (behind (codes "boardnet 1" ++ 10 ∷ []) text) text
 
+-- the spots and the sources
 unfoldable pub supplement_at : List ℕ → Option (Supplement × List ℕ)
 supplement_at bytes = do
   spots ← section_at spot_at (codes "spots") bytes
@@ -269,6 +289,7 @@ more_at true bytes = supplement_at bytes >>= λ more. Some (Some more.0, more.1)
 abbrev pub ended : Verdict → List ℕ → Option Verdict
 ended v rest = if pointwise ◌==◌ rest (last_line v.opens v.shorts v.bare) then Some v else None
 
+-- The whole text: its parts in their order, and the last line that they ask for.
 unfoldable pub report_at : List ℕ → Option Verdict
 report_at text = do
   first ← first_line_at text

@@ -47,49 +47,62 @@ line_of text n x = text x
 abbrev pub section_text : {X : Type 0} → List ℕ → (ℕ → X → List ℕ) → List X → List ℕ
 section_text title text xs = count_line title (length xs) ++ numbered text 0 xs
 
+-- a colon and the parent of a twig, where it has one
 abbrev pub parent_text : Option ℕ → List ℕ
 parent_text None = []
 parent_text (Some p) = 58 ∷ decimal p
 
+-- a blank, the piece of a twig, and its parent
 abbrev pub twig_text : Twig → List ℕ
 twig_text t = word t.piece ++ parent_text t.parent
 
+-- net n: its twigs in their order
 abbrev pub net_line : ℕ → List Twig → List ℕ
 net_line n net = codes "net" ++ word n ++ flat_map twig_text net ++ end
 
+-- name n: its bytes
 abbrev pub name_line : ℕ → List ℕ → List ℕ
 name_line n name = codes "name" ++ word n ++ 32 ∷ name ++ end
 
+-- the net of a point, or a dash where it has none
 abbrev pub net_text : Option ℕ → List ℕ
 net_text None = codes " -"
 net_text (Some net) = word net
 
+-- test point n: its record, its layer, its name and its net
 abbrev pub point_line : ℕ → PointLine → List ℕ
 point_line n p = codes "point" ++ word n ++ word p.number ++ word p.layer ++ word p.name ++ net_text p.net ++ end
 
+-- an open: its name, its home, the other net, and the first point there
 abbrev pub open_line : Open → List ℕ
 open_line o = codes "open" ++ word o.name ++ word o.home ++ word o.other ++ word o.probe ++ end
 
+-- a branch: its name, its point, and the pieces of its path
 abbrev pub branch_line : Branch → List ℕ
 branch_line b = codes "branch" ++ word b.name ++ word b.probe ++ flat_map word b.pieces ++ end
 
+-- a short: its net, how many branches it has, and a line for each
 abbrev pub short_lines : Short → List ℕ
 short_lines s = codes "short" ++ word s.net ++ word (length s.branches) ++ end ++ numbered (line_of branch_line) 0 s.branches
 
+-- a point without copper
 abbrev pub bare_line : ℕ → List ℕ
 bare_line probe = codes "bare" ++ word probe ++ end
 
+-- the place of test point n, in u
 abbrev pub spot_line : ℕ → SpotLine → List ℕ
 spot_line n s = codes "spot" ++ word n ++ signed_word s.x ++ signed_word s.y ++ end
 
+-- where piece n comes from, a file, a command and a copy, and its first and last layer
 abbrev pub source_line : ℕ → SourceLine → List ℕ
 source_line n s = codes "source" ++ word n ++ word s.file ++ word s.command ++ word s.copy ++ word s.top ++ word s.bottom ++ end
 
+-- whether anything is open, shorted or without copper
 abbrev pub last_line : {A B C : Type 0} → List A → List B → List C → List ℕ
 last_line [] [] [] = codes "agrees" ++ end
 last_line opens shorts bare = codes "differs" ++ end
 
--- The text of a verdict, part by part.
+-- The sections of the text: nets, names, points, opens, shorts, points without copper, spots and sources.
 abbrev pub nets_text : List (List Twig) → List ℕ
 nets_text nets = section_text (codes "nets") net_line nets
 

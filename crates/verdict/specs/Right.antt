@@ -40,14 +40,16 @@ bare_from n (line ∷ lines) = without line.net n ++ bare_from (n + 1) lines whe
 
 -- ---- Opens
 
+-- the net of a seat
 abbrev pub net_of : Seat → ℕ
 net_of s = s.net
 
--- the seats of a name, point by point from point n on
+-- the seat of point n, where it is on a net
 abbrev pub seat : Option ℕ → ℕ → List Seat
 seat None n = []
 seat (Some net) n = record { net = net; probe = n } ∷ []
 
+-- the seats of a name, point by point from point n on
 abbrev pub seats_from : ℕ → ℕ → List PointLine → List Seat
 seats_from name n [] = []
 seats_from name n (line ∷ lines) = (if line.name == name then seat line.net n else []) ++ seats_from name (n + 1) lines
@@ -62,9 +64,11 @@ abbrev pub opens_against : ℕ → List Seat → List Open
 opens_against name [] = []
 opens_against name (home ∷ rest) = map (λ s. record { name = name; home = home.net; other = s.net; probe = s.probe }) rest
 
+-- the opens of a name: one for each net of its points but the first
 abbrev pub opens_of : ℕ → List PointLine → List Open
 opens_of name lines = opens_against name (fresh [] (seats_from name 0 lines))
 
+-- the name `N/C`, whose points are to be joined to nothing
 abbrev pub is_unconnected : List ℕ → Bool
 is_unconnected name = pointwise ◌==◌ name (codes "N/C")
 
@@ -75,11 +79,12 @@ all_opens n (name ∷ names) lines = (if is_unconnected name then [] else opens_
 
 -- ---- Shorts
 
--- a point of the name on the net
+-- a point is on the net
 abbrev pub is_on : Option ℕ → ℕ → Bool
 is_on None net = false
 is_on (Some n) net = n == net
 
+-- a point of the name on the net
 abbrev pub marks : ℕ → ℕ → PointLine → Bool
 marks net name line = (line.name == name) && is_on line.net net
 
@@ -88,6 +93,7 @@ abbrev pub first_from : ℕ → ℕ → ℕ → List PointLine → Option ℕ
 first_from net name n [] = None
 first_from net name n (line ∷ lines) = if marks net name line then Some n else first_from net name (n + 1) lines
 
+-- and from the first point on
 abbrev pub first_on : ℕ → ℕ → List PointLine → Option ℕ
 first_on net name lines = first_from net name 0 lines
 
@@ -106,6 +112,7 @@ pub record Outline : Type 0 where
   pub net : ℕ
   pub names : List ℕ
 
+-- what is left of a short without its paths
 abbrev pub outline : Short → Outline
 outline s = record { net = s.net; names = map (λ b. b.name) s.branches }
 
@@ -129,9 +136,11 @@ IsPath net ends [] = ⊥
 IsPath net ends (piece ∷ []) = Contains ends piece
 IsPath net ends (piece ∷ parent ∷ rest) = (Contains ends piece → ⊥) × HasParent net piece parent × IsPath net ends (parent ∷ rest)
 
+-- the least of some pieces, one of them
 abbrev pub IsLeastOf : List ℕ → ℕ → Type 0
 IsLeastOf pieces least = Contains pieces least × ((piece : ℕ) → Contains pieces piece → least ≤ piece)
 
+-- a path has a first piece, and that is a start
 abbrev pub BeginsAt : (ℕ → Type 0) → List ℕ → Type 0
 BeginsAt start [] = ⊥
 BeginsAt start (piece ∷ rest) = start piece
@@ -191,9 +200,11 @@ Says board v Counts = (v.pieces ≡ length board.near) × (v.names ≡ board.nam
 Says board v Spots = IfSome v.more (λ more. more.spots ≡ map spot_of board.points)
 Says board v Sources = IfSome v.more (λ more. more.sources ≡ map source_of board.sources)
 
+-- A verdict is right where all eleven clauses hold.
 abbrev pub IsRight : Tables → Verdict → Type 0
 IsRight board v = (clause : Clause) → Says board v clause
 
+-- The number by which an audit names a clause.
 abbrev pub number_of : Clause → ℕ
 number_of Trees = 1
 number_of Covers = 2

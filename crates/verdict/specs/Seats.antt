@@ -11,6 +11,7 @@ abbrev pub net_by : List ℕ → Option ℕ → Option ℕ
 net_by numbers None = None
 net_by numbers (Some piece) = Some (slice_index_or numbers piece 0)
 
+-- the name of a mark, and of a branch
 abbrev pub mark_name : Mark → ℕ
 mark_name m = m.name
 
@@ -33,10 +34,11 @@ marks_at marks net = slice_index_or marks net []
 abbrev pub AreFirstSeats : List (List Seat) → List PointLine → Type 0
 AreFirstSeats groups lines = (name : ℕ) → name < length groups → seats_at groups name ≡ fresh [] (seats_from name 0 lines)
 
--- the marks that a seat of a name leaves on a net
+-- the mark that a seat of a name leaves on a net, if that is its net
 abbrev pub mark_of : ℕ → ℕ → Seat → List Mark
 mark_of name net s = if s.net == net then record { name = name; probe = s.probe } ∷ [] else []
 
+-- the marks that seats of a name leave on a net
 abbrev pub marks_of_seats : ℕ → ℕ → List Seat → List Mark
 marks_of_seats name net [] = []
 marks_of_seats name net (s ∷ rest) = mark_of name net s ++ marks_of_seats name net rest

@@ -39,7 +39,8 @@ HasName b k name = (probe : Probe) × (slice_get b.probes k ≡ Some probe) × (
 abbrev pub HasBranchAt : PlainBoard → Verdict → Short → ℕ → ℕ → Type 0
 HasBranchAt b v s name first = HasBranch (λ probe piece. IsLeast (UnderAt b probe) (Some piece)) v s name first
 
--- A short with such a branch for each of two names is listed, and chains of touching pieces of its branches lead from the first piece of each to that of the other.
+-- A short with such a branch for each of two names is listed, and chains of touching pieces of its branches lead from the
+-- first piece of each to that of the other.
 abbrev pub HasPathOn : PlainBoard → Verdict → ℕ → ℕ → ℕ → Type 0
 HasPathOn b v net name other = HasPathAlong (IsNear b) (λ probe piece. IsLeast (UnderAt b probe) (Some piece)) v net name other
 

@@ -76,13 +76,15 @@ pub record ShortPoints : Type 0 where
   pub net : ℕ
   pub branches : List BranchPoint
 
+-- what is left of a branch, and of a short
 abbrev pub branch_point : Branch → BranchPoint
 branch_point b = record { name = b.name; probe = b.probe }
 
 abbrev pub short_points : Short → ShortPoints
 short_points s = record { net = s.net; branches = map branch_point s.branches }
 
--- Two verdicts differ at most in parents, in the order of a net's pieces after the first, in the pieces of branches, and in whether there is a supplement.
+-- Two verdicts differ at most in parents, in the order of a net's pieces after the first, in the pieces of branches, and in
+-- whether there is a supplement.
 pub record DifferInWitnessesOnly (v w : Verdict) : Type 0 where
   -- The count of pieces, the names, the lines of points, the opens and the points without a net are equal.
   pub pieces : v.pieces ≡ w.pieces
@@ -117,7 +119,8 @@ pub record AreJoinedWithin (near : ℕ → ℕ → Type 0) (pieces : List ℕ) (
 abbrev pub branch_pieces : Short → List ℕ
 branch_pieces s = flat_map (λ b. b.pieces) s.branches
 
--- A short has a branch of the name, from the first point of the name on its net. It begins at the least piece under that point, as `least_under` tells.
+-- A short has a branch of the name, from the first point of the name on its net. It begins at the least piece under that
+-- point, as `least_under` tells.
 pub record HasBranch (least_under : ℕ → ℕ → Type 0) (v : Verdict) (s : Short) (name first : ℕ) : Type 0 where
   pub branch : Branch
   pub listed : Contains s.branches branch
@@ -126,7 +129,8 @@ pub record HasBranch (least_under : ℕ → ℕ → Type 0) (v : Verdict) (s : S
   pub begins : BeginsAt (λ piece. piece ≡ first) branch.pieces
   pub least : least_under branch.probe first
 
--- A short with a branch for each of two names is listed, and chains of touching pieces of its branches lead from the first piece of each to that of the other.
+-- A short with a branch for each of two names is listed, and chains of touching pieces of its branches lead from the first
+-- piece of each to that of the other.
 pub record HasPathAlong (near least_under : ℕ → ℕ → Type 0) (v : Verdict) (net name other : ℕ) : Type 0 where
   pub short : Short
   pub listed : Contains v.shorts short
@@ -138,11 +142,13 @@ pub record HasPathAlong (near least_under : ℕ → ℕ → Type 0) (v : Verdict
   pub forth : AreJoinedWithin near (branch_pieces short) first last
   pub back : AreJoinedWithin near (branch_pieces short) last first
 
--- A short has a branch of the name that begins at this piece, where the least piece under a point is the least in the point's row of `beneath`.
+-- A short has a branch of the name that begins at this piece, where the least piece under a point is the least in the point's
+-- row of `beneath`.
 abbrev pub HasBranchFrom : Tables → Verdict → Short → ℕ → ℕ → Type 0
 HasBranchFrom board v s name first = HasBranch (λ probe piece. IsLeastOf (row_at board.beneath probe) piece) v s name first
 
--- A short of the net is listed with a path between two names, where the pieces that touch are those that `near` lists, and the least piece under a point is the least in its row of `beneath`.
+-- A short of the net is listed with a path between two names, where the pieces that touch are those that `near` lists, and
+-- the least piece under a point is the least in its row of `beneath`.
 abbrev pub HasPath : Tables → Verdict → ℕ → ℕ → ℕ → Type 0
 HasPath board v net name other = HasPathAlong (Stands board.near) (λ probe piece. IsLeastOf (row_at board.beneath probe) piece) v net name other
 

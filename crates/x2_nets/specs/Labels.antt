@@ -23,6 +23,7 @@ pub data Said : Type 0 where
   named : List ℕ → Said
   unnamed : Said
 
+-- a field that is this text
 abbrev pub is_field : Option (List ℕ) → List ℕ → Bool
 is_field None text = false
 is_field (Some found) text = pointwise nat_eq found text
@@ -41,16 +42,19 @@ named_by fields = if is_field (field_of fields 0) (codes ".N") then named (name_
 abbrev pub ended_by : List ℕ → Said
 ended_by fields = if is_field (field_of fields 0) [] || is_field (field_of fields 0) (codes ".N") then unnamed else nothing
 
+-- attributes of objects, and the words that delete attributes, alone say something of nets
 abbrev pub by_kind : AttributeKind → List ℕ → Said
 by_kind File fields = nothing
 by_kind Aperture fields = nothing
 by_kind Object fields = named_by fields
 by_kind Delete fields = ended_by fields
 
+-- what an attribute says, and nothing where there is none
 abbrev pub said_by : Option PlainAttribute → Said
 said_by None = nothing
 said_by (Some a) = by_kind a.kind a.fields
 
+-- what a word says of nets
 abbrev pub said_of : Entry → Said
 said_of w = said_by (attribute_of w)
 
@@ -73,6 +77,7 @@ before_command command earlier = drop (length earlier + 1 - command) earlier
 
 -- ---- The list of labels
 
+-- the label of the command of this number, if that says something
 abbrev pub label_of : ℕ → Said → List Label
 label_of command nothing = []
 label_of command (named text) = record { command = command; name = Some text } ∷ []
@@ -102,6 +107,7 @@ Rise labels = IsNonDecreasingBy (λ l. l.command) labels
 pub data Amiss : Type 0 where
   no_text : Amiss
 
+-- what was said, unless it is a name that is no text
 abbrev pub judged : Said → Result Said Amiss
 judged nothing = Ok nothing
 judged (named text) = if is_text text then Ok (named text) else Err no_text
@@ -123,9 +129,11 @@ IsRead file labels = (items : List (Item Said)) × AreSaid file items × reading
 abbrev pub IsRefused : List ℕ → Amiss → ℕ → ℕ → Type 0
 IsRefused file why command at = (items : List (Item Said)) × AreSaid file items × reading.IsRefused judged_after items why command at
 
+-- there is such a name, and this is where
 abbrev pub IsBad : List ℕ → ℕ → ℕ → Type 0
 IsBad file command at = IsRefused file no_text command at
 
+-- why there are no labels: a name is amiss, or memory is wanted
 abbrev pub IsFault : List ℕ → LabelFault → Type 0
 IsFault file (fault.Bad command at) = IsBad file command at
 IsFault file fault.NoMemory = Unit {0}

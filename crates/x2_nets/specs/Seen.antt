@@ -6,6 +6,7 @@ use Rattle.x2_nets.specs.declared.said.Said.TheVariants as seen
 use Rattle.x2_nets.specs.declared.listing.LabelFault.{LabelFault}
 use Rattle.x2_nets.specs.declared.listing.LabelFault.TheVariants as fault
 
+-- what was seen, the name as its bytes
 abbrev pub view : Seen → Said
 view seen.Nothing = nothing
 view (seen.Named text) = named text.now

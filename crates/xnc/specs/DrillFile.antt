@@ -21,6 +21,7 @@ item_of p line = record { says = form_of p.from p.to line.text; at = line.at }
 abbrev pub items_with : Place → ℕ → List PlainLine → List (Item Form)
 items_with p size lines = map (item_of p) lines ++ record { says = form.Finish; at = size } ∷ []
 
+-- and those of its bytes
 abbrev pub items : Place → List ℕ → List (Item Form)
 items p file = items_with p (length file) (lines_of file)
 
@@ -32,6 +33,7 @@ IsRead file p pieces = reading.IsRead (effect_at p) (barrels_at p) (items p file
 abbrev pub IsRefused : List ℕ → Place → DrillKind → ℕ → ℕ → Type 0
 IsRefused file p kind number place = reading.IsRefused (effect_at p) (items p file) kind number place
 
+-- why there are no barrels: the file is refused, or memory is wanted
 abbrev pub IsFault : List ℕ → Place → DrillFault → Type 0
 IsFault file p (fault.Refused kind number place) = IsRefused file p kind number place
 IsFault file p fault.NoMemory = Unit {0}

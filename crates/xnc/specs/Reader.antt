@@ -22,6 +22,7 @@ use Rattle.xnc.specs.Place.{Place}
 use Rattle.xnc.specs.Table.{Known, Effect, stays, makes, moves, drills, rout, straight, hit, slot, effect, after}
 use Rattle.xnc.specs.Settings.{piece_of, settings_at}
 
+-- the effect that was seen, its shape as its figure, or the fault of a line
 abbrev pub shown : Seen → Effect
 shown seen.Stays = stays
 shown (seen.Makes n d) = makes n d
@@ -56,6 +57,7 @@ pub record Adds (old new : Tools) (n diameter : ℕ) : Type 0 where
   pub defined : (m : ℕ) → defined_in new m ≡ (if n == m then Some diameter else defined_in old m)
   pub more : count_of new ≡ count_of old + 1
 
+-- what a reader knows before the next line, and where its barrels come to stand
 abbrev pub known_of : Reader → Known
 known_of r = record {
   settings = r.settings;
@@ -85,6 +87,7 @@ pub record Obeys (old : Reader) (f : Form) (new : Reader) : Type 0 where
   pub counts : new.lines ≡ old.lines + 1
   pub place : place_of new ≡ place_of old
 
+-- what a reader keeps between two lines
 pub record IsLawfulReader (r : Reader) : Type 0 where
   pub at : IsPlaced r.settings.at
   pub tools : AreLawful r.tools
@@ -112,6 +115,7 @@ pub record Places (old : Reader) (figure : Figure) (new : Reader) : Type 0 where
   pub counts : new.lines ≡ old.lines
   pub place : place_of new ≡ place_of old
 
+-- why the reader stops at a line: its fault, or want of memory
 abbrev pub Halts : Known → Form → Halt DrillKind → Type 0
 Halts k f (halt.Fault kind) = effect k f ≡ Err kind
 Halts k f halt.NoMemory = Unit {0}
@@ -125,6 +129,7 @@ pub record IsNew (p : Place) (r : Reader) : Type 0 where
   pub counts : r.lines ≡ 0
   pub place : place_of r ≡ p
 
+-- what stops the reader, as the fault of the file at the line of this number and place
 abbrev pub fault_at : Halt DrillKind → ℕ → ℕ → DrillFault
 fault_at (halt.Fault kind) number at = fault.Refused kind number at
 fault_at halt.NoMemory number at = fault.NoMemory

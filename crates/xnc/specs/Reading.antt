@@ -1,4 +1,4 @@
--- How a line is read by itself.
+-- How a line is read by itself, by this project's own profile of the XNC Format Specification.
 use Rattle.std.specs.Prelude.{ℕ, Bool, ◌&&◌, ◌||◌, not, ◌==◌, nat_le, if◌then◌else◌, List, [], ◌∷◌, length, drop, codes, Option, Some, None, decimal as number_text}
 use Rattle.std.specs.List.{list_all, list_any, before_first, after_first}
 use Rattle.std.specs.Str.Parse.{digits_value}
@@ -38,10 +38,11 @@ file_function from to fields =
 unfoldable pub comment : ℕ → ℕ → List ℕ → Form
 comment from to text = if begins text (codes "; #@! TF.FileFunction,") then file_function from to (drop 22 text) else form.Blank
 
--- Places: `X<decimal>`, `Y<decimal>`, or both in this order.
+-- the letter between the two numbers of a place
 abbrev pub is_y : ℕ → Bool
 is_y b = b == 89
 
+-- one number or both, where they are decimals
 abbrev pub only_x : Option Fraction → Option Coordinates
 only_x None = None
 only_x (Some x) = Some (record { x = Some x; y = None })
@@ -59,10 +60,12 @@ both None y = None
 unfoldable pub behind_x : List ℕ → Option Coordinates
 behind_x text = if list_any is_y text then both (decimal (before_first is_y text)) (decimal (after_first is_y text)) else only_x (decimal text)
 
+-- A place: `X<decimal>`, `Y<decimal>`, or both in this order.
 unfoldable pub coordinates_of : List ℕ → Option Coordinates
 coordinates_of [] = None
 coordinates_of (c ∷ text) = if c == 88 then behind_x text else (if c == 89 then only_y (decimal text) else None)
 
+-- the lines of `G00`, of `G01`, of a hit and of a slot, with their places; a line that lacks one is unknown
 abbrev pub routs : Option Coordinates → Form
 routs None = form.Unknown
 routs (Some to) = form.Rout to
@@ -102,6 +105,7 @@ tool_number digits =
 abbrev pub is_c : ℕ → Bool
 is_c b = b == 67
 
+-- the definition of a tool, and its selection; a line that lacks a part is unknown
 abbrev pub defines : Option ℕ → Option Fraction → Form
 defines (Some n) (Some d) = form.Tool n d
 defines (Some n) None = form.Unknown
@@ -118,6 +122,7 @@ tool_line text =
     else (if is text (codes "0") || is text (codes "00") then form.NoTool
     else selects (tool_number text))
 
+-- the unit lines, with or without what they say of zeros
 abbrev pub is_metric : List ℕ → Bool
 is_metric text = is text (codes "METRIC") || (is text (codes "METRIC,TZ") || is text (codes "METRIC,LZ"))
 
@@ -148,6 +153,7 @@ command text =
     else (if begins text (codes "T") then tool_line (drop 1 text)
     else body_line text)))))))
 
+-- by the line without the blanks at its ends
 unfoldable pub within_blanks : ℕ → ℕ → List ℕ → Form
 within_blanks from to [] = form.Blank
 within_blanks from to (c ∷ text) = if c == 59 then comment from to (c ∷ text) else command (c ∷ text)

@@ -92,12 +92,14 @@ abbrev pub named_at : (Coordinates → Option Fraction) → List Form → ℤ
 named_at part [] = pos 0
 named_at part (f ∷ earlier) = value_in (unit_at earlier) (named_at part earlier) (named_in part f)
 
+-- the current place
 abbrev pub x_at : List Form → ℤ
 x_at earlier = named_at (λ c. c.x) earlier
 
 abbrev pub y_at : List Form → ℤ
 y_at earlier = named_at (λ c. c.y) earlier
 
+-- all settings that the next line finds
 abbrev pub settings_at : List Form → Settings
 settings_at earlier = record {
   stage = stage_at earlier;
@@ -144,10 +146,12 @@ known_with p earlier pieces = record {
   room = p.room;
 }
 
+-- the barrels that the lines make, in order
 unfoldable pub barrels_at : Place → List Form → List PlainPiece
 barrels_at p [] = []
 barrels_at p (f ∷ earlier) = barrels_at p earlier ++ piece_of p (length earlier + 1) (effect (known_with p earlier (length (barrels_at p earlier))) f)
 
+-- what is known before the next line
 abbrev pub known_at : Place → List Form → Known
 known_at p earlier = known_with p earlier (length (barrels_at p earlier))
 

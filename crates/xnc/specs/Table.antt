@@ -20,7 +20,8 @@ use Rattle.xnc.specs.declared.settings.Mode.TheVariants.{Drill, Rout}
 use Rattle.xnc.specs.declared.settings.Settings.{Settings}
 pub use Rattle.file_reading.specs.Conditions.{◌>>=◌, unless, needed}
 
--- What is known before a line: the settings, the diameter of each tool that is defined, how many tools are, how many pieces there are, and how many there may be.
+-- What is known before a line: the settings, the diameter of each tool that is defined, how many tools are, how many pieces
+-- there are, and how many there may be.
 pub record Known : Type 0 where
   pub settings : Settings
   pub defined : ℕ → Option ℕ
@@ -41,18 +42,22 @@ same_unit Inch Inch = true
 same_unit Mm Inch = false
 same_unit Inch Mm = false
 
+-- another unit was set
 abbrev pub other_unit : Option Measure → Measure → Bool
 other_unit None unit = false
 other_unit (Some first) unit = not (same_unit first unit)
 
+-- drill mode
 abbrev pub is_drilling : Mode → Bool
 is_drilling Drill = true
 is_drilling Rout = false
 
+-- `M48`
 abbrev pub is_start : Form → Bool
 is_start form.Start = true
 is_start other = false
 
+-- how a length that is none is refused, and a length or its refusal
 abbrev pub kind_of_grid : GridFault → DrillKind
 kind_of_grid fault = chosen fault kind.OffGrid kind.OutOfRange
 
@@ -94,11 +99,12 @@ target unit here to = do
   y ← coordinate unit here.y to.y
   Ok (record { x = x; y = y })
 
--- the diameter of the selected tool
+-- the diameter of a tool, if there is one and it is defined
 abbrev pub lookup : Option ℕ → (ℕ → Option ℕ) → Option ℕ
 lookup None defined = None
 lookup (Some n) defined = defined n
 
+-- the diameter of the selected tool
 abbrev pub diameter : Known → Option ℕ
 diameter k = lookup k.settings.tool k.defined
 
@@ -168,6 +174,7 @@ staged Header k f = header k f
 staged Body k f = body k f
 staged Ended k f = Err kind.AfterEnd
 
+-- behind the end
 abbrev pub is_ended : Stage → Bool
 is_ended Ended = true
 is_ended other = false
