@@ -1,6 +1,5 @@
 // Laws over the outcomes. Their calls do nothing.
-ghost use Rattle.boardnet.specs.Laws.{ReportsPass};
-ghost use Rattle.boardnet.specs.Written.{WrittenNetlistsPass};
+ghost use Rattle.boardnet.specs.Laws.{ReportsPass, WrittenNetlistsPass};
 
 use board_package::laws as packages;
 use netlist_writer::laws as netlists;
