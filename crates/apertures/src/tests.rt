@@ -10,7 +10,7 @@ use std::test::Fail;
 // Words with what they define.
 type Word = (&'static str, Unit, &'static str);
 
-fn words_first() -> [Word; 16] {
+fn of_sizes() -> [Word; 16] {
     [
         // Each aperture, and the grid.
         ("ADD10C,1.0", Unit::Mm, "Ok((10, Circle(10000000)))"),
@@ -52,7 +52,7 @@ fn words_first() -> [Word; 16] {
     ]
 }
 
-fn words_next() -> [Word; 16] {
+fn of_names() -> [Word; 16] {
     [
         ("ADD10C,-0.2", Unit::Mm, "Err(OutOfRange)"),
         ("ADD10C,1000.0000002", Unit::Mm, "Err(OutOfRange)"),
@@ -76,7 +76,7 @@ fn words_next() -> [Word; 16] {
     ]
 }
 
-fn words_then() -> [Word; 16] {
+fn of_parameter_counts() -> [Word; 16] {
     [
         ("ADD10 C,1", Unit::Mm, "Err(Macro)"),
         ("ADD10CX,1", Unit::Mm, "Err(Macro)"),
@@ -99,7 +99,7 @@ fn words_then() -> [Word; 16] {
     ]
 }
 
-fn words_last() -> [Word; 13] {
+fn of_parameters() -> [Word; 13] {
     [
         ("ADD10R,1X", Unit::Mm, "Err(BadText)"),
         ("ADD10R,X1", Unit::Mm, "Err(BadText)"),
@@ -130,10 +130,10 @@ fn all_define(alloc: Global, rows: &[Word]) -> Result<bool, AllocError> {
 
 #[test]
 fn words_define_apertures(rt: HostRuntime) -> Result<(), Fail> {
-    assert!(rt; all_define(rt.alloc(), &words_first())?);
-    assert!(rt; all_define(rt.alloc(), &words_next())?);
-    assert!(rt; all_define(rt.alloc(), &words_then())?);
-    assert!(rt; all_define(rt.alloc(), &words_last())?);
+    assert!(rt; all_define(rt.alloc(), &of_sizes())?);
+    assert!(rt; all_define(rt.alloc(), &of_names())?);
+    assert!(rt; all_define(rt.alloc(), &of_parameter_counts())?);
+    assert!(rt; all_define(rt.alloc(), &of_parameters())?);
     Ok(())
 }
 

@@ -561,18 +561,16 @@ fn fault_of(made: Result<Area, AreaFault>) -> Option<AreaFault> {
 
 #[test]
 fn faults(rt: HostRuntime) -> Result<(), Fail> {
-    let open = contour(
-        rt.alloc(),
-        &[(0, 0), (1, 0), (1, 1), (0, 1)],
-        (0, 0),
-        VIEWS[0],
-    )?;
-    assert!(rt; fault_of(open) == Some(AreaFault::Open));
-    let open = contour(rt.alloc(), &[(0, 0), (1, 0)], (0, 0), VIEWS[0])?;
-    assert!(rt; fault_of(open) == Some(AreaFault::Open));
-    let short = contour(rt.alloc(), &[(0, 0), (1, 0), (0, 0)], (0, 0), VIEWS[0])?;
-    assert!(rt; fault_of(short) == Some(AreaFault::Short));
-    assert!(rt; fault_of(contour(rt.alloc(), &[], (0, 0), VIEWS[0])?) == Some(AreaFault::Short));
+    let rows: [(&[(i16, i16)], AreaFault); 4] = [
+        (&[(0, 0), (1, 0), (1, 1), (0, 1)], AreaFault::Open),
+        (&[(0, 0), (1, 0)], AreaFault::Open),
+        (&[(0, 0), (1, 0), (0, 0)], AreaFault::Short),
+        (&[], AreaFault::Short),
+    ];
+    for (corners, wanted) in rows {
+        let made = contour(rt.alloc(), corners, (0, 0), VIEWS[0])?;
+        assert!(rt; fault_of(made) == Some(wanted));
+    }
     assert!(rt; fault_of(many(rt.alloc(), 100_002)?) == Some(AreaFault::TooLong));
     let full = many(rt.alloc(), 100_001)?.expect(&rt, "full");
     assert_eq!(rt; full.edges(), 100_000);

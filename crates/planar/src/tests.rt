@@ -497,7 +497,7 @@ fn segments_of_one_metre(rt: HostRuntime) {
 }
 
 #[test]
-fn rays_and_hands(rt: HostRuntime) {
+fn rays_of_spots(rt: HostRuntime) {
     for (a, b, p, want) in rays() {
         assert_eq!(rt; ray_crosses(spot(a), spot(b), spot(p)), want);
     }

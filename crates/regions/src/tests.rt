@@ -70,12 +70,15 @@ fn a_plate_with_a_hole_by_a_cut_in(rt: HostRuntime) -> Result<(), Fail> {
 fn bad_contours(rt: HostRuntime) {
     let alloc = rt.alloc();
     assert!(rt; closed(alloc, &[]).is_ok_and(|area| area.is_none()));
-    assert!(rt;
-        closed(alloc, &[(2, 0), (2, 2), (0, 2)]).is_err_and(|fault| fault == CloseFault::Open)
-    );
-    assert!(rt; closed(alloc, &[(2, 0)]).is_err_and(|fault| fault == CloseFault::Open));
-    assert!(rt; closed(alloc, &[(2, 0), (0, 0)]).is_err_and(|fault| fault == CloseFault::Short));
-    assert!(rt; closed(alloc, &[(0, 0)]).is_err_and(|fault| fault == CloseFault::Short));
+    let rows: [(&[(u8, u8)], CloseFault); 4] = [
+        (&[(2, 0), (2, 2), (0, 2)], CloseFault::Open),
+        (&[(2, 0)], CloseFault::Open),
+        (&[(2, 0), (0, 0)], CloseFault::Short),
+        (&[(0, 0)], CloseFault::Short),
+    ];
+    for (ends, wanted) in rows {
+        assert!(rt; closed(alloc, ends).is_err_and(|fault| fault == wanted));
+    }
 }
 
 #[test]

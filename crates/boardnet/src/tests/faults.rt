@@ -1,7 +1,6 @@
 // Words that are no command, and faults of reading and writing.
-use crate::tests::packages::{BURIED, DISC};
-use crate::tests::{ENDS, TIE, called, files, one_layer, shown, wants, words};
-use board_io::{MemoryPackage, MemorySink, Package as _, Take};
+use crate::tests::{ENDS, TIE, called, one_layer, shown, wants, words};
+use board_io::MemorySink;
 use std::alloc::Global;
 use std::test::Fail;
 
@@ -76,21 +75,5 @@ fn notes_that_fail(rt: HostRuntime) -> Result<(), Fail> {
     assert_eq!(rt; tied(alloc, &mut out, &mut notes)?, 0);
     assert_eq!(rt; shown(&notes), "boar");
     assert!(rt; shown(&out).ends_with("agrees\n"));
-    Ok(())
-}
-
-#[test]
-fn files_that_cannot_be_taken(rt: HostRuntime) -> Result<(), Fail> {
-    let alloc = rt.alloc();
-    // A missing file stops the taking.
-    let mut missing = files(alloc, &[("m.json", &[BURIED]), ("l1.gbr", DISC)])?;
-    let line = "boardnet: l2.gbr: cannot be read\n";
-    wants(alloc, &["check", "m.json"], &mut missing, 4, line, "")?;
-    assert_eq!(rt; missing.calls(), 3);
-
-    let mut into = Vec::new(alloc);
-    let mut long = MemoryPackage::new(alloc);
-    long.hold("a", b"four")?;
-    assert!(rt; matches!(long.take("a", 3, &mut into), Take::Longer));
     Ok(())
 }
