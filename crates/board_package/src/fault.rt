@@ -46,6 +46,7 @@ pub enum BuildFault {
     },
     /// The common box of all pieces, which this is, has a side over 10,000,000,000 u (1 m).
     FrameTooLarge(Bounds),
+    /// Memory is wanted.
     NoMemory,
 }
 

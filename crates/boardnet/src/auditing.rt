@@ -1,4 +1,4 @@
-// The command `audit`.
+//! The command `audit`.
 ghost use Rattle.board_io.specs.Package.{IsFaultless};
 ghost use Rattle.board_package.specs.Causes.{HasCause, KeepsFaults};
 ghost use Rattle.board_shapes.specs.Laws.{HasOneTables};

@@ -1,4 +1,4 @@
-// A check and the audit of its report, as any caller makes the two calls.
+//! A check and the audit of its report, as any caller makes the two calls.
 ghost use Rattle.board_io.specs.Causes.{Rose};
 ghost use Rattle.board_io.specs.Memory.{faults_of, files_of};
 ghost use Rattle.board_io.specs.MemorySink.{faults_of as sink_faults_of, got_of};
@@ -23,6 +23,7 @@ pub enum Certified {
     Unreported(u8),
     /// The status of the audit.
     Audited(u8),
+    /// Memory is wanted.
     NoMemory,
 }
 

@@ -1,4 +1,4 @@
-// The command `check`.
+//! The command `check`.
 ghost use Rattle.boardnet.specs.Ends.{Works};
 ghost use Rattle.boardnet.specs.Words.{Check, IsText};
 

@@ -1,4 +1,4 @@
-// The work of each command.
+//! The work of each command.
 ghost use Rattle.boardnet.specs.Answers.{status_of};
 ghost use Rattle.boardnet.specs.Asked.{asked};
 ghost use Rattle.boardnet.specs.Ends.{HasNames, Works};

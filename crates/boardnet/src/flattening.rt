@@ -1,4 +1,4 @@
-// The command `flatten`.
+//! The command `flatten`.
 ghost use Rattle.boardnet.specs.Answers.{status_of};
 ghost use Rattle.boardnet.specs.Ends.{Works};
 ghost use Rattle.boardnet.specs.Words.{Flatten, IsText};

@@ -1,4 +1,4 @@
-// The command `gaps`.
+//! The command `gaps`.
 ghost use Rattle.board_shapes.specs.Plain.{plain_board};
 ghost use Rattle.boardnet.specs.Answers.{IsUngapped, line_of, status_of};
 ghost use Rattle.boardnet.specs.Ends.{Works};

@@ -1,4 +1,4 @@
-// The board of a package, and the work on it: its nets and its verdict.
+//! The board of a package, and the work on it: its nets and its verdict.
 ghost use Rattle.board_io.specs.Package.{IsFaultless};
 ghost use Rattle.board_package.specs.Causes.{HasCause, KeepsFaults};
 ghost use Rattle.board_package.specs.PackageBoard.{Comes, IsBoardOf, IsFirstStop, IsWithinLimits};

@@ -1,4 +1,4 @@
-// The command `x2`.
+//! The command `x2`.
 ghost use Rattle.board_shapes.specs.Plain.{plain_board};
 ghost use Rattle.boardnet.specs.Answers.{line_of, status_of};
 ghost use Rattle.boardnet.specs.Ends.{Works};

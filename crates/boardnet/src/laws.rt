@@ -1,4 +1,4 @@
-// Laws over the outcomes. Their calls do nothing.
+//! Laws over the outcomes. Their calls do nothing.
 ghost use Rattle.boardnet.specs.Laws.{ReportsPass};
 ghost use Rattle.boardnet.specs.Written.{WrittenNetlistsPass};
 

@@ -1,4 +1,4 @@
-// What is put for a command: its text to the output in one piece, and a line to the notes.
+//! What is put for a command: its text to the output in one piece, and a line to the notes.
 ghost use Rattle.boardnet.specs.Answers.{RefusesFor};
 ghost use Rattle.boardnet.specs.Asked.{asked};
 ghost use Rattle.boardnet.specs.Ends.{Puts};

@@ -1,4 +1,4 @@
-// Refusals: the line of each, and its status.
+//! Refusals: the line of each, and its status.
 ghost use Rattle.boardnet.specs.Answers.{Refuses, RefusesFor, fault_line};
 ghost use Rattle.boardnet.specs.Asked.{asked};
 ghost use Rattle.boardnet.specs.Lines.{Says};

@@ -1,4 +1,4 @@
-// The top call.
+//! The top call.
 ghost use Rattle.boardnet.specs.Asked.{asked};
 ghost use Rattle.boardnet.specs.Ends.{Ends, HasNames};
 ghost use Rattle.boardnet.specs.Kept.{Keeps};

@@ -1,4 +1,4 @@
-// The command `trial`.
+//! The command `trial`.
 ghost use Rattle.boardnet.specs.Answers.{line_of, status_of};
 ghost use Rattle.boardnet.specs.Ends.{HasReason};
 ghost use Rattle.boardnet.specs.Outcome.{Files, IsBoardOf, IsTrialReport, PlainBoard, made_files, made_manifest, summary_text};

@@ -1,4 +1,4 @@
-// The command `write`.
+//! The command `write`.
 ghost use Rattle.board_shapes.specs.Plain.{plain_board};
 ghost use Rattle.boardnet.specs.Answers.{status_of};
 ghost use Rattle.boardnet.specs.Ends.{Works};

@@ -1,4 +1,4 @@
-// The distinct names of a netlist.
+//! The distinct names of a netlist.
 use indexmap::IndexSet;
 use lengths::{NoMemory, Rows, Text, TextFault};
 use std::alloc::Global;
