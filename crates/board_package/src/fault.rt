@@ -92,7 +92,7 @@ impl From<AllocError> for LabelledFault {
     }
 }
 
-// The fault of a file that is refused, or want of memory for its name.
+/// The fault of a file that is refused, or want of memory for its name.
 pub fn refused(name: &Text, refusal: Refusal) -> BuildFault
     ensures { HasRefusal name.now refusal result }
 {

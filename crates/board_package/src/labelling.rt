@@ -87,7 +87,7 @@ fn probes_by(
     Ok((probes, texts))
 }
 
-// Gives the parts the probes and names of their labelled pieces.
+/// Gives the parts the probes and names of their labelled pieces.
 pub fn name_pieces(alloc: Global, tables: &[Rows<Label>], parts: &mut Parts) -> Result<(), NoMemory>
     requires lawful { IsLawfulParts parts.old }
     requires rise { All Rise tables.now }

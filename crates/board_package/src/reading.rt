@@ -59,7 +59,7 @@ impl Refusal {
     }
 }
 
-// Reads the file of an entry, and adds what it gives.
+/// Reads the file of an entry, and adds what it gives.
 pub fn read_file(
     alloc: Global,
     entry: &Entry,

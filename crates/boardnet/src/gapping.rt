@@ -13,7 +13,7 @@ use board_shapes::Board;
 use gaps::{GapFault, gaps, write_gaps};
 use std::alloc::Global;
 
-// The gaps of the package of a manifest at a distance.
+/// The gaps of the package of a manifest at a distance of at most 10,000,000 nm.
 pub fn gap_list<P: Package>(
     alloc: Global,
     manifest: &str,

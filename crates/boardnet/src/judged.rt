@@ -24,7 +24,7 @@ use steps::Steps;
 use verdict::Verdict;
 use witness_check::laws as verdicts;
 
-// The board of the package of a manifest.
+/// The board of the package of a manifest.
 pub fn board_of<P: Package>(
     alloc: Global,
     manifest: &str,

@@ -17,7 +17,7 @@ use lengths::NoMemory;
 use std::alloc::Global;
 use verdict::write_report;
 
-// The report on the package of a manifest by the net names in its copper files.
+/// The report on the package of a manifest by the net names in its copper files.
 pub fn labelled_report<P: Package>(alloc: Global, manifest: &str, package: &mut P) -> Answered
     requires { IsText manifest.now }
     ensures { Works P.held P.faults P.lost (X2 manifest.now) «package».old «package».new result }

@@ -49,6 +49,7 @@ impl Radii {
         Ok(radii)
     }
 
+    /// How many there are.
     pub fn len(&self) -> usize
         ensures { result ≡ length (radii_in self.now) }
     {

@@ -8,7 +8,7 @@ ghost use Rattle.x2_nets.specs.Seen.{view};
 
 use gerber_words::{Attribute, AttributeKind, Word};
 
-// Nothing; the name of the objects that come next; or that they have none.
+/// Nothing; the name of the objects that come next; or that they have none.
 #[derive(Clone, Copy)]
 pub enum Said<'a> {
     Nothing,
@@ -16,7 +16,7 @@ pub enum Said<'a> {
     Unnamed,
 }
 
-// What a word of a file says.
+/// What a word of a file says.
 pub fn said_by<'a>(word: Word<'a>) -> Said<'a>
     ensures { view result ≡ spec.said_of (entry_of word.entry) }
 {
