@@ -1,4 +1,4 @@
-// How lengths are written.
+//! How lengths are written.
 ghost use Rattle.std.specs.Prelude.{◌≡◌, ◌≤◌, true, IfSome, length};
 ghost use Rattle.std.specs.List.{list_all};
 ghost use Rattle.std.specs.Str.Parse.{digits_value as value_of_digits};

@@ -1,4 +1,4 @@
-// What is refused.
+//! What is refused.
 use thiserror::Error;
 
 /// Why a word of a macro's body, or a primitive with its parameters, is refused.
@@ -30,5 +30,6 @@ pub enum MacroFault {
 pub enum FigureFault {
     /// Its lengths are refused, or an end or a corner is over 1 m from 0 in x or y.
     Macro(MacroFault),
+    /// Memory is wanted.
     NoMemory,
 }

@@ -1,4 +1,4 @@
-// Primitives with their parameters: whether they are lawful, and what they flash.
+//! Primitives with their parameters: whether they are lawful, and what they flash.
 ghost use Rattle.std.specs.Prelude.{◌≡◌, ◌≤◌, false, true, IfOk, length, map};
 ghost use Rattle.planar.specs.Plane.{IsPlaced};
 ghost use Rattle.area_contact.specs.Contour.{IsClosed};

@@ -1,4 +1,4 @@
-// Figures about the origin of the macro, before they are turned.
+//! Figures about the origin of the macro, before they are turned.
 ghost use Rattle.std.specs.Prelude.{◌≡◌, ◌≤◌, IfOk, Some};
 ghost use Rattle.planar.specs.Plane.{IsPlaced};
 ghost use Rattle.planar.specs.declared.TheConstants.{METRE};

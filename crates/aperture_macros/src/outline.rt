@@ -1,4 +1,4 @@
-// Outlines: whether they are lawful, and the areas that they bound.
+//! Outlines: whether they are lawful, and the areas that they bound.
 ghost use Rattle.std.specs.Prelude.{◌≡◌, ◌≤◌, ◌+◌, [], All, IfErr, IfOk, Ok, Some, length};
 ghost use Rattle.planar.specs.Plane.{IsPlaced};
 ghost use Rattle.area_contact.specs.Contour.{IsClosed};

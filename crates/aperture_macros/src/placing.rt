@@ -1,4 +1,4 @@
-// Where a figure is set down.
+//! Where a figure is set down.
 ghost use Rattle.std.specs.Prelude.{◌≡◌};
 ghost use Rattle.planar.specs.Plane.{IsPlaced};
 ghost use Rattle.board_shapes.specs.Rectangles.{IsReachable};

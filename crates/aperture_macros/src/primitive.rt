@@ -1,4 +1,4 @@
-// Primitives.
+//! Primitives.
 ghost use Rattle.std.specs.Prelude.{◌≤◌};
 ghost use Rattle.aperture_macros.specs.Sized.{outline_edges};
 

@@ -1,4 +1,4 @@
-// How a body word is read.
+//! How a body word is read.
 ghost use Rattle.std.specs.Prelude.{◌≡◌, Some, None, if◌then◌else◌};
 ghost use Rattle.lengths.specs.Decimal.{fraction};
 ghost use Rattle.aperture_macros.specs.BodyWord as spec;

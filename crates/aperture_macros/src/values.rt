@@ -1,4 +1,4 @@
-// What lengths are, in u.
+//! What lengths are, in u.
 ghost use Rattle.std.specs.Prelude.{◌≡◌, ◌≤◌, ◌^◌, pos, IfOk};
 ghost use Rattle.planar.specs.Plane.{IsPlaced, IsReached};
 ghost use Rattle.lengths.specs.Grid.{position_of};

@@ -1,8 +1,8 @@
-// The cells of a made board.
+//! The cells of a made board.
 ghost use Rattle.std.specs.Prelude.{◌≡◌, ◌<◌};
 ghost use Rattle.board_maker.specs.MadeBoard as spec;
 
-/// Where cell `i` stands: its column of 100, and its row.
+/// The column of cell `i`, from 0 to 99.
 pub fn column(i: u32) -> u32
     ensures value { result ≡ spec.column i }
     ensures small { result < 100 }
@@ -10,6 +10,7 @@ pub fn column(i: u32) -> u32
     i % 100
 }
 
+/// The row of cell `i`, from 0 to 99, for cells below 10,000.
 pub fn row(i: u32) -> u32
     requires { i < 10000 }
     ensures value { result ≡ spec.row i }

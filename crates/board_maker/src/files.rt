@@ -1,4 +1,4 @@
-// The five files of a made board, written cell by cell.
+//! The five files of a made board, written cell by cell.
 ghost use Rattle.std.specs.Prelude.{◌≡◌, ◌++◌, ◌<◌, ◌≤◌, length, drop, IfOk, OnOk};
 ghost use Rattle.std.specs.List.{flat_map};
 ghost use Rattle.board_maker.specs.MadeBoard as spec;

@@ -1,4 +1,4 @@
-// The package of a made board.
+//! The package of a made board.
 ghost use Rattle.std.specs.Prelude.{◌≡◌, ◌<◌, ◌≤◌, ◌↔◌, IfOk, IsErrOf};
 ghost use Rattle.board_maker.specs.MadePackage.{IsMade};
 

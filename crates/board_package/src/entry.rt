@@ -9,6 +9,7 @@ pub enum Role {
     Copper { layer: u8 },
     /// Barrels that join the layers from one to another.
     Drill { from: u8, to: u8 },
+    /// The test points and the names of their nets.
     Netlist,
 }
 

@@ -46,6 +46,7 @@ pub enum BuildFault {
     },
     /// The common box of all pieces, which this is, has a side over 10,000,000,000 u (1 m).
     FrameTooLarge(Bounds),
+    /// Memory is wanted.
     NoMemory,
 }
 
@@ -91,7 +92,7 @@ impl From<AllocError> for LabelledFault {
     }
 }
 
-// The fault of a file that is refused, or want of memory for its name.
+/// The fault of a file that is refused, or want of memory for its name.
 pub fn refused(name: &Text, refusal: Refusal) -> BuildFault
     ensures { HasRefusal name.now refusal result }
 {

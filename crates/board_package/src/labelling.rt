@@ -1,4 +1,4 @@
-// The probes of pieces whose file names their nets.
+//! The probes of pieces whose file names their nets.
 ghost use Rattle.std.specs.Prelude.{◌≡◌, ◌≤◌, ◌+◌, ◌<◌, ◌^◌, length, reverse, All, IfOk, OnOk};
 ghost use Rattle.std.specs.Option.{option_copied};
 ghost use Rattle.board_shapes.specs.Figures.{figure_of};
@@ -87,7 +87,7 @@ fn probes_by(
     Ok((probes, texts))
 }
 
-// Gives the parts the probes and names of their labelled pieces.
+/// Gives the parts the probes and names of their labelled pieces.
 pub fn name_pieces(alloc: Global, tables: &[Rows<Label>], parts: &mut Parts) -> Result<(), NoMemory>
     requires lawful { IsLawfulParts parts.old }
     requires rise { All Rise tables.now }

@@ -26,6 +26,7 @@ pub enum ManifestFault {
     NotJson,
     /// The value has another form.
     BadManifest,
+    /// Memory is wanted.
     NoMemory,
 }
 

@@ -13,7 +13,7 @@ const MOST_PIECES: u32 = 200_000;
 
 const MOST_EDGES: u64 = 2_000_000;
 
-// What the files so far give.
+/// What the files so far give.
 #[derive(Drop)]
 pub struct Parts {
     pub pieces: Vec<Piece>,
@@ -23,7 +23,7 @@ pub struct Parts {
 }
 
 impl Parts {
-    // Nothing yet.
+    /// Nothing yet, on 1 to 32 layers.
     pub fn new(alloc: Global, layers: u8) -> Parts
         requires some { 1 ≤ layers }
         requires few { layers ≤ 32 }
@@ -38,7 +38,7 @@ impl Parts {
         }
     }
 
-    // Adds the pieces of a file, for which there is room.
+    /// Adds the pieces of a file, for which there is room.
     pub fn add(&mut self, mut pieces: Vec<Piece>) -> Result<(), AllocError>
         requires lawful { IsLawfulParts self.old }
         requires few { length self.old.pieces.items + length pieces.items ≤ 200000 }
@@ -50,7 +50,7 @@ impl Parts {
     }
 }
 
-// The pieces and edges that may still come.
+/// The pieces and edges that may still come behind these: a board has at most 200,000 and 2,000,000.
 pub fn room_left(pieces: &[Piece]) -> Room
     requires { length pieces.now ≤ 200000 }
     ensures { result ≡ spec.room_left (plain_pieces pieces.now) }

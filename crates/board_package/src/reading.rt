@@ -13,7 +13,8 @@ use ipc356_records::{RecordFault, RecordKind, read_netlist};
 use std::alloc::Global;
 use xnc::{DrillFault, DrillKind, Span, read_drill};
 
-/// Why a file is refused: the first faulty command, line or record, by its kind, its number and its place in the file.
+/// Why a file is refused: the first faulty command, line or record, by its kind, its number and its place in the file; a
+/// record has a line and no place.
 #[derive(Clone, Copy, Debug, PartialEq, Eq)]
 pub enum Refusal {
     Layer {
@@ -58,7 +59,7 @@ impl Refusal {
     }
 }
 
-// Reads the file of an entry, and adds what it gives.
+/// Reads the file of an entry, and adds what it gives.
 pub fn read_file(
     alloc: Global,
     entry: &Entry,

@@ -51,7 +51,7 @@ pub fn build<P: Package>(
     framed(parts)
 }
 
-// Takes the manifest.
+/// Takes the manifest of this name into `file`, and reads it.
 pub fn take_manifest<P: Package>(
     alloc: Global,
     manifest: &Text,
@@ -99,7 +99,7 @@ fn take_files<P: Package>(
     Ok(())
 }
 
-// Takes one file of the order into `file`, and adds what it gives.
+/// Takes one file of the order into `file`, and adds what it gives.
 pub fn take_entry<P: Package>(
     alloc: Global,
     package: &mut P,
@@ -150,7 +150,7 @@ pub fn take_file<P: Package>(
     }
 }
 
-// The board of these parts, if it fits in a frame.
+/// The board of these parts, if it fits in a frame.
 pub fn framed(parts: Parts) -> Result<Board, BuildFault>
     requires { IsLawfulParts parts }
     ensures ok { IfOk result (λ board. plain_board board ≡ board_so_far parts) }

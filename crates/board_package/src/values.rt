@@ -9,7 +9,7 @@ use lengths::{Text, TextFault};
 use serde_json::Value;
 use std::alloc::Global;
 
-// Whether a value is an object with so many members.
+/// Whether a value is an object with so many members.
 pub fn has_members(value: &Value, count: usize) -> bool
     ensures { result ≡ spec.has_members count (view value.now) }
 {
@@ -19,7 +19,7 @@ pub fn has_members(value: &Value, count: usize) -> bool
     }
 }
 
-// The list that an object has under a key.
+/// The list that an object has under a key.
 pub fn list_at<'v>(value: &'v Value, key: &str) -> Option<&'v [Value]>
     ensures { option_map (λ list. map view list.now) result ≡ spec.list_at key.now (view value.now) }
 {
@@ -32,7 +32,7 @@ pub fn list_at<'v>(value: &'v Value, key: &str) -> Option<&'v [Value]>
     }
 }
 
-// The whole number that an object has under a key.
+/// The whole number that an object has under a key.
 pub fn number_at(value: &Value, key: &str) -> Option<u64>
     ensures { result ≡ spec.number_at key.now (view value.now) }
 {
@@ -42,7 +42,7 @@ pub fn number_at(value: &Value, key: &str) -> Option<u64>
     }
 }
 
-// The name of a file that a value is.
+/// The name of a file that a value is: a text of 1 to 200 bytes, each from 32 to 126; otherwise it is `BadManifest`.
 pub fn name_of(alloc: Global, value: &Value) -> Result<Text, ManifestFault>
     ensures ok { IfOk result (λ name. spec.name_of (view value.now) ≡ Some name) }
     ensures fault { IfErr result (Misses (spec.name_of (view value.now))) }
@@ -57,7 +57,7 @@ pub fn name_of(alloc: Global, value: &Value) -> Result<Text, ManifestFault>
     }
 }
 
-// The name of a file that an object has under a key.
+/// The name of a file that an object has under a key.
 pub fn name_at(alloc: Global, value: &Value, key: &str) -> Result<Text, ManifestFault>
     ensures ok { IfOk result (λ name. spec.name_at key.now (view value.now) ≡ Some name) }
     ensures fault { IfErr result (Misses (spec.name_at key.now (view value.now))) }

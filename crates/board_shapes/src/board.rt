@@ -1,4 +1,4 @@
-// A board: its pieces, its probes and their names.
+//! A board: its pieces, its probes and their names.
 ghost use Rattle.board_shapes.specs.CommonBox.{common_box, frame_over};
 ghost use Rattle.board_shapes.specs.Lawful.{IsInsideFrame, IsOnLayers, IsProbe};
 ghost use Rattle.board_shapes.specs.Pieces.{plain_pieces};

@@ -1,4 +1,4 @@
-// The common box of pieces, and whether it fits a frame.
+//! The common box of pieces, and whether it fits a frame.
 ghost use Rattle.board_shapes.specs.CommonBox.{FitsFrame, box_around, common_box, frame_over};
 ghost use Rattle.board_shapes.specs.Pieces.{plain_pieces};
 ghost use Rattle.planar.specs.declared.TheConstants.{SIDE};

@@ -1,4 +1,4 @@
-// How many edges pieces have.
+//! How many edges pieces have.
 ghost use Rattle.board_shapes.specs.Pieces.{edges_in as sum_of_edges, plain_pieces};
 ghost use Rattle.std.specs.Prelude.{length, ◌<◌, ◌^◌, ◌≡◌};
 

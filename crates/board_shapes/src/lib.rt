@@ -1,4 +1,8 @@
 //! Shapes on the layers of a board: pieces of copper, test points, and the board of both.
+//!
+//! `shape` has the solids, and `placed` a solid on a span of layers with what made it: a piece. `moved`
+//! shifts pieces, `edges` counts their edges, `rectangles` has contours along the axes. `probe` is a
+//! test point, `board` the board, and `common_box` the box of all its pieces. The laws stand in `laws`.
 #![tactic(auto)]
 
 mod board;

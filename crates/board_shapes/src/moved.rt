@@ -1,4 +1,4 @@
-// Pieces shifted.
+//! Pieces shifted.
 ghost use Rattle.board_shapes.specs.Figures.{area_figure, capsule_figure, figure_of};
 ghost use Rattle.board_shapes.specs.Moved.{IsMoveFault, IsShift, IsWay, StaysPlaced, moved_piece, shifted, shifted_figure};
 ghost use Rattle.board_shapes.specs.Pieces.{plain_piece};

@@ -1,4 +1,4 @@
-// A solid on a span of layers.
+//! A solid on a span of layers.
 ghost use Rattle.board_shapes.specs.Spans.{CommonLayer, InSpan};
 ghost use Rattle.contact.specs.Solid.{InBox, IsInside, SharePoint};
 ghost use Rattle.planar.specs.Plane.{IsPlaced, at as point_at};

@@ -1,4 +1,4 @@
-// A test point of a board.
+//! A test point of a board.
 use planar::Spot;
 
 /// A test point of a board: one place on one layer that a test record of the netlist names.

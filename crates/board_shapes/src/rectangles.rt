@@ -1,4 +1,4 @@
-// Rectangles along the axes.
+//! Rectangles along the axes.
 ghost use Rattle.area_contact.specs.Contour.{IsClosed};
 ghost use Rattle.board_shapes.specs.Rectangles as spec;
 ghost use Rattle.board_shapes.specs.Rectangles.{IsReachable};

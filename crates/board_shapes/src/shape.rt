@@ -1,4 +1,4 @@
-// A solid of copper: a capsule or a filled contour.
+//! A solid of copper: a capsule or a filled contour.
 ghost use Rattle.area_contact.specs.Contour.{IsClosed};
 ghost use Rattle.board_shapes.specs.Figures.{figure_edges, figure_of, filled};
 ghost use Rattle.board_shapes.specs.Shapes.{InShape, IsShapeLawful, boxed, not_empty, shape_box};

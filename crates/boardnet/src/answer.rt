@@ -1,4 +1,4 @@
-// What a command answers, and why it has no answer.
+//! What a command answers, and why it has no answer.
 ghost use Rattle.board_package.specs.declared.fault.BuildFault.TheVariants as build;
 ghost use Rattle.boardnet.specs.Answers.{line_of, status_of, unflat_of, ungapped_of, unlabelled_of, unmade_of};
 ghost use Rattle.boardnet.specs.Gapped.{IsGapStatus};

@@ -1,4 +1,4 @@
-// The command `audit`.
+//! The command `audit`.
 ghost use Rattle.board_io.specs.Package.{IsFaultless};
 ghost use Rattle.board_package.specs.Causes.{HasCause, KeepsFaults};
 ghost use Rattle.board_shapes.specs.Laws.{HasOneTables};
@@ -22,7 +22,7 @@ use texts::Numeral;
 use verdict::{ReadFault, read_report};
 use witness_check::{Ruling, audit};
 
-// The ruling on a report on the package of a manifest.
+/// The ruling on a report on the package of a manifest.
 pub fn ruling<P: Package>(alloc: Global, manifest: &str, report: &str, package: &mut P) -> Answered
     requires manifest { IsText manifest.now }
     requires report { IsText report.now }

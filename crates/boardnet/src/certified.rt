@@ -1,4 +1,4 @@
-// A check and the audit of its report, as any caller makes the two calls.
+//! A check and the audit of its report, as any caller makes the two calls.
 ghost use Rattle.board_io.specs.Causes.{Rose};
 ghost use Rattle.board_io.specs.Memory.{faults_of, files_of};
 ghost use Rattle.board_io.specs.MemorySink.{faults_of as sink_faults_of, got_of};
@@ -23,15 +23,16 @@ pub enum Certified {
     Unreported(u8),
     /// The status of the audit.
     Audited(u8),
+    /// Memory is wanted.
     NoMemory,
 }
 
 /// Checks a package in memory, holds the report in it under another name, and audits it.
 ///
 /// `checking` are the words of a check, `auditing` those of an audit of the same manifest; `out` is empty, and nothing is
-/// held under the report's name. Then the audit ends with 0 or 6 where no file was lost and the ruling could be written, and where the package fits there is a
-/// report to audit, unless it is too long, a fault rose or memory is wanted: by the contract of `run` and the law that a
-/// written report passes, and nothing else.
+/// held under the report's name. Then the audit ends with 0 or 6 where no file was lost and the ruling could be written,
+/// and where the package fits there is a report to audit, unless it is too long, a fault rose or memory is wanted: by the
+/// contract of `run` and the law that a written report passes, and nothing else.
 pub fn certify<N: Sink>(
     alloc: Global,
     checking: &[String],

@@ -1,4 +1,4 @@
-// The command `check`.
+//! The command `check`.
 ghost use Rattle.boardnet.specs.Ends.{Works};
 ghost use Rattle.boardnet.specs.Words.{Check, IsText};
 
@@ -9,7 +9,7 @@ use board_io::Package;
 use std::alloc::Global;
 use verdict::write_report;
 
-// The report of a version on the package of a manifest.
+/// The report of a version on the package of a manifest.
 pub fn report<P: Package>(
     alloc: Global,
     version: Version,

@@ -1,4 +1,4 @@
-// The work of each command.
+//! The work of each command.
 ghost use Rattle.boardnet.specs.Answers.{status_of};
 ghost use Rattle.boardnet.specs.Asked.{asked};
 ghost use Rattle.boardnet.specs.Ends.{HasNames, Works};
@@ -17,7 +17,7 @@ use crate::writing::netlist;
 use board_io::Package;
 use std::alloc::Global;
 
-// The answer to a command, or why it has none.
+/// The answer to a command, or why it has none.
 pub fn answer_to<P: Package>(alloc: Global, command: Command, package: &mut P) -> Answered
     requires { HasNames (asked command) }
     ensures works { Works P.held P.faults P.lost (asked command.entry) «package».old «package».new result }

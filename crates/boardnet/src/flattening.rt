@@ -1,4 +1,4 @@
-// The command `flatten`.
+//! The command `flatten`.
 ghost use Rattle.boardnet.specs.Answers.{status_of};
 ghost use Rattle.boardnet.specs.Ends.{Works};
 ghost use Rattle.boardnet.specs.Words.{Flatten, IsText};
@@ -11,7 +11,7 @@ use board_package::take_file;
 use macro_flatten::flatten;
 use std::alloc::Global;
 
-// The text of the image of a copper file.
+/// The text of the image of a copper file.
 pub fn flat_text<P: Package>(alloc: Global, file: &str, package: &mut P) -> Answered
     requires { IsText file.now }
     ensures works { Works P.held P.faults P.lost (Flatten file.now) «package».old «package».new result }

@@ -1,4 +1,4 @@
-// The command `gaps`.
+//! The command `gaps`.
 ghost use Rattle.board_shapes.specs.Plain.{plain_board};
 ghost use Rattle.boardnet.specs.Answers.{IsUngapped, line_of, status_of};
 ghost use Rattle.boardnet.specs.Ends.{Works};
@@ -13,7 +13,7 @@ use board_shapes::Board;
 use gaps::{GapFault, gaps, write_gaps};
 use std::alloc::Global;
 
-// The gaps of the package of a manifest at a distance.
+/// The gaps of the package of a manifest at a distance of at most 10,000,000 nm.
 pub fn gap_list<P: Package>(
     alloc: Global,
     manifest: &str,

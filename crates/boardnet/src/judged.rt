@@ -1,4 +1,4 @@
-// The board of a package, and the work on it: its nets and its verdict.
+//! The board of a package, and the work on it: its nets and its verdict.
 ghost use Rattle.board_io.specs.Package.{IsFaultless};
 ghost use Rattle.board_package.specs.Causes.{HasCause, KeepsFaults};
 ghost use Rattle.board_package.specs.PackageBoard.{Comes, IsBoardOf, IsFirstStop, IsWithinLimits};
@@ -24,7 +24,7 @@ use steps::Steps;
 use verdict::Verdict;
 use witness_check::laws as verdicts;
 
-// The board of the package of a manifest.
+/// The board of the package of a manifest.
 pub fn board_of<P: Package>(
     alloc: Global,
     manifest: &str,

@@ -1,4 +1,4 @@
-// The command `x2`.
+//! The command `x2`.
 ghost use Rattle.board_shapes.specs.Plain.{plain_board};
 ghost use Rattle.boardnet.specs.Answers.{line_of, status_of};
 ghost use Rattle.boardnet.specs.Ends.{Works};
@@ -17,7 +17,7 @@ use lengths::NoMemory;
 use std::alloc::Global;
 use verdict::write_report;
 
-// The report on the package of a manifest by the net names in its copper files.
+/// The report on the package of a manifest by the net names in its copper files.
 pub fn labelled_report<P: Package>(alloc: Global, manifest: &str, package: &mut P) -> Answered
     requires { IsText manifest.now }
     ensures { Works P.held P.faults P.lost (X2 manifest.now) «package».old «package».new result }

@@ -1,4 +1,4 @@
-// Laws over the outcomes. Their calls do nothing.
+//! Laws over the outcomes. Their calls do nothing.
 ghost use Rattle.boardnet.specs.Laws.{ReportsPass, WrittenNetlistsPass};
 
 use board_package::laws as packages;

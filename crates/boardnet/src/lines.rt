@@ -1,4 +1,4 @@
-// The line to the notes, put in pieces and without memory.
+//! The line to the notes, put in pieces and without memory.
 ghost use Rattle.boardnet.specs.Lines.{Gains, Rose, Says, at_byte, at_item, counted_line, differs_line, file_line, frame_line, kind_line, label_line, plain_line};
 ghost use Rattle.std.specs.List.{flat_map};
 ghost use Rattle.std.specs.Prelude.{false, true, ◌≡◌};

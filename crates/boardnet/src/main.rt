@@ -1,11 +1,12 @@
 //! boardnet: does the copper of a bare board join exactly the points that its netlist joins?
 //!
-//! The words of the command line are judged (`words`). Each command does its work on the package (`commands`) and has an answer,
-//! or a reason why there is none (`answer`): for `check` the package's board is built and judged (`checking`, `judged`); for
-//! `audit` a report on it is read and audited (`auditing`); for `trial` a made package is checked (`trial`); for `write` a
-//! netlist of its nets is made (`writing`); for `gaps` the nets that come close are listed (`gapping`);
-//! for `x2` the board is judged by the net names in its copper files (`labelling`); for `flatten` a copper file is rewritten
-//! without aperture macros (`flattening`). The text goes to the output, and a line to the notes (`putting`, `lines`, `refusing`).
+//! `run` is the top call. The words of the command line are judged (`words`). Each command does its work on the package
+//! (`commands`) and has an answer, or a reason why there is none (`answer`): for `check` the package's board is built and
+//! judged (`checking`, `judged`); for `audit` a report on it is read and audited (`auditing`); for `trial` a made package is
+//! checked (`trial`); for `write` a netlist of its nets is made (`writing`); for `gaps` the nets that come close are listed
+//! (`gapping`); for `x2` the board is judged by the net names in its copper files (`labelling`); for `flatten` a copper file
+//! is rewritten without aperture macros (`flattening`). The text goes to the output, and a line to the notes (`putting`,
+//! `lines`, `refusing`). `certified` is a check with the audit of its report. The laws stand in `laws`.
 #![tactic(auto)]
 
 mod answer;

@@ -1,4 +1,4 @@
-// What is put for a command: its text to the output in one piece, and a line to the notes.
+//! What is put for a command: its text to the output in one piece, and a line to the notes.
 ghost use Rattle.boardnet.specs.Answers.{RefusesFor};
 ghost use Rattle.boardnet.specs.Asked.{asked};
 ghost use Rattle.boardnet.specs.Ends.{Puts};
@@ -14,7 +14,7 @@ use board_io::{Put, Sink};
 use lengths::NoMemory;
 use std::alloc::Global;
 
-// Puts the answer to a command and the line about it, or the line that says why there is none, and answers the status.
+/// Puts the answer to a command and the line about it, or the line that says why there is none, and answers the status.
 pub fn conclude<S: Sink, N: Sink>(
     command: Command,
     given: Answered,
@@ -52,7 +52,7 @@ fn put_text<S: Sink, N: Sink>(text: &[u8], out: &mut S, notes: &mut N) -> bool
     true
 }
 
-// The pieces of a text, one behind another.
+/// The pieces of a text, one behind another.
 pub fn joined(alloc: Global, pieces: &[&[u8]]) -> Result<Vec<u8>, NoMemory>
     ensures { IfOk result (λ text. text.items ≡ flat_map (λ piece. piece.now) pieces.now) }
 {

@@ -1,4 +1,4 @@
-// Refusals: the line of each, and its status.
+//! Refusals: the line of each, and its status.
 ghost use Rattle.boardnet.specs.Answers.{Refuses, RefusesFor, fault_line};
 ghost use Rattle.boardnet.specs.Asked.{asked};
 ghost use Rattle.boardnet.specs.Lines.{Says};
@@ -14,7 +14,7 @@ use board_package::{BuildFault, Refusal};
 use lengths::Text;
 use std::alloc::Global;
 
-// Puts the line that says why a command has no answer, and answers its status.
+/// Puts the line that says why a command has no answer, and answers its status.
 pub fn refuse<N: Sink>(command: Command, why: &Unanswered, notes: &mut N) -> u8
     ensures line { RefusesFor (asked command.entry) why.now result (Says N.got N.faults notes.old notes.new) }
     ensures later { N.faults notes.old ≤ N.faults notes.new }
@@ -129,7 +129,7 @@ fn form(why: Refusal) -> &'static str
     }
 }
 
-// The name as a text.
+/// The name as a text. The one fault is want of memory.
 pub fn name_of(alloc: Global, manifest: &str) -> Result<Text, BuildFault>
     requires { IsText manifest.now }
     ensures ok { IfOk result (λ name. name ≡ manifest.now) }

@@ -1,4 +1,4 @@
-// The top call.
+//! The top call.
 ghost use Rattle.boardnet.specs.Asked.{asked};
 ghost use Rattle.boardnet.specs.Ends.{Ends, HasNames};
 ghost use Rattle.boardnet.specs.Kept.{Keeps};
@@ -21,13 +21,13 @@ use verdict::laws as verdicts;
 ///
 /// `check MANIFEST` builds the board of the package, judges it, puts the report to `out` in one piece and a line
 /// about it to `notes`. The report is of version 2, with the place of each test point and the source of each piece;
-/// `check MANIFEST 1` puts one of version 1, without them. `audit MANIFEST REPORT` builds the board, takes and reads the report, and puts whether it is the
-/// text of a right verdict on the board, or the number of the first clause that does not hold. `trial SEED SIZE` checks the
-/// made board of the two numbers, and puts a summary; it takes nothing from the package. `write MANIFEST` builds the board
-/// and puts a netlist of its nets. `gaps MANIFEST NANOMETRES` builds the board and lists the nets that come that close.
-/// `x2 MANIFEST` checks the package as `check` does, by the net names in its copper files in place of its netlist, which it
-/// does not take. `flatten FILE` takes one copper file, which may have aperture macros, and puts a copper file without them
-/// that every layer reads as exactly the same shapes.
+/// `check MANIFEST 1` puts one of version 1, without them. `audit MANIFEST REPORT` builds the board, takes and reads the
+/// report, and puts whether it is the text of a right verdict on the board, or the number of the first clause that does
+/// not hold. `trial SEED SIZE` checks the made board of the two numbers, and puts a summary; it takes nothing from the
+/// package. `write MANIFEST` builds the board and puts a netlist of its nets. `gaps MANIFEST NANOMETRES` builds the board
+/// and lists the nets that come that close. `x2 MANIFEST` checks the package as `check` does, by the net names in its
+/// copper files in place of its netlist, which it does not take. `flatten FILE` takes one copper file, which may have
+/// aperture macros, and puts a copper file without them that every layer reads as exactly the same shapes.
 ///
 /// | Status | When |
 /// |---|---|
@@ -102,7 +102,8 @@ pub fn run<P: Package, S: Sink, N: Sink>(
     ensures front { result ≡ 5 → (command : Asked) → Asks words.now command → OfFilesRead command (P.held «package».old) (λ files.
         (text line : List ℕ) × (status : ℕ) × OutcomeOf files command (Told text status line) × GainsFrontOf (S.got out.old) text (S.got out.new)) }
 
-    // What is left: the package holds what it held, no count of faults falls, and nothing was asked that failed but under 4 and 6.
+    // What is left: the package holds what it held, no count of faults falls, and nothing was asked that failed but under
+    // 4 and 6.
     ensures kept { Keeps P.held P.faults P.lost «package».old «package».new result }
     ensures later { (S.faults out.old ≤ S.faults out.new) × (N.faults notes.old ≤ N.faults notes.new) }
 
@@ -118,11 +119,13 @@ pub fn run<P: Package, S: Sink, N: Sink>(
     ensures netlisted { IfSome (P.held «package».old) (λ files. (name : List ℕ) → IsWrite words.now name → (board : PlainBoard) → IsBoardOf files name board
         → (Rose (P.faults «package».old) (P.faults «package».new) → ⊥) → (Rose (S.faults out.old) (S.faults out.new) → ⊥) → (result ≤ 1) ⊎ (result ≡ 6)) }
 
-    // A package that fits, also with its pieces grown by half the distance, has its list of gaps, unless reading or writing fails or memory is wanted.
+    // A package that fits, also with its pieces grown by half the distance, has its list of gaps, unless reading or writing
+    // fails or memory is wanted.
     ensures listed { IfSome (P.held «package».old) (λ files. (name : List ℕ) (nanometres : ℕ) → IsGaps words.now name nanometres → (board : PlainBoard) → IsBoardOf files name board → Fits (grown_common (pos (5 * nanometres)) board.pieces)
         → (Rose (P.faults «package».old) (P.faults «package».new) → ⊥) → (Rose (S.faults out.old) (S.faults out.new) → ⊥) → (result ≤ 1) ⊎ (result ≡ 6)) }
 
-    // A package that fits without its netlist, and whose labels are texts, has its verdict, unless reading or writing fails or memory is wanted.
+    // A package that fits without its netlist, and whose labels are texts, has its verdict, unless reading or writing fails
+    // or memory is wanted.
     ensures named { IfSome (P.held «package».old) (λ files. (name : List ℕ) → IsX2 words.now name → (board : PlainBoard) → IsLabelledBoardOf files name board
         → (Rose (P.faults «package».old) (P.faults «package».new) → ⊥) → (Rose (S.faults out.old) (S.faults out.new) → ⊥) → (result ≤ 1) ⊎ (result ≡ 6)) }
 

@@ -24,7 +24,7 @@ pub const MANIFEST: &str = "{\"copper\":[\"t.gbr\"],\"drills\":[],\"netlist\":\"
 
 pub const AUDIT: &[&str] = &["audit", "m.json", "r.txt"];
 
-// Lines as a file.
+/// Lines as a file.
 pub fn text(alloc: Global, lines: &[&str]) -> Result<Vec<u8>, NoMemory> {
     let mut bytes = Vec::new(alloc);
     for line in lines {
@@ -34,7 +34,7 @@ pub fn text(alloc: Global, lines: &[&str]) -> Result<Vec<u8>, NoMemory> {
     Ok(bytes)
 }
 
-// A copper file in millimetres of these lines.
+/// A copper file in millimetres of these lines.
 pub fn gerber(alloc: Global, lines: &[&str]) -> Result<Vec<u8>, NoMemory> {
     let mut bytes = text(alloc, &["%FSLAX46Y46*%", "%MOMM*%"])?;
     bytes.append(&mut text(alloc, lines)?)?;
@@ -42,7 +42,7 @@ pub fn gerber(alloc: Global, lines: &[&str]) -> Result<Vec<u8>, NoMemory> {
     Ok(bytes)
 }
 
-// A netlist in 0.001 mm of these records.
+/// A netlist in 0.001 mm of these records.
 pub fn netlist(alloc: Global, records: &[&str]) -> Result<Vec<u8>, NoMemory> {
     let mut bytes = text(alloc, &["P  UNITS CUST 1"])?;
     bytes.append(&mut text(alloc, records)?)?;
@@ -50,7 +50,7 @@ pub fn netlist(alloc: Global, records: &[&str]) -> Result<Vec<u8>, NoMemory> {
     Ok(bytes)
 }
 
-// A package of one layer without drills.
+/// A package of one layer without drills.
 pub fn package(alloc: Global, copper: &[u8], points: &[u8]) -> Result<MemoryPackage, NoMemory> {
     let mut package = MemoryPackage::new(alloc);
     package.hold("m.json", MANIFEST.as_bytes())?;
@@ -59,7 +59,7 @@ pub fn package(alloc: Global, copper: &[u8], points: &[u8]) -> Result<MemoryPack
     Ok(package)
 }
 
-// The same of the lines of its copper file and the records of its netlist.
+/// The same of the lines of its copper file and the records of its netlist.
 pub fn one_layer(
     alloc: Global,
     lines: &[&str],
@@ -70,7 +70,7 @@ pub fn one_layer(
     package(alloc, copper.as_slice(), points.as_slice())
 }
 
-// A package of these files under these names.
+/// A package of these files under these names.
 pub fn files(alloc: Global, files: &[(&str, &[&str])]) -> Result<MemoryPackage, NoMemory> {
     let mut package = MemoryPackage::new(alloc);
     for (name, lines) in files {
@@ -79,6 +79,7 @@ pub fn files(alloc: Global, files: &[(&str, &[&str])]) -> Result<MemoryPackage, 
     Ok(package)
 }
 
+/// The words of a call as strings.
 pub fn words(alloc: Global, given: &[&str]) -> Result<Vec<String>, Fail> {
     let mut words = Vec::new(alloc);
     for word in given {
@@ -87,7 +88,7 @@ pub fn words(alloc: Global, given: &[&str]) -> Result<Vec<String>, Fail> {
     Ok(words)
 }
 
-// The status of a call of `run`. It has no clause, so that the goals of a test see none of those of `run`.
+/// The status of a call of `run`. It has no clause, so that the goals of a test see none of those of `run`.
 pub fn called(
     alloc: Global,
     words: &[String],
@@ -98,7 +99,7 @@ pub fn called(
     run(alloc, words, package, out, notes)
 }
 
-// The status, what was put and the line of a call.
+/// The status, what was put and the line of a call.
 pub fn answer(
     alloc: Global,
     given: &[&str],
@@ -111,11 +112,12 @@ pub fn answer(
     Ok((status, out, notes))
 }
 
+/// What a sink got, as a text.
 pub fn shown(sink: &MemorySink) -> &str {
     str::from_utf8(sink.bytes()).unwrap_or("no text")
 }
 
-// Wants of the words this status, this line and exactly this text.
+/// Wants of the words this status, this line and exactly this text.
 pub fn wants(
     alloc: Global,
     given: &[&str],
@@ -133,7 +135,7 @@ pub fn wants(
     Ok(())
 }
 
-// What an audit says of a report: it is right, not so at a clause, or none.
+/// What an audit says of a report: it is right, not so at a clause, or none.
 #[derive(Clone, Copy)]
 pub enum Ruling {
     True,
@@ -141,7 +143,7 @@ pub enum Ruling {
     NoReport,
 }
 
-// Wants this of the audit of a report on a package.
+/// Wants this of the audit of a report on a package.
 pub fn rules(
     alloc: Global,
     package: &mut MemoryPackage,
@@ -176,8 +178,8 @@ pub fn rules(
     }
 }
 
-// A board of one layer: the lines of its copper file and the records of its netlist, without what begins and ends both; the
-// status of a check, the line, and a part of the report.
+/// A board of one layer: the lines of its copper file and the records of its netlist, without what begins and ends both; the
+/// status of a check, the line, and a part of the report.
 pub type Row = (
     &'static [&'static str],
     &'static [&'static str],
@@ -186,7 +188,7 @@ pub type Row = (
     &'static [u8],
 );
 
-// A package of files by their lines, the status of a check, the line, and a part of the report.
+/// A package of files by their lines, the status of a check, the line, and a part of the report.
 pub type Files = (
     &'static [(&'static str, &'static [&'static str])],
     u8,
@@ -194,7 +196,7 @@ pub type Files = (
     &'static [u8],
 );
 
-// Whether the bytes have this part.
+/// Whether the bytes have this part.
 pub fn has(bytes: &[u8], part: &[u8]) -> bool {
     part.is_empty() || bytes.windows(part.len()).any(|window| window == part)
 }
@@ -225,8 +227,8 @@ fn is_supplemented(plain: &str, full: &str) -> bool {
     more.starts_with("spots ") && more.contains("\nsources ") && more.ends_with(last)
 }
 
-// Whether `check` over this package gives the status, the line, and a report of version 1 with this part, or none where it
-// is empty; and without its third word the same with a supplement.
+/// Whether `check` over this package gives the status, the line, and a report of version 1 with this part, or none where it
+/// is empty; and without its third word the same with a supplement.
 pub fn answers(
     alloc: Global,
     package: &mut MemoryPackage,
@@ -242,14 +244,16 @@ pub fn answers(
     Ok(right && same && is_supplemented(shown(&out), shown(&more)))
 }
 
+/// A test record of A at (0, 0) on layer 1.
 pub const A_AT_0: &str = "327A                                  A01X+000000Y+000000";
 
+/// The same at (1 mm, 0).
 pub const A_AT_1: &str = "327A                                  A01X+001000Y+000000";
 
-// The two ends of a track of 1 mm.
+/// The two ends of a track of 1 mm.
 pub const ENDS: &[&str] = &[A_AT_0, A_AT_1];
 
-// Two discs that touch, and two that are a nanometre apart.
+/// Two discs that touch, and two that are a nanometre apart.
 pub const TIE: &[&str] = &["%ADD10C,1.0*%", "D10*", "X0Y0D03*", "X1000000Y0D03*"];
 
 pub const APART: &[&str] = &["%ADD10C,1.0*%", "D10*", "X0Y0D03*", "X1000001Y0D03*"];

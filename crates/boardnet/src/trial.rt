@@ -1,4 +1,4 @@
-// The command `trial`.
+//! The command `trial`.
 ghost use Rattle.boardnet.specs.Answers.{line_of, status_of};
 ghost use Rattle.boardnet.specs.Ends.{HasReason};
 ghost use Rattle.boardnet.specs.Outcome.{Files, IsBoardOf, IsTrialReport, PlainBoard, made_files, made_manifest, summary_text};
@@ -18,7 +18,7 @@ use std::alloc::Global;
 use texts::Numeral;
 use verdict::Verdict;
 
-// The summary of a check of the made board of a seed and a size.
+/// The summary of a check of the made board of a seed and a size; `SizeTooLarge` where the size is over 10,000 cells.
 pub fn summary(alloc: Global, seed: u64, size: u32) -> Answered
     ensures ok { IfOk result (λ answer. IsTrialReport seed size answer.text.items (status_of answer.note) (line_of answer.note)) }
     ensures reason { IfErr result (λ why. (held : Option Files) (before now : ℕ) (lost : List ℕ) → HasReason (Trial seed size) held before now lost why) }

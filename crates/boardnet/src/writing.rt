@@ -1,4 +1,4 @@
-// The command `write`.
+//! The command `write`.
 ghost use Rattle.board_shapes.specs.Plain.{plain_board};
 ghost use Rattle.boardnet.specs.Answers.{status_of};
 ghost use Rattle.boardnet.specs.Ends.{Works};
@@ -14,7 +14,7 @@ use lengths::NoMemory;
 use netlist_writer::write_netlist;
 use std::alloc::Global;
 
-// The netlist of the package of a manifest.
+/// The netlist of the package of a manifest.
 pub fn netlist<P: Package>(alloc: Global, manifest: &str, package: &mut P) -> Answered
     requires { IsText manifest.now }
     ensures works { Works P.held P.faults P.lost (Write manifest.now) «package».old «package».new result }

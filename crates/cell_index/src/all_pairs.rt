@@ -1,4 +1,4 @@
-// A field that looks at every piece.
+//! A field that looks at every piece.
 ghost use Rattle.cell_index.specs.Among.{TouchAmong, UnderAmong, bottom_in, extent_in, top_in, turned};
 ghost use Rattle.contact.specs.Solid.{IsInside};
 ghost use Rattle.planar.specs.declared.Spot.{Spot};

@@ -1,4 +1,4 @@
-// What a field of cells answers.
+//! What a field of cells answers.
 ghost use Rattle.cell_index.specs.Among.{TouchAmong, UnderAmong, bottom_in, extent_in, top_in, turned};
 ghost use Rattle.cell_index.specs.Field.{IsNear, is_rival, rivals_of};
 ghost use Rattle.cell_index.specs.Finding.{IsLesser};

@@ -1,4 +1,4 @@
-// A field that looks only where its pieces are: the pieces of each cell.
+//! A field that looks only at the pieces whose copies, stretched over the frame, stand in the same cells or are wide.
 ghost use Rattle.cell_index.specs.Among.{TouchAmong, UnderAmong};
 ghost use Rattle.cell_index.specs.Bins.{bin_of};
 ghost use Rattle.cell_index.specs.Cells.{cell_of, wide_of};

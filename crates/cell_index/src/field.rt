@@ -1,4 +1,4 @@
-// What a search of nets asks of pieces, with no word of shapes.
+//! What a search of nets asks of pieces, with no word of shapes.
 ghost use Rattle.cell_index.specs.Field.{IsNear, rivals_of};
 ghost use Rattle.contact.specs.declared.Bounds.{Bounds};
 ghost use Rattle.planar.specs.Plane.{IsPlaced};
@@ -59,5 +59,6 @@ pub trait Field {
         ensures least { IsLeast (beneath self.now at layer) result }
         ensures piece { IfSome result (λ p. p < size self.now) };
 
+    /// A lawful field's touching is symmetric.
     ghost symmetric: { (field : Self) (p q : ℕ) → is_lawful field → touch field p q → touch field q p };
 }

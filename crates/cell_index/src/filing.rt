@@ -1,4 +1,4 @@
-// The pieces of a layer, filed under its cells.
+//! The pieces of a layer, filed under its cells.
 ghost use Rattle.cell_index.specs.Bins.{pieces_in};
 ghost use Rattle.cell_index.specs.Rows.{CanBeFiled, Files, IsSheet, in_patch, in_row, in_run, row_of};
 ghost use Rattle.contact.specs.Solid.{IsInside};

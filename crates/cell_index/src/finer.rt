@@ -1,4 +1,4 @@
-// The boxes of the pieces once more, stretched over a whole frame and filed under its cells.
+//! The boxes of the pieces once more, stretched over a whole frame and filed under its cells.
 ghost use Rattle.cell_index.specs.Bins.{bin_of};
 ghost use Rattle.cell_index.specs.Cells.{cell_of, wide_of};
 ghost use Rattle.cell_index.specs.Field.{boxes_meet};

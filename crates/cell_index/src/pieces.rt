@@ -1,4 +1,4 @@
-// What is asked of two pieces, and of a piece and a spot, whatever the field.
+//! What is asked of two pieces, and of a piece and a spot, whatever the field.
 ghost use Rattle.cell_index.specs.Among.{TouchAmong, UnderAmong, bottom_in, extent_in, top_in};
 ghost use Rattle.cell_index.specs.Field.{IsNear, is_rival};
 ghost use Rattle.contact.specs.Solid.{IsInside};

@@ -1,4 +1,4 @@
-// A box as a solid.
+//! A box as a solid.
 ghost use Rattle.cell_index.specs.PlateLaws.{corner_in};
 ghost use Rattle.contact.specs.Solid.{InBox};
 ghost use Rattle.std.specs.Prelude.{◌≤ℤ◌};

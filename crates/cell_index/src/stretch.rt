@@ -1,4 +1,4 @@
-// A stretch of the plane that puts the pieces over a whole frame, so that cells are as fine as the pieces stand close.
+//! A stretch of the plane that puts the pieces over a whole frame, so that cells are as fine as the pieces stand close.
 ghost use Rattle.cell_index.specs.Stretched.{box_over, place_of, spot_over};
 ghost use Rattle.std.specs.Prelude.{◌≡◌};
 

@@ -77,7 +77,7 @@ fn pairs_of<S: Meets<S>>(items: &[Placed<S>], frame: Frame) -> Option<AllPairs<'
     }
 }
 
-// Cells of items that fit, and the items' want of memory as none at all.
+// Cells of the items, or none where an item lies outside the frame or the layers.
 fn cells_of<'a, S: Meets<S>>(
     alloc: Global,
     items: &'a [Placed<S>],

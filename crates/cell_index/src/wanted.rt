@@ -1,4 +1,4 @@
-// Which pieces a search is asked for.
+//! Which pieces a search is asked for.
 ghost use Rattle.std.specs.Prelude.{ℕ, IsTrue};
 
 /// A test of pieces, by their numbers, that a search makes before it looks at their boxes.

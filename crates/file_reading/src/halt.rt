@@ -1,10 +1,12 @@
-// Why a reader stops.
+//! Why a reader stops.
 ghost use Rattle.std.specs.Prelude.{◌≡◌};
 
 /// What stops a reader at an item: the item's fault, or want of memory.
 #[derive(Clone, Copy, Debug, Drop)]
 pub enum Halt<W> {
+    /// The fault of the item.
     Fault(W),
+    /// Memory is wanted.
     NoMemory,
 }
 

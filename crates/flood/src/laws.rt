@@ -1,4 +1,4 @@
-// Laws of nets and homes.
+//! Laws of nets and homes.
 ghost use Rattle.board_shapes.specs.Plain.{PlainBoard};
 ghost use Rattle.board_shapes.specs.declared.placed.Placed.{Placed};
 ghost use Rattle.board_shapes.specs.declared.shape.Shape.{Shape};

@@ -1,4 +1,4 @@
-// Nets, each breadth first from its least piece.
+//! Nets, each breadth first from its least piece.
 ghost use Rattle.std.specs.Prelude.{◌≡◌, ◌⊎◌, ℕ, ◌+◌, ◌*◌, ◌<◌, ◌≤◌, ◌^◌, Bool, List, [], ◌∷◌, ◌++◌, length, Contains, OnOk, IfOk};
 ghost use Rattle.cell_index.specs.Field.{IsNear, pairs_of, rivals_of, sum_below};
 ghost use Rattle.verdict.specs.Forest.{IsForest, pieces_of};

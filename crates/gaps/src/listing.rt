@@ -45,7 +45,10 @@ impl From<NoMemory> for GapFault {
 
 /// The gaps between the nets of a board: for each layer, each two nets of which pieces are at most
 /// this distance apart on the layer, with the least such pieces. The trees are spanning trees of
-/// the board's nets. The frame is judged before memory is taken.
+/// the board's nets. `nanometres` is at most 10,000,000.
+///
+/// `FrameTooLarge` comes exactly where the box of all pieces, each grown by half the distance, has
+/// a side over 1 m: that is judged before memory is taken.
 pub fn gaps(
     alloc: Global,
     board: &Board,

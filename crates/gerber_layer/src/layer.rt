@@ -1,4 +1,4 @@
-// Reads a layer.
+//! Reads a layer.
 ghost use Rattle.std.specs.Prelude.{◌≡◌, ◌+◌, ◌^◌, ◌<◌, ◌≤◌, length, All, IfOk, IfErr, OnOk};
 ghost use Rattle.board_shapes.specs.Pieces.{plain_pieces};
 ghost use Rattle.gerber_layer.specs.Command.{view};

@@ -1,4 +1,4 @@
-// What a macro flashes.
+//! What a macro flashes.
 ghost use Rattle.std.specs.Prelude.{◌≡◌, ◌++◌, ◌≤◌, false, get_or, true, IfErr, IfOk, OnOk};
 ghost use Rattle.aperture_macros.specs.Images.{IsBlank, figure_at};
 ghost use Rattle.aperture_macros.specs.Seen.{Makes, plain, seen_shape};

@@ -1,4 +1,4 @@
-// Kinds of refusal where a file may have macros.
+//! Kinds of refusal where a file may have macros.
 ghost use Rattle.std.specs.Prelude.{◌≡◌};
 ghost use Rattle.gerber_layer.specs.MacroKinds.{flatten_name, flatten_number};
 ghost use Rattle.gerber_layer.specs.MacroTable.{kind_of_macro};
@@ -99,5 +99,6 @@ pub enum FlattenFault {
         /// The place of its first byte in the file, from 0.
         at: usize,
     },
+    /// Memory is wanted.
     NoMemory,
 }

@@ -1,4 +1,4 @@
-// The rows of the table of commands where a file may have macros.
+//! The rows of the table of commands where a file may have macros.
 ghost use Rattle.std.specs.Prelude.{◌≡◌, ◌+◌, ◌^◌, ◌<◌, true, IfErr, IfOk, Ok, OnOk, Some};
 ghost use Rattle.board_shapes.specs.Pieces.{plain_pieces};
 ghost use Rattle.gerber_layer.specs.Command.{view};

@@ -1,4 +1,4 @@
-// The definition of an aperture by a macro.
+//! The definition of an aperture by a macro.
 ghost use Rattle.std.specs.Prelude.{◌≡◌, ◌≤◌, true, drop, length, IfOk, option_map};
 ghost use Rattle.std.specs.List.{count_by, list_all};
 ghost use Rattle.texts.specs.Digits.{is_decimal_digit};

@@ -1,4 +1,4 @@
-// The radii of the capsules among pieces.
+//! The radii of the capsules among pieces.
 use board_shapes::{Piece, Shape};
 use indexmap::IndexSet;
 use lengths::NoMemory;
@@ -49,6 +49,7 @@ impl Radii {
         Ok(radii)
     }
 
+    /// How many there are.
     pub fn len(&self) -> usize
         ensures { result ≡ length (radii_in self.now) }
     {

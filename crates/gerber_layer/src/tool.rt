@@ -1,4 +1,4 @@
-// What stands in the aperture dictionary.
+//! What stands in the aperture dictionary.
 use apertures::Aperture;
 use lengths::{Decimal, Unit};
 

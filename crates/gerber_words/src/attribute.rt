@@ -1,4 +1,4 @@
-// Attributes, and their fields.
+//! Attributes, and their fields.
 ghost use Rattle.std.specs.Prelude.{◌≡◌, ◌≤◌, length, IfSome};
 ghost use Rattle.std.specs.Option.{option_copied};
 ghost use Rattle.gerber_words.specs.Attributes.{attribute_kind, attribute_of, field_of, plain_attribute, plain_attributes};

@@ -1,4 +1,4 @@
-// The words between blanks.
+//! The words between blanks.
 ghost use Rattle.std.specs.Prelude.{not};
 ghost use Rattle.texts.specs.Blanks as spec;
 ghost use Rattle.ipc356_records.specs.Columns.{NextWord};

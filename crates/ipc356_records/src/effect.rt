@@ -1,4 +1,4 @@
-// What a line does.
+//! What a line does.
 use lengths::Unit;
 use planar::Spot;
 

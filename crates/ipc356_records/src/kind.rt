@@ -1,4 +1,4 @@
-// Kinds of refusal.
+//! Kinds of refusal.
 ghost use Rattle.std.specs.Prelude.{◌≡◌};
 ghost use Rattle.ipc356_records.specs.Kind.{name_of_kind, number_of_kind};
 
@@ -77,6 +77,8 @@ impl RecordKind {
 /// Why a netlist is not read: its first faulty line, by its number from 1, or want of memory.
 #[derive(Clone, Copy, Debug, PartialEq, Eq)]
 pub enum RecordFault {
+    /// The first fault, and the number of its line, from 1.
     Refused { kind: RecordKind, line: u32 },
+    /// Memory is wanted.
     NoMemory,
 }

@@ -4,7 +4,7 @@
 //! as a form (`reading`, `line`); the table of lines says what a form does, or its fault, by what is known before it
 //! (`table`, `effect`, `kind`). The reader takes effects on (`reader`) and numbers the names (`names`), and `netlist` reads
 //! the whole file. The definition (specs/NetlistFile.antt) keeps no state: it looks back in the list of lines, as
-//! `file_reading` says for all files. The law over the definitions stands in `laws`.
+//! `file_reading` says for all files. The laws over the definitions stand in `laws`.
 #![tactic(auto)]
 
 mod blanks;

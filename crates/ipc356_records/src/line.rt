@@ -1,4 +1,4 @@
-// What a line says, as each is read by itself.
+//! What a line says, as each is read by itself.
 use lengths::Unit;
 
 /// A whole number of steps of the netlist's unit, with its sign apart.

@@ -1,4 +1,4 @@
-// The distinct names of a netlist.
+//! The distinct names of a netlist.
 use indexmap::IndexSet;
 use lengths::{NoMemory, Rows, Text, TextFault};
 use std::alloc::Global;
@@ -15,6 +15,7 @@ impl<'a> NameTable<'a> {
     ghost use Rattle.ipc356_records.specs.Names.{index_of, with_name};
     ghost use Rattle.ipc356_records.specs.NameTable.{names_in};
 
+    /// No names.
     pub fn new(alloc: Global) -> NameTable<'a>
         ensures { names_in result ≡ [] }
     {

@@ -1,4 +1,4 @@
-// Reads a netlist.
+//! Reads a netlist.
 ghost use Rattle.std.specs.Prelude.{◌≡◌, ◌+◌, ◌^◌, ◌<◌, ◌≤◌, length, IfOk, IfErr, OnOk};
 ghost use Rattle.ipc356_records.specs.Line.{finishes};
 ghost use Rattle.ipc356_records.specs.NetlistFile.{FitsBoard, IsFault, IsRead};
@@ -45,7 +45,11 @@ fn finished(alloc: Global, mut reader: Reader, line: u32) -> Result<Netlist, Rec
     }
 }
 
-/// The probes of a netlist in record order and the distinct names of its nets, or the first faulty line.
+/// The probes of a netlist in record order and the distinct names of its nets, or the first faulty line. The board has
+/// 1 to 32 layers, the file at most 67,108,864 bytes.
+///
+/// `Refused` gives the first line with a fault, from 1, and the first condition that it breaks; a file without `999` is
+/// refused at the next line number. `NoMemory` may come at any file.
 pub fn read_netlist(alloc: Global, file: &[u8], layers: u8) -> Result<Netlist, RecordFault>
     requires some_layer { 1 ≤ layers }
     requires few_layers { layers ≤ 32 }

@@ -1,4 +1,4 @@
-// What the reader of a netlist keeps, and how it obeys a line.
+//! What the reader of a netlist keeps, and how it obeys a line.
 use crate::effect::Effect;
 use crate::kind::RecordKind;
 use crate::line::{Form, TestFields};
@@ -11,6 +11,8 @@ use lengths::{NoMemory, Rows, Unit};
 use planar::Spot;
 use std::alloc::Global;
 
+/// What the lines of a netlist so far have set and added, on a board of so many layers; `records` counts the test
+/// records.
 #[derive(Drop)]
 pub struct Reader<'a> {
     pub unit: Option<Unit>,
@@ -31,6 +33,7 @@ impl<'a> Reader<'a> {
     ghost use Rattle.ipc356_records.specs.Table as spec;
     ghost use Rattle.ipc356_records.specs.Table.{adds, layers_of, probe_at};
 
+    /// Before the first line. There is at least one layer.
     pub fn new(alloc: Global, layers: u8) -> Reader<'a>
         requires { 1 ≤ layers }
         ensures new { IsNew layers result }
@@ -175,7 +178,7 @@ impl<'a> Reader<'a> {
         Ok(())
     }
 
-    // The probes and the names as texts of their own.
+    /// The probes and the names as texts of their own.
     pub fn into_netlist(self, alloc: Global) -> Result<Netlist, NoMemory>
         requires lawful { IsLawfulReader self }
         ensures probes { IfOk result (λ n. n.probes ≡ self.entry.probes) }

@@ -1,4 +1,4 @@
-// The lines of a netlist and their columns.
+//! The lines of a netlist and their columns.
 ghost use Rattle.std.specs.Prelude.{◌≡◌, ◌+◌, ◌-◌, ◌≤◌, length};
 ghost use Rattle.texts.specs.Blanks.{trimmed};
 ghost use Rattle.texts.specs.Lines.{start};

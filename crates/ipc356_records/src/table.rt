@@ -1,4 +1,4 @@
-// The table of lines: what each does, or its fault. The rows themselves are calls of the reader.
+//! The table of lines: what each does, or its fault. The rows themselves are calls of the reader.
 ghost use Rattle.std.specs.Prelude.{◌≡◌, ◌≤◌, IfOk, Option};
 ghost use Rattle.planar.specs.Plane.{IsReached};
 ghost use Rattle.ipc356_records.specs.Line.{view};
@@ -23,7 +23,8 @@ fn step_of(unit: Unit) -> u64
     }
 }
 
-// The place of a coordinate.
+/// The place of a coordinate, in u: a step is 10,000 u (0.001 mm) or 25,400 u (0.0001 inch). `OutOfRange` where it is
+/// over 1 m from 0.
 #[tactic(auto, unfolding(crate::specs::Table::placed))]
 pub fn placed(unit: Unit, coordinate: Coordinate) -> Result<i64, RecordKind>
     ensures value { result ≡ spec.placed unit coordinate }
@@ -37,7 +38,7 @@ pub fn placed(unit: Unit, coordinate: Coordinate) -> Result<i64, RecordKind>
     Ok(if coordinate.negative { -amount } else { amount })
 }
 
-// An access code from 0 to the number of layers.
+/// An access code from 0 to the number of layers.
 pub fn within(layers: u8, access: Option<u32>) -> Option<u32>
     ensures value { result ≡ spec.within layers access }
 {
@@ -49,6 +50,7 @@ pub fn within(layers: u8, access: Option<u32>) -> Option<u32>
     }
 }
 
+/// The value of a field, or its fault where it is amiss.
 pub fn needed<T>(why: RecordKind, value: Option<T>) -> Result<T, RecordKind>
     ensures { result ≡ spec.needed why value }
 {
@@ -58,6 +60,8 @@ pub fn needed<T>(why: RecordKind, value: Option<T>) -> Result<T, RecordKind>
     }
 }
 
+/// What the parameter `UNITS` does, by the unit before it: `BadUnits` where its words are amiss, `UnitsTwice` where
+/// there was one.
 #[tactic(auto, unfolding(crate::specs::Table::set_unit))]
 pub fn set_unit<'a>(before: Option<Unit>, unit: Option<Unit>) -> Result<Effect<'a>, RecordKind>
     ensures value { showing result ≡ spec.set_unit before unit }
@@ -72,7 +76,7 @@ pub fn set_unit<'a>(before: Option<Unit>, unit: Option<Unit>) -> Result<Effect<'
     }
 }
 
-// Behind the end code only blank lines and the file's end may stand.
+/// Behind the end code only blank lines and the file's end may stand.
 pub fn behind<'a>(form: &Form) -> Result<Effect<'a>, RecordKind>
     ensures value { showing result ≡ spec.behind (view form.now) }
     ensures still { IfOk result (λ e. shown e ≡ stays) }

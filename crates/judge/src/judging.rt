@@ -1,4 +1,4 @@
-// The verdict on a board.
+//! The verdict on a board.
 ghost use Rattle.board_shapes.specs.Plain.{plain_board};
 ghost use Rattle.board_shapes.specs.Tables.{IsNear, IsTables};
 ghost use Rattle.board_shapes.specs.Touching.{UnderAt};

@@ -1,4 +1,4 @@
-// The names on each net.
+//! The names on each net.
 ghost use Rattle.verdict.specs.Seats.{marks_at, marks_from, marks_of_seats, seats_at};
 ghost use Rattle.std.specs.Prelude.{◌≡◌, ℕ, ◌<◌, ◌^◌, ◌++◌, length, All, IfOk, OnOk};
 

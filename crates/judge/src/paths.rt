@@ -1,4 +1,4 @@
-// Paths from a piece to its parent and on.
+//! Paths from a piece to its parent and on.
 ghost use Rattle.std.specs.Prelude.{◌≡◌, ℕ, ◌+◌, ◌<◌, length, List, ◌++◌, Some, true, false, All, Contains, slice_index_or, IfOk};
 ghost use Rattle.verdict.specs.Forest.{pieces_of};
 ghost use Rattle.verdict.specs.Right.{IsPath, BeginsAt};

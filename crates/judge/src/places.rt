@@ -1,4 +1,4 @@
-// The place of each piece in its net.
+//! The place of each piece in its net.
 ghost use Rattle.std.specs.Prelude.{◌≢◌, ℕ, ◌<◌, length, AllPairs};
 ghost use Rattle.verdict.specs.Forest.{pieces_of};
 ghost use Rattle.verdict.specs.Places.{HasPlaces, twig_at};

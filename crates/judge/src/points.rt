@@ -1,4 +1,4 @@
-// The lines of the points, and those without a net.
+//! The lines of the points, and those without a net.
 ghost use Rattle.std.specs.Prelude.{◌≡◌, ◌<◌, ◌^◌, length, IfOk, All, IfSome};
 ghost use Rattle.verdict.specs.Right.{bare_from};
 ghost use Rattle.judge.specs.Judged.{line_by, lines_by};

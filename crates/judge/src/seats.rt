@@ -1,4 +1,4 @@
-// The points of each name, grouped by nets.
+//! The points of each name, grouped by nets.
 ghost use Rattle.judge.specs.Seated.{AreSeated, with_seat};
 ghost use Rattle.verdict.specs.Seats.{AreFirstSeats, seats_at};
 ghost use Rattle.std.specs.Prelude.{◌≡◌, ◌≢◌, ℕ, ◌<◌, ◌^◌, [], length, All, IfOk, OnOk};

@@ -1,4 +1,4 @@
-// Nets with points of several names.
+//! Nets with points of several names.
 ghost use Rattle.std.specs.Prelude.{◌≡◌, ◌≢◌, ℕ, ◌+◌, ◌<◌, ◌≤◌, ◌^◌, length, map, List, Option, Some, None, [], ◌∷◌, ◌++◌, All, AllPairs, Contains, slice_index_or, slice_get, IfOk, OnOk};
 ghost use Rattle.verdict.specs.Forest.{Holds, net_at, pieces_of, first_piece};
 ghost use Rattle.verdict.specs.Right.{outline, short_of, all_shorts, AreBranches, HasBranches, BeginsAtHome};

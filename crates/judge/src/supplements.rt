@@ -1,4 +1,4 @@
-// What leads from a verdict to the board and its files.
+//! What leads from a verdict to the board and its files.
 ghost use Rattle.board_shapes.specs.Pieces.{plain_piece, plain_pieces};
 ghost use Rattle.board_shapes.specs.Plain.{plain_board};
 ghost use Rattle.board_shapes.specs.Tables.{IsTables, point_of, source_of as source_on};

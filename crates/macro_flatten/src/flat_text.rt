@@ -1,4 +1,4 @@
-// The text of the pieces of a layer.
+//! The text of the pieces of a layer.
 ghost use Rattle.std.specs.Prelude.{◌≡◌, ◌++◌, ◌+◌, List, ℕ, Option, None, map, IfOk, OnOk};
 ghost use Rattle.std.specs.List.{flat_map};
 ghost use Rattle.board_shapes.specs.Figures.{figure_of};
@@ -116,7 +116,9 @@ fn push_figures(out: &mut Vec<u8>, pens: &Pens, pieces: &[Piece]) -> Result<(), 
     push_word(out, b"M02")
 }
 
-/// The text of a copper file that has exactly the figures of these pieces, in order.
+/// The flattened text of these pieces. It reads as exactly their figures, in order, where these are flat: radii over 0,
+/// and no more pens, pieces and edges than a file may have (`laws::flat_text_reads`). `NoMemory` where memory is
+/// wanted.
 pub fn write_flat(alloc: Global, pieces: &[Piece]) -> Result<Vec<u8>, NoMemory>
     ensures text { IfOk result (λ text. text.items ≡ spec.flat_text_of (spec.figures_in (plain_pieces pieces.now))) }
 {

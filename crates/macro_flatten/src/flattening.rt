@@ -1,4 +1,4 @@
-// A copper file that may have macros, rewritten without them.
+//! A copper file that may have macros, rewritten without them.
 ghost use Rattle.gerber_layer.specs.MacroLayer.{IsMacroFault};
 ghost use Rattle.macro_flatten.specs.Flattened.{IsFlattened, IsReadBack};
 ghost use Rattle.std.specs.Prelude.{IfErr, IfOk, length, ◌≤◌};

@@ -1,4 +1,4 @@
-// Laws over the definitions alone.
+//! Laws over the definitions alone.
 ghost use Rattle.macro_flatten.specs.Laws.{FlatTextReads, FlatTextsAreShort, ImagesAreFlat, MacroImagesAreFlat};
 
 use gerber_layer::laws::one_answer;

@@ -1,4 +1,4 @@
-// The lines of a text, one at a time.
+//! The lines of a text, one at a time.
 ghost use Rattle.std.specs.Prelude.{◌≡◌, ◌∷◌, ◌++◌, ◌+◌, ◌%◌, List, ℕ, OnOk, codes, decimal};
 ghost use Rattle.std.specs.Fmt.{signed_decimal};
 ghost use Rattle.macro_flatten.specs.FlatText as spec;

@@ -1,4 +1,4 @@
-// Writes the netlist of a board.
+//! Writes the netlist of a board.
 ghost use Rattle.std.specs.Prelude.{◌≡◌, ℕ, ◌++◌, ◌+◌, ◌^◌, ◌<◌, ◌≤◌, length, IfOk, OnOk};
 ghost use Rattle.std.specs.List.{flat_map};
 ghost use Rattle.board_shapes.specs.Pieces.{plain_pieces};
@@ -39,7 +39,9 @@ fn push_places(
     Ok(())
 }
 
-/// The netlist of a board whose nets these are: a test record for each piece that is a test place, in order.
+/// The netlist of a board whose nets these are: a test record for each piece that is a disc about a place of whole
+/// 0.001 mm, at most 999.999 mm from 0 in x and in y, and a comment line for each other, in order. `NoMemory` where
+/// memory is wanted.
 pub fn write_netlist(alloc: Global, board: &Board, nets: &Trees) -> Result<Vec<u8>, NoMemory>
     requires nets { IsForest (length (plain_board board.now).pieces) (IsNear (plain_board board.now)) nets.now }
     ensures text { IfOk result (λ text. text.items ≡ written_netlist_of (plain_board board.now).layers nets.now (plain_board board.now).pieces) }

@@ -1,4 +1,4 @@
-// Which pieces are test places, and their lines.
+//! Which pieces are test places, and their lines.
 ghost use Rattle.std.specs.Prelude.{◌≡◌, ◌++◌, None, OnOk};
 ghost use Rattle.board_shapes.specs.Figures.{capsule_figure, figure_of};
 ghost use Rattle.board_shapes.specs.Pieces.{plain_piece};

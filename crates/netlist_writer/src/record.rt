@@ -1,4 +1,4 @@
-// A test record: each field laid into the line at its columns.
+//! A test record: each field laid into the line at its columns.
 ghost use Rattle.std.specs.Prelude.{◌≡◌, ◌≤◌, ◌++◌, OnOk};
 ghost use Rattle.ipc356_records.specs.Columns.{filled, laid, access_at, name_from};
 ghost use Rattle.netlist_writer.specs.TestLine as spec;

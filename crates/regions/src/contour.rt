@@ -1,4 +1,4 @@
-// A contour that grows edge by edge.
+//! A contour that grows edge by edge.
 ghost use Rattle.planar.specs.Plane.{IsPlaced};
 ghost use Rattle.std.specs.Prelude.{All, IsOk, IsTrue, List, [], length, ◌++◌, ◌+◌, ◌∷◌, ◌<◌, ◌≡◌, ◌≤◌, ◌↔◌};
 

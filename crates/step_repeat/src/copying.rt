@@ -1,4 +1,4 @@
-// The copies of a block.
+//! The copies of a block.
 ghost use Rattle.std.specs.Prelude.{◌≡◌, ◌+◌, ◌*◌, ◌<◌, ◌≤◌, ◌^◌, ◌*ℤ◌, pos, [], ◌∷◌, length, Option, Some, None, Result, Ok, Err, IfOk, IfErr, IsOk, IfSome, MatchOption, option_map};
 ghost use Rattle.std.specs.Option.{SomeIff};
 ghost use Rattle.board_shapes.specs.Moved.{IsShift, moved_piece};

@@ -1,4 +1,4 @@
-// What is refused.
+//! What is refused.
 use thiserror::Error;
 
 /// Why a word opens and ends no block.

@@ -1,4 +1,4 @@
-// How a step and repeat word is read.
+//! How a step and repeat word is read.
 ghost use Rattle.std.specs.Prelude.{◌≡◌, ◌≤◌, true, length, drop, Option, Some, None, Result, IfOk, IfSome};
 ghost use Rattle.std.specs.List.{list_all};
 ghost use Rattle.std.specs.Str.Parse.{digits_value as value_of_digits};

@@ -1,4 +1,4 @@
-// A grid of copies.
+//! A grid of copies.
 
 /// How often a block is repeated, and how far apart the copies stand (Gerber Layer Format
 /// Specification, step and repeat): `across` columns `dx` apart, each of `up` rows `dy` apart, in u.

@@ -1,4 +1,4 @@
-// The lines of a file, one after another.
+//! The lines of a file, one after another.
 ghost use Rattle.std.specs.Prelude.{◌≡◌, ◌≤◌, ◌+◌, length};
 ghost use Rattle.texts.specs.Lines as spec;
 

@@ -1,4 +1,5 @@
-//! Bytes and whole numbers, put behind a text. Where memory is wanted, the answer is std's own error.
+//! Bytes and whole numbers, put behind a text. Where memory is wanted, the answer is std's own error. After an error the
+//! text holds anything.
 ghost use Rattle.std.specs.Fmt.{decimal, signed_decimal};
 ghost use Rattle.std.specs.Prelude.{◌≡◌, ◌∷◌, ◌++◌, OnOk};
 ghost use Rattle.texts.specs.LastDigits.{last_digits};

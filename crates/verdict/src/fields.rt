@@ -1,4 +1,4 @@
-// The fields of a report: fixed words and numbers, each read from the front of the bytes.
+//! The fields of a report: fixed words and numbers, each read from the front of the bytes.
 ghost use Rattle.std.specs.Prelude.{◌≡◌, List, Option, true};
 ghost use Rattle.std.specs.List.{list_all};
 ghost use Rattle.std.specs.Option.{option_map};
@@ -9,7 +9,7 @@ use crate::reading::ReadFault;
 use std::str;
 use texts::digits_len;
 
-// The bytes behind a text, where it stands in front.
+/// The bytes behind a text, where it stands in front.
 #[tactic(auto, unfolding(crate::specs::Reading::behind))]
 pub fn behind<'a>(bytes: &'a [u8], front: &[u8]) -> Option<&'a [u8]>
     ensures { option_map (λ rest. rest.now) result ≡ spec.behind front.now bytes.now }
@@ -17,7 +17,7 @@ pub fn behind<'a>(bytes: &'a [u8], front: &[u8]) -> Option<&'a [u8]>
     bytes.strip_prefix(front)
 }
 
-// The same, where the text has to stand there.
+/// The same, where the text has to stand there.
 pub fn expect<'a>(bytes: &'a [u8], front: &[u8]) -> Result<&'a [u8], ReadFault>
     ensures { spec.Gives (λ rest. rest.now) result (spec.behind front.now bytes.now) }
 {
@@ -50,7 +50,7 @@ fn value_of(digits: &[u8]) -> Option<u64>
     }
 }
 
-// A number below 2^64.
+/// A number below 2^64.
 #[tactic(auto, unfolding(crate::specs::Reading::wide_at))]
 pub fn wide(bytes: &[u8]) -> Result<(u64, &[u8]), ReadFault>
     ensures { spec.Gives (λ x. (x.0, x.1.now)) result (spec.wide_at bytes.now) }
@@ -65,7 +65,7 @@ pub fn wide(bytes: &[u8]) -> Result<(u64, &[u8]), ReadFault>
     }
 }
 
-// A number below 2^32.
+/// A number below 2^32.
 #[tactic(auto, unfolding(crate::specs::Reading::number_at))]
 pub fn number(bytes: &[u8]) -> Result<(u32, &[u8]), ReadFault>
     ensures { spec.Gives (λ x. (x.0, x.1.now)) result (spec.number_at bytes.now) }
@@ -77,7 +77,7 @@ pub fn number(bytes: &[u8]) -> Result<(u32, &[u8]), ReadFault>
     }
 }
 
-// A blank and a number below 2^32.
+/// A blank and a number below 2^32.
 #[tactic(auto, unfolding(crate::specs::Reading::word_at))]
 pub fn word(bytes: &[u8]) -> Result<(u32, &[u8]), ReadFault>
     ensures { spec.Gives (λ x. (x.0, x.1.now)) result (spec.word_at bytes.now) }
@@ -86,7 +86,7 @@ pub fn word(bytes: &[u8]) -> Result<(u32, &[u8]), ReadFault>
     number(rest)
 }
 
-// A title, a number below 2^32 and the end of the line.
+/// A title, a number below 2^32 and the end of the line.
 #[tactic(auto, unfolding(crate::specs::Reading::titled_at))]
 pub fn titled<'a>(bytes: &'a [u8], title: &[u8]) -> Result<(u32, &'a [u8]), ReadFault>
     ensures { spec.Gives (λ x. (x.0, x.1.now)) result (spec.titled_at title.now bytes.now) }
@@ -131,7 +131,7 @@ fn signed(bytes: &[u8]) -> Result<(i64, &[u8]), ReadFault>
     }
 }
 
-// A blank and a signed number.
+/// A blank and a signed number.
 #[tactic(auto, unfolding(crate::specs::Reading::signed_word_at))]
 pub fn signed_word(bytes: &[u8]) -> Result<(i64, &[u8]), ReadFault>
     ensures { spec.Gives (λ x. (x.0, x.1.now)) result (spec.signed_word_at bytes.now) }
@@ -140,7 +140,7 @@ pub fn signed_word(bytes: &[u8]) -> Result<(i64, &[u8]), ReadFault>
     signed(rest)
 }
 
-// A blank and a number below 2^8.
+/// A blank and a number below 2^8.
 #[tactic(auto, unfolding(crate::specs::Reading::layer_at))]
 pub fn layer(bytes: &[u8]) -> Result<(u8, &[u8]), ReadFault>
     ensures { spec.Gives (λ x. (x.0, x.1.now)) result (spec.layer_at bytes.now) }
@@ -152,7 +152,7 @@ pub fn layer(bytes: &[u8]) -> Result<(u8, &[u8]), ReadFault>
     }
 }
 
-// A blank, a count and the end of the line.
+/// A blank, a count and the end of the line.
 #[tactic(auto, unfolding(crate::specs::Reading::count_at))]
 pub fn count(bytes: &[u8]) -> Result<(u64, &[u8]), ReadFault>
     ensures { spec.Gives (λ x. (x.0, x.1.now)) result (spec.count_at bytes.now) }
@@ -163,7 +163,7 @@ pub fn count(bytes: &[u8]) -> Result<(u64, &[u8]), ReadFault>
     Ok((n, rest))
 }
 
-// The parent of a twig, where a colon follows its piece.
+/// The parent of a twig, where a colon follows its piece.
 #[tactic(auto, unfolding(crate::specs::Reading::parent_at))]
 pub fn parent(bytes: &[u8]) -> Result<(Option<u32>, &[u8]), ReadFault>
     ensures { spec.Gives (λ x. (x.0, x.1.now)) result (spec.parent_at bytes.now) }
@@ -177,7 +177,7 @@ pub fn parent(bytes: &[u8]) -> Result<(Option<u32>, &[u8]), ReadFault>
     }
 }
 
-// The net of a point, or a minus for none.
+/// The net of a point, or a minus for none.
 #[tactic(auto, unfolding(crate::specs::Reading::net_number_at))]
 pub fn net_number(bytes: &[u8]) -> Result<(Option<u32>, &[u8]), ReadFault>
     ensures { spec.Gives (λ x. (x.0, x.1.now)) result (spec.net_number_at bytes.now) }
@@ -191,7 +191,7 @@ pub fn net_number(bytes: &[u8]) -> Result<(Option<u32>, &[u8]), ReadFault>
     }
 }
 
-// Whether a blank stands in front.
+/// Whether a blank stands in front.
 pub fn begins_blank(bytes: &[u8]) -> bool
     ensures { result ≡ spec.begins_blank bytes.now }
 {

@@ -1,4 +1,4 @@
-// The lines of a report and lists of them, each as it is read and as it is written.
+//! The lines of a report and lists of them, each as it is read and as it is written.
 ghost use Rattle.std.specs.Prelude.{◌≡◌, ◌++◌, ℕ, List, Option, OnOk, IfSome, length};
 ghost use Rattle.std.specs.List.{AllByRecursion, flat_map};
 ghost use Rattle.lengths.specs.Text.{IsText};
@@ -15,43 +15,43 @@ use lengths::{Rows, Text, TextFault};
 use std::alloc::{AllocError, Global};
 use texts::{Numeral, after, before, has, put, put_blank_number, put_number, put_signed};
 
-// What stands behind a blank as often as there are some, up to the end of a line.
+/// What stands behind a blank as often as there are some, up to the end of a line.
 pub trait Word: Drop {
-    // What reading gives.
+    /// What reading gives.
     ghost at: { List ℕ → Option (Self × List ℕ) };
 
-    // What is written.
+    /// What is written.
     ghost text: { Self → List ℕ };
 
-    // Its numbers and names are in the ranges of their types.
+    /// Its numbers and names are in the ranges of their types.
     ghost is_lawful: { Self → Type 0 };
 
-    // What stands in front, and the bytes behind it.
+    /// What stands in front, and the bytes behind it.
     fn read(bytes: &[u8]) -> Result<(Self, &[u8]), ReadFault>
         ensures { spec.Gives (λ x. (x.0, x.1.now)) result (at bytes.now) };
 
-    // Puts its text behind others. Whoever does learns that the item is lawful.
+    /// Puts its text behind others. Whoever does learns that the item is lawful.
     fn write(&self, out: &mut Vec<u8>) -> Result<(), AllocError>
         ensures written { OnOk result (out.new.items ≡ out.old.items ++ text self.now) }
         ensures lawful { OnOk result (is_lawful self.now) };
 }
 
-// What a counted list of a report has, on lines of its own.
+/// What a counted list of a report has, on lines of its own.
 pub trait Line: Drop {
-    // What reading gives.
+    /// What reading gives.
     ghost at: { ℕ → List ℕ → Option (Self × List ℕ) };
 
-    // What is written.
+    /// What is written.
     ghost text: { ℕ → Self → List ℕ };
 
-    // Its numbers and names are in the ranges of their types.
+    /// Its numbers and names are in the ranges of their types.
     ghost is_lawful: { Self → Type 0 };
 
-    // What stands in front as the item of this number, and the bytes behind it.
+    /// What stands in front as the item of this number, and the bytes behind it.
     fn read(alloc: Global, number: u64, bytes: &[u8]) -> Result<(Self, &[u8]), ReadFault>
         ensures { spec.Gives (λ x. (x.0, x.1.now)) result (at number bytes.now) };
 
-    // Puts its text behind others. Whoever does learns that the item is lawful.
+    /// Puts its text behind others. Whoever does learns that the item is lawful.
     fn write(&self, number: u64, out: &mut Vec<u8>) -> Result<(), AllocError>
         ensures written { OnOk result (out.new.items ≡ out.old.items ++ text number self.now) }
         ensures lawful { OnOk result (is_lawful self.now) };
@@ -451,7 +451,7 @@ fn items<T: Line>(alloc: Global, count: u64, bytes: &[u8]) -> Result<(Rows<T>, &
     Ok((items, rest))
 }
 
-// A title, a count and so many items.
+/// A title, a count and so many items.
 #[tactic(auto, unfolding(crate::specs::Reading::section_at))]
 pub fn section<'a, T: Line>(
     alloc: Global,

@@ -1,4 +1,4 @@
-// Reading a report back.
+//! Reading a report back.
 ghost use Rattle.std.specs.Prelude.{◌≡◌, IfErr, IfOk};
 ghost use Rattle.verdict.specs.Lawful.{IsVerdict};
 ghost use Rattle.verdict.specs.Reading as spec;

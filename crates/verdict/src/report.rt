@@ -1,4 +1,4 @@
-// The text of a verdict.
+//! The text of a verdict.
 ghost use Rattle.std.specs.Prelude.{◌≡◌, ◌++◌, OnOk, IfOk, IfSome};
 ghost use Rattle.std.specs.List.{AllByRecursion};
 ghost use Rattle.lengths.specs.Text.{IsText};

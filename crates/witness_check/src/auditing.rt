@@ -1,4 +1,4 @@
-// The tests of a verdict, in the order of its clauses.
+//! The tests of a verdict, in the order of its clauses.
 ghost use Rattle.board_shapes.specs.Plain.{plain_board};
 ghost use Rattle.board_shapes.specs.Tables.{IsTables};
 ghost use Rattle.std.specs.Prelude.{◌≡◌, ◌<◌, IfOk};

@@ -1,4 +1,4 @@
-// The clause on branches.
+//! The clause on branches.
 ghost use Rattle.std.specs.Prelude.{◌≡◌, ℕ, ◌<◌, ◌≤◌, ◌↔◌, IsTrue, length, map, List, ◌∷◌, [], ◌++◌, Some, None, All, slice_index_or, IfOk};
 ghost use Rattle.verdict.specs.Forest.{first_piece, net_at};
 ghost use Rattle.verdict.specs.Places.{HasPlaces};

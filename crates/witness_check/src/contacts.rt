@@ -1,4 +1,4 @@
-// Pieces of a board that touch.
+//! Pieces of a board that touch.
 ghost use Rattle.board_shapes.specs.Plain.{plain_board};
 ghost use Rattle.board_shapes.specs.Tables.{IsNear};
 ghost use Rattle.std.specs.Prelude.{◌<◌, ◌↔◌, IsTrue, length};

@@ -1,4 +1,4 @@
-// The number of pieces and the names.
+//! The number of pieces and the names.
 ghost use Rattle.std.specs.Prelude.{◌≡◌, ◌↔◌, IsTrue};
 
 use lengths::Text;

@@ -1,4 +1,4 @@
-// How far boxes and spots lie from the frame's lower left corner.
+//! How far boxes and spots lie from the frame's lower left corner.
 ghost use Rattle.board_shapes.specs.Plain.{plain_board};
 ghost use Rattle.contact.specs.Solid.{IsInside};
 ghost use Rattle.std.specs.Prelude.{◌<◌, ◌≤ℤ◌, length};

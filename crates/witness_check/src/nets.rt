@@ -1,4 +1,4 @@
-// The clauses that speak of nets alone.
+//! The clauses that speak of nets alone.
 ghost use Rattle.board_shapes.specs.Plain.{plain_board};
 ghost use Rattle.board_shapes.specs.Tables.{IsNear};
 ghost use Rattle.std.specs.Prelude.{◌≡◌, ◌≢◌, ℕ, ◌<◌, ◌≤◌, ◌^◌, ◌↔◌, IsTrue, length, None, Contains, slice_index_or, IfOk, MatchOption};

@@ -1,4 +1,4 @@
-// The clause on opens.
+//! The clause on opens.
 ghost use Rattle.std.specs.Prelude.{◌≡◌, ◌<◌, ◌≤◌, ◌^◌, ◌+◌, ◌∷◌, ◌↔◌, List, drop, if◌then◌else◌, [], IsTrue, length, map};
 ghost use Rattle.verdict.specs.Right.{all_opens, is_unconnected, opens_against};
 ghost use Rattle.verdict.specs.Seats.{AreFirstSeats};

@@ -1,4 +1,4 @@
-// The lines of points, and the points without a net.
+//! The lines of points, and the points without a net.
 ghost use Rattle.std.specs.Prelude.{◌≡◌, ◌<◌, ◌^◌, ◌↔◌, All, IfSome, IsTrue, length, slice_get, Some};
 ghost use Rattle.verdict.specs.Right.{bare_from};
 ghost use Rattle.verdict.specs.Seats.{net_by};

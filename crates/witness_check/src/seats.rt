@@ -1,5 +1,5 @@
-// The first point of each name on each net, and the names on each net, found by the audit's own way: rows of all points,
-// thinned with one stamp a name.
+//! The first point of each name on each net, and the names on each net, found by the audit's own way: rows of all points,
+//! thinned with one stamp a name.
 ghost use Rattle.std.specs.Prelude.{◌≡◌, ◌≢◌, ℕ, ◌+◌, ◌<◌, ◌^◌, ◌++◌, [], ◌∷◌, length, All, IfOk, IfSome, OnOk};
 ghost use Rattle.verdict.specs.Right.{fresh, seats_from};
 ghost use Rattle.verdict.specs.Seats.{AreFirstSeats, marks_at, marks_from, marks_of_seats, seats_at};

@@ -1,4 +1,4 @@
-// The clause on shorts.
+//! The clause on shorts.
 ghost use Rattle.std.specs.Prelude.{◌≡◌, ◌<◌, ◌^◌, ◌↔◌, IsTrue, length, map};
 ghost use Rattle.verdict.specs.Right.{outline};
 ghost use Rattle.verdict.specs.Seats.{branch_name, mark_name};

@@ -1,4 +1,4 @@
-// The clauses on the supplement of a verdict.
+//! The clauses on the supplement of a verdict.
 ghost use Rattle.board_shapes.specs.Pieces.{plain_piece, plain_pieces};
 ghost use Rattle.board_shapes.specs.Plain.{plain_board};
 ghost use Rattle.board_shapes.specs.Tables.{point_of, source_of as source_on};

@@ -2,8 +2,8 @@
 //!
 //! Extended Gerber files carry attributes (Gerber Layer Format Specification, section 5). `TO.N` says of which net the
 //! objects are that come next, and `TD` or `TD.N` ends that. `labels` lists these words of a file (`listing`), read one
-//! by one (`said`); `label_at` tells which name is in force at a command (`table`). The laws over the definitions
-//! stand in `laws`.
+//! by one (`said`); `label_at` and `label_among` tell which name is in force at a command (`table`): `label_among`, which the
+//! layer above calls, halves the list. The laws over the definitions stand in `laws`.
 #![tactic(auto)]
 
 pub mod laws;

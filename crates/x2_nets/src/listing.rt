@@ -15,6 +15,7 @@ use std::alloc::Global;
 pub enum LabelFault {
     /// The name is not 1 to 200 bytes from 32 to 126: the word's number, from 1, and the place of its first byte, from 0.
     Bad { command: u32, at: usize },
+    /// Memory is wanted.
     NoMemory,
 }
 

@@ -1,4 +1,4 @@
-// What a word says of the net of objects.
+//! What a word says of the net of objects.
 ghost use Rattle.std.specs.Prelude.{◌≡◌, List, ℕ};
 ghost use Rattle.std.specs.Option.{option_copied};
 ghost use Rattle.gerber_words.specs.Attributes.{plain_attribute};
@@ -8,7 +8,7 @@ ghost use Rattle.x2_nets.specs.Seen.{view};
 
 use gerber_words::{Attribute, AttributeKind, Word};
 
-// Nothing; the name of the objects that come next; or that they have none.
+/// Nothing; the name of the objects that come next; or that they have none.
 #[derive(Clone, Copy)]
 pub enum Said<'a> {
     Nothing,
@@ -16,7 +16,7 @@ pub enum Said<'a> {
     Unnamed,
 }
 
-// What a word of a file says.
+/// What a word of a file says.
 pub fn said_by<'a>(word: Word<'a>) -> Said<'a>
     ensures { view result ≡ spec.said_of (entry_of word.entry) }
 {

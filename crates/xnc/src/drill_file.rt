@@ -1,4 +1,4 @@
-// Reads a drill file.
+//! Reads a drill file.
 ghost use Rattle.std.specs.Prelude.{◌≡◌, ◌+◌, ◌^◌, ◌<◌, ◌≤◌, length, All, IfOk, IfErr, OnOk};
 ghost use Rattle.board_shapes.specs.Plain.{plain_pieces};
 ghost use Rattle.xnc.specs.DrillFile.{IsFault, IsRead};

@@ -1,4 +1,4 @@
-// What a line does.
+//! What a line does.
 use board_shapes::Shape;
 use planar::Spot;
 

@@ -1,4 +1,4 @@
-// Kinds of refusal.
+//! Kinds of refusal.
 ghost use Rattle.std.specs.Prelude.{◌≡◌};
 ghost use Rattle.xnc.specs.Kind.{name_of_kind, number_of_kind};
 
@@ -104,9 +104,12 @@ impl DrillKind {
 pub enum DrillFault {
     Refused {
         kind: DrillKind,
+        /// The number of the line, from 1.
         line: u32,
+        /// The place of its first byte in the file, from 0.
         at: usize,
     },
+    /// Memory is wanted.
     NoMemory,
 }
 

@@ -1,4 +1,4 @@
-// Lines, as each is read by itself.
+//! Lines, as each is read by itself.
 use crate::kind::DrillKind;
 use lengths::{Decimal, Unit};
 

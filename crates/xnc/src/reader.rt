@@ -1,4 +1,4 @@
-// What the reader of a file keeps, and how it obeys a line.
+//! What the reader of a file keeps, and how it obeys a line.
 ghost use Rattle.std.specs.Prelude.{◌≤◌};
 ghost use Rattle.contact.specs.declared.TheConstants.{MOST_DIAMETER};
 
@@ -16,6 +16,9 @@ use lengths::{Decimal, NoMemory, Unit};
 use planar::Spot;
 use std::alloc::Global;
 
+/// What the lines of a drill file so far have set and made. Its barrels stand on the layers `from`
+/// to `to`, and `file` goes into their origins; `lines` counts those that were obeyed, and `room`
+/// is how many barrels may come.
 #[derive(Drop)]
 pub struct Reader {
     pub settings: Settings,
@@ -36,6 +39,7 @@ impl Reader {
     ghost use Rattle.xnc.specs.Reader.{Applies, AreLawful, Halts, IsFit, IsLawfulReader, IsNew, Obeys, Places, known_of, placed_row, showing, shown};
     ghost use Rattle.xnc.specs.Table as spec;
 
+    /// Before the first line.
     pub fn new(alloc: Global, span: Span, file: u32, room: u32) -> Reader
         ensures new { IsNew (record { from = span.from; to = span.to; file = file; room = room }) result }
         ensures lawful { IsLawfulReader result }
@@ -272,6 +276,7 @@ impl Reader {
         Ok(())
     }
 
+    /// The barrels so far.
     pub fn into_pieces(self) -> Vec<Piece>
         ensures { result ≡ self.pieces }
     {

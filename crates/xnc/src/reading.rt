@@ -1,4 +1,4 @@
-// How a line is read by itself.
+//! How a line is read by itself.
 ghost use Rattle.std.specs.Prelude.{◌≡◌, ◌<◌, ◌≤◌, decimal as number_text, Option, Some, None};
 ghost use Rattle.texts.specs.Words as words;
 ghost use Rattle.xnc.specs.Reading as spec;
@@ -311,6 +311,8 @@ fn within_blanks(span: Span, text: &[u8]) -> Form
     }
 }
 
+/// What a line says, without the blanks at either end. The span judges a comment on the file's
+/// function.
 #[tactic(auto, unfolding(crate::specs::Reading::form_of))]
 pub fn read_line(span: Span, line: &[u8]) -> Form
     ensures { result ≡ spec.form_of span.from span.to line.now }

@@ -1,4 +1,4 @@
-// What earlier lines have set.
+//! What earlier lines have set.
 ghost use Rattle.std.specs.Prelude.{◌≡◌};
 
 use lengths::Unit;
@@ -35,18 +35,21 @@ pub struct Settings {
 }
 
 impl Settings {
+    /// The same in this stage.
     pub fn in_stage(self, stage: Stage) -> Settings
         ensures { result ≡ record self { stage = stage } }
     {
         Settings { stage, ..self }
     }
 
+    /// The same with this tool selected, or none.
     pub fn with_tool(self, tool: Option<u32>) -> Settings
         ensures { result ≡ record self { tool = tool } }
     {
         Settings { tool, ..self }
     }
 
+    /// The same with the tool down, or up.
     pub fn with_down(self, down: bool) -> Settings
         ensures { result ≡ record self { down = down } }
     {

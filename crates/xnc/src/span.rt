@@ -1,4 +1,4 @@
-// The layers that a drill file joins.
+//! The layers that a drill file joins.
 ghost use Rattle.std.specs.Prelude.{◌≤◌};
 
 /// The layers that each barrel of a drill file joins, 1 <= from <= to <= 32.

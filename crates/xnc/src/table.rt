@@ -1,4 +1,4 @@
-// The table of lines: what each does, or its fault. The rows themselves are calls of the reader.
+//! The table of lines: what each does, or its fault. The rows themselves are calls of the reader.
 ghost use Rattle.std.specs.Prelude.{◌≡◌, ◌==◌, ◌+◌, ◌/◌, ◌^◌, ◌<◌, ◌≤◌, true, false, pos, IfOk, IfSome};
 ghost use Rattle.planar.specs.Plane.{IsPlaced, IsReached};
 ghost use Rattle.contact.specs.Round.{IsCapsuleRadius};
@@ -15,6 +15,7 @@ use contact::MOST_DIAMETER;
 use lengths::{Decimal, Len, Unit};
 use planar::Spot;
 
+/// Whether a unit is another than the first, if there was one.
 pub fn other_unit(first: Option<Unit>, unit: Unit) -> bool
     ensures { result ≡ spec.other_unit first unit }
 {
@@ -31,6 +32,7 @@ pub fn other_unit(first: Option<Unit>, unit: Unit) -> bool
     }
 }
 
+/// Whether places are drilled.
 pub fn is_drilling(mode: Mode) -> bool
     ensures { result ≡ spec.is_drilling mode }
 {
@@ -40,6 +42,7 @@ pub fn is_drilling(mode: Mode) -> bool
     }
 }
 
+/// Whether the line is `M48`.
 pub fn is_start(form: &Form) -> bool
     ensures { result ≡ spec.is_start form.now }
 {
@@ -49,6 +52,7 @@ pub fn is_start(form: &Form) -> bool
     }
 }
 
+/// Whether the line stands behind `M30`.
 pub fn is_ended(stage: Stage) -> bool
     ensures { result ≡ spec.is_ended stage }
 {
@@ -86,7 +90,7 @@ fn in_range(size: Len) -> Result<u64, DrillKind>
     Ok(amount)
 }
 
-// The diameter of a tool.
+/// The diameter of a tool, in u: even, above 0 and at most 50 mm; or its fault.
 #[tactic(auto, unfolding(crate::specs::Table::diameter_of))]
 pub fn diameter(unit: Option<Unit>, d: Decimal) -> Result<u64, DrillKind>
     ensures value { result ≡ spec.diameter_of unit d }
@@ -135,7 +139,7 @@ fn coordinate(unit: Unit, here: Here, to: Option<Decimal>) -> Result<i64, DrillK
     }
 }
 
-// Where a place leads.
+/// Where a place leads, in u: a coordinate that is not named stays at that of `here`; or its fault.
 #[tactic(auto, unfolding(crate::specs::Table::target))]
 pub fn target(unit: Option<Unit>, here: Spot, to: Coordinates) -> Result<Spot, DrillKind>
     requires { IsPlaced here }
@@ -150,6 +154,7 @@ pub fn target(unit: Option<Unit>, here: Spot, to: Coordinates) -> Result<Spot, D
     Ok(Spot { x, y })
 }
 
+/// Half a diameter, in u; 0 where there is none.
 pub fn half(diameter: Option<u64>) -> i64
     requires { IfSome diameter (λ d. d ≤ MOST_DIAMETER) }
     ensures value { result ≡ spec.half diameter }
@@ -173,7 +178,7 @@ fn gone(here: Spot, effect: &Effect) -> Spot
     }
 }
 
-// The settings behind a line that has no fault.
+/// The settings behind a line that has no fault.
 pub fn after(settings: Settings, form: &Form, effect: &Effect) -> Settings
     ensures { result ≡ spec.after settings form.now (shown effect.now) }
 {

@@ -1,4 +1,4 @@
-// The tools that a file has defined.
+//! The tools that a file has defined.
 use lengths::NoMemory;
 use std::alloc::Global;
 use std::collections::HashMap;
@@ -13,6 +13,7 @@ impl Tools {
     ghost use Rattle.std.specs.Prelude.{◌≡◌, ◌+◌, OnOk, OnErr, IfSome, Option, Some, None, ℕ};
     ghost use Rattle.xnc.specs.Reader.{Adds, defined_in, count_of};
 
+    /// No tools.
     pub fn new(alloc: Global) -> Tools
         ensures empty { (n : ℕ) → defined_in result n ≡ None }
         ensures size { count_of result ≡ 0 }
@@ -22,6 +23,7 @@ impl Tools {
         }
     }
 
+    /// How many are defined.
     pub fn len(&self) -> usize
         ensures { result ≡ count_of self.now }
     {

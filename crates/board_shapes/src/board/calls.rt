@@ -1,4 +1,4 @@
-// What a board is made of and what it answers.
+//! What a board is made of and what it answers.
 ghost use Rattle.board_shapes.specs.CommonBox.{Fits, common_box};
 ghost use Rattle.board_shapes.specs.Faults.{IsBoardFault};
 ghost use Rattle.board_shapes.specs.Lawful.{IsInsideFrame, IsOnLayers, IsProbe};

@@ -2,7 +2,7 @@
 use crate::tests::{A_AT_0, APART, ENDS, Row, TIE, answers, one_layer};
 use std::test::Fail;
 
-// A plate with a hole by a cut-in, a disc on it, and a disc in the hole.
+/// A plate with a hole by a cut-in, a disc on it, and a disc in the hole.
 pub const PLATE: &[&str] = &[
     "G36*",
     "X0Y0D02*",
@@ -25,7 +25,7 @@ pub const PLATE: &[&str] = &[
     "X5000000Y5000000D03*",
 ];
 
-// Discs in the far corners of a frame, which they fill.
+/// Discs in the far corners of a frame, which they fill.
 pub const CORNERS: &[&str] = &[
     "%ADD10C,1.0*%",
     "D10*",
@@ -33,7 +33,7 @@ pub const CORNERS: &[&str] = &[
     "X999500000Y999500000D03*",
 ];
 
-// A short of three names, and what `check` prints of it.
+/// A short of three names, and what `check` prints of it.
 pub const SHORTED: &[&str] = &[
     "%ADD10C,1.0*%",
     "D10*",

@@ -146,7 +146,7 @@ fn ordinary_use(rt: HostRuntime) -> Result<(), Fail> {
     Ok(())
 }
 
-// The manifest of two copper files and a drill file.
+/// The manifest of two copper files and a drill file.
 pub const TWO_LAYERS: &str =
     "{\"copper\":[\"t.gbr\",\"b.gbr\"],\"drills\":[{\"file\":\"d.drl\",\"from\":1,\"to\":2}],\"netlist\":\"n.ipc\"}";
 

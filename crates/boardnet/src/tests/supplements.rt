@@ -5,7 +5,7 @@ use std::test::Fail;
 const TIED: &str =
     "boardnet 2\npieces 2\nnets 1\nnet 0 0 1:0\nnames 1\nname 0 A\npoints 2\npoint 0 1 1 0 0\npoint 1 2 1 0 0\nopens 0\nshorts 0\nmissing 0\nspots 2\nspot 0 0 0\nspot 1 10000000 0\nsources 2\nsource 0 0 5 0 1 1\nsource 1 0 6 0 1 1\nagrees\n";
 
-// A block of two columns, of which the copy to the left of the first is none: pieces of the copies 0 and 1.
+// A disc, then a block of two columns: its pieces are copies 0 and 1. The point lies left of and below 0.
 const COPIES: &str =
     "boardnet 2\npieces 3\nnets 2\nnet 0 0\nnet 1 1 2:1\nnames 1\nname 0 A\npoints 1\npoint 0 1 1 0 0\nopens 0\nshorts 0\nmissing 0\nspots 1\nspot 0 -10000000 -50000\nsources 3\nsource 0 0 5 0 1 1\nsource 1 0 7 0 1 1\nsource 2 0 7 1 1 1\nagrees\n";
 
