@@ -4,7 +4,7 @@ ghost use Rattle.std.specs.Prelude.{length, ◌<◌, ◌^◌, ◌≡◌};
 
 use crate::placed::Piece;
 
-/// How many edges the contours of the pieces have.
+/// How many edges the contours of the pieces have; there are fewer than 2^32 pieces.
 pub fn edges_in(pieces: &[Piece]) -> u64
     requires few { length pieces.now < 2 ^ 32 }
     ensures { result ≡ sum_of_edges (plain_pieces pieces.now) }

@@ -31,9 +31,9 @@ struct Shift {
 }
 
 impl Piece {
-    /// The same piece shifted by `dx` and `dy` u, as copy number `copy`.
+    /// The same piece shifted by `dx` and `dy`, each at most 2 m in u, as copy number `copy`.
     ///
-    /// `OutOfRange` where a shifted end or corner is over 1 m from 0 in x or y.
+    /// `OutOfRange` where a shifted end or corner is over 1 m from 0 in x or y; `NoMemory` where memory is wanted.
     pub fn moved(&self, alloc: Global, dx: i64, dy: i64, copy: u32) -> Result<Piece, MoveFault>
         requires across { IsShift dx }
         requires up { IsShift dy }

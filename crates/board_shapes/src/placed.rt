@@ -43,7 +43,7 @@ pub struct Room {
 
 impl<S: Closed> Placed<S> {
     /// Whether the piece is under a place on a layer: the layer is in its span, and the place in
-    /// its solid.
+    /// its solid. The place is within 1 m, and the solid's box inside the frame.
     pub fn under(&self, at: Spot, layer: u8, frame: Frame) -> bool
         requires inside { IsInside (S.extent self.now.shape) frame }
         requires placed { IsPlaced at }
@@ -57,7 +57,8 @@ impl<S: Closed> Placed<S> {
 }
 
 impl<S: Meets<S>> Placed<S> {
-    /// Whether the spans have a common layer and the solids share a point.
+    /// Whether the spans have a common layer and the solids share a point, by at most one contact test. The boxes of both
+    /// are inside the frame.
     pub fn touches<L: Ledger>(&self, other: &Placed<S>, frame: Frame, tests: &mut Steps<L>) -> bool
         requires self_inside { IsInside (S.extent self.now.shape) frame }
         requires other_inside { IsInside (S.extent other.now.shape) frame }

@@ -32,7 +32,8 @@ impl Shape {
         }
     }
 
-    /// The area that points bound which are known to be a contour.
+    /// The area that points bound which are known to be a contour: 4 to 100,001 of them, the last the first, each within 1 m.
+    /// `NoMemory` where memory is wanted.
     pub fn area_of(alloc: Global, points: Vec<Spot>) -> Result<Shape, NoMemory>
         requires closed { IsClosed points.items }
         requires enough { 4 ≤ length points.items }

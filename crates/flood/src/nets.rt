@@ -14,7 +14,8 @@ use steps::Steps;
 use verdict::{Tree, Trees, Twig};
 
 /// The nets as trees: by rising least piece, each breadth first. Each piece is asked for its neighbours once, so there are
-/// at most two contact tests for each pair of pieces whose boxes meet and whose spans have a common layer.
+/// at most two contact tests for each pair of pieces whose boxes meet and whose spans have a common layer. `NoMemory` where
+/// memory is wanted.
 pub fn flood<F: Field, L: Ledger>(
     alloc: Global,
     field: &F,

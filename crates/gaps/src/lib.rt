@@ -41,7 +41,7 @@ pub use gap::Gap;
 pub use listing::{GapFault, gaps};
 pub use text::write_gaps;
 
-/// A shape, grown by a distance: the points that are at most `grow` from some point of the shape.
+/// A shape, grown by a distance: the points that are at most `grow` from some point of the shape. `grow` is in u, from 0 to 5 mm.
 #[derive(Clone, Copy)]
 pub struct Fat<'a> {
     pub shape: &'a Shape,

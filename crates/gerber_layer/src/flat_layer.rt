@@ -72,7 +72,7 @@ fn finished<'a>(
 ///
 /// The pieces stand on layer 1 of file 0; at most 200,000 pieces with 1,000,000 edges in all come.
 /// `Refused` is the first command with a fault, and the first condition of its row that holds; want
-/// of memory is `NoMemory`.
+/// of memory is `NoMemory`. The file has at most 67,108,864 bytes.
 pub fn read_flat(alloc: Global, file: &[u8]) -> Result<Vec<Piece>, FlattenFault>
     requires size { length file.now ≤ 67_108_864 }
     ensures ok { IfOk result (λ pieces. IsReadWithMacros file.now (plain_pieces pieces.items)) }

@@ -69,7 +69,8 @@ fn finished<'a>(
 ///
 /// `layer` is from 1 to 32 and stands as span and in the file's function; `file_number` goes into the
 /// origins; `room` says how many pieces and edges may still come. `Refused` is the first command with
-/// a fault, and the first condition of its row that holds; want of memory is `NoMemory`.
+/// a fault, and the first condition of its row that holds; want of memory is `NoMemory`. The file has at most
+/// 67,108,864 bytes.
 pub fn read_layer(
     alloc: Global,
     file: &[u8],

@@ -37,7 +37,7 @@ pub enum RecordKind {
     /// The file's end before `999`.
     #[error("no 999 at the end")]
     NotEnded = 10,
-    /// A line after `999`.
+    /// A line after `999` that is not blank.
     #[error("a line after 999")]
     AfterEnd = 11,
     /// A test record after 200,000 others.

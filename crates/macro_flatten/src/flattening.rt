@@ -12,7 +12,7 @@ use std::alloc::Global;
 /// The text of the image of a copper file that may have aperture macros: a copper file without macros that every layer
 /// reads as exactly the same shapes, in order; it has at most 67,108,864 bytes. Its attributes are dropped.
 ///
-/// `Refused` is the file's first command with a fault; want of memory is `NoMemory`.
+/// `Refused` is the file's first command with a fault; want of memory is `NoMemory`. The file has at most 67,108,864 bytes.
 pub fn flatten(alloc: Global, file: &[u8]) -> Result<Vec<u8>, FlattenFault>
     requires size { length file.now ≤ 67_108_864 }
     ensures text { IfOk result (λ text. IsFlattened file.now text.items) }

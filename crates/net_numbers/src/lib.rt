@@ -8,7 +8,8 @@ use lengths::NoMemory;
 use std::alloc::Global;
 use verdict::{Tree, Twig};
 
-/// For each piece the number of its net. No piece is in two of the trees, and there are fewer than 2^32 of them.
+/// For each of `count` pieces the number of its net; that of a piece in no tree is any. The trees hold pieces below `count`,
+/// none in two of them, and there are fewer than 2^32 trees. `NoMemory` where memory is wanted.
 pub fn numbers_of(alloc: Global, nets: &[Tree], count: usize) -> Result<Vec<u32>, NoMemory>
     requires few { length nets.now < 2 ^ 32 }
     requires known { (i piece : ℕ) → Holds nets.now i piece → piece < count }

@@ -58,7 +58,8 @@ fn list_word(
 /// The labels of a copper file: one for each `TO.N`, `TD` and `TD.N` word, in order, up to the stop of the words.
 ///
 /// A `TO.N` word gives its field 1 as name, or `N/C` where that is missing or empty; the others give none. `Bad` comes
-/// exactly at the first `TO.N` word whose field 1 is not empty and no text of 1 to 200 bytes from 32 to 126.
+/// exactly at the first `TO.N` word whose field 1 is not empty and no text of 1 to 200 bytes from 32 to 126; want of memory
+/// is `NoMemory`. The file has at most 67,108,864 bytes.
 pub fn labels(alloc: Global, file: &[u8]) -> Result<Rows<Label>, LabelFault>
     requires size { length file.now ≤ 67_108_864 }
     ensures ok { IfOk result (λ labels. IsRead file.now labels) }

@@ -27,7 +27,7 @@ pub fn label_at(labels: &Rows<Label>, command: u32) -> Option<&Text>
     found
 }
 
-/// The same of labels whose commands rise, as those that `labels` gives do: it halves the list until the label is found.
+/// The same of labels whose commands do not fall, as those that `labels` gives do: it halves the list until the label is found.
 pub fn label_among(labels: &Rows<Label>, command: u32) -> Option<&Text>
     requires { Rise labels.now }
     ensures { option_copied result ≡ name_at labels.now command }
