@@ -44,15 +44,13 @@ pub expressions_none : (text : List ℕ) → are_expressions 0 text ≡ true
 unfolding are_expressions
 expressions_none text = refl
 
-pub value_more : (n : ℕ) (sum u : ℤ) (text : List ℕ) (given : List Fraction) (unit : Measure) → 0 < n → is_empty text ≡ false → term_at (first_term text) given unit ≡ Ok u → sum_from n sum text given unit ≡ sum_from (n - 1) (sum +ℤ u) (further_terms text) given unit
+pub value_more : (n k : ℕ) (sum u : ℤ) (text : List ℕ) (given : List Fraction) (unit : Measure) → k < n → is_empty text ≡ false → term_at (first_term text) given unit ≡ Ok u → sum_from (n - k) sum text given unit ≡ sum_from (n - (k + 1)) (sum +ℤ u) (further_terms text) given unit
 unfolding sum_from
-value_more zero sum u text given unit some full term = absurd (omega (arith, some))
-value_more (suc n) sum u text given unit some full term = let e : suc n - 1 ≡ n = omega arith in rw (full, term, e) refl
+value_more n k sum u text given unit some full term = let e : n - k ≡ suc (n - (k + 1)) = omega (arith, some) in rw (e, full, term) refl
 
-pub value_bad : (n : ℕ) (sum : ℤ) (fault : MacroFault) (text : List ℕ) (given : List Fraction) (unit : Measure) → 0 < n → is_empty text ≡ false → term_at (first_term text) given unit ≡ Err fault → sum_from n sum text given unit ≡ Err fault
+pub value_bad : (n k : ℕ) (sum : ℤ) (fault : MacroFault) (text : List ℕ) (given : List Fraction) (unit : Measure) → k < n → is_empty text ≡ false → term_at (first_term text) given unit ≡ Err fault → sum_from (n - k) sum text given unit ≡ Err fault
 unfolding sum_from
-value_bad zero sum fault text given unit some full term = absurd (omega (arith, some))
-value_bad (suc n) sum fault text given unit some full term = rw (full, term) refl
+value_bad n k sum fault text given unit some full term = let e : n - k ≡ suc (n - (k + 1)) = omega (arith, some) in rw (e, full, term) refl
 
 pub value_end : (n : ℕ) (sum : ℤ) (text : List ℕ) (given : List Fraction) (unit : Measure) → is_empty text ≡ true → sum_from n sum text given unit ≡ Ok sum
 unfolding sum_from
@@ -63,29 +61,25 @@ pub value_over : (sum : ℤ) (text : List ℕ) (given : List Fraction) (unit : M
 unfolding sum_from
 value_over sum text given unit full = rw full refl
 
-pub last_more : (n : ℕ) (last p : Spot) (text : List ℕ) (given : List Fraction) (unit : Measure) → 0 < n → point_at text given unit ≡ Ok p → last_from last n text given unit ≡ last_from p (n - 1) (past 2 text) given unit
+pub last_more : (n k : ℕ) (last p : Spot) (text : List ℕ) (given : List Fraction) (unit : Measure) → k < n → point_at text given unit ≡ Ok p → last_from last (n - k) text given unit ≡ last_from p (n - (k + 1)) (past 2 text) given unit
 unfolding last_from
-last_more zero last p text given unit some this = absurd (omega (arith, some))
-last_more (suc n) last p text given unit some this = let e : suc n - 1 ≡ n = omega arith in rw (this, e) refl
+last_more n k last p text given unit some this = let e : n - k ≡ suc (n - (k + 1)) = omega (arith, some) in rw (e, this) refl
 
-pub last_bad : (n : ℕ) (last : Spot) (fault : MacroFault) (text : List ℕ) (given : List Fraction) (unit : Measure) → 0 < n → point_at text given unit ≡ Err fault → last_from last n text given unit ≡ Err fault
+pub last_bad : (n k : ℕ) (last : Spot) (fault : MacroFault) (text : List ℕ) (given : List Fraction) (unit : Measure) → k < n → point_at text given unit ≡ Err fault → last_from last (n - k) text given unit ≡ Err fault
 unfolding last_from
-last_bad zero last fault text given unit some this = absurd (omega (arith, some))
-last_bad (suc n) last fault text given unit some this = rw this refl
+last_bad n k last fault text given unit some this = let e : n - k ≡ suc (n - (k + 1)) = omega (arith, some) in rw (e, this) refl
 
 pub last_none : (last : Spot) (text : List ℕ) (given : List Fraction) (unit : Measure) → last_from last 0 text given unit ≡ Ok last
 unfolding last_from
 last_none last text given unit = refl
 
-pub moved_more : (f : Spot → Spot) (moved : List Spot) (n : ℕ) (p : Spot) (text : List ℕ) (given : List Fraction) (unit : Measure) → 0 < n → point_at text given unit ≡ Ok p → moved_from f moved n text given unit ≡ moved_from f (moved ++ f p ∷ []) (n - 1) (past 2 text) given unit
+pub moved_more : (f : Spot → Spot) (moved : List Spot) (n k : ℕ) (p : Spot) (text : List ℕ) (given : List Fraction) (unit : Measure) → k < n → point_at text given unit ≡ Ok p → moved_from f moved (n - k) text given unit ≡ moved_from f (moved ++ f p ∷ []) (n - (k + 1)) (past 2 text) given unit
 unfolding moved_from
-moved_more f moved zero p text given unit some this = absurd (omega (arith, some))
-moved_more f moved (suc n) p text given unit some this = let e : suc n - 1 ≡ n = omega arith in rw (this, e) refl
+moved_more f moved n k p text given unit some this = let e : n - k ≡ suc (n - (k + 1)) = omega (arith, some) in rw (e, this) refl
 
-pub moved_bad : (f : Spot → Spot) (moved : List Spot) (n : ℕ) (fault : MacroFault) (text : List ℕ) (given : List Fraction) (unit : Measure) → 0 < n → point_at text given unit ≡ Err fault → moved_from f moved n text given unit ≡ Err fault
+pub moved_bad : (f : Spot → Spot) (moved : List Spot) (n k : ℕ) (fault : MacroFault) (text : List ℕ) (given : List Fraction) (unit : Measure) → k < n → point_at text given unit ≡ Err fault → moved_from f moved (n - k) text given unit ≡ Err fault
 unfolding moved_from
-moved_bad f moved zero fault text given unit some this = absurd (omega (arith, some))
-moved_bad f moved (suc n) fault text given unit some this = rw this refl
+moved_bad f moved n k fault text given unit some this = let e : n - k ≡ suc (n - (k + 1)) = omega (arith, some) in rw (e, this) refl
 
 pub moved_none : (f : Spot → Spot) (moved : List Spot) (text : List ℕ) (given : List Fraction) (unit : Measure) → moved_from f moved 0 text given unit ≡ Ok moved
 unfolding moved_from

@@ -1,5 +1,5 @@
 -- Signed sums as they are computed.
-use Rattle.std.proofs.Common.{ℕ, ◌≡◌, ◌-◌, ◌*◌, ◌≤◌, ◌<◌, arith, ℤ, pos, ◌+ℤ◌, ◌-ℤ◌, ◌≤ℤ◌, neg_ℤ, to_z, of_z, w64}
+use Rattle.std.proofs.Common.{ℕ, ◌≡◌, ◌+◌, ◌*◌, ◌<◌, arith, ℤ, pos, ◌+ℤ◌, ◌-ℤ◌, ◌≤ℤ◌, neg_ℤ, to_z, of_z, w64}
 use Rattle.std.proofs.lemmas.Int.{ints}
 use Rattle.planar.specs.Plane.{IsPlaced, IsReached, IsWithin}
 use Rattle.planar.specs.declared.Spot.{Spot}
@@ -30,11 +30,11 @@ pub three_quarters_read : (at p : Spot) → IsPlaced at → IsReachable p →
 three_quarters_read at p h k = rw (plus_read at.x p.y h.0 k.1, less_read at.y p.x h.1 k.0)
 
 -- a sum of at most 63 terms and one more
-pub sum_read : (s u : ℤ) (left : ℕ) → pos 0 ≤ℤ (s +ℤ pos ((64 - left) * 10000000000)) → s ≤ℤ pos ((64 - left) * 10000000000) → left ≤ 64 → IsReached u → to_z w64 (of_z w64 (s +ℤ to_z w64 (of_z w64 u))) ≡ s +ℤ u
-sum_read s u left low high few h = omega (arith, ints)
+pub sum_read : (s u : ℤ) (k : ℕ) → pos 0 ≤ℤ (s +ℤ pos (k * 10000000000)) → s ≤ℤ pos (k * 10000000000) → k < 64 → IsReached u → to_z w64 (of_z w64 (s +ℤ to_z w64 (of_z w64 u))) ≡ s +ℤ u
+sum_read s u k low high few h = omega (arith, ints)
 
-pub sum_low : (s u : ℤ) (left : ℕ) → pos 0 ≤ℤ (s +ℤ pos ((64 - left) * 10000000000)) → 0 < left → left ≤ 64 → IsReached u → pos 0 ≤ℤ ((s +ℤ u) +ℤ pos ((64 - (left - 1)) * 10000000000))
-sum_low s u left low some few h = omega (arith, ints)
+pub sum_low : (s u : ℤ) (k : ℕ) → pos 0 ≤ℤ (s +ℤ pos (k * 10000000000)) → IsReached u → pos 0 ≤ℤ ((s +ℤ u) +ℤ pos ((k + 1) * 10000000000))
+sum_low s u k low h = omega (arith, ints)
 
-pub sum_high : (s u : ℤ) (left : ℕ) → s ≤ℤ pos ((64 - left) * 10000000000) → 0 < left → left ≤ 64 → IsReached u → (s +ℤ u) ≤ℤ pos ((64 - (left - 1)) * 10000000000)
-sum_high s u left high some few h = omega (arith, ints)
+pub sum_high : (s u : ℤ) (k : ℕ) → s ≤ℤ pos (k * 10000000000) → IsReached u → (s +ℤ u) ≤ℤ pos ((k + 1) * 10000000000)
+sum_high s u k high h = omega (arith, ints)

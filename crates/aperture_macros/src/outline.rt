@@ -51,13 +51,10 @@ impl Outline<'_> {
         ensures { result ≡ last_from first self.now.edges (past_of 2 self.now.text.now) self.now.parameters.now self.now.unit }
     {
         let mut last = first;
-        let mut left = self.edges;
-        let further = past(2, self.text);
-        let mut rest = further;
-        while left > 0 {
+        let mut rest = past(2, self.text);
+        for _ in 0..self.edges {
             last = point(rest, self.parameters, self.unit)?;
             rest = past(2, rest);
-            left -= 1;
         }
         Ok(last)
     }
@@ -98,9 +95,8 @@ impl Outline<'_> {
         ensures fault { IfErr result (IsRefusal (moved_from (set_down by.rotation by.at) [] (self.now.edges + 1) self.now.text.now self.now.parameters.now self.now.unit)) }
     {
         let mut points = Vec::new(alloc);
-        let mut left = self.edges + 1;
         let mut rest = self.text;
-        while left > 0 {
+        for _ in 0..self.edges + 1 {
             let p = match point(rest, self.parameters, self.unit) {
                 Ok(p) => p,
                 Err(fault) => return Err(FigureFault::Macro(fault)),
@@ -109,7 +105,6 @@ impl Outline<'_> {
                 return Err(FigureFault::NoMemory);
             };
             rest = past(2, rest);
-            left -= 1;
         }
         Ok(points)
     }

@@ -59,17 +59,15 @@ fn term(text: &[u8], parameters: &[Decimal], unit: Unit) -> Result<i64, MacroFau
 fn sum(text: &[u8], parameters: &[Decimal], unit: Unit) -> Result<i64, MacroFault>
     ensures { result ≡ spec.sum_from 64 (pos 0) text.now parameters.now unit }
 {
-    let mut left = MOST_TERMS;
     let mut rest = text;
     let mut sum = 0;
-    while left > 0 {
+    for _ in 0..MOST_TERMS {
         if rest.is_empty() {
             return Ok(sum);
         }
         let one = first_term(rest);
         sum += term(one, parameters, unit)?;
         rest = further_terms(rest);
-        left -= 1;
     }
     if rest.is_empty() {
         Ok(sum)

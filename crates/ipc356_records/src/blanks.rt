@@ -5,10 +5,10 @@ ghost use Rattle.ipc356_records.specs.Columns.{NextWord};
 
 use texts::{ByteClass, is_blank, run_len, without_front};
 
-// What is neither a tab nor a space.
-struct Unblank;
+// A byte of a word: neither a tab nor a space.
+struct WordByte;
 
-impl ByteClass for Unblank {
+impl ByteClass for WordByte {
     ghost member = { λ b. not (spec.is_blank b) };
 
     fn has(byte: u8) -> bool {
@@ -24,6 +24,6 @@ pub fn next_word(text: &[u8]) -> Option<(&[u8], &[u8])>
     if text.is_empty() {
         return None;
     }
-    let len = run_len::<Unblank>(text);
+    let len = run_len::<WordByte>(text);
     Some((&text[..len], &text[len..]))
 }

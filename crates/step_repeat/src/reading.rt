@@ -70,7 +70,7 @@ fn count(digits: &[u8]) -> Result<u32, RepeatFault>
     ensures some { IfOk result (λ n. 1 ≤ n) }
     ensures few { IfOk result (λ n. n ≤ 999999999) }
 {
-    if digits.len() == 0 || digits.len() > 9 {
+    if digits.is_empty() || digits.len() > 9 {
         return Err(RepeatFault::BadText);
     }
     if !all_digits(digits) {

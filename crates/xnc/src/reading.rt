@@ -63,40 +63,32 @@ fn comment(span: Span, text: &[u8]) -> Form
 fn only_x(x: Option<Decimal>) -> Option<Coordinates>
     ensures { result ≡ spec.only_x x }
 {
-    match x {
-        None => None,
-        Some(x) => Some(Coordinates {
-            x: Some(x),
-            y: None,
-        }),
-    }
+    let x = x?;
+    Some(Coordinates {
+        x: Some(x),
+        y: None,
+    })
 }
 
 fn only_y(y: Option<Decimal>) -> Option<Coordinates>
     ensures { result ≡ spec.only_y y }
 {
-    match y {
-        None => None,
-        Some(y) => Some(Coordinates {
-            x: None,
-            y: Some(y),
-        }),
-    }
+    let y = y?;
+    Some(Coordinates {
+        x: None,
+        y: Some(y),
+    })
 }
 
 fn both(x: Option<Decimal>, y: Option<Decimal>) -> Option<Coordinates>
     ensures { result ≡ spec.both x y }
 {
-    match x {
-        None => None,
-        Some(x) => match y {
-            None => None,
-            Some(y) => Some(Coordinates {
-                x: Some(x),
-                y: Some(y),
-            }),
-        },
-    }
+    let x = x?;
+    let y = y?;
+    Some(Coordinates {
+        x: Some(x),
+        y: Some(y),
+    })
 }
 
 #[tactic(auto, unfolding(crate::specs::Reading::behind_x))]

@@ -21,14 +21,7 @@ pub fn other_unit(first: Option<Unit>, unit: Unit) -> bool
 {
     match first {
         None => false,
-        Some(Unit::Mm) => match unit {
-            Unit::Mm => false,
-            Unit::Inch => true,
-        },
-        Some(Unit::Inch) => match unit {
-            Unit::Mm => true,
-            Unit::Inch => false,
-        },
+        Some(first) => first != unit,
     }
 }
 
