@@ -15,22 +15,6 @@ use contact::MOST_DIAMETER;
 use lengths::{Decimal, Len, Unit};
 use planar::Spot;
 
-pub fn other_unit(first: Option<Unit>, unit: Unit) -> bool
-    ensures { result ≡ spec.other_unit first unit }
-{
-    match first {
-        None => false,
-        Some(Unit::Mm) => match unit {
-            Unit::Mm => false,
-            Unit::Inch => true,
-        },
-        Some(Unit::Inch) => match unit {
-            Unit::Mm => true,
-            Unit::Inch => false,
-        },
-    }
-}
-
 pub fn is_drilling(mode: Mode) -> bool
     ensures { result ≡ spec.is_drilling mode }
 {
