@@ -1,8 +1,10 @@
 -- The answers as plain data.
-use Rattle.std.specs.Prelude.{List, ◌≡◌, Option, Some, None, Result, Ok, Err}
+use Rattle.std.specs.Prelude.{Bool, true, false, List, ◌≡◌, Option, Some, None, Result, Ok, Err}
 use Rattle.planar.specs.declared.Spot.{Spot}
 use Rattle.board_shapes.specs.declared.shape.Shape.{Shape}
-use Rattle.board_shapes.specs.Figures.{Figure, figure_of}
+use Rattle.board_shapes.specs.Figures.{Figure, seen_shape}
+use Rattle.aperture_macros.specs.declared.primitive.Form.{Form}
+use Rattle.aperture_macros.specs.declared.primitive.Form.TheVariants.{Circle, Outline, VectorLine, CentreLine}
 use Rattle.aperture_macros.specs.declared.primitive.Primitive.{Primitive}
 use Rattle.aperture_macros.specs.declared.fault.MacroFault.{MacroFault}
 use Rattle.aperture_macros.specs.declared.fault.FigureFault.{FigureFault}
@@ -12,6 +14,13 @@ use Rattle.aperture_macros.specs.BodyWord.{PlainPrimitive}
 -- a primitive without where its bytes lie in memory
 abbrev pub plain : Primitive → PlainPrimitive
 plain p = record { form = p.form; rotation = p.rotation; lengths = p.lengths.now }
+
+-- whether a primitive is a circle
+abbrev pub is_circle : Form → Bool
+is_circle Circle = true
+is_circle (Outline n) = false
+is_circle VectorLine = false
+is_circle CentreLine = false
 
 -- and where there may be none, or a fault
 abbrev pub seen_primitive : Option Primitive → Option PlainPrimitive
@@ -26,10 +35,11 @@ abbrev pub seen_one : Result Primitive MacroFault → Result PlainPrimitive Macr
 seen_one (Ok p) = Ok (plain p)
 seen_one (Err fault) = Err fault
 
--- the figure of a shape, if there is one
-abbrev pub seen_shape : Option Shape → Option Figure
-seen_shape None = None
-seen_shape (Some shape) = Some (figure_of shape)
+-- the answer is the figure
+abbrev pub IsMade : Result (Option Shape) FigureFault → Result (Option Figure) MacroFault → Type 0
+IsMade (Ok shape) figure = Ok (seen_shape shape) ≡ figure
+IsMade (Err (Macro fault)) figure = Err fault ≡ figure
+IsMade (Err NoMemory) figure = ⊥
 
 -- the answer is the figure, unless memory is wanted
 abbrev pub Makes : Result (Option Shape) FigureFault → Result (Option Figure) MacroFault → Type 0

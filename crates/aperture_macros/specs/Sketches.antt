@@ -1,5 +1,6 @@
 -- Figures about the origin are near it.
-use Rattle.std.specs.Prelude.{◌≤◌, Option, Some, None}
+use Rattle.std.specs.Prelude.{Bool, true, false, ◌≤◌, Option, Some, None}
+use Rattle.contact.specs.declared.TheConstants.{MOST_DIAMETER}
 use Rattle.board_shapes.specs.Rectangles.{IsReachable}
 use Rattle.aperture_macros.specs.declared.images.Sketch.{Sketch}
 use Rattle.aperture_macros.specs.declared.images.Sketch.TheVariants.{Disc, Rectangle}
@@ -7,5 +8,11 @@ use Rattle.aperture_macros.specs.declared.images.Sketch.TheVariants.{Disc, Recta
 -- a disc of a lawful diameter, or a rectangle, whose points are
 abbrev pub IsNear : Option Sketch → Type 0
 IsNear None = Unit {0}
-IsNear (Some (Disc p d)) = IsReachable p × (d ≤ 500000000)
+IsNear (Some (Disc p d)) = IsReachable p × (d ≤ MOST_DIAMETER)
 IsNear (Some (Rectangle low high)) = IsReachable low × IsReachable high
+
+-- a disc, or none
+abbrev pub is_disc : Option Sketch → Bool
+is_disc None = true
+is_disc (Some (Disc p d)) = true
+is_disc (Some (Rectangle low high)) = false

@@ -1,6 +1,8 @@
 -- What the lengths of a primitive are, in u.
 use Rattle.std.specs.Prelude.{ℕ, zero, suc, ◌-◌, ◌%◌, Bool, ◌==◌, nat_lt, not, if◌then◌else◌, List, ℤ, pos, ◌+ℤ◌, neg_ℤ, unsigned_abs, int_lt, slice_get, Option, Some, None, Result, Ok, Err}
+use Rattle.contact.specs.declared.TheConstants.{MOST_DIAMETER}
 use Rattle.planar.specs.declared.Spot.{Spot}
+use Rattle.planar.specs.declared.TheConstants.{METRE}
 use Rattle.lengths.specs.Decimal.{Fraction, chosen, fraction, has_minus, is_decimal, unsigned}
 use Rattle.lengths.specs.Grid.{position_of}
 use Rattle.lengths.specs.declared.decimal.Unit.{Unit as Measure}
@@ -47,7 +49,7 @@ sum_from (suc n) sum text parameters unit =
 -- a coordinate: at most 1 m from 0
 unfoldable pub coordinate_at : List ℕ → List Fraction → Measure → Result ℤ MacroFault
 coordinate_at text parameters unit =
-    sum_from 64 (pos 0) text parameters unit >>= λ u. if nat_lt 10000000000 (unsigned_abs u) then Err OutOfRange else Ok u
+    sum_from 64 (pos 0) text parameters unit >>= λ u. if nat_lt METRE (unsigned_abs u) then Err OutOfRange else Ok u
 
 -- a size is even, and not negative
 abbrev pub as_size : ℤ → Result ℕ MacroFault
@@ -57,9 +59,9 @@ as_size u = if not (unsigned_abs u % 2 == 0) then Err OffGrid else (if int_lt u 
 unfoldable pub size_at : List ℕ → List Fraction → Measure → Result ℕ MacroFault
 size_at text parameters unit = coordinate_at text parameters unit >>= as_size
 
--- a diameter is at most 50 mm
+-- a diameter is at most MOST_DIAMETER
 unfoldable pub diameter_at : List ℕ → List Fraction → Measure → Result ℕ MacroFault
-diameter_at text parameters unit = size_at text parameters unit >>= λ d. if nat_lt 500000000 d then Err OutOfRange else Ok d
+diameter_at text parameters unit = size_at text parameters unit >>= λ d. if nat_lt MOST_DIAMETER d then Err OutOfRange else Ok d
 
 -- the point that the first two parts of a text are
 unfoldable pub point_at : List ℕ → List Fraction → Measure → Result Spot MacroFault

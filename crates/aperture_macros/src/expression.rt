@@ -1,12 +1,8 @@
 //! How lengths are written.
-ghost use Rattle.std.specs.Prelude.{◌≡◌, ◌≤◌, true, IfSome, length};
-ghost use Rattle.std.specs.List.{list_all};
-ghost use Rattle.std.specs.Str.Parse.{digits_value as value_of_digits};
-ghost use Rattle.texts.specs.Digits.{is_decimal_digit};
-ghost use Rattle.lengths.specs.Decimal.{has_minus as minus_stands, unsigned as unsigned_text};
+ghost use Rattle.std.specs.Prelude.{◌≡◌, ◌≤◌, IfSome, length};
 ghost use Rattle.aperture_macros.specs.Expression as spec;
 
-use lengths::{digits_value, read_decimal};
+use lengths::{read_decimal, small_value, unsigned};
 use texts::{ByteClass, all_digits, run_len};
 
 /// The most terms of an expression.
@@ -26,27 +22,6 @@ impl ByteClass for Plain {
 
     fn has(byte: u8) -> bool {
         !is_sign(byte)
-    }
-}
-
-/// A text without its sign, if it has one.
-pub fn unsigned(text: &[u8]) -> &[u8]
-    ensures { result.now ≡ unsigned_text text.now }
-{
-    match text {
-        [b'+', rest @ ..] => rest,
-        [b'-', rest @ ..] => rest,
-        _ => text,
-    }
-}
-
-/// Whether a text begins with a minus.
-pub fn has_minus(text: &[u8]) -> bool
-    ensures { result ≡ minus_stands text.now }
-{
-    match text {
-        [b'-', ..] => true,
-        _ => false,
     }
 }
 
@@ -96,16 +71,8 @@ fn parameter_number(digits: &[u8]) -> Option<u32>
     if !all_digits(digits) {
         return None;
     }
-    let k = value_of(digits);
+    let k = small_value(digits);
     if k == 0 { None } else { Some(k) }
-}
-
-fn value_of(digits: &[u8]) -> u32
-    requires digits { list_all is_decimal_digit digits.now ≡ true }
-    requires few { length digits.now ≤ 3 }
-    ensures value { result ≡ value_of_digits 10 digits.now }
-{
-    digits_value(0, digits) as u32
 }
 
 /// The number of the parameter that `$` and digits name, or `None` where the text is no such term.

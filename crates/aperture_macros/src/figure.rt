@@ -1,11 +1,12 @@
 //! Primitives with their parameters: whether they are lawful, and what they flash.
 ghost use Rattle.std.specs.Prelude.{◌≡◌, ◌≤◌, false, true, IfOk, length, map};
 ghost use Rattle.planar.specs.Plane.{IsPlaced};
+ghost use Rattle.contact.specs.declared.TheConstants.{MOST_DIAMETER};
 ghost use Rattle.area_contact.specs.Contour.{IsClosed};
 ghost use Rattle.board_shapes.specs.Rectangles.{IsReachable, rectangle};
 ghost use Rattle.aperture_macros.specs.Images as spec;
-ghost use Rattle.aperture_macros.specs.Seen.{Makes, plain};
-ghost use Rattle.aperture_macros.specs.Sketches.{IsNear};
+ghost use Rattle.aperture_macros.specs.Seen.{IsMade, Makes, is_circle, plain};
+ghost use Rattle.aperture_macros.specs.Sketches.{IsNear, is_disc};
 
 use crate::fault::{FigureFault, MacroFault};
 use crate::images::{Sketch, centre_line, circle, line};
@@ -64,7 +65,8 @@ impl<'a> Primitive<'a> {
     /// exactly where a diameter, a width, a height or the length of a vector line is 0.
     ///
     /// The fault of `judge` comes first, then `OutOfRange`, where the centre of a circle or a corner
-    /// is over 1 m from 0 in x or y. `NoMemory` comes for outlines and lines alone.
+    /// is over 1 m from 0 in x or y. `NoMemory` comes for outlines and lines alone:
+    /// a circle takes no memory.
     #[tactic(auto, unfolding(crate::specs::Images::figure_by))]
     pub fn figure(
         &self,
@@ -74,7 +76,8 @@ impl<'a> Primitive<'a> {
         at: Spot,
     ) -> Result<Option<Shape>, FigureFault>
         requires placed { IsPlaced at }
-        ensures { Makes result (spec.figure_at (plain self.now) parameters.now unit at) }
+        ensures shape { Makes result (spec.figure_at (plain self.now) parameters.now unit at) }
+        ensures no_memory { is_circle self.now.form ≡ true → IsMade result (spec.figure_at (plain self.now) parameters.now unit at) }
     {
         let by = Placing {
             rotation: self.rotation,
@@ -103,7 +106,8 @@ fn set_down(
     sketch: Result<Option<Sketch>, MacroFault>,
 ) -> Result<Option<Shape>, FigureFault>
     requires near { IfOk sketch IsNear }
-    ensures { Makes result (spec.sketched by.rotation by.at sketch) }
+    ensures shape { Makes result (spec.sketched by.rotation by.at sketch) }
+    ensures no_memory { IfOk sketch (λ found. is_disc found ≡ true) → IsMade result (spec.sketched by.rotation by.at sketch) }
 {
     match sketch {
         Err(fault) => Err(FigureFault::Macro(fault)),
@@ -114,8 +118,8 @@ fn set_down(
 }
 
 fn disc(p: Spot, d: u64) -> Result<Option<Shape>, FigureFault>
-    requires small { d ≤ 500000000 }
-    ensures { Makes result (spec.disc_at p d) }
+    requires small { d ≤ MOST_DIAMETER }
+    ensures { IsMade result (spec.disc_at p d) }
 {
     if !is_placed(p) {
         return Err(FigureFault::Macro(MacroFault::OutOfRange));

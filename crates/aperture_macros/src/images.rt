@@ -1,9 +1,9 @@
 //! Figures about the origin of the macro, before they are turned.
-ghost use Rattle.std.specs.Prelude.{◌≡◌, ◌≤◌, IfOk, Some};
+ghost use Rattle.std.specs.Prelude.{◌≡◌, ◌≤◌, IfOk, Some, true};
 ghost use Rattle.planar.specs.Plane.{IsPlaced};
 ghost use Rattle.planar.specs.declared.TheConstants.{METRE};
 ghost use Rattle.aperture_macros.specs.Images as spec;
-ghost use Rattle.aperture_macros.specs.Sketches.{IsNear};
+ghost use Rattle.aperture_macros.specs.Sketches.{IsNear, is_disc};
 
 use crate::fault::MacroFault;
 use crate::reading::{part, past};
@@ -25,6 +25,7 @@ pub enum Sketch {
 pub fn circle(text: &[u8], parameters: &[Decimal], unit: Unit) -> Result<Option<Sketch>, MacroFault>
     ensures value { result ≡ spec.circle_at text.now parameters.now unit }
     ensures near { IfOk result IsNear }
+    ensures disc { IfOk result (λ sketch. is_disc sketch ≡ true) }
 {
     let d = diameter(part(0, text), parameters, unit)?;
     let p = point(past(1, text), parameters, unit)?;

@@ -1,16 +1,16 @@
 //! What lengths are, in u.
 ghost use Rattle.std.specs.Prelude.{◌≡◌, ◌≤◌, ◌^◌, pos, IfOk};
 ghost use Rattle.planar.specs.Plane.{IsPlaced, IsReached};
+ghost use Rattle.contact.specs.declared.TheConstants.{MOST_DIAMETER};
 ghost use Rattle.lengths.specs.Grid.{position_of};
 ghost use Rattle.aperture_macros.specs.Values as spec;
 
-use crate::expression::{
-    MOST_TERMS, first_term, further_terms, has_minus, unsigned, variable_number,
-};
+use crate::expression::{MOST_TERMS, first_term, further_terms, variable_number};
 use crate::fault::MacroFault;
 use crate::reading::part;
-use lengths::{Decimal, Unit, read_decimal};
-use planar::Spot;
+use contact::MOST_DIAMETER;
+use lengths::{Decimal, Unit, has_minus, read_decimal, unsigned};
+use planar::{METRE, Spot};
 
 // The position that a decimal is, which stands for itself or for a parameter.
 fn position(decimal: &Decimal, unit: Unit) -> Result<i64, MacroFault>
@@ -83,7 +83,7 @@ fn coordinate(text: &[u8], parameters: &[Decimal], unit: Unit) -> Result<i64, Ma
     ensures reached { IfOk result IsReached }
 {
     let u = sum(text, parameters, unit)?;
-    if u.unsigned_abs() > 10_000_000_000 {
+    if u.unsigned_abs() > METRE {
         return Err(MacroFault::OutOfRange);
     }
     Ok(u)
@@ -105,14 +105,14 @@ pub fn size(text: &[u8], parameters: &[Decimal], unit: Unit) -> Result<u64, Macr
     Ok(u.unsigned_abs())
 }
 
-/// A diameter, at most 50 mm.
+/// A diameter, at most `MOST_DIAMETER`.
 #[tactic(auto, unfolding(crate::specs::Values::diameter_at))]
 pub fn diameter(text: &[u8], parameters: &[Decimal], unit: Unit) -> Result<u64, MacroFault>
     ensures value { result ≡ spec.diameter_at text.now parameters.now unit }
-    ensures small { IfOk result (λ n. n ≤ 500000000) }
+    ensures small { IfOk result (λ n. n ≤ MOST_DIAMETER) }
 {
     let d = size(text, parameters, unit)?;
-    if d > 500_000_000 {
+    if d > MOST_DIAMETER {
         return Err(MacroFault::OutOfRange);
     }
     Ok(d)

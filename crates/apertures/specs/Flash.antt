@@ -6,7 +6,7 @@ use Rattle.planar.specs.Plane.{is_placed}
 use Rattle.planar.specs.declared.Spot.{Spot}
 use Rattle.planar.specs.declared.TheConstants.{METRE}
 use Rattle.board_shapes.specs.declared.shape.Shape.{Shape}
-use Rattle.board_shapes.specs.Plain.{Figure, Stroke, filled, figure_of, round}
+use Rattle.board_shapes.specs.Figures.{Figure, Stroke, filled, round, seen_shape}
 use Rattle.board_shapes.specs.Rectangles.{lower, rectangle, upper}
 use Rattle.apertures.specs.declared.aperture.Aperture.{Aperture}
 use Rattle.apertures.specs.declared.aperture.Aperture.TheVariants.{Circle, Rectangle, Obround}
@@ -74,11 +74,6 @@ unfoldable pub flash_of : Aperture → Spot → Result (Option Figure) NoFlash
 flash_of (Circle d) at = Ok (disc (unsigned_abs d) at)
 flash_of (Rectangle x y) at = rectangle_at (unsigned_abs x) (unsigned_abs y) at
 flash_of (Obround x y) at = obround (unsigned_abs x) (unsigned_abs y) at
-
--- the figure of a shape, if there is one
-abbrev pub seen_shape : Option Shape → Option Figure
-seen_shape None = None
-seen_shape (Some shape) = Some (figure_of shape)
 
 -- the answer is the flash
 abbrev pub IsFlash : Result (Option Shape) FlashFault → Result (Option Figure) NoFlash → Type 0

@@ -4,7 +4,7 @@ use Rattle.std.specs.Str.{is_utf8}
 use Rattle.std.proofs.lemmas.List.{length-take, take-append-drop}
 use Rattle.std.proofs.lemmas.Str.{IsUtf8-from_is_utf8, is_utf8-from_IsUtf8}
 use Rattle.board_io.specs.Package.{Files}
-use Rattle.board_shapes.specs.Plain.{PlainBoard, PlainPiece}
+use Rattle.board_shapes.specs.Plain.{PlainBoard, PlainPiece, with_netlist}
 use Rattle.board_shapes.specs.declared.probe.Probe.{Probe}
 use Rattle.gerber_layer.specs.Table.{Place as LayerPlace}
 use Rattle.gerber_layer.specs.Layer as layer_file
@@ -18,7 +18,7 @@ use Rattle.texts.specs.Words.{is}
 use Rattle.board_package.specs.Laws.{CutIsRefusedOrTheSame, IsRefusing, cut_off, FilesHaveOneAnswer}
 use Rattle.board_package.specs.Manifest.{IsManifest, IsNotJson, manifest_of}
 use Rattle.board_package.specs.PackageBoard.{Stop, not_json, refused, IsHeld, Goes, StopsAt, StopsAmong, StopsAtManifest, IsManifestFile, Walks}
-use Rattle.board_package.specs.Parts.{empty_board, with_pieces, with_netlist}
+use Rattle.board_package.specs.Parts.{empty_board, with_pieces}
 use Rattle.board_package.specs.Reading.{Reads, Refuses, layer_place, drill_place}
 use Rattle.board_package.specs.declared.entry.Entry.{Entry}
 use Rattle.board_package.specs.declared.entry.Role.{Role}

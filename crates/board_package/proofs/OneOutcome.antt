@@ -1,14 +1,14 @@
 -- A package has one outcome.
 use Rattle.std.proofs.Common.{◌≡◌, ◌⊎◌, inl, inr, ℕ, ◌<◌, List, length, Option, Some, None, IsSomeAnd, refl, sym, ap, subst, ◌∙◌, arith}
 use Rattle.board_io.specs.Package.{Files}
-use Rattle.board_shapes.specs.Plain.{PlainBoard, common_box, Fits}
+use Rattle.board_shapes.specs.Plain.{PlainBoard, common_box, Fits, with_netlist}
 use Rattle.contact.specs.declared.Bounds.{Bounds}
 use Rattle.ipc356_records.specs.NetlistFile.{Netlist}
 use Rattle.serde_json.specs.Data.{Data}
 use Rattle.board_package.specs.Laws.{HasOneOutcome, FilesHaveOneAnswer}
 use Rattle.board_package.specs.Manifest.{IsManifest, IsNotJson, IsOther, IsValueOf, manifest_of}
 use Rattle.board_package.specs.PackageBoard.{Stop, absent, longer, not_json, bad_manifest, refused, frame_too_large, IsHeld, IsHeldWith, Goes, IsRefusedFor, StopsAt, StopsAtManifest, StopsAtFrame, StopsAmong, IsManifestFile, IsBoardOf, IsFirstStop, IsFrameStop, Walks, most_bytes}
-use Rattle.board_package.specs.Parts.{with_pieces, with_netlist, empty_board}
+use Rattle.board_package.specs.Parts.{with_pieces, empty_board}
 use Rattle.board_package.specs.Reading.{Reads, Refuses, layer_place, drill_place}
 use Rattle.board_package.specs.declared.entry.Entry.{Entry}
 use Rattle.board_package.specs.declared.entry.Role.{Role}

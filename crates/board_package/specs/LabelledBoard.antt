@@ -4,7 +4,7 @@ use Rattle.std.specs.List.{filter}
 use Rattle.area_contact.specs.Contour.{first_of}
 use Rattle.board_io.specs.Package.{Files}
 use Rattle.board_shapes.specs.Figures.{Figure, round, filled}
-use Rattle.board_shapes.specs.Plain.{PlainBoard, PlainPiece, common_box, Fits}
+use Rattle.board_shapes.specs.Plain.{PlainBoard, PlainPiece, common_box, Fits, with_netlist}
 use Rattle.board_shapes.specs.declared.placed.Origin.{Origin}
 use Rattle.board_shapes.specs.declared.probe.Probe.{Probe}
 use Rattle.ipc356_records.specs.Names.{index_of, with_name}
@@ -12,7 +12,7 @@ use Rattle.planar.specs.declared.Spot.{Spot}
 use Rattle.x2_nets.specs.Labels.{IsBad, IsRead, name_at}
 use Rattle.x2_nets.specs.declared.table.Label.{Label}
 use Rattle.board_package.specs.PackageBoard.{AtOneBy, Goes, IsManifestFile, Stop, StopsAt, StopsAtFrame, StopsAtManifest, WalksBy, order_of}
-use Rattle.board_package.specs.Parts.{empty_board, with_netlist}
+use Rattle.board_package.specs.Parts.{empty_board}
 use Rattle.board_package.specs.declared.entry.Entry.{Entry}
 use Rattle.board_package.specs.declared.entry.Role.{Role}
 use Rattle.board_package.specs.declared.entry.Role.TheVariants.{Copper, Drill, Netlist}

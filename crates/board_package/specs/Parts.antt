@@ -15,10 +15,6 @@ empty_board layers = record { pieces = []; probes = []; names = []; layers = lay
 abbrev pub with_pieces : PlainBoard → List PlainPiece → PlainBoard
 with_pieces b pieces = record { pieces = b.pieces ++ pieces; probes = b.probes; names = b.names; layers = b.layers }
 
--- the board with these probes and names
-abbrev pub with_netlist : PlainBoard → List Probe → List (List ℕ) → PlainBoard
-with_netlist b probes names = record { pieces = b.pieces; probes = probes; names = names; layers = b.layers }
-
 -- the pieces and edges that may still come: a board has at most 200,000 pieces, and their contours 2,000,000 edges
 abbrev pub room_left : List PlainPiece → Room
 room_left pieces = record { pieces = 200000 - length pieces; edges = 2000000 - edges_in pieces }

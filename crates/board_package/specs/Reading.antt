@@ -1,13 +1,13 @@
 -- What each file of a package is read as, and why it is refused.
 use Rattle.std.specs.Prelude.{◌≡◌, ℕ, List}
-use Rattle.board_shapes.specs.Plain.{PlainBoard, PlainPiece}
+use Rattle.board_shapes.specs.Plain.{PlainBoard, PlainPiece, with_netlist}
 use Rattle.board_shapes.specs.declared.probe.Probe.{Probe}
 use Rattle.gerber_layer.specs.Table.{Place as LayerPlace}
 use Rattle.gerber_layer.specs.Layer as layer_file
 use Rattle.xnc.specs.Place.{Place as DrillPlace}
 use Rattle.xnc.specs.DrillFile as drill_file
 use Rattle.ipc356_records.specs.NetlistFile as netlist_file
-use Rattle.board_package.specs.Parts.{with_pieces, with_netlist, room_left}
+use Rattle.board_package.specs.Parts.{with_pieces, room_left}
 use Rattle.board_package.specs.declared.entry.Role.{Role}
 use Rattle.board_package.specs.declared.entry.Role.TheVariants as role
 use Rattle.board_package.specs.declared.reading.Refusal.{Refusal}

@@ -1,5 +1,5 @@
 -- Shapes as plain data, without their invariants: figures, their points and their boxes.
-use Rattle.std.specs.Prelude.{ℕ, ◌-◌, ℤ, List, length}
+use Rattle.std.specs.Prelude.{ℕ, ◌-◌, ℤ, List, length, Option, Some, None}
 use Rattle.planar.specs.declared.Spot.{Spot}
 use Rattle.planar.specs.Plane.{InCapsule, Point}
 use Rattle.contact.specs.declared.Bounds.{Bounds}
@@ -31,6 +31,11 @@ area_figure area = filled area.points.items
 abbrev pub figure_of : Shape → Figure
 figure_of (Round c) = capsule_figure c
 figure_of (Filled area) = area_figure area
+
+-- the figure of a shape, if there is one
+abbrev pub seen_shape : Option Shape → Option Figure
+seen_shape None = None
+seen_shape (Some shape) = Some (figure_of shape)
 
 -- how many edges the figure has: none, or those of its contour
 abbrev pub figure_edges : Figure → ℕ

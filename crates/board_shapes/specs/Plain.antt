@@ -26,6 +26,10 @@ plain_parts pieces probes names layers = record { pieces = plain_pieces pieces; 
 abbrev pub plain_board : Board → PlainBoard
 plain_board b = plain_parts b.pieces.items b.probes b.names b.layers
 
+-- the board of the same pieces and layers with these probes and names
+abbrev pub with_netlist : PlainBoard → List Probe → List (List ℕ) → PlainBoard
+with_netlist b probes names = record { pieces = b.pieces; probes = probes; names = names; layers = b.layers }
+
 -- the frame of the board's pieces
 abbrev pub frame_of : PlainBoard → Frame
 frame_of b = frame_over (common_box b.pieces)

@@ -5,12 +5,12 @@ use Rattle.std.specs.List.{AllByRecursion}
 use Rattle.board_io.specs.Package.{Files}
 use Rattle.board_package.specs.Laws.{HasOneOutcome}
 use Rattle.board_package.specs.PackageBoard.{IsBoardOf, Walks, most_bytes}
-use Rattle.board_package.specs.Parts.{empty_board, with_netlist}
+use Rattle.board_package.specs.Parts.{empty_board}
 use Rattle.board_package.specs.Reading.{Reads}
 use Rattle.board_package.specs.declared.entry.Entry.{Entry}
 use Rattle.board_package.specs.declared.entry.Role.{Role}
 use Rattle.board_package.specs.declared.entry.Role.TheVariants.{Netlist}
-use Rattle.board_shapes.specs.Plain.{PlainBoard}
+use Rattle.board_shapes.specs.Plain.{PlainBoard, with_netlist}
 use Rattle.board_shapes.specs.Tables.{IsTables}
 use Rattle.board_shapes.specs.declared.probe.Probe.{Probe}
 use Rattle.boardnet.proofs.OnBoard.{forest_on}

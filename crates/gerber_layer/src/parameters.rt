@@ -1,12 +1,11 @@
 //! The definition of an aperture by a macro.
-ghost use Rattle.std.specs.Prelude.{◌≡◌, ◌≤◌, true, drop, length, IfOk, option_map};
-ghost use Rattle.std.specs.List.{count_by, list_all};
-ghost use Rattle.texts.specs.Digits.{is_decimal_digit};
+ghost use Rattle.std.specs.Prelude.{◌≡◌, ◌≤◌, drop, length, IfOk, option_map};
+ghost use Rattle.std.specs.List.{count_by};
 ghost use Rattle.std.specs.Str.Parse.{digits_value as value_of_digits};
 ghost use Rattle.apertures.specs.Reading.{is_x};
 ghost use Rattle.gerber_layer.specs.Tools as spec;
 
-use lengths::{Decimal, NoMemory, digits_value, read_decimal};
+use lengths::{Decimal, NoMemory, read_decimal, small_value};
 use std::alloc::Global;
 use texts::{after, before, digits_len, has};
 
@@ -24,16 +23,7 @@ pub fn number(word: &[u8]) -> u32
     ensures { result ≡ value_of_digits 10 (spec.number_digits word.now) }
 {
     let text = behind_letters(word);
-    value_of(&text[..digits_len(text)])
-}
-
-// The number that digits spell.
-fn value_of(digits: &[u8]) -> u32
-    requires digits { list_all is_decimal_digit digits.now ≡ true }
-    requires few { length digits.now ≤ 9 }
-    ensures value { result ≡ value_of_digits 10 digits.now }
-{
-    digits_value(0, digits) as u32
+    small_value(&text[..digits_len(text)])
 }
 
 // What follows `ADD`.

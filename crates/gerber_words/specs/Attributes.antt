@@ -1,6 +1,7 @@
 -- Attributes: extended words whose text says something of the file or of objects, in parts cut at commas.
-use Rattle.std.specs.Prelude.{ℕ, Bool, ◌==◌, nat_eq, if◌then◌else◌, List, drop, codes, Option, Some, None, slice_get}
+use Rattle.std.specs.Prelude.{ℕ, Bool, false, ◌==◌, nat_eq, if◌then◌else◌, List, drop, codes, Option, Some, None, slice_get}
 use Rattle.std.specs.List.{slice_split, starts_with}
+use Rattle.std.specs.Cmp.Lexicographic.{pointwise}
 use Rattle.gerber_words.specs.Words.{Entry}
 use Rattle.gerber_words.specs.declared.attribute.Attribute.{Attribute}
 use Rattle.gerber_words.specs.declared.attribute.AttributeKind.{AttributeKind}
@@ -26,23 +27,28 @@ field_of text n = slice_get (slice_split is_comma text) n
 abbrev pub attribute_field : List ℕ → ℕ → Option (List ℕ)
 attribute_field text n = field_of (drop 2 text) n
 
+-- a field that is this word
+abbrev pub is_field : Option (List ℕ) → List ℕ → Bool
+is_field None word = false
+is_field (Some text) word = pointwise nat_eq text word
+
 -- an attribute: its kind, and the text behind the two letters
 pub record PlainAttribute : Type 0 where
   pub kind : AttributeKind
-  pub fields : List ℕ
+  pub text : List ℕ
 
 -- the attribute that a text gives
-abbrev pub with_fields : List ℕ → Option AttributeKind → Option PlainAttribute
-with_fields text None = None
-with_fields text (Some kind) = Some (record { kind = kind; fields = drop 2 text })
+abbrev pub with_text : List ℕ → Option AttributeKind → Option PlainAttribute
+with_text text None = None
+with_text text (Some kind) = Some (record { kind = kind; text = drop 2 text })
 
 -- the attribute that a word is: only an extended word is one
 abbrev pub attribute_of : Entry → Option PlainAttribute
-attribute_of word = if word.extended then with_fields word.text (attribute_kind word.text) else None
+attribute_of word = if word.extended then with_text word.text (attribute_kind word.text) else None
 
 -- an attribute without where its text lies in memory
 abbrev pub plain_attribute : Attribute → PlainAttribute
-plain_attribute a = record { kind = a.kind; fields = a.text.now }
+plain_attribute a = record { kind = a.kind; text = a.text.now }
 
 -- and where there is one
 abbrev pub plain_attributes : Option Attribute → Option PlainAttribute

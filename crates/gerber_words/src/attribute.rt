@@ -1,7 +1,7 @@
 //! Attributes, and their fields.
 ghost use Rattle.std.specs.Prelude.{◌≡◌, ◌≤◌, length, IfSome};
 ghost use Rattle.std.specs.Option.{option_copied};
-ghost use Rattle.gerber_words.specs.Attributes.{attribute_kind, attribute_of, field_of, plain_attribute, plain_attributes};
+ghost use Rattle.gerber_words.specs.Attributes.{attribute_kind, attribute_of, field_of, is_field as is_field_of, plain_attribute, plain_attributes};
 ghost use Rattle.gerber_words.specs.Stepping.{entry_of};
 
 use crate::words::Word;
@@ -53,9 +53,19 @@ impl<'a> Attribute<'a> {
     /// exactly where there is no such part. Part 0 is the attribute's name with its point. A part
     /// may be empty. It takes no memory.
     pub fn field(&self, n: usize) -> Option<&'a [u8]>
-        ensures { option_copied result ≡ field_of (plain_attribute self.now).fields n }
+        ensures { option_copied result ≡ field_of (plain_attribute self.now).text n }
     {
         self.text.split(|b| *b == b',').nth(n)
+    }
+}
+
+/// Whether there is a field, and it is this word. It takes no memory.
+pub fn is_field(field: Option<&[u8]>, word: &[u8]) -> bool
+    ensures { result ≡ is_field_of (option_copied field.entry) word.now }
+{
+    match field {
+        None => false,
+        Some(text) => text == word,
     }
 }
 

@@ -1,7 +1,6 @@
 -- Numbers in columns.
-use Rattle.std.proofs.Common.{◌≡◌, ℕ, ◌-◌, ◌^◌, ◌<◌, ◌≤◌, zero, suc, Bool, true, false, ◌&&◌, List, [], ◌∷◌, ◌++◌, length, None, refl, ap, ◌∙◌, append-nil, arith}
+use Rattle.std.proofs.Common.{◌≡◌, ℕ, ◌-◌, ◌<◌, ◌≤◌, zero, suc, Bool, true, false, ◌&&◌, List, [], ◌∷◌, ◌++◌, length, None, refl, ap, ◌∙◌, append-nil, arith}
 use Rattle.std.specs.Prelude.{replicate}
-use Rattle.std.proofs.Math.Nat.{pow-le-pow_right}
 use Rattle.std.specs.List.{list_all}
 use Rattle.texts.specs.Digits.{is_decimal_digit}
 use Rattle.texts.specs.Blanks.{is_blank, without_front}
@@ -43,6 +42,3 @@ pub number_of-short : (width : ℕ) (xs : List ℕ) → length xs < width → nu
 number_of-short width xs h =
     let some : width - length xs ≡ suc (width - length xs - 1) = omega arith in
     ap (λ (n : ℕ). number_of (xs ++ replicate n 32)) some ∙ before_blank xs (replicate (width - length xs - 1) 32) (blanks (width - length xs - 1))
-
-pub six_digits : (n : ℕ) → n ≤ 6 → 10 ^ n ≤ 1000000
-six_digits n h = pow-le-pow_right (omega arith) h

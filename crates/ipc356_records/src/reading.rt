@@ -11,7 +11,7 @@ ghost use Rattle.ipc356_records.specs.Reading as spec;
 use crate::blanks::next_word;
 use crate::line::{Coordinate, Form, TestFields};
 use crate::record::Record;
-use lengths::{Unit, digits_value};
+use lengths::{Unit, small_value};
 use texts::{all_digits, begins, is, is_blank, without_front};
 
 fn all_blank(text: &[u8]) -> bool
@@ -59,7 +59,7 @@ fn digits_in(digits: &[u8]) -> Option<u32>
         return None;
     }
     if all_digits(digits) {
-        Some(digits_value(0, digits) as u32)
+        Some(small_value(digits))
     } else {
         None
     }

@@ -11,7 +11,7 @@ use Rattle.board_shapes.proofs.BoardTables.{tables_are_consistent}
 use Rattle.board_shapes.specs.declared.probe.Probe.{Probe}
 use Rattle.board_shapes.specs.Lawful.{IsSpan}
 use Rattle.board_shapes.specs.Pieces.{PlainPiece}
-use Rattle.board_shapes.specs.Plain.{PlainBoard}
+use Rattle.board_shapes.specs.Plain.{PlainBoard, with_netlist}
 use Rattle.board_shapes.specs.Tables.{IsNear, IsTables, point_of}
 use Rattle.board_shapes.specs.Touching.{IsUnder, TouchAt, UnderAt}
 use Rattle.ipc356_records.specs.NetlistFile.{Netlist}
@@ -28,7 +28,7 @@ use Rattle.witness_check.proofs.Joins.{net_numbers_are_joins, point_on}
 use Rattle.witness_check.proofs.Tables.{apart_where, once_where, trees_where}
 use Rattle.netlist_writer.specs.TestLine.{net_name}
 use Rattle.netlist_writer.specs.WrittenNetlist.{net_of, places_from, written_netlist_of}
-use Rattle.netlist_writer.specs.Laws.{BoardsAreWritable, IsWritable, WrittenNetlistAgrees, names_written, present, probes_written, with_netlist}
+use Rattle.netlist_writer.specs.Laws.{BoardsAreWritable, IsWritable, WrittenNetlistAgrees, names_written, present, probes_written}
 use Rattle.netlist_writer.proofs.Agreeing.{AreApart, AreTogether, HasNameOn, IsNetted, no_outlines, none_bare, none_open, none_shorts}
 use Rattle.netlist_writer.proofs.Names.{AreDistinct, none_once, once_after, one_number}
 use Rattle.netlist_writer.proofs.Nets.{few_nets, found_net, one_net_joins}

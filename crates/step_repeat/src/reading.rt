@@ -1,15 +1,12 @@
 //! How a step and repeat word is read.
-ghost use Rattle.std.specs.Prelude.{◌≡◌, ◌≤◌, true, length, drop, Option, Some, None, Result, IfOk, IfSome};
-ghost use Rattle.std.specs.List.{list_all};
-ghost use Rattle.std.specs.Str.Parse.{digits_value as value_of_digits};
+ghost use Rattle.std.specs.Prelude.{◌≡◌, ◌≤◌, drop, Option, Some, None, Result, IfOk, IfSome};
 ghost use Rattle.planar.specs.Plane.{IsReached};
-ghost use Rattle.texts.specs.Digits.{is_decimal_digit};
 ghost use Rattle.step_repeat.specs.Repeats as spec;
 ghost use Rattle.step_repeat.specs.Repeats.{IsLawful, repeat_at};
 
 use crate::fault::RepeatFault;
 use crate::repeat::Repeat;
-use lengths::{Decimal, Unit, digits_value, read_decimal};
+use lengths::{Decimal, Unit, read_decimal, small_value};
 use texts::{after, all_digits, before, has};
 
 impl Repeat {
@@ -76,21 +73,11 @@ fn count(digits: &[u8]) -> Result<u32, RepeatFault>
     if !all_digits(digits) {
         return Err(RepeatFault::BadText);
     }
-    let n = value_of(digits);
+    let n = small_value(digits);
     if n == 0 {
         return Err(RepeatFault::BadText);
     }
     Ok(n)
-}
-
-// The number that digits spell.
-fn value_of(digits: &[u8]) -> u32
-    requires digits { list_all is_decimal_digit digits.now ≡ true }
-    requires few { length digits.now ≤ 9 }
-    ensures value { result ≡ value_of_digits 10 digits.now }
-    ensures few { result ≤ 999999999 }
-{
-    digits_value(0, digits) as u32
 }
 
 // The steps of `<dx>J<dy>`.

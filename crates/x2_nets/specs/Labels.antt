@@ -1,13 +1,12 @@
 -- The net names that a copper file gives its objects, found by looking back over its words.
-use Rattle.std.specs.Prelude.{ℕ, ◌+◌, ◌-◌, nat_eq, nat_lt, Bool, false, ◌||◌, if◌then◌else◌, List, [], ◌∷◌, ◌++◌, length, drop, codes, Option, Some, None, option_and_then, Result, Ok, Err}
+use Rattle.std.specs.Prelude.{ℕ, ◌+◌, ◌-◌, nat_lt, ◌||◌, if◌then◌else◌, List, [], ◌∷◌, ◌++◌, length, drop, codes, Option, Some, None, option_and_then, Result, Ok, Err}
 use Rattle.std.specs.Option.{option_or}
 use Rattle.std.specs.List.Sorted.{IsNonDecreasingBy}
-use Rattle.std.specs.Cmp.Lexicographic.{pointwise}
 use Rattle.lengths.specs.Text.{is_text}
 use Rattle.file_reading.specs.Reading as reading
 use Rattle.file_reading.specs.Reading.{Item}
 use Rattle.gerber_words.specs.Words.{Entry, Stop}
-use Rattle.gerber_words.specs.Attributes.{PlainAttribute, attribute_of, field_of}
+use Rattle.gerber_words.specs.Attributes.{PlainAttribute, attribute_of, field_of, is_field}
 use Rattle.gerber_words.specs.Items as words
 use Rattle.gerber_words.specs.declared.attribute.AttributeKind.{AttributeKind}
 use Rattle.gerber_words.specs.declared.attribute.AttributeKind.TheVariants.{File, Aperture, Object, Delete}
@@ -23,11 +22,6 @@ pub data Said : Type 0 where
   named : List ℕ → Said
   unnamed : Said
 
--- a field that is this text
-abbrev pub is_field : Option (List ℕ) → List ℕ → Bool
-is_field None text = false
-is_field (Some found) text = pointwise nat_eq found text
-
 -- a field that is missing or empty is `N/C`, which names no net (own)
 abbrev pub name_in : Option (List ℕ) → List ℕ
 name_in None = codes "N/C"
@@ -36,23 +30,23 @@ name_in (Some (b ∷ text)) = b ∷ text
 
 -- `TO.N` gives the name
 abbrev pub named_by : List ℕ → Said
-named_by fields = if is_field (field_of fields 0) (codes ".N") then named (name_in (field_of fields 1)) else nothing
+named_by text = if is_field (field_of text 0) (codes ".N") then named (name_in (field_of text 1)) else nothing
 
 -- `TD` ends all names, and `TD.N` this one
 abbrev pub ended_by : List ℕ → Said
-ended_by fields = if is_field (field_of fields 0) [] || is_field (field_of fields 0) (codes ".N") then unnamed else nothing
+ended_by text = if is_field (field_of text 0) [] || is_field (field_of text 0) (codes ".N") then unnamed else nothing
 
 -- attributes of objects, and the words that delete attributes, alone say something of nets
 abbrev pub by_kind : AttributeKind → List ℕ → Said
-by_kind File fields = nothing
-by_kind Aperture fields = nothing
-by_kind Object fields = named_by fields
-by_kind Delete fields = ended_by fields
+by_kind File text = nothing
+by_kind Aperture text = nothing
+by_kind Object text = named_by text
+by_kind Delete text = ended_by text
 
 -- what an attribute says, and nothing where there is none
 abbrev pub said_by : Option PlainAttribute → Said
 said_by None = nothing
-said_by (Some a) = by_kind a.kind a.fields
+said_by (Some a) = by_kind a.kind a.text
 
 -- what a word says of nets
 abbrev pub said_of : Entry → Said

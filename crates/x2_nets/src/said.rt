@@ -6,7 +6,7 @@ ghost use Rattle.gerber_words.specs.Stepping.{entry_of};
 ghost use Rattle.x2_nets.specs.Labels as spec;
 ghost use Rattle.x2_nets.specs.Seen.{view};
 
-use gerber_words::{Attribute, AttributeKind, Word};
+use gerber_words::{Attribute, AttributeKind, Word, is_field};
 
 /// Nothing; the name of the objects that come next; or that they have none.
 #[derive(Clone, Copy)]
@@ -33,7 +33,7 @@ pub fn said_by<'a>(word: Word<'a>) -> Said<'a>
 
 // An attribute of objects gives a name where it is `.N`.
 fn named_by<'a>(attribute: Attribute<'a>) -> Said<'a>
-    ensures { view result ≡ spec.named_by (plain_attribute attribute.entry).fields }
+    ensures { view result ≡ spec.named_by (plain_attribute attribute.entry).text }
 {
     if is_field(attribute.field(0), b".N") {
         Said::Named(name_in(attribute.field(1)))
@@ -44,7 +44,7 @@ fn named_by<'a>(attribute: Attribute<'a>) -> Said<'a>
 
 // The end of all attributes, or of `.N` alone, ends the name.
 fn ended_by<'a>(attribute: Attribute<'a>) -> Said<'a>
-    ensures { view result ≡ spec.ended_by (plain_attribute attribute.entry).fields }
+    ensures { view result ≡ spec.ended_by (plain_attribute attribute.entry).text }
 {
     let part = attribute.field(0);
     if is_field(part, b"") || is_field(part, b".N") {
@@ -61,15 +61,5 @@ fn name_in<'a>(field: Option<&'a [u8]>) -> &'a [u8]
     match field {
         None => b"N/C",
         Some(text) => if text.is_empty() { b"N/C" } else { text },
-    }
-}
-
-// Whether there is a field, and it is this text.
-fn is_field(field: Option<&[u8]>, text: &[u8]) -> bool
-    ensures { result ≡ spec.is_field (option_copied field.entry) text.now }
-{
-    match field {
-        None => false,
-        Some(found) => found == text,
     }
 }

@@ -11,7 +11,7 @@ use Rattle.xnc.specs.declared.line.Form.{Form}
 use Rattle.xnc.specs.declared.line.Form.TheVariants as form
 use Rattle.xnc.specs.declared.settings.Stage.{Stage}
 use Rattle.xnc.specs.declared.settings.Stage.TheVariants.{Opening, Header, Body, Ended}
-use Rattle.xnc.specs.Table.{Known, Effect, stays, makes, moves, drills, ◌>>=◌, unless, needed, other_unit, is_drilling, is_start, is_ended, diameter_of, define, coordinate, target, diameter, half, barrel, rout, straight, hit, slot, header, body, staged, effect, gone}
+use Rattle.xnc.specs.Table.{Known, Effect, stays, makes, moves, drills, ◌>>=◌, unless, needed, is_drilling, is_start, is_ended, diameter_of, define, coordinate, target, diameter, half, barrel, rout, straight, hit, slot, header, body, staged, effect, gone}
 
 pub bind_ok : {A B : Type 0} (r : Result A DrillKind) (f : A → Result B DrillKind) (y : B) → (r >>= f) ≡ Ok y → (x : A) × (r ≡ Ok x) × (f x ≡ Ok y)
 bind_ok (Ok x) f y h = (x, refl, h)

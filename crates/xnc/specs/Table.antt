@@ -2,10 +2,9 @@
 use Rattle.std.specs.Prelude.{ℕ, ◌/◌, Bool, true, false, ◌||◌, not, ◌==◌, nat_le, nat_lt, ℤ, pos, unsigned_abs, Option, Some, None, is_some, is_none, Result, Ok, Err}
 use Rattle.contact.specs.declared.TheConstants.{MOST_DIAMETER}
 use Rattle.planar.specs.declared.Spot.{Spot}
-use Rattle.lengths.specs.Decimal.{Fraction, chosen}
+use Rattle.lengths.specs.Decimal.{Fraction, chosen, other_unit}
 use Rattle.lengths.specs.Grid.{position_of, size_of}
 use Rattle.lengths.specs.declared.decimal.Unit.{Unit as Measure}
-use Rattle.lengths.specs.declared.decimal.Unit.TheVariants.{Mm, Inch}
 use Rattle.lengths.specs.declared.decimal.GridFault.{GridFault}
 use Rattle.board_shapes.specs.Plain.{Figure, round}
 use Rattle.xnc.specs.declared.kind.DrillKind.{DrillKind}
@@ -35,17 +34,6 @@ pub data Effect : Type 0 where
   makes : ℕ → ℕ → Effect
   moves : Spot → Effect
   drills : Spot → Figure → Effect
-
-abbrev pub same_unit : Measure → Measure → Bool
-same_unit Mm Mm = true
-same_unit Inch Inch = true
-same_unit Mm Inch = false
-same_unit Inch Mm = false
-
--- another unit was set
-abbrev pub other_unit : Option Measure → Measure → Bool
-other_unit None unit = false
-other_unit (Some first) unit = not (same_unit first unit)
 
 -- drill mode
 abbrev pub is_drilling : Mode → Bool

@@ -7,12 +7,12 @@ use crate::kind::DrillKind;
 use crate::line::Form;
 use crate::settings::{Mode, Settings, Stage};
 use crate::span::Span;
-use crate::table::{after, diameter, half, is_drilling, is_ended, is_start, other_unit, target};
+use crate::table::{after, diameter, half, is_drilling, is_ended, is_start, target};
 use crate::tools::Tools;
 use board_shapes::{Origin, Piece, Placed, Shape};
 use contact::Capsule;
 use file_reading::Halt;
-use lengths::{Decimal, NoMemory, Unit};
+use lengths::{Decimal, NoMemory, Unit, other_unit};
 use planar::Spot;
 use std::alloc::Global;
 

@@ -15,16 +15,6 @@ use contact::MOST_DIAMETER;
 use lengths::{Decimal, Len, Unit};
 use planar::Spot;
 
-/// Whether a unit is another than the first, if there was one.
-pub fn other_unit(first: Option<Unit>, unit: Unit) -> bool
-    ensures { result ≡ spec.other_unit first unit }
-{
-    match first {
-        None => false,
-        Some(first) => first != unit,
-    }
-}
-
 /// Whether places are drilled.
 pub fn is_drilling(mode: Mode) -> bool
     ensures { result ≡ spec.is_drilling mode }

@@ -1,5 +1,5 @@
 use Rattle.std.proofs.Common.{◌++◌, ap, arith, sym, ◌∙◌}
-use Rattle.aperture_macros.specs.Seen.{seen_shape}
+use Rattle.board_shapes.specs.Figures.{seen_shape}
 use Rattle.board_shapes.specs.Pieces.{plain_pieces}
 use Rattle.gerber_layer.specs.Reader.{origin_place}
 use Rattle.gerber_layer.specs.Table.{all_flashed, listed}
