@@ -10,7 +10,7 @@ pub struct NameTable<'a> {
 }
 
 impl<'a> NameTable<'a> {
-    ghost use Rattle.std.specs.Prelude.{◌≡◌, ◌+◌, ◌<◌, ◌^◌, [], length, All, IfOk, OnOk};
+    ghost use Rattle.std.specs.Prelude.{◌≡◌, ◌+◌, ◌<◌, ◌^◌, [], length, All, IfOk, OnErr, OnOk};
     ghost use Rattle.lengths.specs.Text.{IsText};
     ghost use Rattle.ipc356_records.specs.Names.{index_of, with_name};
     ghost use Rattle.ipc356_records.specs.NameTable.{names_in};
@@ -29,6 +29,7 @@ impl<'a> NameTable<'a> {
         requires few { length (names_in self.old) + 1 < 2 ^ 32 }
         ensures index { IfOk result (λ n. n ≡ index_of name.now (names_in self.old)) }
         ensures kept { OnOk result (names_in self.new ≡ with_name name.now (names_in self.old)) }
+        ensures err { OnErr result (names_in self.new ≡ names_in self.old) }
     {
         match self.names.insert_full(name) {
             Ok((index, _)) => Ok(index as u32),
