@@ -1,10 +1,10 @@
 -- The common box has each piece's box in it.
-use Rattle.std.proofs.Common.{◌≤ℤ◌, ◌≡◌, List, [], ◌∷◌, All, Some, None, arith, subst, sym}
+use Rattle.std.proofs.Common.{◌≤ℤ◌, ◌≡◌, ◌↔◌, Bool, IsTrue, List, [], ◌∷◌, All, Some, None, arith, subst, sym}
 use Rattle.std.proofs.lemmas.Int.{ints, clamps}
 use Rattle.std.proofs.lemmas.List.Elements.{All-nil, All-cons, All-weaker}
 use Rattle.planar.specs.declared.Frame.{Frame}
 use Rattle.contact.specs.declared.Bounds.{Bounds}
-use Rattle.contact.specs.Solid.{joined}
+use Rattle.contact.specs.Solid.{IsInside, joined}
 use Rattle.board_shapes.specs.declared.shape.Shape.{Shape}
 use Rattle.board_shapes.specs.declared.placed.Placed.{Placed}
 use Rattle.board_shapes.specs.CommonBox.{box_around, common_box, FitsFrame, frame_over}
@@ -58,3 +58,15 @@ all_inside (p ∷ rest) b f e fits corner = All-weaker (λ q. LiesWithin (shape_
 
     inside : (q : Placed Shape) → LiesWithin (shape_box q.shape) b → IsInsideFrame f q
     inside q h = subst (λ (g : Frame). IsInsideFrame g q) (sym corner) ((h.left, omega (arith, ints, h.right, fits.across)), (h.low, omega (arith, ints, h.high, fits.up)))
+
+-- a box lies in the frame from its own corner exactly where its sides are short enough
+pub inside_fits : (b : Bounds) (f : Frame) (t : Bool) → f ≡ frame_over (Some b) → IsTrue t ↔ IsInside b f → IsTrue t ↔ FitsFrame b
+inside_fits b f t e h =
+    let own = subst (λ (g : Frame). IsTrue t ↔ IsInside b g) e h in
+    (λ told. fits (own.0 told), λ short. own.1 (inside short))
+  where
+    fits : IsInside b (frame_over (Some b)) → FitsFrame b
+    fits (across, up) = record { across = omega (arith, ints, across.1); up = omega (arith, ints, up.1) }
+
+    inside : FitsFrame b → IsInside b (frame_over (Some b))
+    inside short = ((omega (arith, ints), omega (arith, ints, short.across)), (omega (arith, ints), omega (arith, ints, short.up)))

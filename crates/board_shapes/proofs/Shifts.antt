@@ -1,13 +1,11 @@
 -- Points shifted, one by one.
-use Rattle.std.proofs.Common.{ℕ, zero, suc, ◌+◌, ◌-◌, ◌<◌, ◌≤◌, List, [], ◌∷◌, ◌++◌, map, take, length, get_or, All, ◌≡◌, refl, sym, ◌∙◌, ap, subst, arith, ℤ, ◌+ℤ◌, to_z, of_z, w64}
+use Rattle.std.proofs.Common.{ℕ, zero, suc, ◌+◌, ◌-◌, ◌<◌, List, [], ◌∷◌, ◌++◌, map, take, length, get_or, All, ◌≡◌, refl, sym, ◌∙◌, ap, subst, arith, ℤ, ◌+ℤ◌, to_z, of_z, w64}
 use Rattle.std.proofs.lemmas.Int.{ints}
 use Rattle.std.proofs.lemmas.List.{length-map, map-append, take_more}
 use Rattle.std.proofs.lemmas.List.Elements.{All-push, All-nil, All-cons, All-head, All-tail}
 use Rattle.planar.specs.Plane.{IsPlaced, IsReached, IsWithin}
 use Rattle.planar.specs.declared.Spot.{Spot}
-use Rattle.area_contact.specs.Contour.{end_from, IsClosed, IsAreaFault}
-use Rattle.area_contact.specs.declared.AreaFault.{AreaFault}
-use Rattle.area_contact.specs.declared.AreaFault.TheVariants.{Open, Short, TooLong, NoMemory}
+use Rattle.area_contact.specs.Contour.{end_from, IsClosed}
 use Rattle.board_shapes.specs.Figures.{Stroke, round, filled}
 use Rattle.board_shapes.specs.Moved.{shifted, IsShift, IsMoveFault}
 use Rattle.board_shapes.specs.declared.moved.MoveFault.{MoveFault}
@@ -55,6 +53,10 @@ all_moved f points items after i p q closed some n e same h k =
     k ∙ ap (λ (z : List Spot). z ++ (q ∷ [])) h ∙ ap (λ (z : Spot). map f (take i points) ++ (z ∷ [])) same ∙ sym (map-append f (take i points) (p ∷ []))
     ∙ ap (map f) (ap (λ (m : ℕ). take m points ++ (p ∷ [])) n ∙ last_first points p closed some e)
 
+-- a list shifted is as long
+pub as_many : (f : Spot → Spot) (points after : List Spot) → after ≡ map f points → length after ≡ length points
+as_many f points after e = ap length e ∙ simp length-map
+
 -- a closed list shifted is closed
 pub map_closed : (f : Spot → Spot) (points : List Spot) → IsClosed points → IsClosed (map f points)
 map_closed f [] h = tt
@@ -78,10 +80,3 @@ end_leaves dx dy s p fault e (is, off) =
 
 pub corner_leaves : (dx dy : ℤ) (points : List Spot) (i : ℕ) (p : Spot) (fault : MoveFault) → i < length points → ((d : Spot) → get_or points i d ≡ p) → (fault ≡ OutOfRange) × (¬ IsPlaced (shifted dx dy p)) → IsMoveFault dx dy (filled points) fault
 corner_leaves dx dy points i p fault l e (is, off) = subst (IsMoveFault dx dy (filled points)) (sym is) (not_all_placed (shifted dx dy) points i p l e off)
-
--- the points of a contour, shifted, are those of one
-pub no_fault : (f : Spot → Spot) (points after : List Spot) (fault : AreaFault) → IsClosed points → 4 ≤ length points → length points ≤ 100_001 → after ≡ map f points → (fault ≡ NoMemory → ⊥) → IsAreaFault after fault → ⊥
-no_fault f points after Open closed enough many e some h = h (subst IsClosed (sym e) (map_closed f points closed))
-no_fault f points after Short closed enough many e some (k, short) = let l : length after ≡ length points = ap length e ∙ simp length-map in omega arith
-no_fault f points after TooLong closed enough many e some (k, long) = let l : length after ≡ length points = ap length e ∙ simp length-map in omega arith
-no_fault f points after NoMemory closed enough many e some h = some refl

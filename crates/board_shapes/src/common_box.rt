@@ -1,12 +1,11 @@
 //! The common box of pieces, and whether it fits a frame.
 ghost use Rattle.board_shapes.specs.CommonBox.{FitsFrame, box_around, common_box, frame_over};
 ghost use Rattle.board_shapes.specs.Pieces.{plain_pieces};
-ghost use Rattle.planar.specs.declared.TheConstants.{SIDE};
-ghost use Rattle.std.specs.Prelude.{IsTrue, ◌-ℤ◌, ◌≡◌, ◌≤ℤ◌, ◌↔◌};
+ghost use Rattle.std.specs.Prelude.{IsTrue, ◌≡◌, ◌↔◌};
 
 use crate::placed::Piece;
 use contact::{Bounds, Closed};
-use planar::{Frame, SIDE};
+use planar::Frame;
 
 /// The common box of all pieces, where there are any.
 pub(crate) fn box_of_all(pieces: &[Piece]) -> Option<Bounds>
@@ -43,12 +42,5 @@ pub(crate) fn corner(b: Bounds) -> Frame
 pub(crate) fn fits_frame(b: Bounds) -> bool
     ensures { IsTrue result ↔ FitsFrame b }
 {
-    is_short(b.left, b.right) && is_short(b.low, b.high)
-}
-
-/// Whether the way from `low` to `high` is at most the side of a frame.
-fn is_short(low: i64, high: i64) -> bool
-    ensures { IsTrue result ↔ ((high -ℤ low) ≤ℤ SIDE) }
-{
-    i128::from(high) - i128::from(low) <= i128::from(SIDE)
+    b.inside(corner(b))
 }

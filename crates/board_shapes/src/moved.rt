@@ -7,7 +7,7 @@ ghost use Rattle.std.specs.Prelude.{All, IfErr, IfOk, map, ◌≡◌};
 
 use crate::placed::{Origin, Piece, Placed};
 use crate::shape::Shape;
-use area_contact::{Area, AreaFault};
+use area_contact::Area;
 use contact::Capsule;
 use planar::{Spot, is_placed};
 use std::alloc::Global;
@@ -65,7 +65,7 @@ fn moved_shape(alloc: Global, shape: &Shape, by: Shift) -> Result<Shape, MoveFau
 {
     match shape {
         Shape::Round(capsule) => Ok(Shape::Round(moved_capsule(capsule, by)?)),
-        Shape::Filled(area) => Ok(Shape::Filled(moved_area(alloc, area, by)?)),
+        Shape::Filled(area) => moved_area(alloc, area, by),
     }
 }
 
@@ -83,20 +83,17 @@ fn moved_capsule(capsule: &Capsule, by: Shift) -> Result<Capsule, MoveFault>
 }
 
 /// The area shifted.
-fn moved_area(alloc: Global, area: &Area, by: Shift) -> Result<Area, MoveFault>
+fn moved_area(alloc: Global, area: &Area, by: Shift) -> Result<Shape, MoveFault>
     requires way { IsWay by }
-    ensures ok { IfOk result (λ a. area_figure a ≡ shifted_figure by.x by.y (area_figure area.now)) }
-    ensures placed { IfOk result (λ a. StaysPlaced by.x by.y (area_figure area.now)) }
+    ensures ok { IfOk result (λ s. figure_of s ≡ shifted_figure by.x by.y (area_figure area.now)) }
+    ensures placed { IfOk result (λ s. StaysPlaced by.x by.y (area_figure area.now)) }
     ensures fault { IfErr result (IsMoveFault by.x by.y (area_figure area.now)) }
 {
     let points = moved_points(alloc, area, by)?;
-    match Area::new(alloc, points) {
-        Ok(area) => Ok(area),
-        Err(fault) => match fault {
-            AreaFault::NoMemory => Err(MoveFault::NoMemory),
-            // A closed contour stays closed, and keeps its number of edges.
-            _ => unreachable!(),
-        },
+    // A closed contour stays closed, and keeps its number of edges.
+    match Shape::area_of(alloc, points) {
+        Ok(shape) => Ok(shape),
+        Err(_) => Err(MoveFault::NoMemory),
     }
 }
 

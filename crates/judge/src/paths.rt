@@ -47,7 +47,7 @@ fn above(net: &[Twig], places: &[usize], k: usize) -> usize
 {
     match net[k].parent {
         Some(parent) => places[parent as usize],
-        None => 0,
+        None => unreachable!(),
     }
 }
 

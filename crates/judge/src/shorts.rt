@@ -114,6 +114,6 @@ fn home_of(homes: &[Option<u32>], probe: u32) -> u32
 {
     match homes[probe as usize] {
         Some(piece) => piece,
-        None => 0,
+        None => unreachable!(),
     }
 }

@@ -63,7 +63,7 @@ fn is_tree<L: Ledger>(
     ensures tree { IsTrue result ↔ IsKnownTree (length (plain_board board.now).pieces) (IsNear (plain_board board.now)) net.now }
     ensures stamps { (q : ℕ) → slice_index_or stamps.new q 0 ≤ stamp }
 {
-    if net.len() == 0 {
+    if net.is_empty() {
         return false;
     }
     let root = net[0];

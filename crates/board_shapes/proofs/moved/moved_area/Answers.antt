@@ -1,7 +1,19 @@
+use Rattle.std.proofs.Common.{arith, subst, sym}
+use Rattle.area_contact.specs.Contour.{IsClosed}
 use Rattle.board_shapes.specs.Moved.{shifted}
-use Rattle.board_shapes.proofs.Shifts.{no_fault}
+use Rattle.board_shapes.proofs.Shifts.{as_many, map_closed}
 use Rattle.board_shapes.proofs.moved.moved_area.Goals as goal
 
-pub unreachable-requires : goal.unreachable-requires
-unreachable-requires c =
-    no_fault (shifted c.args.by.x c.args.by.y) c.args.area.now.points.items c.in_ok-points.points.items c.in-Err.fault c.args.area.now.closed c.args.area.now.enough c.args.area.now.not_many c.in_ok-points.ensures.ok c.in_default.not-NoMemory c.in-Err.ensures.fault
+pub area_of-requires-clause-closed : goal.area_of-requires-clause-closed
+area_of-requires-clause-closed c =
+    subst IsClosed (sym c.in_ok-points.ensures.ok) (map_closed (shifted c.args.by.x c.args.by.y) c.args.area.now.points.items c.args.area.now.closed)
+
+pub area_of-requires-clause-enough : goal.area_of-requires-clause-enough
+area_of-requires-clause-enough c =
+    let same = as_many (shifted c.args.by.x c.args.by.y) c.args.area.now.points.items c.in_ok-points.points.items c.in_ok-points.ensures.ok in
+    omega (arith, same, c.args.area.now.enough)
+
+pub area_of-requires-clause-not_many : goal.area_of-requires-clause-not_many
+area_of-requires-clause-not_many c =
+    let same = as_many (shifted c.args.by.x c.args.by.y) c.args.area.now.points.items c.in_ok-points.points.items c.in_ok-points.ensures.ok in
+    omega (arith, same, c.args.area.now.not_many)
