@@ -1,7 +1,7 @@
 -- What an effect says of its line.
 use Rattle.std.proofs.Common.{◌≡◌, ℕ, Bool, true, false, not, ◌||◌, cond, nat_le, ℤ, Option, Some, None, is_some, is_none, Result, Ok, Err, refl, sym, ap, ◌∙◌, subst}
 use Rattle.planar.specs.declared.Spot.{Spot}
-use Rattle.lengths.specs.Decimal.{Fraction}
+use Rattle.lengths.specs.Decimal.{Fraction, other_unit}
 use Rattle.lengths.specs.declared.decimal.Unit.{Unit as Measure}
 use Rattle.board_shapes.specs.Plain.{round}
 use Rattle.xnc.specs.declared.kind.DrillKind.{DrillKind}
