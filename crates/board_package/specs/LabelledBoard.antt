@@ -127,7 +127,7 @@ StopsLabelledAmong files entries before stop = AtOneBy (GoesLabelled files) entr
 abbrev pub LabelledComesAmong : Files → List Entry → Labelled → List ℕ → Type 0
 LabelledComesAmong files entries before name = AtOneBy (GoesLabelled files) entries before (λ e b. e.name ≡ name)
 
--- the manifest is read, and then a file or the frame stops the package
+-- behind the manifest, which is read, a copper or drill file, a name or the frame stops it
 pub record IsLaterLabelledStop (files : Files) (name : List ℕ) (stop : LabelledStop) : Type 0 where
   pub listed : Manifest
   pub manifest : IsManifestFile files name listed

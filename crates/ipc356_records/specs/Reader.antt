@@ -73,12 +73,12 @@ IsFit r (sets unit) = Unit {0}
 IsFit r closes = Unit {0}
 IsFit r (adds name access at) = IsText name × (access ≤ r.layers) × (r.records < 200000)
 
--- why the reader stops at a line: its fault, or want of memory
+-- what stops the reader at a line
 abbrev pub Halts : Known → Form → Halt RecordKind → Type 0
 Halts k form (halt.Fault why) = effect k form ≡ Err why
 Halts k form halt.NoMemory = Unit {0}
 
--- a reader that has obeyed nothing
+-- no line has been read
 pub record IsNew (layers : ℕ) (r : Reader) : Type 0 where
   pub known : known_of r ≡ record { unit = None; records = 0; names = []; ended = false; layers = layers }
   pub probes : r.probes ≡ []
