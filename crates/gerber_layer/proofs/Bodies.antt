@@ -1,5 +1,5 @@
 -- The words of definitions, and the macros by their names.
-use Rattle.std.proofs.Common.{◌≡◌, ℕ, ◌-◌, ◌<◌, ◌≤◌, suc, zero, Bool, true, false, ◌||◌, cond, List, [], ◌∷◌, ◌++◌, length, Option, Some, None, option_map, Result, Err, refl, sym, ap, ◌∙◌, append_assoc, arith}
+use Rattle.std.proofs.Common.{◌≡◌, ℕ, ◌+◌, ◌-◌, ◌<◌, ◌≤◌, suc, Bool, true, false, ◌||◌, cond, List, [], ◌∷◌, ◌++◌, length, Option, Some, None, option_map, Result, Err, refl, sym, ap, ◌∙◌, append_assoc, arith}
 use Rattle.std.specs.Prelude.{nat_lt}
 use Rattle.std.specs.List.{after_first, before_first}
 use Rattle.texts.specs.Words.{is}
@@ -23,32 +23,30 @@ closed_is f g latest m v new old name had same h =
     by false = refl
 
 -- a part that is no decimal
-pub none_more : (n : ℕ) (text : List ℕ) (done : List Fraction) → 0 < n → decimal (before_first is_x text) ≡ None → option_map (λ more. done ++ more) (decimals_in n text) ≡ None
+pub none_more : (n k : ℕ) (text : List ℕ) (done : List Fraction) → k < n → decimal (before_first is_x text) ≡ None → option_map (λ more. done ++ more) (decimals_in (n - k) text) ≡ None
 unfolding decimals_in
-none_more zero text done some h = absurd (omega arith)
-none_more (suc n) text done some h = by (is_decimal (before_first is_x text)) h
+none_more n k text done some h = let e : n - k ≡ suc (n - (k + 1)) = omega (arith, some) in rw e (by (is_decimal (before_first is_x text)) (n - (k + 1)) h)
   where
-    by : (b : Bool) → cond b (Some (fraction (before_first is_x text))) None ≡ None → option_map (λ more. done ++ more) (cond b (option_map (λ more. fraction (before_first is_x text) ∷ more) (decimals_in n (after_first is_x text))) None) ≡ None
-    by true h = cc
-    by false h = refl
+    by : (b : Bool) (m : ℕ) → cond b (Some (fraction (before_first is_x text))) None ≡ None → option_map (λ more. done ++ more) (cond b (option_map (λ more. fraction (before_first is_x text) ∷ more) (decimals_in m (after_first is_x text))) None) ≡ None
+    by true m h = cc
+    by false m h = refl
 
 -- and one that is
-pub one_decimal : (n : ℕ) (text : List ℕ) (done new : List Fraction) (d : Fraction) → 0 < n → decimal (before_first is_x text) ≡ Some d → new ≡ done ++ d ∷ [] → option_map (λ more. done ++ more) (decimals_in n text) ≡ option_map (λ more. new ++ more) (decimals_in (n - 1) (after_first is_x text))
+pub one_decimal : (n k : ℕ) (text : List ℕ) (done new : List Fraction) (d : Fraction) → k < n → decimal (before_first is_x text) ≡ Some d → new ≡ done ++ d ∷ [] → option_map (λ more. done ++ more) (decimals_in (n - k) text) ≡ option_map (λ more. new ++ more) (decimals_in (n - (k + 1)) (after_first is_x text))
 unfolding decimals_in
-one_decimal zero text done new d some h e = absurd (omega arith)
-one_decimal (suc n) text done new d some h e =
-    let less : suc n - 1 ≡ n = omega arith in
-    rw (less, e) (by (is_decimal (before_first is_x text)) h)
+one_decimal n k text done new d some h e =
+    let less : n - k ≡ suc (n - (k + 1)) = omega (arith, some) in
+    rw (less, e) (by (is_decimal (before_first is_x text)) (n - (k + 1)) h)
   where
     along : (r : Option (List Fraction)) → option_map (λ more. done ++ more) (option_map (λ more. d ∷ more) r) ≡ option_map (λ more. (done ++ d ∷ []) ++ more) r
     along None = refl
     along (Some more) = ap Some (sym (append_assoc done (d ∷ []) more))
 
-    by : (b : Bool) → cond b (Some (fraction (before_first is_x text))) None ≡ Some d → option_map (λ more. done ++ more) (cond b (option_map (λ more. fraction (before_first is_x text) ∷ more) (decimals_in n (after_first is_x text))) None) ≡ option_map (λ more. (done ++ d ∷ []) ++ more) (decimals_in n (after_first is_x text))
-    by true h =
+    by : (b : Bool) (m : ℕ) → cond b (Some (fraction (before_first is_x text))) None ≡ Some d → option_map (λ more. done ++ more) (cond b (option_map (λ more. fraction (before_first is_x text) ∷ more) (decimals_in m (after_first is_x text))) None) ≡ option_map (λ more. (done ++ d ∷ []) ++ more) (decimals_in m (after_first is_x text))
+    by true m h =
         let same : fraction (before_first is_x text) ≡ d = cc in
-        ap (λ (f : Fraction). option_map (λ more. done ++ more) (option_map (λ more. f ∷ more) (decimals_in n (after_first is_x text)))) same ∙ along (decimals_in n (after_first is_x text))
-    by false h = cc
+        ap (λ (f : Fraction). option_map (λ more. done ++ more) (option_map (λ more. f ∷ more) (decimals_in m (after_first is_x text)))) same ∙ along (decimals_in m (after_first is_x text))
+    by false m h = cc
 
 -- the number of an aperture of a macro has at most nine digits
 pub short_number : (word : List ℕ) (unit : Measure) → is_of_macro (aperture_at word unit) ≡ true → length (number_digits word) ≤ 9

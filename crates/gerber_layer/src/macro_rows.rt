@@ -41,18 +41,7 @@ fn is_reserved(name: &[u8]) -> bool
 fn is_of_macro(text: &[u8], unit: Unit) -> bool
     ensures { result ≡ spec.is_of_macro (aperture_at text.now unit) }
 {
-    match read_aperture(text, unit) {
-        Ok(_) => false,
-        Err(fault) => match fault {
-            ApertureFault::Macro => true,
-            ApertureFault::BadText => false,
-            ApertureFault::Hole => false,
-            ApertureFault::Polygon => false,
-            ApertureFault::OffGrid => false,
-            ApertureFault::OutOfRange => false,
-            ApertureFault::Number => false,
-        },
-    }
+    matches!(read_aperture(text, unit), Err(ApertureFault::Macro))
 }
 
 // Judges the primitives of a macro with parameters, and marks those that have no image with them.
@@ -187,10 +176,8 @@ impl<'a> Reader<'a> {
         if is_of_macro(text, unit) {
             return self.compose(alloc, text, unit);
         }
-        match self.define(text) {
-            Ok(effect) => Ok(effect),
-            Err(kind) => Err(Halt::Fault(FlattenKind::Gerber(kind))),
-        }
+        self.define(text)
+            .map_err(|kind| Halt::Fault(FlattenKind::Gerber(kind)))
     }
 
     #[tactic(auto, unfolding(crate::specs::MacroTable::row_with_macros))]
@@ -206,14 +193,8 @@ impl<'a> Reader<'a> {
         ensures halt { IfErr result (Stops (spec.row_with_macros (known_of self.now) (view command.now))) }
     {
         match *command {
-            Command::Macro(name) => match self.name_macro(name) {
-                Ok(effect) => Ok(effect),
-                Err(kind) => Err(Halt::Fault(kind)),
-            },
-            Command::Body(text) => match self.fill_macro(text) {
-                Ok(effect) => Ok(effect),
-                Err(kind) => Err(Halt::Fault(kind)),
-            },
+            Command::Macro(name) => self.name_macro(name).map_err(Halt::Fault),
+            Command::Body(text) => self.fill_macro(text).map_err(Halt::Fault),
             Command::Define(text) => self.define_any(alloc, text),
             Command::Function(_, _) => Ok(Effect::Stays),
             Command::Nothing => self.standard_row(command),
@@ -239,10 +220,8 @@ impl<'a> Reader<'a> {
         ensures fit { IfOk result (IsFit self.now.dictionary) }
         ensures halt { IfErr result (Stops (gerber (row (known_of self.now) (view command.now)))) }
     {
-        match self.row(command) {
-            Ok(effect) => Ok(effect),
-            Err(kind) => Err(Halt::Fault(FlattenKind::Gerber(kind))),
-        }
+        self.row(command)
+            .map_err(|kind| Halt::Fault(FlattenKind::Gerber(kind)))
     }
 
     // What a command does where the file may have macros, or its fault.

@@ -49,9 +49,8 @@ fn decimals(alloc: Global, n: usize, text: &[u8]) -> Result<Option<Vec<Decimal>>
     ensures { IfOk result (λ ds. option_map (λ v. v.items) ds ≡ spec.decimals_in n text.now) }
 {
     let mut decimals = Vec::new(alloc);
-    let mut left = n;
     let mut rest = text;
-    while left > 0 {
+    for _ in 0..n {
         let Some(decimal) = read_decimal(before(rest, b'X')) else {
             return Ok(None);
         };
@@ -59,7 +58,6 @@ fn decimals(alloc: Global, n: usize, text: &[u8]) -> Result<Option<Vec<Decimal>>
             return Err(NoMemory);
         }
         rest = after(rest, b'X');
-        left -= 1;
     }
     Ok(Some(decimals))
 }
