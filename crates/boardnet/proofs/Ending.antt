@@ -20,7 +20,7 @@ use Rattle.gerber_layer.specs.declared.macro_kind.FlattenKind.{FlattenKind}
 use Rattle.board_shapes.specs.Pieces.{PlainPiece}
 use Rattle.boardnet.specs.Gapped.{IsTooWide}
 use Rattle.boardnet.proofs.Audits.{misread_outcome, no_misread, no_stop, no_stop_taking, one_file}
-use Rattle.boardnet.specs.Answers.{Refuses, RefusesFor, line_of, manifest_of, report_of, status_of}
+use Rattle.boardnet.specs.Answers.{Refuses, RefusesFor, line_of, subject_of, report_of, status_of}
 use Rattle.boardnet.specs.Ends.{Ends, HasReason, HasText, IsGrownTooLargeFor, IsMislabelledFor, IsMisreadFor, IsTooLargeFor, IsUnflatFor, Puts, StopsFor, TakesFiles, Works, cut, whole}
 use Rattle.boardnet.specs.Kept.{LeftBy}
 use Rattle.boardnet.specs.Lines.{Says, file_line, frame_line, label_line, plain_line}
@@ -41,7 +41,7 @@ pub record OneOutcome : Type 0 where
 -- ---- Stops
 
 -- a stop with its line is a refusal of the command
-stop_outcome : (f : Files) (c : Command) (stop : Stop) (line : List ℕ) → StopsFor f c stop → IsLineOf (manifest_of c) stop line → OutcomeOf f c (Refused line)
+stop_outcome : (f : Files) (c : Command) (stop : Stop) (line : List ℕ) → StopsFor f c stop → IsLineOf (subject_of c) stop line → OutcomeOf f c (Refused line)
 stop_outcome f (Check version manifest) stop line s l = record { stop = stop; first = s; line_is = l }
 stop_outcome f (Audit manifest report) stop line s l = inl (record { stop = stop; first = s; line_is = l })
 stop_outcome f (Trial seed size) stop line s l = inr (record { small = s.0; refusal = record { stop = stop; first = s.1; line_is = l } })
@@ -69,12 +69,12 @@ data Reason (c : Command) (held : Option Files) (before : ℕ) (was : List ℕ) 
   wanting : status ≡ 6 → Line (plain_line (codes "out of memory")) → Reason c held before was now lost status Line
 
 stopped_by : OneOutcome → (c : Command) (held : Option Files) (before : ℕ) (was : List ℕ) (now : ℕ) (lost : List ℕ) (status : ℕ) (Line : List ℕ → Type 0) (stop : Stop) (line : List ℕ)
-    → status ≡ 3 → Line line → IsLineOf (manifest_of c) stop line → OfFilesRead c held (λ f. StopsFor f c stop) → IsFaultless before was now lost → Reason c held before was now lost status Line
+    → status ≡ 3 → Line line → IsLineOf (subject_of c) stop line → OfFilesRead c held (λ f. StopsFor f c stop) → IsFaultless before was now lost → Reason c held before was now lost status Line
 stopped_by law c held before was now lost status Line stop line three said is s left =
     refusal_of line three (told_of (read_by c held) (λ f. StopsFor f c stop) (λ f. OutcomeOf f c (Refused line) × (HasText f c → ⊥)) (λ f h. (stop_outcome f c stop line h is, no_text law f c stop h)) s) said left
 
 stopped_reason : OneOutcome → (c : Command) (held : Option Files) (before : ℕ) (was : List ℕ) (now : ℕ) (lost : List ℕ) (status : ℕ) (Line : List ℕ → Type 0) (why : BuildFault)
-    → Refuses (manifest_of c) why status Line → HasReason c held before now lost (Stopped why) → KeepsFaults before was now lost why → Reason c held before was now lost status Line
+    → Refuses (subject_of c) why status Line → HasReason c held before now lost (Stopped why) → KeepsFaults before was now lost why → Reason c held before was now lost status Line
 stopped_reason law c held before was now lost status Line fault.NotJson said h left = stopped_by law c held before was now lost status Line not_json _ said.0 said.1 refl h left
 stopped_reason law c held before was now lost status Line fault.BadManifest said h left = stopped_by law c held before was now lost status Line bad_manifest _ said.0 said.1 refl h left
 stopped_reason law c held before was now lost status Line (fault.Longer name) said h left = stopped_by law c held before was now lost status Line (longer name) _ said.0 said.1 refl h left
@@ -145,14 +145,14 @@ mislabelled_reason law c held before was now lost status Line name number byte s
     amiss f (Flatten file) m = absurd m
 
 unflat_reason : OneOutcome → (c : Command) (held : Option Files) (before : ℕ) (was : List ℕ) (now : ℕ) (lost : List ℕ) (status : ℕ) (Line : List ℕ → Type 0) (kind : FlattenKind) (number byte : ℕ)
-    → (status ≡ 3) × Line (flatten_line (manifest_of c) kind number byte) → OfFilesRead c held (λ f. IsUnflatFor f c kind number byte) → IsFaultless before was now lost → Reason c held before was now lost status Line
+    → (status ≡ 3) × Line (flatten_line (subject_of c) kind number byte) → OfFilesRead c held (λ f. IsUnflatFor f c kind number byte) → IsFaultless before was now lost → Reason c held before was now lost status Line
 unflat_reason law c held before was now lost status Line kind number byte said h left =
-    refusal_of _ said.0 (told_of (read_by c held) (λ f. IsUnflatFor f c kind number byte) (λ f. OutcomeOf f c (Refused (flatten_line (manifest_of c) kind number byte)) × (HasText f c → ⊥)) (λ f m. unflat f c m) h) said.1 left
+    refusal_of _ said.0 (told_of (read_by c held) (λ f. IsUnflatFor f c kind number byte) (λ f. OutcomeOf f c (Refused (flatten_line (subject_of c) kind number byte)) × (HasText f c → ⊥)) (λ f m. unflat f c m) h) said.1 left
   where
     both : (bytes other : List ℕ) (pieces : List PlainPiece) → other ≡ bytes → IsReadWithMacros other pieces → IsRefusedWithMacros bytes kind number byte → ⊥
     both bytes other pieces same read stop = (law.flat bytes).not_both pieces kind number byte (subst (λ (z : List ℕ). IsReadWithMacros z pieces) same read) stop
 
-    unflat : (f : Files) (c : Command) → IsUnflatFor f c kind number byte → OutcomeOf f c (Refused (flatten_line (manifest_of c) kind number byte)) × (HasText f c → ⊥)
+    unflat : (f : Files) (c : Command) → IsUnflatFor f c kind number byte → OutcomeOf f c (Refused (flatten_line (subject_of c) kind number byte)) × (HasText f c → ⊥)
     unflat f (Check version manifest) m = absurd m
     unflat f (Audit manifest report) m = absurd m
     unflat f (Trial seed size) m = absurd m

@@ -109,14 +109,14 @@ abbrev pub Refuses : List ℕ → BuildFault → ℕ → (List ℕ → Type 0) �
 Refuses manifest why status Line = (status ≡ fault_status why) × Line (fault_line manifest why)
 
 -- the name of the manifest or of the copper file that a command is about
-abbrev pub manifest_of : Command → List ℕ
-manifest_of (Check version manifest) = manifest
-manifest_of (Audit manifest report) = manifest
-manifest_of (Trial seed size) = made_manifest
-manifest_of (Write manifest) = manifest
-manifest_of (Gaps manifest nanometres) = manifest
-manifest_of (X2 manifest) = manifest
-manifest_of (Flatten file) = file
+abbrev pub subject_of : Command → List ℕ
+subject_of (Check version manifest) = manifest
+subject_of (Audit manifest report) = manifest
+subject_of (Trial seed size) = made_manifest
+subject_of (Write manifest) = manifest
+subject_of (Gaps manifest nanometres) = manifest
+subject_of (X2 manifest) = manifest
+subject_of (Flatten file) = file
 
 -- the name of the report, which only an audit has
 abbrev pub report_of : Command → List ℕ
@@ -125,12 +125,12 @@ report_of other = []
 
 -- the status where a command has no answer, and its line
 abbrev pub RefusesFor : Command → Unanswered → ℕ → (List ℕ → Type 0) → Type 0
-RefusesFor command (Stopped why) status Line = Refuses (manifest_of command) why status Line
+RefusesFor command (Stopped why) status Line = Refuses (subject_of command) why status Line
 RefusesFor command NotAReport status Line = (status ≡ 3) × Line (file_line (report_of command) (codes "not a report"))
 RefusesFor command SizeTooLarge status Line = (status ≡ 3) × Line (plain_line (codes "trial size too large"))
 RefusesFor command (GrownTooLarge box) status Line = (status ≡ 3) × Line (frame_line box)
 RefusesFor command (Mislabelled name number byte) status Line = (status ≡ 3) × Line (label_line name number byte)
-RefusesFor command (Unflat kind number byte) status Line = (status ≡ 3) × Line (flatten_line (manifest_of command) kind number byte)
+RefusesFor command (Unflat kind number byte) status Line = (status ≡ 3) × Line (flatten_line (subject_of command) kind number byte)
 
 -- ---- Audits
 

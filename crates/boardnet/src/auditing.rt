@@ -40,7 +40,7 @@ fn answer_of(alloc: Global, ruling: Ruling) -> Result<Answer, NoMemory>
 {
     match ruling {
         Ruling::True => {
-            let text = joined(alloc, &[b"audit true", b"\n"])?;
+            let text = joined(alloc, &[b"audit true\n"])?;
             Ok(Answer {
                 text,
                 note: Note::AuditTrue,

@@ -19,7 +19,7 @@ pub fn refuse<N: Sink>(command: Command, why: &Unanswered, notes: &mut N) -> u8
     ensures line { RefusesFor (asked command.entry) why.now result (Says N.got N.faults notes.old notes.new) }
     ensures later { N.faults notes.old ≤ N.faults notes.new }
 {
-    let file = command.manifest();
+    let file = command.subject();
     match why {
         Unanswered::Stopped(fault) => stopped(file, fault, notes),
         Unanswered::NotAReport => {

@@ -6,7 +6,7 @@ ghost use Rattle.xnc.specs.Reading as spec;
 use crate::kind::DrillKind;
 use crate::line::{Coordinates, Form};
 use crate::span::Span;
-use lengths::{Decimal, Unit, digits_value, read_decimal};
+use lengths::{Decimal, Unit, read_decimal, small_value};
 use texts::{after, all_digits, before, begins, has, is, trimmed};
 
 // Whether a text is the decimal number.
@@ -183,11 +183,11 @@ fn tool_number(digits: &[u8]) -> Option<u32>
     if digits.is_empty() || digits.len() > 4 || !all_digits(digits) {
         return None;
     }
-    let number = digits_value(0, digits);
+    let number = small_value(digits);
     if number == 0 {
         return None;
     }
-    Some(number as u32)
+    Some(number)
 }
 
 fn defines(number: Option<u32>, diameter: Option<Decimal>) -> Form

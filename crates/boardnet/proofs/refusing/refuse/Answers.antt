@@ -14,6 +14,6 @@ pub returns-in-Unflat-clause-line : goal.returns-in-Unflat-clause-line
 returns-in-Unflat-clause-line g c =
     subst (λ why. RefusesFor (asked c.args.command) why 3 (Says g.N.Sink.got g.N.Sink.faults c.args.notes.now c.refused_at_byte.new.notes)) (sym c.in-Unflat.is) (
       refl,
-      subst (λ (z : List ℕ). Says g.N.Sink.got g.N.Sink.faults c.args.notes.now c.refused_at_byte.new.notes (flatten_line z c.in-Unflat.kind c.in-Unflat.command c.in-Unflat.at)) (c.as_bytes-in-Unflat.ensures.value ∙ c.manifest-file.ensures)
+      subst (λ (z : List ℕ). Says g.N.Sink.got g.N.Sink.faults c.args.notes.now c.refused_at_byte.new.notes (flatten_line z c.in-Unflat.kind c.in-Unflat.command c.in-Unflat.at)) (c.as_bytes-in-Unflat.ensures.value ∙ c.subject-file.ensures)
           (rw (← c.number.ensures, ← c.name.ensures) c.refused_at_byte.ensures),
     )
