@@ -19,8 +19,8 @@ class Shape:
 class Pen:
     """A passed on aperture: half the diameter of a circle, else None; for each side its even sizes."""
 
-    def __init__(self, radius, sizes):
-        self.radius, self.sizes = radius, sizes
+    def __init__(self, name, radius, sizes):
+        self.name, self.radius, self.sizes = name, radius, sizes
 
 
 def even_down(length):
@@ -41,7 +41,7 @@ def standard(name, lengths, hole):
         return Shape(lower, upper, "a shape with a hole" if upper and not lower else None)
     if low != high and 0 in low:
         return Shape([], solid(name, high), "a size under 0.2 nm")
-    return Pen(lengths[0] / 2 if name == CIRCLE else None, (low, high))
+    return Pen(name, lengths[0] / 2 if name == CIRCLE else None, (low, high))
 
 
 def solid(name, sizes):

@@ -16,11 +16,11 @@ from .differing import Differing
 from .exact import Refused
 from .joint import Joint
 from .package import beside
-from .two_sides import Copper
+from .two_sides import of_text
 from .words import counted
 
-# Arc, Macro, Polygon, Hole, OffGrid: what copper files hold that bounds may be given for.
-OUTSIDE = re.compile(r"(.*): Gerber (11|12|14|15|23) |(.*): flatten ")
+# ClearPolarity, Arc, Macro, Polygon, Hole, OffGrid, TooManyVertices: what copper files hold that bounds may be given for.
+OUTSIDE = re.compile(r"(.*): Gerber (10|11|12|14|15|23|28) |(.*): flatten ")
 SIDES = ("lower", "upper")
 
 
@@ -51,7 +51,7 @@ def of_package(package):
     files, sources, left_out, replaced = ({}, {}), ({}, {}), [], 0
     for name in dict.fromkeys(package.manifest.copper):
         try:
-            copper = Copper(package.read(name).decode("latin-1"))
+            copper = of_text(package.read(name).decode("latin-1"))
         except Refused as why:
             raise Refused(f"{name}: {why}") from None
         left_out += [f"{name}: {what}" for what in copper.lost]

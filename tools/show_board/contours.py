@@ -1,18 +1,22 @@
-"""A contour with arcs, and a contour of whole corners that lies in it."""
+"""A contour with arcs, and contours of whole corners that lie in it or hold it."""
 from .arcs import Arc
 from .spots import Bands, Segments, dot, edges, segments_within
 
 
 def contour_lower(parts):
+    return contour_bound(parts, False)
+
+
+def contour_bound(parts, upper):
     """parts: spots (the next corner of a straight edge) and Arcs, in order, closed. Corners of an area within the real one, or
-    None. Between a chain and its arc lies a sliver; what the two areas do not share lies in slivers. Where no other edge
-    enters a sliver and one place of it is outside the new area, all of it is."""
+    round it, or None. Between a chain and its arc lies a sliver; what the two areas do not share lies in slivers. Where no other
+    edge enters a sliver and one place of it is outside the new area, or for UPPER in it, all of it is."""
     arcs = [p for p in parts if isinstance(p, Arc)]
     if not all(arc.sound for arc in arcs):
         return None
     corners, spans = assembled(parts, set())
     bands = Bands(corners)
-    flipped = {k for k, arc in enumerate(arcs) if bands.odd(*sample(arc, arc.inner, True))}
+    flipped = {k for k, arc in enumerate(arcs) if bands.odd(*sample(arc, arc.inner, True)) != upper}
     corners, spans = assembled(parts, flipped)
     segments, bands = edges(corners), Bands(corners)
     grid = Segments(segments)
@@ -20,7 +24,7 @@ def contour_lower(parts):
         chain = arc.outer if k in flipped else arc.inner
         if not (arc.lies_outside() if k in flipped else arc.lies_inside()):
             return None
-        if meets_sliver(arc, chain, spans[k], segments, grid) or bands.odd(*sample(arc, chain, k not in flipped)):
+        if meets_sliver(arc, chain, spans[k], segments, grid) or bands.odd(*sample(arc, chain, k not in flipped)) != upper:
             return None
     return corners
 

@@ -2,6 +2,7 @@
 import re
 from fractions import Fraction as Q
 
+from .clear import Object, whole
 from .exact import Refused, cos_sin, exact, minus, plus, root, times, turned
 from .outlines import convex_bounds, disc_bounds, polygon_bounds
 
@@ -118,16 +119,18 @@ def figures(body, parameters, scale):
 
 def primitive(values, scale):
     code = values[0]
-    if code in (6, 7):
-        raise Refused("macro: moire" if code == 6 else "macro: thermal")
+    if code == 6:
+        raise Refused("macro: moire")
+    if code == 7:
+        return thermal(values, scale)
     if code != 4 and (code not in COUNTS or len(values) not in COUNTS[code]):
         raise Refused(f"macro: no primitive {code} with {len(values) - 1} values")
-    if len(values) < 2 or values[1] != 1:
-        raise Refused("macro: exposure off" if len(values) > 1 and values[1] == 0 else "macro: exposure not 1")
+    if len(values) < 2 or values[1] not in (0, 1):
+        raise Refused("macro: exposure not 0 or 1")
     u = [v * scale for v in values]
     turn = cos_sin(values[-1]) if code != 1 or len(values) == 6 else cos_sin(0)
     if code == 1:
-        return sized(u[2]) and ("disc", turned((exact(u[3]), exact(u[4])), turn), u[2] / 2)
+        return sized(u[2]) and exposed(values[1], ("disc", turned((exact(u[3]), exact(u[4])), turn), u[2] / 2))
     kind, corners = "convex", None
     if code in (2, 20):
         if sized(u[2]) and u[3:5] != u[5:7]:
@@ -145,7 +148,26 @@ def primitive(values, scale):
             corners = regular(int(values[2]), u[3], u[4], u[5])
     else:
         kind, corners = "outline", outline(values, u)
-    return corners and (kind, [turned(p, turn) for p in corners])
+    return corners and exposed(values[1], (kind, [turned(p, turn) for p in corners]))
+
+
+def exposed(on, figure):
+    return figure if on else ("off", figure)
+
+
+def thermal(values, scale):
+    """A ring without a cross: dark, clear and twice clear."""
+    if len(values) != 7 or not 0 <= values[4] < values[3] or values[5] < 0:
+        raise Refused("macro: no thermal")
+    x, y, outer, inner, gap = [v * scale for v in values[1:6]]
+    turn = cos_sin(values[6])
+    at, off = turned((exact(x), exact(y)), turn), []
+    if inner:
+        off.append(("disc", at, inner / 2))
+    if gap:
+        bars = ((outer, gap / 2), (gap / 2, outer))
+        off += [("convex", [turned(p, turn) for p in rectangle(x - w, y - h, x + w, y + h)]) for w, h in bars]
+    return ("cut", [("disc", at, outer / 2)] + [("off", figure) for figure in off])
 
 
 def sized(length):
@@ -166,17 +188,23 @@ def outline(values, u):
 
 
 def bounds_of(figure):
+    if figure[0] == "cut":
+        return without(figure[1])[:2]
     if figure[0] == "disc":
         return disc_bounds(figure[1], figure[2])
     return (convex_bounds if figure[0] == "convex" else polygon_bounds)(figure[1])
 
 
+def without(figures_in_order):
+    """Pieces of LOWER and UPPER of figures, some of which take away from those before, and how many LOWER leaves out."""
+    objects, lost = [], 0
+    for n, figure in enumerate(figures_in_order):
+        low, high = bounds_of(figure[1] if figure[0] == "off" else figure)
+        objects.append(Object(figure[0] != "off", (low, high), n))
+        lost += figure[0] != "off" and not low
+    return (*whole(objects), lost)
+
+
 def macro_bounds(body, parameters, scale):
     """Pieces of LOWER and UPPER about the macro's origin, and how many figures LOWER leaves out."""
-    lower, upper, lost = [], [], 0
-    for figure in figures(body, parameters, scale):
-        low, high = bounds_of(figure)
-        lower += low
-        upper += high
-        lost += not low
-    return lower, upper, lost
+    return without(figures(body, parameters, scale))

@@ -1,14 +1,17 @@
 """A copper file outside the profile between two files within it: LOWER lies in the real copper, UPPER holds it.
 
-What is not replaced is passed on as it stands, in millimetres of seven decimals, so that `check` judges it as before.
+What is not replaced is passed on as it stands, in millimetres of seven decimals, so that `check` judges it as before. A file with
+clear polarity, or with contours that are too long, is walked twice: once for its objects, and once to write those that stay.
 """
 import re
 from fractions import Fraction as Q
+from functools import lru_cache
 
-from . import apertures
+from . import apertures, clear
 from .arcs import Arc, arc_chain, chain_bounds
-from .contours import contour_lower
+from .contours import contour_bound, contour_lower
 from .exact import Refused
+from .rounds import ring
 from .side import OWN, Side, millimetres, words_of
 from .spots import cross, dot
 
@@ -19,16 +22,32 @@ IN_REGIONS = ("TF", "TA", "TO", "TD", "AD", "AM", "LPD")      # what may stand t
 MODES = ("G01", "G1", "G02", "G2", "G03", "G3")
 DRAW, MOVE, FLASH = 1, 2, 3
 STRAIGHT, ANTICLOCKWISE = 1, 3
+MOST_EDGES = 100_000        # of a contour, in the profile
+MOST_OBJECTS = 400_000
+
+
+def of_text(text):
+    """Both sides of a copper file."""
+    copper = Copper(text)
+    if not copper.clears and not copper.long:
+        return copper
+    taken, *written = clear.cut(copper.objects, copper.long)
+    again = Copper(text, taken, written)
+    again.lost = copper.lost
+    return again
 
 
 class Copper:
     """Walks a copper file and writes both sides.
 
-    `lost` says what LOWER leaves out, `replaced` counts what is written otherwise, `flashes` are the places of flashes.
+    `lost` says what LOWER leaves out, `replaced` counts what is written otherwise, `flashes` are the places of flashes. `objects`
+    is all that the file makes, in order. Dark objects of commands of `taken` are not written, but at the end what is `written`.
     """
 
-    def __init__(self, text):
-        self.sides, self.lost, self.replaced = (Side(), Side()), [], 0
+    def __init__(self, text, taken=(), written=((), ())):
+        self.sides, self.lost, self.replaced = (Side(), Side()), [], len(taken)
+        self.taken, self.written, self.objects, self.block = taken, written, [], None
+        self.clear, self.clears, self.long, self.cuts = False, False, set(), "LPC*" in text
         self.scale = self.decimals = self.format = self.number = self.macro = None
         self.macros, self.apertures = {}, {}
         self.spot, self.mode, self.quadrants, self.last, self.chosen = (0, 0), STRAIGHT, None, None, None
@@ -44,6 +63,49 @@ class Copper:
     def both(self, text):
         for side in self.sides:
             side.word(text, self.number)
+
+    # ---- objects in their order
+
+    def stays(self, lower, upper, areas=None):
+        """Notes what a command makes. Whether it is written as it comes."""
+        self.objects.append(clear.Object(not self.clear, (lower, upper), self.number, areas))
+        return not self.clear and self.number not in self.taken
+
+    def passes(self):
+        """Whether an object is known already and is not written: by a second walk."""
+        return any(self.written) and (self.clear or self.number in self.taken)
+
+    def polarity(self, word):
+        if self.contours is not None and (self.clear or word == "LPC"):
+            raise Refused("a word in a region")
+        self.clear = word == "LPC"
+        self.clears, self.replaced = self.clears or self.clear, self.replaced + self.clear
+        if not self.clear:
+            self.both("%LPD*%")
+
+    def steps(self, word):
+        """Ends a block, whose objects give way to their copies, and may open one."""
+        if self.block:
+            first, columns, rows, x, y = self.block
+            once = self.objects[first:]
+            if len(once) * columns * rows > MOST_OBJECTS:
+                raise Refused("too many copies")
+            self.objects[first:] = [it.moved(i * x, j * y) for i in range(columns) for j in range(rows) for it in once]
+        match, self.block = re.fullmatch(r"SRX(\d+)Y(\d+)I([^J]+)J(.+)", word), None
+        if match and self.scale and DECIMAL.fullmatch(match[3]) and DECIMAL.fullmatch(match[4]):
+            self.block = (len(self.objects), int(match[1]), int(match[2]), self.whole(Q(match[3])), self.whole(Q(match[4])))
+
+    def finish(self):
+        """What is written instead of the taken objects, after all blocks and labels."""
+        is_open = self.block
+        self.steps("SR")
+        if any(self.written):
+            self.both("%TD*%")
+        for side, written in zip(self.sides, self.written):
+            if is_open and any(self.written):
+                side.word("%SR*%", self.number)
+            for piece, source in written:
+                side.pieces([piece], (0, 0), source)
 
     # ---- words in pairs of percent signs
 
@@ -66,9 +128,10 @@ class Copper:
             self.set_scale(word, "%MOMM*%")
         elif word.startswith("AD"):
             self.define(word)
-        elif word == "LPC":
-            raise Refused("clear polarity")
-        elif word.startswith("SR") and word != "SR":
+        elif word in ("LPC", "LPD"):
+            self.polarity(word)
+        elif word.startswith("SR"):
+            self.steps(word)
             self.both(f"%{self.step(word)}*%")
         else:
             self.both(f"%{word}*%")
@@ -170,6 +233,8 @@ class Copper:
         elif self.contours is not None:
             raise Refused("a region without an end" if word in ("M02", "M2") else "a word in a region")
         else:
+            if word in ("M02", "M2"):
+                self.finish()
             self.both(f"{word}*")
 
     def length(self, digits):
@@ -233,19 +298,28 @@ class Copper:
             raise Refused("no aperture")
         if not isinstance(pen, apertures.Pen) or pen.radius is None:
             raise Refused("an arc with a pen that is no circle")
+        if self.passes():
+            return
         self.replaced += 1
         ends = (start, self.spot) if self.mode == ANTICLOCKWISE else (self.spot, start)
         chain, most = arc_chain(centre, *ends) if centre is not None else ([start, start], 0)
         both = chain_bounds(chain if self.mode == ANTICLOCKWISE else chain[::-1], most, pen.radius)
         if pen.radius > 0 and not both[0]:
             self.lost.append(f"an arc at command {self.number}")
-        for side, pieces in zip(self.sides, both):
-            side.pieces(pieces, (0, 0), self.number)
+        areas = ring(centre, chain, pen.radius.__floor__() - most, pen.radius.__ceil__()) if self.cuts and centre is not None else None
+        if self.stays(*both, areas):
+            for side, pieces in zip(self.sides, both):
+                side.pieces(pieces, (0, 0), self.number)
 
     def draw(self, start):
         pen = self.apertures.get(self.chosen)
         if isinstance(pen, apertures.Shape):
             raise Refused("a draw with a pen that is no circle")
+        drawn = [[("capsule", start, self.spot, size[0] // 2)] if size[0] else [] for size in pen.sizes] if pen else ([], [])
+        if not self.stays(*drawn):
+            if pen.radius is None:
+                raise Refused("a draw with a pen that is no circle")
+            return
         for side in self.sides:
             if pen:
                 side.select(self.chosen, self.number)
@@ -259,8 +333,12 @@ class Copper:
             self.replaced += 1
             if made.lost:
                 self.lost.append(f"{made.lost} at command {self.number}")
-            for side, pieces in zip(self.sides, made.both):
-                side.pieces(pieces, self.spot, self.number)
+            if self.stays(*([clear.moved(piece, *self.spot) for piece in pieces] for pieces in made.both)):
+                for side, pieces in zip(self.sides, made.both):
+                    side.pieces(pieces, self.spot, self.number)
+            return
+        flat = [apertures.solid(made.name, size) for size in made.sizes] if made else ([], [])
+        if not self.stays(*([clear.moved(piece, *self.spot) for piece in pieces] for pieces in flat)):
             return
         for side in self.sides:
             if made:
@@ -281,12 +359,25 @@ class Copper:
 
     def end_region(self):
         contours, self.contours, grown = self.contours, None, []
+        if self.passes():
+            return
         written = [[], []]
         for contour in contours:
             if len(contour) > 1:
                 lower, upper = self.contour(contour, grown)
                 written[0] += lower
                 written[1] += upper
+        both = [[("area", run[:-1]) for run in runs] for runs in written]
+        if self.stays(both[0], both[1] + grown):
+            self.write_region(contours, written, grown)
+        elif any(run[0] != run[-1] or len(run) < 4 for runs in written for run in runs):
+            raise Refused("a contour that is not closed")
+        if any(len(run) > MOST_EDGES for runs in written for run in runs):
+            self.long.add(self.number)
+        for side in self.sides:
+            side.at = None
+
+    def write_region(self, contours, written, grown):
         for side, runs in zip(self.sides, written):
             if runs or not contours:
                 side.word("G36*", self.number)
@@ -296,28 +387,43 @@ class Copper:
                 side.word("G37*", self.number)
             side.at = None
         self.sides[1].pieces(grown, (0, 0), self.number)
-        for side in self.sides:
-            side.at = None
 
     def contour(self, contour, grown):
         """The runs of places of a contour on both sides; draws that widen the upper one come to `grown`."""
-        spots, parts = [contour[0]], [contour[0]]
-        for part in contour[1:]:
-            if len(part) == 2:
-                spots.append(part)
-                parts.append(part)
-                continue
-            centre, end, anticlockwise = part
-            start = spots[-1]
-            chain, most = arc_chain(centre, *((start, end) if anticlockwise else (end, start)))
-            chain = chain if anticlockwise else chain[::-1]
-            grown += [("capsule", a, b, most) for a, b in zip(chain, chain[1:])]
-            spots += chain[1:]
-            parts.append(Arc(centre, start, end, anticlockwise))
-        if spots[0] != spots[-1] or not any(isinstance(part, Arc) for part in parts):
-            return [spots], [spots]
+        x, y = contour[0]
+        by = lambda spot: (spot[0] + x, spot[1] + y)
+        back = lambda spot: spot and (spot[0] - x, spot[1] - y)
+        shape = tuple(back(part) if len(part) == 2 else (back(part[0]), back(part[1]), part[2]) for part in contour)
+        if all(len(part) == 2 for part in contour):
+            return [contour], [contour]
+        inner, outer, wide, closed = rounded_contour(shape, self.cuts)
+        grown += [("capsule", by(a), by(b), most) for _, a, b, most in wide]
+        if not closed:
+            return [[*map(by, outer)], [*map(by, outer)]]
         self.replaced += 1
-        inner = contour_lower(parts)
         if not inner:
             self.lost.append(f"a contour with arcs of the region at command {self.number}")
-        return [inner + inner[:1]] if inner else [], [spots]
+        inner, outer = [*map(by, inner or ())], [*map(by, outer)]
+        return [inner + inner[:1]] if inner else [], [outer + outer[:1] if outer[0] != outer[-1] else outer]
+
+
+@lru_cache(1000)
+def rounded_contour(contour, cuts):
+    """(inner, outer, draws that widen the outer one, whether it is closed) of a contour with arcs."""
+    spots, parts, wide = [contour[0]], [contour[0]], []
+    for part in contour[1:]:
+        if len(part) == 2:
+            spots.append(part)
+            parts.append(part)
+            continue
+        centre, end, anticlockwise = part
+        start = spots[-1]
+        chain, most = arc_chain(centre, *((start, end) if anticlockwise else (end, start)))
+        chain = chain if anticlockwise else chain[::-1]
+        wide += [("capsule", a, b, most) for a, b in zip(chain, chain[1:])]
+        spots += chain[1:]
+        parts.append(Arc(centre, start, end, anticlockwise))
+    if spots[0] != spots[-1]:
+        return None, spots, wide, False
+    outer = contour_bound(parts, True) if cuts else None
+    return contour_lower(parts), outer or spots, [] if outer else wide, True

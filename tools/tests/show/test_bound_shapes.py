@@ -7,7 +7,7 @@ from fractions import Fraction as Q
 
 from real_shapes import FINE, NEAR, Real, circle_ends, contour_of, every, fine, gerber_of, has, in_sector, pieces_of, through
 from show_board.arcs import Arc, arc_chain, chain_bounds, goes_once
-from show_board.contours import contour_lower
+from show_board.contours import contour_bound, contour_lower
 from show_board.exact import Refused, cos_sin, minus, plus, root, times
 from show_board.macros import Expression, bounds_of, macro_bounds
 from show_board.spots import cross, dot, odd_inside, point_within
@@ -183,7 +183,7 @@ class Regions(unittest.TestCase):
         return odd
 
     def test_places(self):
-        rng, lost, cases = random.Random(6), 0, 0
+        rng, lost, cases, kept = random.Random(6), 0, 0, 0
         for _ in range(70 * MANY):
             contour = contour_of(rng)
             if rng.random() < .4:
@@ -195,12 +195,16 @@ class Regions(unittest.TestCase):
             corners = contour_lower(parts)
             cases, lost = cases + 1, lost + (corners is None)
             low, high = [("area", corners)] if corners else [], pieces_of(Copper(gerber_of(contour)).sides[1])
+            round_it = contour_bound(parts, True)
+            kept += round_it is not None
             for _ in range(80):
                 p = self.place(rng, arcs)
                 truth = self.truth(p, contour)
                 self.assertFalse(truth is False and has(low, p), (contour, p))
                 self.assertFalse(truth is True and not has(high, p), (contour, p))
+                self.assertFalse(truth is True and round_it and not has([("area", round_it)], p), (contour, p))
         self.assertLess(lost, cases // 10)
+        self.assertGreater(kept, cases * 9 // 10)
 
     def test_close(self):
         """Away from corners: what is a micrometre inside lies in LOWER, what is a micrometre outside does not lie in UPPER."""
@@ -237,9 +241,11 @@ class Regions(unittest.TestCase):
             arcs = [p for p in parts if isinstance(p, Arc)]
             corners = contour_lower(parts) if arcs else None
             given += bool(corners)
-            for _ in range(60 if corners else 0):
+            outer = contour_bound(parts, True) if arcs else None
+            for _ in range(60 if corners or outer else 0):
                 p = self.place(rng, arcs) if rng.random() < .7 else tuple(rng.randint(-8 * size, 8 * size) for _ in "xy")
-                self.assertFalse(self.truth(p, contour) is False and has([("area", corners)], p), (contour, p))
+                self.assertFalse(corners and self.truth(p, contour) is False and has([("area", corners)], p), (contour, p))
+                self.assertFalse(outer and self.truth(p, contour) and not has([("area", outer)], p), (contour, p))
         self.assertGreater(given, 40 * MANY)
 
     def test_cusps(self):
@@ -252,10 +258,12 @@ class Regions(unittest.TestCase):
             contour = [a, start, ((0, 0), end, True), a] if rng.random() < .5 else [a, end, ((0, 0), start, False), a]
             corners = contour_lower(parts_of(contour))
             given += bool(corners)
-            for _ in range(60 if corners else 0):
+            outer = contour_bound(parts_of(contour), True)
+            for _ in range(60 if corners or outer else 0):
                 t, off = rng.random() ** 3 / 2, rng.choice((2, 300, 5000))
                 p = tuple(round(x * FINE) + rng.randint(-off, off) for x in (r * math.cos(t), r * math.sin(t)))
-                self.assertFalse(self.truth(p, contour) is False and has([("area", corners)], p), (contour, p))
+                self.assertFalse(corners and self.truth(p, contour) is False and has([("area", corners)], p), (contour, p))
+                self.assertFalse(outer and self.truth(p, contour) and not has([("area", outer)], p), (contour, p))
         self.assertGreater(given, 40 * MANY)
 
 

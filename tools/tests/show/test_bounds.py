@@ -28,8 +28,10 @@ class Files(unittest.TestCase):
         macro = "%ADD10A*%"
         region = ["G36*", "X0Y0D02*", "X1000000Y0D01*", "X0Y1000000D01*"]
         rows = [
-            ("clear polarity", ["%LPC*%"]), ("exposure off", ["%AMA*1,0,1,0,0*%", macro]),
-            ("moire", ["%AMA*6,0,0,1,.1,.1,2,.1,1,0*%", macro]), ("thermal", ["%AMA*7,0,0,1,.8,.1,0*%", macro]),
+            ("a word in a region", region + ["%LPC*%"]), ("exposure not 0 or 1", ["%AMA*1,2,1,0,0*%", macro]),
+            ("moire", ["%AMA*6,0,0,1,.1,.1,2,.1,1,0*%", macro]), ("no thermal", ["%AMA*7,0,0,1,1.8,.1,0*%", macro]),
+            ("a contour that is not closed", ["%LPC*%", *region, "G37*"]), ("a draw with a pen that is no circle", ["%ADD10R,1X1*%", "D10*", "%LPC*%", "X5Y5D01*"]),
+            ("too many copies", ["%ADD10C,1*%", "D10*", "%SRX1000Y1000I1J1*%", "X5Y5D03*", "%SR*%"]),
             ("arc with a pen that is no circle", ["%ADD10R,1X1*%", "D10*", "X0Y0D02*", "G03X2000000Y0I1000000J0D01*"]),
             ("draw with a pen that is no circle", ["%ADD10P,1X6*%", "D10*", "X0Y0D02*", "X2000000Y0D01*"]),
             ("two units", ["%MOIN*%"]), ("hole that is not round", ["%ADD10C,1X.2X.2*%"]), ("obround with a hole", ["%ADD10O,1X2X.2*%"]),
@@ -207,10 +209,10 @@ class Packages(made.Case):
         """Refused as before, with why there are no bounds; or nothing to say."""
         points = [record("A", "J1.1", 1, 0)]
         for program in self.over_both():
-            for line in ("%LPC*%", "G36*"):
+            for line in ("%LMX*%\n%ADD12C,1X.2X.2*%", "G36*"):
                 runs, told = self.judged(program, [*self.ARC, line], points)
                 answer = bounds.bounded(runs, told)
-                why = "clear polarity at command 10" if line == "%LPC*%" else "a region without an end at command 11"
+                why = "a hole that is not round at command 11" if line != "G36*" else "a region without an end at command 11"
                 self.assertEqual((answer.status, answer.line), (3, f"{told.line}; no bounds: top.gbr: {why}"))
             self.assertEqual(self.bounded(program, self.ARC, [])[:2], (12, NOTHING))
             self.assertIsNone(bounds.bounded(*self.judged(program, [*HEAD, "%ADD10C,1.0*%", *flash(10, (1, 0))], points)))

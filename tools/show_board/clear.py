@@ -1,0 +1,115 @@
+"""Dark and clear objects of a layer in their order: the copper that is left, between two bounds.
+
+The copper is what each dark object has outside all clear ones after it. Below it are the dark objects' pieces within them without
+the clear objects' pieces round them; above it are the pieces round without the pieces within. At a border between dark and clear
+either is allowed. Dark objects that no later clear one comes near stay as they are.
+"""
+from typing import NamedTuple
+
+from .rounds import polygon
+from .sweep import Sweep
+
+CELLS = 64          # to each side
+
+
+class Object(NamedTuple):
+    """What a command makes: pieces within it and pieces round it; `tag` is the command's number. `areas` are corners of areas within
+    it and round it, where they are known and fewer than those of the pieces."""
+
+    dark: bool
+    both: tuple
+    tag: int
+    areas: tuple = None
+
+    def moved(self, x, y):
+        both = tuple([moved(piece, x, y) for piece in pieces] for pieces in self.both)
+        return Object(self.dark, both, self.tag, self.areas and tuple([[(p + x, q + y) for p, q in it] for it in its] for its in self.areas))
+
+
+def moved(piece, x, y):
+    if piece[0] == "area":
+        return "area", [(p + x, q + y) for p, q in piece[1]]
+    kind, a, b, radius = piece
+    return kind, (a[0] + x, a[1] + y), (b[0] + x, b[1] + y), radius
+
+
+def box(piece):
+    if piece[0] == "area":
+        xs, ys = zip(*piece[1])
+        return min(xs), min(ys), max(xs), max(ys)
+    _, a, b, r = piece
+    return min(a[0], b[0]) - r, min(a[1], b[1]) - r, max(a[0], b[0]) + r, max(a[1], b[1]) + r
+
+
+def meet(one, two):
+    return one[0] <= two[2] and two[0] <= one[2] and one[1] <= two[3] and two[1] <= one[3]
+
+
+class Boxes:
+    """Boxes of clear pieces by cells, each with its object's place in the order."""
+
+    def __init__(self, objects):
+        self.boxes = [(box(piece), n) for n, it in enumerate(objects) if not it.dark for piece in it.both[1]]
+        self.cells, self.step = {}, 1
+        if self.boxes:
+            high = max(max(b[2], b[3]) for b, _ in self.boxes)
+            self.low = min(min(b[0], b[1]) for b, _ in self.boxes)
+            self.step = (high - self.low) // CELLS + 1
+        for entry in self.boxes:
+            for cell in self.around(entry[0]):
+                self.cells.setdefault(cell, []).append(entry)
+
+    def around(self, b):
+        cut = lambda v: max(0, min(CELLS, (v - self.low) // self.step))
+        return [(i, j) for i in range(cut(b[0]), cut(b[2]) + 1) for j in range(cut(b[1]), cut(b[3]) + 1)]
+
+    def after(self, n, b):
+        """The clear objects after the n-th object whose pieces may meet a box."""
+        if not self.boxes:
+            return set()
+        return {m for cell in self.around(b) for c, m in self.cells.get(cell, ()) if m > n and meet(b, c)}
+
+
+def chosen(objects, also):
+    """The tags of dark objects that are cut, and the places in the order of all that the sweep is over."""
+    boxes, tags, swept = Boxes(objects), set(also), set()
+    for n, it in enumerate(objects):
+        if it.dark:
+            later = set().union(*(boxes.after(n, box(piece)) for piece in it.both[1]))
+            if later or it.tag in also:
+                tags.add(it.tag)
+                swept |= later | {n}
+    return tags, sorted(swept)
+
+
+def cut(objects, also=()):
+    """(tags, LOWER, UPPER): the tags of dark objects that are written otherwise, and what is written for them, as (piece, tag).
+    Objects of the tags `also` are written otherwise in any case."""
+    tags, swept = chosen(objects, set(also))
+    apart, out = set(swept), []
+    for side in (0, 1):
+        written = [(piece, it.tag) for n, it in enumerate(objects) if it.dark and it.tag in tags and n not in apart for piece in it.both[side]]
+        items = [(it.dark, corners, it.tag) for it in (objects[n] for n in swept) for corners in corners_of(it, side)]
+        made = Sweep([it[:2] for it in items], bool(side)).out
+        last = max((k for k, it in enumerate(items) if it[0]), default=0)
+        written += [(("area", corners), items[k if k >= 0 else last][2]) for corners, k in made]
+        out.append(written)
+    return (tags, *out)
+
+
+def whole(objects):
+    """All that is left, on both sides: pieces."""
+    tags, *both = cut(objects)
+    return tuple([piece for it in objects if it.dark and it.tag not in tags for piece in it.both[side]] + [piece for piece, _ in both[side]] for side in (0, 1))
+
+
+def corners_of(it, side):
+    """For UPPER the dark ones round and the clear ones within, and the other way for LOWER."""
+    outer = bool(side) == it.dark
+    if it.areas:
+        yield from it.areas[1 if outer else 0]
+        return
+    for piece in it.both[1 if outer else 0]:
+        corners = polygon(piece, outer)
+        if corners:
+            yield corners

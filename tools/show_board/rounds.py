@@ -1,0 +1,103 @@
+"""Round pieces as polygons of whole corners, within them or round them. How the corners were found does not matter: they are tested."""
+from functools import lru_cache
+from math import isqrt
+
+from .arcs import arc_points, goes_once, rounded, scaled
+from .exact import Refused, ceil_root
+from .spots import cross, dot, edges
+
+SMALL = 8
+
+
+def polygon(piece, outer):
+    """The corners of a piece, or of a polygon in it or round it; None where there is none in it."""
+    if piece[0] == "area":
+        return piece[1]
+    _, a, b, radius = piece
+    if radius <= 0:
+        return None
+    found = (round_it if outer else in_it)(b[0] - a[0], b[1] - a[1], radius)
+    return found and [(x + a[0], y + a[1]) for x, y in found]
+
+
+def normals(dx, dy, radius):
+    """Places on a circle, counterclockwise, from the right side of a direction to its left side."""
+    if not dx and not dy:
+        dx = 1
+    right, left = scaled((0, 0), (dy, -dx), radius), scaled((0, 0), (-dy, dx), radius)
+    ahead = scaled((0, 0), (dx, dy), radius)
+    one, two = arc_points((0, 0), right, ahead, radius), arc_points((0, 0), ahead, left, radius)
+    return one + two[1:]
+
+
+@lru_cache(4096)
+def in_it(dx, dy, radius):
+    """All corners lie in the piece, which is convex."""
+    small = radius < SMALL
+    half = [(radius, 0), (0, radius)] if small else normals(dx, dy, radius - 2)
+    found = [(x + dx, y + dy) for x, y in half] + [(-x, -y) for x, y in half]
+    if small:
+        found = [(radius, 0), (0, radius), (-radius, 0), (0, -radius)]
+    return found if all(min(dot((0, 0), p, p), dot((dx, dy), p, p)) <= radius * radius for p in found) else None
+
+
+@lru_cache(4096)
+def round_it(dx, dy, radius):
+    """Convex, and both ends lie left of each side, a radius from it at least."""
+    for more in (3, 8, 64):
+        half = normals(dx, dy, max(radius, SMALL) + more)
+        tips = [tip(p, q, max(radius, SMALL) + more) for p, q in zip(half, half[1:])]
+        found = [(x + dx, y + dy) for x, y in tips] + [(-x, -y) for x, y in tips]
+        if is_convex(found) and all(keeps_off(p, q, c, radius) for p, q in edges(found) for c in ((0, 0), (dx, dy))):
+            return found
+    raise Refused("no polygon round a round piece")
+
+
+def tip(p, q, radius):
+    """Where the tangents at two places of a circle meet, about."""
+    x, y = p[0] + q[0], p[1] + q[1]
+    square = x * x + y * y
+    return rounded(2 * radius * radius * x, square), rounded(2 * radius * radius * y, square)
+
+
+def is_convex(corners):
+    """Turns left at each corner, and once round: its sides begin to rise once."""
+    rises = [b[1] > a[1] or b[1] == a[1] and b[0] > a[0] for a, b in edges(corners)]
+    left = all(cross(corners[k - 2], corners[k - 1], corners[k]) > 0 for k in range(len(corners)))
+    return left and sum(rises[k] and not rises[k - 1] for k in range(len(rises))) == 1
+
+
+def keeps_off(p, q, c, radius):
+    turn = cross(p, q, c)
+    return turn > 0 and turn * turn >= radius * radius * dot(p, q, q)
+
+
+def ring(centre, chain, low, high):
+    """(inner, outer): areas for a draw along an arc with half a pen `high`, by its chain counterclockwise; None where it is too
+    small. `low` is less by what chain and arc are apart. The corners of an inner one lie so far within half a pen of a link of a
+    finer chain that it lies in the draw. Where a place of the draw lies at an angle of the arc, its distance from the centre is
+    within `high` of the arc's, so in an outer area; elsewhere an end is the nearest of a circular arc, so it lies in the disc
+    about that, wider by what the arc's distances and the rounding are."""
+    offs = [dot(centre, p, p) for p in (chain[0], chain[-1])]
+    near, far = isqrt(min(offs)), ceil_root(max(offs))
+    deep, low, wide, slim = max(0, near - (high - low)), low - (far - near) - 4, far + high, max(0, near - high)
+    if low < 1000 or near < 1000 or len(chain) < 3:
+        return None
+    out = lambda p, by: scaled(centre, (p[0] - centre[0], p[1] - centre[1]), by)
+    fine = arc_points(centre, out(chain[0], wide), out(chain[-1], wide), wide)
+    if not goes_once(lambda p, q: cross(centre, p, q), fine):
+        return None
+    off = [(x - centre[0], y - centre[1]) for x, y in (out(p, low - 2) for p in fine)]
+    links = [out(p, (near + far) // 2) for p in fine]
+    sides = [[(p[0] + s * x, p[1] + s * y) for p, (x, y) in zip(links, off)] for s in (1, -1)]
+    step = max(dot(p, q, q) for p, q in zip(fine, fine[1:]))
+    tops, feet = [out(p, wide + step // (4 * wide) + 8) for p in fine], [out(p, slim - 2) if slim > 2 else centre for p in fine]
+    if any(dot((0, 0), p, p) > low * low for p in off) or any(dot(centre, p, p) > slim * slim for p in feet):
+        return None
+    if not all(keeps_off(*two, centre, by) for chain_of, by in ((tops, wide), (links, deep)) for two in zip(chain_of, chain_of[1:])):
+        return None
+    both = [[[a, b, d, c] for a, b, c, d in zip(one, one[1:], two, two[1:])] for one, two in (sides, (tops, feet))]
+    for end in {chain[0], chain[-1]}:
+        both[0] += [found for found in [polygon(("capsule", end, end, low), False)] if found]
+        both[1].append(polygon(("capsule", end, end, high + 2 * (far - near) + 8), True))
+    return tuple(both)

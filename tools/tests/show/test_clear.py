@@ -1,0 +1,520 @@
+"""Clear polarity: areas and objects in their order, by exact places, against both bounds. TESTS=n tries n times as many."""
+import math
+import os
+import random
+import re
+import unittest
+from fractions import Fraction as Q
+
+import made
+from made import built, manifest, netlist, record
+from real_shapes import FINE, circle_ends, fine, has, in_sector
+from show_board.arcs import arc_chain
+from show_board.rounds import in_it, ring, round_it
+from show_board.spots import odd_inside, point_within
+from show_board.sweep import Sweep
+from show_board.two_sides import of_text
+
+MANY = int(os.environ.get("TESTS", "1"))
+MICROMETRE = 10_000
+PARTS = 12          # places of sweeps are twelfths of a u
+
+
+def on_border(corners, p, scale):
+    return any(point_within(p, (a[0] * scale, a[1] * scale), (b[0] * scale, b[1] * scale), 0) for a, b in zip(corners, corners[1:] + corners[:1]))
+
+
+def holds(contours, p, scale):
+    return any(odd_inside(c, p, scale) or on_border(c, p, scale) for c in contours)
+
+
+class Areas(unittest.TestCase):
+    """Polygons of every kind: crossing themselves, with cut-ins and spikes, equal ones, moved by a u, with edges in common."""
+
+    def contour(self, rng, size):
+        spot = lambda: (rng.randint(0, size), rng.randint(0, size))
+        a, b, kind = spot(), spot(), rng.choice("rtpsz")
+        if kind == "r":
+            return [a, (b[0], a[1]), b, (a[0], b[1])]
+        if kind == "z":
+            return [a, (b[0], a[1]), b, (a[0], b[1]), a, ((a[0] + b[0]) // 2, a[1]), ((a[0] + b[0]) // 2, (a[1] + b[1]) // 2)]
+        found = [spot() for _ in range(3 if kind == "t" else rng.randint(3, 7))]
+        return found + [found[0], a, found[0]] if kind == "s" else found
+
+    def items(self, rng, size):
+        items = [(rng.random() < .6, self.contour(rng, size)) for _ in range(rng.randint(1, 8))]
+        for moved in (0, rng.randint(0, 2)):
+            if rng.random() < .3:
+                items.append((rng.random() < .5, [(x, y + moved) for x, y in rng.choice(items)[1]]))
+        return items
+
+    def place(self, rng, items, size):
+        if rng.random() < .5:
+            return tuple(rng.randint(-PARTS, size * PARTS + PARTS) for _ in "xy")
+        corners, t = rng.choice(items)[1], rng.randint(0, PARTS)
+        k = rng.randrange(len(corners))
+        return tuple(u * (PARTS - t) + v * t + rng.randint(-PARTS, PARTS) for u, v in zip(corners[k - 1], corners[k]))
+
+    def truth(self, items, p):
+        """None on a border."""
+        state = False
+        for dark, corners in items:
+            if on_border(corners, p, PARTS):
+                return None
+            if odd_inside(corners, p, PARTS):
+                state = dark
+        return state
+
+    def test_places(self):
+        rng, asked = random.Random(21), 0
+        for _ in range(400 * MANY):
+            size = rng.choice((6, 12, 12, 20, 40, 300, 10 ** 7))
+            items = self.items(rng, size)
+            low, high = ([c for c, _ in Sweep(items, upper).out] for upper in (False, True))
+            self.assertTrue(all(len(c) >= 3 for c in low + high))
+            for _ in range(40):
+                p = self.place(rng, items, size)
+                truth = self.truth(items, p)
+                asked += truth is not None
+                self.assertFalse(truth is False and holds(low, p, PARTS), (items, p))
+                self.assertFalse(truth is True and not holds(high, p, PARTS), (items, p))
+        self.assertGreater(asked, 9000 * MANY)
+
+    def test_close(self):
+        """What is 3 u inside lies in LOWER, what is 3 u outside does not lie in UPPER."""
+        rng, asked = random.Random(22), 0
+        for _ in range(150 * MANY):
+            size = rng.choice((60, 300, 10 ** 7))
+            items = self.items(rng, size)
+            low, high = ([c for c, _ in Sweep(items, upper).out] for upper in (False, True))
+            for _ in range(40):
+                p = self.place(rng, items, size)
+                if any(point_within(p, (a[0] * PARTS, a[1] * PARTS), (b[0] * PARTS, b[1] * PARTS), 3 * PARTS)
+                       for _, c in items for a, b in zip(c, c[1:] + c[:1])):
+                    continue
+                truth, asked = self.truth(items, p), asked + 1
+                self.assertEqual((holds(low, p, PARTS), holds(high, p, PARTS)), (truth, truth), (items, p))
+        self.assertGreater(asked, 1000 * MANY)
+
+    def test_sides_do_not_cross(self):
+        """Each contour has its corners up one side and down the other, and at each of its heights the sides in order."""
+        rng = random.Random(23)
+        for _ in range(150 * MANY):
+            items = self.items(rng, rng.choice((12, 40, 300)))
+            for upper in (False, True):
+                for corners, _ in Sweep(items, upper).out:
+                    heights = sorted({y for _, y in corners})
+                    for a, b in zip(heights, heights[1:]):
+                        xs = sorted((Q(p[0]) + Q((q[0] - p[0]) * (2 * y - 2 * p[1]), 2 * (q[1] - p[1])), k)
+                                    for y in (Q(a + b, 2),) for k, (p, q) in enumerate(zip(corners, corners[1:] + corners[:1]))
+                                    if min(p[1], q[1]) < y < max(p[1], q[1]))
+                        self.assertEqual(len(xs), 2, (items, corners))
+
+
+class Rounds(unittest.TestCase):
+    def test_places(self):
+        rng = random.Random(24)
+        for _ in range(150 * MANY):
+            r = rng.choice((1, 2, 5, 9, 100, 1500, 10 ** 5, 5 * 10 ** 6)) * rng.randint(1, 3)
+            d = tuple(rng.choice((0, rng.randint(-r * 4, r * 4), rng.randint(-10 ** 8, 10 ** 8))) for _ in "xy")
+            inner, outer = in_it(*d, r), round_it(*d, r)
+            for _ in range(40):
+                t, end = rng.random() * 7, rng.choice(((0, 0), d, (d[0] // 2, d[1] // 2)))
+                p = tuple(round((v + r * f(t)) * FINE) + rng.randint(-4, 4) for v, f in zip(end, (math.cos, math.sin)))
+                inside = point_within(p, (0, 0), fine(d), r * FINE)
+                self.assertTrue(inside or not inner or not odd_inside(inner, p, FINE), (d, r, p))
+                self.assertTrue(not inside or has([("area", outer)], p), (d, r, p))
+            self.assertTrue(inner or r < 9, (d, r))
+
+    def test_rings(self):
+        """Draws along arcs, also with pens wider than the arc."""
+        rng = random.Random(27)
+        for _ in range(30 * MANY):
+            radius, a, b = circle_ends(rng, 400)
+            pen = rng.choice((rng.randrange(2000, 2 * 10 ** 6), rng.randrange(2000, radius * 3)))
+            chain, most = arc_chain((0, 0), a, b)
+            low, high = ([("area", corners) for corners in its] for its in ring((0, 0), chain, pen - most, pen))
+            for _ in range(40):
+                t, side, end, off = rng.random() * 7, rng.choice((-1, 1)), rng.choice((None, None, a, b)), rng.choice((2, 12, 5000, 20000))
+                at = [v + pen * f(t) if end else (radius + side * pen) * f(t) for v, f in zip(end or a, (math.cos, math.sin))]
+                p = tuple(round(v * FINE) + rng.randint(-off, off) for v in at)
+                square, reach = p[0] ** 2 + p[1] ** 2, pen * FINE
+                truth = any(point_within(p, fine(e), fine(e), reach) for e in (a, b)) or (
+                    in_sector(fine(a), fine(b), p) and square <= (radius * FINE + reach) ** 2 and (pen >= radius or square >= (radius * FINE - reach) ** 2))
+                self.assertTrue(truth or not has(low, p), (radius, a, b, pen, p))
+                self.assertTrue(not truth or has(high, p), (radius, a, b, pen, p))
+
+
+# ---- objects: what a place of quarters of a u says of them, None on their borders
+
+def side_of(value):
+    return True if value > 0 else False if value < 0 else None
+
+
+def every(answers):
+    answers = list(answers)
+    return False if False in answers else None if None in answers else True
+
+
+def disc(c, r):
+    return lambda p: side_of((r * FINE) ** 2 - (p[0] - c[0] * FINE) ** 2 - (p[1] - c[1] * FINE) ** 2)
+
+
+def block(c, w, h):
+    return lambda p: every((side_of(w * FINE - 2 * abs(p[0] - c[0] * FINE)), side_of(h * FINE - 2 * abs(p[1] - c[1] * FINE))))
+
+
+def capsule(a, b, r):
+    def inside(p):
+        if point_within(p, fine(a), fine(b), r * FINE):
+            return True if point_within(p, fine(a), fine(b), r * FINE - 1) else None
+        return False
+    return inside
+
+
+def annulus(c, radius, r):
+    def inside(p):
+        square = (p[0] - c[0] * FINE) ** 2 + (p[1] - c[1] * FINE) ** 2
+        low = True if r > radius else side_of(square - ((radius - r) * FINE) ** 2)
+        return every((low, side_of(((radius + r) * FINE) ** 2 - square)))
+    return inside
+
+
+def area(corners):
+    return lambda p: None if on_border(corners, p, FINE) else odd_inside(corners, p, FINE)
+
+
+def layered(parts):
+    def inside(p):
+        state = False
+        for dark, part in parts:
+            said = part(p)
+            if said is None:
+                return None
+            state = dark if said else state
+        return state
+    return inside
+
+
+def moved(part, x, y):
+    return lambda p: part((p[0] - x * FINE, p[1] - y * FINE))
+
+
+class Board:
+    """A file of random objects, and what each is."""
+
+    def __init__(self, rng, size):
+        self.rng, self.size, self.objects, self.dark, self.first, self.text = rng, size, [], True, None, []
+        self.lines = ["%FSLAX46Y46*%", "%MOMM*%", "G75*"]
+        self.apertures = [self.aperture(k + 10) for k in range(6)]
+        for _ in range(rng.randint(3, 14)):
+            if rng.random() < .5:
+                self.dark = rng.random() < .5
+                self.lines.append("%LPD*%" if self.dark else "%LPC*%")
+            if rng.random() < .1:
+                self.step()
+            getattr(self, rng.choice(("flash", "flash", "draw", "region", "region", "round")))()
+        self.copies(None)
+        if not any("LPC" in line for line in self.lines):
+            self.lines.append("%LPC*%")
+        self.text = "\n".join(self.lines + ["M02*", ""])
+
+    def length(self, least=1):
+        return self.rng.randint(least, max(least, self.size // 3)) * 2
+
+    def spot(self):
+        """In nanometres."""
+        return self.rng.randint(0, self.size), self.rng.randint(0, self.size)
+
+    def add(self, part):
+        self.objects.append((self.dark, part))
+
+    def aperture(self, number):
+        kind, (w, h) = self.rng.choice("CCRROM"), (self.length(), self.length())
+        mm = lambda v: f"{Q(v, 10 ** 6).numerator}/{Q(v, 10 ** 6).denominator}"
+        dec = lambda v: f"{v // 10 ** 6}.{v % 10 ** 6:06d}"
+        if kind == "M":
+            turn = self.rng.choice((0, 90, 180, 270))
+            x, y = self.rng.randint(0, w), self.rng.randint(0, h)
+            body = [f"1,1,{mm(3 * w)},0,0", f"21,0,{mm(w)},{mm(h)},{mm(x)},{mm(y)},{turn}", f"1,0,{mm(h)},{mm(x)},0", f"7,0,0,{mm(4 * w)},{mm(2 * w)},{mm(h)},{turn}"]
+            at = {0: (x, y), 90: (-y, x), 180: (-x, -y), 270: (y, -x)}[turn]
+            sizes = (w, h) if turn in (0, 180) else (h, w)
+            parts = [(True, disc((0, 0), 15 * w)), (False, block((at[0] * 10, at[1] * 10), sizes[0] * 10, sizes[1] * 10)), (False, disc((x * 10, 0), 5 * h)),
+                     (True, layered([(True, disc((0, 0), 20 * w)), (False, disc((0, 0), 10 * w)), (False, block((0, 0), 40 * w, 10 * h)), (False, block((0, 0), 10 * h, 40 * w))]))]
+            if h >= 4 * w:
+                body, parts = body[:3], parts[:3]
+            self.lines += ["%AM" + f"M{number}*" + "*".join(body) + "*%", f"%ADD{number}M{number}*%"]
+            return kind, layered(parts), None
+        self.lines.append(f"%ADD{number}{kind},{dec(w)}" + ("*%" if kind == "C" else f"X{dec(h)}*%"))
+        if kind == "C":
+            return kind, disc((0, 0), 5 * w), 5 * w
+        if kind == "R":
+            return kind, block((0, 0), 10 * w, 10 * h), None
+        a = (5 * (w - h), 0) if w > h else (0, 5 * (h - w))
+        return kind, capsule((-a[0], -a[1]), a, 5 * min(w, h)), None
+
+    def flash(self):
+        k, (x, y) = self.rng.randrange(6), self.spot()
+        self.lines += [f"D{k + 10}*", f"X{x}Y{y}D03*"]
+        self.add(moved(self.apertures[k][1], 10 * x, 10 * y))
+
+    def pen(self):
+        pens = [k for k in range(6) if self.apertures[k][0] == "C"]
+        if not pens:
+            return None
+        k = self.rng.choice(pens)
+        self.lines.append(f"D{k + 10}*")
+        return self.apertures[k][2]
+
+    def draw(self):
+        radius, a, b = self.pen(), self.spot(), self.spot()
+        if radius:
+            self.lines += [f"X{a[0]}Y{a[1]}D02*", f"G01X{b[0]}Y{b[1]}D01*"]
+            self.add(capsule((10 * a[0], 10 * a[1]), (10 * b[0], 10 * b[1]), radius))
+
+    def round(self):
+        """A draw along a whole circle."""
+        radius, c, off = self.pen(), self.spot(), self.length(100)
+        if radius:
+            self.lines += [f"X{c[0] + off}Y{c[1]}D02*", f"G03X{c[0] + off}Y{c[1]}I{-off}J0D01*", "G01*"]
+            self.add(annulus((10 * c[0], 10 * c[1]), 10 * off, radius))
+
+    def region(self):
+        corners = Areas().contour(self.rng, self.size)
+        self.lines += ["G36*", "X%dY%dD02*" % corners[0], *("X%dY%dD01*" % p for p in corners[1:] + corners[:1]), "G37*"]
+        self.add(area([(10 * x, 10 * y) for x, y in corners]))
+
+    def step(self):
+        columns, rows, x, y = self.rng.randint(1, 2), self.rng.randint(1, 2), self.rng.randint(0, self.size // 2), self.rng.randint(0, self.size // 2)
+        dec = lambda v: f"{v // 10 ** 6}.{v % 10 ** 6:06d}"
+        self.lines.append(f"%SRX{columns}Y{rows}I{dec(x)}J{dec(y)}*%")
+        self.copies((len(self.objects), columns, rows, 10 * x, 10 * y))
+
+    def copies(self, opened):
+        if self.first:
+            first, columns, rows, x, y = self.first
+            once = self.objects[first:]
+            self.objects[first:] = [(dark, moved(part, i * x, j * y)) for i in range(columns) for j in range(rows) for dark, part in once]
+        self.first = (len(self.objects), *opened[1:]) if opened else None
+
+    def place(self, low, high):
+        """Near a border of what was written, mostly."""
+        pieces, rng = low + high, self.rng
+        if not pieces or rng.random() < .3:
+            return tuple(rng.randint(-5 * self.size, 20 * self.size) * FINE for _ in "xy")
+        piece, off = rng.choice(pieces), rng.choice((2, 12, 400, 20000))
+        if piece[0] == "area":
+            k, t = rng.randrange(len(piece[1])), rng.random()
+            at = [u + (v - u) * t for u, v in zip(piece[1][k - 1], piece[1][k])]
+        else:
+            t, r = rng.random() * 7, piece[3]
+            at = [rng.choice(piece[1:3])[k] + r * f(t) for k, f in ((0, math.cos), (1, math.sin))]
+        return tuple(round(v * FINE) + rng.randint(-off, off) for v in at)
+
+
+def read(side):
+    """The pieces of one side, written by the project or passed on, with the copies of its blocks."""
+    pieces, pens, pen, at, contour, first = [], {}, None, None, None, None
+    for line in side.lines:
+        word = line.strip("%*\n")
+        if word.startswith("SR"):
+            if first:
+                n, columns, rows, x, y = first
+                pieces[n:] = [shifted(it, i * x, j * y) for i in range(columns) for j in range(rows) for it in pieces[n:]]
+            found = re.fullmatch(r"SRX(\d+)Y(\d+)I(.+)J(.+)", word)
+            first = found and (len(pieces), int(found[1]), int(found[2]), round(Q(found[3]) * 10 ** 7), round(Q(found[4]) * 10 ** 7))
+        elif word.startswith("ADD"):
+            number, kind, sizes = re.fullmatch(r"ADD(\d+)([CRO]),(.*)", word).groups()
+            pens[number] = kind, [round(Q(v) * 10 ** 7) // 2 for v in sizes.split("X")]
+        elif word in ("G36", "G37"):
+            pieces += [("area", contour)] if contour else []
+            contour = [] if word == "G36" else None
+        elif word.startswith("D"):
+            pen = pens[word[1:]]
+        elif word.startswith("X"):
+            x, y, code = map(int, re.fullmatch(r"X(-?\d+)Y(-?\d+)D0(\d)", word).groups())
+            if contour is not None:
+                pieces += [("area", contour)] if code == 2 and contour else []
+                contour = [(x, y)] if code == 2 else contour + [(x, y)]
+            elif code != 2:
+                pieces.append(written(pen, at if code == 1 else (x, y), (x, y)))
+            at = x, y
+    if first:
+        n, columns, rows, x, y = first
+        pieces[n:] = [shifted(it, i * x, j * y) for i in range(columns) for j in range(rows) for it in pieces[n:]]
+    return pieces
+
+
+def written(pen, a, b):
+    kind, sizes = pen
+    if kind == "C":
+        return "capsule", a, b, sizes[0]
+    x, y = sizes
+    if kind == "R":
+        return "area", [(b[0] - x, b[1] - y), (b[0] + x, b[1] - y), (b[0] + x, b[1] + y), (b[0] - x, b[1] + y)]
+    d = (x - y, 0) if x > y else (0, y - x)
+    return "capsule", (b[0] - d[0], b[1] - d[1]), (b[0] + d[0], b[1] + d[1]), min(x, y)
+
+
+def shifted(piece, x, y):
+    if piece[0] == "area":
+        return "area", [(p + x, q + y) for p, q in piece[1]]
+    return piece[0], *((p[0] + x, p[1] + y) for p in piece[1:3]), piece[3]
+
+
+class Objects(unittest.TestCase):
+    """Circles, rectangles, obrounds, macros with exposure off and thermals, draws, arcs, regions and blocks, dark and clear."""
+
+    def test_places(self):
+        rng, asked = random.Random(25), 0
+        for _ in range(60 * MANY):
+            board = Board(rng, rng.choice((40, 3000, 10 ** 6, 10 ** 6)))
+            copper = of_text(board.text)
+            low, high = map(read, copper.sides)
+            for _ in range(60):
+                p = board.place(low, high)
+                truth = layered(board.objects)(p)
+                asked += truth is not None
+                self.assertFalse(truth is False and has(low, p), (board.text, p))
+                self.assertFalse(truth is True and not has(high, p), (board.text, p))
+        self.assertGreater(asked, 2500 * MANY)
+
+    def test_close(self):
+        """What is a micrometre inside lies in LOWER, what is a micrometre outside does not lie in UPPER."""
+        rng, asked, off = random.Random(26), 0, MICROMETRE * FINE
+        for _ in range(15 * MANY):
+            board = Board(rng, 10 ** 6)
+            copper = of_text(board.text)
+            low, high = map(read, copper.sides)
+            for _ in range(30):
+                p, truth = board.place(low, high), layered(board.objects)
+                around = {truth((p[0] + dx, p[1] + dy)) for dx in range(-off, off + 1, off // 4) for dy in range(-off, off + 1, off // 4)}
+                if len(around) == 1 and None not in around:
+                    asked += 1
+                    self.assertTrue(around == {False} or has(low, p), (board.text, p))
+                    self.assertTrue(around == {True} or not has(high, p), (board.text, p))
+        self.assertGreater(asked, 90 * MANY)
+
+
+
+def nm(v):
+    return round(v * 10 ** 6)
+
+
+def closed(*spots):
+    return ["G36*", "X%dY%dD02*" % spots[0], *("X%dY%dD01*" % p for p in spots[1:] + spots[:1]), "G37*"]
+
+
+def draw(tool, *spots):
+    return [f"D{tool}*", "X%dY%dD02*" % spots[0], *("X%dY%dD01*" % p for p in spots[1:])]
+
+
+class Plane:
+    """A plane with n times n vias: every other one joined by four spokes, the others within antipads; tilted by a slope of 1 : tilt."""
+
+    HEAD = ["%FSLAX46Y46*%", "%MOMM*%", "G75*", "G01*", "%ADD10C,0.6*%", "%ADD11C,1.0*%", "%ADD12C,0.2*%", "%AMTH*7,0,0,1.0,0.6,0.2,45*%", "%ADD14TH*%"]
+
+    def __init__(self, n, tilt=0, how="flash"):
+        self.tilt, self.how, self.broken, self.shorted, self.more = tilt, how, (), (), []
+        self.vias = [(2 * i + 2, 2 * j + 2, (i + j) % 2 == 0, (i, j)) for i in range(n) for j in range(n)]
+        self.size = 2 * n + 2
+
+    def at(self, x, y):
+        t = self.tilt and 1 / self.tilt
+        return nm(x - y * t), nm(y + x * t)
+
+    def spoke(self, via, d):
+        x, y, _, _ = via
+        return draw(12, self.at(x, y), self.at(x + .62 * d[0], y + .62 * d[1]))
+
+    def antipad(self, via):
+        x, y = self.at(*via[:2])
+        if via[2] and self.how == "thermal":
+            return ["D14*", f"X{x}Y{y}D03*"]
+        if self.how == "region":
+            return ["G36*", f"X{x + nm(.5)}Y{y}D02*", f"G03X{x + nm(.5)}Y{y}I{-nm(.5)}J0D01*", "G01*", "G37*"]
+        return ["D11*", f"X{x}Y{y}D03*"]
+
+    def copper(self):
+        s, lines = self.size, [*self.HEAD]
+        lines += closed(*(self.at(*p) for p in ((0, 0), (s, 0), (s, s), (0, s))))
+        lines += self.more + ["%LPC*%"]
+        for via in self.vias:
+            lines += self.antipad(via)
+        lines.append("%LPD*%")
+        for via in self.vias:
+            for d in ((1, 0), (0, 1), (-1, 0), (0, -1)) if via[2] and self.how != "thermal" and via[3] not in self.broken else ():
+                lines += self.spoke(via, d)
+            if via[3] in self.shorted:
+                lines += self.spoke(via, (1, 0))
+            if not (via[2] and self.how == "thermal"):
+                lines += ["D10*", "X%dY%dD03*" % self.at(*via[:2])]
+        return "\n".join([*lines, "M02*", ""])
+
+    def records(self):
+        for k, (x, y, joined, _) in enumerate(self.vias):
+            yield record("GND" if joined else f"N{k}", f"V{k}.1", *(v / 10 ** 6 for v in self.at(x, y)))
+
+
+@unittest.skipUnless(built(), "the program is not built")
+class Boards(made.Case):
+    """Planes as Allegro and Altium write them, over the built program: right, and not needlessly undecided."""
+
+    def told(self, plane, *more):
+        self.write("board/m.json", manifest())
+        self.write("board/top.gbr", plane.copper())
+        self.write("board/n.ipc", netlist(*plane.records(), *more))
+        status, out, _ = self.show("board", program=built())
+        return status, out
+
+    def test_agrees(self):
+        for how in ("flash", "region", "thermal"):
+            for tilt in (0, 7, 10 ** 3, 3 * 10 ** 6):
+                status, out = self.told(Plane(4, tilt, how))
+                self.assertEqual((status, "board: agrees, between two bounds (lower agrees; upper agrees)" in out), (0, True), (how, tilt, out))
+
+    def test_differs(self):
+        for tilt in (0, 10 ** 3, 3 * 10 ** 6):
+            plane = Plane(4, tilt, "region")
+            plane.broken, plane.shorted = [(1, 1)], [(2, 1)]
+            status, out = self.told(plane)
+            self.assertEqual((status, "2 findings that both have (lower differs, opens 1, shorts 1, missing 0; upper differs, opens 1, shorts 1" in out), (1, True), out)
+
+    def test_split(self):
+        """A clear line through the plane parts its nets; dark copper over it joins them again."""
+        for tilt in (0, 10 ** 3, 3 * 10 ** 6):
+            plane = Plane(4, tilt)
+            plane.vias = [via for via in plane.vias if via[3][0] != 1]
+            plane.more = ["%LPC*%", *draw(12, plane.at(3, -1), plane.at(3, 11)), "%LPD*%"]
+            status, out = self.told(plane)
+            self.assertEqual((status, "GND is in 2 parts" in out, "undecided" in out), (1, True, False), out)
+            plane.more += draw(12, plane.at(2, 9.5), plane.at(4, 9.5))
+            self.assertEqual(self.told(plane)[0], 0)
+
+    def test_dark_under_clear(self):
+        """Tracks that leave the plane across its borders, drawn before the clear objects: joined copper stays joined."""
+        for tilt in (0, 7, 10 ** 3, 10 ** 5, 10 ** 6, 3 * 10 ** 6, 10 ** 7):
+            plane, more = Plane(3, tilt), []
+            for k in range(1, 8):
+                for x, y, dx, dy in ((k, 0, 0, -1.5), (k, 8, 0, 1.5), (0, k, -1.5, 0), (8, k, 1.5, 0)):
+                    a, b = plane.at(x - dx / 5, y - dy / 5), plane.at(x + dx, y + dy)
+                    plane.more += draw(12, a, b)
+                    more.append(record("GND", f"T{len(more)}.1", b[0] / 10 ** 6, b[1] / 10 ** 6))
+            plane.more += ["%LPC*%", "D12*"]
+            plane.more += [line for k in range(1, 8) for x, y in ((k + .5, -.6), (k + .5, 8.6)) for line in draw(12, plane.at(x, y), plane.at(x - .35, y))]
+            status, out = self.told(plane, *more)
+            self.assertEqual(status, 0, (tilt, out))
+
+    def test_long_contour(self):
+        """A contour of more than 100,000 edges is cut."""
+        steps = 50_300
+        left = [(nm(k % 2 * .001), 200 * k) for k in range(steps)]
+        right = [(nm(5 + k % 2 * .001), 200 * k) for k in range(steps)]
+        plane = Plane(1)
+        plane.copper = lambda: "\n".join([*plane.HEAD, *closed(*left, *right[::-1]), "M02*", ""])
+        plane.records = lambda: iter([record("A", "J1.1", 1, 1), record("A", "J1.2", 4, 9), record("B", "J2.1", 6, 9)])
+        status, out = self.told(plane)
+        self.assertEqual((status, "1 finding that both have (lower differs, opens 0, shorts 0, missing 1; upper differs, opens 0, shorts 0, missing 1)" in out), (1, True), out)
+
+if __name__ == "__main__":
+    unittest.main()
