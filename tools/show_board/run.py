@@ -5,7 +5,7 @@ import signal
 import sys
 import tempfile
 
-from . import Stop, json_form, junit, lines, rdb, written
+from . import Stop, json_form, junit, lines, rdb, unbuilt, written
 from .program import TOOLS, Program, found
 from .progress import Progress
 from .shown import show
@@ -102,7 +102,7 @@ def boards(asked, program):
 def run(asked):
     progress = Progress(quiet=asked.q)
     try:
-        all_shown = boards(asked, Program(found(), progress))
+        all_shown = boards(asked, Program(None if unbuilt.checkout() else found(), progress))
         progress.begin("writing")
         progress.end()
         write(asked, all_shown)

@@ -1,0 +1,42 @@
+"""Which crates are proved next, and on how many processors each."""
+import re
+
+# A check gains little from more.
+MOST_JOBS = 4
+
+
+def uses(text):
+    """The crates of a crates.txt in its order, each with those of them that it stands on."""
+    found = {}
+    for name, of in re.findall(r"(?m)^(\w+)[^:#\n]*:(.*)$", text):
+        found[name] = [it for it in of.split() if it in found]
+    return found
+
+
+def below(using):
+    """What each crate stands on, all the way down."""
+    found = {}
+    for name, of in using.items():
+        found[name] = set(of).union(*(found[it] for it in of))
+    return found
+
+
+def chains(under, work):
+    """For each crate the work of the longest chain that begins with it, each crate of which stands on the one before."""
+    longest = {}
+    for name in reversed(list(under)):
+        above = [longest[it] for it in longest if name in under[it]]
+        longest[name] = work[name] + max(above, default=0)
+    return longest
+
+
+def chosen(ready, chain, idle):
+    """Pairs of a crate and its processors: the longest chain first. Each gets one, and those that no other waits for."""
+    pairs, waiting = [], sorted(ready, key=lambda it: -chain[it])
+    for at, name in enumerate(waiting):
+        if idle < 1:
+            break
+        jobs = min(MOST_JOBS, max(1, idle // (len(waiting) - at)))
+        pairs.append((name, jobs))
+        idle -= jobs
+    return pairs
