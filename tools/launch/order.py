@@ -5,11 +5,18 @@ import re
 MOST_JOBS = 4
 
 
+def name_of(line):
+    """The crate that a line of a crates.txt is about, if it is about one."""
+    found = re.match(r"(\w+)[^:#]*:", line)
+    return found and found.group(1)
+
+
 def uses(text):
     """The crates of a crates.txt in its order, each with those of them that it stands on."""
     found = {}
-    for name, of in re.findall(r"(?m)^(\w+)[^:#\n]*:(.*)$", text):
-        found[name] = [it for it in of.split() if it in found]
+    for line in text.splitlines():
+        if name_of(line):
+            found[name_of(line)] = [it for it in line.partition(":")[2].split() if it in found]
     return found
 
 

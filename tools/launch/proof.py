@@ -82,14 +82,16 @@ class Proof:
         self.top, self.log = top, log
         self.room = Room(top, says)
         self.sources = os.path.join(self.room.at, "sources")
-        self.below, self.left, self.running = {}, [], {}
+        self.below, self.lines, self.left, self.running = {}, {}, [], {}
 
     def read(self):
         """Copies the sources and reads what stands on what."""
         shutil.rmtree(self.sources, ignore_errors=True)
         kept.copy_sources(self.top, self.sources)
         with open(os.path.join(self.sources, "crates.txt"), encoding="utf-8") as file:
-            self.below = order.below(order.uses(file.read()))
+            text = file.read()
+        self.below = order.below(order.uses(text))
+        self.lines = {order.name_of(line): line + "\n" for line in text.splitlines()}
         self.chain = order.chains(self.below, {name: self.size(name) for name in self.below})
         self.left = list(self.below)
 
@@ -110,7 +112,8 @@ class Proof:
             shutil.rmtree(root, ignore_errors=True)
             os.makedirs(own)
         os.makedirs(root, exist_ok=True)
-        shutil.copyfile(os.path.join(self.sources, "crates.txt"), os.path.join(root, "crates.txt"))
+        with open(os.path.join(root, "crates.txt"), "w", encoding="utf-8") as file:
+            file.writelines(self.lines[it] for it in self.below if it in self.below[name] or it == name)
         for it in [*self.below[name], name]:
             for part in sorted(os.listdir(os.path.join(self.sources, "crates", it))):
                 shutil.rmtree(os.path.join(self.crate(it, name), part), ignore_errors=True)
