@@ -48,7 +48,7 @@ help_of() {
   printf 'boardnet %s\n\n' "$head"
   section "$1"
   case $head in *MANIFEST*) section files ;; esac
-  case $1 in install) ;; *) [ -f "$home/$1" ] || { printf 'Status\n'; section status; } ;; esac
+  case $1 in install | package) ;; *) [ -f "$home/$1" ] || { printf 'Status\n'; section status; } ;; esac
 }
 
 # Whether the command's first word is a manifest or a copper file, by its head in the help text.

@@ -1,8 +1,12 @@
-"""Programs that were built, by the sum of what they were built of: in the checkout, and among this user's kept files."""
+"""Programs that were built, by the sum of what they were built of: in the checkout, and among this user's kept files.
+
+    kept.py TOP     prints the sum of a checkout's sources, and whether its program is noted as proved of them
+"""
 import hashlib
 import json
 import os
 import shutil
+import sys
 import tempfile
 import time
 from typing import NamedTuple
@@ -144,3 +148,14 @@ def take(top, made):
     except OSError:
         pass
     return False
+
+
+def line(top):
+    """What `--version` says of the sources."""
+    sources, made = sum_of_sources(top), noted(top)
+    is_proved = made is not None and made.sources == sources
+    return f"sources {sources}, {'proved with ' + made.toolchain if is_proved else 'not noted as proved'}"
+
+
+if __name__ == "__main__":
+    print(line(sys.argv[1]))
