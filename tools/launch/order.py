@@ -1,8 +1,8 @@
 """Which crates are proved next, and on how many processors each."""
 import re
 
-# A check gains little from more.
-MOST_JOBS = 4
+# A check gains little from more; and one that all wait for gets so many while others run.
+MOST_JOBS, JOBS_OF_THE_LAST = 4, 3
 
 
 def name_of(line):
@@ -37,13 +37,19 @@ def chains(under, work):
     return longest
 
 
-def chosen(ready, chain, idle):
-    """Pairs of a crate and its processors: the longest chain first. Each gets one, and those that no other waits for."""
-    pairs, waiting = [], sorted(ready, key=lambda it: -chain[it])
+def chosen(ready, chain, work, running, processors):
+    """The crates to begin now, with their processors: those of the longest chains first, each on one and on those that no other waits for.
+
+    `work` has the work of each crate that is left, `running` the processors of those that run. A chain that is longer than all that
+    is left would take on all processors is what the end waits for: its crate gets more, and one that is taken already with them.
+    """
+    begun, idle, waiting = {}, processors - sum(running.values()), sorted(ready, key=lambda it: -chain[it])
     for at, name in enumerate(waiting):
         if idle < 1:
             break
-        jobs = min(MOST_JOBS, max(1, idle // (len(waiting) - at)))
-        pairs.append((name, jobs))
-        idle -= jobs
-    return pairs
+        jobs = max(1, idle // (len(waiting) - at))
+        if chain[name] * processors > sum(work.values()):
+            jobs = max(jobs, min(JOBS_OF_THE_LAST, idle + 1))
+        begun[name] = min(MOST_JOBS, jobs)
+        idle -= begun[name]
+    return begun

@@ -55,7 +55,7 @@ class Room:
     def __init__(self, top, says):
         name = "boardnet-proof-" + hashlib.sha256(os.path.realpath(top).encode("utf-8", "surrogateescape")).hexdigest()[:16]
         self.at = os.path.join(base(), name)
-        self.handle = os.open(self.at + ".lock", os.O_RDWR | os.O_CREAT, 0o600)
+        self.handle = os.open(os.path.join(top, "crates"), os.O_RDONLY)
         try:
             fcntl.flock(self.handle, fcntl.LOCK_EX | fcntl.LOCK_NB)
         except OSError:
@@ -92,7 +92,8 @@ class Proof:
             text = file.read()
         self.below = order.below(order.uses(text))
         self.lines = {order.name_of(line): line + "\n" for line in text.splitlines()}
-        self.chain = order.chains(self.below, {name: self.size(name) for name in self.below})
+        self.work = {name: self.size(name) for name in self.below}
+        self.chain = order.chains(self.below, self.work)
         self.left = list(self.below)
 
     def size(self, name):
@@ -144,9 +145,9 @@ class Proof:
         done = [name for name, (_, child) in self.running.items() if child.status() is not None]
         for name in done:
             self.ended(name)
-        idle = processors - sum(jobs for jobs, _ in self.running.values())
         ready = [name for name in self.left if name not in self.running and not self.below[name] & set(self.left)]
-        for name, jobs in order.chosen(ready, self.chain, idle):
+        work, running = {name: self.work[name] for name in self.left}, {name: jobs for name, (jobs, _) in self.running.items()}
+        for name, jobs in order.chosen(ready, self.chain, work, running, processors).items():
             self.begin(name, jobs)
         return done
 
