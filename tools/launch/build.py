@@ -27,6 +27,8 @@ from trial import Trial  # noqa: E402
 INTERRUPTED, FAILED = 130, 70
 # A check takes one to four gigabytes, as does a trial.
 MEMORY_OF_A_CHECK = 3 << 30
+# Seconds in which a trial has places of its own.
+FIRST = 90
 # Seconds between two looks at what runs.
 LOOK = 0.1
 
@@ -84,8 +86,9 @@ class Build:
         self.progress.begin(self.trial.is_running())
 
     def free(self):
-        """A trial compiles and checks side by side, so it has two of four places while it runs, and one of fewer."""
-        return self.places - (min(2, self.places // 2) if self.trial.is_running() else 0)
+        """A trial compiles and checks side by side, so it has two of four places at first, and one of fewer; then what the proof leaves."""
+        is_first = self.trial.is_running() and time.monotonic() < self.progress.started + FIRST
+        return self.places - (min(2, self.places // 2) if is_first else 0)
 
     def work(self):
         while self.proof.left:

@@ -4,6 +4,7 @@ The toolchain locks a crate and all below it while it works on one, so two crate
 was proved lies in the checkout before and after, and in the copies meanwhile; a call that was killed is gone on with there.
 """
 import contextlib
+import errno
 import fcntl
 import hashlib
 import os
@@ -39,12 +40,12 @@ def link_or_copy(one, other):
 @contextlib.contextmanager
 def turn(folder):
     """Whether no command of the toolchain works in a crate's folder; none begins meanwhile."""
-    handle = os.open(folder, os.O_RDONLY)
+    handle, is_free = os.open(folder, os.O_RDONLY), False
     try:
-        fcntl.flock(handle, fcntl.LOCK_EX | fcntl.LOCK_NB)
-        yield True
-    except OSError:
-        yield False
+        with contextlib.suppress(OSError):
+            fcntl.flock(handle, fcntl.LOCK_EX | fcntl.LOCK_NB)
+            is_free = True
+        yield is_free
     finally:
         os.close(handle)
 
@@ -62,6 +63,9 @@ class Room:
             says("another call proves the crates of this checkout: waiting for it")
             fcntl.flock(self.handle, fcntl.LOCK_EX)
         os.makedirs(self.at, 0o700, exist_ok=True)
+        if os.stat(self.at).st_uid != os.geteuid():
+            # What lies there counts as proved.
+            raise PermissionError(errno.EPERM, "it belongs to another user", self.at)
 
     def remove(self):
         shutil.rmtree(self.at, ignore_errors=True)
@@ -122,15 +126,17 @@ class Proof:
             if it != name:
                 shutil.rmtree(os.path.join(self.crate(it, name), "out"), ignore_errors=True)
                 link_tree(os.path.join(self.crate(it), "out", "rlib"), os.path.join(self.crate(it, name), "out", "rlib"))
-        self.move(os.path.join(self.top, "crates", name), self.crate(name))
+        self.move(name, os.path.join(self.top, "crates", name), self.crate(name))
 
-    def move(self, one, other):
-        """Moves what was kept of a crate's proof, in place of what is there."""
-        for part in PARTS:
-            if os.path.isdir(os.path.join(one, "out", part)):
-                os.makedirs(os.path.join(other, "out"), exist_ok=True)
-                shutil.rmtree(os.path.join(other, "out", part), ignore_errors=True)
-                shutil.move(os.path.join(one, "out", part), os.path.join(other, "out", part))
+    def move(self, name, one, other):
+        """Moves what was kept of a crate's proof, in place of what is there; not while the toolchain works on it in the checkout."""
+        with turn(os.path.join(self.top, "crates", name)) as is_free:
+            for part in PARTS if is_free else ():
+                source, target = (os.path.join(it, "out", part) for it in (one, other))
+                if os.path.isdir(source):
+                    os.makedirs(os.path.dirname(target), exist_ok=True)
+                    shutil.rmtree(target, ignore_errors=True)
+                    shutil.move(source, target)
 
     def begin(self, name, jobs):
         self.lay_out(name)
@@ -171,8 +177,7 @@ class Proof:
             child.end()
         end_inside(self.room.at)
         for name in self.below:
-            home = os.path.join(self.top, "crates", name)
-            with turn(home) as is_free:
-                if is_free:
-                    self.move(self.crate(name), home)
+            # What cannot be given back is proved again.
+            with contextlib.suppress(OSError, shutil.Error):
+                self.move(name, self.crate(name), os.path.join(self.top, "crates", name))
         self.room.remove()
