@@ -115,8 +115,10 @@ class Package(Installed):
         told = self.run_words(["dpkg-deb", "-f", package, "Depends", "Recommends", "Version"])[1]
         self.assertRegex(told, r"Depends: libc6 \(>= 2\.\d+\)\nRecommends: python3 \(>= 3.8\)\n")
         self.assertEqual(self.run_words(["dpkg-deb", "--ctrl-tarfile", package])[0], 0)
-        # The sum is what sha256sum makes of the sources, wherever they are.
-        sums = self.run_words(["sh", "-c", "find crates.txt crates -name crates.txt -o -name '*.rt' | LC_ALL=C sort | xargs sha256sum | sha256sum"], self.top)[1]
+        # The guide says how the sum is made.
+        with open(os.path.join(common.TOP, "docs", "USING.md"), encoding="utf-8") as file:
+            sums = next(line.strip() for line in file if line.startswith("    find crates.txt"))
+        sums = self.run_words(["sh", "-c", sums], self.top)[1]
         shutil.rmtree(self.top)
         for command in (self.path("root", "usr", "bin", "boardnet"), self.path("unpacked", "bin", "boardnet")):
             lines = self.run_words([command, "--version"])[1].splitlines()
