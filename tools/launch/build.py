@@ -113,7 +113,7 @@ class Build:
         except Failed:
             raise Stop(FAILED, why(self.log)) from None
         except OSError as error:
-            raise Stop(FAILED, f"{error.filename}: {error.strerror}: nothing can be proved") from None
+            raise Stop(FAILED, f"{error.filename or self.top}: {error.strerror}: nothing can be proved") from None
         finally:
             with children.heard_later():
                 self.end()

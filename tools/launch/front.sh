@@ -101,23 +101,25 @@ pass_on() {
   told=$(
     {
       {
-        { "$program" "$@" 2>&4 3>&- 5>&- 7>&-; printf '= ended %s\n' $? >&4; } |
+        { "$program" "$@" 2>&4 3>&- 4>&- 5>&- 7>&-; printf '= ended %s\n' $? >&4; } |
           { tee /dev/fd/5 2>/dev/null >&7 7>&-; printf '= passed %s\n' $? >&4; }
       } 4>&6 5>&1 6>&- | LC_ALL=C grep -cx 'points 0' | { read -r count; printf '= points %s\n' "$count"; } >&6
     } 6>&1 7>&3
   )
-  notes=''
+  notes='' is_cut=''
   while IFS= read -r line; do
     case $line in
       '= ended '*) status=${line#= ended } ;;
       '= passed 0' | '= points 0' | '') ;;
-      '= passed '*) status=5 notes='boardnet: output cannot be written' ;;
+      '= passed '*) is_cut=1 ;;
       '= points '*) pointless=1 ;;
-      *) [ "$notes" ] || notes=$line ;;
+      *) notes="${notes:+$notes
+}$line" ;;
     esac
   done <<END
 $told
 END
+  [ -z "$is_cut" ] || status=5 notes='boardnet: output cannot be written'
   [ -z "$notes" ] || printf '%s\n' "$notes" >&2
 }
 

@@ -80,7 +80,7 @@ def base():
 
 
 class Proof:
-    """`step` begins what can begin, and returns the crates that ended; `left` has those that are not proved yet."""
+    """`step` notes what ended and begins what can begin; `left` has the crates that are not proved yet."""
 
     def __init__(self, top, log, says):
         self.top, self.log = top, log
@@ -147,15 +147,13 @@ class Proof:
         return os.path.join(self.room.at, name, "said")
 
     def step(self, processors):
-        """Begins what can begin on so many processors, and returns the crates that are proved since."""
-        done = [name for name, (_, child) in self.running.items() if child.status() is not None]
-        for name in done:
+        """Notes which crates are proved since, and begins what can begin on so many processors."""
+        for name in [name for name, (_, child) in self.running.items() if child.status() is not None]:
             self.ended(name)
         ready = [name for name in self.left if name not in self.running and not self.below[name] & set(self.left)]
         work, running = {name: self.work[name] for name in self.left}, {name: jobs for name, (jobs, _) in self.running.items()}
         for name, jobs in order.chosen(ready, self.chain, work, running, processors).items():
             self.begin(name, jobs)
-        return done
 
     def ended(self, name):
         """Notes what a crate's check said; a crate is proved where its library was built, and the program where it was run."""

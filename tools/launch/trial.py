@@ -13,6 +13,8 @@ from children import Child, end_inside
 
 # Commands whose first word is a manifest.
 OF_MANIFEST = ("check", "audit", "write", "x2", "gaps")
+# Commands of the launcher that want the program.
+NOT_TRIED = ("install",)
 # Names that the toolchain keeps for itself in the folder of a trial.
 TAKEN = ("program", "stdin", "stdout", "stderr")
 ENDED = re.compile(rb"^run=ended status=(\d+) .*proved=no\n\Z", re.M)
@@ -25,7 +27,7 @@ def names_of(manifest):
         with open(manifest, "rb") as file:
             told = json.loads(file.read().decode("utf-8"))
         return [*told["copper"], *(it["file"] for it in told["drills"]), told["netlist"]]
-    except (OSError, ValueError, TypeError, KeyError):
+    except (OSError, ValueError, TypeError, KeyError, RecursionError):
         return []
 
 
@@ -67,7 +69,7 @@ class Trial:
 
     def begin(self, sources, folder, words):
         """Begins it, where the toolchain can try such words and there is room for a copy of the sources."""
-        if not words:
+        if not words or words[0] in NOT_TRIED:
             return
         try:
             words, data = asked_of(words, folder)
@@ -95,6 +97,8 @@ class Trial:
         try:
             with open(self.path("err"), "rb") as notes, open(self.path("out"), "rb") as out:
                 return line_of(notes.read(), out.read())
+        except OSError:
+            return None
         finally:
             self.end()
 
