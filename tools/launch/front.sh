@@ -144,8 +144,8 @@ run() {
     check | x2) if can_pass_on; then pass_on "$@"; else "$program" "$@" || status=$?; pointless=unknown; fi ;;
     *) "$program" "$@" || status=$? ;;
   esac
-  if [ "$1" = audit ] && [ $status = 0 ] && LC_ALL=C grep -qx 'points 0' -- "$3" 2>/dev/null; then pointless=1; fi
-  [ $status = 0 ] || return 0
+  if [ "$1" = audit ] && [ "$status" = 0 ] && LC_ALL=C grep -qx 'points 0' -- "$3" 2>/dev/null; then pointless=1; fi
+  [ "$status" = 0 ] || return 0
   case $pointless in
     1) warn_of_nothing "$1" "$2" ;;
     unknown) say "look at the line \`points\` of the report: where it is \`points 0\`, nothing was judged" ;;
