@@ -1,7 +1,8 @@
 """Where a netlist and the copper's own names tell different things of one pin.
 
 Tools cut and respell names for a netlist's 14 columns, so names are not compared by their letters: each name of the netlist is
-paired with the label that most of its pins have, and a pin is told where its two names are not a pair.
+paired with the label that most of its pins have, and a pin is told where its two names are not a pair. Where names of several pins
+are a pair and do not look alike, that is told too.
 """
 from collections import Counter
 
@@ -27,20 +28,19 @@ def whole_names(package, name, pins):
     return {pin: {whole[each] for each in its} for pin, its in pins.items()}
 
 
-def joined_names(pins):
-    """The names that more than one of these pins have: a pin alone may be named otherwise, or N/C."""
+def alone(pins):
+    """N/C, and the names that one of these pins alone has: it may be named otherwise."""
     counts = Counter(name for names in pins.values() for name in names)
-    return {name for name, count in counts.items() if count > 1 and name != netlist.NO_NET}
+    return {name for name, count in counts.items() if count == 1} | {netlist.NO_NET}
 
 
 def pairs(theirs, ours):
-    """Pairs of names of these pins, one to one: those that most pins share first, of two such pairs one of equal letters."""
-    some, others = joined_names(theirs), joined_names(ours)
-    counts = Counter((a, b) for pin in theirs for a in theirs[pin] & some for b in ours[pin] & others)
+    """Pairs of names of these pins, one to one, with how many pins share them: the most first, of two such pairs one of equal letters."""
+    counts = Counter((a, b) for pin in theirs for a in theirs[pin] for b in ours[pin] if netlist.NO_NET not in (a, b))
     taken, pair = set(), {}
-    for (a, b), _ in sorted(counts.items(), key=lambda it: (-it[1], it[0][0].upper() != it[0][1].upper(), it[0])):
+    for (a, b), count in sorted(counts.items(), key=lambda it: (-it[1], it[0][0].upper() != it[0][1].upper(), it[0])):
         if a not in pair and b not in taken:
-            pair[a] = b
+            pair[a] = b, count
             taken.add(b)
     return pair
 
@@ -87,15 +87,20 @@ def differences(package):
 
 
 def by_pin(theirs, ours, pair):
-    others = joined_names(ours)
-    # A name that is no pair of any, as of a pin alone, is to be so on the other side.
-    wrong = sorted(pin for pin in theirs if {pair.get(name) for name in theirs[pin]} != {name if name in others else None for name in ours[pin]})
+    """The pins whose names are no pair, and of which at least one has the name of another pin."""
+    some, others = alone(theirs), alone(ours)
+
+    def is_same(pin):
+        paired = {pair[name][0] if name in pair else None for name in theirs[pin]} == ours[pin]
+        return paired or theirs[pin] <= some and ours[pin] <= others
+    wrong = sorted(pin for pin in theirs if not is_same(pin))
     if wrong:
         yield listed(wrong, lambda pin: f"{pin_word(pin)} is of {spoken(sorted(theirs[pin]))} there and of {spoken(sorted(ours[pin]))} by the copper's names")
 
 
 def by_name(pair):
-    other = sorted((a, b) for a, b in pair.items() if not is_respelled(a, b))
+    """Names of several pins that do not look like each other."""
+    other = sorted((a, b) for a, (b, count) in pair.items() if count > 1 and not is_respelled(a, b))
     if other:
         yield listed(other, lambda it: f"what is {it[0]} there is {it[1]} by the copper's names")
 
