@@ -13,6 +13,8 @@ from .side import words_of
 from .tree import Tree
 from .words import at_most, counted, spoken
 
+# Mode, X and Y of an operation, and its code where it is no draw.
+OPERATION = re.compile(r"(G0?[123])?(X[+-]?\d+)?(Y[+-]?\d+)?(?:I[+-]?\d+)?(?:J[+-]?\d+)?(?:(?<=\d)D0?1|D0?([23]))?(?<!^)(?<!G0[123])(?<!G[123])")
 COMMENT = re.compile(r"G04 #@! ?(T[OD].*)")
 FIRST = "by the copper's own names, so that only opens and shorts against those are known: "
 # Statuses of an answer: agrees, differs, undecided.
@@ -33,10 +35,6 @@ class Point(NamedTuple):
     label: Label
     pad: points.Pad
     is_known: bool      # whether the pad's copper is known, and not only bounded from above
-
-
-def has_names(text):
-    return "TO.N," in text or "TO.P," in text
 
 
 def field(text):
@@ -66,16 +64,71 @@ class Names:
         return Label(part or next(iter(self.set.get(".C", [])), ""), pin, "" if name == netlist.NO_NET else name)
 
 
-def labels_of(text):
-    """For each command that ends a flash or a region its label, where it has one."""
-    names, found = Names(), {}
-    for number, (extended, word, _) in enumerate(words_of(text), 1):
-        comment = None if extended else COMMENT.fullmatch(word)
-        if comment or extended and word.startswith(("TO", "TD")):
-            names.word(comment[1] if comment else word)
-        elif not extended and names.set and (word == "G37" or word.endswith(("D03", "D3"))):
-            found[number] = names.label()
-    return found
+class Pads:
+    """The words of a copper file with its labelled flashes and regions alone: walking all copper of a board would take long.
+
+    `labels` are those of the commands of the new text that end a flash or a region. Draws and other regions leave their last place,
+    as what comes next may go on from it; where the file erases copper all words stay.
+    """
+
+    def __init__(self, text, wants_pins):
+        self.wants_pins, self.stays = wants_pins, "LPC*" in text
+        self.names, self.words, self.labels, self.region = Names(), [], {}, None
+        for extended, word, first in words_of(text):
+            comment = None if extended else COMMENT.fullmatch(word)
+            if comment or extended and word.startswith(("TO", "TD")):
+                self.names.word(comment[1] if comment else word)
+            elif extended:
+                self.words.append((True, word, first))
+            else:
+                self.plain(word)
+
+    def plain(self, word):
+        operation = OPERATION.fullmatch(word)
+        if word == "G36":
+            self.region = len(self.words)
+        if word == "G37" and self.region is not None:
+            self.end_region()
+        elif operation and self.region is None and not operation[4]:
+            self.draw(word, operation)
+        else:
+            self.words.append((False, word, True))
+            if operation and operation[4] == "3":
+                self.label()
+
+    def label(self):
+        """Notes the label of the command that was last; answers whether it is wanted."""
+        found = self.names.label()
+        if found.pin or found.name and not self.wants_pins:
+            self.labels[len(self.words)] = found
+            return True
+        return False
+
+    def draw(self, word, operation):
+        mode, x, y, _ = operation.groups()
+        if self.stays:
+            self.words.append((False, word, True))
+        else:
+            self.words += [(False, each, True) for each in (mode, (x or "") + (y or "") + "D02") if each]
+
+    def end_region(self):
+        first, self.region = self.region, None
+        self.words.append((False, "G37", True))
+        if self.label() or self.stays:
+            return
+        inner, self.words[first:] = [word for _, word, _ in self.words[first:]], []
+        found = [match.groups() for match in map(OPERATION.fullmatch, inner) if match]
+        modes, xs, ys = ([it[k] for it in found if it[k]] for k in range(3))
+        modes += [word for word in inner if word in two_sides.MODES][-1:]
+        self.words += [(False, each, True) for each in ("".join(modes[-1:]), "".join(xs[-1:] + ys[-1:] + ["D02"])) if each]
+
+    def text(self):
+        out = []
+        for extended, word, first in self.words:
+            if extended and not first:
+                out[-1] = out[-1][:-1]
+            out.append(f"{'%' if extended and first else ''}{word}*{'%' if extended else ''}")
+        return "\n".join(out) + "\n"
 
 
 def erased(objects):
@@ -88,32 +141,31 @@ def erased(objects):
     return near
 
 
-def points_of(text, layer):
+def points_of(text, layer, wants_pins):
     """The labelled flashes and regions of a copper file."""
     # Breaks within words say nothing of copper: `check` judges them.
-    text = text.replace("\r", "").replace("\n", "")
-    labels, objects = labels_of(text), two_sides.Copper(text).objects
+    pads = Pads(text.replace("\r", "").replace("\n", ""), wants_pins)
+    objects = two_sides.Copper(pads.text()).objects
     near = erased(objects)
     for at, it in enumerate(objects):
         pieces = it.both[0] or it.both[1]
-        if it.dark and pieces and it.tag in labels:
+        if it.dark and pieces and it.tag in pads.labels:
             boxes = [clear.box(piece) for piece in pieces]
             left, low, right, high = (side(box[k] for box in boxes) for k, side in enumerate((min, min, max, max)))
             pad = points.Pad(((left + right) // 2, (low + high) // 2), pieces, near((left, low, right, high), at))
-            yield Point(layer, labels[it.tag], pad, bool(it.both[0]))
+            yield Point(layer, pads.labels[it.tag], pad, bool(it.both[0]))
 
 
 def all_points(package):
     """The points of all copper files: those of pins, or where there are none those of nets."""
-    found = []
+    texts, found = {name: package.read(name).decode("latin-1") for name in package.manifest.copper}, []
+    wants_pins = any("TO.P," in text for text in texts.values())
     for layer, name in enumerate(package.manifest.copper, 1):
-        text = package.read(name).decode("latin-1")
         try:
-            found += points_of(text, layer) if has_names(text) else []
+            found += points_of(texts[name], layer, wants_pins) if "TO." in texts[name] else []
         except Refused as why:
             raise Stop(UNCLEAR, f"{name}: its pads cannot be read ({why}), so their own names cannot be judged") from None
-    pins = [it for it in found if it.label.pin]
-    return pins or [it for it in found if it.label.name]
+    return found
 
 
 # ---- the netlist

@@ -7,7 +7,6 @@ from collections import Counter
 from fractions import Fraction as Q
 
 from . import two_sides
-from .exact import Refused
 from .netlist import U_OF, UNITS
 from .words import millimetres
 
@@ -16,6 +15,10 @@ FEW, MANY = 8, 20_000   # centres
 ENOUGH = Q(3, 4)        # of the votes: no other centres are asked
 MOST = 999_999          # six digits
 PLACE = re.compile(r"([XY])([+-]?)(\d+\.?\d*|\.\d+)")
+# Operations of a copper file behind the beginning of a word, its unit and its format.
+OPERATION = re.compile(r"(?:(?<=[*%\s])|(?<=G0[123])|(?<=G[123]))(?=[XYD])(?:X([+-]?\d+))?(?:Y([+-]?\d+))?(?:I[+-]?\d+)?(?:J[+-]?\d+)?(?:D0?([123]))?\*")
+GERBER_UNIT = re.compile(r"%(MOMM|MOIN)\*|(?:^|[*\s])(G7[01])\*")
+FORMAT = re.compile(r"%FSLAX\d(\d)Y")
 UNIT_WORDS = {25_400: "0.0001 inch", 10_000: "0.001 mm"}
 FORMS = [("", lambda x, y: (x, y)), ("mirrored left to right", lambda x, y: (-x, y)), ("mirrored upside down", lambda x, y: (x, -y)),
          ("turned by half", lambda x, y: (-x, -y)), ("turned by a quarter", lambda x, y: (-y, x)), ("turned by three quarters", lambda x, y: (y, -x)),
@@ -74,11 +77,17 @@ def other_unit(text):
 # ---- centres
 
 def flashes(package, index):
-    """Centres of the flashes of a copper file, in u; none where it cannot be walked."""
-    try:
-        return two_sides.Copper(text_of(package, package.manifest.copper[index])).flashes
-    except Refused:
-        return set()
+    """Centres of the flashes of a copper file, in u; none without one format and unit. Copies of blocks have no vote."""
+    text, at, found = text_of(package, package.manifest.copper[index]), [0, 0], set()
+    scale, decimals = GERBER_UNIT.search(text), FORMAT.search(text)
+    if not scale or not decimals:
+        return found
+    step = Q(two_sides.SCALES[scale[1] or scale[2]], 10 ** int(decimals[1]))
+    for x, y, operation in OPERATION.findall(text):
+        at = [int(x) if x else at[0], int(y) if y else at[1]]
+        if operation == "3":
+            found.add((at[0], at[1]))
+    return {(round(x * step), round(y * step)) for x, y in found}
 
 
 def all_flashes(package):

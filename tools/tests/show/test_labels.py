@@ -100,7 +100,7 @@ class Labels(made.Case):
     def test_a_broken_word(self):
         """Words that are broken over lines say the same of pads."""
         broken = {**FILES, "top.gbr": FILES["top.gbr"].replace("%TO.P,R1,2,IN*%", "%TO.P,R1,\n2,IN*%")}
-        self.assertEqual([it.label for it in labels.points_of(broken["top.gbr"], 1)], [it.label for it in labels.points_of(FILES["top.gbr"], 1)])
+        self.assertEqual([it.label for it in labels.points_of(broken["top.gbr"], 1, True)], [it.label for it in labels.points_of(FILES["top.gbr"], 1, True)])
 
     def test_beside_a_netlist(self):
         """What the netlist says otherwise is told; the names are the copper's own."""
