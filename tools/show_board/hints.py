@@ -25,7 +25,7 @@ class Hint(NamedTuple):
     words: str
     answer_status: int
     answer_line: str
-    explains: bool = False      # whether it leaves at most half of the findings
+    explains: bool = False      # whether it leaves less than half of the findings
 
 
 class Answer(NamedTuple):

@@ -1,4 +1,5 @@
 """The places of a net where the copper of two names meets, with the pieces that could be either's."""
+from collections import Counter
 from typing import NamedTuple
 
 from . import cuts, grid, lines_apart
@@ -75,11 +76,22 @@ class Net:
         self.board, self.pieces = board, board.pieces_of[net]
         self.graph = graph_of(board, self.pieces)
         self.carriers = carriers(board, net, self.pieces)
-        labels = {piece: board.ties.side(board.labels[piece]) for piece in self.pieces if piece in board.labels}
+        labels = self.tied({piece: board.labels[piece] for piece in self.pieces if piece in board.labels})
         self.labels = sorted(set(labels.values()))
         self.is_labelled = len(self.labels) > 1
         self.seeds, self.shared = (labels, {}) if self.is_labelled else self.by_points()
         self.sides, self.of_name, self.with_points, self.count = {}, {}, {}, 0
+
+    def tied(self, labels):
+        """Labels of pieces, tied ones as one. Ties name the netlist's names: a label is the name that most points on its pieces have."""
+        names = {}
+        for point, pieces in self.carriers.items() if self.board.ties.ties else ():
+            for piece in pieces:
+                if piece in labels:
+                    names.setdefault(labels[piece], Counter())[self.board.name(self.board.name_of(point))] += 1
+        likely = {label: min(found, key=lambda name: (-found[name], name)) for label, found in names.items()}
+        return {piece: self.board.ties.side(likely.get(label, label)) if self.board.ties.is_tied_name(likely.get(label, label)) else label
+                for piece, label in labels.items()}
 
     def by_points(self):
         """The names of pieces by the points on them, and the pieces that carry points of several names."""
@@ -142,8 +154,8 @@ class Net:
         for component in sorted(ours.keys() & theirs.keys()):
             for one in ours[component]:
                 for other in theirs[component]:
-                    named = [self.board.side_of(self.board.name_of(point)) for point in (one, other)] == list(meet.names)
-                    if named and is_between(meet.place, self.board.spot(one), self.board.spot(other)):
+                    sides = {self.board.side_of(self.board.name_of(point)) for point in (one, other)}
+                    if len(sides) > 1 and is_between(meet.place, self.board.spot(one), self.board.spot(other)):
                         return component, one, other
         return None
 

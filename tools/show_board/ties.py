@@ -61,6 +61,10 @@ class Ties:
     def sides(self, names):
         return {self.side(name) for name in names}
 
+    def is_tied_name(self, name):
+        """Whether a name is tied to another."""
+        return name in self.of
+
     # ---- a report
 
     def is_tied(self, report, short):

@@ -97,6 +97,15 @@ class Labels(made.Case):
             status, out, board = self.told({"one.gbr": layer(1, "Top", *lines)}, program=program)
             self.assertEqual((status, out.startswith(f"board: {FIRST}agrees, between two bounds ")), (0, True), out)
 
+    def test_macros(self):
+        """A pad that is a macro beside its origin: flattened, with its point in its copper, and no bounds."""
+        macro = ["%AMA*", "1,1,1.0,0.8,0*%", "%ADD20A*%"]
+        lines = [*macro, *pin("U2", "1", "A"), *flash(20, (0, 0)), *pin("U2", "2", "A"), *flash(20, (10, 0)), "%TD*%", *draw(11, (0.8, 0), (10.8, 0))]
+        for program in self.over_both():
+            status, out, board = self.told({"one.gbr": layer(1, "Top", *lines)}, "--keep", f"kept{program == made.STAND_IN}", program=program)
+            self.assertEqual((status, out.startswith(f"board: {FIRST}agrees (audit true)\n")), (0, True), out)
+        self.assertEqual([it.x for it in read.records(self.read("keptTrue/names.ipc").encode())], [8_000_000, 108_000_000])
+
     def test_a_broken_word(self):
         """Words that are broken over lines say the same of pads."""
         broken = {**FILES, "top.gbr": FILES["top.gbr"].replace("%TO.P,R1,2,IN*%", "%TO.P,R1,\n2,IN*%")}

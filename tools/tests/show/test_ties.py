@@ -4,7 +4,7 @@ import unittest
 from xml.dom import minidom
 
 import made
-from made import draw, flash, manifest, netlist, record
+from made import draw, flash, label, manifest, netlist, record
 from show_board import ties
 
 # GND and AGND are joined by the two pads of NT1; VCC stands alone.
@@ -59,6 +59,16 @@ class Ties(made.Case):
             # The place lies on the track from VCC, not between the pads of NT1.
             self.assertLess(found["meets"][0]["x"], 3)
 
+    def test_labels(self):
+        """Labels that spell the names otherwise than the netlist: the same place, and the netlist's names in the tie."""
+        labels = [*label("Gnd"), *flash(10, (0, 0), (4, 0)), *draw(11, (0, 0), (4, 0)), *label("AGnd"), *flash(10, (10, 0), (6, 0)), *draw(11, (6, 0), (10, 0)),
+                  "%TD*%", *draw(11, (4, 0), (6, 0)), *label("Vcc"), *flash(10, (0, 5))]
+        short = [*labels, *draw(11, (0, 5), (0, 2.5), (2, 0))]
+        for program in self.over_both():
+            self.assertIn("where it is to join them, --tie AGND=GND declares it.\n", self.tied(labels, program=program)[1])
+            found = self.tied(short, words=["--tie", "GND=AGND"], program=program)[2]["findings"]
+            self.assertEqual([(it["labelled"], [meet["names"] for meet in it["meets"]]) for it in found], [(True, [["AGND=GND", "Vcc"]])])
+
     def test_chains(self):
         """Three names by two ties are one; by one tie the third is another."""
         self.assertEqual(self.tied(SHORT, words=["--tie", "GND=AGND", "--tie", "VCC=AGND"])[0], 0)
@@ -100,6 +110,13 @@ class Ties(made.Case):
         self.board({"m.json": manifest(), "top.gbr": COPPER, "n.ipc": netlist(*POINTS), "ties.txt": "GND=AGND\n"}, "other")
         self.assertEqual(self.show("board", "other", "--tie", "AGND=GND")[:2], (0, "".join(
             f"{name}: agrees, with 1 declared tie; the report itself says: differs, opens 0, shorts 1, missing 0\n" for name in ("board", "other"))))
+
+    def test_page(self):
+        """A page and a marker database of a board whose shorts are all ties."""
+        self.tied()
+        self.assertEqual(self.show("board", "--tie", "GND=AGND", "--page", "p.html", "--rdb", "p.lyrdb")[0], 0)
+        self.assertIn("Agrees, with 1 declared tie: the copper joins exactly the points that the netlist joins or the ties do.", self.read("p.html"))
+        self.assertEqual(len(minidom.parseString(self.read("p.lyrdb")).getElementsByTagName("item")), 0)
 
     def test_kept(self):
         self.tied(text="# a comment\nGND=AGND\n")
