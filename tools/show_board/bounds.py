@@ -16,7 +16,7 @@ from .differing import Differing
 from .exact import Refused
 from .joint import Joint
 from .package import beside
-from .ties import Ties
+from .ties import Ties, lost
 from .two_sides import of_text
 from .words import counted
 
@@ -87,6 +87,7 @@ def answered(program, package, sides, low, high, ties):
     if any(not sure for _, sure, *_ in findings):
         findings = [*map(Differing(program, low, high, sides.sources).placed, findings)]
     certain, doubt = (sum(it[1] is sure for it in findings) for sure in (True, False))
+    certain += len(list(lost(ties, high.report)))
     if joint.agrees():
         status, word = 0, "agrees"
     else:

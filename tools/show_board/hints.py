@@ -12,7 +12,7 @@ from .layering import as_labelled, layerings
 from .package import beside
 from .placement import placements
 from .report import Report
-from .settings import setting
+from .origins import setting
 from .ties import Ties
 
 TRIED = 4           # placements that are checked, at most

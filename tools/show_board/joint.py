@@ -80,17 +80,20 @@ class Joint:
             yield "open", False, told, self.places(firsts), firsts
 
     def parted(self):
-        """Declared ties that the copper does not have, or perhaps not."""
+        """Declared ties that the copper does not have, or perhaps not; those of a name without a point have no place."""
         above, firsts = nets_of(self.high), {}
         for point, (*_, net) in enumerate(self.high.points):
             firsts.setdefault(self.name(point), {}).setdefault(net, point)
         certain = self.ties.parted(self.high)
         for it in self.ties.parted(self.low):
+            if any(name not in firsts for name in it.names):
+                continue
             net = min(set.intersection(*(above.get(name, set()) for name in it.names)), default=None)
-            points = [firsts[name].get(net, next(iter(firsts[name].values()))) for name in it.names if name in firsts]
+            points = [firsts[name].get(net, next(iter(firsts[name].values()))) for name in it.names]
             sure = it in certain
-            told = f"{spoken(it.names)} are declared to be tied ({it.source}) and {'no copper joins them' if sure else 'are joined on the upper board alone'}"
-            yield "open", sure, f"{told}: {spoken(map(self.pin, points))}" if points else told, self.places(points), points
+            how = "no copper joins them" if sure else "are joined on the upper board alone"
+            told = f"{spoken(it.names)} are declared to be tied ({it.source}) and {how}: {spoken(map(self.pin, points))}"
+            yield "open", sure, told, self.places(points), points
 
     # ---- shorts: names on one net; a point without a net is a name of its own
 

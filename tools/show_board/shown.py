@@ -113,6 +113,8 @@ def outside(program, told, shown):
         shown.bounds = bounds.bounded(program, told, shown.ties)
         if shown.bounds:
             shown.status, shown.line = shown.bounds.status, shown.bounds.line
+        if told.package.between:
+            shown.notes += ties.lost(shown.ties, told.package.between[1].report)
     if told.status == 3 or shown.status == 1:
         shown.hints = hints.hints(program, told, shown.ties)
         if hints.explain(shown.hints):

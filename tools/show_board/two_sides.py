@@ -40,8 +40,8 @@ def of_text(text):
 class Copper:
     """Walks a copper file and writes both sides.
 
-    `lost` says what LOWER leaves out, `replaced` counts what is written otherwise. `objects` is all that the file makes, in order.
-    Dark objects of commands of `taken` are not written, but at the end what is `written`.
+    `lost` says what LOWER leaves out, `replaced` counts what is written otherwise, `flashes` are the places of flashes. `objects`
+    is all that the file makes, in order. Dark objects of commands of `taken` are not written, but at the end what is `written`.
     """
 
     def __init__(self, text, taken=(), written=((), ())):
@@ -51,7 +51,7 @@ class Copper:
         self.scale = self.decimals = self.format = self.number = self.macro = None
         self.macros, self.apertures = {}, {}
         self.spot, self.mode, self.quadrants, self.last, self.chosen = (0, 0), STRAIGHT, None, None, None
-        self.contours = None
+        self.contours, self.flashes = None, set()
         for self.number, (extended, word, first) in enumerate(words_of(text), 1):
             try:
                 (self.extended if extended else self.plain)(word, first)
@@ -327,6 +327,7 @@ class Copper:
             side.operate(self.spot, DRAW, self.number)
 
     def flash(self):
+        self.flashes.add(self.spot)
         made = self.apertures.get(self.chosen)
         if isinstance(made, apertures.Shape):
             self.replaced += 1

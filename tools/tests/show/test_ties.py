@@ -131,6 +131,8 @@ class Ties(made.Case):
                                         (["GND=AGND", "GND=VCC"], 1, "differs, with 1 declared tie, between two bounds: 1 finding that both have")):
                 told = self.tied(arc, words=[each for name in words for each in ("--tie", name)], program=program)
                 self.assertEqual((told[0], told[1].startswith(f"board: {line}")), (status, True), told[1])
+            told = self.tied(arc, words=["--tie", "GND=AGND", "--tie", "GND=AGMD"], program=program)
+            self.assertEqual((told[0], "the tie GND=AGMD (--tie) is open: no test point has the name AGMD" in told[1]), (1, True), told[1])
 
 
 class Classes(unittest.TestCase):
