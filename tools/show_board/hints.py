@@ -58,7 +58,13 @@ class Trials:
     """Changed copies, each in a folder of its own beside the package."""
 
     def __init__(self, program, ties=Ties()):
-        self.program, self.ties = program, ties
+        self.program, self.ties, self.looked = program, ties, {}
+
+    def holes(self, package):
+        """How the holes of a package lie on its pads, looked at once."""
+        if package.folder not in self.looked:
+            self.looked[package.folder] = drillings.Holes(package)
+        return self.looked[package.folder]
 
     def answer(self, told):
         """The answer on a judged package, by bounds where it is refused for its copper."""
@@ -138,9 +144,11 @@ def best(trials, base, kind, changes, names):
 
 
 def drills(trials, base):
-    """Drill files whose holes miss the pads moved onto them: those that fit the same change together, then each alone."""
-    holes = drillings.Holes(base.package)
-    if not holes.off or base.is_misplaced():
+    """Drill files whose holes miss the pads moved onto them: all by the same change, then the first few each by its own."""
+    if not base.package.manifest.drills or not base.rank()[1] or base.is_misplaced():
+        return
+    holes = trials.holes(base.package)
+    if not holes.off:
         return
     together = best(trials, base, "drills", drillings.moved_drills(holes, holes.off), holes.off)
     yield from together
@@ -149,8 +157,8 @@ def drills(trials, base):
 
 
 def each_alone(trials, base, holes):
-    for name in holes.off if len(holes.off) > 1 else ():
-        left = drillings.Holes(base.package)
+    for name in holes.off[:TRIED] if len(holes.off) > 1 else ():
+        left = trials.holes(base.package)
         for found, answer in best(trials, base, "drills", drillings.moved_drills(left, [name]), [name]) if name in left.off else ():
             yield found, answer
             base = answer
@@ -159,14 +167,14 @@ def each_alone(trials, base, holes):
 def copper(trials, base):
     """The copper moved, where netlist and drills fit each other and neither fits it."""
     if base.is_misplaced() and base.package.manifest.drills:
-        holes = drillings.Holes(base.package)
+        holes = trials.holes(base.package)
         if holes.off and drillings.fit_each_other(base.package, holes):
             yield from best(trials, base, "copper", drillings.moved_copper(base.package, holes), base.package.manifest.copper[:1])
 
 
 def best_placement(trials, base):
     """The best of the likeliest placements, tried until one agrees."""
-    found, without = None, drillings.Holes(base.package).off
+    found, without = None, trials.holes(base.package).off
     for (words, files), _ in zip(placements(base.package, without), range(TRIED)):
         answer = trials.of(base.package, files)
         if answer.report and (found is None or answer.rank() < found[1].rank()):

@@ -9,12 +9,13 @@ from typing import NamedTuple
 from . import UNCLEAR, UNDECIDED, Stop, clear, netlist, points, two_sides
 from .exact import Refused
 from .manifest import Manifest
+from .package import UNREADABLE
 from .side import words_of
 from .tree import Tree
 from .words import at_most, counted, spoken
 
 # Mode, X and Y of an operation, and its code where it is no draw.
-OPERATION = re.compile(r"(G0?[123])?(X[+-]?\d+)?(Y[+-]?\d+)?(?:I[+-]?\d+)?(?:J[+-]?\d+)?(?:(?<=\d)D0?1|D0?([23]))?(?<!^)(?<!G0[123])(?<!G[123])")
+OPERATION = re.compile(r"(G0?[123])?(X[+-]?\d+)?(Y[+-]?\d+)?(?:I[+-]?\d+)?(?:J[+-]?\d+)?(?:D0?(?:1|([23])))?")
 COMMENT = re.compile(r"G04 #@! ?(T[OD].*)")
 FIRST = "by the copper's own names, so that only opens and shorts against those are known: "
 # Statuses of an answer: agrees, differs, undecided.
@@ -84,7 +85,7 @@ class Pads:
                 self.plain(word)
 
     def plain(self, word):
-        operation = OPERATION.fullmatch(word)
+        operation = OPERATION.fullmatch(word) if word and word not in two_sides.MODES else None
         if word == "G36":
             self.region = len(self.words)
         if word == "G37" and self.region is not None:
@@ -119,7 +120,6 @@ class Pads:
         inner, self.words[first:] = [word for _, word, _ in self.words[first:]], []
         found = [match.groups() for match in map(OPERATION.fullmatch, inner) if match]
         modes, xs, ys = ([it[k] for it in found if it[k]] for k in range(3))
-        modes += [word for word in inner if word in two_sides.MODES][-1:]
         self.words += [(False, each, True) for each in ("".join(modes[-1:]), "".join(xs[-1:] + ys[-1:] + ["D02"])) if each]
 
     def text(self):
@@ -156,9 +156,16 @@ def points_of(text, layer, wants_pins):
             yield Point(layer, pads.labels[it.tag], pad, bool(it.both[0]))
 
 
+def text_at(package, name):
+    try:
+        return package.read(name).decode("latin-1")
+    except OSError:
+        raise Stop(UNREADABLE, f"{name}: cannot be read") from None
+
+
 def all_points(package):
     """The points of all copper files: those of pins, or where there are none those of nets."""
-    texts, found = {name: package.read(name).decode("latin-1") for name in package.manifest.copper}, []
+    texts, found = {name: text_at(package, name) for name in package.manifest.copper}, []
     wants_pins = any("TO.P," in text for text in texts.values())
     for layer, name in enumerate(package.manifest.copper, 1):
         try:

@@ -65,7 +65,7 @@ class Package:
     def changed(self, folder, files=None, told=None):
         """Another package of the same files but for those that are given, in a folder of its own."""
         copy = Package(told or self.manifest, folder, self.name)
-        copy.flattened, copy.home = set(self.flattened) - set(files or ()), self.home
+        copy.flattened, copy.home, copy.own = set(self.flattened) - set(files or ()), self.home, self.own
         os.makedirs(folder)
         for name, data in (files or {}).items():
             copy.put(name, data)

@@ -133,6 +133,8 @@ class Labels(made.Case):
         os.remove(self.path("board/n.ipc"))
         status, out, _ = self.show("board", "--labels")
         self.assertEqual((status, "the netlist n.ipc cannot be read" in out), (0, True))
+        os.remove(self.path("board/bot.gbr"))
+        self.assertEqual(self.show("board", "--labels")[:2], (4, "board: bot.gbr: cannot be read\n"))
 
 
 class Pairs(unittest.TestCase):
