@@ -152,6 +152,19 @@ class Codes(Case):
                                                    "inner layer; pcb-rnd writes 02 for every bottom), `check` says: agrees"]))
             self.assertEqual(found[0].kind, "access codes")
 
+    def test_forms_of_tools(self):
+        """Records as KiCad 9 and pcb-rnd write them: the columns of the code alone are changed."""
+        drills = [{"file": "b.drl", "from": 2, "to": 3}]
+        rows = [
+            ("317SIG              VIA        MD0236PA07X+004000Y+002250X0550Y0000R000S3", "A07X", "A02X", codes.RULES[0]),
+            ("327GND              C3    -2          A02X+009646Y+004000X0512Y0590R000 S3      ", "A02X", "A08X", codes.RULES[1]),
+        ]
+        for line, before, after, rule in rows:
+            told = {"copper": [f"l{k}.gbr" for k in range(1, 9)], "drills": drills, "netlist": "n.ipc"}
+            text = f"P  CODE 00\nP  UNITS CUST 0\nP  arrayDim   N\n{line}\n999\n"
+            package = self.package({"n.ipc": text, "b.drl": made.drill((10.16, 5.715)), "m.json": json.dumps(told)})
+            self.assertEqual([files["n.ipc"].decode() for _, files in codes.recoded(package, *rule)], [text.replace(before, after)])
+
     def test_two_layers(self):
         """Where 02 is the bottom it is read so."""
         package = self.package(files_of())
