@@ -3,6 +3,7 @@
 One test point for each flash and each region with a pin, on the layer of its file; where no file names a pin, one for each with a
 net. What is known so are opens and shorts against the copper's own names: that these are the right ones nothing says.
 """
+import os
 import re
 from typing import NamedTuple
 
@@ -18,6 +19,7 @@ from .words import at_most, counted, spoken
 OPERATION = re.compile(r"(G0?[123])?(X[+-]?\d+)?(Y[+-]?\d+)?(?:I[+-]?\d+)?(?:J[+-]?\d+)?(?:D0?(?:1|([23])))?")
 COMMENT = re.compile(r"G04 #@! ?(T[OD].*)")
 FIRST = "by the copper's own names, so that only opens and shorts against those are known: "
+MADE = "C made by boardnet show of the copper's own attributes"
 # Statuses of an answer: agrees, differs, undecided.
 ANSWERS = (0, 1, UNDECIDED)
 NO_NAMES = "the copper files do not say of which pins or nets their pads are (TO.P, TO.N): export Gerber X2 with net attributes"
@@ -194,7 +196,7 @@ def lines_of(point, place, name):
 def text_of(found, unit, places):
     """The netlist as a text."""
     names = named(list(dict.fromkeys(it.label.name for it in found if it.label.name)))
-    lines = ["C made by boardnet show of the copper's own attributes", f"P  UNITS CUST {points.CUST[unit]}"]
+    lines = [MADE, f"P  UNITS CUST {points.CUST[unit]}"]
     lines += [f"P  {alias}  {name}" for name, alias in names.items() if alias != name]
     for point, place in zip(found, places):
         if place:
@@ -233,6 +235,12 @@ def need_holes(package, found):
     if through and not package.manifest.drills:
         raise Stop(UNCLEAR, f"{counted(through, 'pin')} of the copper files stand on several layers, and there is no drill file of plated holes, which join them: "
                             "export it in the Excellon format; where the board truly has no plated hole, say --no-drills")
+
+
+def made_before(package):
+    """The package's netlist, where it was made here, as --keep keeps it; else nothing."""
+    name = package.manifest.netlist
+    return name if os.path.exists(package.path(name)) and package.read(name).startswith(MADE.encode()) else ""
 
 
 def use(package, may_lack_holes):

@@ -79,9 +79,12 @@ def look(program, told, shown, wants_picture):
 
 def own_names(files, asked):
     """Has the board judged by the copper's own names where there is no netlist or where it is asked; answers the notes."""
-    if not asked.labels and files.manifest and files.manifest.netlist:
+    if not files.manifest:
         return []
-    told = labels.use(files, asked.no_drills) if files.manifest else []
+    if files.manifest.netlist and not asked.labels:
+        files.own = labels.made_before(files)
+        return []
+    told = labels.use(files, asked.no_drills)
     return told + (same_pins.differences(files) if files.theirs else [])
 
 
@@ -100,7 +103,8 @@ def show(path, asked, program, scratch):
         if files.own and shown.status in labels.ANSWERS:
             shown.line = labels.FIRST + shown.line
         if asked.keep:
-            files.put(package.TIES, shown.ties.text().encode())
+            if shown.ties.ties:
+                files.put(package.TIES, shown.ties.text().encode())
             package.keep(files, shown.report, asked.keep)
     except Stop as stop:
         shown.status, shown.line = stop.status, str(stop)

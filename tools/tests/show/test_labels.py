@@ -46,9 +46,10 @@ class Labels(made.Case):
         self.assertEqual(sorted(os.listdir(self.path("board"))), sorted(FILES))
 
     def test_kept(self):
-        """The kept package agrees under the program alone, and names pins and nets whole."""
+        """The kept package says the same again, and names pins and nets whole."""
         self.told(FILES, "--keep", "kept")
-        self.assertEqual(self.show("kept")[:2], (0, "kept: agrees (audit true)\n"))
+        self.assertEqual(self.show("kept")[:2], (0, f"kept: {FIRST}agrees (audit true)\n"))
+        self.assertEqual(sorted(os.listdir(self.path("kept"))), ["bot.gbr", "m.json", "names.ipc", "p.drl", "report.txt", "top.gbr"])
         records = read.records(self.read("kept/names.ipc").encode())
         self.assertEqual([(it.component, it.pin) for it in records], [("R1", "1"), ("R1", "2"), ("J1000001", "GATE1"), ("R1", "1"), ("U1", "1"), ("U1", "2")])
         self.assertEqual(read.spoken(["GND", "NNAME2", "VCC"], self.read("kept/names.ipc").encode()), ["GND", LONG, "VCC"])
