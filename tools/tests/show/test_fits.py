@@ -4,7 +4,7 @@ import unittest
 
 import made
 from hinted import Case, files_of
-from made import STAND_IN, draw, flash, gerber, record
+from made import draw, flash, gerber, record
 from show_board import codes, drillings, placement
 
 FORMS = [form for _, form in placement.FORMS]
