@@ -1,7 +1,7 @@
 """One board, from its files to its findings."""
 import os
 
-from . import UNJUDGED, Stop, bounds, copper, findings, hints, judged, netlist, package, report
+from . import UNJUDGED, Stop, bounds, copper, findings, hints, judged, mending, netlist, package, report
 from .board import Board
 
 NO_PLACES = "this program writes reports of version 1, which do not say where copper is from: what is told is the report and the netlist alone"
@@ -18,7 +18,7 @@ class Shown:
         self.path, self.status, self.line, self.audit = path, 0, "", ""
         self.title = os.path.basename(os.path.normpath(path)) or path
         self.board, self.findings, self.hints, self.bounds = None, [], [], None
-        self.notes, self.flood, self.report = [], "", b""
+        self.notes, self.flood, self.report, self.mends = [], "", b"", []
 
     def counts(self):
         told = self.board.report
@@ -80,12 +80,14 @@ def show(path, asked, program, scratch):
     shown = Shown(path)
     try:
         files = package.opened(path, asked, scratch)
+        mending.mend(files, program.progress)
         told = judged.judge(program, files)
         shown.status, shown.line, shown.audit, shown.report = told.status, told.line, told.audit, told.text or b""
         shown.notes = package_notes(files)
         if told.report:
             look(program, told, shown, asked.page or asked.svg)
         outside(program, told, shown)
+        mending.say(files, shown)
         if asked.keep:
             package.keep(files, shown.report, asked.keep)
     except Stop as stop:
