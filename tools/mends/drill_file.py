@@ -132,6 +132,8 @@ class Holes:
                 is_body = True
             elif is_body and not bare.startswith(b";"):
                 self.line(at, bare)
+        if not self.taken and not plating.functions:
+            return
         tools = ", ".join(f"T{number}" for number in plating.unplated()) or "none"
         what = f"and each tool says whether it is plated: the holes of the unplated ones ({tools}) are left out, {self.taken} lines"
         at = plating.place() - 1

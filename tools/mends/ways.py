@@ -43,8 +43,9 @@ def tool_of(data):
 def way(kind, tool):
     """What to export, for a kind of refusal and a tool, or nothing."""
     by_tool = WAYS.get(kind, {})
-    words = by_tool.get(tool) or by_tool.get("", "")
-    return f"{tool}: {words}" if words and by_tool.get(tool) else words
+    if tool and tool in by_tool:
+        return f"{tool}: {by_tool[tool]}"
+    return by_tool.get("", "")
 
 
 def way_out(line, read):
