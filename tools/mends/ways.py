@@ -8,6 +8,7 @@ TOOLS = (
     ("Xpedition", rb"Xpedition|Expedition"), ("Fusion", rb"Autodesk"), ("gEDA pcb", rb"\bpcb 20|gEDA"),
 )
 COMMENTS = re.compile(rb"^[ \t]*;[^\n]*|G04[^*]*\*|TF\.GenerationSoftware[^*\n]*", re.M)
+NEWLINE = b"\n"
 REFUSAL = re.compile(r"(.*): (Gerber|drill|flatten) \d+ (\w+) at (?:command|line) \d+, byte (\d+)")
 
 # By the kind of refusal: for some tools by their own words, else for all.
@@ -56,5 +57,5 @@ def way_out(line, read):
     name, _, kind, at = found.groups()
     data = read(name)
     words = way(kind, tool_of(data))
-    place = f"; line {data.count(bytes([10]), 0, int(at) - 1) + 1} of {name}" if found[2] != "drill" else ""
+    place = f"; line {data.count(NEWLINE, 0, int(at)) + 1} of {name}" if found[2] != "drill" else ""
     return place + (f"; to export: {words}" if words else "")

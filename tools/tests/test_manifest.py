@@ -159,7 +159,7 @@ class Manifest(common.Case):
         self.assertIn("`boardnet show` makes these mends", self.taken(two(p_drl=mixed), WRITTEN, told))
         copies = {**WRITTEN, "drills": [{"file": "p.mended.drl", "from": 1, "to": 2}]}
         self.assertNotIn("to be mended", self.taken(two(p_drl=mixed), copies, "mended: p.drl: line 2", words=["--mend"]))
-        self.assertEqual((self.read("board/p.drl"), self.read("board/p.mended.drl")), (mixed, mixed.replace("Mixed", "")))
+        self.assertEqual((self.read("board/p.drl"), self.read("board/p.mended.drl")), (mixed, mixed.replace("MixedPlating", "Plated")))
         self.assertEqual(self.manifest("board", "--mend")[0], 0)
         self.assertEqual((self.written(), sorted(os.listdir(self.path("board")))), (copies, ["B.gbr", "F.gbr", "m.json", "n.ipc", "p.drl", "p.mended.drl"]))
         os.remove(self.path("board", "p.drl"))

@@ -206,8 +206,9 @@ class Words(common.Case):
         rows = [
             ("p.drl: drill 6 ImpliedDecimals at line 7, byte 59", kicad, "; to export: KiCad: Generate Drill Files, zeros format 'Decimal format' (kicad-cli: --excellon-zeros-format decimal)"),
             ("p.drl: drill 6 ImpliedDecimals at line 7, byte 59", kicad.replace(b"KiCad", b"other"), "; to export: drill files with a decimal point in each number"),
-            ("t.gbr: Gerber 13 Block at command 2, byte 10", b"G04 a*\n%%\n%ABD10*%", "; line 2 of t.gbr; to export: copper without aperture blocks (AB)"),
-            ("t.gbr: Gerber 1 BadWord at command 1, byte 1", b"", "; line 1 of t.gbr"),
+            ("t.gbr: Gerber 13 Block at command 2, byte 8", b"G04 a*\n%ABD10*%", "; line 2 of t.gbr; to export: copper without aperture blocks (AB)"),
+            ("t.gbr: Gerber 9 Incremental at command 2, byte 5", b"G75*\nG91*", "; line 2 of t.gbr; to export: absolute coordinates"),
+            ("t.gbr: Gerber 1 BadWord at command 1, byte 0", b"", "; line 1 of t.gbr"),
             ("differs, opens 1", b"", ""),
         ]
         for line, data, wanted in rows:

@@ -46,7 +46,7 @@ class Answers(made.Case):
         self.assertEqual((status, out.splitlines()[0]), (1, "board: differs, opens 1, shorts 0, missing 0, after 1 mend (audit true)"))
 
     def test_nothing_to_mend(self):
-        files = {**BOARD, "p.drl": DRILL.replace("Mixed", "").replace("T2\nX5.0Y0.0\n", "")}
+        files = {**BOARD, "p.drl": DRILL.replace("MixedPlating", "Plated").replace("T2\nX5.0Y0.0\n", "")}
         self.board(files)
         status, out, _ = self.show("board", "--json", "-")
         told = json.loads(out)["boards"][0]
@@ -57,7 +57,7 @@ class Answers(made.Case):
         for number, program in enumerate(self.over_both()):
             self.board(BOARD)
             self.assertEqual(self.show("board", "--keep", f"kept{number}", program=program)[0], 0)
-            self.assertEqual(self.read(f"kept{number}/p.drl"), DRILL.replace("Mixed", "").replace("X5.0Y0.0", ""))
+            self.assertEqual(self.read(f"kept{number}/p.drl"), DRILL.replace("MixedPlating", "Plated").replace("X5.0Y0.0", ""))
             self.assertEqual(self.run_words([program, "audit", "m.json", "report.txt"], self.path(f"kept{number}"))[:2], (0, "audit true\n"))
 
     def test_between_bounds(self):
@@ -73,10 +73,10 @@ class Answers(made.Case):
             self.skipTest("the program is not built")
         rows = [
             ({"p.drl": DRILL.replace("; #@! TA.AperFunction,NonPlated,NPTH,ComponentDrill\n", "")},
-             "drill 13 MixedPlating at line 3, byte 32; to export: KiCad: Generate Drill Files, 'PTH and NPTH in single file' off (kicad-cli: --excellon-separate-th)"),
-            ({"p.drl": DRILL.replace("X0.0", "X0")}, "drill 6 ImpliedDecimals at line 11, byte 181; to export: KiCad: Generate Drill Files, zeros format 'Decimal format' "
-             "(kicad-cli: --excellon-zeros-format decimal), after 1 mend"),
-            ({"bot.gbr": TRACK.replace("D11*", "%LMX*%\nD11*")}, "Gerber 16 Transform at command 9, byte 118; line 9 of bot.gbr; to export: objects mirrored, turned and scaled by the tool, without LM, LR and LS, after 1 mend"),
+             "drill 13 MixedPlating at line 3, byte 31; to export: KiCad: Generate Drill Files, 'PTH and NPTH in single file' off (kicad-cli: --excellon-separate-th)"),
+            ({"p.drl": DRILL.replace("X0.0", "X0")}, "drill 6 ImpliedDecimals at line 11, byte 194, after 1 mend; to export: KiCad: Generate Drill Files, zeros format 'Decimal format' "
+             "(kicad-cli: --excellon-zeros-format decimal)"),
+            ({"bot.gbr": TRACK.replace("D11*", "%LMX*%\nD11*")}, "Gerber 16 Transform at command 9, byte 99, after 1 mend; line 9 of bot.gbr; to export: objects mirrored, turned and scaled by the tool, without LM, LR and LS"),
         ]
         for files, words in rows:
             self.board({**BOARD, **files})
