@@ -514,7 +514,7 @@ class Boards(made.Case):
         plane.copper = lambda: "\n".join([*plane.HEAD, *closed(*left, *right[::-1]), "M02*", ""])
         plane.records = lambda: iter([record("A", "J1.1", 1, 1), record("A", "J1.2", 4, 9), record("B", "J2.1", 6, 9)])
         status, out = self.told(plane)
-        self.assertEqual((status, out.splitlines()[0]), (1, "board: differs, opens 0, shorts 0, missing 1, after 1 mend (audit true)"), out)
+        self.assertEqual((status, out.splitlines()[0]), (1, "board: differs, opens 0, shorts 0, missing 1, after 2 mends (audit true)"), out)
 
 
 if __name__ == "__main__":
