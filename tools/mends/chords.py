@@ -18,7 +18,7 @@ from math import gcd
 from .nets import Net
 
 MOST_EDGES = 100_000        # of a contour, in the profile
-FACTORS = (3, 6, 12, 25, 50, 100, 200)      # of the net's cells, in which corners are looked for that are near
+FACTORS = (2, 4, 8, 16, 32, 64, 128)        # of the net's cells, in which corners are looked for that are near
 TRIED, TESTED = 500, 12     # chords for a size of cells that are tried, and chords of a contour that are tested whole
 RUNS, PICKED = 16, 5        # runs of a cell, and corners of a run, that are paired
 MOST_CONTACTS = 4_000       # places where the runs of a chord meet

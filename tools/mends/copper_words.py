@@ -7,8 +7,15 @@ WORD = re.compile(rb"[\t\n\r ]*(?:(%)|([^*%]*)\*)")
 DECIMAL = rb"[+-]?(?:[0-9]+\.?[0-9]*|\.[0-9]+)"
 OPERATION = re.compile(rb"(?:G0?([123]))?(?:X([+-]?[0-9]{1,13}))?(?:Y([+-]?[0-9]{1,13}))?((?:[IJ][+-]?[0-9]{1,13})*)(?:D0?([123]))?")
 SELECTION = re.compile(rb"(?:G54)?D([0-9]{2,9})")
+AXES = (b"X", b"Y", b"I", b"J")     # what an operation word may begin with
+SIZES = {b"C": 1, b"R": 2, b"O": 2}    # of a standard aperture
 NOTHING = b"TFleft_out"     # an attribute without a meaning, in a pair of percent signs
 COMMENT = b"G04"
+
+
+def has(data, signs):
+    """Whether one of these stands in the data: faster than an expression over all of it."""
+    return any(sign in data for sign in signs)
 
 
 class Broken(Exception):

@@ -2,12 +2,11 @@
 import re
 from decimal import Decimal
 
-from .copper_words import COMMENT, DECIMAL, NOTHING, SELECTION, pairs, words
+from .copper_words import AXES, COMMENT, DECIMAL, NOTHING, SELECTION, SIZES, pairs, words
 from .table import LINES, UNUSED
 
 DEFINED = re.compile(rb"ADD([0-9]{1,9})([^,]+)(?:,(.*))?", re.S)
 MOVES = (b"D02", b"D2")
-STANDARD = {b"C": 1, b"R": 2, b"O": 2}
 SCALES = {b"MOMM": 10 ** 7, b"MOIN": 254 * 10 ** 6}
 MOST = 10 ** 10             # 1 m in u
 MOST_WIDE = 5 * 10 ** 8     # 50 mm
@@ -31,10 +30,10 @@ class Aperture:
 
     def is_taken(self, scale):
         """Whether `check` takes the definition."""
-        if self.name not in STANDARD or self.number < 10:
+        if self.name not in SIZES or self.number < 10:
             return False
         parts = self.parts.split(b"X") if self.parts is not None else []
-        if len(parts) != STANDARD[self.name] or not all(re.fullmatch(DECIMAL, part) for part in parts):
+        if len(parts) != SIZES[self.name] or not all(re.fullmatch(DECIMAL, part) for part in parts):
             return False
         sizes = [Decimal(part.decode()) * scale for part in parts]
         return (all(size % 2 == 0 and 0 <= size <= MOST for size in sizes) and min(sizes) <= MOST_WIDE
@@ -124,7 +123,7 @@ class Use:
             if inside:
                 continue
             first = word[:1]
-            if first in (b"X", b"Y"):
+            if first in AXES:
                 if not self.in_region and not word.endswith(MOVES):
                     self.numbers.add(self.chosen)
             elif first in (b"D", b"G"):

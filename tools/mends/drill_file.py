@@ -5,9 +5,6 @@ from . import Mend, short
 from .plating import Plating
 from .table import ENDS, FORCE, FORM, LIFT, MACHINE, PLATING, UNIT
 
-# Whether anything may be to mend, before lines are read; every line else is as `check` takes it, or is refused as before.
-SIGNS = re.compile(rb"^[ \t]*(?:;[^\n]*(?:MixedPlating|NonPlated|NON_?PLATED)|M(?:71|72|95|17|47)|(?:METRIC|INCH)[ \t]*,[^\n]*0|T[0-9]+[^C\n]*[FSBHZ]|T[0-9]+C[0-9.]+[FSBHZ]|[FS][0-9]"
-                   rb"|ICI|VER|G40|G93|%|G05|FMAT|METRIC|INCH|ATC|BLKD|DETECT|OSTOP|SBK|SG|TCST)", re.M | re.I)
 UNIT_LINE = re.compile(rb"(METRIC|INCH)((?:,(?:TZ|LZ|0+\.0+))*)")
 NO_POINT = re.compile(rb"^[^;\n]*[XYC][+-]?[0-9]+(?![0-9.])", re.M)
 MODES = {b"M71": b"METRIC", b"M72": b"INCH"}
@@ -37,11 +34,13 @@ class Drill:
 
     def header_unit(self):
         """The unit that a line of the header says, if one does."""
+        is_header = False
         for line in self.lines:
             bare = line.strip(b" \t\r")
             match = UNIT_LINE.match(bare)
-            if match or bare in (b"%", b"M95"):
+            if is_header and (match or bare in (b"%", b"M95")):
                 return match and match[1]
+            is_header = is_header or bare == b"M48"
         return None
 
     def put(self, at, text, kind, what=""):
@@ -97,8 +96,8 @@ class Drill:
 
     def body(self, at, bare):
         form = UNIT_LINE.fullmatch(bare)
-        if MODES.get(bare) == self.unit or form and form[1] == self.unit and (self.has_points or not form[2]):
-            if self.unit:
+        if bare in MODES or form and (self.has_points or not form[2]):
+            if self.unit == (MODES.get(bare) or form[1]):
                 self.put(at, b"", UNIT)
         elif bare in (b"ICI,OFF", b"VER,1", b"FMAT,2", b"G40") or ZERO_SET.fullmatch(bare):
             self.put(at, b"", FORCE)
@@ -177,8 +176,6 @@ class Holes:
 
 def mended(data):
     """A drill file as it is mended, and its mends; the same bytes where there are none."""
-    if not SIGNS.search(data):
-        return data, []
     drill = Drill(data)
     mends = drill.mends()
     return (b"\n".join(drill.lines), mends) if mends else (data, [])

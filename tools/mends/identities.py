@@ -2,7 +2,7 @@
 import re
 from fractions import Fraction
 
-from .copper_words import COMMENT, DECIMAL, OPERATION, pairs, words
+from .copper_words import AXES, COMMENT, DECIMAL, OPERATION, SIZES, has, pairs, words
 from .table import END, FORMAT, IDENTITY, STATE, STRAIGHT
 
 TAKEN = (b"OFA0B0", b"MIA0B0", b"SFA1B1", b"SFA1.0B1.0", b"IR0")
@@ -12,9 +12,9 @@ ONCE = re.compile(rb"SRX0*1Y0*1(?:I[+-]?0*\.?0*)?(?:J[+-]?0*\.?0*)?")
 ONCE_TAKEN = re.compile(rb"SRX0{0,8}1Y0{0,8}1I" + DECIMAL + rb"J" + DECIMAL)
 LENGTHS = re.compile(rb"FSLA(?:N[0-9])?(?:G[0-9])?(X[0-9]{2}Y[0-9]{2})(?:N[0-9])?(?:G[0-9])?(?:D[0-9])?(?:M[0-9])?")
 HOLE = re.compile(rb"(AD[^,]*,)(.*)", re.S)
-MOVES = (b"D02", b"D03", b"D2", b"D3")
-NUMBERS = {b"C": 1, b"R": 2, b"O": 2}
+NO_DRAWS = (b"D02", b"D03", b"D2", b"D3")
 # What a look at the words' states is for.
+FIRST_SIGNS = (b"I0", b"I+0", b"I-0", b"J0", b"J+0", b"J-0", b"G02*", b"G2*", b"G03*", b"G3*", b"G55", b"M00*", b"M0*", b"M01*", b"M1*")
 SIGNS = re.compile(rb"[IJ][+-]?0+[JD*]|G0?[23]\*|G55|M0?[01]\*")
 
 
@@ -46,7 +46,7 @@ def without_holes(word):
         return word
     name = re.sub(rb"ADD[0-9]+", b"", match[1][:-1])
     parts = match[2].split(b"X")
-    most = NUMBERS.get(name, len(parts))
+    most = SIZES.get(name, len(parts))
     if len(parts) > most and all(re.fullmatch(DECIMAL, part) and Fraction(part.decode()) == 0 for part in parts[most:]) and len(parts) <= most + 2:
         return match[1] + b"X".join(parts[:most])
     return word
@@ -67,16 +67,16 @@ class States:
 
     def word(self, start, end, word):
         first = word[:1]
-        if first in (b"X", b"Y"):
+        if first in AXES:
             if b"I" in word or b"J" in word:
                 self.operation(start, end, word)
-            elif self.waiting and not word.endswith(MOVES):
+            elif not word.endswith(NO_DRAWS):
                 self.waiting = None
         elif first == b"G":
             self.general(start, end, word)
         elif word in (b"M01", b"M1"):
             self.edits.put(start, end, COMMENT, STATE)
-        elif self.waiting and word in (b"D01", b"D1"):
+        elif word in (b"D01", b"D1"):
             self.waiting = None
 
     def general(self, start, end, word):
@@ -113,5 +113,5 @@ class States:
 
 
 def plain(edits):
-    if SIGNS.search(edits.data):
+    if has(edits.data, FIRST_SIGNS) and SIGNS.search(edits.data):
         States(edits)

@@ -2,6 +2,7 @@
 import re
 
 from .chords import MOST_EDGES, cut
+from .copper_words import has
 from .table import CONTOUR
 
 REGION = re.compile(rb"(?<![^*%\s])G36\*")
@@ -9,6 +10,7 @@ REGION = re.compile(rb"(?<![^*%\s])G36\*")
 STEP = re.compile(rb"[\t\n\r ]*(?:%|((?:G0?1)?(?:X([+-]?[0-9]{1,13}))?(?:Y([+-]?[0-9]{1,13}))?(?:D0?([12]))?)\*|([^*%]*)\*)")
 OPERATED = re.compile(rb"(?:G0?[0-3])?[XYIJ]|(?:G0?[0-3])?D0?[0-3]\Z|G0?[023]\Z")
 # What takes copper away, repeats it or bends an edge: then a part at the file's end could be another than in its place.
+ORDERED_SIGNS = (b"LPC", b"SR", b"AB", b"G02", b"G2", b"G03", b"G3")
 ORDERED = re.compile(rb"(?<![^*%\s])(?:LPC|SR[^*]|AB|G0?[23][XYIJD*])")
 END = re.compile(rb"M0?2\*\s*\Z")
 NAMED = re.compile(rb"(?<![^*%\s])T(?:O\.N(,[^*]*)?|D(?:\.N)?(?:,[^*]*)?)\*")
@@ -84,7 +86,7 @@ def rewrite(edits):
     """Cuts long contours; how many words each needs more is at the file's end."""
     data = edits.data
     ending = END.search(data)
-    if not ending or data.count(b"*") <= MOST_EDGES or ORDERED.search(data):
+    if not ending or data.count(b"*") <= MOST_EDGES or has(data, ORDERED_SIGNS) and ORDERED.search(data):
         return
     for start, end in regions(data):
         for contour in contours(data, start, end):

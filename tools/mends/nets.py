@@ -5,7 +5,7 @@ Places that are asked for have doubled coordinates, so that middles are whole.
 from bisect import bisect_left
 from collections import defaultdict
 
-CELLS = 400
+CELLS = 256
 
 
 def cross(a, b, c):

@@ -5,7 +5,7 @@ FUNCTION = re.compile(rb"[ \t]*; ?#@! ?TF\.FileFunction,([^\r\n]*)")
 ATTRIBUTE = re.compile(rb"; ?#@! ?TA\.AperFunction,(Plated|NonPlated)\b")
 NO_ATTRIBUTE = re.compile(rb"; ?#@! ?TD\b")
 TYPE = re.compile(rb"; ?TYPE ?= ?(PLATED|NON_?PLATED)[ \t\r]*", re.I)
-TOOL = re.compile(rb"T([0-9]{1,4})[A-Z].*C[0-9.]|T([0-9]{1,4})C[0-9.]")
+TOOL = re.compile(rb"T([0-9]{1,4})(?:[FSBHZ][0-9.+-]*)*C[0-9.]")
 
 
 class Plating:
@@ -19,7 +19,7 @@ class Plating:
             line = line.strip(b" \t\r")
             tool = TOOL.match(line)
             if tool:
-                self.tools[int(tool[1] or tool[2])] = lasting if own is None else own
+                self.tools[int(tool[1])] = lasting if own is None else own
                 own = None
             elif line.startswith(b";"):
                 function, attribute, kind = FUNCTION.match(line), ATTRIBUTE.match(line), TYPE.fullmatch(line)

@@ -1,4 +1,6 @@
 """Mended copies in the scratch folder, and how the answer says that they were judged."""
+import os
+
 from mends import package as mends
 from mends import ways
 
@@ -20,9 +22,9 @@ def mend(package, progress):
 
 
 def bytes_of(package, name):
-    """A file's bytes; none where it cannot be read or is too long, which `check` says."""
+    """The bytes of a file beside the manifest; none where it cannot be read, which `check` says."""
     try:
-        return package.read(name)
+        return b"" if os.path.isabs(name) else package.read(name)
     except OSError:
         return b""
 
