@@ -134,7 +134,7 @@ class Holes:
         if not self.taken and not plating.functions:
             return
         tools = ", ".join(f"T{number}" for number in plating.unplated()) or "none"
-        what = f"and each tool says whether it is plated: the holes of the unplated ones ({tools}) are left out, {self.taken} lines"
+        what = f"and each tool says whether it is plated: the holes of the unplated ones ({tools}) are left out, {self.taken} {'line' if self.taken == 1 else 'lines'}"
         at = plating.place() - 1
         text = short(drill.lines[at], 60)
         for number, fields in plating.functions:

@@ -42,7 +42,7 @@ ROWS = (
         "has no effect: left out"),
     Row(FORMAT, "`FS` with the lengths of codes (`N2`, `G2`, `D2`, `M2`)", "`FS` without them", "they say nothing of places", "has lengths of codes: written without them"),
     Row(END, "`M00` as the last word", "`M02`", "both end the file", "ends the file: written as `M02`"),
-    Row(UNUSED, "an aperture outside the profile that no draw and no flash has, with its selections; a macro that no such aperture has",
+    Row(UNUSED, "an aperture outside the profile that no draw and no flash has, with its selections; a macro that no other aperture names",
         "an attribute without a meaning; an empty comment", "it makes no copper", "is used by no draw and no flash: left out"),
     Row(LINES, "a macro's word that is broken over lines beside a comma or at its end, or has blanks there", "the word in one line", "a blank there ends no number",
         "is a macro's word over several lines, or with blanks: joined"),

@@ -23,7 +23,7 @@ T2
 X5.0Y0.0
 M30
 """
-TOLD = "p.drl: line 3, `; #@! TF.FileFunction,MixedPlating,1,2`, and each tool says whether it is plated: the holes of the unplated ones (T2) are left out, 1 lines"
+TOLD = "p.drl: line 3, `; #@! TF.FileFunction,MixedPlating,1,2`, and each tool says whether it is plated: the holes of the unplated ones (T2) are left out, 1 line"
 BOARD = {"m.json": manifest(("top.gbr", "bot.gbr"), [("p.drl", 1, 2)]), "top.gbr": TOP, "bot.gbr": TRACK, "p.drl": DRILL, "n.ipc": POINTS}
 
 
