@@ -27,15 +27,17 @@ class Aperture:
 
     def __init__(self, start, end, match):
         self.start, self.end, self.number, self.name, self.parts = start, end, int(match[1]), match[2], match[3]
+        self.values = self.parts.split(b"X") if self.parts is not None else []
+
+    def is_whole(self):
+        """Whether it is a definition at all, and not a damaged word."""
+        return self.number >= 10 and all(re.fullmatch(DECIMAL, value) for value in self.values) and len(self.values) >= SIZES.get(self.name, 0)
 
     def is_taken(self, scale):
         """Whether `check` takes the definition."""
-        if self.name not in SIZES or self.number < 10:
+        if len(self.values) != SIZES.get(self.name):
             return False
-        parts = self.parts.split(b"X") if self.parts is not None else []
-        if len(parts) != SIZES[self.name] or not all(re.fullmatch(DECIMAL, part) for part in parts):
-            return False
-        sizes = [Decimal(part.decode()) * scale for part in parts]
+        sizes = [Decimal(value.decode()) * scale for value in self.values]
         return (all(size % 2 == 0 and 0 <= size <= MOST for size in sizes) and min(sizes) <= MOST_WIDE
                 and (self.name == b"C" or min(sizes) > 0))
 
@@ -72,7 +74,7 @@ class Definitions:
         numbers = [it.number for it in self.apertures]
         if not self.is_plain or not self.scale or len(set(numbers)) < len(numbers):
             return []
-        return [it for it in self.apertures if not it.is_taken(self.scale)]
+        return [it for it in self.apertures if it.is_whole() and not it.is_taken(self.scale)]
 
     def unused(self):
         """The apertures outside the profile that no draw and no flash has; they and their selections are left out."""

@@ -50,6 +50,7 @@ COPPER_STAYS = {
     "a mode that a draw without a code has": PLAIN.replace("X5000000Y0D01", "X1Y0D01*\nG03*\nX5000002"),
     "a mode that a draw of a centre alone has": PLAIN.replace("X5000000Y0D01", "G02*\nI5J0D01"),
     "a polygon that a draw of a centre alone has": PLAIN.replace("%ADD10C,1.0*%", "%ADD10C,1.0*%\n%ADD11P,1.0X6*%").replace("M02", "D11*\nI5J0D01*\nM02"),
+    "a damaged definition": PLAIN.replace("%ADD10C,1.0*%", "%ADD10C,1.0*%\n%ADD11C,1e5*%"),
     "a polygon that a flash has": PLAIN.replace("C,1.0", "P,1.0X6"),
     "a polygon that a draw without a code has": PLAIN.replace("%ADD10C,1.0*%", "%ADD10C,1.0*%\n%ADD11P,1.0X6*%").replace("Y0D01", "Y0D01*\nD11*\nX12"),
     "a break in a number": macro("1,1,1.\n0,0,0"),
