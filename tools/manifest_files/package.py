@@ -2,6 +2,8 @@
 import json
 import os
 
+from mends import package as mends
+
 from . import MOST_BYTES, Refused, copper, drills, is_name, kinds, netlists, shown
 
 
@@ -139,9 +141,13 @@ class Plan:
 def gather(folder):
     """The package of a folder's files; folders in it are not entered."""
     package = Package()
-    for name in sorted(os.listdir(folder)):
+    names = sorted(os.listdir(folder))
+    for name in names:
         path = os.path.join(folder, name)
         if name in OURS:
+            continue
+        if mends.is_copy(name, names):
+            package.leave_out(name, "it is the mended copy of another file")
             continue
         if not os.path.isfile(path):
             package.leave_out(name, "it is a folder" if os.path.isdir(path) else "it is no plain file")

@@ -58,6 +58,7 @@ def finding(board, it):
 def board_of(shown):
     """One board."""
     told = {"path": shown.path, "status": shown.status, "line": shown.line, "notes": shown.notes,
+            "mends": [it._asdict() for it in shown.mends],
             "hints": [hint._asdict() for hint in shown.hints]}
     if shown.bounds:
         told["bounds"] = {"findings": [{"kind": kind, "sure": sure, "words": words, "places": [place((x, y), layer) for x, y, layer in places]}

@@ -22,6 +22,8 @@ class Package:
         self.flattened, self.outside = set(), {}
         # What was left out and what was guessed, in words, where the manifest was made here.
         self.left_out, self.guessed = [], []
+        # What was rewritten before `check`, as mends/__init__.py says.
+        self.mends = []
         # What the two packages say between which it lies, once they are made.
         self.between = None
         # How the files are called where the user has them, and whether the manifest was made here.
@@ -65,7 +67,8 @@ class Package:
     def changed(self, folder, files=None, told=None):
         """Another package of the same files but for those that are given, in a folder of its own."""
         copy = Package(told or self.manifest, folder, self.name)
-        copy.flattened, copy.home, copy.own = set(self.flattened) - set(files or ()), self.home, self.own
+        copy.flattened, copy.home = set(self.flattened) - set(files or ()), self.home
+        copy.own, copy.mends = self.own, self.mends
         os.makedirs(folder)
         for name, data in (files or {}).items():
             copy.put(name, data)

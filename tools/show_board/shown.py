@@ -1,7 +1,7 @@
 """One board, from its files to its findings."""
 import os
 
-from . import UNJUDGED, Stop, bounds, copper, findings, hints, judged, labels, netlist, package, report, same_pins, ties, unjudged
+from . import UNJUDGED, Stop, bounds, copper, findings, hints, judged, labels, mending, netlist, package, report, same_pins, ties, unjudged
 from .board import Board
 
 NO_PLACES = "this program writes reports of version 1, which do not say where copper is from: what is told is the report and the netlist alone"
@@ -18,7 +18,7 @@ class Shown:
         self.path, self.status, self.line, self.audit = path, 0, "", ""
         self.title = os.path.basename(os.path.normpath(path)) or path
         self.board, self.findings, self.hints, self.bounds = None, [], [], None
-        self.notes, self.flood, self.report, self.ties = [], "", b"", ties.Ties()
+        self.notes, self.flood, self.report, self.ties, self.mends = [], "", b"", ties.Ties(), []
 
     def counts(self):
         """What counts: a short that is a declared tie does not, a tie that the copper does not have is an open."""
@@ -94,12 +94,14 @@ def show(path, asked, program, scratch):
     try:
         files = package.opened(path, asked, scratch)
         shown.ties, own = ties.declared(asked.tie, files), own_names(files, asked)
+        mending.mend(files, program.progress)
         told = judged.judge(program, files)
         (shown.status, shown.line), shown.audit, shown.report = shown.ties.answer(told), told.audit, told.text or b""
         shown.notes = own + package_notes(files)
         if told.report:
             look(program, told, shown, asked.page or asked.svg)
         outside(program, told, shown)
+        mending.say(files, shown)
         if files.own and shown.status in labels.ANSWERS:
             shown.line = labels.FIRST + shown.line
         if asked.keep:
