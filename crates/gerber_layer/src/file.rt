@@ -92,7 +92,12 @@ pub fn read_by<D: Dialect>(
         match words.next_word() {
             Step::Word(word) => obey_at::<D>(alloc, &mut reader, &D::read(word), word.at)?,
             Step::End => return finished::<D>(alloc, reader, Command::Finish, file.len()),
-            Step::Broken(fault, at) => return finished::<D>(alloc, reader, Command::Broken(fault), at),
+            Step::Broken(fault, at) => return finished::<D>(
+                alloc,
+                reader,
+                Command::Broken(fault),
+                at,
+            ),
         }
     }
 }

@@ -37,6 +37,9 @@ pub fn read_flat(alloc: Global, file: &[u8]) -> Result<Vec<Piece>, FlattenFault>
         pieces: 200_000,
         edges: 1_000_000,
     };
-    read_by::<WithMacros>(alloc, file, 1, 0, room)
-        .map_err(|why| macro_fault_at(why.halt, why.command, why.at))
+    read_by::<WithMacros>(alloc, file, 1, 0, room).map_err(|why| macro_fault_at(
+        why.halt,
+        why.command,
+        why.at,
+    ))
 }

@@ -40,6 +40,9 @@ pub fn read_layer(
     ensures layers { IfOk result (λ pieces. All (λ piece. (piece.top ≡ layer) × (piece.bottom ≡ layer)) pieces.items) }
     ensures fault { IfErr result (IsFault file.now (record { layer = layer; file = file_number; room = room })) }
 {
-    read_by::<Standard>(alloc, file, layer, file_number, room)
-        .map_err(|why| fault_at(why.halt, why.command, why.at))
+    read_by::<Standard>(alloc, file, layer, file_number, room).map_err(|why| fault_at(
+        why.halt,
+        why.command,
+        why.at,
+    ))
 }
