@@ -20,7 +20,7 @@ use Rattle.gerber_layer.specs.After.{after, contour_after, heads, opened}
 use Rattle.gerber_layer.specs.Settings.{value_or, value_in, settings_before, format_before, unit_before, x_before, y_before, point_before, region_open, drawn, contour_before, defined_before, definitions_before, macros_before, ok_block, with_body}
 use Rattle.gerber_layer.specs.Image.{Image, with_effect, known_with, known_by, image_by}
 use Rattle.gerber_layer.specs.Reader.{defined_in, macros_in, size_of, Adds, HasMacros, Turns, contour_of, known_of, place_of, Obeys}
-use Rattle.gerber_layer.proofs.Outcome.{Outcome, IsEffect, IsFilled}
+use Rattle.gerber_layer.specs.Outcomes.{HasOutcomes, IsEffect, IsFilled, Outcome}
 
 -- a coordinate's value
 value_is : (x : Option (List ℕ)) (format : Format) (unit : Measure) (here to : ℤ) → coordinate format unit here x ≡ Ok to → value_in x (Some format) (Some unit) here ≡ to
@@ -224,10 +224,6 @@ same_image {W} old new earlier q p m n e x h a b c d =
 new_image : (i j : Image) → i.pieces ≡ j.pieces → i.start ≡ j.start → i ≡ j
 new_image i j a b =
     ap (λ (xs : List PlainPiece). let r : Image = record { pieces = xs; start = i.start } in r) a ∙ ap (λ (n : ℕ). let r : Image = record { pieces = j.pieces; start = n } in r) b
-
--- the outcomes of a table are those of the commands
-abbrev pub HasOutcomes : {W : Type 0} → Profile W → Type 0
-HasOutcomes f = (k : Known) (c : Command) (e : Effect) → f k c ≡ Ok e → Outcome k c e
 
 -- one command more
 pub state-push : {W : Type 0} (f : Profile W) → HasOutcomes f → (p : Place) (earlier : List Command) (r : Reader) (c : Command) (new : Reader) → State f p earlier r → Obeys r c (f (known_of r) c) new → State f p (c ∷ earlier) new

@@ -9,7 +9,8 @@ use Rattle.gerber_layer.specs.Table.{Place}
 use Rattle.gerber_layer.specs.Image.{effect_before, effect_by, pieces_by, pieces_of}
 use Rattle.gerber_layer.specs.MacroReading.{command_with_macros}
 use Rattle.gerber_layer.specs.MacroTable.{effect_with_macros}
-use Rattle.gerber_layer.specs.MacroLayer.{flat_place, AreMacroItems, HasOneMacroAnswer}
+use Rattle.gerber_layer.specs.Dialect.{AreItemsBy}
+use Rattle.gerber_layer.specs.MacroLayer.{flat_place, HasOneMacroAnswer, with_macros}
 use Rattle.gerber_layer.specs.Layer.{AreItems, stop_command, HasOneAnswer}
 
 pub one_answer : ((a : Ahead) → HasOneReadingAhead a) → (file : List ℕ) (p : Place) → HasOneAnswer file p
@@ -17,4 +18,4 @@ one_answer one file p = one_answer_of (effect_before p) (pieces_of p) (AreItems 
 
 -- also where it may have macros
 pub one_macro_answer : ((a : Ahead) → HasOneReadingAhead a) → (file : List ℕ) → HasOneMacroAnswer file
-one_macro_answer one file = one_answer_of (effect_by effect_with_macros flat_place) (pieces_by effect_with_macros flat_place) (AreMacroItems file) (some_items one command_with_macros stop_command file) (one_items one command_with_macros stop_command file)
+one_macro_answer one file = one_answer_of (effect_by effect_with_macros flat_place) (pieces_by effect_with_macros flat_place) (AreItemsBy with_macros file) (some_items one command_with_macros stop_command file) (one_items one command_with_macros stop_command file)

@@ -10,49 +10,34 @@ use Rattle.gerber_words.specs.Words.{Ahead, Entry, Stop, HasWords, start}
 use Rattle.gerber_words.specs.Items.{AreItems, word_item, stop_item, items_with}
 use Rattle.gerber_words.specs.Laws.{HasOneReadingAhead}
 use Rattle.gerber_layer.specs.Command.{Command}
-use Rattle.std.specs.Prelude.{IfOk}
+use Rattle.std.specs.Prelude.{IfErr, IfOk}
 use Rattle.board_shapes.specs.declared.placed.Placed.{Placed}
 use Rattle.board_shapes.specs.declared.shape.Shape.{Shape}
 use Rattle.file_reading.specs.declared.halt.Halt.{Halt}
 use Rattle.file_reading.specs.declared.halt.Halt.TheVariants as halt
+use Rattle.gerber_layer.specs.declared.file.Stopped.{Stopped}
 use Rattle.gerber_layer.specs.declared.reader.Reader.{Reader}
 use Rattle.gerber_layer.specs.Table.{Place, Known, Effect, Profile}
 use Rattle.gerber_layer.specs.Settings.{settings_before, defined_before, macros_before}
 use Rattle.gerber_layer.specs.Image.{effect_by, image_by, pieces_by}
-use Rattle.gerber_layer.specs.Layer.{stop_command}
-use Rattle.gerber_layer.specs.Reader.{known_of, contour_of, defined_in, macros_in, place_of, size_of, Obeys, IsNew, Stops, Leaves}
-use Rattle.gerber_layer.proofs.Bridge.{HasOutcomes, State, reader_image, state-push, same_known, same_macros}
-
--- How a file is read by a table: what a word says, and what a command does.
-pub record Reads (W : Type 0) : Type 0 where
-  pub command : Entry → Command
-  pub table : Profile W
-
--- what a file is read as by it, and how it is refused
-abbrev pub IsReadBy : {W : Type 0} → Reads W → List ℕ → Place → List PlainPiece → Type 0
-IsReadBy f file p pieces = (items : List (Item Command)) × AreItems f.command stop_command file items × reading.IsRead (effect_by f.table p) (pieces_by f.table p) items pieces
-
-abbrev pub IsRefusedBy : {W : Type 0} → Reads W → List ℕ → Place → W → ℕ → ℕ → Type 0
-IsRefusedBy f file p why number place = (items : List (Item Command)) × AreItems f.command stop_command file items × reading.IsRefused (effect_by f.table p) items why number place
-
--- what stops the reader at a place is that refusal, or want of memory
-abbrev pub IsHaltBy : {W : Type 0} → Reads W → List ℕ → Place → Halt W → ℕ → ℕ → Type 0
-IsHaltBy f file p (halt.Fault why) number place = IsRefusedBy f file p why number place
-IsHaltBy f file p halt.NoMemory number place = Unit {0}
+use Rattle.gerber_layer.specs.Dialect.{Dialect, IsHaltBy, IsReadBy, IsRefusedBy, stop_command}
+use Rattle.gerber_layer.specs.Outcomes.{HasOutcomes}
+use Rattle.gerber_layer.specs.Reader.{known_of, contour_of, defined_in, macros_in, place_of, size_of, Obeys, IsNew, Stops, StopsAt, Leaves}
+use Rattle.gerber_layer.proofs.Bridge.{State, reader_image, state-push, same_known, same_macros}
 
 -- the file is read to these words
-pub record ReadToWords {W : Type 0} (f : Reads W) (file : List ℕ) (p : Place) (earlier : List (Item Command)) (words : List Entry) (stop : Stop) : Type 0 where
+pub record ReadToWords {W : Type 0} (f : Dialect W) (file : List ℕ) (p : Place) (earlier : List (Item Command)) (words : List Entry) (stop : Stop) : Type 0 where
   pub all : List (Item Command)
   pub are : AreItems f.command stop_command file all
   pub read : IsReadTo (effect_by f.table p) all earlier (items_with f.command stop_command (length file) words stop)
 
 -- whatever words lie ahead, the file is read to them, and the reader knows what looking back finds
-pub record ReadSoFar {W : Type 0} (f : Reads W) (file : List ℕ) (p : Place) (a : Ahead) (r : Reader) : Type 0 where
+pub record ReadSoFar {W : Type 0} (f : Dialect W) (file : List ℕ) (p : Place) (a : Ahead) (r : Reader) : Type 0 where
   pub earlier : List (Item Command)
   pub extends : (words : List Entry) (stop : Stop) → HasWords a words stop → ReadToWords f file p earlier words stop
   pub state : State f.table p (said earlier) r
 
-pub nothing-read : {W : Type 0} (f : Reads W) (file : List ℕ) (p : Place) (r : Reader) → IsNew p r → ReadSoFar f file p (start file) r
+pub nothing-read : {W : Type 0} (f : Dialect W) (file : List ℕ) (p : Place) (r : Reader) → IsNew p r → ReadSoFar f file p (start file) r
 unfolding image_by
 nothing-read f file p r n = record {
   earlier = [];
@@ -71,7 +56,7 @@ item-read : {W : Type 0} (f : Profile W) (items : List (Item Command)) (p : Plac
 item-read f items p earlier rest item r r' read state o = read-more (effect_by f p) items earlier rest item read (is_ok f (known_of r) _ item.says o.effect_is state.known o.clean)
 
 -- a word that was obeyed
-pub word-read : {W : Type 0} (f : Reads W) → HasOutcomes f.table → (file : List ℕ) (p : Place) (old new : Ahead) (w : Entry) (r r' : Reader) → ReadSoFar f file p old r → ((words : List Entry) (stop : Stop) → HasWords new words stop → HasWords old (w ∷ words) stop) → Obeys r (f.command w) (f.table (known_of r) (f.command w)) r' → ReadSoFar f file p new r'
+pub word-read : {W : Type 0} (f : Dialect W) → HasOutcomes f.table → (file : List ℕ) (p : Place) (old new : Ahead) (w : Entry) (r r' : Reader) → ReadSoFar f file p old r → ((words : List Entry) (stop : Stop) → HasWords new words stop → HasWords old (w ∷ words) stop) → Obeys r (f.command w) (f.table (known_of r) (f.command w)) r' → ReadSoFar f file p new r'
 word-read f outcomes file p old new w r r' s next o = record {
   earlier = word_item f.command w ∷ s.earlier;
   extends = λ words stop h.
@@ -84,7 +69,7 @@ count_of : {W : Type 0} (f : Profile W) (earlier : List (Item Command)) (r : Rea
 count_of f earlier r p number s h = h ∙ ap (λ (k : ℕ). k + 1) (s.counts ∙ length-map earlier (λ i. i.says))
 
 -- an item that has a fault
-refused : {W : Type 0} (f : Reads W) (file : List ℕ) (p : Place) (items earlier later : List (Item Command)) (item : Item Command) (r : Reader) (why : W) (number : ℕ) → AreItems f.command stop_command file items → IsReadTo (effect_by f.table p) items earlier (item ∷ later) → State f.table p (said earlier) r → f.table (known_of r) item.says ≡ Err why → number ≡ r.commands + 1 → IsRefusedBy f file p why number item.at
+refused : {W : Type 0} (f : Dialect W) (file : List ℕ) (p : Place) (items earlier later : List (Item Command)) (item : Item Command) (r : Reader) (why : W) (number : ℕ) → AreItems f.command stop_command file items → IsReadTo (effect_by f.table p) items earlier (item ∷ later) → State f.table p (said earlier) r → f.table (known_of r) item.says ≡ Err why → number ≡ r.commands + 1 → IsRefusedBy f file p why number item.at
 refused f file p items earlier later item r why number are read state h n = (
   items,
   are,
@@ -100,25 +85,25 @@ refused f file p items earlier later item r why number are read state h n = (
 )
 
 -- what stops the reader at an item is that item's fault
-halted : {W : Type 0} (f : Reads W) (file : List ℕ) (p : Place) (items earlier later : List (Item Command)) (item : Item Command) (r : Reader) (why : Halt W) (number : ℕ) → AreItems f.command stop_command file items → IsReadTo (effect_by f.table p) items earlier (item ∷ later) → State f.table p (said earlier) r → Stops (f.table (known_of r) item.says) why → number ≡ r.commands + 1 → IsHaltBy f file p why number item.at
+halted : {W : Type 0} (f : Dialect W) (file : List ℕ) (p : Place) (items earlier later : List (Item Command)) (item : Item Command) (r : Reader) (why : Halt W) (number : ℕ) → AreItems f.command stop_command file items → IsReadTo (effect_by f.table p) items earlier (item ∷ later) → State f.table p (said earlier) r → Stops (f.table (known_of r) item.says) why → number ≡ r.commands + 1 → IsHaltBy f file p why number item.at
 halted f file p items earlier later item r (halt.Fault why) number are read state h n = refused f file p items earlier later item r why number are read state h n
 halted f file p items earlier later item r halt.NoMemory number are read state h n = tt
 
 -- at a word
-pub word-fault : {W : Type 0} (f : Reads W) → ((a : Ahead) → HasOneReadingAhead a) → (file : List ℕ) (p : Place) (old new : Ahead) (w : Entry) (r : Reader) (why : Halt W) → ReadSoFar f file p old r → ((words : List Entry) (stop : Stop) → HasWords new words stop → HasWords old (w ∷ words) stop) → Stops (f.table (known_of r) (f.command w)) why → IsHaltBy f file p why (r.commands + 1) w.at
+pub word-fault : {W : Type 0} (f : Dialect W) → ((a : Ahead) → HasOneReadingAhead a) → (file : List ℕ) (p : Place) (old new : Ahead) (w : Entry) (r : Reader) (why : Halt W) → ReadSoFar f file p old r → ((words : List Entry) (stop : Stop) → HasWords new words stop → HasWords old (w ∷ words) stop) → Stops (f.table (known_of r) (f.command w)) why → IsHaltBy f file p why (r.commands + 1) w.at
 word-fault f one file p old new w r why s next h =
     let more = one new in
     let x = s.extends (w ∷ more.words) more.stop (next more.words more.stop more.is) in
     halted f file p x.all s.earlier (items_with f.command stop_command (length file) more.words more.stop) (word_item f.command w) r why (r.commands + 1) x.are x.read s.state h refl
 
 -- at the stop
-pub stop-fault : {W : Type 0} (f : Reads W) (file : List ℕ) (p : Place) (old : Ahead) (stop : Stop) (r : Reader) (why : Halt W) → ReadSoFar f file p old r → HasWords old [] stop → Stops (f.table (known_of r) (stop_item stop_command (length file) stop).says) why → IsHaltBy f file p why (r.commands + 1) (stop_item stop_command (length file) stop).at
+pub stop-fault : {W : Type 0} (f : Dialect W) (file : List ℕ) (p : Place) (old : Ahead) (stop : Stop) (r : Reader) (why : Halt W) → ReadSoFar f file p old r → HasWords old [] stop → Stops (f.table (known_of r) (stop_item stop_command (length file) stop).says) why → IsHaltBy f file p why (r.commands + 1) (stop_item stop_command (length file) stop).at
 stop-fault f file p old stop r why s had h =
     let x = s.extends [] stop had in
     halted f file p x.all s.earlier [] (stop_item stop_command (length file) stop) r why (r.commands + 1) x.are x.read s.state h refl
 
 -- the stop, where it is obeyed
-stop-obeyed : {W : Type 0} (f : Reads W) → HasOutcomes f.table → (file : List ℕ) (p : Place) (old : Ahead) (stop : Stop) (r r' : Reader) → ReadSoFar f file p old r → HasWords old [] stop → Obeys r (stop_item stop_command (length file) stop).says (f.table (known_of r) (stop_item stop_command (length file) stop).says) r' → IsReadBy f file p (plain_pieces r'.pieces.items)
+stop-obeyed : {W : Type 0} (f : Dialect W) → HasOutcomes f.table → (file : List ℕ) (p : Place) (old : Ahead) (stop : Stop) (r r' : Reader) → ReadSoFar f file p old r → HasWords old [] stop → Obeys r (stop_item stop_command (length file) stop).says (f.table (known_of r) (stop_item stop_command (length file) stop).says) r' → IsReadBy f file p (plain_pieces r'.pieces.items)
 stop-obeyed f outcomes file p old stop r r' s h o =
     let x = s.extends [] stop h in
     let last = state-push f.table outcomes p (said s.earlier) r (stop_item stop_command (length file) stop).says r' s.state o in (
@@ -132,6 +117,14 @@ stop-obeyed f outcomes file p old stop r r' s h o =
     )
 
 -- the answer at the stop
-pub stop-read : {V W F : Type 0} (f : Reads W) → HasOutcomes f.table → (items : V → List (Placed Shape)) (result : Result V F) (file : List ℕ) (p : Place) (old : Ahead) (stop : Stop) (r : Reader) → ReadSoFar f file p old r → HasWords old [] stop → IfOk result (λ v. Leaves f.table r (stop_item stop_command (length file) stop).says (items v)) → IfOk result (λ v. IsReadBy f file p (plain_pieces (items v)))
+pub stop-read : {V W F : Type 0} (f : Dialect W) → HasOutcomes f.table → (items : V → List (Placed Shape)) (result : Result V F) (file : List ℕ) (p : Place) (old : Ahead) (stop : Stop) (r : Reader) → ReadSoFar f file p old r → HasWords old [] stop → IfOk result (λ v. Leaves f.table r (stop_item stop_command (length file) stop).says (items v)) → IfOk result (λ v. IsReadBy f file p (plain_pieces (items v)))
 stop-read f outcomes items (Ok v) file p old stop r s had h = let a = stop-obeyed f outcomes file p old stop r h.last s had h.obeys in subst (λ (t : List (Placed Shape)). IsReadBy f file p (plain_pieces t)) (sym h.are) a
 stop-read f outcomes items (Err e) file p old stop r s had h = tt
+
+-- also as the reader's result
+pub stopped-at-word : {W : Type 0} (f : Dialect W) → ((a : Ahead) → HasOneReadingAhead a) → (file : List ℕ) (p : Place) (old new : Ahead) (w : Entry) (r : Reader) (why : Stopped W) → ReadSoFar f file p old r → ((words : List Entry) (stop : Stop) → HasWords new words stop → HasWords old (w ∷ words) stop) → StopsAt f.table r (f.command w) w.at why → IsHaltBy f file p why.halt why.command why.at
+stopped-at-word f one file p old new w r why s next h = rw (h.number, h.place) (word-fault f one file p old new w r why.halt s next h.halts)
+
+pub stopped-at-stop : {V W : Type 0} (f : Dialect W) (result : Result V (Stopped W)) (file : List ℕ) (p : Place) (old : Ahead) (stop : Stop) (r : Reader) → ReadSoFar f file p old r → HasWords old [] stop → IfErr result (StopsAt f.table r (stop_item stop_command (length file) stop).says (stop_item stop_command (length file) stop).at) → IfErr result (λ why. IsHaltBy f file p why.halt why.command why.at)
+stopped-at-stop f (Ok v) file p old stop r s had h = tt
+stopped-at-stop f (Err why) file p old stop r s had h = rw (h.number, h.place) (stop-fault f file p old stop r why.halt s had h.halts)

@@ -1,48 +1,27 @@
--- Files with macros: the table that `read_flat` reads by.
+-- Files with macros.
 use Rattle.std.proofs.Common.{◌≡◌, ℕ, ◌+◌, false, List, [], ◌∷◌, length, Some, Result, Ok, Err, refl, ap, ◌∙◌, subst, sym}
-use Rattle.std.specs.Prelude.{IfErr}
-use Rattle.gerber_words.specs.Words.{Ahead, Entry, Stop, HasWords}
-use Rattle.gerber_words.specs.Laws.{HasOneReadingAhead}
-use Rattle.gerber_words.specs.Items.{stop_item}
 use Rattle.file_reading.specs.declared.halt.Halt.{Halt}
 use Rattle.file_reading.specs.declared.halt.Halt.TheVariants as halt
 use Rattle.gerber_layer.specs.Command.{Command}
 use Rattle.gerber_layer.specs.declared.kind.GerberKind.{GerberKind}
 use Rattle.gerber_layer.specs.declared.macro_kind.FlattenKind.{FlattenKind}
-use Rattle.gerber_layer.specs.declared.macro_kind.FlattenFault.{FlattenFault}
 use Rattle.gerber_layer.specs.declared.reader.Reader.{Reader}
 use Rattle.aperture_macros.specs.Seen.{plain}
 use Rattle.board_shapes.specs.Figures.{figure_of}
 use Rattle.gerber_layer.specs.declared.effect.Effect.{Effect as Seen}
 use Rattle.gerber_layer.specs.declared.effect.Effect.TheVariants as seen
 use Rattle.gerber_layer.specs.Table.{Known, Effect, stays, makes, begins_macro, fills_macro, performs, extends, closes, opens, leaves, steps, room_for, ◌>>=◌}
-use Rattle.gerber_layer.specs.Layer.{stop_command}
-use Rattle.gerber_layer.specs.MacroReading.{command_with_macros}
-use Rattle.gerber_layer.specs.MacroTable.{effect_with_macros, few_radii, gerber}
-use Rattle.gerber_layer.specs.MacroLayer.{flat_place, IsMacroFault}
-use Rattle.gerber_layer.specs.MacroReader.{is_end, macro_fault_at, MacroFaults}
+use Rattle.gerber_layer.specs.Dialect.{IsHaltBy}
+use Rattle.gerber_layer.specs.MacroTable.{few_radii, gerber}
+use Rattle.gerber_layer.specs.MacroLayer.{flat_place, IsMacroFault, macro_fault_at, with_macros}
+use Rattle.gerber_layer.specs.MacroReader.{is_end}
 use Rattle.gerber_layer.specs.Reader.{Obeys, shown, tool_of}
 use Rattle.gerber_layer.proofs.Outcome.{then_goes, flash_goes, extend_is, close_is, area_left, steps_is}
-use Rattle.gerber_layer.proofs.ReadSoFar.{IsHaltBy, ReadSoFar, Reads, stop-fault, word-fault}
-
-abbrev pub with_macros : Reads FlattenKind
-with_macros = record { command = command_with_macros; table = effect_with_macros }
 
 -- what stops the reader is the file's fault
-as_macro_fault : (file : List ℕ) (why : Halt FlattenKind) (number at : ℕ) → IsHaltBy with_macros file flat_place why number at → IsMacroFault file (macro_fault_at why number at)
+pub as_macro_fault : (file : List ℕ) (why : Halt FlattenKind) (number at : ℕ) → IsHaltBy with_macros file flat_place why number at → IsMacroFault file (macro_fault_at why number at)
 as_macro_fault file (halt.Fault kind) number at h = h
 as_macro_fault file halt.NoMemory number at h = tt
-
--- at a word
-pub word-macro-refused : ((a : Ahead) → HasOneReadingAhead a) → (file : List ℕ) (old new : Ahead) (w : Entry) (r : Reader) (why : FlattenFault) → ReadSoFar with_macros file flat_place old r → ((words : List Entry) (stop : Stop) → HasWords new words stop → HasWords old (w ∷ words) stop) → MacroFaults r (command_with_macros w) w.at why → IsMacroFault file why
-word-macro-refused one file old new w r why s next h = rw h.is (as_macro_fault file h.halt (r.commands + 1) w.at (word-fault with_macros one file flat_place old new w r h.halt s next h.halts))
-
--- also at the stop
-pub last-macro-fault : {V : Type 0} (result : Result V FlattenFault) (file : List ℕ) (old : Ahead) (stop : Stop) (r : Reader) → ReadSoFar with_macros file flat_place old r → HasWords old [] stop → IfErr result (MacroFaults r (stop_item stop_command (length file) stop).says (stop_item stop_command (length file) stop).at) → IfErr result (IsMacroFault file)
-last-macro-fault (Ok v) file old stop r s had h = tt
-last-macro-fault (Err e) file old stop r s had h =
-    let item = stop_item stop_command (length file) stop in
-    rw h.is (as_macro_fault file h.halt _ item.at (stop-fault with_macros file flat_place old stop r h.halt s had h.halts))
 
 -- ---- The end of a file
 

@@ -10,7 +10,11 @@ use Rattle.gerber_layer.specs.Command.{Command, opens_region, operates, repeats,
 use Rattle.gerber_layer.specs.Reading.{command_of}
 use Rattle.gerber_layer.specs.declared.command.Code.{Code}
 use Rattle.gerber_layer.specs.declared.command.Code.TheVariants.{Draw, Move, Flash}
+use Rattle.gerber_layer.specs.declared.kind.GerberKind.{GerberKind}
 use Rattle.gerber_layer.specs.declared.kind.GerberKind.TheVariants as kind
+use Rattle.gerber_layer.specs.declared.macro_kind.FlattenKind.{FlattenKind}
+use Rattle.gerber_layer.specs.Kinds.{kind_number}
+use Rattle.gerber_layer.specs.MacroKinds.{flatten_number}
 use Rattle.gerber_layer.specs.Table.{Place, code_of, is_drawing}
 use Rattle.gerber_layer.specs.Settings.{code_in, contour_before, is_end, point_before, region_open}
 use Rattle.gerber_layer.specs.Image.{effect_before, image_of, pieces_of}
@@ -92,3 +96,9 @@ pub record EndsAt (file : List ℕ) (star : ℕ) : Type 0 where
 pub record PrefixesAreRefused (file : List ℕ) (p : Place) : Type 0 where
   pub has_end : (star : ℕ) × EndsAt file star
   pub refused : (star n : ℕ) → EndsAt file star → n ≤ star → (number : ℕ) × (place : ℕ) × IsRefused (take n file) p kind.NotEnded number place
+
+-- ---- Kinds of refusal
+
+-- Each kind of both tables of copper files has a number of its own; those without macros keep theirs where there may be some.
+abbrev pub KindsHaveOwnNumbers : Type 0
+KindsHaveOwnNumbers = ((a b : FlattenKind) → flatten_number a ≡ flatten_number b → a ≡ b) × ((a b : GerberKind) → kind_number a ≡ kind_number b → a ≡ b)

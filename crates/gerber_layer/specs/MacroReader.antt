@@ -5,16 +5,12 @@ use Rattle.file_reading.specs.declared.halt.Halt.TheVariants as halt
 use Rattle.gerber_layer.specs.declared.kind.GerberKind.{GerberKind}
 use Rattle.gerber_layer.specs.declared.macro_kind.FlattenKind.{FlattenKind}
 use Rattle.gerber_layer.specs.declared.macro_kind.FlattenKind.TheVariants.{Gerber}
-use Rattle.gerber_layer.specs.declared.macro_kind.FlattenFault.{FlattenFault}
-use Rattle.gerber_layer.specs.declared.macro_kind.FlattenFault.TheVariants as flatten
 use Rattle.gerber_layer.specs.declared.effect.Effect.{Effect as Seen}
 use Rattle.gerber_layer.specs.declared.effect.Effect.TheVariants as seen
 use Rattle.gerber_layer.specs.declared.radii.Radii.{Radii}
-use Rattle.gerber_layer.specs.declared.reader.Reader.{Reader}
-use Rattle.gerber_layer.specs.Command.{Command}
 use Rattle.gerber_layer.specs.Table.{Known, Effect}
-use Rattle.gerber_layer.specs.MacroTable.{effect_with_macros, gerber}
-use Rattle.gerber_layer.specs.Reader.{Stops, known_of, shown}
+use Rattle.gerber_layer.specs.MacroTable.{gerber}
+use Rattle.gerber_layer.specs.Reader.{shown}
 
 -- what an effect comes to, or the fault of a command
 abbrev pub showing_any : Known → Result Seen FlattenKind → Result Effect FlattenKind
@@ -34,14 +30,3 @@ is_end other = false
 abbrev pub any_halt : Halt GerberKind → Halt FlattenKind
 any_halt (halt.Fault kind) = halt.Fault (Gerber kind)
 any_halt halt.NoMemory = halt.NoMemory
-
--- what stops the reader, as the fault of the file at the command of this number and place
-abbrev pub macro_fault_at : Halt FlattenKind → ℕ → ℕ → FlattenFault
-macro_fault_at (halt.Fault kind) number at = flatten.Refused kind number at
-macro_fault_at halt.NoMemory number at = flatten.NoMemory
-
--- the fault of a command that stands at a place
-pub record MacroFaults (r : Reader) (c : Command) (at : ℕ) (why : FlattenFault) : Type 0 where
-  pub halt : Halt FlattenKind
-  pub halts : Stops (effect_with_macros (known_of r) c) halt
-  pub is : why ≡ macro_fault_at halt (r.commands + 1) at

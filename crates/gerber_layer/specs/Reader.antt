@@ -28,8 +28,7 @@ use Rattle.regions.specs.Contours.{points_of}
 use Rattle.regions.specs.declared.contour.Contour.{Contour}
 use Rattle.gerber_layer.specs.declared.kind.GerberKind.{GerberKind}
 use Rattle.gerber_layer.specs.declared.kind.GerberKind.TheVariants as kind
-use Rattle.gerber_layer.specs.declared.kind.LayerFault.{LayerFault}
-use Rattle.gerber_layer.specs.declared.kind.LayerFault.TheVariants as layer
+use Rattle.gerber_layer.specs.declared.file.Stopped.{Stopped}
 use Rattle.file_reading.specs.declared.halt.Halt.{Halt}
 use Rattle.file_reading.specs.declared.halt.Halt.TheVariants as halt
 use Rattle.gerber_layer.specs.declared.effect.Effect.{Effect as Seen}
@@ -40,7 +39,7 @@ use Rattle.gerber_layer.specs.declared.tool.Tool.{Tool as Given}
 use Rattle.gerber_layer.specs.declared.tool.Tool.TheVariants as given
 use Rattle.gerber_layer.specs.Tools.{Macro, Macros, Tool, standard, composed, begun, filled_up, macro_named}
 use Rattle.gerber_layer.specs.declared.reader.Reader.{Reader}
-use Rattle.gerber_layer.specs.Table.{Place, Known, Effect, stays, makes, begins_macro, fills_macro, performs, extends, closes, opens, leaves, steps, concludes, effect, closing, Profile, edges_of, ended_block, extend, flash, listed, room_for, ◌>>=◌}
+use Rattle.gerber_layer.specs.Table.{Place, Known, Effect, stays, makes, begins_macro, fills_macro, performs, extends, closes, opens, leaves, steps, concludes, closing, Profile, edges_of, ended_block, extend, flash, listed, room_for, ◌>>=◌}
 use Rattle.gerber_layer.specs.After.{after, contour_after, heads, opened}
 use Rattle.gerber_layer.specs.Image.{made, pieces_after, start_after}
 use Rattle.gerber_layer.specs.Lawful.{AreLawfulSettings}
@@ -352,19 +351,14 @@ pub record IsNew (p : Place) (r : Reader) : Type 0 where
   pub counts : r.commands ≡ 0
   pub place : place_of r ≡ p
 
--- what stops the reader, as the fault of the file at the command of this number and place
-abbrev pub fault_at : Halt GerberKind → ℕ → ℕ → LayerFault
-fault_at (halt.Fault kind) number at = layer.Refused kind number at
-fault_at halt.NoMemory number at = layer.NoMemory
-
 -- The reader obeys a last command, and these pieces are left.
 pub record Leaves {W : Type 0} (f : Profile W) (r : Reader) (c : Command) (pieces : List (Placed Shape)) : Type 0 where
   pub last : Reader
   pub obeys : Obeys r c (f (known_of r) c) last
   pub are : pieces ≡ last.pieces.items
 
--- the fault of a command that stands at a place
-pub record Faults (r : Reader) (c : Command) (at : ℕ) (why : LayerFault) : Type 0 where
-  pub halt : Halt GerberKind
-  pub halts : Stops (effect (known_of r) c) halt
-  pub is : why ≡ fault_at halt (r.commands + 1) at
+-- what stops the reader at a command that stands at a place
+pub record StopsAt {W : Type 0} (f : Profile W) (r : Reader) (c : Command) (at : ℕ) (why : Stopped W) : Type 0 where
+  pub halts : Stops (f (known_of r) c) why.halt
+  pub number : why.command ≡ r.commands + 1
+  pub place : why.at ≡ at

@@ -1,3 +1,4 @@
+pub mod KindNumbers
 mod Front
 mod NumberLemmas
 mod WordLemmas

@@ -2,6 +2,7 @@
 use Rattle.std.specs.Prelude.{◌≡◌, ℕ, ◌+◌, ◌<◌, List, ◌∷◌, ◌++◌, take}
 use Rattle.board_shapes.specs.declared.probe.Probe.{Probe}
 use Rattle.texts.specs.Lines.{PlainLine, lines_of}
+use Rattle.ipc356_records.specs.Kind.{number_of_kind}
 use Rattle.ipc356_records.specs.declared.kind.RecordKind.{RecordKind}
 use Rattle.ipc356_records.specs.Line.{ends}
 use Rattle.ipc356_records.specs.Reading.{form_of}
@@ -21,3 +22,7 @@ PrefixIsRefused file layers =
     ((line : PlainLine) × IsEndLine file line) ×
     ((line : PlainLine) → IsEndLine file line → (n : ℕ) → n < line.at + 3 →
     (why : RecordKind) × (number : ℕ) × IsRefused (take n file) layers why number)
+
+-- Each kind of refusal has a number of its own.
+abbrev pub KindsHaveOwnNumbers : Type 0
+KindsHaveOwnNumbers = (a b : RecordKind) → number_of_kind a ≡ number_of_kind b → a ≡ b

@@ -1,3 +1,4 @@
+pub mod KindNumbers
 pub mod Bridge
 pub mod LawfulAfter
 pub mod Numbers

@@ -5,6 +5,7 @@ use Rattle.board_shapes.specs.Plain.{PlainPiece}
 use Rattle.file_reading.specs.Reading.{Clean}
 use Rattle.texts.specs.Blanks.{is_blank}
 use Rattle.texts.specs.Lines.{PlainLine, lines_of}
+use Rattle.xnc.specs.Kind.{number_of_kind}
 use Rattle.xnc.specs.declared.kind.DrillKind.{DrillKind}
 use Rattle.xnc.specs.declared.line.Form.{Form}
 use Rattle.xnc.specs.declared.line.Form.TheVariants as form
@@ -36,3 +37,7 @@ PrefixIsRefused file p =
     ((line : PlainLine) × IsEndLine file p line) ×
     ((line : PlainLine) → IsEndLine file p line → (n : ℕ) → n < end_of line →
     (why : DrillKind) × (number : ℕ) × (place : ℕ) × IsRefused (take n file) p why number place)
+
+-- Each kind of refusal has a number of its own.
+abbrev pub KindsHaveOwnNumbers : Type 0
+KindsHaveOwnNumbers = (a b : DrillKind) → number_of_kind a ≡ number_of_kind b → a ≡ b

@@ -3,7 +3,7 @@ ghost use Rattle.std.specs.Prelude.{◌≡◌, ℕ, List, take};
 ghost use Rattle.board_shapes.specs.Plain.{PlainPiece};
 ghost use Rattle.xnc.specs.declared.line.Form.{Form};
 ghost use Rattle.xnc.specs.DrillFile.{HasOneAnswer, IsRead};
-ghost use Rattle.xnc.specs.Laws.{HasTool, PrefixIsRefused};
+ghost use Rattle.xnc.specs.Laws.{HasTool, KindsHaveOwnNumbers, PrefixIsRefused};
 ghost use Rattle.xnc.specs.Place.{Place};
 
 /// Each file has one answer: its barrels, or its first fault.
@@ -26,4 +26,9 @@ pub fn prefix_is_refused()
 /// A prefix of a drill file that is read is refused, or makes the same barrels.
 pub fn prefix_makes_the_same()
     ensures { (file : List ℕ) (p : Place) (pieces others : List PlainPiece) (n : ℕ) → IsRead file p pieces → IsRead (take n file) p others → others ≡ pieces }
+{}
+
+/// Each kind of refusal has a number of its own.
+pub fn kinds_have_own_numbers()
+    ensures { KindsHaveOwnNumbers }
 {}

@@ -1,0 +1,39 @@
+-- How a copper file is read by a dialect.
+use Rattle.std.specs.Prelude.{ℕ, List}
+use Rattle.board_shapes.specs.Pieces.{PlainPiece}
+use Rattle.file_reading.specs.Reading as reading
+use Rattle.file_reading.specs.Reading.{Item}
+use Rattle.file_reading.specs.declared.halt.Halt.{Halt}
+use Rattle.file_reading.specs.declared.halt.Halt.TheVariants as halt
+use Rattle.gerber_words.specs.Words.{Entry, Stop, ended, broken}
+use Rattle.gerber_words.specs.Items as words
+use Rattle.gerber_layer.specs.Command.{Command, finishes, breaks}
+use Rattle.gerber_layer.specs.Image.{effect_by, pieces_by}
+use Rattle.gerber_layer.specs.Table.{Place, Profile}
+
+-- A dialect: what a word says, and what a command does, or why it is refused.
+pub record Dialect (W : Type 0) : Type 0 where
+  pub command : Entry → Command
+  pub table : Profile W
+
+-- the command of the stop, which is the last
+abbrev pub stop_command : Stop → Command
+stop_command ended = finishes
+stop_command (broken fault at) = breaks fault
+
+-- these are the commands of the file with their places, as its words have them
+abbrev pub AreItemsBy : {W : Type 0} → Dialect W → List ℕ → List (Item Command) → Type 0
+AreItemsBy d file items = words.AreItems d.command stop_command file items
+
+-- no command has a fault, and these are the pieces that they make
+abbrev pub IsReadBy : {W : Type 0} → Dialect W → List ℕ → Place → List PlainPiece → Type 0
+IsReadBy d file p pieces = (items : List (Item Command)) × AreItemsBy d file items × reading.IsRead (effect_by d.table p) (pieces_by d.table p) items pieces
+
+-- the first command with a fault, its number and its place
+abbrev pub IsRefusedBy : {W : Type 0} → Dialect W → List ℕ → Place → W → ℕ → ℕ → Type 0
+IsRefusedBy d file p kind number place = (items : List (Item Command)) × AreItemsBy d file items × reading.IsRefused (effect_by d.table p) items kind number place
+
+-- what stops the reader at a place: that refusal, or want of memory
+abbrev pub IsHaltBy : {W : Type 0} → Dialect W → List ℕ → Place → Halt W → ℕ → ℕ → Type 0
+IsHaltBy d file p (halt.Fault kind) number place = IsRefusedBy d file p kind number place
+IsHaltBy d file p halt.NoMemory number place = Unit {0}
