@@ -1,74 +1,112 @@
-"""A place of a netlist's grid within a pad's copper, so that a test point there is never off its copper.
+"""Where a netlist may name a pad: a place of its grid that lies in the pad's own copper.
 
-`holds(place)` says whether the pad has a place, in u; places of the answers are whole units of the netlist.
+An IPC-D-356A file counts whole units of 0.0001 inch or 0.001 mm, and the middle of a pad is seldom a whole number of both. The
+place nearest to it is taken, where that is copper of the pad, and else another within the pad: a record is never off its copper.
+All is whole numbers and fractions.
 """
-from .distances import from_line
-from .tree import cover
+from fractions import Fraction as Q
+from typing import NamedTuple
 
-# Of a netlist: u of each unit, with its word in the file and in speech.
-UNITS = {25_400: ("CUST 0", "0.0001 inch"), 10_000: ("CUST 1", "0.001 mm")}
-MOST = 999_999      # six digits
-REACH = 2           # units to each side of a wished place
-LATTICE = 16        # steps across a pad whose middle has no copper
-FEW = 10_000        # places of the grid that are all tried
+from .clear import box
+from .spots import edges, odd_inside, point_within
 
-
-def near(spot, unit, holds, reach=REACH):
-    """The nearest place about a spot that a pad has, or None."""
-    x, y = (round(v / unit) if abs(v) < 2 ** 50 else v // unit for v in spot)
-    around = [(x + i, y + j) for i in range(-reach, reach + 1) for j in range(-reach, reach + 1)]
-    around.sort(key=lambda at: ((at[0] * unit - spot[0]) ** 2 + (at[1] * unit - spot[1]) ** 2, at))
-    return next((at for at in around if fits(at) and holds((at[0] * unit, at[1] * unit))), None)
+CUST = {25_400: 0, 10_000: 1}       # units in u, by their codes
+MOST = 999_999                      # six digits
+ROWS, ALONG = 15, 8                 # as many rows of an area, and places along a capsule, are looked at
 
 
-def fits(at):
-    return max(abs(at[0]), abs(at[1])) <= MOST
+class Pad(NamedTuple):
+    """Copper with a place where a point is wanted. Pieces are ("capsule", a, b, r) or ("area", corners), whole numbers of u; what
+    lies in one of `gone` is not taken, as where copper is erased again."""
+
+    middle: tuple
+    pieces: list
+    gone: list = ()
 
 
-def holder(touching, pieces):
-    """Whether one of some pieces has a place."""
-    def holds(place):
-        return any(touching.holds(piece, place) for piece in pieces)
-    return holds
+class Place(NamedTuple):
+    """A place in whole units, and how far it is from where it was wanted, squared, in u."""
+
+    x: int
+    y: int
+    off: int
 
 
-def room(touching, piece, place):
-    """How far a place of a piece is from the piece's border, at least."""
-    r = touching.shapes.radius[piece]
-    if touching.shapes.is_area(piece):
-        return min(from_line(place, a, b) for a, b in touching.lines(piece))
-    return r - from_line(place, *touching.lines(piece)[0])
+def holds(piece, spot):
+    """Whether a piece has a place; its border is part of it."""
+    if piece[0] == "capsule":
+        return point_within(spot, *piece[1:])
+    return odd_inside(piece[1], spot) or any(point_within(spot, a, b, 0) for a, b in edges(piece[1]))
 
 
-def deepest(touching, pieces):
-    """A place well within some pieces: of a lattice over each piece the one that is farthest from the piece's border."""
-    best = None
-    for piece in pieces:
-        left, low, right, high = touching.box(piece)
-        for i in range(1, LATTICE):
-            for j in range(1, LATTICE):
-                place = left + (right - left) * i // LATTICE, low + (high - low) * j // LATTICE
-                if touching.holds(piece, place):
-                    found = room(touching, piece, place), -i, -j, place
-                    best = found if best is None or found > best else best
-    return best[-1] if best else None
+def is_copper(pad, spot):
+    return any(holds(piece, spot) for piece in pad.pieces) and not any(holds(piece, spot) for piece in pad.gone)
 
 
-def anywhere(touching, pieces, spot, unit, holds):
-    """Of a small pad any place of the grid, the nearest to a spot first."""
-    left, low, right, high = cover([touching.box(piece) for piece in pieces])
-    columns, rows = range(-(-left // unit), right // unit + 1), range(-(-low // unit), high // unit + 1)
-    if len(columns) * len(rows) > FEW:
-        return None
-    around = sorted(((x * unit - spot[0]) ** 2 + (y * unit - spot[1]) ** 2, (x, y)) for x in columns for y in rows)
-    return next((at for _, at in around if fits(at) and holds((at[0] * unit, at[1] * unit))), None)
+def around(spot, unit):
+    """The four places of the grid about a place, the nearest first."""
+    x, y = (v // unit for v in spot)
+    return sorted(((x + i, y + j) for i in (0, 1) for j in (0, 1)), key=lambda at: apart(at, spot, unit))
 
 
-def within(touching, pieces, spot, unit):
-    """The place of a pad: the nearest to its middle, else one well within its copper, else any; None where the grid has none."""
-    holds = holder(touching, pieces)
-    at = near(spot, unit, holds)
-    if at is None:
-        inner = deepest(touching, pieces)
-        at = inner and near(inner, unit, holds)
-    return anywhere(touching, pieces, spot, unit, holds) if at is None else at
+def apart(at, spot, unit):
+    return sum((v * unit - wanted) ** 2 for v, wanted in zip(at, spot))
+
+
+def middles(piece):
+    """Places that a piece is likely to have round them."""
+    if piece[0] == "capsule":
+        (x1, y1), (x2, y2) = piece[1:3]
+        return [(x1 + (x2 - x1) * k // ALONG, y1 + (y2 - y1) * k // ALONG) for k in (4, 0, 8, 2, 6, 1, 3, 5, 7)[:9 if piece[1] != piece[2] else 1]]
+    left, low, right, high = box(piece)
+    return [((left + right) // 2, (low + high) // 2)]
+
+
+def rows(piece, unit):
+    """Rows of the grid across a piece, spread over its height."""
+    _, low, _, high = box(piece)
+    first, last = -(-low // unit), high // unit
+    step = max(1, (last - first + ROWS) // ROWS)
+    return range(first + (last - first) % step // 2, last + 1, step)
+
+
+def across(corners, y):
+    """Where a row is inside an area, as (from, to), the widest first."""
+    cuts = sorted(Q((b[0] - a[0]) * (y - a[1]), b[1] - a[1]) + a[0] for a, b in edges(corners) if (a[1] > y) != (b[1] > y))
+    return sorted(zip(cuts[::2], cuts[1::2]), key=lambda cut: cut[0] - cut[1])
+
+
+def within(piece, unit):
+    """Places of the grid that may lie in a piece."""
+    for spot in middles(piece):
+        yield from around(spot, unit)
+    for row in rows(piece, unit) if piece[0] == "area" else ():
+        for first, last in across(piece[1], row * unit)[:ROWS]:
+            for k in (4, 2, 6, 1, 7):
+                yield round((first + (last - first) * k / 8) / unit), row
+
+
+def size(piece):
+    left, low, right, high = box(piece)
+    return (right - left) * (high - low)
+
+
+def place(pad, unit):
+    """A place of the grid in a pad's copper, as near to its middle as is easily found, or None."""
+    for at in around(pad.middle, unit):
+        if max(map(abs, at)) <= MOST and is_copper(pad, (at[0] * unit, at[1] * unit)):
+            return Place(*at, apart(at, pad.middle, unit))
+    found = []
+    for piece in sorted(pad.pieces, key=size, reverse=True):
+        found += [at for at in within(piece, unit) if max(map(abs, at)) <= MOST and is_copper(pad, (at[0] * unit, at[1] * unit))]
+        if found:
+            break
+    best = min(found, key=lambda at: (apart(at, pad.middle, unit), at), default=None)
+    return best and Place(*best, apart(best, pad.middle, unit))
+
+
+def settled(pads):
+    """(unit, places): the unit in which most pads have a place, and of two such that with most at their middles."""
+    tried = [(unit, [place(pad, unit) for pad in pads]) for unit in CUST]
+    return min(tried, key=lambda it: (sum(at is None for at in it[1]), sum(at is not None and at.off > 0 for at in it[1]),
+                                      sum(at.off for at in it[1] if at)))
