@@ -18,10 +18,12 @@ class Package:
         self.manifest, self.folder, self.name = told, folder, name
         # Copper files that `flatten` rewrote, and what it said of those that it refused.
         self.flattened, self.outside = set(), {}
+        # Those files as they were before, and where each file of the scratch folder came from.
+        self.before, self.came = {}, {}
         # What was left out and what was guessed, in words, where the manifest was made here.
         self.left_out, self.guessed = [], []
         # What the two packages say between which it lies, once they are made.
-        self.between = None
+        self.between = self.sides = None
         # How the files are called where the user has them.
         self.home = ""
 
@@ -50,11 +52,13 @@ class Package:
             return
         os.makedirs(os.path.dirname(path), exist_ok=True)
         os.symlink(os.path.abspath(source), path)
+        self.came[name] = os.path.abspath(source)
 
     def changed(self, folder, files=None, told=None):
         """Another package of the same files but for those that are given, in a folder of its own."""
         copy = Package(told or self.manifest, folder, self.name)
         copy.flattened, copy.home = set(self.flattened) - set(files or ()), self.home
+        copy.before = {name: data for name, data in self.before.items() if name in copy.flattened}
         os.makedirs(folder)
         for name, data in (files or {}).items():
             copy.put(name, data)
