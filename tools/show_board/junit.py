@@ -26,11 +26,14 @@ def suite(shown):
     if not shown.board or shown.status not in (0, 1):
         return whole(shown)
     failures = {}
+    gaps = [it for it in shown.findings if it.kind == "gap"]
     for it in shown.findings:
-        for name in it.names:
+        for name in it.names if it.kind != "gap" else ():
             failures.setdefault(name, []).append(it)
     cases = [case(shown, name, failures.get(number, [])) for number, name in enumerate(shown.board.report.names)]
-    return [f'<testsuite name={quoteattr(shown.title)} tests="{len(cases)}" failures="{len(failures)}" errors="0">', *cases, "</testsuite>"]
+    cases += [case(shown, "gaps between nets", gaps)] if shown.gap_count is not None else []
+    failed = len(failures) + bool(gaps)
+    return [f'<testsuite name={quoteattr(shown.title)} tests="{len(cases)}" failures="{failed}" errors="0">', *cases, "</testsuite>"]
 
 
 def text(all_shown):

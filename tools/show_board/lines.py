@@ -1,5 +1,5 @@
 """Findings as lines: grouped by name for a reader, one a line for `grep`."""
-from . import UNJUDGED
+from . import UNJUDGED, beside
 from .words import counted
 
 MOST = 20
@@ -58,6 +58,7 @@ def reader(shown, is_all):
     left = len(shown.findings) - told
     if left:
         yield f"{counted(left, 'further finding')}: --all prints them, --page FILE shows them"
+    yield from cut(list(beside.lines(shown)), is_all)
 
 
 def cut(rows, is_all):
@@ -69,9 +70,12 @@ def quiet(shown):
     if shown.board:
         netlist = shown.board.package.told_path(shown.board.manifest.netlist)
         for finding in shown.findings:
-            yield f"{netlist}:{shown.board.line(finding.points[0])}: {finding.id}: {finding.text()}"
+            place = f"{netlist}:{shown.board.line(finding.points[0])}" if finding.points else shown.path
+            yield f"{place}: {finding.id}: {finding.text()}"
     for row in bounded(shown):
         yield f"{shown.path}: {row.strip()}"
     for hint in shown.hints:
         yield f"{shown.path}: hint: {hint.words}"
+    for row in beside.lines(shown):
+        yield f"{shown.path}: {row.strip()}"
     yield summary(shown)

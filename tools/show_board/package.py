@@ -105,6 +105,7 @@ def of_manifest(path, scratch):
     package = Package(told, room(scratch, told.names() if told else []), name)
     package.home = home
     package.put(name, data)
+    package.came[name] = os.path.abspath(path)
     for each in told.names() if told else []:
         package.link(each, os.path.join(home, each))
     return package

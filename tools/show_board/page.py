@@ -16,9 +16,9 @@ from array import array
 from .words import counted
 
 HERE = os.path.dirname(os.path.abspath(__file__))
-TITLES = {"open": "Opens", "short": "Shorts", "missing": "Points without copper"}
+TITLES = {"open": "Opens", "short": "Shorts", "missing": "Points without copper", "gap": "Gaps"}
 # As the marks in the picture.
-SIGNS = {"open": "\u2296", "short": "\u2715", "missing": "\u25a1"}
+SIGNS = {"open": "\u2296", "short": "\u2715", "missing": "\u25a1", "gap": "\u21d4"}
 # So many findings of a kind stand open, the further ones in folds; their suggestions stand in the data alone, which is packed.
 OPEN, FOLD = 300, 500
 SCRIPTS = ("data", "words", "view", "paint", "draw", "marks", "chosen", "list", "search", "move", "act")
@@ -169,14 +169,16 @@ def list_of(kind, findings):
 
 
 def verdict(shown):
-    if shown.status == 0:
-        return "Agrees: the copper joins exactly the points that the netlist joins."
+    besides = shown.line.partition("; ")[2]
+    more = f" Besides: {besides}." if besides else ""
+    if shown.verdict[0] == 0 and shown.board.report.agrees:
+        return f"Agrees: the copper joins exactly the points that the netlist joins.{more}"
     if not shown.findings:
         return shown.line
     counts = shown.counts()
     told = [counted(counts["opens"], "open"), counted(counts["shorts"], "short"),
             counted(counts["missing"], "point without copper", "points without copper")]
-    return "Differs: " + ", ".join(words for words in told if not words.startswith("0 ")) + "."
+    return "Differs: " + ", ".join(words for words in told if not words.startswith("0 ")) + f".{more}"
 
 
 def facts(shown):

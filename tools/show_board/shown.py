@@ -1,7 +1,7 @@
 """One board, from its files to its findings."""
 import os
 
-from . import UNJUDGED, Stop, bounds, copper, findings, hints, judged, netlist, package, report
+from . import UNDECIDED, UNJUDGED, Stop, beside, bounds, copper, findings, hints, judged, netlist, package, report
 from .board import Board
 
 NO_PLACES = "this program writes reports of version 1, which do not say where copper is from: what is told is the report and the netlist alone"
@@ -19,10 +19,26 @@ class Shown:
         self.title = os.path.basename(os.path.normpath(path)) or path
         self.board, self.findings, self.hints, self.bounds = None, [], [], None
         self.notes, self.flood, self.report = [], "", b""
+        # What was asked for beside: the netlist for a tester, the comparison with another board, the record.
+        self.tester = self.like = self.record = self.gap_count = None
+        # Status and line of the netlist alone.
+        self.verdict = 0, ""
 
     def counts(self):
         told = self.board.report
         return {"opens": len(told.opens), "shorts": len(told.shorts), "missing": len(told.bare)}
+
+
+    def lacks(self, why):
+        """Something that was asked for is not known."""
+        self.notes.append(why)
+        self.status = self.status or UNJUDGED
+
+    def found(self, certain, possible, words):
+        """Something that was looked for beside the netlist, and how much of it there is."""
+        self.line = f"{self.line}; {words}"
+        if self.status in (0, UNDECIDED):
+            self.status = 1 if certain else UNDECIDED if possible else self.status
 
 
 def shapes_of(program, told):
@@ -84,8 +100,9 @@ def show(path, asked, program, scratch):
         shown.status, shown.line, shown.audit, shown.report = told.status, told.line, told.audit, told.text or b""
         shown.notes = package_notes(files)
         if told.report:
-            look(program, told, shown, asked.page or asked.svg)
+            look(program, told, shown, asked.page or asked.svg or beside.wants_copper(asked))
         outside(program, told, shown)
+        beside.add(program, told, shown, asked, scratch)
         if asked.keep:
             package.keep(files, shown.report, asked.keep)
     except Stop as stop:
