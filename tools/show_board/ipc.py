@@ -41,6 +41,7 @@ class Names:
                 nets_of[name].append(net)
         self.taken, self.alias = set(nets_of), {}
         self.several = sorted(name for name, nets in nets_of.items() if len(nets) > 1)
+        self.joined = [sorted(names) for _, names in sorted(on_nets.items()) if len(names) > 1]
         own = {net: next(iter(names)) for net, names in on_nets.items() if len(names) == 1}
         self.of = [own[net] if net in own and len(nets_of[own[net]]) == 1 else self.free("NET", net) for net in range(board.report.nets)]
 
@@ -135,12 +136,17 @@ class Netlist:
             lines.append(row.line(self.unit, self.names.field(it.net), drill))
         head = [f"C boardnet show: the nets of the copper of {plain(self.title.replace(' ', '_'), 40)}", "P  VER IPC-D-356A", f"P  UNITS CUST {points.CUST[self.unit]}"]
         aliases = [f"P  {alias}  {re.sub('[^ -~]', '?', name)}" for name, alias in self.names.alias.items()]
-        return "\n".join([*head, *aliases, *lines, "999", ""])
+        none = [f"C net without a record: {self.net_word(net)}" for net in self.without()]
+        return "\n".join([*head, *aliases, *lines, *none, "999", ""])
 
     # ---- what is told
 
     def nets(self):
         return {row.place.net for row in self.rows}
+
+    def without(self):
+        """The nets that no record is of."""
+        return sorted(set(range(self.board.report.nets)) - self.nets())
 
     def lines(self):
         holes = sum(row.place.hole is not None for row in self.rows)
@@ -164,13 +170,15 @@ class Netlist:
         middles = sorted(self.nets() - pads)
         if middles:
             yield f"{counted(len(middles), 'net')} with mid-points (vias) alone, and no pad: {spoken(map(self.net_word, middles), FEW)}"
-        none = sorted(set(range(self.board.report.nets)) - self.nets())
+        none = self.without()
         if none:
             yield f"{counted(len(none), 'net')} without a record: {spoken(map(self.net_word, none), FEW)}"
         if self.unplaced:
             yield f"{counted(len(self.unplaced), 'pad')} without a place on the grid: " + spoken((Row(it, None, 1).told() for it in self.unplaced), FEW)
         if self.names.several:
             yield f"{counted(len(self.names.several), 'name')} of several nets, which are called NET<n>: {spoken(self.names.several, FEW)}"
+        if self.names.joined:
+            yield f"{counted(len(self.names.joined), 'net')} of several names, called NET<n>: " + spoken((spoken(names, 3) for names in self.names.joined), FEW)
 
     def place_word(self, row):
         return f"{self.names.of[row.place.net]} at {millimetres(row.place.middle[0])}, {millimetres(row.place.middle[1])} mm"
