@@ -95,9 +95,13 @@ class Row:
         wide, high = (whole(length, unit) for length in it.size)
         return f"{head}{hole}A{self.access:02d}X{self.at.x:+07d}Y{self.at.y:+07d}X{wide:04d}Y{0 if it.is_round else high:04d}R000"
 
+    def off(self, unit):
+        """How far it is from the middle of the pad, squared, in u."""
+        return sum((v * unit - middle) ** 2 for v, middle in zip(self.at, self.place.middle))
+
     def is_moved(self, unit):
         """Whether it is farther from the middle than rounding brings it."""
-        return 2 * self.at.off > unit * unit
+        return 2 * self.off(unit) > unit * unit
 
     def told(self):
         it = self.place
@@ -117,7 +121,7 @@ class Netlist:
         self.board, self.title = padlist.board, title
         shapes, layers = self.board.shapes, self.board.manifest.layers
         self.names = Names(self.board, padlist.objects)
-        self.unit, found = points.settled([points.Pad(it.middle, [solid(shapes, piece) for piece in it.pieces]) for it in padlist.places])
+        self.unit, found = points.settled([points.Pad(it.aim, [solid(shapes, piece) for piece in it.pieces]) for it in padlist.places])
         self.unplaced = [it for it, at in zip(padlist.places, found) if at is None]
         rows = {}
         for row in (Row(it, at, layers) for it, at in zip(padlist.places, found) if at is not None):
@@ -131,7 +135,7 @@ class Netlist:
             if it.part and (len(it.part) > 6 or len(it.pin) > 4 or plain(it.part, 6) != it.part or plain(it.pin, 4) != it.pin):
                 lines.append(f"C PIN,{plain(it.part, 60)},{plain(it.pin, 60)}")
             if row.is_moved(self.unit):
-                lines.append(f"C the next record is {at_most(row.at.off ** 0.5)} mm from the middle of its pad")
+                lines.append(f"C the next record is {at_most(row.off(self.unit) ** 0.5)} mm from the middle of its pad")
             drill = 2 * shapes.radius[it.hole] if it.hole is not None else 0
             lines.append(row.line(self.unit, self.names.field(it.net), drill))
         head = [f"C boardnet show: the nets of the copper of {plain(self.title.replace(' ', '_'), 40)}", "P  VER IPC-D-356A", f"P  UNITS CUST {points.CUST[self.unit]}"]
@@ -151,13 +155,13 @@ class Netlist:
     def lines(self):
         holes = sum(row.place.hole is not None for row in self.rows)
         yield f"{counted(len(self.rows), 'record')} ({holes} of plated holes) of {counted(len(self.nets()), 'net')}, in units of {UNIT_WORDS[self.unit]}"
-        rounded = [row.at.off for row in self.rows if row.at.off and not row.is_moved(self.unit)]
+        rounded = [row.off(self.unit) for row in self.rows if row.off(self.unit) and not row.is_moved(self.unit)]
         if rounded:
             yield f"{counted(len(rounded), 'place')} rounded to that grid within their pads, by at most {millimetres(-(-int(max(rounded) ** 0.5 + 1) // 100) * 100)} mm"
         moved = [row for row in self.rows if row.is_moved(self.unit)]
         if moved:
             yield f"{counted(len(moved), 'place')} farther from the middle of the pad, so that copper is there: " + spoken(
-                (f"{row.told()} by {at_most(row.at.off ** 0.5)} mm" for row in moved), FEW)
+                (f"{row.told()} by {at_most(row.off(self.unit) ** 0.5)} mm" for row in moved), FEW)
         yield from self.wanting()
 
     def wanting(self):

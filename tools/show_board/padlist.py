@@ -6,6 +6,7 @@ on two nets there is one for each. A pad whose middle lies in a plated hole of i
 from collections import defaultdict
 
 from . import grid
+from .aims import aim
 from .copper import BadCopper
 from .objects import objects_of
 from .tree import cover
@@ -16,10 +17,14 @@ VIA = "VIA"
 
 
 class Place:
-    """A pad or a hole: its pieces, net and layers (first and last), its middle and size in u, and `hole`, the piece of a hole."""
+    """A pad or a hole: its pieces, net and layers (first and last), its middle and size in u, and `hole`, the piece of a hole.
+
+    `aim` is where it is best touched.
+    """
 
     def __init__(self, pieces, net, layers, middle, size, hole=None):
         self.pieces, self.net, self.layers, self.middle, self.size, self.hole = pieces, net, layers, middle, size, hole
+        self.aim = middle
         self.part = self.pin = ""
         self.is_via = self.is_round = False
 
@@ -117,6 +122,7 @@ class Padlist:
         found, it = Place(pieces, net, (layer, layer), middle_of(box), (right - left, high - low)), self.objects[pieces[0]]
         found.name(it.part, it.pin, it.function == "ViaPad")
         shapes = self.board.shapes
+        found.aim = aim(self.board.touching, pieces, found.middle, found.size)
         found.is_round = len(pieces) == 1 and not shapes.is_area(pieces[0]) and len(shapes.places(pieces[0])) == 1
         return found
 
