@@ -118,8 +118,8 @@ def between(program, low, high, u):
 
 def bounded(program, told, u):
     """The gaps of a board between bounds, as its findings are: (kind, sure, words, places)."""
-    _, low, high = told.package.between
-    low, high = with_copper(program, low), with_copper(program, high)
+    _, *both = told.package.between
+    low, high = (with_copper(program, its, sources) for its, sources in zip(both, told.package.sides.sources))
     certain, possible, joined = between(program, low, high, u)
     low_nets, high_nets = Nets(low), Nets(high)
     for it, nearest in certain:

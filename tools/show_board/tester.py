@@ -6,7 +6,7 @@ from .board import Board
 from .ipc import Netlist
 from .package import beside
 
-LOWER = "it is of the lower of two bounds: what that leaves out has no record, and what may touch within the bounds is taken as apart"
+LOWER = "it is of the lower of two bounds: what that leaves out has no record"
 
 
 class Tester(NamedTuple):
@@ -17,11 +17,11 @@ class Tester(NamedTuple):
     netlist: Optional[Netlist]
 
 
-def with_copper(program, told):
+def with_copper(program, told, commands=None):
     """A judged package as a board whose copper is known."""
     package = told.package
     shapes = copper.shapes_of(package, told.report, judged.flat_of(program, package))
-    return Board(package, told.report, netlist.records(package.read(package.manifest.netlist)), shapes)
+    return Board(package, told.report, netlist.records(package.read(package.manifest.netlist)), shapes, commands=commands)
 
 
 def sides_of(program, told, board=None):
@@ -31,7 +31,8 @@ def sides_of(program, told, board=None):
     if not told.package.between:
         raise Stop(told.status, told.line)
     package, low = told.package, told.package.between[1]
-    return with_copper(program, low), package, package.sides.sources[0]
+    sources = package.sides.sources[0]
+    return with_copper(program, low, sources), package, sources
 
 
 def answer_on(program, package, text):
@@ -39,13 +40,20 @@ def answer_on(program, package, text):
     return judged.judge(program, package.changed(beside(package, "tester"), {package.manifest.netlist: text.encode("latin-1")}))
 
 
-def confirmed(program, board, made):
+def confirmed(program, package, text):
     """Whether `check` agrees with the netlist, and the sentence on it."""
     try:
-        answer = answer_on(program, board.package, made.text())
+        answer = answer_on(program, package, text)
     except Stop as stop:
         return False, f"`check` with it: {stop}"
     return answer.status == 0 and bool(answer.report.points), f"`check` with it says: {answer.line} ({answer.audit or 'no audit'})"
+
+
+def above(program, base, text):
+    """What the upper of two bounds says of the netlist: where both agree, so does the board between them."""
+    is_right, said = confirmed(program, base.between[2].package, text)
+    meaning = "so the board itself agrees" if is_right else "so some of its nets may be one on the board"
+    return f"on the upper bound {said}, {meaning}"
 
 
 def made(program, told, title, board=None):
@@ -55,8 +63,9 @@ def made(program, told, title, board=None):
         its = Netlist(padlist.Padlist(board, padlist.origins(board, base, sources)), title)
     except (Stop, copper.BadCopper) as why:
         return Tester(None, [f"no netlist for a tester: {why}"], None)
-    is_right, said = confirmed(program, board, its)
+    text = its.text()
+    is_right, said = confirmed(program, board.package, text)
     if not is_right:
         return Tester(None, [f"no netlist for a tester is written: {said}"], its)
     first, *rest = its.lines()
-    return Tester(its.text(), [f"{first}; {said}", *rest, *([LOWER] if base else [])], its)
+    return Tester(text, [f"{first}; {said}", *rest, *([LOWER, above(program, base, text)] if base else [])], its)
