@@ -94,8 +94,8 @@ class Padlist:
         self.board, self.objects = board, objects
         self.layers = board.manifest.layers
         self.holes, self.pads = self.all_holes(), self.all_pads()
-        self.name_by_records()
         self.places = self.joined()
+        self.name_by_records()
 
     def all_holes(self):
         shapes, found = self.board.shapes, []
@@ -128,7 +128,7 @@ class Padlist:
 
     def name_by_records(self):
         """Part and pin of places by the netlist's records that lie on them, the nearest to the middle first."""
-        board, places = self.board, self.pads + self.holes
+        board, places = self.board, self.places
         told = [(point, board.record(point), board.spot(point)) for point in range(len(board.report.points))]
         told = [it for it in told if it[1] and it[1].component and it[2]]
         boxes = [cover([board.touching.box(piece) for piece in it.pieces]) for it in places] + [spot * 2 for _, _, spot in told]
