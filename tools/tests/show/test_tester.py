@@ -25,9 +25,9 @@ HOLES = {
 }
 HOLE_RECORDS = [
     "317X                J1    -2    D0400PA00X+020000Y+000000X1000Y1000R000",
-    "317NET0             VIA        MD0400PA01X+022000Y+000000X0600Y0000R000",
-    "317NET4                         D0300PA04X+024000Y+000000X1000Y0000R000",
-    "317NET5                         D0400PA02X+026000Y+000000X0400Y0000R000",
+    "317NET1             VIA        MD0400PA01X+022000Y+000000X0600Y0000R000",
+    "317NET2                         D0300PA04X+024000Y+000000X1000Y0000R000",
+    "317NET4                         D0400PA02X+026000Y+000000X0400Y0000R000",
 ]
 PADS = {
     "m.json": manifest(), "n.ipc": netlist(record("GND", "C1.1", 0, 0), record("GND", "C1.2", 6, 0)),
@@ -43,7 +43,7 @@ PAD_RECORDS = [
     "327NET2             C1    -2          A01X+006000Y+000000X1000Y1000R000",
     "327NET5                               A01X+009000Y+000000X0400Y0400R000",
     "C the next record is 1.", "327NET4             U2    -7          A01X",
-    "C net without a record: NET5_ (top.gbr command 31)", "C net without a record: NET6 (top.gbr command 38)",
+    "C net without a record: NET5_ (top.gbr command 36)", "C net without a record: NET6 (top.gbr command 42)",
 ]
 RING = ["%AMRING*", "20,1,0.4,-1,-0.8,1,-0.8,0*", "20,1,0.4,-1,0.8,1,0.8,0*", "20,1,0.4,-0.8,-1,-0.8,1,0*", "20,1,0.4,0.8,-1,0.8,1,0*%", "%ADD20RING*%"]
 SPREAD = [(0, 0), (3, 1), (7, 2), (1, 5), (6, 6), (9, 4), (12, 8), (4, 9), (11, 1), (2, 11)]
@@ -64,8 +64,8 @@ class Netlists(made.Case):
         for program in self.over_both():
             status, out, text = self.made(HOLES, program)
             self.assertEqual((status, body(text)[:4], len(body(text))), (0, HOLE_RECORDS, 5))
-            self.assertIn("1 record of buried holes, which no prober reaches: NET5 at 26.000, 0.000 mm\n", out)
-            self.assertIn("1 net with mid-points (vias) alone, and no pad: NET0 (t.gbr command 20)\n", out)
+            self.assertIn("1 record of buried holes, which no prober reaches: NET4 at 26.000, 0.000 mm\n", out)
+            self.assertIn("1 net with mid-points (vias) alone, and no pad: NET1 (t.gbr command 14)\n", out)
             self.assertIn("1 net without a record: NET3 (b.gbr command 11)\n", out)
             self.assertIn("`check` with it says: agrees (audit true)", out)
 
