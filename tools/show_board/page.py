@@ -13,6 +13,7 @@ import sys
 import zlib
 from array import array
 
+from . import record_page
 from .words import counted
 
 HERE = os.path.dirname(os.path.abspath(__file__))
@@ -206,6 +207,7 @@ def text(shown):
         "TITLE": html.escape(shown.title), "STYLE": style, "SCRIPT": code, "STATE": "agrees" if shown.status == 0 else "differs",
         "VERDICT": html.escape(verdict(shown)), "FACTS": html.escape(facts(shown)), "ADVICE": notes(shown),
         "FINDINGS": lists or '<p class="none">No open, no short, no point without copper.</p>', "DATA": block(shown.board, shown.findings),
+        "RECORD": record_page.section(shown.record),
     }
     parts = asset("page.html").split("@@")
     return "".join(fills[part] if k % 2 else part for k, part in enumerate(parts))

@@ -5,7 +5,7 @@ import signal
 import sys
 import tempfile
 
-from . import Stop, json_form, junit, lines, rdb, record, spacing, unbuilt, written
+from . import Stop, json_form, junit, lines, rdb, record, record_page, spacing, unbuilt, written
 from .program import TOOLS, Program, found
 from .progress import Progress
 from .shown import show
@@ -87,6 +87,8 @@ def write(asked, all_shown):
 
 def pictures(asked, shown):
     if not shown.board or shown.board.shapes is None:
+        if asked.page and shown.record:
+            written.write(asked.page, record_page.page(shown))
         print(f"boardnet: no picture is drawn, since the copper of {shown.path} is not known", file=sys.stderr)
         return
     from . import page, svg

@@ -14,16 +14,19 @@ from show_board.spacing import asked_distance
 # Discs of 1 mm at 0 and 1.3: 0.3 mm apart; a square of 1 mm at (0, 1.25): 0.25 mm above the first disc.
 CLOSE = {"m.json": manifest(), "top.gbr": gerber(*flash(10, (0, 0), (1.3, 0)), *flash(12, (0, 1.25))),
          "n.ipc": netlist(record("A", "J1.1", 0, 0), record("B", "J1.2", 1.3, 0))}
+# A disc of 1 mm and a track of 0.2 mm that runs by at 45 degrees, sqrt(2) - 0.6 = 0.81421.. mm away.
+SLANTED = {**CLOSE, "top.gbr": gerber(*flash(10, (0, 0)), *draw(11, (0, 2), (2, 0))), "n.ipc": netlist(record("A", "J1.1", 0, 0))}
+# An L of copper and a disc in its corner: 0.5 mm from its upright arm, 0.6 mm from the other.
+CORNER = {**SLANTED, "top.gbr": gerber(*region((0, 0), (5, 0), (5, 1), (1, 1), (1, 5), (0, 5)), *flash(10, (2, 2.1)))}
 ROWS = [
     # board, distance asked, (nets, distance in mm, x, y, layer) of each gap
     (CLOSE, "0.3", [([0, 2], 0.25, 0.0, 0.625, 1)]),
     (CLOSE, "0.3000001", [([0, 1], 0.3, 0.65, 0.0, 1), ([0, 2], 0.25, 0.0, 0.625, 1)]),
     (CLOSE, "0.25", []),
-    # A disc of 1 mm and a track of 0.2 mm that runs by at 45 degrees, sqrt(2) - 0.6 = 0.81421.. mm away.
-    ({**CLOSE, "top.gbr": gerber(*flash(10, (0, 0)), *draw(11, (0, 2), (2, 0)))}, "0.82", [([0, 1], 0.8142, 0.7535, 0.7535, 1)]),
-    ({**CLOSE, "top.gbr": gerber(*flash(10, (0, 0)), *draw(11, (0, 2), (2, 0)))}, "0.8142", []),
-    # An L of copper and a disc in its corner: 0.5 mm from both of its arms.
-    ({**CLOSE, "top.gbr": gerber(*region((0, 0), (5, 0), (5, 1), (1, 1), (1, 5), (0, 5)), *flash(10, (2, 2.1)))}, "0.501", [([0, 1], 0.5, 1.25, 2.1, 1)]),
+    (SLANTED, "0.82", [([0, 1], 0.8142, 0.6414, 0.6414, 1)]),
+    (SLANTED, "0.8142", []),
+    (CORNER, "0.5000001", [([0, 1], 0.5, 1.25, 2.1, 1)]),
+    (CORNER, "0.5", []),
 ]
 
 
