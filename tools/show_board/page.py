@@ -172,7 +172,7 @@ def list_of(kind, findings):
 def verdict(shown):
     besides = shown.line.partition("; ")[2]
     more = f" Besides: {besides}." if besides else ""
-    if shown.verdict[0] == 0 and shown.board.report.agrees:
+    if (shown.verdict or (shown.status,))[0] == 0:
         return f"Agrees: the copper joins exactly the points that the netlist joins.{more}"
     if not shown.findings:
         return shown.line

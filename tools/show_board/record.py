@@ -93,7 +93,7 @@ def of(program, told, shown):
     return {
         "boardnet_record": FORM, "date": datetime.datetime.now(datetime.timezone.utc).strftime("%Y-%m-%dT%H:%M:%SZ"), "board": shown.title,
         "program": of_program(program), "status": shown.verdict[0], "line": shown.verdict[1], "beside": shown.line, "files": list(files_of(told)),
-        "mends": [str(it) for it in getattr(told.package, "mends", ())], "ties": [str(it) for it in getattr(shown, "ties", ()) or ()],
+        "mends": [it.words for it in getattr(told.package, "mends", ())], "ties": shown.ties.text().splitlines() if getattr(shown, "ties", None) else [],
         "hints": [hint.words for hint in shown.hints], "notes": list(shown.notes), "reports": reports,
     }
 

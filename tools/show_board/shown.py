@@ -22,7 +22,7 @@ class Shown:
         # What was asked for beside: the netlist for a tester, the comparison with another board, the record.
         self.tester = self.like = self.record = self.gap_count = None
         # Status and line of the netlist alone.
-        self.verdict = 0, ""
+        self.verdict = None
 
     def counts(self):
         told = self.board.report

@@ -8,7 +8,7 @@ from pages import BOARD
 
 ARC = made.gerber("G75*", *made.flash(10, (0, 0)), "D11*", "X1600000Y0D02*", "G03*", "X0Y1600000I-1600000J0D01*", "G01*")
 BOUNDED = {"m.json": made.manifest(), "top.gbr": ARC, "n.ipc": made.netlist(made.record("A", "J1.1", 0, 0), made.record("B", "J1.2", 1.6, 0))}
-MACRO = {**BOUNDED, "top.gbr": made.gerber("%AMD*", "1,1,$1,0,0*%", "%ADD20D,1.0*%", *made.flash(20, (0, 0), (1.6, 0)))}
+MACRO = {**BOUNDED, "top.gbr": made.gerber("%AMD*", "1,1,1.0,0,0*%", "%ADD20D*%", *made.flash(20, (0, 0), (1.6, 0)))}
 SAME = "the record is of these files, and its report passes the audit"
 
 
