@@ -12,7 +12,7 @@ from .padlist import VIA, front
 from .words import at_most, counted, millimetres, spoken
 
 NAME = re.compile(r"(?!NNAME)[!-~]{1,14}")
-UNIT_WORDS = {25_400: "0.0001 inch", 10_000: "0.001 mm"}
+UNIT_WORDS = {10_000: "0.001 mm", 25_400: "0.0001 inch"}
 FEW = 6             # nets and pads that are named in a line
 
 
@@ -114,6 +114,14 @@ def solid(shapes, piece):
     return ("area", places) if shapes.is_area(piece) else ("capsule", places[0], places[-1], shapes.radius[piece])
 
 
+def on_grid(pads):
+    """A unit of which every aim is a whole number, with the places; most boards have one."""
+    for unit in UNIT_WORDS:
+        if all(v % unit == 0 and abs(v) <= points.MOST * unit for pad in pads for v in pad.middle) and all(points.is_copper(pad, pad.middle) for pad in pads):
+            return unit, [points.Place(pad.middle[0] // unit, pad.middle[1] // unit, 0) for pad in pads]
+    return None
+
+
 class Netlist:
     """The netlist of a board's pads and holes, and what is to be told of it."""
 
@@ -121,7 +129,8 @@ class Netlist:
         self.board, self.title = padlist.board, title
         shapes, layers = self.board.shapes, self.board.manifest.layers
         self.names = Names(self.board, padlist.objects)
-        self.unit, found = points.settled([points.Pad(it.aim, [solid(shapes, piece) for piece in it.pieces]) for it in padlist.places])
+        pads = [points.Pad(it.aim, [solid(shapes, piece) for piece in it.pieces]) for it in padlist.places]
+        self.unit, found = on_grid(pads) or points.settled(pads)
         self.unplaced = [it for it, at in zip(padlist.places, found) if at is None]
         rows = {}
         for row in (Row(it, at, layers) for it, at in zip(padlist.places, found) if at is not None):

@@ -129,14 +129,14 @@ def difference(board, other, it):
     return Difference(f"{kind}-{it.number}", kind, True, f"{it.name}: {it.text()}", there, here, places + [other.point(record) for record in records[:FEW]])
 
 
-def differences(program, told, answer, made, other_text):
+def differences(program, shapes, answer, made, other_text):
     """What the check of the other one's netlist finds."""
     if answer.package.between:
         return [Difference(f"{KINDS[kind]}-{k}", KINDS[kind], sure, words, "", places, [])
                 for k, (kind, sure, words, places) in enumerate(answer.package.between[0].findings)]
     after = netlist.records(answer.package.read(answer.package.manifest.netlist))
     other = Other(made, Move(netlist.records(other_text), after))
-    shapes = copper.shapes_of(answer.package, answer.report, judged.flat_of(program, answer.package))
+    shapes = shapes or copper.shapes_of(answer.package, answer.report, judged.flat_of(program, answer.package))
     board = Board(answer.package, answer.report, after, shapes)
     return [difference(board, other, it) for it in findings.all_findings(board)]
 
@@ -172,7 +172,7 @@ def add(program, told, shown, asked, scratch):
     try:
         made, text = reference(program, asked.like, asked, scratch)
         answer, placed = checked(program, told, text)
-        its = differences(program, told, answer, made, text)
+        its = differences(program, shown.board and shown.board.shapes, answer, made, text)
     except (Stop, copper.BadCopper) as why:
         shown.lacks(f"not compared with {asked.like}: {why}")
         return

@@ -35,18 +35,15 @@ def sides_of(program, told, board=None):
     return with_copper(program, low, sources), package, sources
 
 
-def answer_on(program, package, text):
-    """What `check` says of a package with another netlist, its report audited."""
-    return judged.judge(program, package.changed(beside(package, "tester"), {package.manifest.netlist: text.encode("latin-1")}))
-
-
 def confirmed(program, package, text):
-    """Whether `check` agrees with the netlist, and the sentence on it."""
-    try:
-        answer = answer_on(program, package, text)
-    except Stop as stop:
-        return False, f"`check` with it: {stop}"
-    return answer.status == 0 and bool(answer.report.points), f"`check` with it says: {answer.line} ({answer.audit or 'no audit'})"
+    """Whether `check` agrees with the netlist and `audit` confirms that report, and the sentence on it."""
+    copy = package.changed(beside(package, "tester"), {package.manifest.netlist: text.encode("latin-1")})
+    answer = program.check(copy)
+    if answer.status not in (0, 1):
+        return False, f"`check` with it says: {answer.line}"
+    audit = program.audit(copy, answer.out)
+    is_right = (answer.status, audit.status) == (0, 0) and b"\npoints 0\n" not in answer.out
+    return is_right, f"`check` with it says: {answer.line} ({audit.out.decode('ascii', 'replace').strip() or audit.line})"
 
 
 def above(program, base, text):
@@ -64,8 +61,12 @@ def made(program, told, title, board=None):
     except (Stop, copper.BadCopper) as why:
         return Tester(None, [f"no netlist for a tester: {why}"], None)
     text = its.text()
-    is_right, said = confirmed(program, board.package, text)
+    try:
+        is_right, said = confirmed(program, board.package, text)
+        lower = [LOWER, above(program, base, text)] if base and is_right else []
+    except Stop as stop:
+        is_right, said = False, str(stop)
     if not is_right:
         return Tester(None, [f"no netlist for a tester is written: {said}"], its)
     first, *rest = its.lines()
-    return Tester(text, [f"{first}; {said}", *rest, *([LOWER, above(program, base, text)] if base else [])], its)
+    return Tester(text, [f"{first}; {said}", *rest, *lower], its)
