@@ -1,5 +1,5 @@
 """What is made beside the findings, where it is asked for: gaps, the comparison with another board, a netlist for a tester, a record."""
-from . import gaps, like, record, tester
+from . import UNJUDGED, gaps, like, record, tester
 
 
 def wants_copper(asked):
@@ -16,7 +16,7 @@ def add(program, told, shown, asked, scratch):
     if asked.ipc:
         shown.tester = tester.made(program, told, shown.title, shown.board)
         if shown.tester.text is None:
-            shown.status = shown.status or tester.UNJUDGED
+            shown.status = shown.status or UNJUDGED
     if asked.record:
         shown.record = record.of(program, told, shown)
     if asked.verify:

@@ -10,8 +10,9 @@ from . import Stop, bounds, copper, findings, judged, netlist, package, tester
 from .board import Board
 from .distances import from_line
 from .hints import Trials, best_placement
+from .nearest import gap_of_lines
 from .placement import FORMS
-from .spacing import Lines, least
+from .spacing import STEP, Lines, least
 from .tree import apart
 from .words import counted, millimetres
 
@@ -99,15 +100,10 @@ class Other:
         if nets[0] == nets[1] or not all(self.lines.of(net, layer)[0] for net in nets):
             return "", []
         distance, a, b = least(self.lines, layer, *nets)
-        place = self.board.touching.box(a[2])[:2] if distance < 0 else nearest_place(a, b, layer)
-        told = (f"there they are {millimetres(max(distance, 0) // 1000 * 1000)} mm apart on {self.board.copper_place(place, layer)}, between "
+        place = gap_of_lines(a[:2], b[:2], layer).place
+        told = (f"there they are {millimetres(distance // STEP * STEP)} mm apart on {self.board.copper_place(place, layer)}, between "
                 f"{self.board.source(a[2])} and {self.board.source(b[2])}")
         return told, [(*place, layer)]
-
-
-def nearest_place(a, b, layer):
-    from .nearest import gap_of_lines
-    return gap_of_lines(a[:2], b[:2], layer).place
 
 
 def difference(board, other, it):

@@ -1,7 +1,7 @@
 """The netlist for a tester: made of a judged board, or of the lower one of two bounds, and given out where `check` confirms it."""
 from typing import NamedTuple, Optional
 
-from . import UNJUDGED, Stop, copper, judged, netlist, padlist
+from . import Stop, copper, judged, netlist, padlist
 from .board import Board
 from .ipc import Netlist
 from .package import beside
