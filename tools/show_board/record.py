@@ -9,8 +9,6 @@ import json
 import os
 import subprocess
 
-from launch import kept
-
 from . import Stop
 from .program import TOOLS
 from .words import counted, spoken
@@ -27,8 +25,10 @@ def sum_of(data):
 
 
 def sum_of_path(path):
+    """The sum of a file, None where there is none."""
     try:
-        return kept.sum_of_file(path)
+        with open(path, "rb") as file:
+            return sum_of(file.read())
     except OSError:
         return None
 
@@ -53,8 +53,10 @@ def sum_of_sources():
     """The sum of the lines that sha256sum prints of the program's sources, sorted by name; None where they are not there."""
     if not os.path.exists(os.path.join(TOP, "crates.txt")):
         return None
+    # What is installed has no such module, and no sources.
+    from launch import kept
     names = sorted(os.path.relpath(path, TOP) for path in kept.sources(TOP))
-    return sum_of("".join(f"{kept.sum_of_file(os.path.join(TOP, name))}  {name}\n" for name in names).encode("utf-8", "surrogateescape"))
+    return sum_of("".join(f"{sum_of_path(os.path.join(TOP, name))}  {name}\n" for name in names).encode("utf-8", "surrogateescape"))
 
 
 def of_program(program):
