@@ -8,6 +8,7 @@ from collections import defaultdict
 
 from . import points
 from .board import NO_NET
+from .exact import ceil_root
 from .padlist import VIA, front
 from .words import at_most, counted, millimetres, spoken
 
@@ -99,6 +100,10 @@ class Row:
         """How far it is from the middle of the pad, squared, in u."""
         return sum((v * unit - middle) ** 2 for v, middle in zip(self.at, self.place.middle))
 
+    def away(self, unit):
+        """The same as a length, rounded up."""
+        return ceil_root(self.off(unit))
+
     def is_moved(self, unit):
         """Whether it is farther from the middle than rounding brings it."""
         return 2 * self.off(unit) > unit * unit
@@ -144,7 +149,7 @@ class Netlist:
             if it.part and (len(it.part) > 6 or len(it.pin) > 4 or plain(it.part, 6) != it.part or plain(it.pin, 4) != it.pin):
                 lines.append(f"C PIN,{plain(it.part, 60)},{plain(it.pin, 60)}")
             if row.is_moved(self.unit):
-                lines.append(f"C the next record is {at_most(row.off(self.unit) ** 0.5)} mm from the middle of its pad")
+                lines.append(f"C the next record is {at_most(row.away(self.unit))} mm from the middle of its pad")
             drill = 2 * shapes.radius[it.hole] if it.hole is not None else 0
             lines.append(row.line(self.unit, self.names.field(it.net), drill))
         head = [f"C boardnet show: the nets of the copper of {plain(self.title.replace(' ', '_'), 40)}", "P  VER IPC-D-356A", f"P  UNITS CUST {points.CUST[self.unit]}"]
@@ -164,13 +169,13 @@ class Netlist:
     def lines(self):
         holes = sum(row.place.hole is not None for row in self.rows)
         yield f"{counted(len(self.rows), 'record')} ({holes} of plated holes) of {counted(len(self.nets()), 'net')}, in units of {UNIT_WORDS[self.unit]}"
-        rounded = [row.off(self.unit) for row in self.rows if row.off(self.unit) and not row.is_moved(self.unit)]
+        rounded = [row.away(self.unit) for row in self.rows if row.off(self.unit) and not row.is_moved(self.unit)]
         if rounded:
-            yield f"{counted(len(rounded), 'place')} rounded to that grid within their pads, by at most {millimetres(-(-int(max(rounded) ** 0.5 + 1) // 100) * 100)} mm"
+            yield f"{counted(len(rounded), 'place')} rounded to that grid within their pads, by at most {millimetres(-(-max(rounded) // 100) * 100)} mm"
         moved = [row for row in self.rows if row.is_moved(self.unit)]
         if moved:
             yield f"{counted(len(moved), 'place')} farther from the middle of the pad, so that copper is there: " + spoken(
-                (f"{row.told()} by {at_most(row.off(self.unit) ** 0.5)} mm" for row in moved), FEW)
+                (f"{row.told()} by {at_most(row.away(self.unit))} mm" for row in moved), FEW)
         yield from self.wanting()
 
     def wanting(self):
