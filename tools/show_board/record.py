@@ -55,8 +55,7 @@ def sum_of_sources():
         return None
     # What is installed has no such module, and no sources.
     from launch import kept
-    names = sorted(os.path.relpath(path, TOP) for path in kept.sources(TOP))
-    return sum_of("".join(f"{sum_of_path(os.path.join(TOP, name))}  {name}\n" for name in names).encode("utf-8", "surrogateescape"))
+    return kept.sum_of_sources(TOP)
 
 
 def of_program(program):
