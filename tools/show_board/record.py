@@ -49,19 +49,10 @@ def version_text():
         return ""
 
 
-def sum_of_sources():
-    """The sum of the lines that sha256sum prints of the program's sources, sorted by name; None where they are not there."""
-    if not os.path.exists(os.path.join(TOP, "crates.txt")):
-        return None
-    # What is installed has no such module, and no sources.
-    from launch import kept
-    return kept.sum_of_sources(TOP)
-
-
 def of_program(program):
     said = dict(line.partition(" ")[::2] for line in version_text().splitlines() if " " in line)
     return {"version": said.get("boardnet"), "commit": said.get("commit"), "toolchain": said.get("toolchain"),
-            "sources": said.get("sources") or sum_of_sources(), "program": sum_of_path(program.path)}
+            "sources": said.get("sources"), "program": sum_of_path(program.path)}
 
 
 def roles(package):
