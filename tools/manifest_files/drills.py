@@ -1,6 +1,8 @@
 """Drill files: plated or not, and the layers that their holes span."""
 import re
 
+from mends.plating import Plating
+
 from . import Refused
 
 FUNCTION = re.compile(rb"^[ \t]*; ?#@! ?TF\.FileFunction,([^\r\n]*)", re.M)
@@ -8,7 +10,7 @@ TYPE = re.compile(rb"^[ \t]*; ?TYPE ?= ?(PLATED|NON_?PLATED)", re.M | re.I)
 UNPLATED_NAME = re.compile(r"npth|non?[._ -]?plated|un[._ -]?plated", re.I)
 PLATED_NAME = re.compile(r"pth|plated|(?:^|[._ -])via", re.I)
 APART = ("write plated and unplated holes to files of their own "
-         "(KiCad: Generate Drill Files, 'PTH and NPTH in single file' off), or the unplated ones would join layers")
+         "(KiCad: Generate Drill Files, 'PTH and NPTH in single file' off; kicad-cli: --excellon-separate-th), or the unplated ones would join layers")
 
 
 class Drills:
@@ -18,11 +20,20 @@ class Drills:
         self.name, self.span, self.why = name, span, why
 
 
-def of_attribute(name, function):
+def need_told(name, data, said):
+    """Refuses a file of both kinds of holes where it does not say of each tool which it is; else `show` takes the plated ones alone."""
+    plating = Plating(data)
+    if not plating.is_told():
+        unsaid = "".join(f", and does not say which T{number} is" for number in plating.unsaid()[:1])
+        raise Refused(f"{name} {said}{unsaid}: {APART}")
+
+
+def of_attribute(name, function, data):
     """What the attribute says: a file of plated holes, or a reason to leave it out."""
     fields = function.strip().split(",")
     if fields[0] == "MixedPlating":
-        raise Refused(f"{name} mixes plated and unplated holes: {APART}")
+        need_told(name, data, "mixes plated and unplated holes")
+        fields[0] = "Plated"
     if fields[0] == "NonPlated":
         return None, "its holes are not plated, so they join nothing"
     if fields[0] != "Plated":
@@ -38,13 +49,13 @@ def of(name, data):
     if len(said) > 1:
         raise Refused(f"{name} has several comments TF.FileFunction ({'; '.join(sorted(said))}): {APART}")
     if said:
-        return of_attribute(name, said.pop())
+        return of_attribute(name, said.pop(), data)
     types = {it.upper().startswith(b"NON") for it in TYPE.findall(data)}
     if len(types) > 1:
-        raise Refused(f"{name} has holes of TYPE=PLATED and of TYPE=NON_PLATED: {APART}")
+        need_told(name, data, "has holes of TYPE=PLATED and of TYPE=NON_PLATED")
     if types == {True}:
         return None, "its comment says TYPE=NON_PLATED, so its holes join nothing"
-    if types == {False}:
+    if False in types:
         return Drills(name, None, "its comment says TYPE=PLATED, and not which layers the holes span"), ""
     if UNPLATED_NAME.search(name):
         # Left out only as a guess: it is said and confirmed as the others are.

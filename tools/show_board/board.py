@@ -1,10 +1,10 @@
 """What findings are told about: the report, the files that it speaks of, the netlist's records, and the copper where it is known."""
 from collections import defaultdict
 
+from .netlist import NO_NET
+from .ties import Ties
 from .touching import Touching
 from .words import millimetres
-
-NO_NET = "N/C"
 
 
 class Board:
@@ -13,9 +13,9 @@ class Board:
     `commands` has for each file that was written anew, as for bounds, the user's command of each new one.
     """
 
-    def __init__(self, package, report, records, shapes=None, labels=None, commands=None):
+    def __init__(self, package, report, records, shapes=None, labels=None, ties=None, commands=None):
         self.package, self.manifest, self.report = package, package.manifest, report
-        self.records, self.shapes, self.labels = records, shapes, labels or {}
+        self.records, self.shapes, self.labels, self.ties = records, shapes, labels or {}, ties or Ties()
         self.commands = commands or {}
         self.pieces_of, self.points_of = defaultdict(list), defaultdict(list)
         for piece, net in enumerate(report.net_of):
@@ -34,6 +34,10 @@ class Board:
 
     def name_of(self, point):
         return self.report.points[point][2]
+
+    def side_of(self, number):
+        """What a name counts as where names meet: tied names are one."""
+        return self.ties.side(self.name(number))
 
     # ---- points
 

@@ -2,15 +2,17 @@
 from xml.sax.saxutils import escape, quoteattr
 
 from .lines import summary
+from .ties import lost
 from .words import for_xml
 
 
 def case(shown, name, failures):
-    told = "\n".join(f"{it.id}: {it.text()}" for it in failures)
+    """`failures` are names of findings with their words."""
+    told = "\n".join(f"{name}: {words}" for name, words in failures)
     head = f'  <testcase classname={quoteattr(shown.title)} name={quoteattr(name)}'
     if not failures:
         return head + "/>"
-    message = quoteattr(f"{', '.join(it.id for it in failures)}")
+    message = quoteattr(f"{', '.join(name for name, _ in failures)}")
     return f"{head}><failure message={message}>{escape(told)}</failure></testcase>"
 
 
@@ -25,14 +27,15 @@ def whole(shown):
 def suite(shown):
     if not shown.board or shown.status not in (0, 1):
         return whole(shown)
-    failures = {}
-    gaps = [it for it in shown.findings if it.kind == "gap"]
+    failures, nowhere = {}, [("tie", words) for words in lost(shown.ties, shown.board.report)]
+    gaps = [(it.id, it.text()) for it in shown.findings if it.kind == "gap"]
     for it in shown.findings:
         for name in it.names if it.kind != "gap" else ():
-            failures.setdefault(name, []).append(it)
+            failures.setdefault(name, []).append((it.id, it.text()))
     cases = [case(shown, name, failures.get(number, [])) for number, name in enumerate(shown.board.report.names)]
+    cases += [case(shown, "ties", nowhere)] if nowhere else []
     cases += [case(shown, "gaps between nets", gaps)] if shown.gap_count is not None else []
-    failed = len(failures) + bool(gaps)
+    failed = len(failures) + bool(nowhere) + bool(gaps)
     return [f'<testsuite name={quoteattr(shown.title)} tests="{len(cases)}" failures="{failed}" errors="0">', *cases, "</testsuite>"]
 
 

@@ -6,7 +6,7 @@ hints, and what is told is what `check` says of the moved netlist.
 import os
 from typing import NamedTuple
 
-from . import Stop, bounds, copper, findings, judged, netlist, package, tester
+from . import Stop, bounds, copper, findings, judged, mending, netlist, package, tester
 from .board import Board
 from .distances import from_line
 from .hints import Trials, best_placement
@@ -155,6 +155,7 @@ def reference(program, path, asked, scratch):
     folder = os.path.join(scratch, "like")
     os.makedirs(folder)
     files = package.opened(path, asked, folder)
+    mending.mend(files, program.progress)
     theirs = judged.judge(program, files)
     bounds.bounded(program, theirs)
     made = tester.made(program, theirs, os.path.basename(os.path.normpath(path)))

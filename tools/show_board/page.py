@@ -173,7 +173,9 @@ def verdict(shown):
     besides = shown.line.partition("; ")[2]
     more = f" Besides: {besides}." if besides else ""
     if (shown.verdict or (shown.status,))[0] == 0:
-        return f"Agrees: the copper joins exactly the points that the netlist joins.{more}"
+        made = shown.ties.words(len(shown.ties.ties)) if shown.ties.ties else ""
+        what = "to which its own files give one name" if shown.board.package.own else "that the netlist joins"
+        return f"Agrees{made}: the copper joins exactly the points {what}{' or the ties do' if made else ''}.{more}"
     if not shown.findings:
         return shown.line
     counts = shown.counts()
@@ -186,7 +188,8 @@ def facts(shown):
     board = shown.board
     return (f"{counted(board.report.pieces, 'piece')} of copper in {counted(board.report.nets, 'net')}; "
             f"{counted(len(board.report.points), 'test point')} with {counted(len(board.report.names), 'name')}; "
-            f"{counted(board.manifest.layers, 'layer')}. The report was audited: it is true of these files. "
+            f"{counted(board.manifest.layers, 'layer')}. The report was audited: it is true of these files"
+            f"{', and has each declared tie as a short' if shown.ties.ties else ''}. "
             "Suggestions are where to look, and no part of the report.")
 
 

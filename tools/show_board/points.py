@@ -5,6 +5,7 @@ place nearest to it is taken, where that is copper of the pad, and else another 
 All is whole numbers and fractions.
 """
 from fractions import Fraction as Q
+from itertools import islice
 from typing import NamedTuple
 
 from .clear import box
@@ -13,6 +14,7 @@ from .spots import edges, odd_inside, point_within
 CUST = {25_400: 0, 10_000: 1}       # units in u, by their codes
 MOST = 999_999                      # six digits
 ROWS, ALONG = 15, 8                 # as many rows of an area, and places along a capsule, are looked at
+FEW = 8                             # of as many places that will do the nearest is taken
 
 
 class Pad(NamedTuple):
@@ -63,11 +65,11 @@ def middles(piece):
 
 
 def rows(piece, unit):
-    """Rows of the grid across a piece, spread over its height."""
+    """Rows of the grid across a piece, spread over its height, those at half of it first."""
     _, low, _, high = box(piece)
     first, last = -(-low // unit), high // unit
     step = max(1, (last - first + ROWS) // ROWS)
-    return range(first + (last - first) % step // 2, last + 1, step)
+    return sorted(range(first + (last - first) % step // 2, last + 1, step), key=lambda row: abs(2 * row * unit - low - high))
 
 
 def across(corners, y):
@@ -96,11 +98,8 @@ def place(pad, unit):
     for at in around(pad.middle, unit):
         if max(map(abs, at)) <= MOST and is_copper(pad, (at[0] * unit, at[1] * unit)):
             return Place(*at, apart(at, pad.middle, unit))
-    found = []
-    for piece in sorted(pad.pieces, key=size, reverse=True):
-        found += [at for at in within(piece, unit) if max(map(abs, at)) <= MOST and is_copper(pad, (at[0] * unit, at[1] * unit))]
-        if found:
-            break
+    tried = (at for piece in sorted(pad.pieces, key=size, reverse=True) for at in within(piece, unit))
+    found = islice((at for at in tried if max(map(abs, at)) <= MOST and is_copper(pad, (at[0] * unit, at[1] * unit))), FEW)
     best = min(found, key=lambda at: (apart(at, pad.middle, unit), at), default=None)
     return best and Place(*best, apart(best, pad.middle, unit))
 

@@ -1,7 +1,7 @@
 """One board, from its files to its findings."""
 import os
 
-from . import UNDECIDED, UNJUDGED, Stop, beside, bounds, copper, findings, hints, judged, netlist, package, report
+from . import UNDECIDED, UNJUDGED, Stop, beside, bounds, copper, findings, hints, judged, labels, mending, netlist, package, report, same_pins, ties, unjudged
 from .board import Board
 
 NO_PLACES = "this program writes reports of version 1, which do not say where copper is from: what is told is the report and the netlist alone"
@@ -11,23 +11,23 @@ class Shown:
     """What is told of one PATH. `status` and `line` say how it ended; `board` is None where nothing was judged.
 
     `notes` are sentences on what was taken and what is not known, `hints` answers of `check` on changed copies, `bounds` the
-    answer on a board that lies between two.
+    answer on a board that lies between two, `ties` the net ties that are declared.
     """
 
     def __init__(self, path):
         self.path, self.status, self.line, self.audit = path, 0, "", ""
         self.title = os.path.basename(os.path.normpath(path)) or path
         self.board, self.findings, self.hints, self.bounds = None, [], [], None
-        self.notes, self.flood, self.report = [], "", b""
+        self.notes, self.flood, self.report, self.ties, self.mends = [], "", b"", ties.Ties(), []
         # What was asked for beside: the netlist for a tester, the comparison with another board, the record.
         self.tester = self.like = self.record = self.gap_count = None
         # Status and line of the netlist alone.
         self.verdict = None
 
     def counts(self):
-        told = self.board.report
-        return {"opens": len(told.opens), "shorts": len(told.shorts), "missing": len(told.bare)}
-
+        """What counts: a short that is a declared tie does not, a tie that the copper does not have is an open."""
+        opens, shorts, missing, parted = self.ties.counts(self.board.report)
+        return {"opens": opens + parted, "shorts": shorts, "missing": missing}
 
     def lacks(self, why):
         """Something that was asked for is not known."""
@@ -78,17 +78,29 @@ def package_notes(files):
 def look(program, told, shown, wants_picture):
     """Fills in the findings of a judged board."""
     records = netlist.records(told.package.read(told.package.manifest.netlist))
-    shapes, why, labels = None, "", None
-    if told.status == 1 or wants_picture:
+    shapes, why, named = None, "", None
+    if shown.status == 1 or wants_picture:
         shapes, why = shapes_of(program, told)
-    if told.report.shorts:
-        labels = labels_of(program, told)
+    if shown.ties.shorts(told.report):
+        named = labels_of(program, told)
     program.progress.begin("looking for the places")
-    shown.board = Board(told.package, told.report, records, shapes, labels)
+    shown.board = Board(told.package, told.report, records, shapes, named, shown.ties)
     shown.findings, shown.flood = findings.all_findings(shown.board), findings.flood(shown.board)
-    shown.notes += [why] if why else []
-    if not told.report.points:
-        shown.status, shown.line = UNJUDGED, judged.NOTHING
+    shown.notes += [*unjudged.unnamed_notes(shown.board), *ties.lost(shown.ties, told.report), *([why] if why else [])]
+    nothing = unjudged.why_nothing(told.report)
+    if nothing and shown.status == 0:
+        shown.status, shown.line = UNJUDGED, nothing
+
+
+def own_names(files, asked):
+    """Has the board judged by the copper's own names where there is no netlist or where it is asked; answers the notes."""
+    if not files.manifest:
+        return []
+    if files.manifest.netlist and not asked.labels:
+        files.own = labels.made_before(files)
+        return []
+    told = labels.use(files, asked.no_drills)
+    return told + (same_pins.differences(files) if files.theirs else [])
 
 
 def show(path, asked, program, scratch):
@@ -96,14 +108,21 @@ def show(path, asked, program, scratch):
     shown = Shown(path)
     try:
         files = package.opened(path, asked, scratch)
+        shown.ties, own = ties.declared(asked.tie, files), own_names(files, asked)
+        mending.mend(files, program.progress)
         told = judged.judge(program, files)
-        shown.status, shown.line, shown.audit, shown.report = told.status, told.line, told.audit, told.text or b""
-        shown.notes = package_notes(files)
+        (shown.status, shown.line), shown.audit, shown.report = shown.ties.answer(told), told.audit, told.text or b""
+        shown.notes = own + package_notes(files)
         if told.report:
             look(program, told, shown, asked.page or asked.svg or beside.wants_copper(asked))
         outside(program, told, shown)
+        mending.say(files, shown)
+        if files.own and shown.status in labels.ANSWERS:
+            shown.line = labels.FIRST + shown.line
         beside.add(program, told, shown, asked, scratch)
         if asked.keep:
+            if shown.ties.ties:
+                files.put(package.TIES, shown.ties.text().encode())
             package.keep(files, shown.report, asked.keep)
     except Stop as stop:
         shown.status, shown.line = stop.status, str(stop)
@@ -113,8 +132,13 @@ def show(path, asked, program, scratch):
 def outside(program, told, shown):
     """What copies of the files say: bounds of copper outside the profile, and hints."""
     if told.status == 3:
-        shown.bounds = bounds.bounded(program, told)
+        shown.bounds = bounds.bounded(program, told, shown.ties)
         if shown.bounds:
             shown.status, shown.line = shown.bounds.status, shown.bounds.line
-    if told.status in (1, 3):
-        shown.hints = hints.hints(program, told)
+        if told.package.between:
+            shown.notes += ties.lost(shown.ties, told.package.between[1].report)
+    if told.status == 3 or shown.status == 1:
+        shown.hints = hints.hints(program, told, shown.ties)
+        if hints.explain(shown.hints):
+            for finding in shown.findings:
+                finding.without_suggestion()

@@ -199,4 +199,4 @@ class Texts(common.Case):
         """
         self.write("file.json", "")
         out = self.run_words(["bash", "-c", script, "bash", "a"])[1].splitlines()
-        self.assertEqual(out, ["audit", "--help --netlist --yes --no-drills", "file.json"])
+        self.assertEqual(out, ["audit", "--help --netlist --yes --no-drills --mend", "file.json"])

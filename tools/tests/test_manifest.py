@@ -136,7 +136,7 @@ class Manifest(common.Case):
             (two(p_drl=None), "n.ipc has 1 records of through holes (317)", "export it in the Excellon format", "--no-drills"),
             (two(p_drl=drill("NonPlated,1,2,NPTH")), "no drill file of plated holes"),
             (two(p_drl=drill("MixedPlating,1,2")), "p.drl mixes plated and unplated holes", "'PTH and NPTH in single file' off"),
-            (two(m_drl=drill("MixedPlating,1,2")), "m.drl mixes plated and unplated holes"),
+            (two(m_drl=drill("MixedPlating,1,2")), "m.drl mixes plated and unplated holes, and does not say which T1 is", "kicad-cli: --excellon-separate-th"),
             (two(p_drl=drill("Plated,1,2,PTH", "; #@! TF.FileFunction,NonPlated,1,2,NPTH\n")), "several comments TF.FileFunction"),
             (two(p_drl=drill("", ";TYPE=PLATED\n;TYPE=NON_PLATED\n")), "TYPE=PLATED and of TYPE=NON_PLATED"),
             (two(p_drl=drill("Plated")), "not which layers they span"),
@@ -150,6 +150,23 @@ class Manifest(common.Case):
         self.taken(two(p_drl=None, n_ipc=SURFACE), none)
         self.taken(two(p_drl=None, n_ipc=netlist(record("317", "00", "U"), record("327", "01"))), none)
         self.taken({"F.gbr": TWO["F.gbr"], "n.ipc": NET}, {"copper": ["F.gbr"], "drills": [], "netlist": "n.ipc"})
+
+    def test_mends(self):
+        """A file of both kinds of holes whose tools say which they are is taken; copies are written where they are asked for."""
+        own = "; #@! TA.AperFunction,{},PTH,ViaDrill\n"
+        mixed = drill("MixedPlating,1,2", own.format("NonPlated") + "T2C1.0\n" + own.format("Plated"))
+        told = "to be mended: p.drl: line 2, `; #@! TF.FileFunction,MixedPlating,1,2`"
+        self.assertIn("`boardnet show` makes these mends", self.taken(two(p_drl=mixed), WRITTEN, told))
+        copies = {**WRITTEN, "drills": [{"file": "p.mended.drl", "from": 1, "to": 2}]}
+        self.assertNotIn("to be mended", self.taken(two(p_drl=mixed), copies, "mended: p.drl: line 2", words=["--mend"]))
+        self.assertEqual((self.read("board/p.drl"), self.read("board/p.mended.drl")), (mixed, mixed.replace("MixedPlating", "Plated")))
+        self.assertEqual(self.manifest("board", "--mend")[0], 0)
+        self.assertEqual((self.written(), sorted(os.listdir(self.path("board")))), (copies, ["B.gbr", "F.gbr", "m.json", "n.ipc", "p.drl", "p.mended.drl"]))
+        os.remove(self.path("board", "p.drl"))
+        self.assertEqual((self.manifest("board")[0], self.written()), (0, copies))
+        plain = "%\n" + drill("Plated,1,2,PTH").replace("METRIC", "METRIC,000.000")
+        self.taken(two(p_drl=plain), WRITTEN, "to be mended: p.drl: line 1, `%`", "line 4, `METRIC,000.000`")
+        self.taken(TWO, WRITTEN, words=["--mend"])
 
     def test_drills_by_other_evidence(self):
         rows = [

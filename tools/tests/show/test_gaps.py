@@ -15,9 +15,10 @@ from show_board.spacing import asked_distance
 CLOSE = {"m.json": manifest(), "top.gbr": gerber(*flash(10, (0, 0), (1.3, 0)), *flash(12, (0, 1.25))),
          "n.ipc": netlist(record("A", "J1.1", 0, 0), record("B", "J1.2", 1.3, 0))}
 # A disc of 1 mm and a track of 0.2 mm that runs by at 45 degrees, sqrt(2) - 0.6 = 0.81421.. mm away.
-SLANTED = {**CLOSE, "top.gbr": gerber(*flash(10, (0, 0)), *draw(11, (0, 2), (2, 0))), "n.ipc": netlist(record("A", "J1.1", 0, 0))}
+SLANTED = {**CLOSE, "top.gbr": gerber(*flash(10, (0, 0)), *draw(11, (0, 2), (2, 0))), "n.ipc": netlist(record("A", "J1.1", 0, 0), record("B", "J1.2", 1, 1))}
 # An L of copper and a disc in its corner: 0.5 mm from its upright arm, 0.6 mm from the other.
-CORNER = {**SLANTED, "top.gbr": gerber(*region((0, 0), (5, 0), (5, 1), (1, 1), (1, 5), (0, 5)), *flash(10, (2, 2.1)))}
+CORNER = {**SLANTED, "top.gbr": gerber(*region((0, 0), (5, 0), (5, 1), (1, 1), (1, 5), (0, 5)), *flash(10, (2, 2.1))),
+          "n.ipc": netlist(record("A", "J1.1", 0, 0), record("B", "J1.2", 2, 2.1))}
 ROWS = [
     # board, distance asked, (nets, distance in mm, x, y, layer) of each gap
     (CLOSE, "0.3", [([0, 2], 0.25, 0.0, 0.625, 1)]),

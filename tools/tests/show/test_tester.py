@@ -94,7 +94,7 @@ class Netlists(made.Case):
         program = made.built()
         if not program:
             raise unittest.SkipTest("there is no built program")
-        files = {"m.json": manifest(), "top.gbr": gerber(*RING, "%TO.P,U1,1*%", *flash(20, (10, 0)), *flash(11, (10, 0))), "n.ipc": netlist(record("A", "U1.1", 10, 0.8))}
+        files = {"m.json": manifest(), "top.gbr": gerber(*RING, "%TO.P,U1,1*%", *flash(20, (10, 0)), *flash(11, (10, 0))), "n.ipc": netlist(record("A", "U1.1", 10, 0.8), record("B", "", 10, 0))}
         status, out, text = self.made(files, program)
         self.assertEqual((status, len(body(text))), (0, 3))
         found = re.match(r"327A {13}   U1    -1          A01X\+(\d{6})Y([+-]\d{6})X2000Y2000R000$", body(text)[1])
@@ -145,7 +145,12 @@ def spread(dx=0.0, dy=0.0, *tracks):
 
 
 def one(*lines):
-    return {"m.json": manifest(), "top.gbr": gerber(*lines), "n.ipc": netlist(record("A", "J.1", 0, 0))}
+    return {"m.json": manifest(), "top.gbr": gerber(*lines), "n.ipc": two(0, 0)}
+
+
+def two(x, y):
+    """A netlist of two of the pads."""
+    return netlist(record("A", "J.1", x, y), record("B", "J.2", x + 1, y + 5))
 
 
 class Likenesses(made.Case):
@@ -173,7 +178,7 @@ class Likenesses(made.Case):
                 (["%SRX2Y1I20.0J0.0*%", *spread(7.3, 2.1, (0, 1)), "%SR*%"], 0, "joins what it joins (the other board moved by")]
         for lines, status, words in rows:
             with self.subTest(words=words):
-                files = {**one(*lines), "n.ipc": netlist(record("A", "J.1", 7.3, lines is rows[2][0] and 2.1 or -2.1))}
+                files = {**one(*lines), "n.ipc": two(7.3, 2.1 if lines is rows[2][0] else -2.1)}
                 told, out, _ = self.compared(files, other)
                 self.assertEqual(told, status, out)
                 self.assertIn(words, out)

@@ -1,0 +1,92 @@
+"""The words of a copper file with their places, as docs/FORMATS.md cuts them, and edits that keep their numbers."""
+import re
+
+from . import Mend, short
+
+WORD = re.compile(rb"[\t\n\r ]*(?:(%)|([^*%]*)\*)")
+DECIMAL = rb"[+-]?(?:[0-9]+\.?[0-9]*|\.[0-9]+)"
+OPERATION = re.compile(rb"(?:G0?([123]))?(?:X([+-]?[0-9]{1,13}))?(?:Y([+-]?[0-9]{1,13}))?((?:[IJ][+-]?[0-9]{1,13})*)(?:D0?([123]))?")
+SELECTION = re.compile(rb"(?:G54)?D([0-9]{2,9})")
+AXES = (b"X", b"Y", b"I", b"J")     # what an operation word may begin with
+SIZES = {b"C": 1, b"R": 2, b"O": 2}    # of a standard aperture
+NOTHING = b"TFleft_out"     # an attribute without a meaning, in a pair of percent signs
+COMMENT = b"G04"
+
+
+def has(data, signs):
+    """Whether one of these stands in the data: faster than an expression over all of it."""
+    return any(sign in data for sign in signs)
+
+
+class Broken(Exception):
+    """A file that is not cut into words: it is left as it is."""
+
+
+def pairs(data):
+    """Each word in a pair of percent signs with its place: first byte, star, and whether it is the pair's first."""
+    at = 0
+    while True:
+        at = data.find(b"%", at) + 1
+        end = data.find(b"%", at)
+        if not at or end < 0:
+            return
+        first = True
+        while at < end:
+            match = WORD.match(data, at, end)
+            if not match:
+                break
+            yield match.start(2), match.end(2), match[2], first
+            first, at = False, match.end()
+        at = end + 1
+
+
+def words(data):
+    """Each word with its place, whether it is in a pair of percent signs, and whether it is the pair's first."""
+    at, inside, first = 0, False, True
+    for match in WORD.finditer(data):
+        if match.start() != at:
+            raise Broken
+        at = match.end()
+        if match[1]:
+            inside, first = not inside, True
+        else:
+            yield match.start(2), match.end(2), match[2], inside, first
+            first = False
+
+
+class Edits:
+    """Words that are written otherwise. Each mend is noted by its kind, its first place and how often it comes."""
+
+    def __init__(self, data):
+        self.data, self.edits, self.found = data, {}, {}
+
+    def put(self, start, end, text, kind, what=""):
+        """Writes a word otherwise. A kind and what becomes of it make one mend; the first place is told."""
+        self.edits[start] = end, text
+        self.note(start, end, kind, what)
+
+    def insert(self, at, text):
+        """Writes something before a byte."""
+        _, known = self.edits.get(at, (at, b""))
+        self.edits[at] = at, known + text
+
+    def note(self, start, end, kind, what=""):
+        at = self.found.setdefault((kind, what), [start, end, 0])
+        at[2] += 1
+
+    def text(self):
+        """The file as it is mended; line feeds of a word that has none any more stand behind it, so that lines keep their numbers."""
+        parts, at = [], 0
+        for start in sorted(self.edits):
+            end, text = self.edits[start]
+            parts += [self.data[at:start], text]
+            lost = self.data.count(b"\n", start, end)
+            if lost:
+                parts.append(b"*" + b"\n" * lost)
+            at = end + bool(lost)
+        return b"".join([*parts, self.data[at:]])
+
+    def mends(self):
+        """What was mended, in order of lines."""
+        for (kind, what), (start, end, count) in sorted(self.found.items(), key=lambda it: it[1][0]):
+            yield Mend(kind, self.data.count(b"\n", 0, start) + 1, short(self.data[start:end]), count - 1, what)

@@ -1,0 +1,61 @@
+"""What to export otherwise where a file is refused, in words of the tool that wrote it, where the file says which it is."""
+import re
+
+# A tool's name, and what its files say.
+TOOLS = (
+    ("KiCad", rb"kicad"), ("pcb-rnd", rb"pcb-rnd"), ("LibrePCB", rb"LibrePCB"), ("Horizon EDA", rb"Horizon"), ("EasyEDA", rb"EasyEDA|LCEDA"),
+    ("Altium Designer", rb"Altium"), ("Allegro", rb"Allegro|Cadence"), ("PADS", rb"\bPADS\b"), ("EAGLE", rb"\bEAGLE\b"), ("DipTrace", rb"DipTrace"),
+    ("Xpedition", rb"Xpedition|Expedition"), ("Fusion", rb"Autodesk"), ("gEDA pcb", rb"\bpcb 20|gEDA"),
+)
+COMMENTS = re.compile(rb"^[ \t]*;[^\n]*|G04[^*]*\*|TF\.GenerationSoftware[^*\n]*", re.M)
+NEWLINE = b"\n"
+REFUSAL = re.compile(r"(.*): (Gerber|drill|flatten) \d+ (\w+) at (?:command|line) \d+, byte (\d+)")
+
+# By the kind of refusal: for some tools by their own words, else for all.
+WAYS = {
+    "MixedPlating": {"KiCad": "Generate Drill Files, 'PTH and NPTH in single file' off (kicad-cli: --excellon-separate-th)",
+                     "": "plated and unplated holes in files of their own, or each tool with its attribute"},
+    "ImpliedDecimals": {"KiCad": "Generate Drill Files, zeros format 'Decimal format' (kicad-cli: --excellon-zeros-format decimal)",
+                        "pcb-rnd": "the exporter excellon with --coord-format um",
+                        "": "drill files with a decimal point in each number"},
+    "ArcRout": {"KiCad": "Generate Drill Files, Oval Holes Drill Mode: either", "": "slots as straight routs or by G85"},
+    "BadLine": {"": "XNC or Excellon 2 drill files with a unit line, decimal numbers, and no repeats"},
+    "MissingUnit": {"": "a unit line, METRIC or INCH, in the header"},
+    "NotPlated": {"": "the file has unplated holes: take it out of the manifest"},
+    "Incremental": {"": "absolute coordinates"},
+    "BadFormat": {"": "RS-274X or X2 with one format and leading zeros left out"},
+    "MissingFormat": {"": "RS-274X or X2, whose files have their format"},
+    "NegativeFile": {"": "positive files: planes as copper, not as clearances"},
+    "Block": {"": "copper without aperture blocks (AB)"},
+    "Transform": {"": "objects mirrored, turned and scaled by the tool, without LM, LR and LS"},
+    "PenNotCircle": {"": "draws with round apertures"},
+    "TooManyVertices": {"": "the plane as several areas, or with clearances drawn over it (LPC)"},
+    "ClearPolarity": {"KiCad": "zones filled as polygons, with no negative objects on copper layers"},
+    "NotEnded": {"": "the file anew: it is cut off"},
+}
+
+
+def tool_of(data):
+    """The tool that wrote a file, as the file's comments say, or nothing."""
+    said = b"\n".join(COMMENTS.findall(data[:4096]))
+    return next((name for name, pattern in TOOLS if re.search(pattern, said, re.I)), "")
+
+
+def way(kind, tool):
+    """What to export, for a kind of refusal and a tool, or nothing."""
+    by_tool = WAYS.get(kind, {})
+    if tool and tool in by_tool:
+        return f"{tool}: {by_tool[tool]}"
+    return by_tool.get("", "")
+
+
+def way_out(line, read):
+    """What is to be said behind a refusal's line: the line of the file, and what to export."""
+    found = REFUSAL.match(line)
+    if not found:
+        return ""
+    name, _, kind, at = found.groups()
+    data = read(name)
+    words = way(kind, tool_of(data))
+    place = f"; line {data.count(NEWLINE, 0, int(at)) + 1} of {name}" if found[2] != "drill" else ""
+    return place + (f"; to export: {words}" if words else "")

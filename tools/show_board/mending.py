@@ -1,0 +1,40 @@
+"""Mended copies in the scratch folder, and how the answer says that they were judged."""
+import os
+
+from mends import package as mends
+from mends import ways
+
+from . import UNJUDGED
+from .words import counted
+
+REFUSED = 3
+
+
+def mend(package, progress):
+    """Rewrites what `check` refuses and the files say otherwise, in the package's folder; what was mended is noted in it."""
+    if not package.manifest:
+        return
+    progress.begin("looking for what to mend")
+    drills = [name for name, _, _ in package.manifest.drills]
+    for name, data, told in mends.of_files(lambda name: bytes_of(package, name), package.manifest.copper, drills):
+        package.put(name, data)
+        package.mends += told
+
+
+def bytes_of(package, name):
+    """The bytes of a file beside the manifest; none where it cannot be read, which `check` says."""
+    try:
+        return b"" if os.path.isabs(name) else package.read(name)
+    except OSError:
+        return b""
+
+
+def say(package, shown):
+    """Has the answer's line and notes say what was mended, and the line of a refusal the way out."""
+    shown.mends = package.mends
+    if package.mends:
+        shown.notes = [f"mended: {it.words}" for it in package.mends] + shown.notes
+        if shown.status != UNJUDGED:
+            shown.line += f", after {counted(len(package.mends), 'mend')}"
+    if shown.status == REFUSED:
+        shown.line += ways.way_out(shown.line, lambda name: bytes_of(package, name))
