@@ -102,7 +102,7 @@ def answered(program, package, sides, low, high, ties):
 def judge(program, package, ties=Ties()):
     """(answer, lower, upper) of a package, made once; Refused where no bounds can be given."""
     if not package.between:
-        sides = of_package(package)
+        sides = package.sides = of_package(package)
         low, high = both_judged(program, sides)
         package.between = answered(program, package, sides, low, high, ties), low, high
     return package.between

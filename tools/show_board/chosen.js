@@ -124,7 +124,22 @@ function pointShown(p) {
     draw() { if (whole) drawNet(whole, lookOf(0), 0.8); ring(p, 1, pinOrVia(p), 1); },
   };
 }
-const makers = {open: openShown, short: shortShown, missing: missingShown};
+// Two nets that are too close, with the nearest test points of both; the distance is rounded down already.
+function gapShown(f) {
+  const [x, y, layer, size] = f.gap, parts = f.nets.map(net => grouped(piecesOf(net))), wide = Math.max(3 * size, 5e5);
+  return {
+    f, layers: [layer], box: [x - wide, y - wide, x + wide, y + wide],
+    legend: f.nets.map((net, k) => [k, `${netWords(net)}: ${plural(piecesOf(net).length, "piece")}`]),
+    draw() {
+      drawNet(parts[1], lookOf(1));
+      drawNet(parts[0], lookOf(0));
+      f.points.forEach(p => ring(p, pointNets[p] === f.nets[0] ? 0 : 1, pinOrVia(p), 1));
+      meet(x, y, `${(size / 1e6).toFixed(4)} mm apart`);
+    },
+    more() { return f.points.length ? [pointList(f.points)] : []; },
+  };
+}
+const makers = {open: openShown, short: shortShown, missing: missingShown, gap: gapShown};
 const numbered = {net: [board.netCount, netShown], piece: [pieceCount, pieceShown], point: [pointCount, pointShown]};
 const byId = new Map(findings.map(f => [f.id, f]));
 function shownBy(id) {

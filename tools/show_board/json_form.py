@@ -50,9 +50,18 @@ def finding(board, it):
         told["parts"] = [{"count": len(part), "points": [point(board, number) for number in part[:MOST_OF_A_PART]]} for part in it.parts]
     if it.gap:
         told["gap"] = {"distance": round(mm(max(it.gap.distance, 0)), 6), **place(it.gap.place, it.gap.layer), "below": it.gap.below}
+    if it.kind == "gap":
+        told["pieces"] = [piece(board, number) for number in it.pieces]
     if it.kind == "short":
         told["labelled"], told["meets"] = it.is_labelled, [meet(board, found) for found in it.meets]
     return told
+
+
+def like_of(it):
+    """The comparison with another board."""
+    places = lambda its: [place((x, y), layer) for x, y, layer in its]
+    return {"path": it.path, "status": it.status, "line": it.line, "placed": it.placed, "differences": [
+        {**each._asdict(), "places": places(each.places), "places_there": places(each.places_there)} for each in it.differences]}
 
 
 def board_of(shown):
@@ -63,6 +72,12 @@ def board_of(shown):
     if shown.bounds:
         told["bounds"] = {"findings": [{"kind": kind, "sure": sure, "words": words, "places": [place((x, y), layer) for x, y, layer in places]}
                                        for kind, sure, words, places in shown.bounds.findings], "left_out": list(shown.bounds.left_out)}
+    if shown.gap_count is not None:
+        told["gaps"] = shown.gap_count
+    if shown.like:
+        told["like"] = like_of(shown.like)
+    if shown.tester:
+        told["tester"] = {"written": shown.tester.text is not None, "lines": shown.tester.lines}
     if not shown.board:
         return told
     board = shown.board

@@ -34,6 +34,7 @@ def flattens(program, package, line):
             continue
         answer = program.flatten(package, name)
         if answer.status == 0:
+            package.before[name] = package.read(name)
             package.put(name, answer.out)
             package.flattened.add(name)
             done = done or name == named

@@ -28,12 +28,14 @@ def suite(shown):
     if not shown.board or shown.status not in (0, 1):
         return whole(shown)
     failures, nowhere = {}, [("tie", words) for words in lost(shown.ties, shown.board.report)]
+    gaps = [(it.id, it.text()) for it in shown.findings if it.kind == "gap"]
     for it in shown.findings:
-        for name in it.names:
+        for name in it.names if it.kind != "gap" else ():
             failures.setdefault(name, []).append((it.id, it.text()))
     cases = [case(shown, name, failures.get(number, [])) for number, name in enumerate(shown.board.report.names)]
     cases += [case(shown, "ties", nowhere)] if nowhere else []
-    failed = len(failures) + bool(nowhere)
+    cases += [case(shown, "gaps between nets", gaps)] if shown.gap_count is not None else []
+    failed = len(failures) + bool(nowhere) + bool(gaps)
     return [f'<testsuite name={quoteattr(shown.title)} tests="{len(cases)}" failures="{failed}" errors="0">', *cases, "</testsuite>"]
 
 

@@ -1,5 +1,5 @@
 """Findings as lines: grouped by name for a reader, one a line for `grep`."""
-from . import UNJUDGED
+from . import UNJUDGED, beside
 from .ties import lost
 from .words import counted
 
@@ -59,6 +59,7 @@ def reader(shown, is_all):
     left = len(shown.findings) - told
     if left:
         yield f"{counted(left, 'further finding')}: --all prints them, --page FILE shows them"
+    yield from cut(list(beside.lines(shown)), is_all)
 
 
 def cut(rows, is_all):
@@ -71,9 +72,12 @@ def quiet(shown):
         netlist = shown.board.package.told_path(shown.board.manifest.netlist)
         yield from (f"{shown.path}: {words}" for words in lost(shown.ties, shown.board.report))
         for finding in shown.findings:
-            yield f"{netlist}:{shown.board.line(finding.points[0])}: {finding.id}: {finding.text()}"
+            place = f"{netlist}:{shown.board.line(finding.points[0])}" if finding.points else shown.path
+            yield f"{place}: {finding.id}: {finding.text()}"
     for row in bounded(shown):
         yield f"{shown.path}: {row.strip()}"
     for hint in shown.hints:
         yield f"{shown.path}: hint: {hint.words}"
+    for row in beside.lines(shown):
+        yield f"{shown.path}: {row.strip()}"
     yield summary(shown)

@@ -41,7 +41,7 @@ function drawScale() {
 
 // ---- where the findings are: a mark's form tells the kind, not its colour alone
 const kindOf = f => f.id.split("-")[0];
-const anchorOf = f => f.meets?.length ? [f.meets[0].x, f.meets[0].y] : [pointXs[f.points[0]], pointYs[f.points[0]]];
+const anchorOf = f => f.meets?.length ? [f.meets[0].x, f.meets[0].y] : kindOf(f) === "gap" ? f.gap.slice(0, 2) : [pointXs[f.points[0]], pointYs[f.points[0]]];
 const anchors = findings.map(f => { const [x, y] = anchorOf(f); return {f, x, y}; });
 const marks = {
   open(x, y, size) {
@@ -54,6 +54,9 @@ const marks = {
     for (const side of [-1, 1]) { marker.moveTo(x - size, y - side * size); marker.lineTo(x + size, y + side * size); }
   },
   missing(x, y, size) { marker.rect(x - size, y - size, 2 * size, 2 * size); },
+  gap(x, y, size) {
+    for (const side of [-0.45, 0.45]) { marker.moveTo(x + side * size, y - size); marker.lineTo(x + side * size, y + size); }
+  },
 };
 function kindMark(kind, x, y, size) {
   marker.lineCap = "round";

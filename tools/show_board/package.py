@@ -20,12 +20,14 @@ class Package:
         self.manifest, self.folder, self.name = told, folder, name
         # Copper files that `flatten` rewrote, and what it said of those that it refused.
         self.flattened, self.outside = set(), {}
+        # Those files as they were before, and where each file of the scratch folder came from.
+        self.before, self.came = {}, {}
         # What was left out and what was guessed, in words, where the manifest was made here.
         self.left_out, self.guessed = [], []
         # What was rewritten before `check`, as mends/__init__.py says.
         self.mends = []
         # What the two packages say between which it lies, once they are made.
-        self.between = None
+        self.between = self.sides = None
         # How the files are called where the user has them, and whether the manifest was made here.
         self.home, self.is_made = "", False
         # The netlist of the copper's own names, where they are judged by one, and the one that it stands for, or nothing.
@@ -56,6 +58,7 @@ class Package:
             return
         os.makedirs(os.path.dirname(path), exist_ok=True)
         os.symlink(os.path.abspath(source), path)
+        self.came[name] = os.path.abspath(source)
 
     def free_name(self, stem, ending):
         """A name of a file that the package does not have."""
@@ -68,6 +71,7 @@ class Package:
         """Another package of the same files but for those that are given, in a folder of its own."""
         copy = Package(told or self.manifest, folder, self.name)
         copy.flattened, copy.home = set(self.flattened) - set(files or ()), self.home
+        copy.before = {name: data for name, data in self.before.items() if name in copy.flattened}
         copy.own, copy.mends = self.own, self.mends
         os.makedirs(folder)
         for name, data in (files or {}).items():
@@ -115,6 +119,7 @@ def of_manifest(path, scratch):
     package = Package(told, room(scratch, told.names() if told else []), name)
     package.home = home
     package.put(name, data)
+    package.came[name] = os.path.abspath(path)
     for each in [*(told.names() if told else []), TIES]:
         package.link(each, os.path.join(home, each))
     return package

@@ -13,12 +13,13 @@ import sys
 import zlib
 from array import array
 
+from . import record_page
 from .words import counted
 
 HERE = os.path.dirname(os.path.abspath(__file__))
-TITLES = {"open": "Opens", "short": "Shorts", "missing": "Points without copper"}
+TITLES = {"open": "Opens", "short": "Shorts", "missing": "Points without copper", "gap": "Gaps"}
 # As the marks in the picture.
-SIGNS = {"open": "\u2296", "short": "\u2715", "missing": "\u25a1"}
+SIGNS = {"open": "\u2296", "short": "\u2715", "missing": "\u25a1", "gap": "\u21d4"}
 # So many findings of a kind stand open, the further ones in folds; their suggestions stand in the data alone, which is packed.
 OPEN, FOLD = 300, 500
 SCRIPTS = ("data", "words", "view", "paint", "draw", "marks", "chosen", "list", "search", "move", "act")
@@ -169,16 +170,18 @@ def list_of(kind, findings):
 
 
 def verdict(shown):
-    if shown.status == 0:
+    besides = shown.line.partition("; ")[2]
+    more = f" Besides: {besides}." if besides else ""
+    if (shown.verdict or (shown.status,))[0] == 0:
         made = shown.ties.words(len(shown.ties.ties)) if shown.ties.ties else ""
         what = "to which its own files give one name" if shown.board.package.own else "that the netlist joins"
-        return f"Agrees{made}: the copper joins exactly the points {what}{' or the ties do' if made else ''}."
+        return f"Agrees{made}: the copper joins exactly the points {what}{' or the ties do' if made else ''}.{more}"
     if not shown.findings:
         return shown.line
     counts = shown.counts()
     told = [counted(counts["opens"], "open"), counted(counts["shorts"], "short"),
             counted(counts["missing"], "point without copper", "points without copper")]
-    return "Differs: " + ", ".join(words for words in told if not words.startswith("0 ")) + "."
+    return "Differs: " + ", ".join(words for words in told if not words.startswith("0 ")) + f".{more}"
 
 
 def facts(shown):
@@ -207,6 +210,7 @@ def text(shown):
         "TITLE": html.escape(shown.title), "STYLE": style, "SCRIPT": code, "STATE": "agrees" if shown.status == 0 else "differs",
         "VERDICT": html.escape(verdict(shown)), "FACTS": html.escape(facts(shown)), "ADVICE": notes(shown),
         "FINDINGS": lists or '<p class="none">No open, no short, no point without copper.</p>', "DATA": block(shown.board, shown.findings),
+        "RECORD": record_page.section(shown.record),
     }
     parts = asset("page.html").split("@@")
     return "".join(fills[part] if k % 2 else part for k, part in enumerate(parts))

@@ -91,3 +91,7 @@ class Program:
     def x2(self, package):
         self.progress.begin("reading the labels of the copper")
         return self.run(package, "x2", package.name)
+
+    def gaps(self, package, nanometres):
+        self.progress.begin("looking for nets that are close")
+        return self.run(package, "gaps", package.name, str(nanometres))

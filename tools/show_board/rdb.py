@@ -3,7 +3,8 @@ from xml.sax.saxutils import escape
 
 from .words import counted, for_xml
 
-KINDS = {"open": "Parts of a name that no copper joins", "short": "Names that copper joins", "missing": "Test points without copper"}
+KINDS = {"open": "Parts of a name that no copper joins", "short": "Names that copper joins", "missing": "Test points without copper",
+         "gap": "Nets that are too close"}
 # Half the side of the box round a place, in u.
 HALF = 1_000_000
 

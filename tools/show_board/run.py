@@ -5,14 +5,14 @@ import signal
 import sys
 import tempfile
 
-from . import Stop, json_form, junit, lines, rdb, unbuilt, written
+from . import Stop, json_form, junit, lines, rdb, record, record_page, spacing, unbuilt, written
 from .program import TOOLS, Program, found
 from .progress import Progress
 from .shown import show
 
 NOT_UNDERSTOOD, UNWRITABLE, INTERRUPTED = 2, 5, 130
-ONE_BOARD = ("rdb", "page", "svg", "keep")
-WITH_VALUES = ("--page", "--svg", "--at", "--json", "--junit", "--rdb", "--keep", "--netlist")
+ONE_BOARD = ("rdb", "page", "svg", "keep", "ipc", "record", "verify")
+WITH_VALUES = ("--page", "--svg", "--at", "--json", "--junit", "--rdb", "--keep", "--netlist", "--ipc", "--like", "--gaps", "--record", "--verify")
 OFTEN = ("--tie",)
 OPTIONS = ("-q", "--all", *WITH_VALUES, *OFTEN, "--labels", "--yes", "--no-drills")
 
@@ -48,6 +48,8 @@ def words(given):
     for name in ONE_BOARD:
         if len(asked.paths) > 1 and getattr(asked, name):
             parser.error(f"--{name} is for one PATH")
+    if asked.gaps is not None:
+        asked.gaps = spacing.asked_distance(asked.gaps) or parser.error("--gaps wants millimetres, over 0 and at most 10, with at most seven decimals")
     if asked.at and not asked.svg:
         parser.error("--at says which finding --svg draws")
     return asked
@@ -76,14 +78,20 @@ def write(asked, all_shown):
         written.write(asked.junit, junit.text(all_shown))
     if asked.rdb:
         written.write(asked.rdb, rdb.text(all_shown[0]))
+    if asked.ipc and all_shown[0].tester and all_shown[0].tester.text:
+        written.write(asked.ipc, all_shown[0].tester.text)
+    if asked.record and all_shown[0].record:
+        written.write(asked.record, record.text(all_shown[0].record))
     if asked.page or asked.svg:
         pictures(asked, all_shown[0])
-    if "-" not in (asked.json, asked.junit, asked.rdb, asked.page, asked.svg):
+    if "-" not in (asked.json, asked.junit, asked.rdb, asked.page, asked.svg, asked.ipc, asked.record):
         written.write("-", "".join(row + "\n" for row in told(asked, all_shown)))
 
 
 def pictures(asked, shown):
     if not shown.board or shown.board.shapes is None:
+        if asked.page and shown.record:
+            written.write(asked.page, record_page.page(shown))
         print(f"boardnet: no picture is drawn, since the copper of {shown.path} is not known", file=sys.stderr)
         return
     from . import page, svg

@@ -1,7 +1,7 @@
 """One board, from its files to its findings."""
 import os
 
-from . import UNJUDGED, Stop, bounds, copper, findings, hints, judged, labels, mending, netlist, package, report, same_pins, ties, unjudged
+from . import UNDECIDED, UNJUDGED, Stop, beside, bounds, copper, findings, hints, judged, labels, mending, netlist, package, report, same_pins, ties, unjudged
 from .board import Board
 
 NO_PLACES = "this program writes reports of version 1, which do not say where copper is from: what is told is the report and the netlist alone"
@@ -19,11 +19,26 @@ class Shown:
         self.title = os.path.basename(os.path.normpath(path)) or path
         self.board, self.findings, self.hints, self.bounds = None, [], [], None
         self.notes, self.flood, self.report, self.ties, self.mends = [], "", b"", ties.Ties(), []
+        # What was asked for beside: the netlist for a tester, the comparison with another board, the record.
+        self.tester = self.like = self.record = self.gap_count = None
+        # Status and line of the netlist alone.
+        self.verdict = None
 
     def counts(self):
         """What counts: a short that is a declared tie does not, a tie that the copper does not have is an open."""
         opens, shorts, missing, parted = self.ties.counts(self.board.report)
         return {"opens": opens + parted, "shorts": shorts, "missing": missing}
+
+    def lacks(self, why):
+        """Something that was asked for is not known."""
+        self.notes.append(why)
+        self.status = self.status or UNJUDGED
+
+    def found(self, certain, possible, words):
+        """Something that was looked for beside the netlist, and how much of it there is."""
+        self.line = f"{self.line}; {words}"
+        if self.status in (0, UNDECIDED):
+            self.status = 1 if certain else UNDECIDED if possible else self.status
 
 
 def shapes_of(program, told):
@@ -99,11 +114,12 @@ def show(path, asked, program, scratch):
         (shown.status, shown.line), shown.audit, shown.report = shown.ties.answer(told), told.audit, told.text or b""
         shown.notes = own + package_notes(files)
         if told.report:
-            look(program, told, shown, asked.page or asked.svg)
+            look(program, told, shown, asked.page or asked.svg or beside.wants_copper(asked))
         outside(program, told, shown)
         mending.say(files, shown)
         if files.own and shown.status in labels.ANSWERS:
             shown.line = labels.FIRST + shown.line
+        beside.add(program, told, shown, asked, scratch)
         if asked.keep:
             if shown.ties.ties:
                 files.put(package.TIES, shown.ties.text().encode())

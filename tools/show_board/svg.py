@@ -57,7 +57,8 @@ class Picture:
     def finding_box(self):
         """Its points with the copper beside them, or the chains of a short's names with where they meet, and what lies round them."""
         it, shapes, meets = self.finding, self.board.shapes, self.finding.meets[:3]
-        places = [meet.place for meet in meets] or [self.board.spot(number) for number in it.points] + ([it.gap.place] if it.gap else [])
+        spots = [self.board.spot(number) for number in it.points] if it.kind != "gap" else []
+        places = [meet.place for meet in meets] or spots + ([it.gap.place] if it.gap else [])
         places += self.beside(places[0], self.board.layer(it.points[0])) if it.kind == "missing" else []
         chains = [shapes.box(piece) for meet in meets for piece in meet.chain if not shapes.is_area(piece)]
         box = grown(cover(chains + [tuple(place) * 2 for place in places]), ROOM)

@@ -1,5 +1,5 @@
 #!/usr/bin/env -S python3 -SE
-"""A small stand-in for the program, for tests of the scripts: check (version 2), audit, flatten and x2 over few pieces.
+"""A small stand-in for the program, for tests of the scripts: check (version 2), audit, flatten, x2 and gaps over few pieces.
 
 It knows circles, rectangles, obrounds, draws, flashes, regions, blocks, net labels, holes, slots and routs in millimetres, and
 macros of one circle. It shares no code with what it is a test of. STAND_IN_LACKS names commands that it does not have.
@@ -160,10 +160,11 @@ def inside(piece, place):
     return odd
 
 
-def touch(p, q):
+def touch(p, q, apart=0):
+    """Whether two pieces are at most so far apart."""
     if p[5] > q[6] or q[5] > p[6]:
         return False
-    r = max(p[0], 0) + max(q[0], 0)
+    r = max(p[0], 0) + max(q[0], 0) + apart
     for a, b in lines(p):
         for c, d in lines(q):
             if min(distance(a, c, d), distance(b, c, d), distance(c, a, b), distance(d, a, b)) <= r * r:
@@ -288,6 +289,18 @@ def branches(board, points, first):
         yield " ".join(["branch", str(name), str(first[name]), *map(str, path)])
 
 
+def gaps(board, nanometres):
+    """The close nets of each layer, with the least piece of the lower one, and the least of the higher one near that."""
+    found = []
+    for layer in range(1, len(board.copper) + 1):
+        nets = [sorted(p for p in net if board.pieces[p][5] <= layer <= board.pieces[p][6]) for net in board.nets]
+        for low, ours in enumerate(nets):
+            for high in range(low + 1, len(nets)):
+                close = [(p, q) for p in ours for q in nets[high] if touch(board.pieces[p], board.pieces[q], 10 * nanometres)]
+                found += [f"gap {layer} {low} {high} {min(close)[0]} {min(close)[1]}"] if close else []
+    return "\n".join([f"gaps {nanometres} {len(found)}", *found, ""]), len(found)
+
+
 def flattened(name):
     pieces, out, tools, last = Gerber(name, True).pieces, ["%FSLAX47Y47*%", "%MOMM*%"], {}, None
     for radius, *_ in pieces:
@@ -311,6 +324,9 @@ def answer(words):
     if words[0] == "flatten":
         return 0, flattened(words[1]), "flattened"
     board = Board(words[1])
+    if words[0] == "gaps":
+        text, count = gaps(board, int(words[2]))
+        return (1, text, f"gaps {count}") if count else (0, text, "no gaps")
     text, counts = report(board, board.labelled() if words[0] == "x2" else board.points())
     if "version" in os.environ.get("STAND_IN_LACKS", ""):
         text = re.sub(r"spots \d+\n(.*\n)*(?=(agrees|differs)\n)", "", text.replace("boardnet 2", "boardnet 1"))

@@ -1,0 +1,35 @@
+"""What is made beside the findings, where it is asked for: gaps, the comparison with another board, a netlist for a tester, a record."""
+from . import UNJUDGED, gaps, like, record, tester
+
+
+def wants_copper(asked):
+    return asked.ipc or asked.gaps or asked.like
+
+
+def add(program, told, shown, asked, scratch):
+    """Adds all that is asked for to what is told of a board."""
+    shown.verdict = shown.status, shown.line
+    if asked.gaps:
+        gaps.add(program, told, shown, asked.gaps)
+    if asked.like:
+        like.add(program, told, shown, asked, scratch)
+    if asked.ipc:
+        shown.tester = tester.made(program, told, shown.title, shown.board)
+        if shown.tester.text is None:
+            shown.status = shown.status or UNJUDGED
+    if asked.record:
+        shown.record = record.of(program, told, shown)
+    if asked.verify:
+        record.verify(program, told, shown, asked.verify)
+
+
+def lines(shown):
+    """What is told of it in lines."""
+    if shown.like:
+        yield f"like {shown.like.path}: {shown.like.line}" + (f" ({shown.like.placed})" if shown.like.placed else "")
+        for it in shown.like.differences:
+            yield f"  {it.id if it.sure else f'undecided {it.id}'}: {it.words}" + (f" {it.there[0].upper()}{it.there[1:]}." if it.there else "")
+    if shown.tester:
+        first, *rest = shown.tester.lines
+        yield f"netlist for a tester: {first}"
+        yield from (f"  {words}" for words in rest)

@@ -1,0 +1,180 @@
+"""A board against another one: the other one's netlist for a tester, checked on this board, with places on both.
+
+The netlist is that of `tester`. Where this board is a moved, turned or mirrored copy, or a panel of it, the origin is found as for
+hints, and what is told is what `check` says of the moved netlist.
+"""
+import os
+from typing import NamedTuple
+
+from . import Stop, bounds, copper, findings, judged, mending, netlist, package, tester
+from .board import Board
+from .distances import from_line
+from .hints import Trials, best_placement
+from .nearest import gap_of_lines
+from .placement import FORMS
+from .spacing import STEP, Lines, least
+from .tree import apart
+from .words import counted, millimetres
+
+KINDS = {"open": "parted", "short": "joined", "missing": "missing"}
+FEW = 3
+
+
+class Difference(NamedTuple):
+    """`words` are of this board, `there` of the other; places are (x, y, layer) on either, in u. It is `sure` but between bounds."""
+
+    id: str
+    kind: str
+    sure: bool
+    words: str
+    there: str
+    places: list
+    places_there: list
+
+
+class Likeness(NamedTuple):
+    path: str
+    status: int
+    line: str
+    placed: str
+    differences: list
+
+
+class Move:
+    """How places of the other board become places of this one, by the records of its netlist before and after."""
+
+    def __init__(self, before, after):
+        pairs = [((a.x, a.y), (b.x, b.y)) for a, b in zip(before, after)]
+        for _, form in FORMS:
+            shifts = {tuple(v - w for v, w in zip(here, form(*there))) for there, here in pairs}
+            if len(shifts) == 1:
+                self.form, self.shift = form, shifts.pop()
+                return
+        self.form, self.shift = FORMS[0][1], (0, 0)
+
+    def back(self, place):
+        """The place of the other board."""
+        x, y = (v - w for v, w in zip(place, self.shift))
+        (a, c), (b, d) = self.form(1, 0), self.form(0, 1)
+        return a * x + c * y, b * x + d * y
+
+
+class Other:
+    """The other board: its records by their numbers, and its copper."""
+
+    def __init__(self, made, move):
+        self.made, self.move, self.board = made, move, made.board
+        self.lines = Lines(made.board)
+
+    def row(self, record):
+        return self.made.rows[record - 1]
+
+    def point(self, record):
+        """A record's place there."""
+        it = self.row(record)
+        x, y = it.at.x * self.made.unit, it.at.y * self.made.unit
+        return x, y, it.place.layers[0]
+
+    def nearest_piece(self, net, layer, place):
+        """The piece of a net on a layer that is nearest to a place."""
+        best = None
+        for line, r, piece in self.lines.of(net, layer)[0]:
+            (x1, y1), (x2, y2) = line
+            box = min(x1, x2) - r, min(y1, y2) - r, max(x1, x2) + r, max(y1, y2) + r
+            if best is None or apart(box, place * 2) < best[0] * abs(best[0]):
+                found = from_line(place, *line) - r, piece
+                best = found if best is None or found < best else best
+        return best and best[1]
+
+    def joins(self, record, gap):
+        """What is told of a net that this board parts: the copper there where it is parted here."""
+        net, place = self.row(record).place.net, self.move.back(gap.place)
+        piece = self.nearest_piece(net, gap.layer, place)
+        if piece is None:
+            return "", []
+        return f"there {self.board.source(piece)} is near that place, {self.board.copper_place(place, gap.layer)}", [(*place, gap.layer)]
+
+    def parts(self, first, second, layer):
+        """What is told of two nets that this board joins: how far apart they are there on that layer, and where."""
+        nets = [self.row(record).place.net for record in (first, second)]
+        if nets[0] == nets[1] or not all(self.lines.of(net, layer)[0] for net in nets):
+            return "", []
+        distance, a, b = least(self.lines, layer, *nets)
+        place = gap_of_lines(a[:2], b[:2], layer).place
+        told = (f"there they are {millimetres(distance // STEP * STEP)} mm apart on {self.board.copper_place(place, layer)}, between "
+                f"{self.board.source(a[2])} and {self.board.source(b[2])}")
+        return told, [(*place, layer)]
+
+
+def difference(board, other, it):
+    """A finding of this board by the other one's netlist."""
+    records = [board.report.points[point][0] for point in it.points]
+    there, places = "", []
+    here = [(*board.spot(point), board.layer(point)) for point in it.points]
+    if it.kind == "open" and it.gap:
+        here.insert(0, (*it.gap.place, it.gap.layer))
+        there, places = other.joins(records[0], it.gap)
+    elif it.kind == "short":
+        here = [(*meet.place, meet.layer) for meet in it.meets] + here
+        layer = it.meets[0].layer if it.meets else board.layer(it.points[0])
+        there, places = other.parts(records[0], records[1], layer)
+    else:
+        piece = other.row(records[0]).place.pieces[0]
+        there = f"there {other.board.source(piece)} has it"
+    kind = KINDS[it.kind]
+    return Difference(f"{kind}-{it.number}", kind, True, f"{it.name}: {it.text()}", there, here, places + [other.point(record) for record in records[:FEW]])
+
+
+def differences(program, shapes, answer, made, other_text):
+    """What the check of the other one's netlist finds."""
+    if answer.package.between:
+        return [Difference(f"{KINDS[kind]}-{k}", KINDS[kind], sure, words, "", places, [])
+                for k, (kind, sure, words, places) in enumerate(answer.package.between[0].findings)]
+    after = netlist.records(answer.package.read(answer.package.manifest.netlist))
+    other = Other(made, Move(netlist.records(other_text), after))
+    shapes = shapes or copper.shapes_of(answer.package, answer.report, judged.flat_of(program, answer.package))
+    board = Board(answer.package, answer.report, after, shapes)
+    return [difference(board, other, it) for it in findings.all_findings(board)]
+
+
+def checked(program, told, text):
+    """(answer, words of the placement) of this board with the other one's netlist, moved where that makes it fit."""
+    trials = Trials(program)
+    answer = trials.of(told.package, {told.package.manifest.netlist: text})
+    if answer.report is None:
+        raise Stop(answer.status, answer.words)
+    if answer.is_misplaced():
+        best = best_placement(trials, answer)
+        if best and best[1].rank() < answer.rank():
+            return best[1], best[0].words.split(", `check` says")[0].replace("with the netlist", "the other board")
+    return answer, ""
+
+
+def reference(program, path, asked, scratch):
+    """The other board's netlist."""
+    folder = os.path.join(scratch, "like")
+    os.makedirs(folder)
+    files = package.opened(path, asked, folder)
+    mending.mend(files, program.progress)
+    theirs = judged.judge(program, files)
+    bounds.bounded(program, theirs)
+    made = tester.made(program, theirs, os.path.basename(os.path.normpath(path)))
+    if made.text is None:
+        raise Stop(theirs.status, f"{path}: {'; '.join(made.lines)}")
+    return made.netlist, made.text.encode("latin-1")
+
+
+def add(program, told, shown, asked, scratch):
+    """Compares a board with another one."""
+    try:
+        made, text = reference(program, asked.like, asked, scratch)
+        answer, placed = checked(program, told, text)
+        its = differences(program, shown.board and shown.board.shapes, answer, made, text)
+    except (Stop, copper.BadCopper) as why:
+        shown.lacks(f"not compared with {asked.like}: {why}")
+        return
+    sure = sum(it.sure for it in its)
+    counts = [counted(sum(it.kind == kind for it in its), word) for kind, word in (("parted", "parted net"), ("joined", "joined net"), ("missing", "missing pad"))]
+    line = "joins what it joins" if not its else ", ".join(word for word in counts if not word.startswith("0 "))
+    shown.like = Likeness(asked.like, answer.status, line, placed, its)
+    shown.found(sure, len(its) - sure, f"like {asked.like}: {line}")

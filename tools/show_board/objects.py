@@ -1,0 +1,178 @@
+"""What the commands of a copper file make, in order, and what its attributes say of it: function, net, part and pin.
+
+It is walked without a judgement: `check` or `flatten` took the file. Objects count the pieces that `flatten` makes of them, so that
+each piece of a flattened file has its object in the file as it was.
+"""
+import re
+from fractions import Fraction as Q
+from typing import NamedTuple
+
+from .exact import Refused
+from .macros import Expression
+from .side import words_of
+from .two_sides import DECIMAL, DRAW, FLASH, MODES, MOVE, OPERATION, SCALES
+
+PRIMITIVES = {1: (2,), 20: (2,), 21: (2, 3)}     # where a primitive has its sizes; without one it makes nothing
+
+
+class Object(NamedTuple):
+    """`count` pieces of a flash, draw or contour; `place` is that of a flash, `region` the number of a contour's region."""
+
+    kind: str
+    command: int
+    copy: int
+    count: int
+    place: tuple
+    region: int
+    function: str
+    net: str
+    part: str
+    pin: str
+
+
+class Aperture(NamedTuple):
+    count: int
+    function: str
+
+
+class Attributes:
+    """Those in force: of the next aperture its function, of the next objects net, part and pin."""
+
+    def __init__(self):
+        self.function = self.net = self.part = self.pin = ""
+
+    def word(self, word):
+        name, *fields = word[2:].split(",")
+        if word.startswith("TA") and name == ".AperFunction":
+            self.function = fields[0] if fields else ""
+        elif word.startswith("TO") and name == ".N":
+            self.net = fields[0] if fields else ""
+        elif word.startswith("TO") and name == ".P":
+            self.part, self.pin = (fields + ["", ""])[:2]
+        elif word.startswith("TD"):
+            self.delete(name)
+
+    def delete(self, name):
+        for of, fields in ((".AperFunction", ["function"]), (".N", ["net"]), (".P", ["part", "pin"])):
+            if name in ("", of):
+                for field in fields:
+                    setattr(self, field, "")
+
+
+class Walk:
+    """Goes through a copper file; `objects` is what it makes."""
+
+    def __init__(self, text):
+        self.objects, self.attributes, self.apertures, self.macros = [], Attributes(), {}, {}
+        self.scale = self.decimals = self.last = self.aperture = self.block = self.macro = None
+        self.place, self.clear, self.in_region, self.edges, self.region = (0, 0), False, False, 0, 0
+        for self.command, (extended, word, first) in enumerate(words_of(text), 1):
+            if extended:
+                self.extended(word, first)
+            else:
+                self.plain(word)
+
+    # ---- words
+
+    def extended(self, word, first):
+        self.macro = None if first else self.macro
+        if self.macro is not None:
+            self.macro.append(word)
+        elif word.startswith(("TA", "TO", "TD")):
+            self.attributes.word(word)
+        elif word.startswith("AM"):
+            self.macro = self.macros.setdefault(word[2:], [])
+        elif word.startswith("AD"):
+            self.define(word)
+        elif word.startswith("SR"):
+            self.steps(word)
+        elif word.startswith("FS"):
+            self.decimals = int(word[-1])
+        elif word in SCALES:
+            self.scale = SCALES[word]
+        elif word in ("LPC", "LPD"):
+            self.clear = word == "LPC"
+
+    def plain(self, word):
+        picked = re.fullmatch(r"(?:G54)?D(\d{2,9})", word)
+        operation = OPERATION.fullmatch(word)
+        if word in SCALES:
+            self.scale = SCALES[word]
+        elif word in ("G36", "G37"):
+            self.close()
+            self.in_region, self.region = word == "G36", self.region + 1
+        elif word in ("M02", "M2"):
+            self.steps("SR")
+        elif picked and int(picked[1]) >= 10:
+            self.aperture = self.apertures.get(int(picked[1]))
+        elif word not in MODES and operation and any(operation.groups()[1:]):
+            self.operation(*operation.groups())
+
+    # ---- apertures
+
+    def define(self, word):
+        match = re.fullmatch(r"ADD(\d{1,9})([^,]+)(?:,(.*))?", word)
+        number, name, parts = int(match[1]), match[2], (match[3] or "").split("X")
+        values = [Q(part) for part in parts if DECIMAL.fullmatch(part)]
+        count = self.macro_count(name, values) if name in self.macros else int(name != "C" or any(values[:1]))
+        self.apertures[number] = Aperture(count, self.attributes.function)
+
+    def macro_count(self, name, values):
+        """How many primitives of a macro have an image."""
+        variables, count = {k: value for k, value in enumerate(values, 1)}, 0
+        try:
+            for word in (re.sub(r"\s", "", word) for word in self.macros[name]):
+                if not word or word.startswith("0"):
+                    continue
+                parts = word.split(",")
+                sizes = [Expression(parts[k], variables).value() for k in PRIMITIVES.get(int(Q(parts[0])), ())]
+                line = [Expression(part, variables).value() for part in parts[3:7]] if Q(parts[0]) == 20 else [0, 0, 1, 1]
+                count += all(sizes) and line[:2] != line[2:]
+        except (Refused, ValueError, IndexError, ZeroDivisionError):
+            return 1    # of a macro that `flatten` refuses: bounds have their own sources
+        return count
+
+    # ---- operations
+
+    def operation(self, _, x, y, i, j, code):
+        code = int(code) if code else self.last
+        before, self.last = self.place, code
+        self.place = tuple(int(v) * self.scale // 10 ** self.decimals if v else old for v, old in zip((x, y), before))
+        if self.in_region:
+            if code == MOVE:
+                self.close()
+            else:
+                self.edges += 1
+        elif code == DRAW and (self.aperture is None or self.aperture.count):
+            self.add("draw", 1)
+        elif code == FLASH and self.aperture is not None:
+            self.add("flash", self.aperture.count)
+
+    def close(self):
+        if self.edges:
+            self.add("contour", 1)
+        self.edges = 0
+
+    def add(self, kind, count):
+        its = self.attributes
+        function = self.aperture.function if self.aperture and kind != "contour" else its.function
+        self.objects.append(Object("clear" if self.clear else kind, self.command, 0, count, self.place, self.region if kind == "contour" else 0,
+                                   function, its.net, its.part, its.pin))
+
+    # ---- step and repeat
+
+    def steps(self, word):
+        """Ends a block, whose objects give way to their copies, and may open one."""
+        if self.block:
+            first, columns, rows, x, y = self.block
+            once = self.objects[first:]
+            self.objects[first:] = [it._replace(copy=i * rows + j, place=(it.place[0] + i * x, it.place[1] + j * y))
+                                    for i in range(columns) for j in range(rows) for it in once]
+        match, self.block = re.fullmatch(r"SRX(\d+)Y(\d+)I([^J]+)J(.+)", word), None
+        if match:
+            self.block = (len(self.objects), int(match[1]), int(match[2]), *(round(Q(v) * self.scale) for v in match.groups()[2:]))
+
+
+def objects_of(data):
+    """The objects of a copper file."""
+    return Walk(data.decode("latin-1")).objects

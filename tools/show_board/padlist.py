@@ -1,0 +1,167 @@
+"""Where a tester may touch a board: each pad of an outer layer, and each plated hole, with what the files say of it.
+
+A pad is what one flash makes, whatever its shape, or a region that the file gives to a pin (`TO.P`); of a flash whose copper is
+on two nets there is one for each. A pad whose middle lies in a plated hole of its layer is told with the hole.
+"""
+from collections import defaultdict
+
+from . import grid
+from .aims import aim
+from .copper import BadCopper
+from .objects import objects_of
+from .tree import cover
+
+# Functions of apertures whose flashes are no pads.
+NO_PADS = {"Conductor", "EtchedComponent", "NonConductor", "CopperBalancing", "Border", "OtherCopper", "ThermalReliefPad", "AntiPad"}
+VIA = "VIA"
+
+
+class Place:
+    """A pad or a hole: its pieces, net and layers (first and last), its middle and size in u, and `hole`, the piece of a hole.
+
+    `aim` is where it is best touched.
+    """
+
+    def __init__(self, pieces, net, layers, middle, size, hole=None):
+        self.pieces, self.net, self.layers, self.middle, self.size, self.hole = pieces, net, layers, middle, size, hole
+        self.aim = middle
+        self.part = self.pin = ""
+        self.is_via = self.is_round = False
+
+    def name(self, part, pin, is_via):
+        """Takes part and pin, where there are none yet."""
+        if not self.part and part:
+            self.part, self.pin = part, pin
+        self.is_via = self.is_via or is_via
+
+    def take(self, pad, is_in_front):
+        """Takes what is said of a pad about a hole, and its size where the hole is touched on that side."""
+        self.name(pad.part, pad.pin, pad.is_via)
+        if is_in_front:
+            self.size, self.is_round = pad.size, pad.is_round
+
+
+def repeated(objects):
+    """The object of each piece, in order."""
+    return [it for it in objects for _ in range(it.count)]
+
+
+def of_file(package, name):
+    """The objects of a file's pieces in order, read from the file as it was before it was flattened."""
+    return repeated(objects_of(package.before.get(name) or package.read(name)))
+
+
+def by_command(package, name):
+    """The object of each command and copy of a file that the package has."""
+    its = of_file(package, name)
+    if name in package.flattened:
+        return {(it.command, 0): its[k] for k, it in enumerate(repeated(objects_of(package.read(name))))}
+    return {(it.command, it.copy): it for it in its}
+
+
+def origins(board, base=None, sources=None):
+    """The object of each piece of copper. Between bounds `base` is the package of the user's files, `sources` their commands."""
+    package, report, found = base or board.package, board.report, []
+    by_file = defaultdict(list)
+    for piece, (file, *_) in enumerate(report.sources):
+        by_file[file].append(piece)
+    for file, name in enumerate(package.manifest.copper):
+        pieces = by_file[file]
+        if sources and name in sources:
+            objects, old = by_command(package, name), sources[name]
+            places = [(old[report.sources[piece][1] - 1], report.sources[piece][2]) for piece in pieces]
+            found += [objects.get(place) or objects.get((place[0], 0)) for place in places]
+        else:
+            its = of_file(package, name)
+            if len(its) != len(pieces):
+                raise BadCopper(f"{name}: its commands make {len(its)} pieces here, and {len(pieces)} in the report")
+            found += its
+    return found
+
+
+def is_pad(it):
+    return it is not None and (it.kind == "flash" and it.function not in NO_PADS or it.kind == "contour" and bool(it.part))
+
+
+def middle_of(box):
+    return (box[0] + box[2]) // 2, (box[1] + box[3]) // 2
+
+
+class Padlist:
+    """The pads and holes of a board, and its pieces' objects."""
+
+    def __init__(self, board, objects):
+        self.board, self.objects = board, objects
+        self.layers = board.manifest.layers
+        self.holes, self.pads = self.all_holes(), self.all_pads()
+        self.places = self.joined()
+        self.name_by_records()
+
+    def all_holes(self):
+        shapes, found = self.board.shapes, []
+        for piece in range(len(self.objects), self.board.report.pieces):
+            top, bottom = self.board.report.sources[piece][3:]
+            (x1, y1), (x2, y2) = shapes.places(piece)[0], shapes.places(piece)[-1]
+            left, low, right, high = shapes.box(piece)
+            hole = Place([piece], self.board.report.net_of[piece], (top, bottom), ((x1 + x2) // 2, (y1 + y2) // 2), (right - left, high - low), piece)
+            hole.is_round = (x1, y1) == (x2, y2)
+            found.append(hole)
+        return found
+
+    def all_pads(self):
+        groups = defaultdict(list)
+        for piece, it in enumerate(self.objects):
+            file = self.board.report.sources[piece][0]
+            if file in (0, self.layers - 1) and is_pad(it):
+                what = ("region", it.region, it.copy) if it.region else ("flash", it.command, self.board.report.sources[piece][2] or it.copy)
+                groups[file, what, self.board.report.net_of[piece]].append(piece)
+        return [self.pad(file + 1, net, pieces) for (file, _, net), pieces in groups.items()]
+
+    def pad(self, layer, net, pieces):
+        left, low, right, high = box = cover([self.board.touching.box(piece) for piece in pieces])
+        found, it = Place(pieces, net, (layer, layer), middle_of(box), (right - left, high - low)), self.objects[pieces[0]]
+        found.name(it.part, it.pin, it.function == "ViaPad")
+        shapes = self.board.shapes
+        found.aim = aim(self.board.touching, pieces, found.middle, found.size)
+        found.is_round = len(pieces) == 1 and not shapes.is_area(pieces[0]) and len(shapes.places(pieces[0])) == 1
+        return found
+
+    def name_by_records(self):
+        """Part and pin of places by the netlist's records that lie on them, the nearest to the middle first."""
+        board, places = self.board, self.places
+        told = [(point, board.record(point), board.spot(point)) for point in range(len(board.report.points))]
+        told = [it for it in told if it[1] and it[1].component and it[2]]
+        boxes = [cover([board.touching.box(piece) for piece in it.pieces]) for it in places] + [spot * 2 for _, _, spot in told]
+        found = defaultdict(list)
+        for i, j in grid.pairs(boxes):
+            if i >= len(places) > j:
+                point, record, spot = told[i - len(places)]
+                place = places[j]
+                if place.layers[0] <= board.layer(point) <= place.layers[1] and any(board.touching.holds(piece, spot) for piece in place.pieces):
+                    away = (spot[0] - place.middle[0]) ** 2 + (spot[1] - place.middle[1]) ** 2
+                    found[j].append((place.hole is None and record.component == VIA, away, point, record))
+        for j, its in found.items():
+            *_, record = min(its)
+            if record.component == VIA:
+                places[j].name("", "", places[j].hole is not None)
+            else:
+                places[j].name(record.component, record.pin, False)
+
+    def joined(self):
+        """The holes with the pads about them, and the other pads."""
+        board, about = self.board, set()
+        boxes = [board.touching.box(it.hole) for it in self.holes] + [it.middle * 2 for it in self.pads]
+        for i, j in grid.pairs(boxes):
+            if i >= len(self.holes) > j:
+                hole, pad = self.holes[j], self.pads[i - len(self.holes)]
+                layer = pad.layers[0]
+                if hole.layers[0] <= layer <= hole.layers[1] and hole.net == pad.net and board.touching.holds(hole.hole, pad.middle):
+                    hole.take(pad, layer == front(hole, self.layers))
+                    about.add(i - len(self.holes))
+        return self.holes + [pad for k, pad in enumerate(self.pads) if k not in about]
+
+
+def front(place, layers):
+    """The layer on which a place is touched: the last one of a blind hole from below, else the first."""
+    first, last = place.layers
+    return last if last == layers and first > 1 else first
