@@ -12,14 +12,14 @@ TOOLS = Path(__file__).resolve().parent.parent
 loader = importlib.machinery.SourceFileLoader("lists", str(TOOLS / "lists"))
 loader.exec_module(lists := importlib.util.module_from_spec(importlib.util.spec_from_loader("lists", loader)))
 
-README = "# r\n<!-- crates: made by tools/lists -->\n<!-- crates end -->\nbehind\n"
+MAP = "# r\n<!-- crates: made by tools/lists -->\n<!-- crates end -->\nbehind\n"
 FILES = {
     "crates.txt": "# lowest first\nlow:\nhigh: low serde_json\n",
     "crates/low/src/lib.rt": "//! Numbers (`a`,\n//! `b`) of boards. And more.\n//!\n//! Further.\n#![tactic(auto)]\n",
     "crates/low/README.md": "# `low`\n\nIn short: `f` (`ok`). Tested: g.\n",
     "crates/high/src/main.rt": "//! high: what is it?\n",
     "crates/high/README.md": "# `high`\n\nIn short: `run`.\n",
-    "README.md": README,
+    "docs/ARCHITECTURE.md": MAP,
 }
 SENTENCES = [
     ("//! One thing. Two things.\n", "One thing"),
@@ -69,7 +69,7 @@ class Lists(unittest.TestCase):
         self.assertEqual(self.run_lists("--check"), (0, "lists: current\n"))
 
     def test_readme_is_short(self):
-        self.assertLessEqual(len((lists.TOP / "README.md").read_bytes()), 9000)
+        self.assertLessEqual(len((lists.TOP / "README.md").read_bytes()), 5000)
 
     def test_first_sentences(self):
         for source, wanted in SENTENCES:
@@ -77,7 +77,7 @@ class Lists(unittest.TestCase):
 
     def test_table_of_crates(self):
         self.assertEqual(self.run_lists()[0], 0)
-        rows = (self.top / "README.md").read_text().splitlines()
+        rows = (self.top / "docs/ARCHITECTURE.md").read_text().splitlines()
         self.assertEqual(rows[4], "| `low` | Numbers of boards | `f` (`ok`). Tested: g |")
         self.assertEqual(rows[5:], ["| `high` | high: what is it | `run` |", "<!-- crates end -->", "behind"])
         self.assertEqual(self.run_lists("--check"), (0, "lists: current\n"))
@@ -98,7 +98,7 @@ class Lists(unittest.TestCase):
         self.run_lists()
         self.put("crates/low/README.md", "# `low`\n")
         self.assertEqual(self.run_lists("--check"), (1, "crates/low: a page without a line 'In short:'\n"))
-        self.put("README.md", "# r\n")
+        self.put("docs/ARCHITECTURE.md", "# r\n")
         self.put("crates/low/README.md", FILES["crates/low/README.md"])
         self.assertEqual(self.run_lists(), (1, "the markers of crates do not stand once\n"))
 
