@@ -1,12 +1,12 @@
 """Drill files: plated or not, and the layers that their holes span."""
 import re
 
-from mends.plating import Plating
+from mends.plating import Plating, unplated_hole
 
 from . import Refused
 
 FUNCTION = re.compile(rb"^[ \t]*; ?#@! ?TF\.FileFunction,([^\r\n]*)", re.M)
-TYPE = re.compile(rb"^[ \t]*; ?TYPE ?= ?(PLATED|NON_?PLATED)", re.M | re.I)
+TYPE = re.compile(rb"^[ \t]*; ?TYPE ?= ?(PLATED|NON[_-]?PLATED)", re.M | re.I)
 UNPLATED_NAME = re.compile(r"npth|non?[._ -]?plated|un[._ -]?plated", re.I)
 PLATED_NAME = re.compile(r"pth|plated|(?:^|[._ -])via", re.I)
 APART = ("write plated and unplated holes to files of their own "
@@ -28,6 +28,11 @@ def need_told(name, data, said):
         raise Refused(f"{name} {said}{unsaid}: {APART}")
 
 
+def is_unplated_alone(data):
+    """Whether a file says by comments TYPE alone that its holes are not plated: it is left out."""
+    return not FUNCTION.search(data) and {it.upper().startswith(b"NON") for it in TYPE.findall(data)} == {True}
+
+
 def of_attribute(name, function, data):
     """What the attribute says: a file of plated holes, or a reason to leave it out."""
     fields = function.strip().split(",")
@@ -45,6 +50,9 @@ def of_attribute(name, function, data):
 
 def of(name, data):
     """What a drill file is: a file of plated holes, or a reason to leave it out."""
+    line = unplated_hole(data)
+    if line and not is_unplated_alone(data):
+        raise Refused(f"{name}: line {line} makes a hole that the file itself calls unplated, and what it says of the others does not fit or is missing: {APART}")
     said = {it.strip().decode("ascii", "replace") for it in FUNCTION.findall(data)}
     if len(said) > 1:
         raise Refused(f"{name} has several comments TF.FileFunction ({'; '.join(sorted(said))}): {APART}")
@@ -57,6 +65,11 @@ def of(name, data):
         return None, "its comment says TYPE=NON_PLATED, so its holes join nothing"
     if False in types:
         return Drills(name, None, "its comment says TYPE=PLATED, and not which layers the holes span"), ""
+    tools = set(Plating(data).tools.values())
+    if tools == {False}:
+        return None, "each of its tools says that it is not plated, so its holes join nothing"
+    if tools and None not in tools:
+        return Drills(name, None, "its tools say whether they are plated, and nothing which layers the holes span"), ""
     if UNPLATED_NAME.search(name):
         # Left out only as a guess: it is said and confirmed as the others are.
         return Drills(name, (0, 0), "its name says that its holes are not plated"), ""

@@ -2,7 +2,7 @@
 import re
 
 from . import Mend, short
-from .plating import Plating
+from .plating import PICK, Plating
 from .table import ENDS, FORCE, FORM, LIFT, MACHINE, PLATING, UNIT
 
 UNIT_LINE = re.compile(rb"(METRIC|INCH)((?:,(?:TZ|LZ|0+\.0+))*)")
@@ -13,7 +13,6 @@ SIZE = re.compile(rb"C[+-]?[0-9.]+")
 RUNS = re.compile(rb"(?:ATC|BLKD|DETECT|OSTOP|SBK|SG|TCST),(?:ON|OFF)|M47,[^;]*|(?:[FS][0-9.]+)+")
 ZERO_SET = re.compile(rb"G93X[+-]?0*\.?0*Y[+-]?0*\.?0*")
 PLACE = re.compile(rb"(G0[01])?(?:X([+-]?[0-9.]+))?(?:Y([+-]?[0-9.]+))?")
-PICK = re.compile(rb"T([0-9]{1,4})")
 
 
 class Drill:
@@ -149,7 +148,7 @@ class Holes:
             self.note(bare)
             self.drill.lines[at] = b""
             self.taken, self.has_gap = self.taken + 1, True
-        elif bare[:1] in (b"X", b"Y", b"G"):
+        elif bare.startswith((b"X", b"Y", b"G00", b"G01")):
             self.keep(at, bare)
 
     @staticmethod

@@ -21,7 +21,7 @@ IDENTITY, STRAIGHT, STATE, FORMAT, END, UNUSED, LINES, TURN, CONTOUR = \
     "identity", "straight", "state", "format", "end", "unused", "macro lines", "macro turn", "contour"
 
 ROWS = (
-    Row(PLATING, "a drill file of plated and unplated holes (`MixedPlating`, or no file function) where each tool says which it is: `; #@! TA.AperFunction,Plated,..` "
+    Row(PLATING, "a drill file of plated and unplated holes, or of unplated ones alone (`MixedPlating`, or no file function) where each tool says which it is: `; #@! TA.AperFunction,Plated,..` "
         "or `NonPlated,..` before the tool, or `;TYPE=PLATED` and `;TYPE=NON_PLATED` before tools",
         "the holes of plated tools alone; `Plated` for `MixedPlating`; a place that went on from a hole that goes gets both coordinates",
         "an unplated hole joins nothing", "each tool says whether it is plated"),

@@ -3,8 +3,9 @@ import os
 
 from mends import package as mends
 from mends import ways
+from mends.plating import unplated_hole
 
-from . import UNJUDGED
+from . import UNJUDGED, Stop
 from .words import counted
 
 REFUSED = 3
@@ -16,9 +17,19 @@ def mend(package, progress):
         return
     progress.begin("looking for what to mend")
     drills = [name for name, _, _ in package.manifest.drills]
+    need_plated(package, drills)
     for name, data, told in mends.of_files(lambda name: bytes_of(package, name), package.manifest.copper, drills):
         package.put(name, data)
         package.mends += told
+
+
+def need_plated(package, drills):
+    """Refuses a drill file with holes that it calls unplated and that `check` would take as plated."""
+    for name in drills:
+        line = unplated_hole(bytes_of(package, name))
+        if line:
+            raise Stop(REFUSED, f"{name}: line {line} makes a hole that the file itself calls unplated, and what it says of the others does not fit or is "
+                                f"missing, so that hole would join layers; to export: {ways.way('MixedPlating', '')}")
 
 
 def bytes_of(package, name):

@@ -138,7 +138,7 @@ class Manifest(common.Case):
             (two(p_drl=drill("MixedPlating,1,2")), "p.drl mixes plated and unplated holes", "'PTH and NPTH in single file' off"),
             (two(m_drl=drill("MixedPlating,1,2")), "m.drl mixes plated and unplated holes, and does not say which T1 is", "kicad-cli: --excellon-separate-th"),
             (two(p_drl=drill("Plated,1,2,PTH", "; #@! TF.FileFunction,NonPlated,1,2,NPTH\n")), "several comments TF.FileFunction"),
-            (two(p_drl=drill("", ";TYPE=PLATED\n;TYPE=NON_PLATED\n")), "TYPE=PLATED and of TYPE=NON_PLATED"),
+            (two(p_drl=drill("", ";TYPE=PLATED\n;TYPE=NON_PLATED\n")), "p.drl: line 8 makes a hole that the file itself calls unplated"),
             (two(p_drl=drill("Plated")), "not which layers they span"),
             (two(p_drl=drill("Plated,1,3,PTH")), "p.drl spans layers 1 to 3 of 2"),
             (two(p_drl=copper("Plated,1,2,PTH,Drill")), "no drill file of plated holes"),

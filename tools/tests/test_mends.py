@@ -4,7 +4,7 @@ import os
 import random
 
 import common
-from mends import chords, copper_file, drill_file, package, table, ways
+from mends import chords, copper_file, drill_file, package, plating, table, ways
 
 HEAD = "%FSLAX46Y46*%\n%MOMM*%\n"
 PADS = "%ADD10C,1.0*%\nD10*\nX0Y0D03*\nX5000000Y0D03*\n"
@@ -165,6 +165,24 @@ class Mends(common.Case):
             self.assertEqual(data.count("\n"), text.count("\n"), text)
             if mended is copper_file.mended and kind != table.TURN:
                 self.assertEqual(data.count("*"), text.count("*"), text)
+
+    def test_where_a_hole_goes_on_from(self):
+        """What is no place gives no coordinate: a plated hole goes on from the unplated one before it."""
+        text = drill("T2", "X3.0Y7.0", "G93X0.0Y0.0", "T1", "Y1.0", header=("; #@! TF.FileFunction,MixedPlating,1,1", "METRIC"), tools=TOOLS)
+        self.assertEqual(drill_file.mended(text.encode())[0].split(b"\n")[-6:-2], [b"", b"", b"T1", b"X3.0Y1.0"])
+
+    def test_holes_called_unplated(self):
+        """Holes that the file calls unplated and that nothing takes out: the line of the first. None where `check` refuses the file, or it is mended."""
+        plated = "; #@! TF.FileFunction,Plated,1,1"
+        kinds = (";TYPE=PLATED", "T1C0.4", ";TYPE=NON-PLATED", "T2C1.0")
+        rows = [(drill(*MIXED, header=(plated, "METRIC"), tools=TOOLS), 12), (drill(*MIXED, tools=("T1C0.4", *TOOLS[2:])), 10),
+                (drill("T1", "X0.0Y0.0", ";TYPE=NON_PLATED", "T2", "X3.0Y0.0", tools=("T1C0.4", "T2C1.0")), 10),
+                (drill("T1", "X0.0Y0.0", "T2", header=(plated, "METRIC"), tools=TOOLS), 0), (drill(*MIXED, tools=TOOLS), 0), (drill(*MIXED, tools=kinds), 0),
+                (drill(*MIXED, header=("; #@! TF.FileFunction,MixedPlating,1,1", "METRIC"), tools=("T1C0.4", *TOOLS[2:])), 0), (HOLES, 0)]
+        for text, line in rows:
+            self.assertEqual(plating.unplated_hole(text.encode()), line, text)
+        for text in (drill(*MIXED, tools=kinds), drill(*MIXED, tools=TOOLS)):
+            self.assertNotIn(b"X3.0", drill_file.mended(text.encode())[0])
 
     def test_only_what_is_refused(self):
         for kind, text, *_ in COPPER:
