@@ -1,7 +1,7 @@
 """A netlist of the names that the copper files give their own pads (Gerber Layer Format Specification, 5.6: .P, .N and .C).
 
-One test point for each flash and each region with a pin, on the layer of its file; where no file names a pin, one for each with a
-net. What is known so are opens and shorts against the copper's own names: that these are the right ones nothing says.
+One test point for each flash and each contour of a region with a pin, on the layer of its file; where no file names a pin, one for
+each with a net. What is known so are opens and shorts against the copper's own names: that these are the right ones nothing says.
 """
 import os
 import re
@@ -41,9 +41,12 @@ class Point(NamedTuple):
 
 
 def field(text):
-    """A field of an attribute as it can be printed."""
-    told = text.encode("latin-1").decode("utf-8", "replace").strip()
-    return "".join(c if c.isprintable() else "?" for c in told)
+    """A field of an attribute as it can be printed: fields that differ stay different, in files of UTF-8 and of Latin-1."""
+    try:
+        told = text.encode("latin-1").decode("utf-8")
+    except UnicodeDecodeError:
+        told = text
+    return "".join(c if c.isprintable() else f"\\u{ord(c):04x}" for c in told)
 
 
 class Names:
@@ -64,7 +67,7 @@ class Names:
     def label(self):
         part, pin, *_ = [*self.set.get(".P", []), "", ""]
         name = next(iter(self.set.get(".N", [])), "")
-        return Label(part or next(iter(self.set.get(".C", [])), ""), pin, "" if name == netlist.NO_NET else name)
+        return Label((part or next(iter(self.set.get(".C", [])), "")).strip(), pin.strip(), "" if name.strip() in ("", netlist.NO_NET) else name)
 
 
 class Pads:
@@ -150,12 +153,19 @@ def points_of(text, layer, wants_pins):
     objects = two_sides.Copper(pads.text()).objects
     near = erased(objects)
     for at, it in enumerate(objects):
-        pieces = it.both[0] or it.both[1]
-        if it.dark and pieces and it.tag in pads.labels:
-            boxes = [clear.box(piece) for piece in pieces]
-            left, low, right, high = (side(box[k] for box in boxes) for k, side in enumerate((min, min, max, max)))
-            pad = points.Pad(((left + right) // 2, (low + high) // 2), pieces, near((left, low, right, high), at))
-            yield Point(layer, pads.labels[it.tag], pad, bool(it.both[0]))
+        if it.dark and it.tag in pads.labels:
+            # The contours of a region may stand apart.
+            is_region = it.both[0] and pads.words[it.tag - 1][1] == "G37"
+            for pieces in [[piece] for piece in it.both[0]] if is_region else [it.both[0] or it.both[1]]:
+                if pieces:
+                    yield Point(layer, pads.labels[it.tag], pad_of(pieces, near, at), bool(it.both[0]))
+
+
+def pad_of(pieces, near, at):
+    """A pad of these pieces, wanted at the middle of their box."""
+    boxes = [clear.box(piece) for piece in pieces]
+    left, low, right, high = (side(box[k] for box in boxes) for k, side in enumerate((min, min, max, max)))
+    return points.Pad(((left + right) // 2, (low + high) // 2), pieces, near((left, low, right, high), at))
 
 
 def text_at(package, name):

@@ -67,6 +67,24 @@ class Labels(made.Case):
             self.assertEqual((status, [it["kind"] for it in board["findings"]]), (1, ["short"]))
             self.assertIn("GND and VCC are joined: ", out)
 
+    @unittest.skipUnless(made.built(), "the program is not built")
+    def test_names_stay_apart(self):
+        """Names that differ in letters that are no ASCII, in control characters, in case or by a blank are different."""
+        for one, other in (("Netz_\xe4", "Netz_\xf6"), ("N\x01", "N\x02"), ("gnd", "GND"), ("GND ", "GND"), ("N" * 15 + "1", "N" * 15 + "2")):
+            lines = [*pin("U1", "1", one), *flash(10, (0, 0)), *pin("U1", "2", other), *flash(10, (5, 0)), "%TD*%", *draw(11, (0, 0), (5, 0))]
+            self.board({"top.gbr": layer(1, "Top", *lines).encode("latin-1"), "bot.gbr": layer(2, "Bot", *pin("U2", "1", "VCC"), *flash(10, (9, 0)))})
+            status, out, _ = self.show("board", "--no-drills", program=made.built())
+            self.assertEqual((status, out.splitlines()[0]), (1, f"board: {FIRST}differs, opens 0, shorts 1, missing 0 (audit true)"), (one, other))
+
+    @unittest.skipUnless(made.built(), "the program is not built")
+    def test_each_contour_is_a_point(self):
+        """A pin's region of two contours, of which a track meets one alone."""
+        square = [f"X{x}Y{y}D0{code}*" for at in (0, 9_000_000) for x, y, code in ((at, 0, 2), (at + 1_000_000, 0, 1), (at + 1_000_000, 1_000_000, 1), (at, 0, 1))]
+        lines = [*pin("U1", "1", "GND"), "G36*", *square, "G37*", *pin("U1", "2", "GND"), *flash(10, (0, 5)), "%TD*%", *draw(11, (0, 0), (0, 5))]
+        self.board({"top.gbr": layer(1, "Top", *lines), "bot.gbr": layer(2, "Bot", *pin("U2", "1", "VCC"), *flash(10, (9, 9)))})
+        status, out, _ = self.show("board", "--no-drills", program=made.built())
+        self.assertEqual((status, out.splitlines()[0]), (1, f"board: {FIRST}differs, opens 1, shorts 0, missing 0 (audit true)"))
+
     def test_no_holes(self):
         """Pins on several layers and no drill file: refused, unless it is said that there is none."""
         files = {name: text for name, text in FILES.items() if name != "p.drl"}
