@@ -1,3 +1,4 @@
+pub mod Agreed
 pub mod CutOff
 pub mod Entries
 pub mod Form

@@ -28,6 +28,11 @@ pub walk_more : (files : Files) (entries : List Entry) (i : ℕ) (d : Entry) (st
 walk_more files entries i d start mid end below w g =
     subst (λ xs. Walks files xs start end) (sym (take_more entries i d below)) (walks_on (Goes files) (take i entries) (get_or entries i d ∷ []) start mid end w (end, g, refl))
 
+-- one step more
+pub steps_more : {S : Type 0} (Step : Entry → S → S → Type 0) (entries : List Entry) (i : ℕ) (e : Entry) (start mid end : S) → i < length entries → e ≡ get_or entries i e → WalksBy Step (take i entries) start mid → Step e mid end → WalksBy Step (take (i + 1) entries) start end
+steps_more Step entries i e start mid end below here w s =
+    subst (λ xs. WalksBy Step xs start end) (sym (take_more entries i e below)) (walks_on Step (take i entries) (get_or entries i e ∷ []) start mid end w (end, subst (λ (x : Entry). Step x mid end) here s, refl))
+
 split_at : (entries : List Entry) (i : ℕ) (d : Entry) → i < length entries → entries ≡ take i entries ++ get_or entries i d ∷ drop (i + 1) entries
 split_at entries i d below =
     sym (take-append-drop (i + 1) entries) ∙ (ap (λ (xs : List Entry). xs ++ drop (i + 1) entries) (take_more entries i d below) ∙ simp append_assoc)

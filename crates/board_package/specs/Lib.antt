@@ -1,4 +1,5 @@
 pub mod Causes
+pub mod HandedBoard
 pub mod LabelledBoard
 pub mod LabelledCauses
 pub mod Labelling

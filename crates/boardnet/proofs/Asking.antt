@@ -117,6 +117,10 @@ pub under_command : (held : Option Files) (words : List (String Global)) (comman
     → OfFilesRead command held (λ files. P files command) → (c : Command) → Asks words c → OfFilesRead c held (λ files. P files c)
 under_command held words command P is h c other = subst (λ (z : Command). OfFilesRead z held (λ files. P files z)) (sym (one_command words command c is other)) h
 
+-- the same of what is said of no files
+pub under_asked : (words : List (String Global)) (command : Command) (Q : Command → Type 0) → Asks words command → Q command → (c : Command) → Asks words c → Q c
+under_asked words command Q is h c other = subst Q (sym (one_command words command c is other)) h
+
 -- the names in words that ask for a command are texts
 pub names_in : (words : List (String Global)) (command : Command) → Asks words command → HasNames command
 names_in words (Check version manifest) is = is.text
@@ -126,6 +130,11 @@ names_in words (Write manifest) is = is.text
 names_in words (Gaps manifest nanometres) is = (is.text, is.few)
 names_in words (X2 manifest) is = is.text
 names_in words (Flatten file) is = is.text
+
+pub of_check : (held : Option Files) (words : List (String Global)) (P : Files → Command → Type 0) → ((c : Command) → Asks words c → OfFilesRead c held (λ files. P files c))
+    → IfSome held (λ files. (version : Version) (name : List ℕ) → IsCheck words version name → P files (Check version name))
+of_check None words P h = tt
+of_check (Some files) words P h = λ version name is. h (Check version name) is
 
 pub of_gaps : (held : Option Files) (words : List (String Global)) (P : Files → Command → Type 0) → ((c : Command) → Asks words c → OfFilesRead c held (λ files. P files c))
     → IfSome held (λ files. (name : List ℕ) (nanometres : ℕ) → IsGaps words name nanometres → P files (Gaps name nanometres))

@@ -1,3 +1,4 @@
+pub mod Agreeable
 pub mod Ending
 pub mod OnBoard
 pub mod Says

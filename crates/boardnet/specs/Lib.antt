@@ -1,7 +1,9 @@
 pub mod Answers
 pub mod Asked
 pub mod Ends
+pub mod FilesAgree
 pub mod Gapped
+pub mod HandedOutcome
 pub mod Kept
 pub mod Labelled
 pub mod Laws

@@ -1,4 +1,5 @@
 //! The command `audit`.
+ghost use Rattle.board_io.specs.Handed.{Grows, IfAgreed};
 ghost use Rattle.board_io.specs.Package.{IsFaultless};
 ghost use Rattle.board_package.specs.Causes.{HasCause, KeepsFaults};
 ghost use Rattle.board_shapes.specs.Laws.{HasOneTables};
@@ -7,7 +8,7 @@ ghost use Rattle.boardnet.specs.Answers.{Answers, IsRuledOn, IsUnruled};
 ghost use Rattle.boardnet.specs.Ends.{Works};
 ghost use Rattle.boardnet.specs.Outcome.{ComesFor, IsAuditStop, IsBoardOf, IsHeld};
 ghost use Rattle.boardnet.specs.Words.{Audit, IsText};
-ghost use Rattle.std.specs.Prelude.{IfErr, IfOk, IfSome, ◌≡◌, ◌≤◌};
+ghost use Rattle.std.specs.Prelude.{IfErr, IfOk, IfSome, Some, ◌≡◌, ◌≤◌};
 
 use crate::answer::{Answer, Answered, Note, Unanswered};
 use crate::judged::board_of;
@@ -26,7 +27,8 @@ use witness_check::{Ruling, audit};
 pub fn ruling<P: Package>(alloc: Global, manifest: &str, report: &str, package: &mut P) -> Answered
     requires manifest { IsText manifest.now }
     requires report { IsText report.now }
-    ensures { Works P.held P.faults P.lost (Audit manifest.now report.now) «package».old «package».new result }
+    ensures agreed { IfAgreed (P.handed «package».old) (P.handed «package».new) (λ files. Works (λ p. Some files) P.faults P.lost (Audit manifest.now report.now) «package».old «package».new result) }
+    ensures works { Works P.held P.faults P.lost (Audit manifest.now report.now) «package».old «package».new result }
 {
     let mut file = Vec::new(alloc);
     let board = taken(alloc, manifest, report, package, &mut file)?;
@@ -77,6 +79,9 @@ fn taken<P: Package>(
     ensures later { P.faults «package».old ≤ P.faults «package».new }
     ensures calm { IfOk result (λ _. IsFaultless (P.faults «package».old) (P.lost «package».old) (P.faults «package».new) (P.lost «package».new)) }
     ensures left { IfErr result (KeepsFaults (P.faults «package».old) (P.lost «package».old) (P.faults «package».new) (P.lost «package».new)) }
+    ensures grows { Grows (P.handed «package».old) (P.handed «package».new) }
+    ensures agreed { IfOk result (λ board. IfAgreed (P.handed «package».old) (P.handed «package».new) (λ files. IsBoardOf files manifest.now (plain_board board) × IsHeld files report.now file.new.items)) }
+    ensures agreed_cause { IfErr result (λ why. IfAgreed (P.handed «package».old) (P.handed «package».new) (λ files. HasCause (Some files) (λ files stop. IsAuditStop files manifest.now report.now stop) (λ files name. ComesFor files (Audit manifest.now report.now) name) (P.faults «package».old) (P.faults «package».new) (P.lost «package».new) why)) }
     ensures ok { IfOk result (λ board. IfSome (P.held «package».old) (λ files. IsBoardOf files manifest.now (plain_board board) × IsHeld files report.now file.new.items)) }
     ensures fault { IfErr result (HasCause (P.held «package».old) (λ files stop. IsAuditStop files manifest.now report.now stop) (λ files name. ComesFor files (Audit manifest.now report.now) name) (P.faults «package».old) (P.faults «package».new) (P.lost «package».new)) }
 {

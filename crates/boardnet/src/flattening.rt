@@ -1,8 +1,9 @@
 //! The command `flatten`.
+ghost use Rattle.board_io.specs.Handed.{IfAgreed};
 ghost use Rattle.boardnet.specs.Answers.{status_of};
 ghost use Rattle.boardnet.specs.Ends.{Works};
 ghost use Rattle.boardnet.specs.Words.{Flatten, IsText};
-ghost use Rattle.std.specs.Prelude.{IfOk, ◌≡◌};
+ghost use Rattle.std.specs.Prelude.{IfOk, Some, ◌≡◌};
 
 use crate::answer::{Answer, Answered, Note};
 use crate::refusing::name_of;
@@ -14,6 +15,7 @@ use std::alloc::Global;
 /// The text of the image of a copper file.
 pub fn flat_text<P: Package>(alloc: Global, file: &str, package: &mut P) -> Answered
     requires { IsText file.now }
+    ensures agreed { IfAgreed (P.handed «package».old) (P.handed «package».new) (λ files. Works (λ p. Some files) P.faults P.lost (Flatten file.now) «package».old «package».new result) }
     ensures works { Works P.held P.faults P.lost (Flatten file.now) «package».old «package».new result }
     ensures unjudged { IfOk result (λ answer. status_of answer.note ≡ 0) }
 {

@@ -1,10 +1,12 @@
 //! The command `gaps`.
+ghost use Rattle.board_io.specs.Handed.{IfAgreed};
 ghost use Rattle.board_shapes.specs.Plain.{plain_board};
 ghost use Rattle.boardnet.specs.Answers.{IsUngapped, line_of, status_of};
 ghost use Rattle.boardnet.specs.Ends.{Works};
 ghost use Rattle.boardnet.specs.Gapped.{IsGapListOn};
+ghost use Rattle.boardnet.specs.HandedOutcome.{IsHandedGaps};
 ghost use Rattle.boardnet.specs.Words.{Gaps, IsText};
-ghost use Rattle.std.specs.Prelude.{IfErr, IfOk, ◌≤◌};
+ghost use Rattle.std.specs.Prelude.{IfErr, IfOk, Some, ◌≤◌};
 
 use crate::answer::{Answer, Answered, Note};
 use crate::judged::{board_of, verdict_on};
@@ -22,7 +24,9 @@ pub fn gap_list<P: Package>(
 ) -> Answered
     requires text { IsText manifest.now }
     requires most { nanometres ≤ 10_000_000 }
-    ensures { Works P.held P.faults P.lost (Gaps manifest.now nanometres) «package».old «package».new result }
+    ensures handed { IfOk result (λ answer. IsHandedGaps (P.handed «package».old) (P.handed «package».new) manifest.now nanometres answer.text.items (status_of answer.note) (line_of answer.note)) }
+    ensures agreed { IfAgreed (P.handed «package».old) (P.handed «package».new) (λ files. Works (λ p. Some files) P.faults P.lost (Gaps manifest.now nanometres) «package».old «package».new result) }
+    ensures works { Works P.held P.faults P.lost (Gaps manifest.now nanometres) «package».old «package».new result }
 {
     let board = board_of(alloc, manifest, package)?;
     let answer = gap_list_on(alloc, &board, nanometres)?;

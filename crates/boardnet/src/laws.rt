@@ -1,8 +1,15 @@
 //! Laws over the outcomes. Their calls do nothing.
+ghost use Rattle.boardnet.specs.FilesAgree.{FilesAgree};
 ghost use Rattle.boardnet.specs.Laws.{ReportsPass, WrittenNetlistsPass};
 
 use board_package::laws as packages;
 use netlist_writer::laws as netlists;
+
+/// Unless a name was handed over twice, there are files that agree with all that was handed over: so what is said of all such
+/// files is said of some.
+pub fn files_agree()
+    ensures { FilesAgree }
+{}
 
 /// The report that `check` writes passes the audit of the same package.
 pub fn reports_pass()

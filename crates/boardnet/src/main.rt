@@ -23,6 +23,7 @@ mod lines;
 mod putting;
 mod refusing;
 pub mod run;
+pub mod shipped;
 #[cfg(test)]
 mod tests;
 mod trial;
@@ -30,7 +31,7 @@ mod words;
 mod writing;
 
 use board_io::{FolderPackage, StreamSink};
-use run::run;
+use shipped::run_shipped;
 use std::env;
 use std::io::ErrorKind;
 use std::process::ExitCode;
@@ -58,7 +59,7 @@ fn main(rt: HostRuntime) -> ExitCode {
             let mut notes = StreamSink::new(rt.stderr());
             let alloc = rt.alloc();
             let mut package = FolderPackage::new(rt);
-            run(alloc, words.as_slice(), &mut package, &mut out, &mut notes)
+            run_shipped(alloc, words.as_slice(), &mut package, &mut out, &mut notes)
         }
         Err(status) => status,
     };

@@ -1,11 +1,13 @@
 //! The top call.
+ghost use Rattle.board_io.specs.Handed.{IfAgreed};
 ghost use Rattle.boardnet.specs.Asked.{asked};
 ghost use Rattle.boardnet.specs.Ends.{Ends, HasNames};
+ghost use Rattle.boardnet.specs.HandedOutcome.{HandedOutcome, IsHandedGaps, IsHandedNetlist, IsHandedReport};
 ghost use Rattle.boardnet.specs.Kept.{Keeps};
 ghost use Rattle.boardnet.specs.Lines.{Gains, GainsFrontOf, Rose, Says, file_line, plain_line};
 ghost use Rattle.boardnet.specs.Outcome.{ComesFor, Fits, IsAnswer, IsBoardOf, IsFlatText, IsGapped, IsHeld, IsLabelledBoardOf, IsLabelledReport, IsReadWithMacros, IsReport, IsTrialReport, IsWritten, OfFilesRead, OutcomeOf, PlainBoard, PlainPiece, Refused, Told, grown_common, made_files, made_manifest};
 ghost use Rattle.boardnet.specs.Words.{Asks, Command as Asked, IsAudit, IsCheck, IsFlatten, IsGaps, IsTrial, IsUnderstood, IsWrite, IsX2, Trial, Version, Write, Flatten};
-ghost use Rattle.std.specs.Prelude.{IfSome, List, codes, pos, ℕ, ◌*◌, ◌↔◌, ◌≡◌, ◌≢◌, ◌≤◌, ◌⊎◌};
+ghost use Rattle.std.specs.Prelude.{IfSome, List, Some, [], codes, ◌++◌, ◌∷◌, pos, ℕ, ◌*◌, ◌↔◌, ◌≡◌, ◌≢◌, ◌≤◌, ◌⊎◌};
 
 use crate::commands::answer_to;
 use crate::lines;
@@ -53,6 +55,31 @@ pub fn run<P: Package, S: Sink, N: Sink>(
     ensures right { result ≤ 1 → IfSome (P.held «package».old) (λ files. (version : Version) (name : List ℕ) → IsCheck words.now version name
         → (text line : List ℕ) × IsReport files version name text result line
         × Gains (S.got out.old) text (S.got out.new) × Says N.got N.faults notes.old notes.new line) }
+
+    // Whether the package tells or not: what is said above and below of the files that it tells holds of all files that agree
+    // with what it handed over in this call. On `check`, and of each command by its outcome.
+    ensures agreed_right { result ≤ 1 → IfAgreed (P.handed «package».old) (P.handed «package».new) (λ files. (version : Version) (name : List ℕ) → IsCheck words.now version name
+        → (text line : List ℕ) × IsReport files version name text result line
+        × Gains (S.got out.old) text (S.got out.new) × Says N.got N.faults notes.old notes.new line) }
+    ensures agreed { IfAgreed (P.handed «package».old) (P.handed «package».new) (λ files. (command : Asked) → Asks words.now command → Ends (λ p. Some files) P.faults P.lost S.got S.faults N.got N.faults command «package».old «package».new out.old out.new notes.old notes.new result) }
+
+    // The same of whatever package and sinks, also those that tell nothing. 0 and 1 on `check`: the package handed over the
+    // manifest and the files of its order, and nothing else; these bytes make a board, and `out` was handed exactly the text
+    // of a right verdict on it, in one piece.
+    ensures handed { result ≤ 1 → (version : Version) (name : List ℕ) → IsCheck words.now version name
+        → (text line : List ℕ) × IsHandedReport (P.handed «package».old) (P.handed «package».new) version name text result line
+        × (S.handed out.new ≡ S.handed out.old ++ text ∷ []) × Gains (S.got out.old) text (S.got out.new) }
+
+    // 0 and 1 on `write` and `gaps`: the same, with the netlist and the list of gaps of that board.
+    ensures handed_netlist { result ≤ 1 → (name : List ℕ) → IsWrite words.now name
+        → (text line : List ℕ) × IsHandedNetlist (P.handed «package».old) (P.handed «package».new) name text result line
+        × (S.handed out.new ≡ S.handed out.old ++ text ∷ []) × Gains (S.got out.old) text (S.got out.new) }
+    ensures handed_gaps { result ≤ 1 → (name : List ℕ) (nanometres : ℕ) → IsGaps words.now name nanometres
+        → (text line : List ℕ) × IsHandedGaps (P.handed «package».old) (P.handed «package».new) name nanometres text result line
+        × (S.handed out.new ≡ S.handed out.old ++ text ∷ []) × Gains (S.got out.old) text (S.got out.new) }
+
+    // 0 and 1: the output had no fault.
+    ensures delivered { result ≤ 1 → S.faults out.new ≡ S.faults out.old }
 
     // 0 and 1 on `audit`: the package fits, and `out` got the ruling on the verdict whose text the report is.
     ensures audited { result ≤ 1 → IfSome (P.held «package».old) (λ files. (manifest report : List ℕ) → IsAudit words.now manifest report
@@ -162,7 +189,10 @@ fn perform<P: Package, S: Sink, N: Sink>(
     notes: &mut N,
 ) -> u8
     requires { HasNames (asked command) }
+    ensures agreed { IfAgreed (P.handed «package».old) (P.handed «package».new) (λ files. Ends (λ p. Some files) P.faults P.lost S.got S.faults N.got N.faults (asked command.entry) «package».old «package».new out.old out.new notes.old notes.new result) }
     ensures ends { Ends P.held P.faults P.lost S.got S.faults N.got N.faults (asked command.entry) «package».old «package».new out.old out.new notes.old notes.new result }
+    ensures handed { result ≤ 1 → (text line : List ℕ) × HandedOutcome (P.handed «package».old) (P.handed «package».new) (asked command.entry) text result line × (S.handed out.new ≡ S.handed out.old ++ text ∷ []) × Gains (S.got out.old) text (S.got out.new) }
+    ensures delivered { result ≤ 1 → S.faults out.new ≡ S.faults out.old }
     ensures untouched { (seed size : ℕ) → asked command.entry ≡ Trial seed size → «package».new ≡ «package».old }
     ensures unjudged { (name : List ℕ) → (asked command.entry ≡ Write name) ⊎ (asked command.entry ≡ Flatten name) → result ≢ 1 }
 {

@@ -1,5 +1,6 @@
 use Rattle.std.proofs.Common.{◌≡◌, ◌≤◌, IfSome, take, All}
 use Rattle.std.specs.List.{filter}
+use Rattle.board_io.specs.Handed.{Grows, IfAgreed}
 use Rattle.board_io.specs.Package.{IsFaultless}
 use Rattle.board_package.specs.LabelledBoard.{GoesLabelled, is_board_file}
 use Rattle.board_package.specs.LabelledCauses.{labelled_so_far}
@@ -14,6 +15,8 @@ invariant-loop-entry g l = record {
   later : g.P.Package.faults l.initial.package ≤ g.P.Package.faults l.package;
   faultless : IsFaultless (g.P.Package.faults l.initial.package) (g.P.Package.lost l.initial.package) (g.P.Package.faults l.package) (g.P.Package.lost l.package);
   walked : IfSome (g.P.Package.held l.initial.package) (λ files. WalksBy (GoesLabelled files) (filter (λ e. is_board_file e.role) (take l.entry-index l.entries)) (labelled_so_far l.initial.parts l.initial.tables) (labelled_so_far l.parts l.tables));
+  grows : Grows (g.P.Package.handed l.initial.package) (g.P.Package.handed l.package);
+  agreed : IfAgreed (g.P.Package.handed l.initial.package) (g.P.Package.handed l.package) (λ files. WalksBy (GoesLabelled files) (filter (λ e. is_board_file e.role) (take l.entry-index l.entries)) (labelled_so_far l.initial.parts l.initial.tables) (labelled_so_far l.parts l.tables));
   parts : IsLawfulParts l.parts;
   layers : l.parts.layers ≡ l.initial.parts.layers;
   rise : All Rise l.tables;

@@ -1,0 +1,6 @@
+use Rattle.boardnet.proofs.shipped.run_shipped.Goals as goal
+
+pub returns-clause-agreed : goal.returns-clause-agreed
+returns-clause-agreed g c = λ few files w version name is.
+    let told = c.run.ensures.agreed_right few files w version name is in
+    (told.0, told.1, told.2, told.3)
