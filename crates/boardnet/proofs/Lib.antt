@@ -2,6 +2,8 @@ pub mod Agreeable
 pub mod Ending
 pub mod OnBoard
 pub mod Says
+pub mod Sound
+pub mod Tasks
 pub mod Audits
 pub mod ByLabels
 pub mod Asking

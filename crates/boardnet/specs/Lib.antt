@@ -1,5 +1,7 @@
 pub mod Answers
 pub mod Asked
+pub mod Command
+pub mod Common
 pub mod Ends
 pub mod FilesAgree
 pub mod Gapped
@@ -10,6 +12,8 @@ pub mod Laws
 pub mod Lines
 pub mod Outcome
 pub mod Right
+pub mod Task
+pub mod Tasks
 pub mod Trials
 pub mod Words
 pub mod Written

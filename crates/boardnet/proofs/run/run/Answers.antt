@@ -1,8 +1,14 @@
 use Rattle.std.proofs.Common.{◌≡◌, ◌≤◌, ◌⊎◌, inl, inr, ℕ, List, Some, [], ◌∷◌, ◌++◌}
 use Rattle.board_io.specs.Causes.{Rose}
 use Rattle.board_io.specs.Sink.{Gains, GainsFrontOf}
-use Rattle.boardnet.proofs.Asking.{names_in, of_check, of_flatten, of_gaps, of_x2, one_command, under_asked, under_command}
-use Rattle.boardnet.proofs.Named.{answered_named, checked_named, labelled_named, listed_named, netlisted_named, rewritten_named}
+use Rattle.boardnet.proofs.Asking.{one_command, under_asked, under_command}
+use Rattle.boardnet.proofs.Tasks.{sound}
+use Rattle.boardnet.proofs.Tasks.Audit.{answered_named}
+use Rattle.boardnet.proofs.Tasks.Check.{checked_named, of_check}
+use Rattle.boardnet.proofs.Tasks.Flatten.{of_flatten, rewritten_named}
+use Rattle.boardnet.proofs.Tasks.Gaps.{listed_named, of_gaps}
+use Rattle.boardnet.proofs.Tasks.Write.{netlisted_named}
+use Rattle.boardnet.proofs.Tasks.X2.{labelled_named, of_x2}
 use Rattle.boardnet.specs.Asked.{asked}
 use Rattle.boardnet.specs.Ends.{Ends, HasText, TakesFiles}
 use Rattle.boardnet.specs.Lines.{Says}
@@ -12,7 +18,7 @@ use Rattle.boardnet.specs.Words.{Check, Flatten, Gaps, Trial, Write}
 use Rattle.boardnet.proofs.run.run.Goals as goal
 
 pub perform-requires : goal.perform-requires
-perform-requires g c = names_in c.args.words.now (asked c.in-Some.command) c.in-Some.ensures.some
+perform-requires g c = (sound (asked c.in-Some.command)).names c.args.words.now c.in-Some.ensures.some
 
 pub returns-in-None-clause-complete : goal.returns-in-None-clause-complete
 returns-in-None-clause-complete g c = checked_named _ _ _ _ _ (λ command is. absurd (c.in-None.ensures.none command is))

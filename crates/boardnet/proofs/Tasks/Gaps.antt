@@ -1,0 +1,50 @@
+-- What holds of the command `gaps`.
+use Rattle.std.proofs.Common.{◌≡◌, ◌≤◌, ℕ, List, Option, Some, None, IfSome, String, refl, subst, arith, ◌⊎◌, inl, inr, pos, ◌*◌}
+use Rattle.std.specs.declared.alloc.Global.{Global}
+use Rattle.board_io.specs.Package.{Files}
+use Rattle.board_package.proofs.Lift.{told_of}
+use Rattle.board_package.specs.PackageBoard.{IsBoardOf}
+use Rattle.board_shapes.specs.CommonBox.{Fits}
+use Rattle.board_shapes.specs.Plain.{PlainBoard}
+use Rattle.boardnet.proofs.Named.{Completes}
+use Rattle.boardnet.proofs.Sound.{OneOutcome, Sound, value, IsRefusedFor}
+use Rattle.boardnet.specs.Gapped.{IsTooWide}
+use Rattle.boardnet.specs.Outcome.{OfFilesRead}
+use Rattle.boardnet.specs.Tasks.Gaps.{GapsRefuses, IsGrownStop}
+use Rattle.boardnet.specs.Words.{Asks, Command, Gaps, IsGaps}
+use Rattle.boardnet.specs.declared.answer.Unanswered.{Unanswered}
+use Rattle.boardnet.specs.declared.answer.Unanswered.TheVariants.{GrownTooLarge}
+use Rattle.contact.specs.declared.Bounds.{Bounds}
+use Rattle.gaps.specs.GrownBox.{grown_common}
+
+wide : (box : Bounds) (board other : PlainBoard) (n : ℕ) → other ≡ board → IsTooWide board n box → Fits (grown_common (pos (5 * n)) other.pieces) → ⊥
+wide box board other n same w fits = w.large (subst Fits w.common (subst (λ (b : PlainBoard). Fits (grown_common (pos (5 * n)) b.pieces)) same fits))
+
+grown : OneOutcome → (manifest : List ℕ) (nanometres : ℕ) (held : Option Files) (why : Unanswered) → GapsRefuses held manifest nanometres why → IfSome held (λ f. IsRefusedFor (Gaps manifest nanometres) why f)
+grown law manifest nanometres held (GrownTooLarge box) m =
+    told_of held (λ f. IsGrownStop f manifest nanometres box) (λ f. IsRefusedFor (Gaps manifest nanometres) (GrownTooLarge box) f)
+    (λ f h. (inr (record { box = box; stop = h; line_is = refl }), λ t. wide box h.board t.0 nanometres ((law.listed f manifest).one_board t.0 h.board t.1 h.board_is) h.wide t.2)) m
+grown law manifest nanometres held other m = absurd m
+
+pub sound_gaps : (manifest : List ℕ) (nanometres : ℕ) → Sound (Gaps manifest nanometres)
+sound_gaps manifest nanometres = record {
+  spelled = λ words is. is.spelled;
+  names = λ words is. (is.text, is.few);
+  asks = λ words e fits. record { spelled = e; text = fits.0; few = fits.1 };
+  read = λ fits. rw (value nanometres (omega (arith, fits.1))) refl;
+  stop_outcome = λ f stop line s l. inl (record { stop = stop; first = s; line_is = l });
+  no_text = λ law f stop s t. (law.listed f manifest).not_both t.0 stop t.1 s;
+  refusal = λ law held why m. grown law manifest nanometres held why m;
+  takes_what_comes = λ f name comes. tt;
+}
+
+-- What `run` says of it, by its words.
+pub of_gaps : (held : Option Files) (words : List (String Global)) (P : Files → Command → Type 0) → ((c : Command) → Asks words c → OfFilesRead c held (λ files. P files c))
+    → IfSome held (λ files. (name : List ℕ) (nanometres : ℕ) → IsGaps words name nanometres → P files (Gaps name nanometres))
+of_gaps None words P h = tt
+of_gaps (Some files) words P h = λ name nanometres is. h (Gaps name nanometres) is
+
+pub listed_named : (held : Option Files) (words : List (String Global)) (A B : Type 0) (status : ℕ) → Completes held words A B status
+    → IfSome held (λ files. (name : List ℕ) (nanometres : ℕ) → IsGaps words name nanometres → (board : PlainBoard) → IsBoardOf files name board → Fits (grown_common (pos (5 * nanometres)) board.pieces) → (A → ⊥) → (B → ⊥) → (status ≤ 1) ⊎ (status ≡ 6))
+listed_named None words A B status h = tt
+listed_named (Some files) words A B status h = λ name nanometres is board fits grown calm quiet. h (Gaps name nanometres) is (board, fits, grown) (λ takes. calm) quiet
