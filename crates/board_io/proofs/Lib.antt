@@ -1,2 +1,3 @@
 pub mod Agreeing
 mod Edge
+mod Notes

@@ -1,6 +1,6 @@
--- What a package handed over.
-use Rattle.std.specs.Prelude.{◌≡◌, ◌<◌, ℕ, List, [], ◌∷◌, ◌++◌, Some, IsSomeAnd, length, drop}
-use Rattle.std.specs.List.{AllByRecursion}
+-- What a package handed over, and what a sink was handed.
+use Rattle.std.specs.Prelude.{◌≡◌, ◌<◌, ℕ, List, [], ◌∷◌, ◌++◌, map, Some, IsSomeAnd, length, drop}
+use Rattle.std.specs.List.{AllByRecursion, concat}
 use Rattle.board_io.specs.Package.{Files}
 use Rattle.board_io.specs.declared.package.Take.{Take}
 use Rattle.board_io.specs.declared.package.Take.TheVariants.{Whole, Longer, Failed, NoMemory}
@@ -41,3 +41,27 @@ AgreeWith files before after = AllByRecursion (Agrees files) (drop (length befor
 -- P holds of all files that agree with what was handed over in between
 abbrev pub IfAgreed : List Handed → List Handed → (Files → Type 0) → Type 0
 IfAgreed before after P = (files : Files) → AgreeWith files before after → P files
+
+-- ---- How a package and a sink keep it
+
+-- two texts, and a number or none
+abbrev pub Note : Type 0
+Note = List ℕ × (List ℕ × List ℕ)
+
+abbrev pub note_of : List ℕ → List ℕ → List ℕ → Note
+note_of first second number = (first, (second, number))
+
+-- a package notes a name and its bytes, or a name and how many bytes were too few
+abbrev pub handed_of : Note → Handed
+handed_of (name, (bytes, [])) = File name bytes
+handed_of (name, (bytes, most ∷ rest)) = Long name most
+
+abbrev pub deliveries : List Note → List Handed
+deliveries notes = map handed_of notes
+
+-- a sink notes each piece, and what was taken of it
+abbrev pub pieces : List Note → List (List ℕ)
+pieces notes = map (λ (n : Note). n.0) notes
+
+abbrev pub taken : List Note → List ℕ
+taken notes = concat (map (λ (n : Note). n.1.0) notes)

@@ -5,7 +5,7 @@ use Rattle.std.specs.declared.alloc.Global.{Global}
 use Rattle.board_io.specs.Package.{Files}
 use Rattle.boardnet.proofs.Tasks.{sound}
 use Rattle.boardnet.specs.Outcome.{OfFilesRead}
-use Rattle.boardnet.specs.Tasks.{command_of_words}
+use Rattle.boardnet.specs.commands.{command_of_words}
 use Rattle.boardnet.specs.Words.{Asks, CanAsk, Command}
 
 -- where no command can be asked for by words that are spelled so, these ask for none

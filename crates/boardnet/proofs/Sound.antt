@@ -11,7 +11,7 @@ use Rattle.gerber_layer.specs.MacroLayer.{HasOneMacroAnswer}
 use Rattle.boardnet.specs.Answers.{fault_line}
 use Rattle.boardnet.specs.Lines.{file_line, frame_line, label_line, plain_line}
 use Rattle.boardnet.specs.Outcome.{IsLineOf, OfFilesRead, Refused, flatten_line}
-use Rattle.boardnet.specs.Tasks.{command_of_words, task_of}
+use Rattle.boardnet.specs.commands.{command_of_words, task_of}
 use Rattle.boardnet.specs.Words.{Asks, Command}
 use Rattle.boardnet.specs.declared.answer.Unanswered.{Unanswered}
 use Rattle.boardnet.specs.declared.answer.Unanswered.TheVariants.{Stopped, NotAReport, SizeTooLarge, GrownTooLarge, Mislabelled, Unflat}

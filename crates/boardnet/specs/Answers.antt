@@ -19,7 +19,7 @@ use Rattle.gaps.specs.declared.listing.GapFault.{GapFault}
 use Rattle.gaps.specs.declared.listing.GapFault.TheVariants as gap
 use Rattle.boardnet.specs.Lines.{counted_line, plain_line, file_line, differs_line, frame_line, label_line, end}
 use Rattle.boardnet.specs.Outcome.{flatten_line, refusal_line, IsNoReport, IsTextOf}
-pub use Rattle.boardnet.specs.Tasks.Audit.{IsNoText}
+pub use Rattle.boardnet.specs.commands.Audit.{IsNoText}
 use Rattle.boardnet.specs.Words.{Command, task_of}
 use Rattle.boardnet.specs.declared.answer.Answer.{Answer}
 use Rattle.boardnet.specs.declared.answer.Note.{Note}

@@ -13,7 +13,7 @@ pub mod Lines
 pub mod Outcome
 pub mod Right
 pub mod Task
-pub mod Tasks
+pub mod commands
 pub mod Trials
 pub mod Words
 pub mod Written

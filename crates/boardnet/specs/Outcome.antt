@@ -8,13 +8,13 @@ pub use Rattle.board_shapes.specs.Plain.{Fits, PlainBoard, PlainPiece}
 pub use Rattle.gaps.specs.GrownBox.{grown_common}
 pub use Rattle.gerber_layer.specs.MacroLayer.{IsReadWithMacros}
 pub use Rattle.boardnet.specs.Common.{HasStatus, form_of, place_of, refusal_line, IsLineOf, IsRefusal, Outcome, Told, Refused}
-pub use Rattle.boardnet.specs.Tasks.Check.{IsReport, CheckOutcome}
-pub use Rattle.boardnet.specs.Tasks.Audit.{IsTextOf, IsNoReport, HasRuling, IsAnswer, StopsAtReport, IsAuditStop, IsAuditRefusal, IsMisread, AuditOutcome}
-pub use Rattle.boardnet.specs.Tasks.Trial.{made_manifest, summary_text, IsStatusOf, IsTrialReport, IsTooLarge, IsMadeRefusal, TrialOutcome}
-pub use Rattle.boardnet.specs.Tasks.Write.{IsWritten, WriteOutcome}
-pub use Rattle.boardnet.specs.Tasks.Gaps.{IsGapped, IsGrownStop, IsGrownRefusal, GapsOutcome}
-pub use Rattle.boardnet.specs.Tasks.X2.{JoinsPieces, IsLabelledReport, IsLabelledLine, IsLabelledRefusal, X2Outcome}
-pub use Rattle.boardnet.specs.Tasks.Flatten.{IsFlatText, IsUntaken, IsUnflat, flatten_line, IsFlatRefusal, FlattenOutcome}
+pub use Rattle.boardnet.specs.commands.Check.{IsReport, CheckOutcome}
+pub use Rattle.boardnet.specs.commands.Audit.{IsTextOf, IsNoReport, HasRuling, IsAnswer, StopsAtReport, IsAuditStop, IsAuditRefusal, IsMisread, AuditOutcome}
+pub use Rattle.boardnet.specs.commands.Trial.{made_manifest, summary_text, IsStatusOf, IsTrialReport, IsTooLarge, IsMadeRefusal, TrialOutcome}
+pub use Rattle.boardnet.specs.commands.Write.{IsWritten, WriteOutcome}
+pub use Rattle.boardnet.specs.commands.Gaps.{IsGapped, IsGrownStop, IsGrownRefusal, GapsOutcome}
+pub use Rattle.boardnet.specs.commands.X2.{JoinsPieces, IsLabelledReport, IsLabelledLine, IsLabelledRefusal, X2Outcome}
+pub use Rattle.boardnet.specs.commands.Flatten.{IsFlatText, IsUntaken, IsUnflat, flatten_line, IsFlatRefusal, FlattenOutcome}
 use Rattle.boardnet.specs.Words.{Command, task_of}
 
 -- Each command has its own outcome.

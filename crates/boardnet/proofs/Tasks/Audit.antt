@@ -8,7 +8,7 @@ use Rattle.boardnet.proofs.Audits.{one_status, misread_outcome, no_misread, no_s
 use Rattle.boardnet.proofs.Named.{Completes}
 use Rattle.boardnet.proofs.Sound.{Sound, IsRefusedFor}
 use Rattle.boardnet.specs.Outcome.{OfFilesRead, IsAnswer, OutcomeOf, Told}
-use Rattle.boardnet.specs.Tasks.Audit.{AuditRefuses, IsNoText}
+use Rattle.boardnet.specs.commands.Audit.{AuditRefuses, IsNoText}
 use Rattle.boardnet.specs.Words.{Asks, Command, Audit, IsAudit}
 use Rattle.boardnet.specs.declared.answer.Unanswered.{Unanswered}
 use Rattle.boardnet.specs.declared.answer.Unanswered.TheVariants.{NotAReport}

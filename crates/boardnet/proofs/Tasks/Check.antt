@@ -7,7 +7,7 @@ use Rattle.board_shapes.specs.Plain.{PlainBoard}
 use Rattle.boardnet.proofs.Named.{Completes}
 use Rattle.boardnet.proofs.Sound.{Sound}
 use Rattle.boardnet.specs.Outcome.{OfFilesRead}
-use Rattle.boardnet.specs.Tasks.{command_of_words}
+use Rattle.boardnet.specs.commands.{command_of_words}
 use Rattle.boardnet.specs.Words.{Asks, Command, Check, IsCheck, version_words}
 use Rattle.boardnet.specs.declared.words.Version.{Version}
 use Rattle.boardnet.specs.declared.words.Version.TheVariants.{One, Two}

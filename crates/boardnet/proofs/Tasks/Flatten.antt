@@ -9,7 +9,7 @@ use Rattle.boardnet.proofs.Audits.{no_stop_taking, one_file}
 use Rattle.boardnet.proofs.Named.{Completes}
 use Rattle.boardnet.proofs.Sound.{OneOutcome, Sound, IsRefusedFor}
 use Rattle.boardnet.specs.Outcome.{OfFilesRead}
-use Rattle.boardnet.specs.Tasks.Flatten.{FlattenRefuses, IsUnflat}
+use Rattle.boardnet.specs.commands.Flatten.{FlattenRefuses, IsUnflat}
 use Rattle.boardnet.specs.Words.{Asks, Command, Flatten, IsFlatten}
 use Rattle.boardnet.specs.declared.answer.Unanswered.{Unanswered}
 use Rattle.boardnet.specs.declared.answer.Unanswered.TheVariants.{Unflat}

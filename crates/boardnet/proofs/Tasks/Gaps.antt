@@ -10,7 +10,7 @@ use Rattle.boardnet.proofs.Named.{Completes}
 use Rattle.boardnet.proofs.Sound.{OneOutcome, Sound, value, IsRefusedFor}
 use Rattle.boardnet.specs.Gapped.{IsTooWide}
 use Rattle.boardnet.specs.Outcome.{OfFilesRead}
-use Rattle.boardnet.specs.Tasks.Gaps.{GapsRefuses, IsGrownStop}
+use Rattle.boardnet.specs.commands.Gaps.{GapsRefuses, IsGrownStop}
 use Rattle.boardnet.specs.Words.{Asks, Command, Gaps, IsGaps}
 use Rattle.boardnet.specs.declared.answer.Unanswered.{Unanswered}
 use Rattle.boardnet.specs.declared.answer.Unanswered.TheVariants.{GrownTooLarge}

@@ -2,7 +2,7 @@
 use Rattle.std.proofs.Common.{ℕ, refl, arith, inl, inr}
 use Rattle.board_maker.specs.MadePackage.{made_files}
 use Rattle.boardnet.proofs.Sound.{Sound, value, IsRefusedFor}
-use Rattle.boardnet.specs.Tasks.Trial.{TrialRefuses}
+use Rattle.boardnet.specs.commands.Trial.{TrialRefuses}
 use Rattle.boardnet.specs.Words.{Trial}
 use Rattle.boardnet.specs.declared.answer.Unanswered.{Unanswered}
 use Rattle.boardnet.specs.declared.answer.Unanswered.TheVariants.{SizeTooLarge}

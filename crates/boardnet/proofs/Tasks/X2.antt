@@ -8,7 +8,7 @@ use Rattle.board_shapes.specs.Plain.{PlainBoard}
 use Rattle.boardnet.proofs.Named.{Completes}
 use Rattle.boardnet.proofs.Sound.{OneOutcome, Sound, IsRefusedFor}
 use Rattle.boardnet.specs.Outcome.{OfFilesRead}
-use Rattle.boardnet.specs.Tasks.X2.{X2Refuses}
+use Rattle.boardnet.specs.commands.X2.{X2Refuses}
 use Rattle.boardnet.specs.Words.{Asks, Command, X2, IsX2}
 use Rattle.boardnet.specs.declared.answer.Unanswered.{Unanswered}
 use Rattle.boardnet.specs.declared.answer.Unanswered.TheVariants.{Mislabelled}

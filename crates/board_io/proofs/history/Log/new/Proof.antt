@@ -21,18 +21,18 @@ use denote.Triple.Entry.{on_entry}
 use denote.Triple.Spec.{Meets, triple_of}
 use denote.Triple.Table.{entered}
 use denote.Triple.Walked.{says, ends_at, walked, walk_Meets}
-use Rattle.board_io.specs.declared.history.Pieces.{Pieces}
-use Rattle.board_io.specs.contracts.history.Pieces as T
-use Rattle.board_io.specs.contracts.history.Pieces.new.Key.{name as #it}
-use Rattle.board_io.specs.contracts.history.Pieces.new as it
-use Rattle.board_io.proofs.history.Pieces.new.Statement as stated
-use Rattle.board_io.proofs.history.Pieces.new.Code as code
+use Rattle.board_io.specs.declared.history.Log.{Log}
+use Rattle.board_io.specs.contracts.history.Log as T
+use Rattle.board_io.specs.contracts.history.Log.new.Key.{name as #it}
+use Rattle.board_io.specs.contracts.history.Log.new as it
+use Rattle.board_io.proofs.history.Log.new.Statement as stated
+use Rattle.board_io.proofs.history.Log.new.Code as code
 
 abbrev v : Val
 v = vstruct (vcons (vstruct vnil) vnil)
 
-abbrev r : Pieces
-r = record { marker = record {}; all = [] }
+abbrev r : Log
+r = record { marker = record {}; notes = [] }
 
 meets : {M : Type 1} {𝓤 : Ura M} (𝓛 : Logic 𝓤) → (at_mem : Memory → SProp 𝓤) (run : Routine → Fun 𝓤) (𝓣 : Tables 𝓤 𝓛.H)
     → Meets 𝓛 it.signature (WpFn 𝓤 𝓛.H 𝓣.C 𝓣.Λ code.function) (it.spec 𝓛 at_mem run)

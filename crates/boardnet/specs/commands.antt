@@ -4,13 +4,13 @@ use Rattle.std.specs.Str.{bytes_eq}
 use Rattle.boardnet.specs.Command.{Command}
 use Rattle.boardnet.specs.Command as command
 use Rattle.boardnet.specs.Task.{Task}
-use Rattle.boardnet.specs.Tasks.Check.{check, check_by}
-use Rattle.boardnet.specs.Tasks.Audit.{audit, audit_by}
-use Rattle.boardnet.specs.Tasks.Trial.{trial, trial_by}
-use Rattle.boardnet.specs.Tasks.Write.{write, write_by}
-use Rattle.boardnet.specs.Tasks.Gaps.{gaps, gaps_by}
-use Rattle.boardnet.specs.Tasks.X2.{x2, x2_by}
-use Rattle.boardnet.specs.Tasks.Flatten.{flatten, flatten_by}
+use Rattle.boardnet.specs.commands.Check.{check, check_by}
+use Rattle.boardnet.specs.commands.Audit.{audit, audit_by}
+use Rattle.boardnet.specs.commands.Trial.{trial, trial_by}
+use Rattle.boardnet.specs.commands.Write.{write, write_by}
+use Rattle.boardnet.specs.commands.Gaps.{gaps, gaps_by}
+use Rattle.boardnet.specs.commands.X2.{x2, x2_by}
+use Rattle.boardnet.specs.commands.Flatten.{flatten, flatten_by}
 pub mod Check
 pub mod Audit
 pub mod Trial
