@@ -1,145 +1,250 @@
--- The stages of the taking, of all files that agree with what was handed over.
-use Rattle.std.proofs.Common.{◌≡◌, ℕ, ◌+◌, ◌<◌, ◌≤◌, List, [], ◌∷◌, length, take, get_or, Some, Result, Ok, Err, IfErr, IfOk, refl, subst, sym, arith}
-use Rattle.std.specs.Result.{IsErrAnd}
-use Rattle.board_io.proofs.Agreeing.{agree_back, agree_front}
-use Rattle.board_io.specs.Handed.{Grows, Handed, IfAgreed}
+-- Files that agree with what was handed over make the board that was handed over.
+use Rattle.std.proofs.Common.{◌≡◌, inl, inr, ℕ, List, [], ◌∷◌, None, sym, ap}
+use Rattle.board_io.proofs.Agreeing.{agree_back, agree_file, agree_front, agree_long, grows_file, grows_long, grows_none, grows_on}
+use Rattle.board_io.specs.Handed.{AgreeWith, Grows, Handed, with_file}
 use Rattle.board_io.specs.Package.{Files}
-use Rattle.board_shapes.specs.Plain.{PlainBoard, common_box, Fits}
-use Rattle.board_package.specs.Causes.{Halts, HasCause, IsFrameFault}
-use Rattle.board_package.specs.PackageBoard.{Goes, IsHeld, IsManifestFile, IsBoardOf, IsFirstStop, Comes, Stop, StopsAt, StopsAtManifest, StopsAmong, StopsTaking, ComesAmong, Walks, absent, longer, not_json, bad_manifest, refused, frame_too_large}
-use Rattle.board_package.specs.Parts.{empty_board}
+use Rattle.board_shapes.specs.Plain.{PlainBoard}
+use Rattle.board_package.specs.HandedBoard.{ComesHanded, ComesNext, Course, GoesHanded, IsBoardHanded, IsFirstStopHanded, IsHanded, IsHandedWith, StopsAtHanded, StopsAtManifestHanded, StopsHanding, course}
+use Rattle.board_package.specs.HandedLabelled.{GoesLabelledHanded, IsFirstLabelledStopHanded, IsLabelledBoardHanded, LabelledComesHanded, LabelledCourse, StopsLabelledAtHanded, labelled_course, unlabelled}
+use Rattle.board_package.specs.HandedLaw.{HandedIsHeld, HoldsWhatWasHanded}
+use Rattle.board_package.specs.LabelledBoard.{GoesLabelled, IsFirstLabelledStop, IsLabelledBoardOf, Labelled, LabelledComes, LabelledStop, OfBuild, StopsLabelledAt, mislabelled, unbuilt}
+use Rattle.board_package.specs.PackageBoard.{AtOneBy, Comes, Goes, IsBoardOf, IsFirstStop, IsHeld, IsHeldWith, Stop, StopsAt, StopsAtManifest, StopsTaking, WalksBy, absent, longer, not_json, bad_manifest, refused, frame_too_large}
 use Rattle.board_package.specs.declared.entry.Entry.{Entry}
-use Rattle.board_package.specs.declared.fault.BuildFault.{BuildFault}
-use Rattle.board_package.specs.declared.manifest.Manifest.{Manifest}
-use Rattle.std.specs.List.{filter}
-use Rattle.board_package.specs.LabelledBoard.{GoesLabelled, IsFirstLabelledStop, IsLabelledBoardOf, Labelled, LabelledComes, LabelledComesAmong, StopsLabelledAmong, labelled_board_of, labelled_order, nothing_labelled}
-use Rattle.board_package.specs.LabelledCauses.{HasLabelledCause}
-use Rattle.board_package.specs.PackageBoard.{WalksBy}
-use Rattle.board_package.specs.declared.fault.LabelledFault.{LabelledFault}
-use Rattle.board_package.specs.declared.fault.LabelledFault.TheVariants as fault
-use Rattle.board_package.proofs.LabelCauses.{files_cause_more, files_labelled_cause, files_walked_more, frame_labelled_cause, labelled_board_is, with_board}
-use Rattle.board_package.proofs.Lift.{lift}
-use Rattle.board_package.proofs.Taking.{board_is, entry_cause, entry_walked, files_cause, framed_cause, halted_cause, manifest_cause}
 
--- a fault that climbs
-pub climbs : {B E : Type 0} (P : E → Type 0) (result : Result B E) (why : E) → IsErrAnd result (λ f. f ≡ why) → P why → IfErr result P
-climbs P (Ok x) why e p = tt
-climbs P (Err f) why e p = subst P (sym e) p
+-- ---- One file
 
--- two facts of what is made
-pub on_both : {B : Type 0} (r : Result B BuildFault) (P Q R : B → Type 0) → ((b : B) → P b → Q b → R b) → IfOk r P → IfOk r Q → IfOk r R
-on_both (Ok b) P Q R k p q = k b p q
-on_both (Err why) P Q R k p q = tt
+abbrev held : (f : Files) (a b : List Handed) (name bytes : List ℕ) → AgreeWith f a b → IsHanded a b name bytes → IsHeld f name bytes
+held f a b name bytes w h = record { held = agree_file f a b name bytes h.next w; short = h.short }
 
--- what stops the taking of the manifest, and of the file of an entry
-manifest_stop : (files : Files) (name : List ℕ) (stop : Stop) → StopsTaking files name stop → StopsAtManifest files name stop
-manifest_stop files name (absent other) s = s
-manifest_stop files name (longer other) s = s
-manifest_stop files name not_json s = absurd s
-manifest_stop files name bad_manifest s = absurd s
-manifest_stop files name (refused other why) s = absurd s
-manifest_stop files name (frame_too_large box) s = absurd s
+held_with : (f : Files) (a b : List Handed) (name : List ℕ) (P : List ℕ → Type 0) → AgreeWith f a b → IsHandedWith a b name P → IsHeldWith f name P
+held_with f a b name P w h = record { bytes = h.bytes; held = held f a b name h.bytes w h.handed; good = h.good }
 
-entry_stop : (files : Files) (e : Entry) (before : PlainBoard) (stop : Stop) → StopsTaking files e.name stop → StopsAt files e before stop
-entry_stop files e before (absent other) s = s
-entry_stop files e before (longer other) s = s
-entry_stop files e before not_json s = absurd s
-entry_stop files e before bad_manifest s = absurd s
-entry_stop files e before (refused other why) s = absurd s
-entry_stop files e before (frame_too_large box) s = absurd s
+grows_handed : (a b : List Handed) (name bytes : List ℕ) → IsHanded a b name bytes → Grows a b
+grows_handed a b name bytes h = grows_file a b name bytes h.next
 
-pub taking_manifest : (a b : List Handed) (name : List ℕ) (count now : ℕ) (lost : List ℕ) (why : BuildFault)
-    → IfAgreed a b (λ files. HasCause (Some files) (λ files stop. StopsTaking files name stop) (λ files other. other ≡ name) count now lost why)
-    → IfAgreed a b (λ files. HasCause (Some files) (λ files stop. StopsAtManifest files name stop) (λ files other. other ≡ name) count now lost why)
-taking_manifest a b name count now lost why cause = λ files w.
-    lift (Some files) (λ files stop. StopsTaking files name stop) (λ files stop. StopsAtManifest files name stop) (λ files other. other ≡ name) (λ files other. other ≡ name) count count now lost why
-    (record { stops = λ stop s. manifest_stop files name stop s; comes = λ other e. e }) (omega arith) (cause files w)
+untaken : (f : Files) (a b : List Handed) (name : List ℕ) (stop : Stop) → AgreeWith f a b → StopsHanding a b name stop → StopsTaking f name stop
+untaken f a b name (absent other) w s = absurd s
+untaken f a b name (longer other) w s = (s.0, agree_long f a b name _ s.1 w)
+untaken f a b name not_json w s = absurd s
+untaken f a b name bad_manifest w s = absurd s
+untaken f a b name (refused other why) w s = absurd s
+untaken f a b name (frame_too_large box) w s = absurd s
 
-pub taking_entry : (a b : List Handed) (e : Entry) (before : PlainBoard) (count now : ℕ) (lost : List ℕ) (why : BuildFault)
-    → IfAgreed a b (λ files. HasCause (Some files) (λ files stop. StopsTaking files e.name stop) (λ files other. other ≡ e.name) count now lost why)
-    → IfAgreed a b (λ files. HasCause (Some files) (λ files stop. StopsAt files e before stop) (λ files other. e.name ≡ other) count now lost why)
-taking_entry a b e before count now lost why cause = λ files w.
-    lift (Some files) (λ files stop. StopsTaking files e.name stop) (λ files stop. StopsAt files e before stop) (λ files other. other ≡ e.name) (λ files other. e.name ≡ other) count count now lost why
-    (record { stops = λ stop s. entry_stop files e before stop s; comes = λ other p. sym p }) (omega arith) (cause files w)
+grows_stop : (a b : List Handed) (name : List ℕ) (stop : Stop) → StopsHanding a b name stop → Grows a b
+grows_stop a b name (absent other) s = absurd s
+grows_stop a b name (longer other) s = grows_long a b name _ s.1
+grows_stop a b name not_json s = absurd s
+grows_stop a b name bad_manifest s = absurd s
+grows_stop a b name (refused other why) s = absurd s
+grows_stop a b name (frame_too_large box) s = absurd s
 
-pub halted_agreed : (a b : List Handed) (e : Entry) (before : PlainBoard) (bytes seen : List ℕ) (count now : ℕ) (lost : List ℕ) (given : BuildFault)
-    → IfAgreed a b (λ files. IsHeld files e.name bytes) → seen ≡ bytes → Halts e seen before given
-    → IfAgreed a b (λ files. HasCause (Some files) (λ files stop. StopsAt files e before stop) (λ files name. e.name ≡ name) count now lost given)
-halted_agreed a b e before bytes seen count now lost given held same h = λ files w. halted_cause (Some files) e before bytes seen count now lost given (held files w) same h
+abbrev goes : (f : Files) (e : Entry) (c d : Course) → AgreeWith f c.handed d.handed → GoesHanded e c d → Goes f e c.board d.board
+goes f e c d w g = record { bytes = g.bytes; held = held f c.handed d.handed e.name g.bytes w g.handed; read = g.read }
 
-pub entry_agreed : (a b c : List Handed) (entries : List Entry) (i : ℕ) (entry : Entry) (start mid : PlainBoard) (before between now : ℕ) (lost : List ℕ) (why : BuildFault) → i < length entries → entry ≡ get_or entries i entry → before ≤ between → Grows a b → Grows b c
-    → IfAgreed a b (λ files. Walks files (take i entries) start mid)
-    → IfAgreed b c (λ files. HasCause (Some files) (λ files stop. StopsAt files entry mid stop) (λ files name. entry.name ≡ name) between now lost why)
-    → IfAgreed a c (λ files. HasCause (Some files) (λ files stop. StopsAmong files entries start stop) (λ files name. ComesAmong files entries start name) before now lost why)
-entry_agreed a b c entries i entry start mid before between now lost why below here later g h walked cause = λ files w.
-    entry_cause (Some files) (Some files) entries i entry start mid before between now lost why below here refl later (walked files (agree_front files a b c g h w)) (cause files (agree_back files a b c g h w))
+stops_at : (f : Files) (e : Entry) (c : Course) (b : List Handed) (stop : Stop) → AgreeWith f c.handed b → StopsAtHanded e c b stop → StopsAt f e c.board stop
+stops_at f e c b (absent other) w s = absurd s
+stops_at f e c b (longer other) w s = untaken f c.handed b e.name (longer other) w s
+stops_at f e c b not_json w s = absurd s
+stops_at f e c b bad_manifest w s = absurd s
+stops_at f e c b (refused other why) w s = (s.0, record { bytes = s.1.bytes; held = held f c.handed b e.name s.1.bytes w s.1.handed; refused = s.1.refused })
+stops_at f e c b (frame_too_large box) w s = absurd s
 
-pub walked_agreed : (a b c : List Handed) (entries : List Entry) (i : ℕ) (entry : Entry) (start mid end : PlainBoard) → i < length entries → entry ≡ get_or entries i entry → Grows a b → Grows b c
-    → IfAgreed a b (λ files. Walks files (take i entries) start mid) → IfAgreed b c (λ files. Goes files entry mid end) → IfAgreed a c (λ files. Walks files (take (i + 1) entries) start end)
-walked_agreed a b c entries i entry start mid end below here g h walked goes = λ files w.
-    entry_walked (Some files) (Some files) entries i entry start mid end below here refl (walked files (agree_front files a b c g h w)) (goes files (agree_back files a b c g h w))
+grows_at : (e : Entry) (c : Course) (b : List Handed) (stop : Stop) → StopsAtHanded e c b stop → Grows c.handed b
+grows_at e c b (absent other) s = absurd s
+grows_at e c b (longer other) s = grows_stop c.handed b e.name (longer other) s
+grows_at e c b not_json s = absurd s
+grows_at e c b bad_manifest s = absurd s
+grows_at e c b (refused other why) s = grows_handed c.handed b e.name s.1.bytes s.1.handed
+grows_at e c b (frame_too_large box) s = absurd s
 
-pub manifest_agreed : (a b : List Handed) (manifest : List ℕ) (before now : ℕ) (lost : List ℕ) (why : BuildFault) → before ≤ before
-    → IfAgreed a b (λ files. HasCause (Some files) (λ files stop. StopsAtManifest files manifest stop) (λ files name. name ≡ manifest) before now lost why)
-    → IfAgreed a b (λ files. HasCause (Some files) (λ files stop. IsFirstStop files manifest stop) (λ files name. Comes files manifest name) before now lost why)
-manifest_agreed a b manifest before now lost why le cause = λ files w. manifest_cause (Some files) manifest before now lost why le (cause files w)
+-- ---- The files, by any steps that tell what was handed over
 
-pub files_agreed : (a b c : List Handed) (manifest : List ℕ) (listed : Manifest) (start : PlainBoard) (before between now : ℕ) (lost : List ℕ) (why : BuildFault) → start ≡ empty_board listed.layers → before ≤ between → Grows a b → Grows b c
-    → IfAgreed a b (λ files. IsManifestFile files manifest listed)
-    → IfAgreed b c (λ files. HasCause (Some files) (λ files stop. StopsAmong files listed.files start stop) (λ files name. ComesAmong files listed.files start name) between now lost why)
-    → IfAgreed a c (λ files. HasCause (Some files) (λ files stop. IsFirstStop files manifest stop) (λ files name. Comes files manifest name) before now lost why)
-files_agreed a b c manifest listed start before between now lost why empty later g h is cause = λ files w.
-    files_cause (Some files) (Some files) manifest listed start before between now lost why refl empty later (is files (agree_front files a b c g h w)) (cause files (agree_back files a b c g h w))
+-- what was handed over at a state, the step over files, and the state that it is about
+pub record Follows {S T : Type 0} (f : Files) (handed : S → List Handed) (plain : S → T) (Step : Entry → S → S → Type 0) (Held : Entry → T → T → Type 0) : Type 0 where
+  pub grows : (e : Entry) (c d : S) → Step e c d → Grows (handed c) (handed d)
+  pub goes : (e : Entry) (c d : S) → AgreeWith f (handed c) (handed d) → Step e c d → Held e (plain c) (plain d)
 
-pub framed_agreed : (a b c : List Handed) (manifest : List ℕ) (listed : Manifest) (start board : PlainBoard) (before now : ℕ) (lost : List ℕ) (why : BuildFault) → start ≡ empty_board listed.layers → Grows a b → Grows b c
-    → IfAgreed a b (λ files. IsManifestFile files manifest listed) → IfAgreed b c (λ files. Walks files listed.files start board) → IsFrameFault board why
-    → IfAgreed a c (λ files. HasCause (Some files) (λ files stop. IsFirstStop files manifest stop) (λ files name. Comes files manifest name) before now lost why)
-framed_agreed a b c manifest listed start board before now lost why empty g h is walked fault = λ files w.
-    framed_cause (Some files) (Some files) manifest listed start board before now lost why refl empty (is files (agree_front files a b c g h w)) (walked files (agree_back files a b c g h w)) fault
+grows_walk : {S T : Type 0} (f : Files) (handed : S → List Handed) (plain : S → T) (Step : Entry → S → S → Type 0) (Held : Entry → T → T → Type 0) → Follows f handed plain Step Held → (entries : List Entry) (c d : S) → WalksBy Step entries c d → Grows (handed c) (handed d)
+grows_walk f handed plain Step Held k [] c d w = grows_none (handed c) (handed d) (ap handed (sym w))
+grows_walk f handed plain Step Held k (e ∷ rest) c d (n, s, w) = grows_on (handed c) (handed n) (handed d) (k.grows e c n s) (grows_walk f handed plain Step Held k rest n d w)
 
-pub board_agreed : (a b c : List Handed) (manifest : List ℕ) (listed : Manifest) (start end board : PlainBoard) → start ≡ empty_board listed.layers → Grows a b → Grows b c
-    → IfAgreed a b (λ files. IsManifestFile files manifest listed) → IfAgreed b c (λ files. Walks files listed.files start end) → Fits (common_box end.pieces) → board ≡ end
-    → IfAgreed a c (λ files. IsBoardOf files manifest board)
-board_agreed a b c manifest listed start end board empty g h is walked fits made = λ files w.
-    board_is (Some files) (Some files) manifest listed start end board refl empty (is files (agree_front files a b c g h w)) (walked files (agree_back files a b c g h w)) fits made
+walks : {S T : Type 0} (f : Files) (handed : S → List Handed) (plain : S → T) (Step : Entry → S → S → Type 0) (Held : Entry → T → T → Type 0) → Follows f handed plain Step Held → (entries : List Entry) (c d : S) → AgreeWith f (handed c) (handed d) → WalksBy Step entries c d → WalksBy Held entries (plain c) (plain d)
+walks f handed plain Step Held k [] c d a w = ap plain w
+walks f handed plain Step Held k (e ∷ rest) c d a (n, s, w) =
+    let g = k.grows e c n s in
+    let h = grows_walk f handed plain Step Held k rest n d w in
+    (plain n, k.goes e c n (agree_front f (handed c) (handed n) (handed d) g h a) s, walks f handed plain Step Held k rest n d (agree_back f (handed c) (handed n) (handed d) g h a) w)
+
+-- what ends the walk grows what was handed over, and holds of the files
+pub record EndsIn {S T : Type 0} (f : Files) (handed : S → List Handed) (plain : S → T) (b : List Handed) (P : Entry → S → Type 0) (Q : Entry → T → Type 0) : Type 0 where
+  pub grows : (e : Entry) (c : S) → P e c → Grows (handed c) b
+  pub is : (e : Entry) (c : S) → AgreeWith f (handed c) b → P e c → Q e (plain c)
+
+grows_one : {S T : Type 0} (f : Files) (handed : S → List Handed) (plain : S → T) (Step : Entry → S → S → Type 0) (Held : Entry → T → T → Type 0) (b : List Handed) (P : Entry → S → Type 0) (Q : Entry → T → Type 0) → Follows f handed plain Step Held → EndsIn f handed plain b P Q
+    → (entries : List Entry) (c : S) → AtOneBy Step entries c P → Grows (handed c) b
+grows_one f handed plain Step Held b P Q k l [] c h = absurd h
+grows_one f handed plain Step Held b P Q k l (e ∷ rest) c (inl h) = l.grows e c h
+grows_one f handed plain Step Held b P Q k l (e ∷ rest) c (inr (n, s, h)) = grows_on (handed c) (handed n) b (k.grows e c n s) (grows_one f handed plain Step Held b P Q k l rest n h)
+
+at_one : {S T : Type 0} (f : Files) (handed : S → List Handed) (plain : S → T) (Step : Entry → S → S → Type 0) (Held : Entry → T → T → Type 0) (b : List Handed) (P : Entry → S → Type 0) (Q : Entry → T → Type 0) → Follows f handed plain Step Held → EndsIn f handed plain b P Q
+    → (entries : List Entry) (c : S) → AgreeWith f (handed c) b → AtOneBy Step entries c P → AtOneBy Held entries (plain c) Q
+at_one f handed plain Step Held b P Q k l [] c a h = absurd h
+at_one f handed plain Step Held b P Q k l (e ∷ rest) c a (inl h) = inl (l.is e c a h)
+at_one f handed plain Step Held b P Q k l (e ∷ rest) c a (inr (n, s, h)) =
+    let g = k.grows e c n s in
+    let i = grows_one f handed plain Step Held b P Q k l rest n h in
+    inr (plain n, k.goes e c n (agree_front f (handed c) (handed n) b g i a) s, at_one f handed plain Step Held b P Q k l rest n (agree_back f (handed c) (handed n) b g i a) h)
+
+follows : (f : Files) → Follows f (λ (c : Course). c.handed) (λ (c : Course). c.board) GoesHanded (Goes f)
+follows f = record { grows = λ e c d g. grows_handed c.handed d.handed e.name g.bytes g.handed; goes = λ e c d a g. goes f e c d a g }
+
+stops_in : (f : Files) (b : List Handed) (stop : Stop) → EndsIn f (λ (c : Course). c.handed) (λ (c : Course). c.board) b (λ e c. StopsAtHanded e c b stop) (λ e board. StopsAt f e board stop)
+stops_in f b stop = record { grows = λ e c h. grows_at e c b stop h; is = λ e c a h. stops_at f e c b stop a h }
+
+comes_in : (f : Files) (b : List Handed) (name : List ℕ) → EndsIn f (λ (c : Course). c.handed) (λ (c : Course). c.board) b (λ e c. ComesNext c.handed b e.name name) (λ e board. e.name ≡ name)
+comes_in f b name = record { grows = λ e c h. grows_none c.handed b h.1; is = λ e c a h. sym h.0 }
+
+-- ---- The package
+
+manifest_stop : (f : Files) (a b : List Handed) (name : List ℕ) (stop : Stop) → AgreeWith f a b → StopsAtManifestHanded a b name stop → StopsAtManifest f name stop
+manifest_stop f a b name (absent other) w s = absurd s
+manifest_stop f a b name (longer other) w s = untaken f a b name (longer other) w s
+manifest_stop f a b name not_json w s = held_with f a b name _ w s
+manifest_stop f a b name bad_manifest w s = held_with f a b name _ w s
+manifest_stop f a b name (refused other why) w s = absurd s
+manifest_stop f a b name (frame_too_large box) w s = absurd s
+
+module _ (f : Files) (a b : List Handed) (w : AgreeWith f a b) where
+  board_is : (name : List ℕ) (board : PlainBoard) → IsBoardHanded a b name board → IsBoardOf f name board
+  board_is name board h =
+      let g = grows_handed a h.first name h.manifest.bytes h.manifest.handed in
+      let i = grows_walk f _ _ GoesHanded (Goes f) (follows f) _ _ _ h.walked in
+      record {
+        listed = h.listed;
+        manifest = held_with f a h.first name _ (agree_front f a h.first b g i w) h.manifest;
+        walked = walks f _ _ GoesHanded (Goes f) (follows f) _ _ _ (agree_back f a h.first b g i w) h.walked;
+        frame = h.frame;
+      }
+
+  stop_is : (name : List ℕ) (stop : Stop) → IsFirstStopHanded a b name stop → IsFirstStop f name stop
+  stop_is name stop (inl s) = inl (manifest_stop f a b name stop w s)
+  stop_is name stop (inr h) =
+      let g = grows_handed a h.first name h.manifest.bytes h.manifest.handed in
+      elim h.stops [
+      | inl s ↦
+          let i = grows_one f _ _ GoesHanded (Goes f) b _ _ (follows f) (stops_in f b stop) _ _ s in
+          inr (record {
+            listed = h.listed;
+            manifest = held_with f a h.first name _ (agree_front f a h.first b g i w) h.manifest;
+            stops = inl (at_one f _ _ GoesHanded (Goes f) b _ _ (follows f) (stops_in f b stop) _ _ (agree_back f a h.first b g i w) s);
+          })
+      | inr s ↦
+          let i = grows_walk f _ _ GoesHanded (Goes f) (follows f) _ _ _ s.walked in
+          inr (record {
+            listed = h.listed;
+            manifest = held_with f a h.first name _ (agree_front f a h.first b g i w) h.manifest;
+            stops = inr (record { board = s.board; walked = walks f _ _ GoesHanded (Goes f) (follows f) _ _ _ (agree_back f a h.first b g i w) s.walked; frame = s.frame });
+          })
+      ]
+
+  comes_is : (name other : List ℕ) → ComesHanded a b name other → Comes f name other
+  comes_is name other (inl h) = inl h.0
+  comes_is name other (inr h) =
+      let g = grows_handed a h.first name h.manifest_file.bytes h.manifest_file.handed in
+      let i = grows_one f _ _ GoesHanded (Goes f) b _ _ (follows f) (comes_in f b other) _ _ h.comes in
+      inr (record {
+        listed = h.listed;
+        manifest_file = held_with f a h.first name _ (agree_front f a h.first b g i w) h.manifest_file;
+        comes = at_one f _ _ GoesHanded (Goes f) b _ _ (follows f) (comes_in f b other) _ _ (agree_back f a h.first b g i w) h.comes;
+      })
 
 -- ---- By labels
 
-abbrev pub Walked : Files → List Entry → Labelled → Labelled → Type 0
-Walked files entries before after = WalksBy (GoesLabelled files) entries before after
+goes_labelled : (f : Files) (e : Entry) (c d : LabelledCourse) → AgreeWith f c.handed d.handed → GoesLabelledHanded e c d → GoesLabelled f e c.so_far d.so_far
+goes_labelled f e c d w g = record { goes = goes f e (unlabelled c) (unlabelled d) w g.goes; lists = g.lists }
 
-abbrev pub CauseAmong : Files → List Entry → Labelled → ℕ → ℕ → List ℕ → LabelledFault → Type 0
-CauseAmong files entries start before now lost why = HasLabelledCause (Some files) (λ files stop. StopsLabelledAmong files entries start stop) (λ files name. LabelledComesAmong files entries start name) before now lost why
+stops_labelled_at : (f : Files) (e : Entry) (c : LabelledCourse) (b : List Handed) (stop : LabelledStop) → AgreeWith f c.handed b → StopsLabelledAtHanded e c b stop → StopsLabelledAt f e c.so_far stop
+stops_labelled_at f e c b (unbuilt stop) w s = stops_at f e (unlabelled c) b stop w s
+stops_labelled_at f e c b (mislabelled name command at) w s = (s.0, record { after = s.1.board; goes = goes f e (unlabelled c) (course b s.1.board) w s.1.goes; amiss = s.1.amiss })
 
-abbrev pub LabelledCauseOf : Files → List ℕ → ℕ → ℕ → List ℕ → LabelledFault → Type 0
-LabelledCauseOf files manifest before now lost why = HasLabelledCause (Some files) (λ files stop. IsFirstLabelledStop files manifest stop) (λ files name. LabelledComes files manifest name) before now lost why
+grows_labelled_at : (e : Entry) (c : LabelledCourse) (b : List Handed) (stop : LabelledStop) → StopsLabelledAtHanded e c b stop → Grows c.handed b
+grows_labelled_at e c b (unbuilt stop) s = grows_at e (unlabelled c) b stop s
+grows_labelled_at e c b (mislabelled name command at) s = grows_handed c.handed b e.name s.1.goes.bytes s.1.goes.handed
 
-pub labelled_entry_agreed : (a b c : List Handed) (entries : List Entry) (i : ℕ) (e : Entry) (start mid : Labelled) (before between now : ℕ) (lost : List ℕ) (why : LabelledFault) → i < length entries → e ≡ get_or entries i e → before ≤ between → Grows a b → Grows b c
-    → IfAgreed a b (λ files. Walked files (filter with_board (take i entries)) start mid)
-    → IfAgreed b c (λ files. CauseAmong files (filter with_board (e ∷ [])) mid between now lost why)
-    → IfAgreed a c (λ files. CauseAmong files (filter with_board entries) start before now lost why)
-labelled_entry_agreed a b c entries i e start mid before between now lost why below here later g h walked cause = λ files w.
-    files_cause_more (Some files) (Some files) entries i e start mid before between now lost why below here refl later (walked files (agree_front files a b c g h w)) (cause files (agree_back files a b c g h w))
+follows_labelled : (f : Files) → Follows f (λ (c : LabelledCourse). c.handed) (λ (c : LabelledCourse). c.so_far) GoesLabelledHanded (GoesLabelled f)
+follows_labelled f = record { grows = λ e c d g. grows_handed c.handed d.handed e.name g.goes.bytes g.goes.handed; goes = λ e c d a g. goes_labelled f e c d a g }
 
-pub labelled_walked_agreed : (a b c : List Handed) (entries : List Entry) (i : ℕ) (e : Entry) (start mid end : Labelled) → i < length entries → e ≡ get_or entries i e → Grows a b → Grows b c
-    → IfAgreed a b (λ files. Walked files (filter with_board (take i entries)) start mid) → IfAgreed b c (λ files. Walked files (filter with_board (e ∷ [])) mid end) → IfAgreed a c (λ files. Walked files (filter with_board (take (i + 1) entries)) start end)
-labelled_walked_agreed a b c entries i e start mid end below here g h walked goes = λ files w.
-    files_walked_more (Some files) (Some files) entries i e start mid end below here refl (walked files (agree_front files a b c g h w)) (goes files (agree_back files a b c g h w))
+labelled_stops_in : (f : Files) (b : List Handed) (stop : LabelledStop) → EndsIn f (λ (c : LabelledCourse). c.handed) (λ (c : LabelledCourse). c.so_far) b (λ e c. StopsLabelledAtHanded e c b stop) (λ e so_far. StopsLabelledAt f e so_far stop)
+labelled_stops_in f b stop = record { grows = λ e c h. grows_labelled_at e c b stop h; is = λ e c a h. stops_labelled_at f e c b stop a h }
 
-pub labelled_files_agreed : (a b c : List Handed) (manifest : List ℕ) (listed : Manifest) (start : Labelled) (before between now : ℕ) (lost : List ℕ) (why : LabelledFault) → start ≡ nothing_labelled listed.layers → before ≤ between → Grows a b → Grows b c
-    → IfAgreed a b (λ files. IsManifestFile files manifest listed) → IfAgreed b c (λ files. CauseAmong files (labelled_order listed) start between now lost why)
-    → IfAgreed a c (λ files. LabelledCauseOf files manifest before now lost why)
-labelled_files_agreed a b c manifest listed start before between now lost why empty later g h is cause = λ files w.
-    files_labelled_cause (Some files) (Some files) manifest listed start before between now lost why refl empty later (is files (agree_front files a b c g h w)) (cause files (agree_back files a b c g h w))
+labelled_comes_in : (f : Files) (b : List Handed) (name : List ℕ) → EndsIn f (λ (c : LabelledCourse). c.handed) (λ (c : LabelledCourse). c.so_far) b (λ e c. ComesNext c.handed b e.name name) (λ e so_far. e.name ≡ name)
+labelled_comes_in f b name = record { grows = λ e c h. grows_none c.handed b h.1; is = λ e c a h. sym h.0 }
 
-pub labelled_frame_agreed : (a b c : List Handed) (manifest : List ℕ) (listed : Manifest) (start end : Labelled) (board : PlainBoard) (before now : ℕ) (lost : List ℕ) (why : BuildFault) → start ≡ nothing_labelled listed.layers → board ≡ labelled_board_of end.tables end.board → Grows a b → Grows b c
-    → IfAgreed a b (λ files. IsManifestFile files manifest listed) → IfAgreed b c (λ files. Walked files (labelled_order listed) start end) → IsFrameFault board why
-    → IfAgreed a c (λ files. LabelledCauseOf files manifest before now lost (fault.Build why))
-labelled_frame_agreed a b c manifest listed start end board before now lost why empty named g h is walked fault = λ files w.
-    frame_labelled_cause (Some files) (Some files) manifest listed start end board before now lost why refl empty named (is files (agree_front files a b c g h w)) (walked files (agree_back files a b c g h w)) fault
+first_labelled_stop : (f : Files) (a b : List Handed) (name : List ℕ) (stop : LabelledStop) → AgreeWith f a b → OfBuild (StopsAtManifestHanded a b name) stop → OfBuild (StopsAtManifest f name) stop
+first_labelled_stop f a b name (unbuilt stop) w s = manifest_stop f a b name stop w s
+first_labelled_stop f a b name (mislabelled file command at) w s = absurd s
 
-pub labelled_board_agreed : (a b c : List Handed) (manifest : List ℕ) (listed : Manifest) (start end : Labelled) (named board : PlainBoard) → start ≡ nothing_labelled listed.layers → named ≡ labelled_board_of end.tables end.board → Grows a b → Grows b c
-    → IfAgreed a b (λ files. IsManifestFile files manifest listed) → IfAgreed b c (λ files. Walked files (labelled_order listed) start end) → Fits (common_box named.pieces) → board ≡ named
-    → IfAgreed a c (λ files. IsLabelledBoardOf files manifest board)
-labelled_board_agreed a b c manifest listed start end named board empty is_named g h is walked fits made = λ files w.
-    labelled_board_is (Some files) (Some files) manifest listed start end named board refl empty is_named (is files (agree_front files a b c g h w)) (walked files (agree_back files a b c g h w)) fits made
+module _ (f : Files) (a b : List Handed) (w : AgreeWith f a b) where
+  labelled_is : (name : List ℕ) (board : PlainBoard) → IsLabelledBoardHanded a b name board → IsLabelledBoardOf f name board
+  labelled_is name board h =
+      let g = grows_handed a h.first name h.manifest.bytes h.manifest.handed in
+      let i = grows_walk f _ _ GoesLabelledHanded (GoesLabelled f) (follows_labelled f) _ _ _ h.walked in
+      record {
+        listed = h.listed;
+        manifest = held_with f a h.first name _ (agree_front f a h.first b g i w) h.manifest;
+        end = h.end;
+        walked = walks f _ _ GoesLabelledHanded (GoesLabelled f) (follows_labelled f) _ _ _ (agree_back f a h.first b g i w) h.walked;
+        frame = h.frame;
+        is = h.is;
+      }
+
+  labelled_stop_is : (name : List ℕ) (stop : LabelledStop) → IsFirstLabelledStopHanded a b name stop → IsFirstLabelledStop f name stop
+  labelled_stop_is name stop (inl s) = inl (first_labelled_stop f a b name stop w s)
+  labelled_stop_is name stop (inr h) =
+      let g = grows_handed a h.first name h.manifest.bytes h.manifest.handed in
+      elim h.stops [
+      | inl s ↦
+          let i = grows_one f _ _ GoesLabelledHanded (GoesLabelled f) b _ _ (follows_labelled f) (labelled_stops_in f b stop) _ _ s in
+          inr (record {
+            listed = h.listed;
+            manifest = held_with f a h.first name _ (agree_front f a h.first b g i w) h.manifest;
+            stops = inl (at_one f _ _ GoesLabelledHanded (GoesLabelled f) b _ _ (follows_labelled f) (labelled_stops_in f b stop) _ _ (agree_back f a h.first b g i w) s);
+          })
+      | inr s ↦
+          let i = grows_walk f _ _ GoesLabelledHanded (GoesLabelled f) (follows_labelled f) _ _ _ s.walked in
+          inr (record {
+            listed = h.listed;
+            manifest = held_with f a h.first name _ (agree_front f a h.first b g i w) h.manifest;
+            stops = inr (record { end = s.end; walked = walks f _ _ GoesLabelledHanded (GoesLabelled f) (follows_labelled f) _ _ _ (agree_back f a h.first b g i w) s.walked; frame = s.frame });
+          })
+      ]
+
+  labelled_comes_is : (name other : List ℕ) → LabelledComesHanded a b name other → LabelledComes f name other
+  labelled_comes_is name other (inl h) = inl h.0
+  labelled_comes_is name other (inr h) =
+      let g = grows_handed a h.first name h.manifest_file.bytes h.manifest_file.handed in
+      let i = grows_one f _ _ GoesLabelledHanded (GoesLabelled f) b _ _ (follows_labelled f) (labelled_comes_in f b other) _ _ h.comes in
+      inr (record {
+        listed = h.listed;
+        manifest_file = held_with f a h.first name _ (agree_front f a h.first b g i w) h.manifest_file;
+        comes = at_one f _ _ GoesLabelledHanded (GoesLabelled f) b _ _ (follows_labelled f) (labelled_comes_in f b other) _ _ (agree_back f a h.first b g i w) h.comes;
+      })
+
+holds : (f : Files) (a b : List Handed) (name : List ℕ) → AgreeWith f a b → HoldsWhatWasHanded f a b name
+holds f a b name w = record {
+  held = λ bytes h. held f a b name bytes w h;
+  untaken = λ stop s. untaken f a b name stop w s;
+  board = λ board h. board_is f a b w name board h;
+  stop = λ stop s. stop_is f a b w name stop s;
+  comes = λ other h. comes_is f a b w name other h;
+  labelled = λ board h. labelled_is f a b w name board h;
+  labelled_stop = λ stop s. labelled_stop_is f a b w name stop s;
+  labelled_comes = λ other h. labelled_comes_is f a b w name other h;
+}
+
+grows_board : (a b : List Handed) (name : List ℕ) (board : PlainBoard) → IsBoardHanded a b name board → Grows a b
+grows_board a b name board h =
+    grows_on a h.first b (grows_handed a h.first name h.manifest.bytes h.manifest.handed) (grows_walk (λ other. None) _ _ GoesHanded (Goes (λ other. None)) (follows (λ other. None)) _ _ _ h.walked)
+
+pub handed_is_held : HandedIsHeld
+handed_is_held = record { holds = λ f a b name w. holds f a b name w; grows = λ a b name board h. grows_board a b name board h }

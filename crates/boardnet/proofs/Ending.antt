@@ -66,7 +66,7 @@ reason_of law c held before was now lost status Line (Unflat kind number byte) s
 
 -- ---- What a command comes to
 
-small_status : (n : Note) → status_of n ≤ 1
+pub small_status : (n : Note) → status_of n ≤ 1
 small_status note.Agrees = omega arith
 small_status (note.Differs opens shorts missing) = omega arith
 small_status note.AuditTrue = omega arith

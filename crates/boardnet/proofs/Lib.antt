@@ -1,3 +1,4 @@
+pub mod Accounts
 pub mod Agreeable
 pub mod Ending
 pub mod OnBoard

@@ -1,6 +1,8 @@
 -- What the commands share: the status of a verdict, the lines of refusals, and what an outcome is.
 use Rattle.std.specs.Prelude.{◌≡◌, ◌⊎◌, ℕ, List, length, codes}
+use Rattle.board_io.specs.Handed.{Handed}
 use Rattle.board_io.specs.Package.{Files}
+use Rattle.board_package.specs.HandedBoard.{IsFirstStopHanded}
 use Rattle.board_package.specs.PackageBoard.{Stop, absent, longer, not_json, bad_manifest, refused, frame_too_large, IsFirstStop}
 use Rattle.board_package.specs.Refusals.{refusal_number, refusal_name}
 use Rattle.board_package.specs.declared.reading.Refusal.{Refusal}
@@ -44,6 +46,12 @@ IsLineOf manifest (frame_too_large box) line = line ≡ frame_line box
 pub record IsRefusal (files : Files) (manifest line : List ℕ) : Type 0 where
   pub stop : Stop
   pub first : IsFirstStop files manifest stop
+  pub line_is : IsLineOf manifest stop line
+
+-- The first stop of what was handed over is a refusal, and this is its line.
+pub record IsRefusalHanded (before after : List Handed) (manifest line : List ℕ) : Type 0 where
+  pub stop : Stop
+  pub first : IsFirstStopHanded before after manifest stop
   pub line_is : IsLineOf manifest stop line
 
 -- What a command comes to: a text with its status and its line, or the line of a refusal.

@@ -7,6 +7,15 @@ use Rattle.board_package.specs.PackageBoard.{Stop}
 use Rattle.boardnet.specs.Common.{Outcome}
 use Rattle.boardnet.specs.declared.answer.Unanswered.{Unanswered}
 
+-- What a command comes to by what was handed over to it, whether the package tells what it holds or not.
+pub record Account : Type 1 where
+  -- what stops it, the file that comes next, and what else it refuses
+  pub stops : Stop → Type 0
+  pub comes : List ℕ → Type 0
+  pub refuses : Unanswered → Type 0
+  -- what it comes to
+  pub outcome : Outcome → Type 0
+
 pub record Task : Type 1 where
   -- the words that ask for it, how they are spelled
   pub asks : List (String Global) → Type 0
@@ -28,5 +37,5 @@ pub record Task : Type 1 where
   -- what it comes to, and when that is a text
   pub outcome : Files → Outcome → Type 0
   pub has_text : Files → Type 0
-  -- what it tells of the files that were handed over in the call, whether the package tells what it holds or not
-  pub handed : List Handed → List Handed → List ℕ → ℕ → List ℕ → Type 0
+  -- the same by what was handed over between two points of the call
+  pub handed : List Handed → List Handed → Account

@@ -1,10 +1,8 @@
 //! The command `check`.
-ghost use Rattle.board_io.specs.Handed.{IfAgreed};
-ghost use Rattle.boardnet.specs.Answers.{line_of, status_of};
 ghost use Rattle.boardnet.specs.Ends.{Works};
-ghost use Rattle.boardnet.specs.HandedOutcome.{IsHandedReport};
+ghost use Rattle.boardnet.specs.HandedOutcome.{HasHandedReason, IsAccount, account_of};
 ghost use Rattle.boardnet.specs.Words.{Check, IsText};
-ghost use Rattle.std.specs.Prelude.{IfOk, Some};
+ghost use Rattle.std.specs.Prelude.{IfErr, IfOk};
 
 use crate::answer::{Answer, Answered, Note};
 use crate::judged::{board_of, verdict_in};
@@ -21,8 +19,8 @@ pub fn report<P: Package>(
     package: &mut P,
 ) -> Answered
     requires { IsText manifest.now }
-    ensures handed { IfOk result (λ answer. IsHandedReport (P.handed «package».old) (P.handed «package».new) version manifest.now answer.text.items (status_of answer.note) (line_of answer.note)) }
-    ensures agreed { IfAgreed (P.handed «package».old) (P.handed «package».new) (λ files. Works (λ p. Some files) P.faults P.lost (Check version manifest.now) «package».old «package».new result) }
+    ensures handed { IfOk result (λ answer. IsAccount (account_of (Check version manifest.now) (P.handed «package».old) (P.handed «package».new)) answer) }
+    ensures handed_reason { IfErr result (HasHandedReason (account_of (Check version manifest.now) (P.handed «package».old) (P.handed «package».new)) (P.faults «package».old) (P.faults «package».new) (P.lost «package».new)) }
     ensures works { Works P.held P.faults P.lost (Check version manifest.now) «package».old «package».new result }
 {
     let board = board_of(alloc, manifest, package)?;

@@ -1,5 +1,5 @@
 //! Laws over the outcomes. Their calls do nothing.
-ghost use Rattle.boardnet.specs.FilesAgree.{FilesAgree};
+ghost use Rattle.boardnet.specs.FilesAgree.{FilesAgree, OutcomesAgree};
 ghost use Rattle.boardnet.specs.Laws.{ReportsPass, WrittenNetlistsPass};
 
 use board_package::laws as packages;
@@ -10,6 +10,13 @@ use netlist_writer::laws as netlists;
 pub fn files_agree()
     ensures { FilesAgree }
 {}
+
+/// What a command comes to by what was handed over to it, it comes to by all files that agree with that.
+pub fn outcomes_agree()
+    ensures { OutcomesAgree }
+{
+    packages::handed_is_held();
+}
 
 /// The report that `check` writes passes the audit of the same package.
 pub fn reports_pass()

@@ -1,12 +1,11 @@
 //! The command `write`.
-ghost use Rattle.board_io.specs.Handed.{IfAgreed};
 ghost use Rattle.board_shapes.specs.Plain.{plain_board};
-ghost use Rattle.boardnet.specs.Answers.{line_of, status_of};
+ghost use Rattle.boardnet.specs.Answers.{status_of};
 ghost use Rattle.boardnet.specs.Ends.{Works};
-ghost use Rattle.boardnet.specs.HandedOutcome.{IsHandedNetlist};
+ghost use Rattle.boardnet.specs.HandedOutcome.{HasHandedReason, IsAccount, account_of};
 ghost use Rattle.boardnet.specs.Words.{IsText, Write};
 ghost use Rattle.boardnet.specs.Written.{IsNetlistOn};
-ghost use Rattle.std.specs.Prelude.{IfOk, Some, ◌≡◌};
+ghost use Rattle.std.specs.Prelude.{IfErr, IfOk, ◌≡◌};
 
 use crate::answer::{Answer, Answered, Note};
 use crate::judged::{board_of, verdict_on};
@@ -19,9 +18,9 @@ use std::alloc::Global;
 /// The netlist of the package of a manifest.
 pub fn netlist<P: Package>(alloc: Global, manifest: &str, package: &mut P) -> Answered
     requires { IsText manifest.now }
-    ensures agreed { IfAgreed (P.handed «package».old) (P.handed «package».new) (λ files. Works (λ p. Some files) P.faults P.lost (Write manifest.now) «package».old «package».new result) }
+    ensures handed { IfOk result (λ answer. IsAccount (account_of (Write manifest.now) (P.handed «package».old) (P.handed «package».new)) answer) }
+    ensures handed_reason { IfErr result (HasHandedReason (account_of (Write manifest.now) (P.handed «package».old) (P.handed «package».new)) (P.faults «package».old) (P.faults «package».new) (P.lost «package».new)) }
     ensures works { Works P.held P.faults P.lost (Write manifest.now) «package».old «package».new result }
-    ensures handed { IfOk result (λ answer. IsHandedNetlist (P.handed «package».old) (P.handed «package».new) manifest.now answer.text.items (status_of answer.note) (line_of answer.note)) }
     ensures unjudged { IfOk result (λ answer. status_of answer.note ≡ 0) }
 {
     let board = board_of(alloc, manifest, package)?;

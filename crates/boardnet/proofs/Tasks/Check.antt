@@ -5,7 +5,12 @@ use Rattle.board_io.specs.Package.{Files}
 use Rattle.board_package.specs.PackageBoard.{IsBoardOf}
 use Rattle.board_shapes.specs.Plain.{PlainBoard}
 use Rattle.boardnet.proofs.Named.{Completes}
-use Rattle.boardnet.proofs.Sound.{Sound}
+use Rattle.board_io.specs.Handed.{AgreeWith, Handed}
+use Rattle.board_package.specs.HandedLaw.{HandedIsHeld, HoldsWhatWasHanded}
+use Rattle.boardnet.specs.Common.{Outcome, Refused, Told}
+use Rattle.boardnet.specs.HandedOutcome.{account_of}
+use Rattle.boardnet.specs.commands.Check.{CheckHanded, CheckOutcome}
+use Rattle.boardnet.proofs.Sound.{Sound, HoldsAccount}
 use Rattle.boardnet.specs.Outcome.{OfFilesRead}
 use Rattle.boardnet.specs.commands.{command_of_words}
 use Rattle.boardnet.specs.Words.{Asks, Command, Check, IsCheck, version_words}
@@ -15,6 +20,18 @@ use Rattle.boardnet.specs.declared.words.Version.TheVariants.{One, Two}
 read_check : (version : Version) (manifest : List ℕ) → command_of_words (codes "check" ∷ manifest ∷ version_words version) ≡ Some (Check version manifest)
 read_check One manifest = refl
 read_check Two manifest = refl
+
+held_check : (f : Files) (a b : List Handed) (version : Version) (manifest : List ℕ) → HoldsWhatWasHanded f a b manifest → (o : Outcome) → CheckHanded a b version manifest o → CheckOutcome f version manifest o
+held_check f a b version manifest h (Told text status line) x = record { board = x.board; board_is = h.board x.board x.board_is; verdict = x.verdict; lawful = x.lawful; right = x.right; version_is = x.version_is; text_is = x.text_is; status_is = x.status_is }
+held_check f a b version manifest h (Refused line) x = record { stop = x.stop; first = h.stop x.stop x.first; line_is = x.line_is }
+
+agreed_check : HandedIsHeld → (version : Version) (manifest : List ℕ) (f : Files) (a b : List Handed) → AgreeWith f a b → HoldsAccount (Check version manifest) f (account_of (Check version manifest) a b)
+agreed_check law version manifest f a b w = let h = law.holds f a b manifest w in record {
+  outcome = λ o x. held_check f a b version manifest h o x;
+  stops = λ stop s. h.stop stop s;
+  comes = λ name s. h.comes name s;
+  refuses = λ why x. absurd x;
+}
 
 pub sound_check : (version : Version) (manifest : List ℕ) → Sound (Check version manifest)
 sound_check version manifest = record {
@@ -26,6 +43,9 @@ sound_check version manifest = record {
   no_text = λ law f stop s t. (law.listed f manifest).not_both t.0 stop t.1 s;
   refusal = λ law held why m. absurd m;
   takes_what_comes = λ f name comes. tt;
+  handed_stop = λ a b stop line s l. record { stop = stop; first = s; line_is = l };
+  handed_refusal = λ a b why m. absurd m;
+  agrees = λ law f a b w. agreed_check law version manifest f a b w;
 }
 
 -- What `run` says of it, by its words.

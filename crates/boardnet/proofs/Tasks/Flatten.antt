@@ -1,5 +1,5 @@
 -- What holds of the command `flatten`.
-use Rattle.std.proofs.Common.{◌≡◌, ◌≤◌, ℕ, List, Option, Some, None, IfSome, String, refl, subst, ◌⊎◌, inl, inr}
+use Rattle.std.proofs.Common.{◌≡◌, ◌≤◌, ℕ, List, [], Option, Some, None, IfSome, String, refl, subst, ◌⊎◌, inl, inr}
 use Rattle.std.specs.declared.alloc.Global.{Global}
 use Rattle.board_io.specs.Package.{Files}
 use Rattle.board_package.proofs.Lift.{told_of}
@@ -7,9 +7,13 @@ use Rattle.board_package.specs.PackageBoard.{IsHeld}
 use Rattle.board_shapes.specs.Pieces.{PlainPiece}
 use Rattle.boardnet.proofs.Audits.{no_stop_taking, one_file}
 use Rattle.boardnet.proofs.Named.{Completes}
-use Rattle.boardnet.proofs.Sound.{OneOutcome, Sound, IsRefusedFor}
+use Rattle.board_io.specs.Handed.{AgreeWith, Handed}
+use Rattle.board_package.specs.HandedLaw.{HandedIsHeld, HoldsWhatWasHanded}
+use Rattle.boardnet.specs.Common.{Outcome, Refused, Told}
+use Rattle.boardnet.specs.HandedOutcome.{account_of}
+use Rattle.boardnet.proofs.Sound.{OneOutcome, Sound, IsRefusedFor, HoldsAccount, reason_line}
 use Rattle.boardnet.specs.Outcome.{OfFilesRead}
-use Rattle.boardnet.specs.commands.Flatten.{FlattenRefuses, IsUnflat}
+use Rattle.boardnet.specs.commands.Flatten.{FlattenHanded, FlattenOutcome, FlattenRefuses, FlattenRefusesHanded, IsUnflat}
 use Rattle.boardnet.specs.Words.{Asks, Command, Flatten, IsFlatten}
 use Rattle.boardnet.specs.declared.answer.Unanswered.{Unanswered}
 use Rattle.boardnet.specs.declared.answer.Unanswered.TheVariants.{Unflat}
@@ -27,6 +31,27 @@ unflat law file held (Unflat kind number byte) m =
     )) m
 unflat law file held other m = absurd m
 
+held_flatten : (f : Files) (a b : List Handed) (file : List ℕ) → HoldsWhatWasHanded f a b file → (o : Outcome) → FlattenHanded a b file o → FlattenOutcome f file o
+held_flatten f a b file h (Told text status line) x = record { bytes = x.bytes; held = h.held x.bytes x.handed; flattened = x.flattened; reads = x.reads; status_is = x.status_is; line_is = x.line_is }
+held_flatten f a b file h (Refused line) (inl x) = inl (record { stop = x.stop; stops = h.untaken x.stop x.stops; line_is = x.line_is })
+held_flatten f a b file h (Refused line) (inr x) = inr (record { kind = x.kind; command = x.command; byte = x.byte; unflat = record { bytes = x.unflat.bytes; held = h.held x.unflat.bytes x.unflat.handed; refused = x.unflat.refused }; line_is = x.line_is })
+
+held_refusal : (f : Files) (a b : List Handed) (file : List ℕ) → HoldsWhatWasHanded f a b file → (why : Unanswered) → FlattenRefusesHanded a b file why → FlattenRefuses (Some f) file why
+held_refusal f a b file h (Unflat kind number byte) x = record { bytes = x.bytes; held = h.held x.bytes x.handed; refused = x.refused }
+held_refusal f a b file h other x = absurd x
+
+unflat_handed : (a b : List Handed) (file : List ℕ) (why : Unanswered) → FlattenRefusesHanded a b file why → FlattenHanded a b file (Refused (reason_line file [] why))
+unflat_handed a b file (Unflat kind number byte) x = inr (record { kind = kind; command = number; byte = byte; unflat = x; line_is = refl })
+unflat_handed a b file other x = absurd x
+
+agreed_flatten : HandedIsHeld → (file : List ℕ) (f : Files) (a b : List Handed) → AgreeWith f a b → HoldsAccount (Flatten file) f (account_of (Flatten file) a b)
+agreed_flatten law file f a b w = let h = law.holds f a b file w in record {
+  outcome = λ o x. held_flatten f a b file h o x;
+  stops = λ stop s. h.untaken stop s;
+  comes = λ name s. s.0;
+  refuses = λ why x. held_refusal f a b file h why x;
+}
+
 pub sound_flatten : (file : List ℕ) → Sound (Flatten file)
 sound_flatten file = record {
   spelled = λ words is. is.spelled;
@@ -37,6 +62,9 @@ sound_flatten file = record {
   no_text = λ law f stop s t. no_stop_taking f file t.0 stop t.1 s;
   refusal = λ law held why m. unflat law file held why m;
   takes_what_comes = λ f name comes. tt;
+  handed_stop = λ a b stop line s l. inl (record { stop = stop; stops = s; line_is = l });
+  handed_refusal = λ a b why m. unflat_handed a b file why m;
+  agrees = λ law f a b w. agreed_flatten law file f a b w;
 }
 
 -- What `run` says of it, by its words.

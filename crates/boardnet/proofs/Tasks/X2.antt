@@ -1,14 +1,18 @@
 -- What holds of the command `x2`.
-use Rattle.std.proofs.Common.{◌≡◌, ◌≤◌, ℕ, List, Option, Some, None, IfSome, String, refl, ◌⊎◌}
+use Rattle.std.proofs.Common.{◌≡◌, ◌≤◌, ℕ, List, [], Option, Some, None, IfSome, String, refl, ◌⊎◌}
 use Rattle.std.specs.declared.alloc.Global.{Global}
 use Rattle.board_io.specs.Package.{Files}
 use Rattle.board_package.proofs.Lift.{told_of}
 use Rattle.board_package.specs.LabelledBoard.{IsLabelledBoardOf, mislabelled, unbuilt, IsFirstLabelledStop}
 use Rattle.board_shapes.specs.Plain.{PlainBoard}
 use Rattle.boardnet.proofs.Named.{Completes}
-use Rattle.boardnet.proofs.Sound.{OneOutcome, Sound, IsRefusedFor}
+use Rattle.board_io.specs.Handed.{AgreeWith, Handed}
+use Rattle.board_package.specs.HandedLaw.{HandedIsHeld, HoldsWhatWasHanded}
+use Rattle.boardnet.specs.Common.{Outcome, Refused, Told}
+use Rattle.boardnet.specs.HandedOutcome.{account_of}
+use Rattle.boardnet.proofs.Sound.{OneOutcome, Sound, IsRefusedFor, HoldsAccount, reason_line}
 use Rattle.boardnet.specs.Outcome.{OfFilesRead}
-use Rattle.boardnet.specs.commands.X2.{X2Refuses}
+use Rattle.boardnet.specs.commands.X2.{X2Handed, X2Outcome, X2Refuses, X2RefusesHanded}
 use Rattle.boardnet.specs.Words.{Asks, Command, X2, IsX2}
 use Rattle.boardnet.specs.declared.answer.Unanswered.{Unanswered}
 use Rattle.boardnet.specs.declared.answer.Unanswered.TheVariants.{Mislabelled}
@@ -18,6 +22,26 @@ amiss law manifest held (Mislabelled name number byte) m =
     told_of held (λ f. IsFirstLabelledStop f manifest (mislabelled name number byte)) (λ f. IsRefusedFor (X2 manifest) (Mislabelled name number byte) f)
     (λ f h. (record { stop = mislabelled name number byte; first = h; line_is = refl }, λ t. (law.labelled f manifest).not_both t.0 (mislabelled name number byte) t.1 h)) m
 amiss law manifest held other m = absurd m
+
+held_x2 : (f : Files) (a b : List Handed) (manifest : List ℕ) → HoldsWhatWasHanded f a b manifest → (o : Outcome) → X2Handed a b manifest o → X2Outcome f manifest o
+held_x2 f a b manifest h (Told text status line) x = record { board = x.board; board_is = h.labelled x.board x.board_is; verdict = x.verdict; lawful = x.lawful; right = x.right; version_is = x.version_is; none_bare = x.none_bare; joins = x.joins; text_is = x.text_is; status_is = x.status_is }
+held_x2 f a b manifest h (Refused line) x = record { stop = x.stop; first = h.labelled_stop x.stop x.first; line_is = x.line_is }
+
+held_refusal : (f : Files) (a b : List Handed) (manifest : List ℕ) → HoldsWhatWasHanded f a b manifest → (why : Unanswered) → X2RefusesHanded a b manifest why → X2Refuses (Some f) manifest why
+held_refusal f a b manifest h (Mislabelled name number byte) x = h.labelled_stop (mislabelled name number byte) x
+held_refusal f a b manifest h other x = absurd x
+
+amiss_handed : (a b : List Handed) (manifest : List ℕ) (why : Unanswered) → X2RefusesHanded a b manifest why → X2Handed a b manifest (Refused (reason_line manifest [] why))
+amiss_handed a b manifest (Mislabelled name number byte) x = record { stop = mislabelled name number byte; first = x; line_is = refl }
+amiss_handed a b manifest other x = absurd x
+
+agreed_x2 : HandedIsHeld → (manifest : List ℕ) (f : Files) (a b : List Handed) → AgreeWith f a b → HoldsAccount (X2 manifest) f (account_of (X2 manifest) a b)
+agreed_x2 law manifest f a b w = let h = law.holds f a b manifest w in record {
+  outcome = λ o x. held_x2 f a b manifest h o x;
+  stops = λ stop s. h.labelled_stop (unbuilt stop) s;
+  comes = λ name s. h.labelled_comes name s;
+  refuses = λ why x. held_refusal f a b manifest h why x;
+}
 
 pub sound_x2 : (manifest : List ℕ) → Sound (X2 manifest)
 sound_x2 manifest = record {
@@ -29,6 +53,9 @@ sound_x2 manifest = record {
   no_text = λ law f stop s t. (law.labelled f manifest).not_both t.0 (unbuilt stop) t.1 s;
   refusal = λ law held why m. amiss law manifest held why m;
   takes_what_comes = λ f name comes. tt;
+  handed_stop = λ a b stop line s l. record { stop = unbuilt stop; first = s; line_is = l };
+  handed_refusal = λ a b why m. amiss_handed a b manifest why m;
+  agrees = λ law f a b w. agreed_x2 law manifest f a b w;
 }
 
 -- What `run` says of it, by its words.

@@ -1,7 +1,9 @@
 -- The command `audit MANIFEST REPORT`: a report on the package is audited.
 use Rattle.std.specs.Prelude.{◌≡◌, ◌⊎◌, ℕ, List, [], ◌∷◌, ◌++◌, codes, decimal, map, string_bytes, String, Option, Some, None, IfSome}
 use Rattle.std.specs.declared.alloc.Global.{Global}
+use Rattle.board_io.specs.Handed.{Handed}
 use Rattle.board_io.specs.Package.{Files}
+use Rattle.board_package.specs.HandedBoard.{ComesHanded, ComesNext, IsBoardHanded, IsFirstStopHanded, IsHandedWith, StopsHanding}
 use Rattle.board_package.specs.PackageBoard.{IsBoardOf, Stop, Comes, IsFirstStop, IsHeldWith, StopsTaking}
 use Rattle.board_shapes.specs.Plain.{PlainBoard}
 use Rattle.board_shapes.specs.Tables.{IsTables}
@@ -94,6 +96,58 @@ abbrev pub AuditRefuses : Option Files → List ℕ → List ℕ → Unanswered 
 AuditRefuses held manifest report NotAReport = IfSome held (λ files. IsNoText files manifest report)
 AuditRefuses held manifest report other = ⊥
 
+-- ---- By what was handed over
+
+-- The package was handed over and fits, then the report, which is the text of a verdict, and nothing else; and this is what its
+-- audit answers.
+pub record IsHandedAnswer (before after : List Handed) (manifest report text : List ℕ) (status : ℕ) (line : List ℕ) : Type 0 where
+  pub board : PlainBoard
+  pub built : List Handed
+  pub board_is : IsBoardHanded before built manifest board
+  pub tables : Tables
+  pub tables_are : IsTables board tables
+  pub verdict : Verdict
+  pub read : IsHandedWith built after report (λ bytes. IsTextOf bytes verdict)
+  pub ruling : HasRuling tables verdict text status line
+
+-- the package was handed over and fits, and the report, which came next, is too long
+pub record StopsAtReportHanded (before after : List Handed) (manifest report : List ℕ) (stop : Stop) : Type 0 where
+  pub board : PlainBoard
+  pub built : List Handed
+  pub board_is : IsBoardHanded before built manifest board
+  pub stops : StopsHanding built after report stop
+
+abbrev pub IsAuditStopHanded : List Handed → List Handed → List ℕ → List ℕ → Stop → Type 0
+IsAuditStopHanded before after manifest report stop = IsFirstStopHanded before after manifest stop ⊎ StopsAtReportHanded before after manifest report stop
+
+-- An audit stops at a refusal, and this is its line.
+pub record IsAuditRefusalHanded (before after : List Handed) (manifest report line : List ℕ) : Type 0 where
+  pub stop : Stop
+  pub first : IsAuditStopHanded before after manifest report stop
+  pub line_is : IsLineOf manifest stop line
+
+-- The package was handed over and fits, and the report behind it is the text of no verdict.
+pub record IsNoTextHanded (before after : List Handed) (manifest report : List ℕ) : Type 0 where
+  pub board : PlainBoard
+  pub built : List Handed
+  pub board_is : IsBoardHanded before built manifest board
+  pub read : IsHandedWith built after report IsNoReport
+
+-- the package was handed over and fits, and the name is that of the report, which comes next
+pub record IsReportNextHanded (before after : List Handed) (manifest report name : List ℕ) : Type 0 where
+  pub board : PlainBoard
+  pub built : List Handed
+  pub board_is : IsBoardHanded before built manifest board
+  pub next : ComesNext built after report name
+
+abbrev pub AuditHanded : List Handed → List Handed → List ℕ → List ℕ → Outcome → Type 0
+AuditHanded before after manifest report (Told text status line) = IsHandedAnswer before after manifest report text status line
+AuditHanded before after manifest report (Refused line) = IsAuditRefusalHanded before after manifest report line ⊎ (IsNoTextHanded before after manifest report × (line ≡ file_line report (codes "not a report")))
+
+abbrev pub AuditRefusesHanded : List Handed → List Handed → List ℕ → List ℕ → Unanswered → Type 0
+AuditRefusesHanded before after manifest report NotAReport = IsNoTextHanded before after manifest report
+AuditRefusesHanded before after manifest report other = ⊥
+
 abbrev pub audit : List ℕ → List ℕ → Task
 audit manifest report = record {
   asks = λ words. IsAudit words manifest report;
@@ -108,7 +162,12 @@ audit manifest report = record {
   refuses = λ held why. AuditRefuses held manifest report why;
   outcome = λ files outcome. AuditOutcome files manifest report outcome;
   has_text = λ files. (text line : List ℕ) × (status : ℕ) × IsAnswer files manifest report text status line;
-  handed = λ before after text status line. Unit {0};
+  handed = λ before after. record {
+    stops = λ stop. IsAuditStopHanded before after manifest report stop;
+    comes = λ name. ComesHanded before after manifest name ⊎ IsReportNextHanded before after manifest report name;
+    refuses = λ why. AuditRefusesHanded before after manifest report why;
+    outcome = λ outcome. AuditHanded before after manifest report outcome;
+  };
 }
 
 -- the command that words behind its name can ask for; whether they are texts, and in range, is for `IsAudit` to say

@@ -3,16 +3,15 @@ use Rattle.std.specs.Prelude.{◌≡◌, ℕ, List, [], ◌∷◌, codes, map, s
 use Rattle.std.specs.declared.alloc.Global.{Global}
 use Rattle.board_io.specs.Handed.{Handed}
 use Rattle.board_io.specs.Package.{Files}
-use Rattle.board_package.specs.HandedBoard.{IsBoardHanded}
+use Rattle.board_package.specs.HandedBoard.{ComesHanded, IsBoardHanded, IsFirstStopHanded}
 use Rattle.board_package.specs.PackageBoard.{IsBoardOf, Comes, IsFirstStop}
 use Rattle.board_shapes.specs.Plain.{PlainBoard}
 use Rattle.boardnet.specs.Command.{Command, Check}
-use Rattle.boardnet.specs.Common.{HasStatus, IsRefusal, Outcome, Told, Refused}
+use Rattle.boardnet.specs.Common.{HasStatus, IsRefusal, IsRefusalHanded, Outcome, Told, Refused}
 use Rattle.boardnet.specs.Right.{IsOfVersion, IsRightOn}
 use Rattle.boardnet.specs.Task.{Task}
 use Rattle.boardnet.specs.declared.words.Version.{Version}
 use Rattle.boardnet.specs.declared.words.Version.TheVariants.{One, Two}
-use Rattle.boardnet.specs.declared.words.Version.TheVariants.{Two, One}
 use Rattle.lengths.specs.Text.{IsText}
 use Rattle.verdict.specs.Lawful.{IsVerdict}
 use Rattle.verdict.specs.ReportText.{report_text}
@@ -56,6 +55,11 @@ pub record IsHandedReport (before after : List Handed) (version : Version) (mani
   pub text_is : text ≡ report_text verdict
   pub status_is : HasStatus verdict status line
 
+-- the same by what was handed over
+abbrev pub CheckHanded : List Handed → List Handed → Version → List ℕ → Outcome → Type 0
+CheckHanded before after version manifest (Told text status line) = IsHandedReport before after version manifest text status line
+CheckHanded before after version manifest (Refused line) = IsRefusalHanded before after manifest line
+
 -- What is told of the command.
 abbrev pub check : Version → List ℕ → Task
 check version manifest = record {
@@ -71,7 +75,12 @@ check version manifest = record {
   refuses = λ held why. ⊥;
   outcome = λ files outcome. CheckOutcome files version manifest outcome;
   has_text = λ files. (board : PlainBoard) × IsBoardOf files manifest board;
-  handed = λ before after text status line. IsHandedReport before after version manifest text status line;
+  handed = λ before after. record {
+    stops = λ stop. IsFirstStopHanded before after manifest stop;
+    comes = λ name. ComesHanded before after manifest name;
+    refuses = λ why. ⊥;
+    outcome = λ outcome. CheckHanded before after version manifest outcome;
+  };
 }
 
 -- the command that words behind its name can ask for; whether they are texts, and in range, is for `IsCheck` to say

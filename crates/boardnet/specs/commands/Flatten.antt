@@ -1,7 +1,9 @@
 -- The command `flatten FILE`: a copper file is rewritten without macros.
 use Rattle.std.specs.Prelude.{◌≡◌, ◌⊎◌, ℕ, List, [], ◌∷◌, codes, map, string_bytes, String, Option, Some, None, IfSome}
 use Rattle.std.specs.declared.alloc.Global.{Global}
+use Rattle.board_io.specs.Handed.{Handed}
 use Rattle.board_io.specs.Package.{Files}
+use Rattle.board_package.specs.HandedBoard.{ComesNext, IsHanded, StopsHanding}
 use Rattle.board_package.specs.PackageBoard.{IsHeld, Stop, refused, StopsTaking}
 use Rattle.board_shapes.specs.Plain.{PlainPiece}
 use Rattle.boardnet.specs.Command.{Command, Flatten}
@@ -65,6 +67,46 @@ abbrev pub FlattenRefuses : Option Files → List ℕ → Unanswered → Type 0
 FlattenRefuses held file (Unflat kind number byte) = IfSome held (λ files. IsUnflat files file kind number byte)
 FlattenRefuses held file other = ⊥
 
+-- ---- By what was handed over
+
+-- The file was handed over, and nothing else; it has an image, and this is the text of that image, which every layer reads as the
+-- same copper.
+pub record IsHandedFlatText (before after : List Handed) (name text : List ℕ) (status : ℕ) (line : List ℕ) : Type 0 where
+  pub bytes : List ℕ
+  pub handed : IsHanded before after name bytes
+  pub flattened : IsFlattened bytes text
+  pub reads : IsReadBack bytes text
+  pub status_is : status ≡ 0
+  pub line_is : line ≡ plain_line (codes "flattened")
+
+-- the file is too long, and this is its line
+pub record IsUntakenHanded (before after : List Handed) (name line : List ℕ) : Type 0 where
+  pub stop : Stop
+  pub stops : StopsHanding before after name stop
+  pub line_is : IsLineOf name stop line
+
+-- the file was handed over, and its first faulty command is this one
+pub record IsUnflatHanded (before after : List Handed) (name : List ℕ) (kind : FlattenKind) (command byte : ℕ) : Type 0 where
+  pub bytes : List ℕ
+  pub handed : IsHanded before after name bytes
+  pub refused : IsRefusedWithMacros bytes kind command byte
+
+-- the file is refused, and this is its line
+pub record IsFlatRefusalHanded (before after : List Handed) (name line : List ℕ) : Type 0 where
+  pub kind : FlattenKind
+  pub command : ℕ
+  pub byte : ℕ
+  pub unflat : IsUnflatHanded before after name kind command byte
+  pub line_is : line ≡ flatten_line name kind command byte
+
+abbrev pub FlattenHanded : List Handed → List Handed → List ℕ → Outcome → Type 0
+FlattenHanded before after name (Told text status line) = IsHandedFlatText before after name text status line
+FlattenHanded before after name (Refused line) = IsUntakenHanded before after name line ⊎ IsFlatRefusalHanded before after name line
+
+abbrev pub FlattenRefusesHanded : List Handed → List Handed → List ℕ → Unanswered → Type 0
+FlattenRefusesHanded before after file (Unflat kind number byte) = IsUnflatHanded before after file kind number byte
+FlattenRefusesHanded before after file other = ⊥
+
 abbrev pub flatten : List ℕ → Task
 flatten file = record {
   asks = λ words. IsFlatten words file;
@@ -79,7 +121,12 @@ flatten file = record {
   refuses = λ held why. FlattenRefuses held file why;
   outcome = λ files outcome. FlattenOutcome files file outcome;
   has_text = λ files. (bytes : List ℕ) × IsHeld files file bytes × (pieces : List PlainPiece) × IsReadWithMacros bytes pieces;
-  handed = λ before after text status line. Unit {0};
+  handed = λ before after. record {
+    stops = λ stop. StopsHanding before after file stop;
+    comes = λ name. ComesNext before after file name;
+    refuses = λ why. FlattenRefusesHanded before after file why;
+    outcome = λ outcome. FlattenHanded before after file outcome;
+  };
 }
 
 -- the command that words behind its name can ask for; whether they are texts, and in range, is for `IsFlatten` to say

@@ -4,11 +4,11 @@ use Rattle.std.specs.Prelude.{◌≡◌, ◌≤◌, ◌⊎◌, ℕ, List, [], �
 use Rattle.std.specs.declared.alloc.Global.{Global}
 use Rattle.board_io.specs.Handed.{Handed}
 use Rattle.board_io.specs.Package.{Files}
-use Rattle.board_package.specs.HandedBoard.{IsBoardHanded}
+use Rattle.board_package.specs.HandedBoard.{ComesHanded, IsBoardHanded, IsFirstStopHanded}
 use Rattle.board_package.specs.PackageBoard.{IsBoardOf, Comes, IsFirstStop}
 use Rattle.board_shapes.specs.Plain.{Fits, PlainBoard}
 use Rattle.boardnet.specs.Command.{Command, Gaps}
-use Rattle.boardnet.specs.Common.{IsRefusal, Outcome, Told, Refused}
+use Rattle.boardnet.specs.Common.{IsRefusal, IsRefusalHanded, Outcome, Told, Refused}
 use Rattle.boardnet.specs.Gapped.{IsGapListOn, IsTooWide}
 use Rattle.boardnet.specs.Lines.{frame_line}
 use Rattle.boardnet.specs.Task.{Task}
@@ -53,6 +53,27 @@ pub record IsHandedGaps (before after : List Handed) (manifest : List ℕ) (nano
   pub board_is : IsBoardHanded before after manifest board
   pub list : IsGapListOn board nanometres text status line
 
+-- The package that was handed over fits, but not with its pieces grown by half the distance, and this is their common box.
+pub record IsGrownStopHanded (before after : List Handed) (manifest : List ℕ) (nanometres : ℕ) (box : Bounds) : Type 0 where
+  pub board : PlainBoard
+  pub board_is : IsBoardHanded before after manifest board
+  pub wide : IsTooWide board nanometres box
+
+-- The line of such a box.
+pub record IsGrownRefusalHanded (before after : List Handed) (manifest : List ℕ) (nanometres : ℕ) (line : List ℕ) : Type 0 where
+  pub box : Bounds
+  pub stop : IsGrownStopHanded before after manifest nanometres box
+  pub line_is : line ≡ frame_line box
+
+-- `gaps` by what was handed over
+abbrev pub GapsHanded : List Handed → List Handed → List ℕ → ℕ → Outcome → Type 0
+GapsHanded before after manifest nanometres (Told text status line) = IsHandedGaps before after manifest nanometres text status line
+GapsHanded before after manifest nanometres (Refused line) = IsRefusalHanded before after manifest line ⊎ IsGrownRefusalHanded before after manifest nanometres line
+
+abbrev pub GapsRefusesHanded : List Handed → List Handed → List ℕ → ℕ → Unanswered → Type 0
+GapsRefusesHanded before after manifest nanometres (GrownTooLarge box) = IsGrownStopHanded before after manifest nanometres box
+GapsRefusesHanded before after manifest nanometres other = ⊥
+
 -- beside a stop: the pieces, grown by half the distance, fit in no frame, and this is their common box
 abbrev pub GapsRefuses : Option Files → List ℕ → ℕ → Unanswered → Type 0
 GapsRefuses held manifest nanometres (GrownTooLarge box) = IfSome held (λ files. IsGrownStop files manifest nanometres box)
@@ -72,7 +93,12 @@ gaps manifest nanometres = record {
   refuses = λ held why. GapsRefuses held manifest nanometres why;
   outcome = λ files outcome. GapsOutcome files manifest nanometres outcome;
   has_text = λ files. (board : PlainBoard) × IsBoardOf files manifest board × Fits (grown_common (pos (5 * nanometres)) board.pieces);
-  handed = λ before after text status line. IsHandedGaps before after manifest nanometres text status line;
+  handed = λ before after. record {
+    stops = λ stop. IsFirstStopHanded before after manifest stop;
+    comes = λ name. ComesHanded before after manifest name;
+    refuses = λ why. GapsRefusesHanded before after manifest nanometres why;
+    outcome = λ outcome. GapsHanded before after manifest nanometres outcome;
+  };
 }
 
 -- the command that words behind its name can ask for; whether they are texts, and in range, is for `IsGaps` to say

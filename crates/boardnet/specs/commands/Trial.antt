@@ -82,7 +82,12 @@ trial seed size = record {
   refuses = λ held why. TrialRefuses size why;
   outcome = λ files outcome. TrialOutcome seed size outcome;
   has_text = λ files. (size ≤ 10000) × (board : PlainBoard) × IsBoardOf (made_files seed size) made_manifest board;
-  handed = λ before after text status line. Unit {0};
+  handed = λ before after. record {
+    stops = λ stop. (size ≤ 10000) × IsFirstStop (made_files seed size) made_manifest stop;
+    comes = λ name. ⊥;
+    refuses = λ why. TrialRefuses size why;
+    outcome = λ outcome. TrialOutcome seed size outcome;
+  };
 }
 
 -- the command that words behind its name can ask for; whether they are texts, and in range, is for `IsTrial` to say

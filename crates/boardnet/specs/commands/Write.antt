@@ -3,11 +3,11 @@ use Rattle.std.specs.Prelude.{◌≡◌, ℕ, List, [], ◌∷◌, codes, map, s
 use Rattle.std.specs.declared.alloc.Global.{Global}
 use Rattle.board_io.specs.Handed.{Handed}
 use Rattle.board_io.specs.Package.{Files}
-use Rattle.board_package.specs.HandedBoard.{IsBoardHanded}
+use Rattle.board_package.specs.HandedBoard.{ComesHanded, IsBoardHanded, IsFirstStopHanded}
 use Rattle.board_package.specs.PackageBoard.{IsBoardOf, Comes, IsFirstStop, IsWithinLimits}
 use Rattle.board_shapes.specs.Plain.{PlainBoard}
 use Rattle.boardnet.specs.Command.{Command, Write}
-use Rattle.boardnet.specs.Common.{IsRefusal, Outcome, Told, Refused}
+use Rattle.boardnet.specs.Common.{IsRefusal, IsRefusalHanded, Outcome, Told, Refused}
 use Rattle.boardnet.specs.Lines.{plain_line}
 use Rattle.boardnet.specs.Right.{IsRightOn}
 use Rattle.boardnet.specs.Task.{Task}
@@ -48,6 +48,11 @@ pub record IsHandedNetlist (before after : List Handed) (manifest text : List �
   pub status_is : status ≡ 0
   pub line_is : line ≡ plain_line (codes "netlist written")
 
+-- the same by what was handed over
+abbrev pub WriteHanded : List Handed → List Handed → List ℕ → Outcome → Type 0
+WriteHanded before after manifest (Told text status line) = IsHandedNetlist before after manifest text status line
+WriteHanded before after manifest (Refused line) = IsRefusalHanded before after manifest line
+
 -- What is told of the command.
 abbrev pub write : List ℕ → Task
 write manifest = record {
@@ -63,7 +68,12 @@ write manifest = record {
   refuses = λ held why. ⊥;
   outcome = λ files outcome. WriteOutcome files manifest outcome;
   has_text = λ files. (board : PlainBoard) × IsBoardOf files manifest board;
-  handed = λ before after text status line. IsHandedNetlist before after manifest text status line;
+  handed = λ before after. record {
+    stops = λ stop. IsFirstStopHanded before after manifest stop;
+    comes = λ name. ComesHanded before after manifest name;
+    refuses = λ why. ⊥;
+    outcome = λ outcome. WriteHanded before after manifest outcome;
+  };
 }
 
 -- the command that words behind its name can ask for; whether they are texts, and in range, is for `IsWrite` to say

@@ -1,7 +1,9 @@
 -- The command `x2 MANIFEST`: the package is judged by the net names in its copper files.
 use Rattle.std.specs.Prelude.{◌≡◌, ◌↔◌, ℕ, ◌-◌, List, [], ◌∷◌, Some, slice_get, codes, map, string_bytes, String, Option, None, IfSome}
 use Rattle.std.specs.declared.alloc.Global.{Global}
+use Rattle.board_io.specs.Handed.{Handed}
 use Rattle.board_io.specs.Package.{Files}
+use Rattle.board_package.specs.HandedLabelled.{IsFirstLabelledStopHanded, IsLabelledBoardHanded, LabelledComesHanded}
 use Rattle.board_package.specs.LabelledBoard.{IsLabelledBoardOf, IsFirstLabelledStop, LabelledComes, LabelledStop, mislabelled, unbuilt}
 use Rattle.board_shapes.specs.Plain.{PlainBoard}
 use Rattle.board_shapes.specs.Touching.{Joined}
@@ -65,6 +67,36 @@ abbrev pub X2Refuses : Option Files → List ℕ → Unanswered → Type 0
 X2Refuses held manifest (Mislabelled name number byte) = IfSome held (λ files. IsFirstLabelledStop files manifest (mislabelled name number byte))
 X2Refuses held manifest other = ⊥
 
+-- ---- By what was handed over
+
+-- The manifest and the copper and drill files of its order were handed over, and nothing else; they make a labelled board, and
+-- this is the text of a right verdict on it.
+pub record IsHandedLabelledReport (before after : List Handed) (manifest text : List ℕ) (status : ℕ) (line : List ℕ) : Type 0 where
+  pub board : PlainBoard
+  pub board_is : IsLabelledBoardHanded before after manifest board
+  pub verdict : Verdict
+  pub lawful : IsVerdict verdict
+  pub right : IsRightOn board verdict
+  pub version_is : IsOfVersion Two verdict
+  pub none_bare : verdict.bare ≡ []
+  pub joins : JoinsPieces board verdict
+  pub text_is : text ≡ report_text verdict
+  pub status_is : HasStatus verdict status line
+
+-- the first stop of what was handed over is a refusal, and this is its line
+pub record IsLabelledRefusalHanded (before after : List Handed) (manifest line : List ℕ) : Type 0 where
+  pub stop : LabelledStop
+  pub first : IsFirstLabelledStopHanded before after manifest stop
+  pub line_is : IsLabelledLine manifest stop line
+
+abbrev pub X2Handed : List Handed → List Handed → List ℕ → Outcome → Type 0
+X2Handed before after manifest (Told text status line) = IsHandedLabelledReport before after manifest text status line
+X2Handed before after manifest (Refused line) = IsLabelledRefusalHanded before after manifest line
+
+abbrev pub X2RefusesHanded : List Handed → List Handed → List ℕ → Unanswered → Type 0
+X2RefusesHanded before after manifest (Mislabelled name number byte) = IsFirstLabelledStopHanded before after manifest (mislabelled name number byte)
+X2RefusesHanded before after manifest other = ⊥
+
 abbrev pub x2 : List ℕ → Task
 x2 manifest = record {
   asks = λ words. IsX2 words manifest;
@@ -79,7 +111,12 @@ x2 manifest = record {
   refuses = λ held why. X2Refuses held manifest why;
   outcome = λ files outcome. X2Outcome files manifest outcome;
   has_text = λ files. (board : PlainBoard) × IsLabelledBoardOf files manifest board;
-  handed = λ before after text status line. Unit {0};
+  handed = λ before after. record {
+    stops = λ stop. IsFirstLabelledStopHanded before after manifest (unbuilt stop);
+    comes = λ name. LabelledComesHanded before after manifest name;
+    refuses = λ why. X2RefusesHanded before after manifest why;
+    outcome = λ outcome. X2Handed before after manifest outcome;
+  };
 }
 
 -- the command that words behind its name can ask for; whether they are texts, and in range, is for `IsX2` to say

@@ -1,12 +1,11 @@
-use Rattle.std.proofs.Common.{◌≡◌, Some, arith, rules, subst}
-use Rattle.board_io.specs.Handed.{IfAgreed}
-use Rattle.board_shapes.specs.Plain.{plain_board, common_box, Fits}
-use Rattle.board_package.proofs.Agreed.{board_agreed, climbs, files_agreed, framed_agreed, manifest_agreed, on_both}
+use Rattle.std.proofs.Common.{◌≡◌, arith, rules, subst}
 use Rattle.board_io.specs.Package.{IsFaultless}
-use Rattle.board_package.specs.Causes.{HasCause, IsFrameFault, KeepsFaults}
-use Rattle.board_package.specs.PackageBoard.{IsBoardOf, IsFirstStop, Comes, StopsAmong, ComesAmong, Walks}
+use Rattle.board_package.specs.Causes.{HandedCause, HasCause, IsFrameFault, KeepsFaults}
+use Rattle.board_package.specs.HandedBoard.{ComesAmongHanded, ComesHanded, GoesHanded, IsFirstStopHanded, StopsAmongHanded, course}
+use Rattle.board_package.specs.PackageBoard.{IsFirstStop, Comes, StopsAmong, ComesAmong, WalksBy}
 use Rattle.board_package.specs.Parts.{board_so_far}
-use Rattle.board_package.proofs.Lift.{if_err, faultless_both, faultless_ok, kept_after, kept_err}
+use Rattle.board_package.proofs.Lift.{climbs, if_err, faultless_both, faultless_ok, kept_after, kept_err}
+use Rattle.board_package.proofs.Staging.{files_handed, framed_handed, manifest_handed}
 use Rattle.board_package.proofs.Taking.{files_cause}
 use Rattle.board_package.proofs.stages.build.Goals as goal
 
@@ -37,32 +36,31 @@ returns-clause-kept g c =
     let whole : IsFaultless (g.P.Package.faults c.args.package.now) (g.P.Package.lost c.args.package.now) (g.P.Package.faults c.take_files.new.package) (g.P.Package.lost c.take_files.new.package) = faultless_both _ _ _ _ _ _ c.in_ok-listed.ensures.faultless c.in_ok-take_files.ensures.faultless in
     kept_err c.framed.result _ _ _ _ whole
 
-pub returns-in_err-listed-clause-agreed_cause : goal.returns-in_err-listed-clause-agreed_cause
-returns-in_err-listed-clause-agreed_cause g c =
-    climbs (λ why. IfAgreed (g.P.Package.handed c.args.package.now) (g.P.Package.handed c.take_manifest.new.package) (λ files. HasCause (Some files) (λ files stop. IsFirstStop files c.args.manifest.now stop) (λ files name. Comes files c.args.manifest.now name) (g.P.Package.faults c.args.package.now) (g.P.Package.faults c.take_manifest.new.package) (g.P.Package.lost c.take_manifest.new.package) why))
-    c.from_residual.result c.in_err-listed.field-0.0 c.from_residual.ensures.1
-    (manifest_agreed (g.P.Package.handed c.args.package.now) (g.P.Package.handed c.take_manifest.new.package) c.args.manifest.now (g.P.Package.faults c.args.package.now) (g.P.Package.faults c.take_manifest.new.package) (g.P.Package.lost c.take_manifest.new.package) c.in_err-listed.field-0.0 (omega arith) c.in_err-listed.ensures.agreed_cause)
+pub returns-in_err-listed-clause-handed_cause : goal.returns-in_err-listed-clause-handed_cause
+returns-in_err-listed-clause-handed_cause g c =
+    climbs _ c.from_residual.result c.in_err-listed.field-0.0 c.from_residual.ensures.1
+    (manifest_handed (g.P.Package.handed c.args.package.now) (g.P.Package.handed c.take_manifest.new.package) c.args.manifest.now (g.P.Package.faults c.args.package.now) (g.P.Package.faults c.take_manifest.new.package) (g.P.Package.lost c.take_manifest.new.package) c.in_err-listed.field-0.0 c.in_err-listed.ensures.handed_cause)
 
-pub returns-in_err-take_files-clause-agreed_cause : goal.returns-in_err-take_files-clause-agreed_cause
-returns-in_err-take_files-clause-agreed_cause g c =
-    climbs (λ why. IfAgreed (g.P.Package.handed c.args.package.now) (g.P.Package.handed c.take_files.new.package) (λ files. HasCause (Some files) (λ files stop. IsFirstStop files c.args.manifest.now stop) (λ files name. Comes files c.args.manifest.now name) (g.P.Package.faults c.args.package.now) (g.P.Package.faults c.take_files.new.package) (g.P.Package.lost c.take_files.new.package) why))
-    c.from_residual-in_err-take_files.result c.in_err-take_files.field-0.0 c.from_residual-in_err-take_files.ensures.1
-    (files_agreed (g.P.Package.handed c.args.package.now) (g.P.Package.handed c.take_manifest.new.package) (g.P.Package.handed c.take_files.new.package) c.args.manifest.now c.in_ok-listed.listed (board_so_far c.new-parts.result)
-    (g.P.Package.faults c.args.package.now) (g.P.Package.faults c.take_manifest.new.package) (g.P.Package.faults c.take_files.new.package) (g.P.Package.lost c.take_files.new.package) c.in_err-take_files.field-0.0
-    c.new-parts.ensures.empty c.take_manifest.ensures.later c.take_manifest.ensures.grows c.take_files.ensures.grows c.in_ok-listed.ensures.agreed
-    (subst (λ entries. IfAgreed (g.P.Package.handed c.take_manifest.new.package) (g.P.Package.handed c.take_files.new.package) (λ files. HasCause (Some files) (λ files stop. StopsAmong files entries (board_so_far c.new-parts.result) stop) (λ files name. ComesAmong files entries (board_so_far c.new-parts.result) name)
-    (g.P.Package.faults c.take_manifest.new.package) (g.P.Package.faults c.take_files.new.package) (g.P.Package.lost c.take_files.new.package) c.in_err-take_files.field-0.0)) c.as_slice.ensures c.in_err-take_files.ensures.agreed_cause))
+pub returns-in_err-take_files-clause-handed_cause : goal.returns-in_err-take_files-clause-handed_cause
+returns-in_err-take_files-clause-handed_cause g c =
+    let start = board_so_far c.new-parts.result in
+    let mid = g.P.Package.handed c.take_manifest.new.package in
+    let after = g.P.Package.handed c.take_files.new.package in
+    let why = c.in_err-take_files.field-0.0 in
+    climbs _ c.from_residual-in_err-take_files.result why c.from_residual-in_err-take_files.ensures.1
+    (files_handed (g.P.Package.handed c.args.package.now) mid after c.args.manifest.now c.in_ok-listed.listed start
+    (g.P.Package.faults c.args.package.now) (g.P.Package.faults c.take_manifest.new.package) (g.P.Package.faults c.take_files.new.package) (g.P.Package.lost c.take_files.new.package) why
+    c.new-parts.ensures.empty c.take_manifest.ensures.later c.in_ok-listed.ensures.handed
+    (subst (λ entries. HandedCause (λ stop. StopsAmongHanded entries (course mid start) after stop) (λ name. ComesAmongHanded entries (course mid start) after name)
+    (g.P.Package.faults c.take_manifest.new.package) (g.P.Package.faults c.take_files.new.package) (g.P.Package.lost c.take_files.new.package) why) c.as_slice.ensures c.in_err-take_files.ensures.handed_cause))
 
-pub returns-clause-agreed : goal.returns-clause-agreed
-returns-clause-agreed g c =
-    on_both c.framed.result (λ board. plain_board board ≡ board_so_far c.take_files.new.parts) (λ board. Fits (common_box (board_so_far c.take_files.new.parts).pieces)) (λ board. IfAgreed (g.P.Package.handed c.args.package.now) (g.P.Package.handed c.take_files.new.package) (λ files. IsBoardOf files c.args.manifest.now (plain_board board)))
-    (λ board made fits. board_agreed (g.P.Package.handed c.args.package.now) (g.P.Package.handed c.take_manifest.new.package) (g.P.Package.handed c.take_files.new.package) c.args.manifest.now c.in_ok-listed.listed (board_so_far c.new-parts.result) (board_so_far c.take_files.new.parts) (plain_board board)
-    c.new-parts.ensures.empty c.take_manifest.ensures.grows c.take_files.ensures.grows c.in_ok-listed.ensures.agreed (subst (λ entries. IfAgreed (g.P.Package.handed c.take_manifest.new.package) (g.P.Package.handed c.take_files.new.package) (λ files. Walks files entries (board_so_far c.new-parts.result) (board_so_far c.take_files.new.parts))) c.as_slice.ensures c.in_ok-take_files.ensures.agreed) fits made)
-    c.framed.ensures.ok c.framed.ensures.fits
-
-pub returns-clause-agreed_cause : goal.returns-clause-agreed_cause
-returns-clause-agreed_cause g c =
-    if_err c.framed.result (IsFrameFault (board_so_far c.take_files.new.parts)) (λ why. IfAgreed (g.P.Package.handed c.args.package.now) (g.P.Package.handed c.take_files.new.package) (λ files. HasCause (Some files) (λ files stop. IsFirstStop files c.args.manifest.now stop) (λ files name. Comes files c.args.manifest.now name) (g.P.Package.faults c.args.package.now) (g.P.Package.faults c.take_files.new.package) (g.P.Package.lost c.take_files.new.package) why))
-    (λ why fault. framed_agreed (g.P.Package.handed c.args.package.now) (g.P.Package.handed c.take_manifest.new.package) (g.P.Package.handed c.take_files.new.package) c.args.manifest.now c.in_ok-listed.listed (board_so_far c.new-parts.result) (board_so_far c.take_files.new.parts) (g.P.Package.faults c.args.package.now) (g.P.Package.faults c.take_files.new.package) (g.P.Package.lost c.take_files.new.package) why
-    c.new-parts.ensures.empty c.take_manifest.ensures.grows c.take_files.ensures.grows c.in_ok-listed.ensures.agreed (subst (λ entries. IfAgreed (g.P.Package.handed c.take_manifest.new.package) (g.P.Package.handed c.take_files.new.package) (λ files. Walks files entries (board_so_far c.new-parts.result) (board_so_far c.take_files.new.parts))) c.as_slice.ensures c.in_ok-take_files.ensures.agreed) fault)
+pub returns-clause-handed_cause : goal.returns-clause-handed_cause
+returns-clause-handed_cause g c =
+    let start = board_so_far c.new-parts.result in
+    let end = board_so_far c.take_files.new.parts in
+    let mid = g.P.Package.handed c.take_manifest.new.package in
+    let after = g.P.Package.handed c.take_files.new.package in
+    if_err c.framed.result (IsFrameFault end) (HandedCause (λ stop. IsFirstStopHanded (g.P.Package.handed c.args.package.now) after c.args.manifest.now stop) (λ name. ComesHanded (g.P.Package.handed c.args.package.now) after c.args.manifest.now name) (g.P.Package.faults c.args.package.now) (g.P.Package.faults c.take_files.new.package) (g.P.Package.lost c.take_files.new.package))
+    (λ why fault. framed_handed (g.P.Package.handed c.args.package.now) mid after c.args.manifest.now c.in_ok-listed.listed start end (g.P.Package.faults c.args.package.now) (g.P.Package.faults c.take_files.new.package) (g.P.Package.lost c.take_files.new.package) why
+    c.new-parts.ensures.empty c.in_ok-listed.ensures.handed (subst (λ entries. WalksBy GoesHanded entries (course mid start) (course after end)) c.as_slice.ensures c.in_ok-take_files.ensures.handed) fault)
     c.framed.ensures.fault

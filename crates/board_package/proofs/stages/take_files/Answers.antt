@@ -1,11 +1,9 @@
-use Rattle.std.proofs.Common.{rules, arith, ◌∙◌, Some}
-use Rattle.board_io.proofs.Agreeing.{grows_on}
-use Rattle.board_io.specs.Handed.{IfAgreed}
-use Rattle.board_package.proofs.Agreed.{climbs, entry_agreed, walked_agreed}
+use Rattle.std.proofs.Common.{rules, arith, ◌∙◌}
+use Rattle.board_package.proofs.Staging.{entry_handed}
 use Rattle.board_package.specs.Causes.{HasCause, KeepsFaults}
 use Rattle.board_package.specs.PackageBoard.{StopsAmong, ComesAmong}
 use Rattle.board_package.specs.Parts.{board_so_far}
-use Rattle.board_package.proofs.Lift.{faultless_both, kept_after}
+use Rattle.board_package.proofs.Lift.{climbs, faultless_both, kept_after}
 use Rattle.board_package.specs.HandedBoard.{GoesHanded, course}
 use Rattle.board_package.proofs.Taking.{entry_cause, entry_walked}
 use Rattle.board_package.proofs.Walking.{steps_more}
@@ -27,9 +25,6 @@ loop-entry-preserved g c = record {
   faultless = faultless_both _ _ _ _ _ _ c.loop-entry.invariant.faultless c.in_ok-take_entry.ensures.faultless;
   walked = entry_walked (g.P.Package.held c.args.package.now) (g.P.Package.held c.loop-entry.package) c.args.entries.now c.loop-entry.entry-index c.entry-item.result (board_so_far c.args.parts.now) (board_so_far c.loop-entry.parts) (board_so_far c.take_entry.new.parts)
       c.loop-entry-test.true c.entry-item.is c.loop-entry.invariant.held c.loop-entry.invariant.walked c.in_ok-take_entry.ensures.found;
-  grows = grows_on (g.P.Package.handed c.args.package.now) (g.P.Package.handed c.loop-entry.package) (g.P.Package.handed c.take_entry.new.package) c.loop-entry.invariant.grows c.take_entry.ensures.grows;
-  agreed = walked_agreed (g.P.Package.handed c.args.package.now) (g.P.Package.handed c.loop-entry.package) (g.P.Package.handed c.take_entry.new.package) c.args.entries.now c.loop-entry.entry-index c.entry-item.result (board_so_far c.args.parts.now) (board_so_far c.loop-entry.parts) (board_so_far c.take_entry.new.parts)
-      c.loop-entry-test.true c.entry-item.is c.loop-entry.invariant.grows c.take_entry.ensures.grows c.loop-entry.invariant.agreed c.in_ok-take_entry.ensures.agreed;
   handed = steps_more GoesHanded c.args.entries.now c.loop-entry.entry-index c.entry-item.result (course (g.P.Package.handed c.args.package.now) (board_so_far c.args.parts.now)) (course (g.P.Package.handed c.loop-entry.package) (board_so_far c.loop-entry.parts)) (course (g.P.Package.handed c.take_entry.new.package) (board_so_far c.take_entry.new.parts))
       c.loop-entry-test.true c.entry-item.is c.loop-entry.invariant.handed c.in_ok-take_entry.ensures.handed;
   parts = c.in_ok-take_entry.ensures.parts;
@@ -42,11 +37,9 @@ returns-in_err-take_entry-clause-kept g c =
     kept_after _ _ _ _ _ _ c.in_err-take_entry.field-0.0 c.loop-entry.invariant.faultless c.in_err-take_entry.ensures.kept in
     search (rules, fact)
 
-pub returns-in_err-take_entry-clause-agreed_cause : goal.returns-in_err-take_entry-clause-agreed_cause
-returns-in_err-take_entry-clause-agreed_cause g c =
-    climbs (λ why. IfAgreed (g.P.Package.handed c.args.package.now) (g.P.Package.handed c.take_entry.new.package) (λ files. HasCause (Some files) (λ files stop. StopsAmong files c.args.entries.now (board_so_far c.args.parts.now) stop) (λ files name. ComesAmong files c.args.entries.now (board_so_far c.args.parts.now) name)
-    (g.P.Package.faults c.args.package.now) (g.P.Package.faults c.take_entry.new.package) (g.P.Package.lost c.take_entry.new.package) why))
-    c.from_residual.result c.in_err-take_entry.field-0.0 c.from_residual.ensures.1
-    (entry_agreed (g.P.Package.handed c.args.package.now) (g.P.Package.handed c.loop-entry.package) (g.P.Package.handed c.take_entry.new.package) c.args.entries.now c.loop-entry.entry-index c.entry-item.result (board_so_far c.args.parts.now) (board_so_far c.loop-entry.parts)
+pub returns-in_err-take_entry-clause-handed_cause : goal.returns-in_err-take_entry-clause-handed_cause
+returns-in_err-take_entry-clause-handed_cause g c =
+    climbs _ c.from_residual.result c.in_err-take_entry.field-0.0 c.from_residual.ensures.1
+    (entry_handed c.args.entries.now c.loop-entry.entry-index c.entry-item.result (course (g.P.Package.handed c.args.package.now) (board_so_far c.args.parts.now)) (course (g.P.Package.handed c.loop-entry.package) (board_so_far c.loop-entry.parts)) (g.P.Package.handed c.take_entry.new.package)
     (g.P.Package.faults c.args.package.now) (g.P.Package.faults c.loop-entry.package) (g.P.Package.faults c.take_entry.new.package) (g.P.Package.lost c.take_entry.new.package) c.in_err-take_entry.field-0.0
-    c.loop-entry-test.true c.entry-item.is c.loop-entry.invariant.later c.loop-entry.invariant.grows c.take_entry.ensures.grows c.loop-entry.invariant.agreed c.in_err-take_entry.ensures.agreed_cause)
+    c.loop-entry-test.true c.entry-item.is c.loop-entry.invariant.later c.loop-entry.invariant.handed c.in_err-take_entry.ensures.handed_cause)

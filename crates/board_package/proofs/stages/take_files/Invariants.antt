@@ -1,5 +1,4 @@
 use Rattle.std.proofs.Common.{◌≡◌, ◌≤◌, IfSome, take}
-use Rattle.board_io.specs.Handed.{Grows, IfAgreed}
 use Rattle.board_io.specs.Package.{IsFaultless}
 use Rattle.board_package.specs.HandedBoard.{GoesHanded, course}
 use Rattle.board_package.specs.PackageBoard.{Walks, WalksBy}
@@ -12,8 +11,6 @@ invariant-loop-entry g l = record {
   later : g.P.Package.faults l.initial.package ≤ g.P.Package.faults l.package;
   faultless : IsFaultless (g.P.Package.faults l.initial.package) (g.P.Package.lost l.initial.package) (g.P.Package.faults l.package) (g.P.Package.lost l.package);
   walked : IfSome (g.P.Package.held l.initial.package) (λ files. Walks files (take l.entry-index l.entries) (board_so_far l.initial.parts) (board_so_far l.parts));
-  grows : Grows (g.P.Package.handed l.initial.package) (g.P.Package.handed l.package);
-  agreed : IfAgreed (g.P.Package.handed l.initial.package) (g.P.Package.handed l.package) (λ files. Walks files (take l.entry-index l.entries) (board_so_far l.initial.parts) (board_so_far l.parts));
   handed : WalksBy GoesHanded (take l.entry-index l.entries) (course (g.P.Package.handed l.initial.package) (board_so_far l.initial.parts)) (course (g.P.Package.handed l.package) (board_so_far l.parts));
   parts : IsLawfulParts l.parts;
   layers : l.parts.layers ≡ l.initial.parts.layers;

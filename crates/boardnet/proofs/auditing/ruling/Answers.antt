@@ -1,8 +1,9 @@
-use Rattle.std.proofs.Common.{◌∙◌, Some, ap, refl, subst, sym, Err}
+use Rattle.std.proofs.Common.{◌∙◌, ap, subst, sym, Err}
 use Rattle.std.proofs.lemmas.Result.{err_from_is_err_and}
+use Rattle.board_package.proofs.Lift.{climbs}
 use Rattle.board_shapes.specs.Plain.{plain_board}
-use Rattle.boardnet.proofs.Audits.{answered_by, ruled_by, unruled_works}
-use Rattle.boardnet.proofs.Working.{answered, stopped_at}
+use Rattle.boardnet.proofs.Audits.{answered_by, ruled_by, ruled_handed, unruled_handed, unruled_works}
+use Rattle.boardnet.proofs.Working.{answered}
 use Rattle.boardnet.specs.Ends.{Works}
 use Rattle.boardnet.specs.Words.{Audit}
 use Rattle.boardnet.proofs.auditing.ruling.Goals as goal
@@ -22,21 +23,14 @@ returns-clause-works g c =
     (ruled_by (g.P.Package.held c.args.package.now) c.args.manifest.now c.args.report.now (plain_board c.in_ok-board.board) c.taken.new.file.items c.as_slice.result.now c.in_ok-ruling.ruling
     c.in_ok-board.ensures.ok c.in_ok-ruling.ensures.one c.as_slice.ensures.value c.in_ok-ruling.ensures.ok) c.in_ok-answer_of.ensures)
 
-pub returns-in_err-board-clause-agreed : goal.returns-in_err-board-clause-agreed
-returns-in_err-board-clause-agreed g c = λ files w.
-    stopped_at (λ p. Some files) g.P.Package.faults g.P.Package.lost (Audit c.args.manifest.now c.args.report.now) c.args.package.now c.taken.new.package c.in_err-board.field-0.0 c.from_residual.result c.from_residual.ensures.1 refl c.taken.ensures.later c.in_err-board.ensures.left (c.in_err-board.ensures.agreed_cause files w)
+pub returns-in_err-ruling-clause-handed_reason : goal.returns-in_err-ruling-clause-handed_reason
+returns-in_err-ruling-clause-handed_reason g c =
+    climbs _ c.from_residual-in_err-ruling.result c.in_err-ruling.field-0.0 c.from_residual-in_err-ruling.ensures.1
+    (unruled_handed (g.P.Package.handed c.args.package.now) c.in_ok-board.ensures.handed.0 (g.P.Package.handed c.taken.new.package) c.args.manifest.now c.args.report.now (plain_board c.in_ok-board.board) c.taken.new.file.items c.as_slice.result.now
+    (g.P.Package.faults c.args.package.now) (g.P.Package.faults c.taken.new.package) (g.P.Package.lost c.taken.new.package) c.in_err-ruling.field-0.0
+    c.in_ok-board.ensures.handed.1 c.in_ok-board.ensures.handed.2 c.as_slice.ensures.value c.in_err-ruling.ensures.fault)
 
-pub returns-in_err-ruling-clause-agreed : goal.returns-in_err-ruling-clause-agreed
-returns-in_err-ruling-clause-agreed g c = λ files w.
-    let q = err_from_is_err_and c.from_residual-in_err-ruling.result c.from_residual-in_err-ruling.ensures.1 in
-    subst (Works (λ p. Some files) g.P.Package.faults g.P.Package.lost (Audit c.args.manifest.now c.args.report.now) c.args.package.now c.taken.new.package) (sym (q.1 ∙ ap Err q.2))
-    (unruled_works (λ p. Some files) g.P.Package.faults g.P.Package.lost c.args.manifest.now c.args.report.now c.args.package.now c.taken.new.package (plain_board c.in_ok-board.board) c.taken.new.file.items c.as_slice.result.now c.in_err-ruling.field-0.0
-    refl c.taken.ensures.later c.in_ok-board.ensures.calm (c.in_ok-board.ensures.agreed files w) c.as_slice.ensures.value c.in_err-ruling.ensures.fault)
-
-pub returns-clause-agreed : goal.returns-clause-agreed
-returns-clause-agreed g c = λ files w.
-    answered (λ p. Some files) g.P.Package.faults g.P.Package.lost (Audit c.args.manifest.now c.args.report.now) c.args.package.now c.taken.new.package c.in_ok-answer_of.field-0
-    refl c.taken.ensures.later c.in_ok-board.ensures.calm
-    (answered_by (Some files) c.args.manifest.now c.args.report.now c.in_ok-ruling.ruling c.in_ok-answer_of.field-0
-    (ruled_by (Some files) c.args.manifest.now c.args.report.now (plain_board c.in_ok-board.board) c.taken.new.file.items c.as_slice.result.now c.in_ok-ruling.ruling
-    (c.in_ok-board.ensures.agreed files w) c.in_ok-ruling.ensures.one c.as_slice.ensures.value c.in_ok-ruling.ensures.ok) c.in_ok-answer_of.ensures)
+pub returns-clause-handed : goal.returns-clause-handed
+returns-clause-handed g c =
+    ruled_handed (g.P.Package.handed c.args.package.now) c.in_ok-board.ensures.handed.0 (g.P.Package.handed c.taken.new.package) c.args.manifest.now c.args.report.now (plain_board c.in_ok-board.board) c.taken.new.file.items c.as_slice.result.now c.in_ok-ruling.ruling c.in_ok-answer_of.field-0
+    c.in_ok-board.ensures.handed.1 c.in_ok-board.ensures.handed.2 c.in_ok-ruling.ensures.one c.as_slice.ensures.value c.in_ok-ruling.ensures.ok c.in_ok-answer_of.ensures

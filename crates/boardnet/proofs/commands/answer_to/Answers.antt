@@ -1,30 +1,14 @@
-use Rattle.std.proofs.Common.{Some, sym, subst}
-use Rattle.board_io.specs.Handed.{IfAgreed}
+use Rattle.std.proofs.Common.{sym, subst, IfErr}
+use Rattle.boardnet.proofs.Accounts.{trial_reasons}
 use Rattle.boardnet.specs.Asked.{asked}
-use Rattle.boardnet.specs.Ends.{Works}
+use Rattle.boardnet.specs.HandedOutcome.{HasHandedReason, account_of}
 use Rattle.boardnet.specs.declared.words.Command.{Command as Given}
 use Rattle.boardnet.proofs.commands.answer_to.Goals as goal
 
-pub returns-in-Check-clause-agreed : goal.returns-in-Check-clause-agreed
-returns-in-Check-clause-agreed g c =
-    subst (λ (z : Given). IfAgreed (g.P.Package.handed c.args.package.now) (g.P.Package.handed c.report.new.package) (λ files. Works (λ p. Some files) g.P.Package.faults g.P.Package.lost (asked z) c.args.package.now c.report.new.package c.report.result)) (sym c.in-Check.is) c.report.ensures.agreed
-
-pub returns-in-Audit-clause-agreed : goal.returns-in-Audit-clause-agreed
-returns-in-Audit-clause-agreed g c =
-    subst (λ (z : Given). IfAgreed (g.P.Package.handed c.args.package.now) (g.P.Package.handed c.ruling.new.package) (λ files. Works (λ p. Some files) g.P.Package.faults g.P.Package.lost (asked z) c.args.package.now c.ruling.new.package c.ruling.result)) (sym c.in-Audit.is) c.ruling.ensures.agreed
-
-pub returns-in-Write-clause-agreed : goal.returns-in-Write-clause-agreed
-returns-in-Write-clause-agreed g c =
-    subst (λ (z : Given). IfAgreed (g.P.Package.handed c.args.package.now) (g.P.Package.handed c.netlist.new.package) (λ files. Works (λ p. Some files) g.P.Package.faults g.P.Package.lost (asked z) c.args.package.now c.netlist.new.package c.netlist.result)) (sym c.in-Write.is) c.netlist.ensures.agreed
-
-pub returns-in-Gaps-clause-agreed : goal.returns-in-Gaps-clause-agreed
-returns-in-Gaps-clause-agreed g c =
-    subst (λ (z : Given). IfAgreed (g.P.Package.handed c.args.package.now) (g.P.Package.handed c.gap_list.new.package) (λ files. Works (λ p. Some files) g.P.Package.faults g.P.Package.lost (asked z) c.args.package.now c.gap_list.new.package c.gap_list.result)) (sym c.in-Gaps.is) c.gap_list.ensures.agreed
-
-pub returns-in-X2-clause-agreed : goal.returns-in-X2-clause-agreed
-returns-in-X2-clause-agreed g c =
-    subst (λ (z : Given). IfAgreed (g.P.Package.handed c.args.package.now) (g.P.Package.handed c.labelled_report.new.package) (λ files. Works (λ p. Some files) g.P.Package.faults g.P.Package.lost (asked z) c.args.package.now c.labelled_report.new.package c.labelled_report.result)) (sym c.in-X2.is) c.labelled_report.ensures.agreed
-
-pub returns-in-Flatten-clause-agreed : goal.returns-in-Flatten-clause-agreed
-returns-in-Flatten-clause-agreed g c =
-    subst (λ (z : Given). IfAgreed (g.P.Package.handed c.args.package.now) (g.P.Package.handed c.flat_text.new.package) (λ files. Works (λ p. Some files) g.P.Package.faults g.P.Package.lost (asked z) c.args.package.now c.flat_text.new.package c.flat_text.result)) (sym c.in-Flatten.is) c.flat_text.ensures.agreed
+pub returns-in-Trial-clause-handed_reason : goal.returns-in-Trial-clause-handed_reason
+returns-in-Trial-clause-handed_reason g c =
+    let here = g.P.Package.handed c.args.package.now in
+    let count = g.P.Package.faults c.args.package.now in
+    let lost = g.P.Package.lost c.args.package.now in
+    subst (λ (z : Given). IfErr c.summary.result (HasHandedReason (account_of (asked z) here here) count count lost)) (sym c.in-Trial.is)
+    (trial_reasons c.in-Trial.seed c.in-Trial.size here here count count lost c.summary.result c.summary.ensures.reason)

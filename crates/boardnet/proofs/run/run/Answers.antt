@@ -1,4 +1,4 @@
-use Rattle.std.proofs.Common.{◌≡◌, ◌≤◌, ◌⊎◌, inl, inr, ℕ, List, Some, [], ◌∷◌, ◌++◌}
+use Rattle.std.proofs.Common.{◌≡◌, ◌≤◌, ◌⊎◌, inl, inr, ℕ, List, Some}
 use Rattle.board_io.specs.Causes.{Rose}
 use Rattle.board_io.specs.Sink.{Gains, GainsFrontOf}
 use Rattle.boardnet.proofs.Asking.{one_command, under_asked, under_command}
@@ -13,8 +13,8 @@ use Rattle.boardnet.specs.Asked.{asked}
 use Rattle.boardnet.specs.Ends.{Ends, HasText, TakesFiles}
 use Rattle.boardnet.specs.Lines.{Says}
 use Rattle.boardnet.specs.Outcome.{OutcomeOf, Refused, Told}
-use Rattle.boardnet.specs.HandedOutcome.{HandedOutcome}
-use Rattle.boardnet.specs.Words.{Check, Flatten, Gaps, Trial, Write}
+use Rattle.boardnet.specs.HandedOutcome.{EndsHanded, account_of}
+use Rattle.boardnet.specs.Words.{Audit, Check, Flatten, Gaps, Trial, Write, X2}
 use Rattle.boardnet.proofs.run.run.Goals as goal
 
 pub perform-requires : goal.perform-requires
@@ -150,23 +150,56 @@ returns-in-Some-clause-right g c = λ few.
     (λ files command. (text line : List ℕ) × OutcomeOf files command (Told text c.perform.result line) × Gains (g.S.Sink.got c.args.out.now) text (g.S.Sink.got c.perform.new.out) × Says g.N.Sink.got g.N.Sink.faults c.args.notes.now c.perform.new.notes line)
     c.in-Some.ensures.some (c.perform.ensures.ends.told few))
 
+pub returns-in-None-clause-handed : goal.returns-in-None-clause-handed
+returns-in-None-clause-handed g c = λ command is. absurd (c.in-None.ensures.none command is)
+
 pub returns-in-Some-clause-handed : goal.returns-in-Some-clause-handed
-returns-in-Some-clause-handed g c = λ few version name is.
+returns-in-Some-clause-handed g c =
     under_asked c.args.words.now (asked c.in-Some.command)
-    (λ command. (text line : List ℕ) × HandedOutcome (g.P.Package.handed c.args.package.now) (g.P.Package.handed c.perform.new.package) command text c.perform.result line × (g.S.Sink.handed c.perform.new.out ≡ g.S.Sink.handed c.args.out.now ++ text ∷ []) × Gains (g.S.Sink.got c.args.out.now) text (g.S.Sink.got c.perform.new.out))
-    c.in-Some.ensures.some (c.perform.ensures.handed few) (Check version name) is
+    (λ command. EndsHanded (account_of command (g.P.Package.handed c.args.package.now) (g.P.Package.handed c.perform.new.package)) (g.P.Package.lost c.perform.new.package) g.S.Sink.handed g.S.Sink.got g.N.Sink.got g.N.Sink.faults c.args.out.now c.perform.new.out c.args.notes.now c.perform.new.notes c.perform.result)
+    c.in-Some.ensures.some c.perform.ensures.handed
+
+pub returns-in-Some-clause-handed_right : goal.returns-in-Some-clause-handed_right
+returns-in-Some-clause-handed_right g c = λ few version name is.
+    let ends = under_asked c.args.words.now (asked c.in-Some.command)
+    (λ command. EndsHanded (account_of command (g.P.Package.handed c.args.package.now) (g.P.Package.handed c.perform.new.package)) (g.P.Package.lost c.perform.new.package) g.S.Sink.handed g.S.Sink.got g.N.Sink.got g.N.Sink.faults c.args.out.now c.perform.new.out c.args.notes.now c.perform.new.notes c.perform.result)
+    c.in-Some.ensures.some c.perform.ensures.handed (Check version name) is in
+    ends.told few
+
+pub returns-in-Some-clause-handed_ruling : goal.returns-in-Some-clause-handed_ruling
+returns-in-Some-clause-handed_ruling g c = λ few manifest report is.
+    let ends = under_asked c.args.words.now (asked c.in-Some.command)
+    (λ command. EndsHanded (account_of command (g.P.Package.handed c.args.package.now) (g.P.Package.handed c.perform.new.package)) (g.P.Package.lost c.perform.new.package) g.S.Sink.handed g.S.Sink.got g.N.Sink.got g.N.Sink.faults c.args.out.now c.perform.new.out c.args.notes.now c.perform.new.notes c.perform.result)
+    c.in-Some.ensures.some c.perform.ensures.handed (Audit manifest report) is in
+    ends.told few
 
 pub returns-in-Some-clause-handed_netlist : goal.returns-in-Some-clause-handed_netlist
 returns-in-Some-clause-handed_netlist g c = λ few name is.
-    under_asked c.args.words.now (asked c.in-Some.command)
-    (λ command. (text line : List ℕ) × HandedOutcome (g.P.Package.handed c.args.package.now) (g.P.Package.handed c.perform.new.package) command text c.perform.result line × (g.S.Sink.handed c.perform.new.out ≡ g.S.Sink.handed c.args.out.now ++ text ∷ []) × Gains (g.S.Sink.got c.args.out.now) text (g.S.Sink.got c.perform.new.out))
-    c.in-Some.ensures.some (c.perform.ensures.handed few) (Write name) is
+    let ends = under_asked c.args.words.now (asked c.in-Some.command)
+    (λ command. EndsHanded (account_of command (g.P.Package.handed c.args.package.now) (g.P.Package.handed c.perform.new.package)) (g.P.Package.lost c.perform.new.package) g.S.Sink.handed g.S.Sink.got g.N.Sink.got g.N.Sink.faults c.args.out.now c.perform.new.out c.args.notes.now c.perform.new.notes c.perform.result)
+    c.in-Some.ensures.some c.perform.ensures.handed (Write name) is in
+    ends.told few
 
 pub returns-in-Some-clause-handed_gaps : goal.returns-in-Some-clause-handed_gaps
 returns-in-Some-clause-handed_gaps g c = λ few name nanometres is.
-    under_asked c.args.words.now (asked c.in-Some.command)
-    (λ command. (text line : List ℕ) × HandedOutcome (g.P.Package.handed c.args.package.now) (g.P.Package.handed c.perform.new.package) command text c.perform.result line × (g.S.Sink.handed c.perform.new.out ≡ g.S.Sink.handed c.args.out.now ++ text ∷ []) × Gains (g.S.Sink.got c.args.out.now) text (g.S.Sink.got c.perform.new.out))
-    c.in-Some.ensures.some (c.perform.ensures.handed few) (Gaps name nanometres) is
+    let ends = under_asked c.args.words.now (asked c.in-Some.command)
+    (λ command. EndsHanded (account_of command (g.P.Package.handed c.args.package.now) (g.P.Package.handed c.perform.new.package)) (g.P.Package.lost c.perform.new.package) g.S.Sink.handed g.S.Sink.got g.N.Sink.got g.N.Sink.faults c.args.out.now c.perform.new.out c.args.notes.now c.perform.new.notes c.perform.result)
+    c.in-Some.ensures.some c.perform.ensures.handed (Gaps name nanometres) is in
+    ends.told few
+
+pub returns-in-Some-clause-handed_labels : goal.returns-in-Some-clause-handed_labels
+returns-in-Some-clause-handed_labels g c = λ few name is.
+    let ends = under_asked c.args.words.now (asked c.in-Some.command)
+    (λ command. EndsHanded (account_of command (g.P.Package.handed c.args.package.now) (g.P.Package.handed c.perform.new.package)) (g.P.Package.lost c.perform.new.package) g.S.Sink.handed g.S.Sink.got g.N.Sink.got g.N.Sink.faults c.args.out.now c.perform.new.out c.args.notes.now c.perform.new.notes c.perform.result)
+    c.in-Some.ensures.some c.perform.ensures.handed (X2 name) is in
+    ends.told few
+
+pub returns-in-Some-clause-handed_image : goal.returns-in-Some-clause-handed_image
+returns-in-Some-clause-handed_image g c = λ few name is.
+    let ends = under_asked c.args.words.now (asked c.in-Some.command)
+    (λ command. EndsHanded (account_of command (g.P.Package.handed c.args.package.now) (g.P.Package.handed c.perform.new.package)) (g.P.Package.lost c.perform.new.package) g.S.Sink.handed g.S.Sink.got g.N.Sink.got g.N.Sink.faults c.args.out.now c.perform.new.out c.args.notes.now c.perform.new.notes c.perform.result)
+    c.in-Some.ensures.some c.perform.ensures.handed (Flatten name) is in
+    ends.told few
 
 pub returns-in-None-clause-agreed : goal.returns-in-None-clause-agreed
 returns-in-None-clause-agreed g c = λ files w command is. absurd (c.in-None.ensures.none command is)
