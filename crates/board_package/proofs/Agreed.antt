@@ -131,20 +131,20 @@ module _ (f : Files) (a b : List Handed) (w : AgreeWith f a b) where
   stop_is name stop (inr h) =
       let g = grows_handed a h.first name h.manifest.bytes h.manifest.handed in
       elim h.stops [
-      | inl s ↦
-          let i = grows_one f _ _ GoesHanded (Goes f) b _ _ (follows f) (stops_in f b stop) _ _ s in
-          inr (record {
-            listed = h.listed;
-            manifest = held_with f a h.first name _ (agree_front f a h.first b g i w) h.manifest;
-            stops = inl (at_one f _ _ GoesHanded (Goes f) b _ _ (follows f) (stops_in f b stop) _ _ (agree_back f a h.first b g i w) s);
-          })
-      | inr s ↦
-          let i = grows_walk f _ _ GoesHanded (Goes f) (follows f) _ _ _ s.walked in
-          inr (record {
-            listed = h.listed;
-            manifest = held_with f a h.first name _ (agree_front f a h.first b g i w) h.manifest;
-            stops = inr (record { board = s.board; walked = walks f _ _ GoesHanded (Goes f) (follows f) _ _ _ (agree_back f a h.first b g i w) s.walked; frame = s.frame });
-          })
+        | inl s ↦
+            let i = grows_one f _ _ GoesHanded (Goes f) b _ _ (follows f) (stops_in f b stop) _ _ s in
+            inr (record {
+              listed = h.listed;
+              manifest = held_with f a h.first name _ (agree_front f a h.first b g i w) h.manifest;
+              stops = inl (at_one f _ _ GoesHanded (Goes f) b _ _ (follows f) (stops_in f b stop) _ _ (agree_back f a h.first b g i w) s);
+            })
+        | inr s ↦
+            let i = grows_walk f _ _ GoesHanded (Goes f) (follows f) _ _ _ s.walked in
+            inr (record {
+              listed = h.listed;
+              manifest = held_with f a h.first name _ (agree_front f a h.first b g i w) h.manifest;
+              stops = inr (record { board = s.board; walked = walks f _ _ GoesHanded (Goes f) (follows f) _ _ _ (agree_back f a h.first b g i w) s.walked; frame = s.frame });
+            })
       ]
 
   comes_is : (name other : List ℕ) → ComesHanded a b name other → Comes f name other
@@ -203,20 +203,20 @@ module _ (f : Files) (a b : List Handed) (w : AgreeWith f a b) where
   labelled_stop_is name stop (inr h) =
       let g = grows_handed a h.first name h.manifest.bytes h.manifest.handed in
       elim h.stops [
-      | inl s ↦
-          let i = grows_one f _ _ GoesLabelledHanded (GoesLabelled f) b _ _ (follows_labelled f) (labelled_stops_in f b stop) _ _ s in
-          inr (record {
-            listed = h.listed;
-            manifest = held_with f a h.first name _ (agree_front f a h.first b g i w) h.manifest;
-            stops = inl (at_one f _ _ GoesLabelledHanded (GoesLabelled f) b _ _ (follows_labelled f) (labelled_stops_in f b stop) _ _ (agree_back f a h.first b g i w) s);
-          })
-      | inr s ↦
-          let i = grows_walk f _ _ GoesLabelledHanded (GoesLabelled f) (follows_labelled f) _ _ _ s.walked in
-          inr (record {
-            listed = h.listed;
-            manifest = held_with f a h.first name _ (agree_front f a h.first b g i w) h.manifest;
-            stops = inr (record { end = s.end; walked = walks f _ _ GoesLabelledHanded (GoesLabelled f) (follows_labelled f) _ _ _ (agree_back f a h.first b g i w) s.walked; frame = s.frame });
-          })
+        | inl s ↦
+            let i = grows_one f _ _ GoesLabelledHanded (GoesLabelled f) b _ _ (follows_labelled f) (labelled_stops_in f b stop) _ _ s in
+            inr (record {
+              listed = h.listed;
+              manifest = held_with f a h.first name _ (agree_front f a h.first b g i w) h.manifest;
+              stops = inl (at_one f _ _ GoesLabelledHanded (GoesLabelled f) b _ _ (follows_labelled f) (labelled_stops_in f b stop) _ _ (agree_back f a h.first b g i w) s);
+            })
+        | inr s ↦
+            let i = grows_walk f _ _ GoesLabelledHanded (GoesLabelled f) (follows_labelled f) _ _ _ s.walked in
+            inr (record {
+              listed = h.listed;
+              manifest = held_with f a h.first name _ (agree_front f a h.first b g i w) h.manifest;
+              stops = inr (record { end = s.end; walked = walks f _ _ GoesLabelledHanded (GoesLabelled f) (follows_labelled f) _ _ _ (agree_back f a h.first b g i w) s.walked; frame = s.frame });
+            })
       ]
 
   labelled_comes_is : (name other : List ℕ) → LabelledComesHanded a b name other → LabelledComes f name other

@@ -33,6 +33,8 @@ returns-in_err-take_file-clause-handed_cause g c =
     c.in_ok-report.ensures.ok c.board_of.ensures.later c.in_ok-board.ensures.handed c.in_err-take_file.ensures.handed_cause)
 
 pub returns-clause-handed : goal.returns-clause-handed
-returns-clause-handed g c =
-    (g.P.Package.handed c.board_of.new.package, c.in_ok-board.ensures.handed,
-    subst (λ (m : List ℕ). IsHanded (g.P.Package.handed c.board_of.new.package) (g.P.Package.handed c.take_file.new.package) m c.take_file.new.file.items) c.in_ok-report.ensures.ok c.in_ok-take_file.ensures.handed)
+returns-clause-handed g c = (
+  g.P.Package.handed c.board_of.new.package,
+  c.in_ok-board.ensures.handed,
+  subst (λ (m : List ℕ). IsHanded (g.P.Package.handed c.board_of.new.package) (g.P.Package.handed c.take_file.new.package) m c.take_file.new.file.items) c.in_ok-report.ensures.ok c.in_ok-take_file.ensures.handed,
+)
