@@ -99,6 +99,11 @@ sound_audit manifest report = record {
 
 -- What `run` says of it, by its words.
 -- an audit that has an answer answers its status
+pub of_audit : (held : Option Files) (words : List (String Global)) (P : Files → Command → Type 0) → ((c : Command) → Asks words c → OfFilesRead c held (λ files. P files c))
+    → IfSome held (λ files. (manifest report : List ℕ) → IsAudit words manifest report → P files (Audit manifest report))
+of_audit None words P h = tt
+of_audit (Some files) words P h = λ manifest report is. h (Audit manifest report) is
+
 pub answered_named : (held : Option Files) (words : List (String Global)) (A B : Type 0) (status : ℕ) (G L : List ℕ → Type 0)
     → ((files : Files) (manifest : List ℕ) → HasOneOutcome files manifest) → ReportTextIsInjective
     → (status ≤ 1 → (c : Command) → Asks words c → OfFilesRead c held (λ f. (text line : List ℕ) × OutcomeOf f c (Told text status line) × G text × L line)) → Completes held words A B status

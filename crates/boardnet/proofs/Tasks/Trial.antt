@@ -1,5 +1,5 @@
 -- What holds of the command `trial`.
-use Rattle.std.proofs.Common.{ℕ, refl, arith, inl, inr}
+use Rattle.std.proofs.Common.{ℕ, List, refl, arith, inl, inr}
 use Rattle.board_maker.specs.MadePackage.{made_files}
 use Rattle.board_io.specs.Handed.{Handed}
 use Rattle.board_io.specs.Package.{Files}

@@ -3,7 +3,7 @@ use Rattle.board_io.specs.Causes.{Rose}
 use Rattle.board_io.specs.Sink.{Gains, GainsFrontOf}
 use Rattle.boardnet.proofs.Asking.{one_command, under_asked, under_command}
 use Rattle.boardnet.proofs.Tasks.{sound}
-use Rattle.boardnet.proofs.Tasks.Audit.{answered_named}
+use Rattle.boardnet.proofs.Tasks.Audit.{answered_named, of_audit}
 use Rattle.boardnet.proofs.Tasks.Check.{checked_named, of_check}
 use Rattle.boardnet.proofs.Tasks.Flatten.{of_flatten, rewritten_named}
 use Rattle.boardnet.proofs.Tasks.Gaps.{listed_named, of_gaps}
@@ -54,6 +54,14 @@ returns-in-Some-clause-tried g c = λ few seed size is.
 pub returns-in-Some-clause-gapped : goal.returns-in-Some-clause-gapped
 returns-in-Some-clause-gapped g c = λ few.
     of_gaps (g.P.Package.held c.args.package.now) c.args.words.now
+    (λ files command. (text line : List ℕ) × OutcomeOf files command (Told text c.perform.result line) × Gains (g.S.Sink.got c.args.out.now) text (g.S.Sink.got c.perform.new.out) × Says g.N.Sink.got g.N.Sink.faults c.args.notes.now c.perform.new.notes line)
+    (under_command (g.P.Package.held c.args.package.now) c.args.words.now (asked c.in-Some.command)
+    (λ files command. (text line : List ℕ) × OutcomeOf files command (Told text c.perform.result line) × Gains (g.S.Sink.got c.args.out.now) text (g.S.Sink.got c.perform.new.out) × Says g.N.Sink.got g.N.Sink.faults c.args.notes.now c.perform.new.notes line)
+    c.in-Some.ensures.some (c.perform.ensures.ends.told few))
+
+pub returns-in-Some-clause-audited : goal.returns-in-Some-clause-audited
+returns-in-Some-clause-audited g c = λ few.
+    of_audit (g.P.Package.held c.args.package.now) c.args.words.now
     (λ files command. (text line : List ℕ) × OutcomeOf files command (Told text c.perform.result line) × Gains (g.S.Sink.got c.args.out.now) text (g.S.Sink.got c.perform.new.out) × Says g.N.Sink.got g.N.Sink.faults c.args.notes.now c.perform.new.notes line)
     (under_command (g.P.Package.held c.args.package.now) c.args.words.now (asked c.in-Some.command)
     (λ files command. (text line : List ℕ) × OutcomeOf files command (Told text c.perform.result line) × Gains (g.S.Sink.got c.args.out.now) text (g.S.Sink.got c.perform.new.out) × Says g.N.Sink.got g.N.Sink.faults c.args.notes.now c.perform.new.notes line)
