@@ -1,5 +1,5 @@
 -- What the commands come to by the files that the package handed over in the call, whether it tells what it holds or not.
-use Rattle.std.specs.Prelude.{◌≡◌, ◌≤◌, ℕ, List, [], ◌∷◌, ◌++◌, Option, Result, IfOk}
+use Rattle.std.specs.Prelude.{◌≡◌, ◌≤◌, ℕ, List, [], ◌∷◌, ◌++◌, Option}
 use Rattle.board_io.specs.Handed.{Handed}
 use Rattle.board_io.specs.Sink.{Gains, GainsFrontOf}
 use Rattle.board_package.specs.Causes.{HandedCause}

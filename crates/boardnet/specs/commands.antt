@@ -46,7 +46,7 @@ abbrev command_in : List (List ℕ × (List (List ℕ) → Option Command)) → 
 command_in [] word behind = None
 command_in (entry ∷ entries) word behind = if bytes_eq entry.0 word then entry.1 behind else command_in entries word behind
 
--- the command that words so spelled can ask for
+-- the one command that words so spelled may ask for: whether they do is for its `asks` to say
 abbrev pub command_of_words : List (List ℕ) → Option Command
 command_of_words [] = None
 command_of_words (word ∷ behind) = command_in names word behind

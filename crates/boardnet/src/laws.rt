@@ -5,7 +5,7 @@ ghost use Rattle.boardnet.specs.Laws.{ReportsPass, WrittenNetlistsPass};
 use board_package::laws as packages;
 use netlist_writer::laws as netlists;
 
-/// Unless a name was handed over twice, there are files that agree with all that was handed over: so what is said of all such
+/// Unless a name was handed over twice with other bytes, there are files that agree with all that was handed over: so what is said of all such
 /// files is said of some.
 pub fn files_agree()
     ensures { FilesAgree }

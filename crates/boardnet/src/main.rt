@@ -23,7 +23,6 @@ mod lines;
 mod putting;
 mod refusing;
 pub mod run;
-pub mod shipped;
 #[cfg(test)]
 mod tests;
 mod trial;
@@ -31,7 +30,7 @@ mod words;
 mod writing;
 
 use board_io::{FolderPackage, StreamSink};
-use shipped::run_shipped;
+use run::run;
 use std::env;
 use std::io::ErrorKind;
 use std::process::ExitCode;
@@ -59,7 +58,7 @@ fn main(rt: HostRuntime) -> ExitCode {
             let mut notes = StreamSink::new(rt.stderr());
             let alloc = rt.alloc();
             let mut package = FolderPackage::new(rt);
-            run_shipped(alloc, words.as_slice(), &mut package, &mut out, &mut notes)
+            run(alloc, words.as_slice(), &mut package, &mut out, &mut notes)
         }
         Err(status) => status,
     };

@@ -56,8 +56,8 @@ pub fn run<P: Package, S: Sink, N: Sink>(
         → (text line : List ℕ) × IsReport files version name text result line
         × Gains (S.got out.old) text (S.got out.new) × Says N.got N.faults notes.old notes.new line) }
 
-    // Of whatever package and sinks, also those that tell nothing: what is said above and below of the files that the package
-    // tells is said of what it handed over in this call, entry by entry, so that a name that was taken twice is no hole. 0 and 1:
+    // Of whatever package and sinks, also those that tell nothing: what is said of 0, 1, 3, 4 and 5 of the files that the
+    // package tells is said of what it handed over in this call, entry by entry, so that a name that was taken twice is no hole. 0 and 1:
     // the files of the command's order were handed over, one by one, and nothing else; `out` was handed exactly one text, in one
     // piece, and it is the command's text for these very bytes. 3: the refusal is the first of these very bytes. 4: the file
     // comes next behind them.

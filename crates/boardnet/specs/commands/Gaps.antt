@@ -47,7 +47,8 @@ abbrev pub GapsOutcome : Files → List ℕ → ℕ → Outcome → Type 0
 GapsOutcome files manifest nanometres (Told text status line) = IsGapped files manifest nanometres text status line
 GapsOutcome files manifest nanometres (Refused line) = IsRefusal files manifest line ⊎ IsGrownRefusal files manifest nanometres line
 
--- The same, and this is the list of gaps of that board.
+-- The manifest and the files of its order were handed over, and nothing else; they make a board, and this is the list of its gaps,
+-- with the status and the line.
 pub record IsHandedGaps (before after : List Handed) (manifest : List ℕ) (nanometres : ℕ) (text : List ℕ) (status : ℕ) (line : List ℕ) : Type 0 where
   pub board : PlainBoard
   pub board_is : IsBoardHanded before after manifest board

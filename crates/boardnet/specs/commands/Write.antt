@@ -37,7 +37,8 @@ abbrev pub WriteOutcome : Files → List ℕ → Outcome → Type 0
 WriteOutcome files manifest (Told text status line) = IsWritten files manifest text status line
 WriteOutcome files manifest (Refused line) = IsRefusal files manifest line
 
--- The same, and this is the netlist of that board.
+-- The manifest and the files of its order were handed over, and nothing else; they make a board within the limits of a package,
+-- and this is the written netlist of it for the nets of a right verdict on it, with the status and the line.
 pub record IsHandedNetlist (before after : List Handed) (manifest text : List ℕ) (status : ℕ) (line : List ℕ) : Type 0 where
   pub board : PlainBoard
   pub board_is : IsBoardHanded before after manifest board
