@@ -1,0 +1,3 @@
+pub mod Agreeing
+mod Edge
+mod Notes

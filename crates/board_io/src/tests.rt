@@ -24,6 +24,28 @@ fn files_of_the_system(rt: HostRuntime) -> Result<(), Fail> {
     Ok(())
 }
 
+// Files about the size of the buffer, and one of many buffers: what the sink puts, the package hands over.
+#[test]
+fn sizes_of_files(rt: HostRuntime) -> Result<(), Fail> {
+    let mut into = Vec::new(rt.alloc());
+    let mut bytes = Vec::new(rt.alloc());
+    let mut package = FolderPackage::new(rt);
+    for size in &[0, 1, 4095, 4096, 4097, 1_000_000] {
+        bytes.clear();
+        for place in 0..*size {
+            bytes.push((place % 251) as u8)?;
+        }
+        let mut sink = StreamSink::new(fs::create(&rt, "board_io_size.txt")?);
+        assert_eq!(rt; sink.put(bytes.as_slice()), Put::Done);
+        assert_eq!(rt;
+            package.take("board_io_size.txt", *size, &mut into),
+            Take::Whole
+        );
+        assert!(rt; into.as_slice() == bytes.as_slice());
+    }
+    Ok(())
+}
+
 #[test]
 fn memory_that_fails(rt: HostRuntime) -> Result<(), Fail> {
     let alloc = rt.alloc();

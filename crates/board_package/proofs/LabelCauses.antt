@@ -1,7 +1,6 @@
 -- Causes of a labelled board, carried from one stage to the next.
 use Rattle.std.proofs.Common.{◌≡◌, inl, inr, ℕ, ◌+◌, ◌<◌, ◌≤◌, Bool, true, List, [], ◌∷◌, length, take, get_or, Option, IfSome, Result, Ok, Err, IfErr, OnOk, refl, sym, ap, ◌∙◌, subst, arith}
 use Rattle.std.specs.List.{filter}
-use Rattle.std.specs.Result.{IsErrAnd}
 use Rattle.board_io.specs.Package.{Files, IsFaultless}
 use Rattle.board_shapes.specs.Plain.{PlainBoard, common_box, Fits}
 use Rattle.x2_nets.specs.declared.table.Label.{Label}
@@ -29,11 +28,6 @@ pub nothing_yet : (board : PlainBoard) (tables : List (List Label)) (layers : �
 nothing_yet board tables layers p q = ap (λ (b : PlainBoard). record { board = b; tables = tables }) p ∙ ap (λ (t : List (List Label)). record { board = empty_board layers; tables = t }) q
 
 -- ---- Answers of `?`
-
--- a fault that climbs
-pub climbs : {B : Type 0} (P : LabelledFault → Type 0) (result : Result B LabelledFault) (why : LabelledFault) → IsErrAnd result (λ f. f ≡ why) → P why → IfErr result P
-climbs P (Ok x) why e p = tt
-climbs P (Err f) why e p = subst P (sym e) p
 
 pub on_ok : {B : Type 0} (result : Result B LabelledFault) (P Q : Type 0) → (P → Q) → OnOk result P → OnOk result Q
 on_ok (Ok x) P Q k h = k h
@@ -67,7 +61,7 @@ pub record CarriesLabelled (S T : LabelledStop → Type 0) (C D : List ℕ → T
   pub stops : (stop : LabelledStop) → S stop → T stop
   pub comes : (name : List ℕ) → C name → D name
 
-lift_labelled : (held : Option Files) (S T : Files → LabelledStop → Type 0) (C D : Files → List ℕ → Type 0) (before mid now : ℕ) (lost : List ℕ) (why : LabelledFault)
+pub lift_labelled : (held : Option Files) (S T : Files → LabelledStop → Type 0) (C D : Files → List ℕ → Type 0) (before mid now : ℕ) (lost : List ℕ) (why : LabelledFault)
     → IfSome held (λ files. CarriesLabelled (S files) (T files) (C files) (D files)) → before ≤ mid → HasLabelledCause held S C mid now lost why → HasLabelledCause held T D before now lost why
 lift_labelled held S T C D before mid now lost (fault.Build why) carries le h =
     lift held (λ files stop. S files (unbuilt stop)) (λ files stop. T files (unbuilt stop)) C D before mid now lost why
@@ -78,7 +72,7 @@ lift_labelled held S T C D before mid now lost (fault.Label name command at) car
 
 -- ---- One file, which is no netlist
 
-only : (e : Entry) → is_board_file e.role ≡ true → filter with_board (e ∷ []) ≡ e ∷ []
+pub only : (e : Entry) → is_board_file e.role ≡ true → filter with_board (e ∷ []) ≡ e ∷ []
 only e is = rw is refl
 
 -- what stops its taking
@@ -173,7 +167,7 @@ files_labelled_cause held after manifest listed start before between now lost wh
     later (subst (λ h. HasLabelledCause h S C between now lost why) same cause)
 
 -- the frame of a board is that of its pieces, whatever its probes
-frame_of_pieces : (tables : List (List Label)) (b : PlainBoard) (stop : Stop) → StopsAtFrame (labelled_board_of tables b) stop → StopsAtFrame b stop
+pub frame_of_pieces : (tables : List (List Label)) (b : PlainBoard) (stop : Stop) → StopsAtFrame (labelled_board_of tables b) stop → StopsAtFrame b stop
 frame_of_pieces tables b (absent name) s = s
 frame_of_pieces tables b (longer name) s = s
 frame_of_pieces tables b not_json s = s

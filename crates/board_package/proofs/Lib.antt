@@ -1,3 +1,4 @@
+pub mod Agreed
 pub mod CutOff
 pub mod Entries
 pub mod Form
@@ -5,6 +6,7 @@ pub mod Halting
 pub mod JsonBrackets
 pub mod JsonPrefix
 pub mod LabelCauses
+pub mod LabelStaging
 pub mod LabelledOutcome
 pub mod Lift
 pub mod Listed
@@ -12,5 +14,6 @@ pub mod Named
 pub mod Names
 pub mod OnPieces
 pub mod OneOutcome
+pub mod Staging
 pub mod Taking
 pub mod Walking

@@ -1,5 +1,6 @@
 -- Causes, carried from one stage to the next.
-use Rattle.std.proofs.Common.{inl, inr, ℕ, ◌≤◌, List, Option, Some, None, IfSome, Result, Ok, Err, IfErr, OnOk, sym, ◌∙◌, subst, arith}
+use Rattle.std.proofs.Common.{◌≡◌, inl, inr, ℕ, ◌≤◌, List, Option, Some, None, IfSome, Result, Ok, Err, IfErr, OnOk, sym, ◌∙◌, subst, arith}
+use Rattle.std.specs.Result.{IsErrAnd}
 use Rattle.board_io.specs.Causes.{Rose}
 use Rattle.board_io.specs.Package.{Files, IsFaultless}
 use Rattle.board_shapes.specs.Plain.{PlainBoard}
@@ -9,6 +10,11 @@ use Rattle.board_package.specs.declared.fault.BuildFault.{BuildFault}
 use Rattle.board_package.specs.declared.fault.BuildFault.TheVariants as fault
 use Rattle.board_package.specs.declared.reading.Refusal.{Refusal}
 use Rattle.board_package.specs.declared.reading.Refusal.TheVariants as refusal
+
+-- a fault that climbs
+pub climbs : {B E : Type 0} (P : E → Type 0) (result : Result B E) (why : E) → IsErrAnd result (λ f. f ≡ why) → P why → IfErr result P
+climbs P (Ok x) why e p = tt
+climbs P (Err f) why e p = subst P (sym e) p
 
 -- two facts of the files that are told, and a third that follows
 pub told : (held : Option Files) (A B C : Files → Type 0) → ((files : Files) → A files → B files → C files) → IfSome held A → IfSome held B → IfSome held C
@@ -114,3 +120,17 @@ faultless_ok (Err why) a l b m h = tt
 pub if_err : {B : Type 0} (r : Result B BuildFault) (P Q : BuildFault → Type 0) → ((why : BuildFault) → P why → Q why) → IfErr r P → IfErr r Q
 if_err (Ok x) P Q k h = tt
 if_err (Err why) P Q k h = k why h
+
+-- a cause told of other files
+pub retold : (held other : Option Files) (S T : Files → Stop → Type 0) (C D : Files → List ℕ → Type 0) (before now : ℕ) (lost : List ℕ) (why : BuildFault)
+    → ((stop : Stop) → IfSome held (λ files. S files stop) → IfSome other (λ files. T files stop)) → ((name : List ℕ) → IfSome held (λ files. C files name) → IfSome other (λ files. D files name))
+    → HasCause held S C before now lost why → HasCause other T D before now lost why
+retold held other S T C D before now lost fault.NotJson s c h = s not_json h
+retold held other S T C D before now lost fault.BadManifest s c h = s bad_manifest h
+retold held other S T C D before now lost (fault.Longer name) s c h = s (longer name) h
+retold held other S T C D before now lost (fault.CannotRead name) s c h = record { rose = h.rose; lost_is = h.lost_is; comes = c name h.comes }
+retold held other S T C D before now lost (fault.Layer name kind command at) s c h = s (refused name (refusal.Layer kind command at)) h
+retold held other S T C D before now lost (fault.Drill name kind line at) s c h = s (refused name (refusal.Drill kind line at)) h
+retold held other S T C D before now lost (fault.Netlist name kind line) s c h = s (refused name (refusal.Netlist kind line)) h
+retold held other S T C D before now lost (fault.FrameTooLarge box) s c h = s (frame_too_large box) h
+retold held other S T C D before now lost fault.NoMemory s c h = tt

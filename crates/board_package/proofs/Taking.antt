@@ -10,7 +10,7 @@ use Rattle.board_package.specs.declared.entry.Entry.{Entry}
 use Rattle.board_package.specs.declared.fault.BuildFault.{BuildFault}
 use Rattle.board_package.specs.declared.manifest.Manifest.{Manifest}
 use Rattle.board_package.proofs.Lift.{Carries, lift, told, told_of, told_all, frame_cause, refusal_cause}
-use Rattle.board_package.proofs.Walking.{at_one, walk_more}
+use Rattle.board_package.proofs.Walking.{at_one_of, steps_more}
 
 -- a file that is held, with what holds of its bytes
 pub held_with : (held : Option Files) (name bytes seen : List ℕ) (P : List ℕ → Type 0) → IfSome held (λ files. IsHeld files name bytes) → seen ≡ bytes → P seen → IfSome held (λ files. IsHeldWith files name P)
@@ -40,8 +40,8 @@ entry_cause held after entries i entry start mid before between now lost why bel
     lift held S T C D before between now lost why
     (told_of held (λ files. Walks files (take i entries) start mid) (λ files. Carries (S files) (T files) (C files) (D files))
     (λ files w. record {
-      stops = λ stop s. at_one files entries i entry start mid (λ e b. StopsAt files e b stop) below w (subst (λ e. StopsAt files e mid stop) here s);
-      comes = λ name s. at_one files entries i entry start mid (λ e b. e.name ≡ name) below w (subst (λ (e : Entry). e.name ≡ name) here s);
+      stops = λ stop s. at_one_of (Goes files) entries i entry start mid (λ e b. StopsAt files e b stop) below here w s;
+      comes = λ name s. at_one_of (Goes files) entries i entry start mid (λ e b. e.name ≡ name) below here w s;
     }) walked)
     later (subst (λ h. HasCause h S C between now lost why) same cause)
 
@@ -50,7 +50,7 @@ pub entry_walked : (held after : Option Files) (entries : List Entry) (i : ℕ) 
     → IfSome held (λ files. Walks files (take i entries) start mid) → IfSome after (λ files. Goes files entry mid end) → IfSome held (λ files. Walks files (take (i + 1) entries) start end)
 entry_walked held after entries i entry start mid end below here same walked goes =
     told held (λ files. Walks files (take i entries) start mid) (λ files. Goes files entry mid end) (λ files. Walks files (take (i + 1) entries) start end)
-    (λ files w g. walk_more files entries i entry start mid end below w (subst (λ e. Goes files e mid end) here g)) walked (subst (λ h. IfSome h (λ files. Goes files entry mid end)) same goes)
+    (λ files w g. steps_more (Goes files) entries i entry start mid end below here w g) walked (subst (λ h. IfSome h (λ files. Goes files entry mid end)) same goes)
 
 -- a cause of the manifest's stage is one of the package
 pub manifest_cause : (held : Option Files) (manifest : List ℕ) (before now : ℕ) (lost : List ℕ) (why : BuildFault) → before ≤ before

@@ -3,9 +3,7 @@ use Rattle.std.proofs.Common.{◌≡◌, inl, inr, ℕ, ◌+◌, ◌<◌, Bool, 
 use Rattle.std.proofs.lemmas.List.{take_more, take-append-drop}
 use Rattle.std.proofs.lemmas.List.Elements.{filter-append}
 use Rattle.std.specs.List.{filter}
-use Rattle.board_io.specs.Package.{Files}
-use Rattle.board_shapes.specs.Plain.{PlainBoard}
-use Rattle.board_package.specs.PackageBoard.{AtOne, AtOneBy, Goes, Walks, WalksBy}
+use Rattle.board_package.specs.PackageBoard.{AtOneBy, WalksBy}
 use Rattle.board_package.specs.declared.entry.Entry.{Entry}
 
 -- two walks, one after the other
@@ -23,19 +21,19 @@ at_one_before Step [] back start P h = absurd h
 at_one_before Step (d ∷ front) back start P (inl h) = inl h
 at_one_before Step (d ∷ front) back start P (inr h) = inr (h.0, h.1, at_one_before Step front back h.0 P h.2)
 
--- one file more
-pub walk_more : (files : Files) (entries : List Entry) (i : ℕ) (d : Entry) (start mid end : PlainBoard) → i < length entries → Walks files (take i entries) start mid → Goes files (get_or entries i d) mid end → Walks files (take (i + 1) entries) start end
-walk_more files entries i d start mid end below w g =
-    subst (λ xs. Walks files xs start end) (sym (take_more entries i d below)) (walks_on (Goes files) (take i entries) (get_or entries i d ∷ []) start mid end w (end, g, refl))
+-- one step more
+pub steps_more : {S : Type 0} (Step : Entry → S → S → Type 0) (entries : List Entry) (i : ℕ) (e : Entry) (start mid end : S) → i < length entries → e ≡ get_or entries i e → WalksBy Step (take i entries) start mid → Step e mid end → WalksBy Step (take (i + 1) entries) start end
+steps_more Step entries i e start mid end below here w s =
+    subst (λ xs. WalksBy Step xs start end) (sym (take_more entries i e below)) (walks_on Step (take i entries) (get_or entries i e ∷ []) start mid end w (end, subst (λ (x : Entry). Step x mid end) here s, refl))
 
 split_at : (entries : List Entry) (i : ℕ) (d : Entry) → i < length entries → entries ≡ take i entries ++ get_or entries i d ∷ drop (i + 1) entries
 split_at entries i d below =
     sym (take-append-drop (i + 1) entries) ∙ (ap (λ (xs : List Entry). xs ++ drop (i + 1) entries) (take_more entries i d below) ∙ simp append_assoc)
 
--- P holds at a file, and those before it are read
-pub at_one : (files : Files) (entries : List Entry) (i : ℕ) (d : Entry) (start mid : PlainBoard) (P : Entry → PlainBoard → Type 0) → i < length entries → Walks files (take i entries) start mid → P (get_or entries i d) mid → AtOne files entries start P
-at_one files entries i d start mid P below w p =
-    subst (λ xs. AtOne files xs start P) (sym (split_at entries i d below)) (at_one_behind (Goes files) (take i entries) (get_or entries i d ∷ drop (i + 1) entries) start mid P w (inl p))
+-- P holds at a file, and those before it are taken on
+pub at_one_of : {S : Type 0} (Step : Entry → S → S → Type 0) (entries : List Entry) (i : ℕ) (e : Entry) (start mid : S) (P : Entry → S → Type 0) → i < length entries → e ≡ get_or entries i e → WalksBy Step (take i entries) start mid → P e mid → AtOneBy Step entries start P
+at_one_of Step entries i e start mid P below here w p =
+    subst (λ xs. AtOneBy Step xs start P) (sym (split_at entries i e below)) (at_one_behind Step (take i entries) (get_or entries i e ∷ drop (i + 1) entries) start mid P w (inl (subst (λ (x : Entry). P x mid) here p)))
 
 -- the same of the files that pass a test
 pub passing_walk_more : {S : Type 0} (Step : Entry → S → S → Type 0) (p : Entry → Bool) (entries : List Entry) (i : ℕ) (e : Entry) (start mid end : S) → i < length entries → e ≡ get_or entries i e → WalksBy Step (filter p (take i entries)) start mid → WalksBy Step (filter p (e ∷ [])) mid end → WalksBy Step (filter p (take (i + 1) entries)) start end

@@ -1,5 +1,5 @@
 -- Why a package gives no board.
-use Rattle.std.specs.Prelude.{◌≡◌, ◌⊎◌, ℕ, List, Option, IfSome}
+use Rattle.std.specs.Prelude.{◌≡◌, ◌⊎◌, ℕ, List, Option, Some, None, IfSome}
 use Rattle.board_io.specs.Causes.{Rose}
 use Rattle.board_io.specs.Package.{Files, IsFaultless}
 use Rattle.board_shapes.specs.Plain.{PlainBoard}
@@ -38,6 +38,10 @@ HasCause held Stops Comes before now lost (fault.Drill name kind line at) = IfSo
 HasCause held Stops Comes before now lost (fault.Netlist name kind line) = IfSome held (λ files. Stops files (refused name (refusal.Netlist kind line)))
 HasCause held Stops Comes before now lost (fault.FrameTooLarge box) = IfSome held (λ files. Stops files (frame_too_large box))
 HasCause held Stops Comes before now lost fault.NoMemory = Unit {0}
+
+-- The same by stops and names that speak of no files, but of what was handed over.
+abbrev pub HandedCause : (Stop → Type 0) → (List ℕ → Type 0) → ℕ → ℕ → List ℕ → BuildFault → Type 0
+HandedCause Stops Comes before now lost given = HasCause (Some (λ name. None)) (λ files stop. Stops stop) (λ files name. Comes name) before now lost given
 
 -- Neither the count of faults nor the lost name changed, but where a file could not be read or memory was wanted.
 abbrev pub KeepsFaults : ℕ → List ℕ → ℕ → List ℕ → BuildFault → Type 0

@@ -1,5 +1,5 @@
 -- Why a package gives no labelled board.
-use Rattle.std.specs.Prelude.{◌≡◌, ℕ, List, Option, IfSome}
+use Rattle.std.specs.Prelude.{◌≡◌, ℕ, List, Option, Some, None, IfSome}
 use Rattle.board_io.specs.Package.{Files, IsFaultless}
 use Rattle.board_package.specs.Causes.{HasCause, KeepsFaults}
 use Rattle.board_package.specs.LabelledBoard.{Labelled, LabelledStop, Mislabels, mislabelled, unbuilt}
@@ -15,6 +15,10 @@ use Rattle.x2_nets.specs.declared.table.Label.{Label}
 abbrev pub HasLabelledCause : Option Files → (Files → LabelledStop → Type 0) → (Files → List ℕ → Type 0) → ℕ → ℕ → List ℕ → LabelledFault → Type 0
 HasLabelledCause held Stops Comes before now lost (fault.Build why) = HasCause held (λ files stop. Stops files (unbuilt stop)) Comes before now lost why
 HasLabelledCause held Stops Comes before now lost (fault.Label name command at) = IfSome held (λ files. Stops files (mislabelled name command at))
+
+-- The same by stops and names that speak of no files, but of what was handed over.
+abbrev pub HandedLabelledCause : (LabelledStop → Type 0) → (List ℕ → Type 0) → ℕ → ℕ → List ℕ → LabelledFault → Type 0
+HandedLabelledCause Stops Comes before now lost given = HasLabelledCause (Some (λ name. None)) (λ files stop. Stops stop) (λ files name. Comes name) before now lost given
 
 -- Neither the count of faults nor the lost name changed, but where a file could not be read or memory was wanted.
 abbrev pub KeepsLabelledFaults : ℕ → List ℕ → ℕ → List ℕ → LabelledFault → Type 0

@@ -1,4 +1,7 @@
 pub mod Causes
+pub mod HandedBoard
+pub mod HandedLabelled
+pub mod HandedLaw
 pub mod LabelledBoard
 pub mod LabelledCauses
 pub mod Labelling

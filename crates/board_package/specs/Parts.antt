@@ -4,7 +4,6 @@ use Rattle.board_shapes.specs.Lawful.{IsOnLayers, IsProbe}
 use Rattle.board_shapes.specs.Pieces.{edges_in}
 use Rattle.board_shapes.specs.Plain.{PlainBoard, PlainPiece, plain_parts}
 use Rattle.board_shapes.specs.declared.placed.Room.{Room}
-use Rattle.board_shapes.specs.declared.probe.Probe.{Probe}
 use Rattle.board_package.specs.declared.parts.Parts.{Parts}
 
 -- a board of so many layers with nothing on it

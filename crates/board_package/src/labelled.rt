@@ -5,7 +5,8 @@ ghost use Rattle.board_shapes.specs.Plain.{plain_board};
 ghost use Rattle.board_io.specs.Package.{IsFaultless};
 ghost use Rattle.board_package.specs.LabelledBoard as spec;
 ghost use Rattle.board_package.specs.LabelledBoard.{GoesLabelled, IsFirstLabelledStop, IsLabelledBoardOf, LabelledComes, LabelledComesAmong, Lists, StopsLabelledAmong};
-ghost use Rattle.board_package.specs.LabelledCauses.{HasLabelledCause, IsMislabelling, KeepsLabelledFaults, labelled_so_far};
+ghost use Rattle.board_package.specs.HandedLabelled.{GoesLabelledHanded, IsFirstLabelledStopHanded, IsLabelledBoardHanded, LabelledComesAmongHanded, LabelledComesHanded, StopsLabelledAmongHanded, labelled_course};
+ghost use Rattle.board_package.specs.LabelledCauses.{HandedLabelledCause, HasLabelledCause, IsMislabelling, KeepsLabelledFaults, labelled_so_far};
 ghost use Rattle.board_package.specs.Manifest.{IsOnBoard};
 ghost use Rattle.board_package.specs.PackageBoard.{IsWithinLimits, WalksBy};
 ghost use Rattle.board_package.specs.Parts.{IsLawfulParts};
@@ -40,6 +41,8 @@ pub fn build_labelled<P: Package>(
     ensures faultless { OnOk result (IsFaultless (P.faults «package».old) (P.lost «package».old) (P.faults «package».new) (P.lost «package».new)) }
     ensures kept { IfErr result (KeepsLabelledFaults (P.faults «package».old) (P.lost «package».old) (P.faults «package».new) (P.lost «package».new)) }
     ensures ok { IfOk result (λ board. IfSome (P.held «package».old) (λ files. IsLabelledBoardOf files manifest.now (plain_board board))) }
+    ensures handed { IfOk result (λ board. IsLabelledBoardHanded (P.handed «package».old) (P.handed «package».new) manifest.now (plain_board board)) }
+    ensures handed_cause { IfErr result (HandedLabelledCause (λ stop. IsFirstLabelledStopHanded (P.handed «package».old) (P.handed «package».new) manifest.now stop) (λ name. LabelledComesHanded (P.handed «package».old) (P.handed «package».new) manifest.now name) (P.faults «package».old) (P.faults «package».new) (P.lost «package».new)) }
     ensures limits { IfOk result (λ board. IsWithinLimits (plain_board board)) }
     ensures fault { IfErr result (HasLabelledCause (P.held «package».old) (λ files stop. IsFirstLabelledStop files manifest.now stop) (λ files name. LabelledComes files manifest.now name) (P.faults «package».old) (P.faults «package».new) (P.lost «package».new)) }
 {
@@ -71,6 +74,8 @@ fn take_files<P: Package>(
     ensures faultless { OnOk result (IsFaultless (P.faults «package».old) (P.lost «package».old) (P.faults «package».new) (P.lost «package».new)) }
     ensures kept { IfErr result (KeepsLabelledFaults (P.faults «package».old) (P.lost «package».old) (P.faults «package».new) (P.lost «package».new)) }
     ensures found { OnOk result (IfSome (P.held «package».old) (λ files. WalksBy (GoesLabelled files) (filter (λ e. spec.is_board_file e.role) entries.now) (labelled_so_far parts.old tables.old) (labelled_so_far parts.new tables.new))) }
+    ensures handed { OnOk result (WalksBy GoesLabelledHanded (filter (λ e. spec.is_board_file e.role) entries.now) (labelled_course (P.handed «package».old) (labelled_so_far parts.old tables.old)) (labelled_course (P.handed «package».new) (labelled_so_far parts.new tables.new))) }
+    ensures handed_cause { IfErr result (HandedLabelledCause (λ stop. StopsLabelledAmongHanded (filter (λ e. spec.is_board_file e.role) entries.now) (labelled_course (P.handed «package».old) (labelled_so_far parts.old tables.old)) (P.handed «package».new) stop) (λ name. LabelledComesAmongHanded (filter (λ e. spec.is_board_file e.role) entries.now) (labelled_course (P.handed «package».old) (labelled_so_far parts.old tables.old)) (P.handed «package».new) name) (P.faults «package».old) (P.faults «package».new) (P.lost «package».new)) }
     ensures parts { OnOk result (IsLawfulParts parts.new) }
     ensures rise { OnOk result (All Rise tables.new) }
     ensures cause { IfErr result (HasLabelledCause (P.held «package».old) (λ files stop. StopsLabelledAmong files (filter (λ e. spec.is_board_file e.role) entries.now) (labelled_so_far parts.old tables.old) stop) (λ files name. LabelledComesAmong files (filter (λ e. spec.is_board_file e.role) entries.now) (labelled_so_far parts.old tables.old) name) (P.faults «package».old) (P.faults «package».new) (P.lost «package».new)) }
@@ -108,6 +113,8 @@ fn take_labelled<P: Package>(
     ensures faultless { OnOk result (IsFaultless (P.faults «package».old) (P.lost «package».old) (P.faults «package».new) (P.lost «package».new)) }
     ensures kept { IfErr result (KeepsLabelledFaults (P.faults «package».old) (P.lost «package».old) (P.faults «package».new) (P.lost «package».new)) }
     ensures found { OnOk result (IfSome (P.held «package».old) (λ files. WalksBy (GoesLabelled files) (filter (λ e. spec.is_board_file e.role) (entry.now ∷ [])) (labelled_so_far parts.old tables.old) (labelled_so_far parts.new tables.new))) }
+    ensures handed { OnOk result (WalksBy GoesLabelledHanded (filter (λ e. spec.is_board_file e.role) (entry.now ∷ [])) (labelled_course (P.handed «package».old) (labelled_so_far parts.old tables.old)) (labelled_course (P.handed «package».new) (labelled_so_far parts.new tables.new))) }
+    ensures handed_cause { IfErr result (HandedLabelledCause (λ stop. StopsLabelledAmongHanded (filter (λ e. spec.is_board_file e.role) (entry.now ∷ [])) (labelled_course (P.handed «package».old) (labelled_so_far parts.old tables.old)) (P.handed «package».new) stop) (λ name. LabelledComesAmongHanded (filter (λ e. spec.is_board_file e.role) (entry.now ∷ [])) (labelled_course (P.handed «package».old) (labelled_so_far parts.old tables.old)) (P.handed «package».new) name) (P.faults «package».old) (P.faults «package».new) (P.lost «package».new)) }
     ensures parts { OnOk result (IsLawfulParts parts.new) }
     ensures layers { OnOk result (parts.new.layers ≡ parts.old.layers) }
     ensures rise { OnOk result (All Rise tables.new) }

@@ -1,6 +1,7 @@
 //! The laws over the definitions alone.
 ghost use Rattle.std.specs.Prelude.{ℕ, List};
 ghost use Rattle.board_io.specs.Package.{Files};
+ghost use Rattle.board_package.specs.HandedLaw.{HandedIsHeld};
 ghost use Rattle.board_package.specs.Laws.{CutIsRefusedOrTheSame, FilesHaveOneAnswer, HasOneLabelledOutcome, HasOneOutcome, LabelledPiecesAreUnder};
 
 /// A package has at most one board or one first stop, and not both.
@@ -33,6 +34,11 @@ pub fn cut_is_refused_or_the_same()
     xnc::laws::prefix_makes_the_same();
     ipc356_records::laws::prefix_makes_the_same();
 }
+
+/// What is said of what was handed over holds of all files that agree with it.
+pub fn handed_is_held()
+    ensures { HandedIsHeld }
+{}
 
 // Each copper file, drill file and netlist has one answer.
 fn files_have_one_answer()

@@ -2,9 +2,10 @@
 ghost use Rattle.std.specs.Prelude.{◌≡◌, ◌≤◌, List, ℕ, length, All, IfSome, IfOk, IfErr, OnOk};
 ghost use Rattle.board_shapes.specs.Plain.{plain_board, common_box, Fits};
 ghost use Rattle.board_io.specs.Package.{IsFaultless};
-ghost use Rattle.board_package.specs.Causes.{HasCause, IsFrameFault, KeepsFaults};
+ghost use Rattle.board_package.specs.Causes.{HandedCause, HasCause, IsFrameFault, KeepsFaults};
+ghost use Rattle.board_package.specs.HandedBoard.{ComesAmongHanded, ComesHanded, ComesNext, GoesHanded, IsBoardHanded, IsFirstStopHanded, IsHanded, IsManifestHanded, StopsAmongHanded, StopsAtHanded, StopsAtManifestHanded, StopsHanding, course};
 ghost use Rattle.board_package.specs.Manifest.{IsLawful, IsOnBoard};
-ghost use Rattle.board_package.specs.PackageBoard.{IsBoardOf, IsFirstStop, IsWithinLimits, Comes, IsHeld, IsManifestFile, StopsTaking, StopsAtManifest, StopsAt, StopsAtFrame, StopsAmong, ComesAmong, Goes, Walks};
+ghost use Rattle.board_package.specs.PackageBoard.{IsBoardOf, IsFirstStop, IsWithinLimits, Comes, IsHeld, IsManifestFile, StopsTaking, StopsAtManifest, StopsAt, StopsAtFrame, StopsAmong, ComesAmong, Goes, Walks, WalksBy};
 ghost use Rattle.board_package.specs.Parts.{board_so_far, IsLawfulParts};
 
 use crate::entry::Entry;
@@ -35,6 +36,8 @@ pub fn build<P: Package>(
     ensures faultless { OnOk result (IsFaultless (P.faults «package».old) (P.lost «package».old) (P.faults «package».new) (P.lost «package».new)) }
     ensures kept { IfErr result (KeepsFaults (P.faults «package».old) (P.lost «package».old) (P.faults «package».new) (P.lost «package».new)) }
     ensures ok { IfOk result (λ board. IfSome (P.held «package».old) (λ files. IsBoardOf files manifest.now (plain_board board))) }
+    ensures handed { IfOk result (λ board. IsBoardHanded (P.handed «package».old) (P.handed «package».new) manifest.now (plain_board board)) }
+    ensures handed_cause { IfErr result (HandedCause (λ stop. IsFirstStopHanded (P.handed «package».old) (P.handed «package».new) manifest.now stop) (λ name. ComesHanded (P.handed «package».old) (P.handed «package».new) manifest.now name) (P.faults «package».old) (P.faults «package».new) (P.lost «package».new)) }
     ensures limits { IfOk result (λ board. IsWithinLimits (plain_board board)) }
     ensures fault { IfErr result (HasCause (P.held «package».old) (λ files stop. IsFirstStop files manifest.now stop) (λ files name. Comes files manifest.now name) (P.faults «package».old) (P.faults «package».new) (P.lost «package».new)) }
 {
@@ -63,6 +66,8 @@ pub fn take_manifest<P: Package>(
     ensures faultless { OnOk result (IsFaultless (P.faults «package».old) (P.lost «package».old) (P.faults «package».new) (P.lost «package».new)) }
     ensures kept { IfErr result (KeepsFaults (P.faults «package».old) (P.lost «package».old) (P.faults «package».new) (P.lost «package».new)) }
     ensures found { IfOk result (λ m. IfSome (P.held «package».old) (λ files. IsManifestFile files manifest.now m)) }
+    ensures handed { IfOk result (λ m. IsManifestHanded (P.handed «package».old) (P.handed «package».new) manifest.now m) }
+    ensures handed_cause { IfErr result (HandedCause (λ stop. StopsAtManifestHanded (P.handed «package».old) (P.handed «package».new) manifest.now stop) (λ name. ComesNext (P.handed «package».old) (P.handed «package».new) manifest.now name) (P.faults «package».old) (P.faults «package».new) (P.lost «package».new)) }
     ensures lawful { IfOk result (λ m. IsLawful m) }
     ensures cause { IfErr result (HasCause (P.held «package».old) (λ files stop. StopsAtManifest files manifest.now stop) (λ files name. name ≡ manifest.now) (P.faults «package».old) (P.faults «package».new) (P.lost «package».new)) }
 {
@@ -90,6 +95,8 @@ fn take_files<P: Package>(
     ensures faultless { OnOk result (IsFaultless (P.faults «package».old) (P.lost «package».old) (P.faults «package».new) (P.lost «package».new)) }
     ensures kept { IfErr result (KeepsFaults (P.faults «package».old) (P.lost «package».old) (P.faults «package».new) (P.lost «package».new)) }
     ensures found { OnOk result (IfSome (P.held «package».old) (λ files. Walks files entries.now (board_so_far parts.old) (board_so_far parts.new))) }
+    ensures handed { OnOk result (WalksBy GoesHanded entries.now (course (P.handed «package».old) (board_so_far parts.old)) (course (P.handed «package».new) (board_so_far parts.new))) }
+    ensures handed_cause { IfErr result (HandedCause (λ stop. StopsAmongHanded entries.now (course (P.handed «package».old) (board_so_far parts.old)) (P.handed «package».new) stop) (λ name. ComesAmongHanded entries.now (course (P.handed «package».old) (board_so_far parts.old)) (P.handed «package».new) name) (P.faults «package».old) (P.faults «package».new) (P.lost «package».new)) }
     ensures parts { OnOk result (IsLawfulParts parts.new) }
     ensures cause { IfErr result (HasCause (P.held «package».old) (λ files stop. StopsAmong files entries.now (board_so_far parts.old) stop) (λ files name. ComesAmong files entries.now (board_so_far parts.old) name) (P.faults «package».old) (P.faults «package».new) (P.lost «package».new)) }
 {
@@ -116,6 +123,9 @@ pub fn take_entry<P: Package>(
     ensures short { OnOk result (length file.new.items ≤ 67108864) }
     ensures whole { OnOk result (IfSome (P.held «package».old) (λ files. IsHeld files entry.now.name file.new.items)) }
     ensures found { OnOk result (IfSome (P.held «package».old) (λ files. Goes files entry.now (board_so_far parts.old) (board_so_far parts.new))) }
+    ensures handed_whole { OnOk result (IsHanded (P.handed «package».old) (P.handed «package».new) entry.now.name file.new.items) }
+    ensures handed { OnOk result (GoesHanded entry.now (course (P.handed «package».old) (board_so_far parts.old)) (course (P.handed «package».new) (board_so_far parts.new))) }
+    ensures handed_cause { IfErr result (HandedCause (λ stop. StopsAtHanded entry.now (course (P.handed «package».old) (board_so_far parts.old)) (P.handed «package».new) stop) (λ name. ComesNext (P.handed «package».old) (P.handed «package».new) entry.now.name name) (P.faults «package».old) (P.faults «package».new) (P.lost «package».new)) }
     ensures parts { OnOk result (IsLawfulParts parts.new) }
     ensures layers { OnOk result (parts.new.layers ≡ parts.old.layers) }
     ensures cause { IfErr result (HasCause (P.held «package».old) (λ files stop. StopsAt files entry.now (board_so_far parts.old) stop) (λ files name. entry.now.name ≡ name) (P.faults «package».old) (P.faults «package».new) (P.lost «package».new)) }
@@ -139,6 +149,8 @@ pub fn take_file<P: Package>(
     ensures kept { IfErr result (KeepsFaults (P.faults «package».old) (P.lost «package».old) (P.faults «package».new) (P.lost «package».new)) }
     ensures short { OnOk result (length file.new.items ≤ 67108864) }
     ensures found { OnOk result (IfSome (P.held «package».old) (λ files. IsHeld files name.now file.new.items)) }
+    ensures handed { OnOk result (IsHanded (P.handed «package».old) (P.handed «package».new) name.now file.new.items) }
+    ensures handed_cause { IfErr result (HandedCause (λ stop. StopsHanding (P.handed «package».old) (P.handed «package».new) name.now stop) (λ other. ComesNext (P.handed «package».old) (P.handed «package».new) name.now other) (P.faults «package».old) (P.faults «package».new) (P.lost «package».new)) }
     ensures cause { IfErr result (HasCause (P.held «package».old) (λ files stop. StopsTaking files name.now stop) (λ files other. other ≡ name.now) (P.faults «package».old) (P.faults «package».new) (P.lost «package».new)) }
 {
     let text = name.as_str();

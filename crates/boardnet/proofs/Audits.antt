@@ -1,8 +1,11 @@
 -- From what the parts of an audit give to its outcome.
 use Rattle.std.proofs.Common.{◌≡◌, ◌<◌, ◌≤◌, inl, inr, ℕ, List, length, Option, Some, None, IfSome, IsSomeAnd, Err, codes, ap, refl, subst, sym, ◌∙◌, arith}
+use Rattle.board_io.specs.Handed.{Handed}
 use Rattle.board_io.specs.Package.{Files, IsFaultless}
 use Rattle.board_package.proofs.Lift.{Carries, lift, told_of}
-use Rattle.board_package.specs.Causes.{HasCause}
+use Rattle.board_package.proofs.Staging.{carry}
+use Rattle.board_package.specs.Causes.{HandedCause, HasCause}
+use Rattle.board_package.specs.HandedBoard.{ComesHanded, ComesNext, IsBoardHanded, IsFirstStopHanded, IsHanded, StopsHanding}
 use Rattle.board_package.specs.Laws.{HasOneOutcome}
 use Rattle.board_package.specs.PackageBoard.{Comes, IsBoardOf, IsFirstStop, IsHeld, StopsTaking, Stop, absent, longer, not_json, bad_manifest, refused, frame_too_large}
 use Rattle.board_package.specs.declared.fault.BuildFault.{BuildFault}
@@ -18,6 +21,8 @@ use Rattle.boardnet.specs.declared.answer.Answer.{Answer}
 use Rattle.boardnet.specs.declared.answer.Unanswered.{Unanswered}
 use Rattle.boardnet.specs.declared.answer.Unanswered.TheVariants.{Stopped, NotAReport, SizeTooLarge, GrownTooLarge, Mislabelled, Unflat}
 use Rattle.boardnet.specs.Ends.{Works}
+use Rattle.boardnet.specs.HandedOutcome.{HasHandedReason, IsHandedAnswer, account_of}
+use Rattle.boardnet.specs.commands.Audit.{IsAuditStopHanded}
 use Rattle.tables.specs.Tables.{Tables}
 use Rattle.verdict.specs.Laws.{ReportTextIsInjective}
 use Rattle.verdict.specs.declared.verdict.Verdict.{Verdict}
@@ -174,3 +179,50 @@ report_cause held other manifest report second board before mid now lost why sam
     (report_carries held manifest report board is) le
     (subst (λ (z : List ℕ). HasCause held (λ files stop. StopsTaking files z stop) (λ files name. name ≡ z) mid now lost why) two
     (subst (λ (z : Option Files). HasCause z (λ files stop. StopsTaking files second stop) (λ files name. name ≡ second) mid now lost why) same h))
+
+-- ---- By what was handed over
+
+pub package_handed : (a b : List Handed) (manifest report : List ℕ) (before now : ℕ) (lost : List ℕ) (why : BuildFault)
+    → HandedCause (λ stop. IsFirstStopHanded a b manifest stop) (λ name. ComesHanded a b manifest name) before now lost why
+    → HandedCause (λ stop. IsAuditStopHanded a b manifest report stop) (account_of (Audit manifest report) a b).comes before now lost why
+package_handed a b manifest report before now lost why h =
+    carry (λ stop. IsFirstStopHanded a b manifest stop) (λ stop. IsAuditStopHanded a b manifest report stop) (λ name. ComesHanded a b manifest name) (account_of (Audit manifest report) a b).comes before before now lost why
+    (record { stops = λ stop s. inl s; comes = λ name s. inl s }) (omega arith) h
+
+pub report_handed : (a built b : List Handed) (manifest report second : List ℕ) (board : PlainBoard) (before mid now : ℕ) (lost : List ℕ) (why : BuildFault) → second ≡ report → before ≤ mid
+    → IsBoardHanded a built manifest board
+    → HandedCause (λ stop. StopsHanding built b second stop) (λ name. ComesNext built b second name) mid now lost why
+    → HandedCause (λ stop. IsAuditStopHanded a b manifest report stop) (account_of (Audit manifest report) a b).comes before now lost why
+report_handed a built b manifest report second board before mid now lost why two le is h =
+    carry (λ stop. StopsHanding built b report stop) (λ stop. IsAuditStopHanded a b manifest report stop) (λ name. ComesNext built b report name) (account_of (Audit manifest report) a b).comes before mid now lost why
+    (record {
+      stops = λ stop s. inr (record { board = board; built = built; board_is = is; stops = s });
+      comes = λ name s. inr (record { board = board; built = built; board_is = is; next = s });
+    })
+    le (subst (λ (z : List ℕ). HandedCause (λ stop. StopsHanding built b z stop) (λ name. ComesNext built b z name) mid now lost why) two h)
+
+-- why a report is not ruled on
+pub unruled_handed : (a built b : List Handed) (manifest report : List ℕ) (board : PlainBoard) (bytes text : List ℕ) (before now : ℕ) (lost : List ℕ) (why : Unanswered)
+    → IsBoardHanded a built manifest board → IsHanded built b report bytes → text ≡ bytes → IsUnruled text why → HasHandedReason (account_of (Audit manifest report) a b) before now lost why
+unruled_handed a built b manifest report board bytes text before now lost NotAReport is h e unruled = record { board = board; built = built; board_is = is; read = record { bytes = bytes; handed = h; good = subst IsNoReport e unruled } }
+unruled_handed a built b manifest report board bytes text before now lost (Stopped why) is h e unruled =
+    subst (λ (w : BuildFault). HasHandedReason (account_of (Audit manifest report) a b) before now lost (Stopped w)) (sym unruled) tt
+unruled_handed a built b manifest report board bytes text before now lost SizeTooLarge is h e unruled = absurd unruled
+unruled_handed a built b manifest report board bytes text before now lost (GrownTooLarge box) is h e unruled = absurd unruled
+unruled_handed a built b manifest report board bytes text before now lost (Mislabelled name command byte) is h e unruled = absurd unruled
+unruled_handed a built b manifest report board bytes text before now lost (Unflat kind command byte) is h e unruled = absurd unruled
+
+-- what is put for a ruling is the answer
+pub ruled_handed : (a built b : List Handed) (manifest report : List ℕ) (board : PlainBoard) (bytes text : List ℕ) (ruling : Ruling) (answer : Answer)
+    → IsBoardHanded a built manifest board → IsHanded built b report bytes → HasOneTables board → text ≡ bytes → IsRuledOn board text ruling → Answers ruling answer
+    → IsHandedAnswer a b manifest report answer.text.items (status_of answer.note) (line_of answer.note)
+ruled_handed a built b manifest report board bytes text ruling answer is h one e r said = record {
+  board = board;
+  built = built;
+  board_is = is;
+  tables = one.tables;
+  tables_are = one.are;
+  verdict = r.verdict;
+  read = record { bytes = bytes; handed = h; good = subst (λ (z : List ℕ). IsTextOf z r.verdict) e r.text };
+  ruling = has_ruling one.tables r.verdict ruling answer (r.rules one.tables one.are) said;
+}

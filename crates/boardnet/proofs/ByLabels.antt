@@ -4,10 +4,12 @@ use Rattle.std.specs.Prelude.{slice_get}
 use Rattle.std.specs.List.{AllByRecursion}
 use Rattle.std.proofs.lemmas.Option.{slice_get-get_or}
 use Rattle.std.specs.Result.{IsErrAnd}
+use Rattle.board_io.specs.Handed.{Handed}
 use Rattle.board_io.specs.Package.{Files, IsFaultless}
 use Rattle.board_package.proofs.Lift.{told_of}
+use Rattle.board_package.specs.HandedLabelled.{IsFirstLabelledStopHanded, IsLabelledBoardHanded, LabelledComesHanded}
 use Rattle.board_package.specs.LabelledBoard.{IsFirstLabelledStop, IsLabelledBoardOf, LabelledComes, labelled_board_of}
-use Rattle.board_package.specs.LabelledCauses.{HasLabelledCause, KeepsLabelledFaults}
+use Rattle.board_package.specs.LabelledCauses.{HandedLabelledCause, HasLabelledCause, KeepsLabelledFaults}
 use Rattle.board_package.specs.Laws.{LabelledPiecesAreUnder}
 use Rattle.board_shapes.proofs.BoardTables.{under_one}
 use Rattle.board_shapes.specs.LawfulBoard.{IsLawfulBoard}
@@ -19,6 +21,7 @@ use Rattle.board_package.specs.declared.fault.LabelledFault.{LabelledFault}
 use Rattle.board_package.specs.declared.fault.LabelledFault.TheVariants as labelled
 use Rattle.boardnet.specs.Answers.{line_of, status_of, unlabelled_of}
 use Rattle.boardnet.specs.Ends.{HasReason, Works}
+use Rattle.boardnet.specs.HandedOutcome.{HasHandedReason, IsHandedLabelledReport, account_of}
 use Rattle.boardnet.specs.Kept.{LeftBy}
 use Rattle.boardnet.specs.Labelled.{IsReportOn}
 use Rattle.boardnet.specs.Outcome.{IsLabelledReport, JoinsPieces, OutcomeOf, Told}
@@ -153,3 +156,27 @@ reported_by files faults lost manifest old new b answer law held later calm is l
       (λ f i. labelled_report_is law f manifest b answer.text.items (status_of answer.note) (line_of answer.note) i lawful report) is;
   reason = tt;
 }
+
+-- ---- By what was handed over
+
+pub handed_reason : (manifest : List ℕ) (a b : List Handed) (before now : ℕ) (lost : List ℕ) (why : LabelledFault)
+    → HandedLabelledCause (λ stop. IsFirstLabelledStopHanded a b manifest stop) (λ name. LabelledComesHanded a b manifest name) before now lost why → HasHandedReason (account_of (X2 manifest) a b) before now lost (unlabelled_of why)
+handed_reason manifest a b before now lost (labelled.Build why) h = h
+handed_reason manifest a b before now lost (labelled.Label name number byte) h = h
+
+pub handed_report_is : LabelledPiecesAreUnder → (before after : List Handed) (manifest : List ℕ) (b : PlainBoard) (text : List ℕ) (status : ℕ) (line : List ℕ) → IsLabelledBoardHanded before after manifest b → IsLawfulBoard b → IsReportOn b text status line → IsHandedLabelledReport before after manifest text status line
+handed_report_is law before after manifest b text status line is lawful r =
+    let whole : IsLawfulBoard (labelled_board_of is.end.tables is.end.board) = subst IsLawfulBoard is.is lawful in
+    let all : AllUnder b = subst AllUnder (sym is.is) (law is.end.tables is.end.board whole) in
+    record {
+      board = b;
+      board_is = is;
+      verdict = r.verdict;
+      lawful = r.lawful;
+      right = r.right;
+      version_is = r.version_is;
+      none_bare = none_bare b r.verdict r.right all;
+      joins = joins_pieces b r.verdict r.right all;
+      text_is = r.text_is;
+      status_is = r.status_is;
+    }

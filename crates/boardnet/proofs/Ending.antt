@@ -1,64 +1,27 @@
 -- From the work of a command and what was put for it to what the command comes to.
-use Rattle.std.proofs.Common.{◌≡◌, ◌⊎◌, ◌≤◌, inl, inr, ℕ, true, false, List, Option, Result, Ok, Err, IfOk, MatchResult, codes, pos, ◌*◌, refl, sym, subst, arith}
+use Rattle.std.proofs.Common.{◌≡◌, ◌⊎◌, ◌≤◌, inl, inr, ℕ, true, false, List, Option, Result, Ok, Err, IfOk, MatchResult, codes, refl, sym, subst, arith}
 use Rattle.board_io.specs.Causes.{Rose}
 use Rattle.board_io.specs.Package.{Files, IsFaultless}
 use Rattle.board_io.specs.Sink.{Gains, GainsFrontOf}
 use Rattle.board_package.proofs.Lift.{told_all, told_of}
 use Rattle.board_package.specs.Causes.{IsUnread, KeepsFaults}
-use Rattle.board_package.specs.LabelledBoard.{unbuilt, mislabelled}
-use Rattle.board_package.specs.Laws.{HasOneLabelledOutcome, HasOneOutcome}
 use Rattle.board_package.specs.PackageBoard.{Stop, longer, not_json, bad_manifest, refused, frame_too_large}
 use Rattle.board_package.specs.declared.fault.BuildFault.{BuildFault}
 use Rattle.board_package.specs.declared.fault.BuildFault.TheVariants as fault
 use Rattle.board_package.specs.declared.reading.Refusal.TheVariants as refusal
-use Rattle.board_shapes.specs.CommonBox.{Fits}
-use Rattle.board_shapes.specs.Plain.{PlainBoard}
-use Rattle.contact.specs.declared.Bounds.{Bounds}
-use Rattle.gaps.specs.GrownBox.{grown_common}
-use Rattle.gerber_layer.specs.MacroLayer.{HasOneMacroAnswer, IsReadWithMacros, IsRefusedWithMacros}
-use Rattle.gerber_layer.specs.declared.macro_kind.FlattenKind.{FlattenKind}
-use Rattle.board_shapes.specs.Pieces.{PlainPiece}
-use Rattle.boardnet.specs.Gapped.{IsTooWide}
-use Rattle.boardnet.proofs.Audits.{misread_outcome, no_misread, no_stop, no_stop_taking, one_file}
+use Rattle.boardnet.proofs.Sound.{OneOutcome, reason_line}
+use Rattle.boardnet.proofs.Tasks.{sound}
 use Rattle.boardnet.specs.Answers.{Refuses, RefusesFor, line_of, subject_of, report_of, status_of}
-use Rattle.boardnet.specs.Ends.{Ends, HasReason, HasText, IsGrownTooLargeFor, IsMislabelledFor, IsMisreadFor, IsTooLargeFor, IsUnflatFor, Puts, StopsFor, TakesFiles, Works, cut, whole}
+use Rattle.boardnet.specs.Ends.{Ends, HasReason, HasText, Puts, StopsFor, TakesFiles, Works, cut, whole}
 use Rattle.boardnet.specs.Kept.{LeftBy}
-use Rattle.boardnet.specs.Lines.{Says, file_line, frame_line, label_line, plain_line}
-use Rattle.boardnet.specs.Outcome.{ComesFor, IsLineOf, flatten_line, OfFilesRead, OutcomeOf, Refused, Told, read_by}
-use Rattle.boardnet.specs.Words.{Command, Check, Audit, Trial, Write, Gaps, X2, Flatten}
+use Rattle.boardnet.specs.Lines.{Says, file_line, plain_line}
+use Rattle.boardnet.specs.Outcome.{ComesFor, IsLineOf, OfFilesRead, OutcomeOf, Refused, Told, read_by}
+use Rattle.boardnet.specs.Words.{Command, task_of, Flatten, Write}
 use Rattle.boardnet.specs.declared.answer.Answer.{Answer}
 use Rattle.boardnet.specs.declared.answer.Note.{Note}
 use Rattle.boardnet.specs.declared.answer.Note.TheVariants as note
 use Rattle.boardnet.specs.declared.answer.Unanswered.{Unanswered}
 use Rattle.boardnet.specs.declared.answer.Unanswered.TheVariants.{Stopped, NotAReport, SizeTooLarge, GrownTooLarge, Mislabelled, Unflat}
-
--- each package has one outcome, with its netlist and by its labels, and each copper file that may have macros one answer
-pub record OneOutcome : Type 0 where
-  pub listed : (files : Files) (manifest : List ℕ) → HasOneOutcome files manifest
-  pub labelled : (files : Files) (manifest : List ℕ) → HasOneLabelledOutcome files manifest
-  pub flat : (file : List ℕ) → HasOneMacroAnswer file
-
--- ---- Stops
-
--- a stop with its line is a refusal of the command
-stop_outcome : (f : Files) (c : Command) (stop : Stop) (line : List ℕ) → StopsFor f c stop → IsLineOf (subject_of c) stop line → OutcomeOf f c (Refused line)
-stop_outcome f (Check version manifest) stop line s l = record { stop = stop; first = s; line_is = l }
-stop_outcome f (Audit manifest report) stop line s l = inl (record { stop = stop; first = s; line_is = l })
-stop_outcome f (Trial seed size) stop line s l = inr (record { small = s.0; refusal = record { stop = stop; first = s.1; line_is = l } })
-stop_outcome f (Write manifest) stop line s l = record { stop = stop; first = s; line_is = l }
-stop_outcome f (Gaps manifest nanometres) stop line s l = inl (record { stop = stop; first = s; line_is = l })
-stop_outcome f (X2 manifest) stop line s l = record { stop = unbuilt stop; first = s; line_is = l }
-stop_outcome f (Flatten file) stop line s l = inl (record { stop = stop; stops = s; line_is = l })
-
--- a command with a stop has no text
-no_text : OneOutcome → (f : Files) (c : Command) (stop : Stop) → StopsFor f c stop → HasText f c → ⊥
-no_text law f (Check version manifest) stop s (board, is) = (law.listed f manifest).not_both board stop is s
-no_text law f (Audit manifest report) stop s (text, line, status, is) = no_stop f manifest report text line status stop (law.listed f manifest) is s
-no_text law f (Trial seed size) stop s (small, board, is) = (law.listed _ _).not_both board stop is s.1
-no_text law f (Write manifest) stop s (board, is) = (law.listed f manifest).not_both board stop is s
-no_text law f (Gaps manifest nanometres) stop s (board, is, fits) = (law.listed f manifest).not_both board stop is s
-no_text law f (X2 manifest) stop s (board, is) = (law.labelled f manifest).not_both board (unbuilt stop) is s
-no_text law f (Flatten file) stop s (bytes, held, pieces, is) = no_stop_taking f file bytes stop held s
 
 -- ---- Why there is no answer
 
@@ -71,7 +34,7 @@ data Reason (c : Command) (held : Option Files) (before : ℕ) (was : List ℕ) 
 stopped_by : OneOutcome → (c : Command) (held : Option Files) (before : ℕ) (was : List ℕ) (now : ℕ) (lost : List ℕ) (status : ℕ) (Line : List ℕ → Type 0) (stop : Stop) (line : List ℕ)
     → status ≡ 3 → Line line → IsLineOf (subject_of c) stop line → OfFilesRead c held (λ f. StopsFor f c stop) → IsFaultless before was now lost → Reason c held before was now lost status Line
 stopped_by law c held before was now lost status Line stop line three said is s left =
-    refusal_of line three (told_of (read_by c held) (λ f. StopsFor f c stop) (λ f. OutcomeOf f c (Refused line) × (HasText f c → ⊥)) (λ f h. (stop_outcome f c stop line h is, no_text law f c stop h)) s) said left
+    refusal_of line three (told_of (read_by c held) (λ f. StopsFor f c stop) (λ f. OutcomeOf f c (Refused line) × (HasText f c → ⊥)) (λ f h. ((sound c).stop_outcome f stop line h is, (sound c).no_text law f stop h)) s) said left
 
 stopped_reason : OneOutcome → (c : Command) (held : Option Files) (before : ℕ) (was : List ℕ) (now : ℕ) (lost : List ℕ) (status : ℕ) (Line : List ℕ → Type 0) (why : BuildFault)
     → Refuses (subject_of c) why status Line → HasReason c held before now lost (Stopped why) → KeepsFaults before was now lost why → Reason c held before was now lost status Line
@@ -88,94 +51,22 @@ stopped_reason law c held before was now lost status Line (fault.Netlist name ki
 stopped_reason law c held before was now lost status Line (fault.FrameTooLarge box) said h left = stopped_by law c held before was now lost status Line (frame_too_large box) _ said.0 said.1 refl h left
 stopped_reason law c held before was now lost status Line fault.NoMemory said h left = wanting said.0 said.1
 
-misread_reason : (c : Command) (held : Option Files) (before : ℕ) (was : List ℕ) (now : ℕ) (lost : List ℕ) (status : ℕ) (Line : List ℕ → Type 0)
-    → (status ≡ 3) × Line (file_line (report_of c) (codes "not a report")) → OfFilesRead c held (λ f. IsMisreadFor f c) → IsFaultless before was now lost → Reason c held before was now lost status Line
-misread_reason c held before was now lost status Line said h left =
-    refusal_of _ said.0 (told_of (read_by c held) (λ f. IsMisreadFor f c) (λ f. OutcomeOf f c (Refused (file_line (report_of c) (codes "not a report"))) × (HasText f c → ⊥)) (λ f m. misread f c m) h) said.1 left
-  where
-    misread : (f : Files) (c : Command) → IsMisreadFor f c → OutcomeOf f c (Refused (file_line (report_of c) (codes "not a report"))) × (HasText f c → ⊥)
-    misread f (Check version manifest) m = absurd m
-    misread f (Audit manifest report) m = (misread_outcome f manifest report m, λ t. no_misread f manifest report t.0 t.1 t.2 m t.3)
-    misread f (Trial seed size) m = absurd m
-    misread f (Write manifest) m = absurd m
-    misread f (Gaps manifest nanometres) m = absurd m
-    misread f (X2 manifest) m = absurd m
-    misread f (Flatten file) m = absurd m
-
-too_large_reason : (c : Command) (held : Option Files) (before : ℕ) (was : List ℕ) (now : ℕ) (lost : List ℕ) (status : ℕ) (Line : List ℕ → Type 0)
-    → (status ≡ 3) × Line (plain_line (codes "trial size too large")) → IsTooLargeFor c → IsFaultless before was now lost → Reason c held before was now lost status Line
-too_large_reason (Check version manifest) held before was now lost status Line said h left = absurd h
-too_large_reason (Audit manifest report) held before was now lost status Line said h left = absurd h
-too_large_reason (Trial seed size) held before was now lost status Line said h left =
-    refusal_of _ said.0 (inl (record { large = h; line_is = refl }), λ t. let small = t.0 in omega (arith, h, small)) said.1 left
-too_large_reason (Write manifest) held before was now lost status Line said h left = absurd h
-too_large_reason (Gaps manifest nanometres) held before was now lost status Line said h left = absurd h
-too_large_reason (X2 manifest) held before was now lost status Line said h left = absurd h
-too_large_reason (Flatten file) held before was now lost status Line said h left = absurd h
-
-grown_reason : OneOutcome → (c : Command) (held : Option Files) (before : ℕ) (was : List ℕ) (now : ℕ) (lost : List ℕ) (status : ℕ) (Line : List ℕ → Type 0) (box : Bounds)
-    → (status ≡ 3) × Line (frame_line box) → OfFilesRead c held (λ f. IsGrownTooLargeFor f c box) → IsFaultless before was now lost → Reason c held before was now lost status Line
-grown_reason law c held before was now lost status Line box said h left =
-    refusal_of _ said.0 (told_of (read_by c held) (λ f. IsGrownTooLargeFor f c box) (λ f. OutcomeOf f c (Refused (frame_line box)) × (HasText f c → ⊥)) (λ f m. grown f c m) h) said.1 left
-  where
-    wide : (board other : PlainBoard) (n : ℕ) → other ≡ board → IsTooWide board n box → Fits (grown_common (pos (5 * n)) other.pieces) → ⊥
-    wide board other n same w fits = w.large (subst Fits w.common (subst (λ (b : PlainBoard). Fits (grown_common (pos (5 * n)) b.pieces)) same fits))
-
-    grown : (f : Files) (c : Command) → IsGrownTooLargeFor f c box → OutcomeOf f c (Refused (frame_line box)) × (HasText f c → ⊥)
-    grown f (Check version manifest) m = absurd m
-    grown f (Audit manifest report) m = absurd m
-    grown f (Trial seed size) m = absurd m
-    grown f (Write manifest) m = absurd m
-    grown f (Gaps manifest nanometres) m = (inr (record { box = box; stop = m; line_is = refl }), λ t. wide m.board t.0 nanometres ((law.listed f manifest).one_board t.0 m.board t.1 m.board_is) m.wide t.2)
-    grown f (X2 manifest) m = absurd m
-    grown f (Flatten file) m = absurd m
-
-mislabelled_reason : OneOutcome → (c : Command) (held : Option Files) (before : ℕ) (was : List ℕ) (now : ℕ) (lost : List ℕ) (status : ℕ) (Line : List ℕ → Type 0) (name : List ℕ) (number byte : ℕ)
-    → (status ≡ 3) × Line (label_line name number byte) → OfFilesRead c held (λ f. IsMislabelledFor f c name number byte) → IsFaultless before was now lost → Reason c held before was now lost status Line
-mislabelled_reason law c held before was now lost status Line name number byte said h left =
-    refusal_of _ said.0 (told_of (read_by c held) (λ f. IsMislabelledFor f c name number byte) (λ f. OutcomeOf f c (Refused (label_line name number byte)) × (HasText f c → ⊥)) (λ f m. amiss f c m) h) said.1 left
-  where
-    amiss : (f : Files) (c : Command) → IsMislabelledFor f c name number byte → OutcomeOf f c (Refused (label_line name number byte)) × (HasText f c → ⊥)
-    amiss f (Check version manifest) m = absurd m
-    amiss f (Audit manifest report) m = absurd m
-    amiss f (Trial seed size) m = absurd m
-    amiss f (Write manifest) m = absurd m
-    amiss f (Gaps manifest nanometres) m = absurd m
-    amiss f (X2 manifest) m = (record { stop = mislabelled name number byte; first = m; line_is = refl }, λ t. (law.labelled f manifest).not_both t.0 (mislabelled name number byte) t.1 m)
-    amiss f (Flatten file) m = absurd m
-
-unflat_reason : OneOutcome → (c : Command) (held : Option Files) (before : ℕ) (was : List ℕ) (now : ℕ) (lost : List ℕ) (status : ℕ) (Line : List ℕ → Type 0) (kind : FlattenKind) (number byte : ℕ)
-    → (status ≡ 3) × Line (flatten_line (subject_of c) kind number byte) → OfFilesRead c held (λ f. IsUnflatFor f c kind number byte) → IsFaultless before was now lost → Reason c held before was now lost status Line
-unflat_reason law c held before was now lost status Line kind number byte said h left =
-    refusal_of _ said.0 (told_of (read_by c held) (λ f. IsUnflatFor f c kind number byte) (λ f. OutcomeOf f c (Refused (flatten_line (subject_of c) kind number byte)) × (HasText f c → ⊥)) (λ f m. unflat f c m) h) said.1 left
-  where
-    both : (bytes other : List ℕ) (pieces : List PlainPiece) → other ≡ bytes → IsReadWithMacros other pieces → IsRefusedWithMacros bytes kind number byte → ⊥
-    both bytes other pieces same read stop = (law.flat bytes).not_both pieces kind number byte (subst (λ (z : List ℕ). IsReadWithMacros z pieces) same read) stop
-
-    unflat : (f : Files) (c : Command) → IsUnflatFor f c kind number byte → OutcomeOf f c (Refused (flatten_line (subject_of c) kind number byte)) × (HasText f c → ⊥)
-    unflat f (Check version manifest) m = absurd m
-    unflat f (Audit manifest report) m = absurd m
-    unflat f (Trial seed size) m = absurd m
-    unflat f (Write manifest) m = absurd m
-    unflat f (Gaps manifest nanometres) m = absurd m
-    unflat f (X2 manifest) m = absurd m
-    unflat f (Flatten file) m = (
-      inr (record { kind = kind; command = number; byte = byte; unflat = m; line_is = refl }),
-      λ t. both m.bytes t.0 t.2 (one_file f file t.0 m.bytes t.1.held m.held.held) t.3 m.refused,
-    )
+refused_reason : OneOutcome → (c : Command) (held : Option Files) (before : ℕ) (was : List ℕ) (now : ℕ) (lost : List ℕ) (status : ℕ) (Line : List ℕ → Type 0) (why : Unanswered)
+    → (status ≡ 3) × Line (reason_line (subject_of c) (report_of c) why) → (task_of c).refuses held why → IsFaultless before was now lost → Reason c held before was now lost status Line
+refused_reason law c held before was now lost status Line why said h left = refusal_of _ said.0 ((sound c).refusal law held why h) said.1 left
 
 reason_of : OneOutcome → (c : Command) (held : Option Files) (before : ℕ) (was : List ℕ) (now : ℕ) (lost : List ℕ) (status : ℕ) (Line : List ℕ → Type 0) (why : Unanswered)
     → RefusesFor c why status Line → HasReason c held before now lost why → LeftBy before was now lost why → Reason c held before was now lost status Line
 reason_of law c held before was now lost status Line (Stopped why) said h left = stopped_reason law c held before was now lost status Line why said h left
-reason_of law c held before was now lost status Line NotAReport said h left = misread_reason c held before was now lost status Line said h left
-reason_of law c held before was now lost status Line SizeTooLarge said h left = too_large_reason c held before was now lost status Line said h left
-reason_of law c held before was now lost status Line (GrownTooLarge box) said h left = grown_reason law c held before was now lost status Line box said h left
-reason_of law c held before was now lost status Line (Mislabelled name number byte) said h left = mislabelled_reason law c held before was now lost status Line name number byte said h left
-reason_of law c held before was now lost status Line (Unflat kind number byte) said h left = unflat_reason law c held before was now lost status Line kind number byte said h left
+reason_of law c held before was now lost status Line NotAReport said h left = refused_reason law c held before was now lost status Line NotAReport said h left
+reason_of law c held before was now lost status Line SizeTooLarge said h left = refused_reason law c held before was now lost status Line SizeTooLarge said h left
+reason_of law c held before was now lost status Line (GrownTooLarge box) said h left = refused_reason law c held before was now lost status Line (GrownTooLarge box) said h left
+reason_of law c held before was now lost status Line (Mislabelled name number byte) said h left = refused_reason law c held before was now lost status Line (Mislabelled name number byte) said h left
+reason_of law c held before was now lost status Line (Unflat kind number byte) said h left = refused_reason law c held before was now lost status Line (Unflat kind number byte) said h left
 
 -- ---- What a command comes to
 
-small_status : (n : Note) → status_of n ≤ 1
+pub small_status : (n : Note) → status_of n ≤ 1
 small_status note.Agrees = omega arith
 small_status (note.Differs opens shorts missing) = omega arith
 small_status note.AuditTrue = omega arith
@@ -240,13 +131,8 @@ ends_cut files faults lost got broken noted failed c p p' o o' n n' status answe
 -- a file that cannot be read is one that the command takes
 never_unread : (c : Command) (held : Option Files) (A B : Type 0) (status : ℕ) (name : List ℕ) → OfFilesRead c held (λ f. ComesFor f c name) → A
     → OfFilesRead c held (λ f. HasText f c → (TakesFiles c → A → ⊥) → (B → ⊥) → (status ≤ 1) ⊎ (status ≡ 6))
-never_unread (Check version manifest) held A B status name comes rose = told_all held (λ f. HasText f (Check version manifest) → (Unit {0} → A → ⊥) → (B → ⊥) → (status ≤ 1) ⊎ (status ≡ 6)) (λ f text calm quiet. absurd (calm tt rose))
-never_unread (Audit manifest report) held A B status name comes rose = told_all held (λ f. HasText f (Audit manifest report) → (Unit {0} → A → ⊥) → (B → ⊥) → (status ≤ 1) ⊎ (status ≡ 6)) (λ f text calm quiet. absurd (calm tt rose))
-never_unread (Trial seed size) held A B status name comes rose = absurd comes
-never_unread (Write manifest) held A B status name comes rose = told_all held (λ f. HasText f (Write manifest) → (Unit {0} → A → ⊥) → (B → ⊥) → (status ≤ 1) ⊎ (status ≡ 6)) (λ f text calm quiet. absurd (calm tt rose))
-never_unread (Gaps manifest nanometres) held A B status name comes rose = told_all held (λ f. HasText f (Gaps manifest nanometres) → (Unit {0} → A → ⊥) → (B → ⊥) → (status ≤ 1) ⊎ (status ≡ 6)) (λ f text calm quiet. absurd (calm tt rose))
-never_unread (X2 manifest) held A B status name comes rose = told_all held (λ f. HasText f (X2 manifest) → (Unit {0} → A → ⊥) → (B → ⊥) → (status ≤ 1) ⊎ (status ≡ 6)) (λ f text calm quiet. absurd (calm tt rose))
-never_unread (Flatten file) held A B status name comes rose = told_all held (λ f. HasText f (Flatten file) → (Unit {0} → A → ⊥) → (B → ⊥) → (status ≤ 1) ⊎ (status ≡ 6)) (λ f text calm quiet. absurd (calm tt rose))
+never_unread c held A B status name comes rose =
+    told_of (read_by c held) (λ f. ComesFor f c name) (λ f. HasText f c → (TakesFiles c → A → ⊥) → (B → ⊥) → (status ≤ 1) ⊎ (status ≡ 6)) (λ f h text calm quiet. absurd (calm ((sound c).takes_what_comes f name h) rose)) comes
 
 -- no answer
 ends_without : {P S N : Type 0} (files : P → Option Files) (faults : P → ℕ) (lost : P → List ℕ) (got : S → Option (List ℕ)) (broken : S → ℕ) (noted : N → Option (List ℕ)) (failed : N → ℕ)

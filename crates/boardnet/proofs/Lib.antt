@@ -1,6 +1,10 @@
+pub mod Accounts
+pub mod Agreeable
 pub mod Ending
 pub mod OnBoard
 pub mod Says
+pub mod Sound
+pub mod Tasks
 pub mod Audits
 pub mod ByLabels
 pub mod Asking

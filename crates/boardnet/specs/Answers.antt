@@ -1,5 +1,5 @@
 -- What the parts of the top call answer.
-use Rattle.std.specs.Prelude.{◌≡◌, ℕ, List, [], ◌++◌, if◌then◌else◌, codes, decimal}
+use Rattle.std.specs.Prelude.{◌≡◌, ℕ, List, ◌++◌, if◌then◌else◌, codes, decimal}
 use Rattle.board_io.specs.Package.{Files}
 use Rattle.board_package.specs.PackageBoard.{IsBoardOf, IsHeldWith}
 use Rattle.board_package.specs.declared.fault.BuildFault.{BuildFault}
@@ -18,8 +18,9 @@ use Rattle.gerber_layer.specs.declared.macro_kind.FlattenFault.TheVariants as fl
 use Rattle.gaps.specs.declared.listing.GapFault.{GapFault}
 use Rattle.gaps.specs.declared.listing.GapFault.TheVariants as gap
 use Rattle.boardnet.specs.Lines.{counted_line, plain_line, file_line, differs_line, frame_line, label_line, end}
-use Rattle.boardnet.specs.Outcome.{flatten_line, refusal_line, IsNoReport, IsTextOf, made_manifest}
-use Rattle.boardnet.specs.Words.{Command, Check, Audit, Trial, Write, Gaps, X2, Flatten}
+use Rattle.boardnet.specs.Outcome.{flatten_line, refusal_line, IsNoReport, IsTextOf}
+pub use Rattle.boardnet.specs.commands.Audit.{IsNoText}
+use Rattle.boardnet.specs.Words.{Command, task_of}
 use Rattle.boardnet.specs.declared.answer.Answer.{Answer}
 use Rattle.boardnet.specs.declared.answer.Note.{Note}
 use Rattle.boardnet.specs.declared.answer.Note.TheVariants as note
@@ -110,18 +111,11 @@ Refuses manifest why status Line = (status ≡ fault_status why) × Line (fault_
 
 -- the name of the manifest or of the copper file that a command is about
 abbrev pub subject_of : Command → List ℕ
-subject_of (Check version manifest) = manifest
-subject_of (Audit manifest report) = manifest
-subject_of (Trial seed size) = made_manifest
-subject_of (Write manifest) = manifest
-subject_of (Gaps manifest nanometres) = manifest
-subject_of (X2 manifest) = manifest
-subject_of (Flatten file) = file
+subject_of command = (task_of command).subject
 
 -- the name of the report, which only an audit has
 abbrev pub report_of : Command → List ℕ
-report_of (Audit manifest report) = report
-report_of other = []
+report_of command = (task_of command).report
 
 -- the status where a command has no answer, and its line
 abbrev pub RefusesFor : Command → Unanswered → ℕ → (List ℕ → Type 0) → Type 0
@@ -148,12 +142,6 @@ pub record IsRuled (files : Files) (manifest report : List ℕ) (ruling : Ruling
   pub verdict : Verdict
   pub read : IsHeldWith files report (λ bytes. IsTextOf bytes verdict)
   pub rules : (t : Tables) → IsTables board t → Rules t verdict ruling
-
--- The package fits, and the report is the text of no verdict.
-pub record IsNoText (files : Files) (manifest report : List ℕ) : Type 0 where
-  pub board : PlainBoard
-  pub board_is : IsBoardOf files manifest board
-  pub held : IsHeldWith files report IsNoReport
 
 -- the answer says the ruling
 abbrev pub Answers : Ruling → Answer → Type 0

@@ -1,82 +1,31 @@
 -- What a command comes to: its work on the package, and then what is put.
-use Rattle.std.specs.Prelude.{◌≡◌, ◌≢◌, ◌<◌, ◌≤◌, ◌⊎◌, ℕ, List, Option, Result, IfErr, IfOk, codes, pos, ◌*◌}
+use Rattle.std.specs.Prelude.{◌≡◌, ◌≤◌, ◌⊎◌, ℕ, List, Option, codes, ◌≢◌, Result, IfErr, IfOk}
 use Rattle.board_io.specs.Causes.{Rose}
 use Rattle.board_io.specs.Package.{Files, IsFaultless}
 use Rattle.board_io.specs.Sink.{Gains, GainsFrontOf}
-use Rattle.board_maker.specs.MadePackage.{made_files}
 use Rattle.board_package.specs.Causes.{HasCause}
-use Rattle.board_package.specs.LabelledBoard.{IsFirstLabelledStop, IsLabelledBoardOf, mislabelled, unbuilt}
-use Rattle.board_package.specs.PackageBoard.{IsBoardOf, IsFirstStop, Stop, IsHeld, StopsTaking}
-use Rattle.board_shapes.specs.CommonBox.{Fits}
-use Rattle.board_shapes.specs.Plain.{PlainBoard}
-use Rattle.contact.specs.declared.Bounds.{Bounds}
-use Rattle.gaps.specs.GrownBox.{grown_common}
-use Rattle.gerber_layer.specs.MacroLayer.{IsReadWithMacros}
-use Rattle.gerber_layer.specs.declared.macro_kind.FlattenKind.{FlattenKind}
-use Rattle.board_shapes.specs.Pieces.{PlainPiece}
-use Rattle.boardnet.specs.Answers.{IsNoText, line_of, status_of}
+use Rattle.board_package.specs.PackageBoard.{Stop, refused}
+use Rattle.boardnet.specs.Answers.{line_of, status_of}
 use Rattle.boardnet.specs.Kept.{Keeps, LeftBy}
-use Rattle.boardnet.specs.Lines.{Says, file_line, plain_line}
-use Rattle.boardnet.specs.Outcome.{ComesFor, IsAnswer, IsAuditStop, IsGrownStop, IsUnflat, OfFilesRead, OutcomeOf, Refused, Told, made_manifest, read_by}
-use Rattle.boardnet.specs.Words.{Command, Check, Audit, Trial, Write, Gaps, X2, Flatten}
+use Rattle.boardnet.specs.Lines.{plain_line, file_line, Says}
+use Rattle.boardnet.specs.Outcome.{Told, Refused, ComesFor, OfFilesRead, OutcomeOf, read_by}
+use Rattle.boardnet.specs.Words.{Command, task_of}
 use Rattle.boardnet.specs.declared.answer.Answer.{Answer}
 use Rattle.boardnet.specs.declared.answer.Unanswered.{Unanswered}
-use Rattle.boardnet.specs.declared.answer.Unanswered.TheVariants.{Stopped, NotAReport, SizeTooLarge, GrownTooLarge, Mislabelled, Unflat}
-use Rattle.lengths.specs.Text.{IsText}
+use Rattle.boardnet.specs.declared.answer.Unanswered.TheVariants.{Stopped}
 
 -- the names of files in a command are texts, and its numbers are in range
 abbrev pub HasNames : Command → Type 0
-HasNames (Check version manifest) = IsText manifest
-HasNames (Audit manifest report) = IsText manifest × IsText report
-HasNames (Trial seed size) = Unit {0}
-HasNames (Write manifest) = IsText manifest
-HasNames (Gaps manifest nanometres) = IsText manifest × (nanometres ≤ 10_000_000)
-HasNames (X2 manifest) = IsText manifest
-HasNames (Flatten file) = IsText file
+HasNames command = (task_of command).in_range
 
 -- the stops of a command
 abbrev pub StopsFor : Files → Command → Stop → Type 0
-StopsFor files (Check version manifest) stop = IsFirstStop files manifest stop
-StopsFor files (Audit manifest report) stop = IsAuditStop files manifest report stop
-StopsFor files (Trial seed size) stop = (size ≤ 10000) × IsFirstStop (made_files seed size) made_manifest stop
-StopsFor files (Write manifest) stop = IsFirstStop files manifest stop
-StopsFor files (Gaps manifest nanometres) stop = IsFirstStop files manifest stop
-StopsFor files (X2 manifest) stop = IsFirstLabelledStop files manifest (unbuilt stop)
-StopsFor files (Flatten file) stop = StopsTaking files file stop
-
--- the report of a command is the text of no verdict
-abbrev pub IsMisreadFor : Files → Command → Type 0
-IsMisreadFor files (Audit manifest report) = IsNoText files manifest report
-IsMisreadFor files other = ⊥
-
--- the size of a command is that of no made board
-abbrev pub IsTooLargeFor : Command → Type 0
-IsTooLargeFor (Trial seed size) = 10000 < size
-IsTooLargeFor other = ⊥
-
--- the pieces, grown by half the distance of a command, fit in no frame, and this is their common box
-abbrev pub IsGrownTooLargeFor : Files → Command → Bounds → Type 0
-IsGrownTooLargeFor files (Gaps manifest nanometres) box = IsGrownStop files manifest nanometres box
-IsGrownTooLargeFor files other box = ⊥
-
--- a label of the copper file of this name is amiss, and that is the first stop of a command
-abbrev pub IsMislabelledFor : Files → Command → List ℕ → ℕ → ℕ → Type 0
-IsMislabelledFor files (X2 manifest) name number byte = IsFirstLabelledStop files manifest (mislabelled name number byte)
-IsMislabelledFor files other name number byte = ⊥
-
--- the copper file of a command is refused at this command
-abbrev pub IsUnflatFor : Files → Command → FlattenKind → ℕ → ℕ → Type 0
-IsUnflatFor files (Flatten file) kind number byte = IsUnflat files file kind number byte
-IsUnflatFor files other kind number byte = ⊥
+StopsFor files command stop = (task_of command).stops files stop
 
 -- why a command has no answer
 abbrev pub HasReason : Command → Option Files → ℕ → ℕ → List ℕ → Unanswered → Type 0
 HasReason command held before now lost (Stopped why) = HasCause (read_by command held) (λ files stop. StopsFor files command stop) (λ files name. ComesFor files command name) before now lost why
-HasReason command held before now lost NotAReport = OfFilesRead command held (λ files. IsMisreadFor files command)
-HasReason command held before now lost SizeTooLarge = IsTooLargeFor command
-HasReason command held before now lost (GrownTooLarge box) = OfFilesRead command held (λ files. IsGrownTooLargeFor files command box)
-HasReason command held before now lost (Mislabelled name number byte) = OfFilesRead command held (λ files. IsMislabelledFor files command name number byte)
-HasReason command held before now lost (Unflat kind number byte) = OfFilesRead command held (λ files. IsUnflatFor files command kind number byte)
+HasReason command held before now lost other = (task_of command).refuses held other
 
 -- The work of a command on a package that it was lent: the answer is the command's outcome, or there is a reason why there is
 -- none.
@@ -97,18 +46,11 @@ pub data Puts {S N : Type 0} (got : S → Option (List ℕ)) (broken : S → ℕ
 
 -- the outcome of a command is a text
 abbrev pub HasText : Files → Command → Type 0
-HasText files (Check version manifest) = (board : PlainBoard) × IsBoardOf files manifest board
-HasText files (Audit manifest report) = (text line : List ℕ) × (status : ℕ) × IsAnswer files manifest report text status line
-HasText files (Trial seed size) = (size ≤ 10000) × (board : PlainBoard) × IsBoardOf (made_files seed size) made_manifest board
-HasText files (Write manifest) = (board : PlainBoard) × IsBoardOf files manifest board
-HasText files (Gaps manifest nanometres) = (board : PlainBoard) × IsBoardOf files manifest board × Fits (grown_common (pos (5 * nanometres)) board.pieces)
-HasText files (X2 manifest) = (board : PlainBoard) × IsLabelledBoardOf files manifest board
-HasText files (Flatten file) = (bytes : List ℕ) × IsHeld files file bytes × (pieces : List PlainPiece) × IsReadWithMacros bytes pieces
+HasText files command = (task_of command).has_text files
 
 -- a command takes files of the package; a trial takes none
 abbrev pub TakesFiles : Command → Type 0
-TakesFiles (Trial seed size) = ⊥
-TakesFiles other = Unit {0}
+TakesFiles command = (task_of command).takes
 
 -- What a command comes to, by the status that it answers: of the package `p`, the output `o` and the notes `n`, before and
 -- after.

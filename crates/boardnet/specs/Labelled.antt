@@ -1,7 +1,7 @@
 -- What the parts of the command `x2` answer.
 use Rattle.std.specs.Prelude.{◌≡◌, ℕ, List}
 use Rattle.board_shapes.specs.Plain.{PlainBoard}
-use Rattle.boardnet.specs.Outcome.{HasStatus}
+use Rattle.boardnet.specs.Common.{HasStatus}
 use Rattle.boardnet.specs.Right.{IsOfVersion, IsRightOn}
 use Rattle.boardnet.specs.declared.words.Version.TheVariants.{Two}
 use Rattle.verdict.specs.Lawful.{IsVerdict}

@@ -1,13 +1,17 @@
 //! The command `audit`.
+ghost use Rattle.board_io.specs.Handed.{Handed};
 ghost use Rattle.board_io.specs.Package.{IsFaultless};
-ghost use Rattle.board_package.specs.Causes.{HasCause, KeepsFaults};
+ghost use Rattle.board_package.specs.Causes.{HandedCause, HasCause, KeepsFaults};
+ghost use Rattle.board_package.specs.HandedBoard.{IsBoardHanded, IsHanded};
 ghost use Rattle.board_shapes.specs.Laws.{HasOneTables};
 ghost use Rattle.board_shapes.specs.Plain.{plain_board};
 ghost use Rattle.boardnet.specs.Answers.{Answers, IsRuledOn, IsUnruled};
 ghost use Rattle.boardnet.specs.Ends.{Works};
+ghost use Rattle.boardnet.specs.HandedOutcome.{HasHandedReason, IsAccount, account_of};
 ghost use Rattle.boardnet.specs.Outcome.{ComesFor, IsAuditStop, IsBoardOf, IsHeld};
 ghost use Rattle.boardnet.specs.Words.{Audit, IsText};
-ghost use Rattle.std.specs.Prelude.{IfErr, IfOk, IfSome, ◌≡◌, ◌≤◌};
+ghost use Rattle.boardnet.specs.commands.Audit.{IsAuditStopHanded};
+ghost use Rattle.std.specs.Prelude.{IfErr, IfOk, IfSome, List, ◌≡◌, ◌≤◌};
 
 use crate::answer::{Answer, Answered, Note, Unanswered};
 use crate::judged::board_of;
@@ -26,7 +30,9 @@ use witness_check::{Ruling, audit};
 pub fn ruling<P: Package>(alloc: Global, manifest: &str, report: &str, package: &mut P) -> Answered
     requires manifest { IsText manifest.now }
     requires report { IsText report.now }
-    ensures { Works P.held P.faults P.lost (Audit manifest.now report.now) «package».old «package».new result }
+    ensures handed { IfOk result (λ answer. IsAccount (account_of (Audit manifest.now report.now) (P.handed «package».old) (P.handed «package».new)) answer) }
+    ensures handed_reason { IfErr result (HasHandedReason (account_of (Audit manifest.now report.now) (P.handed «package».old) (P.handed «package».new)) (P.faults «package».old) (P.faults «package».new) (P.lost «package».new)) }
+    ensures works { Works P.held P.faults P.lost (Audit manifest.now report.now) «package».old «package».new result }
 {
     let mut file = Vec::new(alloc);
     let board = taken(alloc, manifest, report, package, &mut file)?;
@@ -77,6 +83,8 @@ fn taken<P: Package>(
     ensures later { P.faults «package».old ≤ P.faults «package».new }
     ensures calm { IfOk result (λ _. IsFaultless (P.faults «package».old) (P.lost «package».old) (P.faults «package».new) (P.lost «package».new)) }
     ensures left { IfErr result (KeepsFaults (P.faults «package».old) (P.lost «package».old) (P.faults «package».new) (P.lost «package».new)) }
+    ensures handed { IfOk result (λ board. (built : List Handed) × IsBoardHanded (P.handed «package».old) built manifest.now (plain_board board) × IsHanded built (P.handed «package».new) report.now file.new.items) }
+    ensures handed_cause { IfErr result (HandedCause (λ stop. IsAuditStopHanded (P.handed «package».old) (P.handed «package».new) manifest.now report.now stop) (account_of (Audit manifest.now report.now) (P.handed «package».old) (P.handed «package».new)).comes (P.faults «package».old) (P.faults «package».new) (P.lost «package».new)) }
     ensures ok { IfOk result (λ board. IfSome (P.held «package».old) (λ files. IsBoardOf files manifest.now (plain_board board) × IsHeld files report.now file.new.items)) }
     ensures fault { IfErr result (HasCause (P.held «package».old) (λ files stop. IsAuditStop files manifest.now report.now stop) (λ files name. ComesFor files (Audit manifest.now report.now) name) (P.faults «package».old) (P.faults «package».new) (P.lost «package».new)) }
 {

@@ -1,6 +1,8 @@
 //! The command `check`.
 ghost use Rattle.boardnet.specs.Ends.{Works};
+ghost use Rattle.boardnet.specs.HandedOutcome.{HasHandedReason, IsAccount, account_of};
 ghost use Rattle.boardnet.specs.Words.{Check, IsText};
+ghost use Rattle.std.specs.Prelude.{IfErr, IfOk};
 
 use crate::answer::{Answer, Answered, Note};
 use crate::judged::{board_of, verdict_in};
@@ -17,7 +19,9 @@ pub fn report<P: Package>(
     package: &mut P,
 ) -> Answered
     requires { IsText manifest.now }
-    ensures { Works P.held P.faults P.lost (Check version manifest.now) «package».old «package».new result }
+    ensures handed { IfOk result (λ answer. IsAccount (account_of (Check version manifest.now) (P.handed «package».old) (P.handed «package».new)) answer) }
+    ensures handed_reason { IfErr result (HasHandedReason (account_of (Check version manifest.now) (P.handed «package».old) (P.handed «package».new)) (P.faults «package».old) (P.faults «package».new) (P.lost «package».new)) }
+    ensures works { Works P.held P.faults P.lost (Check version manifest.now) «package».old «package».new result }
 {
     let board = board_of(alloc, manifest, package)?;
     let verdict = verdict_in(alloc, version, &board)?;

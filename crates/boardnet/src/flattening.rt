@@ -1,8 +1,9 @@
 //! The command `flatten`.
 ghost use Rattle.boardnet.specs.Answers.{status_of};
 ghost use Rattle.boardnet.specs.Ends.{Works};
+ghost use Rattle.boardnet.specs.HandedOutcome.{HasHandedReason, IsAccount, account_of};
 ghost use Rattle.boardnet.specs.Words.{Flatten, IsText};
-ghost use Rattle.std.specs.Prelude.{IfOk, ◌≡◌};
+ghost use Rattle.std.specs.Prelude.{IfErr, IfOk, ◌≡◌};
 
 use crate::answer::{Answer, Answered, Note};
 use crate::refusing::name_of;
@@ -14,6 +15,8 @@ use std::alloc::Global;
 /// The text of the image of a copper file.
 pub fn flat_text<P: Package>(alloc: Global, file: &str, package: &mut P) -> Answered
     requires { IsText file.now }
+    ensures handed { IfOk result (λ answer. IsAccount (account_of (Flatten file.now) (P.handed «package».old) (P.handed «package».new)) answer) }
+    ensures handed_reason { IfErr result (HasHandedReason (account_of (Flatten file.now) (P.handed «package».old) (P.handed «package».new)) (P.faults «package».old) (P.faults «package».new) (P.lost «package».new)) }
     ensures works { Works P.held P.faults P.lost (Flatten file.now) «package».old «package».new result }
     ensures unjudged { IfOk result (λ answer. status_of answer.note ≡ 0) }
 {

@@ -3,6 +3,7 @@ ghost use Rattle.board_shapes.specs.Plain.{plain_board};
 ghost use Rattle.boardnet.specs.Answers.{IsUngapped, line_of, status_of};
 ghost use Rattle.boardnet.specs.Ends.{Works};
 ghost use Rattle.boardnet.specs.Gapped.{IsGapListOn};
+ghost use Rattle.boardnet.specs.HandedOutcome.{HasHandedReason, IsAccount, account_of};
 ghost use Rattle.boardnet.specs.Words.{Gaps, IsText};
 ghost use Rattle.std.specs.Prelude.{IfErr, IfOk, ◌≤◌};
 
@@ -22,7 +23,9 @@ pub fn gap_list<P: Package>(
 ) -> Answered
     requires text { IsText manifest.now }
     requires most { nanometres ≤ 10_000_000 }
-    ensures { Works P.held P.faults P.lost (Gaps manifest.now nanometres) «package».old «package».new result }
+    ensures handed { IfOk result (λ answer. IsAccount (account_of (Gaps manifest.now nanometres) (P.handed «package».old) (P.handed «package».new)) answer) }
+    ensures handed_reason { IfErr result (HasHandedReason (account_of (Gaps manifest.now nanometres) (P.handed «package».old) (P.handed «package».new)) (P.faults «package».old) (P.faults «package».new) (P.lost «package».new)) }
+    ensures works { Works P.held P.faults P.lost (Gaps manifest.now nanometres) «package».old «package».new result }
 {
     let board = board_of(alloc, manifest, package)?;
     let answer = gap_list_on(alloc, &board, nanometres)?;

@@ -1,6 +1,7 @@
 //! The board of a package, and the work on it: its nets and its verdict.
 ghost use Rattle.board_io.specs.Package.{IsFaultless};
-ghost use Rattle.board_package.specs.Causes.{HasCause, KeepsFaults};
+ghost use Rattle.board_package.specs.Causes.{HandedCause, HasCause, KeepsFaults};
+ghost use Rattle.board_package.specs.HandedBoard.{ComesHanded, IsBoardHanded, IsFirstStopHanded};
 ghost use Rattle.board_package.specs.PackageBoard.{Comes, IsBoardOf, IsFirstStop, IsWithinLimits};
 ghost use Rattle.board_shapes.specs.Plain.{plain_board};
 ghost use Rattle.boardnet.specs.Right.{IsOfVersion, IsRightOn};
@@ -36,6 +37,8 @@ pub fn board_of<P: Package>(
     ensures calm { IfOk result (λ _. IsFaultless (P.faults «package».old) (P.lost «package».old) (P.faults «package».new) (P.lost «package».new)) }
     ensures left { IfErr result (KeepsFaults (P.faults «package».old) (P.lost «package».old) (P.faults «package».new) (P.lost «package».new)) }
     ensures ok { IfOk result (λ board. IfSome (P.held «package».old) (λ files. IsBoardOf files manifest.now (plain_board board))) }
+    ensures handed { IfOk result (λ board. IsBoardHanded (P.handed «package».old) (P.handed «package».new) manifest.now (plain_board board)) }
+    ensures handed_cause { IfErr result (HandedCause (λ stop. IsFirstStopHanded (P.handed «package».old) (P.handed «package».new) manifest.now stop) (λ name. ComesHanded (P.handed «package».old) (P.handed «package».new) manifest.now name) (P.faults «package».old) (P.faults «package».new) (P.lost «package».new)) }
     ensures limits { IfOk result (λ board. IsWithinLimits (plain_board board)) }
     ensures fault { IfErr result (HasCause (P.held «package».old) (λ files stop. IsFirstStop files manifest.now stop) (λ files name. Comes files manifest.now name) (P.faults «package».old) (P.faults «package».new) (P.lost «package».new)) }
 {

@@ -1,8 +1,22 @@
 //! Laws over the outcomes. Their calls do nothing.
+ghost use Rattle.boardnet.specs.FilesAgree.{FilesAgree, OutcomesAgree};
 ghost use Rattle.boardnet.specs.Laws.{ReportsPass, WrittenNetlistsPass};
 
 use board_package::laws as packages;
 use netlist_writer::laws as netlists;
+
+/// Unless a name was handed over twice with other bytes, there are files that agree with all that was handed over: so what is said of all such
+/// files is said of some.
+pub fn files_agree()
+    ensures { FilesAgree }
+{}
+
+/// What a command comes to by what was handed over to it, it comes to by all files that agree with that.
+pub fn outcomes_agree()
+    ensures { OutcomesAgree }
+{
+    packages::handed_is_held();
+}
 
 /// The report that `check` writes passes the audit of the same package.
 pub fn reports_pass()

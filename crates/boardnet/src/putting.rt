@@ -4,7 +4,7 @@ ghost use Rattle.boardnet.specs.Asked.{asked};
 ghost use Rattle.boardnet.specs.Ends.{Puts};
 ghost use Rattle.boardnet.specs.Lines.{Gains, GainsFrontOf, Rose, Says, plain_line};
 ghost use Rattle.std.specs.List.{flat_map};
-ghost use Rattle.std.specs.Prelude.{IfOk, MatchResult, codes, false, true, ◌≡◌, ◌≤◌};
+ghost use Rattle.std.specs.Prelude.{IfOk, MatchResult, [], codes, false, true, ◌++◌, ◌∷◌, ◌≡◌, ◌≤◌};
 
 use crate::answer::Answered;
 use crate::lines;
@@ -24,6 +24,8 @@ pub fn conclude<S: Sink, N: Sink>(
     ensures put { MatchResult given
         (λ answer. Puts S.got S.faults N.got N.faults answer out.old out.new notes.old notes.new result)
         (λ why. RefusesFor (asked command.entry) why result (Says N.got N.faults notes.old notes.new) × (out.new ≡ out.old)) }
+    ensures handed { IfOk given (λ answer. S.handed out.new ≡ S.handed out.old ++ answer.text.items ∷ []) }
+    ensures delivered { result ≤ 1 → S.faults out.new ≡ S.faults out.old }
     ensures later { (S.faults out.old ≤ S.faults out.new) × (N.faults notes.old ≤ N.faults notes.new) }
 {
     match given {
@@ -41,6 +43,8 @@ pub fn conclude<S: Sink, N: Sink>(
 // Puts the text, and where that fails the line about it.
 fn put_text<S: Sink, N: Sink>(text: &[u8], out: &mut S, notes: &mut N) -> bool
     ensures whole { result ≡ true → Gains (S.got out.old) text.now (S.got out.new) × (notes.new ≡ notes.old) }
+    ensures faultless { result ≡ true → S.faults out.new ≡ S.faults out.old }
+    ensures handed { S.handed out.new ≡ S.handed out.old ++ text.now ∷ [] }
     ensures front { result ≡ false → Rose (S.faults out.old) (S.faults out.new) × GainsFrontOf (S.got out.old) text.now (S.got out.new)
         × Says N.got N.faults notes.old notes.new (plain_line (codes "output cannot be written")) }
     ensures later { (S.faults out.old ≤ S.faults out.new) × (N.faults notes.old ≤ N.faults notes.new) }

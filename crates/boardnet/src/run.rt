@@ -1,11 +1,13 @@
 //! The top call.
+ghost use Rattle.board_io.specs.Handed.{IfAgreed};
 ghost use Rattle.boardnet.specs.Asked.{asked};
 ghost use Rattle.boardnet.specs.Ends.{Ends, HasNames};
+ghost use Rattle.boardnet.specs.HandedOutcome.{EndsHanded, IsHandedAnswer, IsHandedFlatText, IsHandedGaps, IsHandedLabelledReport, IsHandedNetlist, IsHandedReport, account_of};
 ghost use Rattle.boardnet.specs.Kept.{Keeps};
 ghost use Rattle.boardnet.specs.Lines.{Gains, GainsFrontOf, Rose, Says, file_line, plain_line};
 ghost use Rattle.boardnet.specs.Outcome.{ComesFor, Fits, IsAnswer, IsBoardOf, IsFlatText, IsGapped, IsHeld, IsLabelledBoardOf, IsLabelledReport, IsReadWithMacros, IsReport, IsTrialReport, IsWritten, OfFilesRead, OutcomeOf, PlainBoard, PlainPiece, Refused, Told, grown_common, made_files, made_manifest};
 ghost use Rattle.boardnet.specs.Words.{Asks, Command as Asked, IsAudit, IsCheck, IsFlatten, IsGaps, IsTrial, IsUnderstood, IsWrite, IsX2, Trial, Version, Write, Flatten};
-ghost use Rattle.std.specs.Prelude.{IfSome, List, codes, pos, ℕ, ◌*◌, ◌↔◌, ◌≡◌, ◌≢◌, ◌≤◌, ◌⊎◌};
+ghost use Rattle.std.specs.Prelude.{IfSome, List, Some, [], codes, ◌++◌, ◌∷◌, pos, ℕ, ◌*◌, ◌↔◌, ◌≡◌, ◌≢◌, ◌≤◌, ◌⊎◌};
 
 use crate::commands::answer_to;
 use crate::lines;
@@ -53,6 +55,44 @@ pub fn run<P: Package, S: Sink, N: Sink>(
     ensures right { result ≤ 1 → IfSome (P.held «package».old) (λ files. (version : Version) (name : List ℕ) → IsCheck words.now version name
         → (text line : List ℕ) × IsReport files version name text result line
         × Gains (S.got out.old) text (S.got out.new) × Says N.got N.faults notes.old notes.new line) }
+
+    // Of whatever package and sinks, also those that tell nothing: what is said of 0, 1, 3, 4 and 5 of the files that the
+    // package tells is said of what it handed over in this call, entry by entry, so that a name that was taken twice is no hole. 0 and 1:
+    // the files of the command's order were handed over, one by one, and nothing else; `out` was handed exactly one text, in one
+    // piece, and it is the command's text for these very bytes. 3: the refusal is the first of these very bytes. 4: the file
+    // comes next behind them.
+    ensures handed { (command : Asked) → Asks words.now command → EndsHanded (account_of command (P.handed «package».old) (P.handed «package».new)) (P.lost «package».new) S.handed S.got N.got N.faults out.old out.new notes.old notes.new result }
+
+    // The same at 0 and 1, command by command: the report on the board that these bytes make; the ruling on the report behind
+    // them; the written netlist; the list of gaps; the report by the net names in them; the flattened file.
+    ensures handed_right { result ≤ 1 → (version : Version) (name : List ℕ) → IsCheck words.now version name
+        → (text line : List ℕ) × IsHandedReport (P.handed «package».old) (P.handed «package».new) version name text result line
+        × (S.handed out.new ≡ S.handed out.old ++ text ∷ []) × Gains (S.got out.old) text (S.got out.new) × Says N.got N.faults notes.old notes.new line }
+    ensures handed_ruling { result ≤ 1 → (manifest report : List ℕ) → IsAudit words.now manifest report
+        → (text line : List ℕ) × IsHandedAnswer (P.handed «package».old) (P.handed «package».new) manifest report text result line
+        × (S.handed out.new ≡ S.handed out.old ++ text ∷ []) × Gains (S.got out.old) text (S.got out.new) × Says N.got N.faults notes.old notes.new line }
+    ensures handed_netlist { result ≤ 1 → (name : List ℕ) → IsWrite words.now name
+        → (text line : List ℕ) × IsHandedNetlist (P.handed «package».old) (P.handed «package».new) name text result line
+        × (S.handed out.new ≡ S.handed out.old ++ text ∷ []) × Gains (S.got out.old) text (S.got out.new) × Says N.got N.faults notes.old notes.new line }
+    ensures handed_gaps { result ≤ 1 → (name : List ℕ) (nanometres : ℕ) → IsGaps words.now name nanometres
+        → (text line : List ℕ) × IsHandedGaps (P.handed «package».old) (P.handed «package».new) name nanometres text result line
+        × (S.handed out.new ≡ S.handed out.old ++ text ∷ []) × Gains (S.got out.old) text (S.got out.new) × Says N.got N.faults notes.old notes.new line }
+    ensures handed_labels { result ≤ 1 → (name : List ℕ) → IsX2 words.now name
+        → (text line : List ℕ) × IsHandedLabelledReport (P.handed «package».old) (P.handed «package».new) name text result line
+        × (S.handed out.new ≡ S.handed out.old ++ text ∷ []) × Gains (S.got out.old) text (S.got out.new) × Says N.got N.faults notes.old notes.new line }
+    ensures handed_image { result ≤ 1 → (name : List ℕ) → IsFlatten words.now name
+        → (text line : List ℕ) × IsHandedFlatText (P.handed «package».old) (P.handed «package».new) name text result line
+        × (S.handed out.new ≡ S.handed out.old ++ text ∷ []) × Gains (S.got out.old) text (S.got out.new) × Says N.got N.faults notes.old notes.new line }
+
+    // It follows that what is said above and below of the files that the package tells holds of all files that agree with what it
+    // handed over in this call. On `check`, and of each command by its outcome.
+    ensures agreed_right { result ≤ 1 → IfAgreed (P.handed «package».old) (P.handed «package».new) (λ files. (version : Version) (name : List ℕ) → IsCheck words.now version name
+        → (text line : List ℕ) × IsReport files version name text result line
+        × Gains (S.got out.old) text (S.got out.new) × Says N.got N.faults notes.old notes.new line) }
+    ensures agreed { IfAgreed (P.handed «package».old) (P.handed «package».new) (λ files. (command : Asked) → Asks words.now command → Ends (λ p. Some files) P.faults P.lost S.got S.faults N.got N.faults command «package».old «package».new out.old out.new notes.old notes.new result) }
+
+    // 0 and 1: the output had no fault.
+    ensures delivered { result ≤ 1 → S.faults out.new ≡ S.faults out.old }
 
     // 0 and 1 on `audit`: the package fits, and `out` got the ruling on the verdict whose text the report is.
     ensures audited { result ≤ 1 → IfSome (P.held «package».old) (λ files. (manifest report : List ℕ) → IsAudit words.now manifest report
@@ -162,10 +202,14 @@ fn perform<P: Package, S: Sink, N: Sink>(
     notes: &mut N,
 ) -> u8
     requires { HasNames (asked command) }
+    ensures agreed { IfAgreed (P.handed «package».old) (P.handed «package».new) (λ files. Ends (λ p. Some files) P.faults P.lost S.got S.faults N.got N.faults (asked command.entry) «package».old «package».new out.old out.new notes.old notes.new result) }
     ensures ends { Ends P.held P.faults P.lost S.got S.faults N.got N.faults (asked command.entry) «package».old «package».new out.old out.new notes.old notes.new result }
+    ensures handed { EndsHanded (account_of (asked command.entry) (P.handed «package».old) (P.handed «package».new)) (P.lost «package».new) S.handed S.got N.got N.faults out.old out.new notes.old notes.new result }
+    ensures delivered { result ≤ 1 → S.faults out.new ≡ S.faults out.old }
     ensures untouched { (seed size : ℕ) → asked command.entry ≡ Trial seed size → «package».new ≡ «package».old }
     ensures unjudged { (name : List ℕ) → (asked command.entry ≡ Write name) ⊎ (asked command.entry ≡ Flatten name) → result ≢ 1 }
 {
+    packages::handed_is_held();
     packages::one_outcome();
     packages::one_labelled_outcome();
     layers::one_macro_answer();

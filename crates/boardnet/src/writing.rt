@@ -2,9 +2,10 @@
 ghost use Rattle.board_shapes.specs.Plain.{plain_board};
 ghost use Rattle.boardnet.specs.Answers.{status_of};
 ghost use Rattle.boardnet.specs.Ends.{Works};
+ghost use Rattle.boardnet.specs.HandedOutcome.{HasHandedReason, IsAccount, account_of};
 ghost use Rattle.boardnet.specs.Words.{IsText, Write};
 ghost use Rattle.boardnet.specs.Written.{IsNetlistOn};
-ghost use Rattle.std.specs.Prelude.{IfOk, ◌≡◌};
+ghost use Rattle.std.specs.Prelude.{IfErr, IfOk, ◌≡◌};
 
 use crate::answer::{Answer, Answered, Note};
 use crate::judged::{board_of, verdict_on};
@@ -17,6 +18,8 @@ use std::alloc::Global;
 /// The netlist of the package of a manifest.
 pub fn netlist<P: Package>(alloc: Global, manifest: &str, package: &mut P) -> Answered
     requires { IsText manifest.now }
+    ensures handed { IfOk result (λ answer. IsAccount (account_of (Write manifest.now) (P.handed «package».old) (P.handed «package».new)) answer) }
+    ensures handed_reason { IfErr result (HasHandedReason (account_of (Write manifest.now) (P.handed «package».old) (P.handed «package».new)) (P.faults «package».old) (P.faults «package».new) (P.lost «package».new)) }
     ensures works { Works P.held P.faults P.lost (Write manifest.now) «package».old «package».new result }
     ensures unjudged { IfOk result (λ answer. status_of answer.note ≡ 0) }
 {

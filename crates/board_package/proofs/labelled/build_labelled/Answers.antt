@@ -1,15 +1,17 @@
 use Rattle.std.proofs.Common.{List, IfSome, subst, ap, ◌∙◌}
 use Rattle.std.specs.List.{filter}
 use Rattle.board_io.specs.Package.{IsFaultless}
+use Rattle.board_package.proofs.LabelStaging.{files_labelled_handed, frame_labelled_handed, labelled_board_handed, manifest_labelled_handed}
+use Rattle.board_package.specs.HandedLabelled.{GoesLabelledHanded, LabelledComesAmongHanded, StopsLabelledAmongHanded, labelled_course}
 use Rattle.board_package.specs.LabelledBoard.{GoesLabelled, LabelledComesAmong, StopsLabelledAmong, labelled_board_of}
-use Rattle.board_package.specs.LabelledCauses.{HasLabelledCause, labelled_so_far}
+use Rattle.board_package.specs.LabelledCauses.{HandedLabelledCause, HasLabelledCause, labelled_so_far}
 use Rattle.board_package.specs.PackageBoard.{WalksBy}
 use Rattle.board_package.specs.Parts.{board_so_far}
 use Rattle.board_package.specs.declared.fault.BuildFault.TheVariants as build
 use Rattle.board_package.specs.declared.fault.LabelledFault.TheVariants as fault
 use Rattle.x2_nets.specs.declared.table.Label.{Label}
-use Rattle.board_package.proofs.LabelCauses.{climbs, files_labelled_cause, frame_labelled_cause, kept_labelled, kept_labelled_after, labelled_board_is, manifest_labelled_cause, nothing_yet, with_board}
-use Rattle.board_package.proofs.Lift.{faultless_both}
+use Rattle.board_package.proofs.LabelCauses.{files_labelled_cause, frame_labelled_cause, kept_labelled, kept_labelled_after, labelled_board_is, manifest_labelled_cause, nothing_yet, with_board}
+use Rattle.board_package.proofs.Lift.{climbs, faultless_both}
 use Rattle.board_package.proofs.labelled.build_labelled.Goals as goal
 
 -- ---- The manifest
@@ -82,3 +84,50 @@ returns-clause-ok g c =
     let named = c.in_ok-name_pieces.ensures.ok ∙ ap (λ (t : List (List Label)). labelled_board_of t (board_so_far c.take_files.new.parts)) c.as_slice.ensures in
     labelled_board_is (g.P.Package.held c.args.package.now) held c.args.manifest.now c.in_ok-listed.listed start end (board_so_far c.name_pieces.new.parts) _
     c.take_manifest.ensures.held (nothing_yet _ _ _ c.new-parts.ensures.empty c.new-tables.ensures) named c.in_ok-listed.ensures.found walked c.in_ok-board.ensures.fits c.in_ok-board.ensures.ok
+
+-- ---- Of what was handed over
+
+pub returns-in_err-listed-clause-handed_cause : goal.returns-in_err-listed-clause-handed_cause
+returns-in_err-listed-clause-handed_cause g c =
+    climbs _ c.from_residual.result (fault.Build c.in_err-listed.field-0.0) c.from_residual.ensures.1
+    (manifest_labelled_handed (g.P.Package.handed c.args.package.now) (g.P.Package.handed c.take_manifest.new.package) c.args.manifest.now (g.P.Package.faults c.args.package.now) (g.P.Package.faults c.take_manifest.new.package) (g.P.Package.lost c.take_manifest.new.package) c.in_err-listed.field-0.0 c.in_err-listed.ensures.handed_cause)
+
+pub returns-in_err-take_files-clause-handed_cause : goal.returns-in_err-take_files-clause-handed_cause
+returns-in_err-take_files-clause-handed_cause g c =
+    let start = labelled_so_far c.new-parts.result c.new-tables.result in
+    let mid = g.P.Package.handed c.take_manifest.new.package in
+    let after = g.P.Package.handed c.take_files.new.package in
+    let why = c.in_err-take_files.field-0.0 in
+    let cause = subst (λ entries. HandedLabelledCause (λ stop. StopsLabelledAmongHanded (filter with_board entries) (labelled_course mid start) after stop) (λ name. LabelledComesAmongHanded (filter with_board entries) (labelled_course mid start) after name)
+    (g.P.Package.faults c.take_manifest.new.package) (g.P.Package.faults c.take_files.new.package) (g.P.Package.lost c.take_files.new.package) why) c.as_slice-entries.ensures c.in_err-take_files.ensures.handed_cause in
+    climbs _ c.from_residual-in_err-take_files.result why c.from_residual-in_err-take_files.ensures.1
+    (files_labelled_handed (g.P.Package.handed c.args.package.now) mid after c.args.manifest.now c.in_ok-listed.listed start
+    (g.P.Package.faults c.args.package.now) (g.P.Package.faults c.take_manifest.new.package) (g.P.Package.faults c.take_files.new.package) (g.P.Package.lost c.take_files.new.package) why
+    (nothing_yet _ _ _ c.new-parts.ensures.empty c.new-tables.ensures) c.take_manifest.ensures.later c.in_ok-listed.ensures.handed cause)
+
+pub returns-in_err-name_pieces-clause-handed_cause : goal.returns-in_err-name_pieces-clause-handed_cause
+returns-in_err-name_pieces-clause-handed_cause g c = climbs _ c.from_residual-in_err-name_pieces.result (fault.Build build.NoMemory) c.from_residual-in_err-name_pieces.ensures.1 tt
+
+pub returns-in_err-board-clause-handed_cause : goal.returns-in_err-board-clause-handed_cause
+returns-in_err-board-clause-handed_cause g c =
+    let start = labelled_so_far c.new-parts.result c.new-tables.result in
+    let end = labelled_so_far c.take_files.new.parts c.take_files.new.tables in
+    let mid = g.P.Package.handed c.take_manifest.new.package in
+    let after = g.P.Package.handed c.take_files.new.package in
+    let walked = subst (λ entries. WalksBy GoesLabelledHanded (filter with_board entries) (labelled_course mid start) (labelled_course after end)) c.as_slice-entries.ensures c.in_ok-take_files.ensures.handed in
+    let named = c.in_ok-name_pieces.ensures.ok ∙ ap (λ (t : List (List Label)). labelled_board_of t (board_so_far c.take_files.new.parts)) c.as_slice.ensures in
+    climbs _ c.from_residual-in_err-board.result (fault.Build c.in_err-board.field-0.0) c.from_residual-in_err-board.ensures.1
+    (frame_labelled_handed (g.P.Package.handed c.args.package.now) mid after c.args.manifest.now c.in_ok-listed.listed start end (board_so_far c.name_pieces.new.parts)
+    (g.P.Package.faults c.args.package.now) (g.P.Package.faults c.take_files.new.package) (g.P.Package.lost c.take_files.new.package) c.in_err-board.field-0.0
+    (nothing_yet _ _ _ c.new-parts.ensures.empty c.new-tables.ensures) named c.in_ok-listed.ensures.handed walked c.in_err-board.ensures.fault)
+
+pub returns-clause-handed : goal.returns-clause-handed
+returns-clause-handed g c =
+    let start = labelled_so_far c.new-parts.result c.new-tables.result in
+    let end = labelled_so_far c.take_files.new.parts c.take_files.new.tables in
+    let mid = g.P.Package.handed c.take_manifest.new.package in
+    let after = g.P.Package.handed c.take_files.new.package in
+    let walked = subst (λ entries. WalksBy GoesLabelledHanded (filter with_board entries) (labelled_course mid start) (labelled_course after end)) c.as_slice-entries.ensures c.in_ok-take_files.ensures.handed in
+    let named = c.in_ok-name_pieces.ensures.ok ∙ ap (λ (t : List (List Label)). labelled_board_of t (board_so_far c.take_files.new.parts)) c.as_slice.ensures in
+    labelled_board_handed (g.P.Package.handed c.args.package.now) mid after c.args.manifest.now c.in_ok-listed.listed start end (board_so_far c.name_pieces.new.parts) _
+    (nothing_yet _ _ _ c.new-parts.ensures.empty c.new-tables.ensures) named c.in_ok-listed.ensures.handed walked c.in_ok-board.ensures.fits c.in_ok-board.ensures.ok

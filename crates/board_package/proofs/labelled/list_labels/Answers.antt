@@ -2,7 +2,7 @@ use Rattle.std.proofs.Common.{All, sym, subst}
 use Rattle.std.proofs.lemmas.List.Elements.{All-push}
 use Rattle.x2_nets.specs.Labels.{Rise}
 use Rattle.board_package.specs.LabelledCauses.{IsMislabelling}
-use Rattle.board_package.proofs.LabelCauses.{climbs}
+use Rattle.board_package.proofs.Lift.{climbs}
 use Rattle.board_package.proofs.labelled.list_labels.Goals as goal
 
 pub returns-in_err-listed-in-Copper-clause-fault : goal.returns-in_err-listed-in-Copper-clause-fault

@@ -1,5 +1,7 @@
-use Rattle.std.proofs.Common.{subst}
+use Rattle.std.proofs.Common.{◌≡◌, subst}
 use Rattle.board_package.specs.Manifest.{IsManifestFault, IsNotJson}
+use Rattle.board_package.proofs.Lift.{climbs}
+use Rattle.board_package.proofs.Staging.{handed_with, taking_manifest}
 use Rattle.board_package.proofs.Taking.{held_with}
 use Rattle.board_package.proofs.stages.take_manifest.Goals as goal
 
@@ -7,3 +9,13 @@ pub returns-in-Err-NotJson-clause-cause : goal.returns-in-Err-NotJson-clause-cau
 returns-in-Err-NotJson-clause-cause g c =
     let fault = subst (λ f. IsManifestFault c.as_slice.result.now f) c.in-Err-NotJson.field-0-is c.in-Err-NotJson.ensures.fault in
     held_with _ _ _ _ IsNotJson c.in_ok-take_file.ensures.found c.as_slice.ensures.value fault
+
+pub returns-in_err-take_file-clause-handed_cause : goal.returns-in_err-take_file-clause-handed_cause
+returns-in_err-take_file-clause-handed_cause g c =
+    climbs _ c.from_residual.result c.in_err-take_file.field-0.0 c.from_residual.ensures.1
+    (taking_manifest (g.P.Package.handed c.args.package.now) (g.P.Package.handed c.take_file.new.package) c.args.manifest.now (g.P.Package.faults c.args.package.now) (g.P.Package.faults c.take_file.new.package) (g.P.Package.lost c.take_file.new.package) c.in_err-take_file.field-0.0 c.in_err-take_file.ensures.handed_cause)
+
+pub returns-in-Err-NotJson-clause-handed_cause : goal.returns-in-Err-NotJson-clause-handed_cause
+returns-in-Err-NotJson-clause-handed_cause g c =
+    let fault = subst (λ f. IsManifestFault c.as_slice.result.now f) c.in-Err-NotJson.field-0-is c.in-Err-NotJson.ensures.fault in
+    handed_with (g.P.Package.handed c.args.package.now) (g.P.Package.handed c.take_file.new.package) c.args.manifest.now c.take_file.new.file.items c.as_slice.result.now IsNotJson c.in_ok-take_file.ensures.handed c.as_slice.ensures.value fault

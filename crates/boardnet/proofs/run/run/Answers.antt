@@ -1,17 +1,24 @@
-use Rattle.std.proofs.Common.{◌≡◌, ◌≤◌, ◌⊎◌, inl, inr, ℕ, List}
+use Rattle.std.proofs.Common.{◌≡◌, ◌≤◌, ◌⊎◌, inl, inr, ℕ, List, Some}
 use Rattle.board_io.specs.Causes.{Rose}
 use Rattle.board_io.specs.Sink.{Gains, GainsFrontOf}
-use Rattle.boardnet.proofs.Asking.{names_in, of_flatten, of_gaps, of_x2, one_command, under_command}
-use Rattle.boardnet.proofs.Named.{answered_named, checked_named, labelled_named, listed_named, netlisted_named, rewritten_named}
+use Rattle.boardnet.proofs.Asking.{one_command, under_asked, under_command}
+use Rattle.boardnet.proofs.Tasks.{sound}
+use Rattle.boardnet.proofs.Tasks.Audit.{answered_named, of_audit}
+use Rattle.boardnet.proofs.Tasks.Check.{checked_named, of_check}
+use Rattle.boardnet.proofs.Tasks.Flatten.{of_flatten, rewritten_named}
+use Rattle.boardnet.proofs.Tasks.Gaps.{listed_named, of_gaps}
+use Rattle.boardnet.proofs.Tasks.Write.{netlisted_named}
+use Rattle.boardnet.proofs.Tasks.X2.{labelled_named, of_x2}
 use Rattle.boardnet.specs.Asked.{asked}
-use Rattle.boardnet.specs.Ends.{HasText, TakesFiles}
+use Rattle.boardnet.specs.Ends.{Ends, HasText, TakesFiles}
 use Rattle.boardnet.specs.Lines.{Says}
 use Rattle.boardnet.specs.Outcome.{OutcomeOf, Refused, Told}
-use Rattle.boardnet.specs.Words.{Flatten, Trial, Write}
+use Rattle.boardnet.specs.HandedOutcome.{EndsHanded, account_of}
+use Rattle.boardnet.specs.Words.{Audit, Check, Flatten, Gaps, Trial, Write, X2}
 use Rattle.boardnet.proofs.run.run.Goals as goal
 
 pub perform-requires : goal.perform-requires
-perform-requires g c = names_in c.args.words.now (asked c.in-Some.command) c.in-Some.ensures.some
+perform-requires g c = (sound (asked c.in-Some.command)).names c.args.words.now c.in-Some.ensures.some
 
 pub returns-in-None-clause-complete : goal.returns-in-None-clause-complete
 returns-in-None-clause-complete g c = checked_named _ _ _ _ _ (λ command is. absurd (c.in-None.ensures.none command is))
@@ -47,6 +54,14 @@ returns-in-Some-clause-tried g c = λ few seed size is.
 pub returns-in-Some-clause-gapped : goal.returns-in-Some-clause-gapped
 returns-in-Some-clause-gapped g c = λ few.
     of_gaps (g.P.Package.held c.args.package.now) c.args.words.now
+    (λ files command. (text line : List ℕ) × OutcomeOf files command (Told text c.perform.result line) × Gains (g.S.Sink.got c.args.out.now) text (g.S.Sink.got c.perform.new.out) × Says g.N.Sink.got g.N.Sink.faults c.args.notes.now c.perform.new.notes line)
+    (under_command (g.P.Package.held c.args.package.now) c.args.words.now (asked c.in-Some.command)
+    (λ files command. (text line : List ℕ) × OutcomeOf files command (Told text c.perform.result line) × Gains (g.S.Sink.got c.args.out.now) text (g.S.Sink.got c.perform.new.out) × Says g.N.Sink.got g.N.Sink.faults c.args.notes.now c.perform.new.notes line)
+    c.in-Some.ensures.some (c.perform.ensures.ends.told few))
+
+pub returns-in-Some-clause-audited : goal.returns-in-Some-clause-audited
+returns-in-Some-clause-audited g c = λ few.
+    of_audit (g.P.Package.held c.args.package.now) c.args.words.now
     (λ files command. (text line : List ℕ) × OutcomeOf files command (Told text c.perform.result line) × Gains (g.S.Sink.got c.args.out.now) text (g.S.Sink.got c.perform.new.out) × Says g.N.Sink.got g.N.Sink.faults c.args.notes.now c.perform.new.notes line)
     (under_command (g.P.Package.held c.args.package.now) c.args.words.now (asked c.in-Some.command)
     (λ files command. (text line : List ℕ) × OutcomeOf files command (Told text c.perform.result line) × Gains (g.S.Sink.got c.args.out.now) text (g.S.Sink.got c.perform.new.out) × Says g.N.Sink.got g.N.Sink.faults c.args.notes.now c.perform.new.notes line)
@@ -134,3 +149,78 @@ returns-in-Some-clause-unjudged g c = λ name h. c.perform.ensures.unjudged name
   | inl is ↦ inl (one_command c.args.words.now (Write name) (asked c.in-Some.command) is c.in-Some.ensures.some)
   | inr is ↦ inr (one_command c.args.words.now (Flatten name) (asked c.in-Some.command) is c.in-Some.ensures.some)
 ])
+
+pub returns-in-Some-clause-right : goal.returns-in-Some-clause-right
+returns-in-Some-clause-right g c = λ few.
+    of_check (g.P.Package.held c.args.package.now) c.args.words.now
+    (λ files command. (text line : List ℕ) × OutcomeOf files command (Told text c.perform.result line) × Gains (g.S.Sink.got c.args.out.now) text (g.S.Sink.got c.perform.new.out) × Says g.N.Sink.got g.N.Sink.faults c.args.notes.now c.perform.new.notes line)
+    (under_command (g.P.Package.held c.args.package.now) c.args.words.now (asked c.in-Some.command)
+    (λ files command. (text line : List ℕ) × OutcomeOf files command (Told text c.perform.result line) × Gains (g.S.Sink.got c.args.out.now) text (g.S.Sink.got c.perform.new.out) × Says g.N.Sink.got g.N.Sink.faults c.args.notes.now c.perform.new.notes line)
+    c.in-Some.ensures.some (c.perform.ensures.ends.told few))
+
+pub returns-in-None-clause-handed : goal.returns-in-None-clause-handed
+returns-in-None-clause-handed g c = λ command is. absurd (c.in-None.ensures.none command is)
+
+pub returns-in-Some-clause-handed : goal.returns-in-Some-clause-handed
+returns-in-Some-clause-handed g c =
+    under_asked c.args.words.now (asked c.in-Some.command)
+    (λ command. EndsHanded (account_of command (g.P.Package.handed c.args.package.now) (g.P.Package.handed c.perform.new.package)) (g.P.Package.lost c.perform.new.package) g.S.Sink.handed g.S.Sink.got g.N.Sink.got g.N.Sink.faults c.args.out.now c.perform.new.out c.args.notes.now c.perform.new.notes c.perform.result)
+    c.in-Some.ensures.some c.perform.ensures.handed
+
+pub returns-in-Some-clause-handed_right : goal.returns-in-Some-clause-handed_right
+returns-in-Some-clause-handed_right g c = λ few version name is.
+    let ends = under_asked c.args.words.now (asked c.in-Some.command)
+    (λ command. EndsHanded (account_of command (g.P.Package.handed c.args.package.now) (g.P.Package.handed c.perform.new.package)) (g.P.Package.lost c.perform.new.package) g.S.Sink.handed g.S.Sink.got g.N.Sink.got g.N.Sink.faults c.args.out.now c.perform.new.out c.args.notes.now c.perform.new.notes c.perform.result)
+    c.in-Some.ensures.some c.perform.ensures.handed (Check version name) is in
+    ends.told few
+
+pub returns-in-Some-clause-handed_ruling : goal.returns-in-Some-clause-handed_ruling
+returns-in-Some-clause-handed_ruling g c = λ few manifest report is.
+    let ends = under_asked c.args.words.now (asked c.in-Some.command)
+    (λ command. EndsHanded (account_of command (g.P.Package.handed c.args.package.now) (g.P.Package.handed c.perform.new.package)) (g.P.Package.lost c.perform.new.package) g.S.Sink.handed g.S.Sink.got g.N.Sink.got g.N.Sink.faults c.args.out.now c.perform.new.out c.args.notes.now c.perform.new.notes c.perform.result)
+    c.in-Some.ensures.some c.perform.ensures.handed (Audit manifest report) is in
+    ends.told few
+
+pub returns-in-Some-clause-handed_netlist : goal.returns-in-Some-clause-handed_netlist
+returns-in-Some-clause-handed_netlist g c = λ few name is.
+    let ends = under_asked c.args.words.now (asked c.in-Some.command)
+    (λ command. EndsHanded (account_of command (g.P.Package.handed c.args.package.now) (g.P.Package.handed c.perform.new.package)) (g.P.Package.lost c.perform.new.package) g.S.Sink.handed g.S.Sink.got g.N.Sink.got g.N.Sink.faults c.args.out.now c.perform.new.out c.args.notes.now c.perform.new.notes c.perform.result)
+    c.in-Some.ensures.some c.perform.ensures.handed (Write name) is in
+    ends.told few
+
+pub returns-in-Some-clause-handed_gaps : goal.returns-in-Some-clause-handed_gaps
+returns-in-Some-clause-handed_gaps g c = λ few name nanometres is.
+    let ends = under_asked c.args.words.now (asked c.in-Some.command)
+    (λ command. EndsHanded (account_of command (g.P.Package.handed c.args.package.now) (g.P.Package.handed c.perform.new.package)) (g.P.Package.lost c.perform.new.package) g.S.Sink.handed g.S.Sink.got g.N.Sink.got g.N.Sink.faults c.args.out.now c.perform.new.out c.args.notes.now c.perform.new.notes c.perform.result)
+    c.in-Some.ensures.some c.perform.ensures.handed (Gaps name nanometres) is in
+    ends.told few
+
+pub returns-in-Some-clause-handed_labels : goal.returns-in-Some-clause-handed_labels
+returns-in-Some-clause-handed_labels g c = λ few name is.
+    let ends = under_asked c.args.words.now (asked c.in-Some.command)
+    (λ command. EndsHanded (account_of command (g.P.Package.handed c.args.package.now) (g.P.Package.handed c.perform.new.package)) (g.P.Package.lost c.perform.new.package) g.S.Sink.handed g.S.Sink.got g.N.Sink.got g.N.Sink.faults c.args.out.now c.perform.new.out c.args.notes.now c.perform.new.notes c.perform.result)
+    c.in-Some.ensures.some c.perform.ensures.handed (X2 name) is in
+    ends.told few
+
+pub returns-in-Some-clause-handed_image : goal.returns-in-Some-clause-handed_image
+returns-in-Some-clause-handed_image g c = λ few name is.
+    let ends = under_asked c.args.words.now (asked c.in-Some.command)
+    (λ command. EndsHanded (account_of command (g.P.Package.handed c.args.package.now) (g.P.Package.handed c.perform.new.package)) (g.P.Package.lost c.perform.new.package) g.S.Sink.handed g.S.Sink.got g.N.Sink.got g.N.Sink.faults c.args.out.now c.perform.new.out c.args.notes.now c.perform.new.notes c.perform.result)
+    c.in-Some.ensures.some c.perform.ensures.handed (Flatten name) is in
+    ends.told few
+
+pub returns-in-None-clause-agreed : goal.returns-in-None-clause-agreed
+returns-in-None-clause-agreed g c = λ files w command is. absurd (c.in-None.ensures.none command is)
+
+pub returns-in-Some-clause-agreed : goal.returns-in-Some-clause-agreed
+returns-in-Some-clause-agreed g c = λ files w.
+    under_asked c.args.words.now (asked c.in-Some.command)
+    (λ command. Ends (λ p. Some files) g.P.Package.faults g.P.Package.lost g.S.Sink.got g.S.Sink.faults g.N.Sink.got g.N.Sink.faults command c.args.package.now c.perform.new.package c.args.out.now c.perform.new.out c.args.notes.now c.perform.new.notes c.perform.result)
+    c.in-Some.ensures.some (c.perform.ensures.agreed files w)
+
+pub returns-in-Some-clause-agreed_right : goal.returns-in-Some-clause-agreed_right
+returns-in-Some-clause-agreed_right g c = λ few files w version name is.
+    let ends = under_asked c.args.words.now (asked c.in-Some.command)
+    (λ command. Ends (λ p. Some files) g.P.Package.faults g.P.Package.lost g.S.Sink.got g.S.Sink.faults g.N.Sink.got g.N.Sink.faults command c.args.package.now c.perform.new.package c.args.out.now c.perform.new.out c.args.notes.now c.perform.new.notes c.perform.result)
+    c.in-Some.ensures.some (c.perform.ensures.agreed files w) (Check version name) is in
+    ends.told few

@@ -1,0 +1,85 @@
+-- The labelled board that the files make which a package hands over in a call, and its first stop. Each definition is the one
+-- of LabelledBoard whose name it begins with, by what was handed over in place of what is held.
+use Rattle.std.specs.Prelude.{◌≡◌, ◌⊎◌, ℕ, List}
+use Rattle.board_io.specs.Handed.{Handed}
+use Rattle.board_shapes.specs.Plain.{PlainBoard, common_box, Fits}
+use Rattle.board_package.specs.HandedBoard.{ComesNext, Course, GoesHanded, IsManifestHanded, StopsAtHanded, StopsAtManifestHanded, course}
+use Rattle.board_package.specs.LabelledBoard.{Labelled, LabelledStop, Lists, Mislabels, OfBuild, labelled_board_of, labelled_order, mislabelled, nothing_labelled, unbuilt}
+use Rattle.board_package.specs.PackageBoard.{AtOneBy, StopsAtFrame, WalksBy}
+use Rattle.board_package.specs.declared.entry.Entry.{Entry}
+use Rattle.board_package.specs.declared.manifest.Manifest.{Manifest}
+
+-- what was handed over so far, and the board so far with the labels of its copper files
+pub record LabelledCourse : Type 0 where
+  pub handed : List Handed
+  pub so_far : Labelled
+
+abbrev pub labelled_course : List Handed → Labelled → LabelledCourse
+labelled_course handed so_far = record { handed = handed; so_far = so_far }
+
+-- the same without the labels
+abbrev pub unlabelled : LabelledCourse → Course
+unlabelled c = course c.handed c.so_far.board
+
+-- the file of an entry was handed over next, and is read, and so are its labels
+pub record GoesLabelledHanded (e : Entry) (before after : LabelledCourse) : Type 0 where
+  pub goes : GoesHanded e (unlabelled before) (unlabelled after)
+  pub lists : Lists e.role goes.bytes before.so_far.tables after.so_far.tables
+
+-- the file was handed over next and is read, and then a label is amiss
+pub record IsMislabelledHanded (e : Entry) (before : Course) (after : List Handed) (command at : ℕ) : Type 0 where
+  pub board : PlainBoard
+  pub goes : GoesHanded e before (course after board)
+  pub amiss : Mislabels e.role goes.bytes command at
+
+-- the file of an entry stops the package
+abbrev pub StopsLabelledAtHanded : Entry → LabelledCourse → List Handed → LabelledStop → Type 0
+StopsLabelledAtHanded e before after (unbuilt stop) = StopsAtHanded e (unlabelled before) after stop
+StopsLabelledAtHanded e before after (mislabelled name command at) = (name ≡ e.name) × IsMislabelledHanded e (unlabelled before) after command at
+
+-- one of the files stops the package, and all before it were handed over and read
+abbrev pub StopsLabelledAmongHanded : List Entry → LabelledCourse → List Handed → LabelledStop → Type 0
+StopsLabelledAmongHanded entries before after stop = AtOneBy GoesLabelledHanded entries before (λ e c. StopsLabelledAtHanded e c after stop)
+
+-- one of the files comes next, and all before it were handed over and read
+abbrev pub LabelledComesAmongHanded : List Entry → LabelledCourse → List Handed → List ℕ → Type 0
+LabelledComesAmongHanded entries before after name = AtOneBy GoesLabelledHanded entries before (λ e c. ComesNext c.handed after e.name name)
+
+-- all files were handed over and read, and then the frame is too large
+pub record IsLabelledFrameStopHanded (before after : List Handed) (m : Manifest) (stop : LabelledStop) : Type 0 where
+  pub end : Labelled
+  pub walked : WalksBy GoesLabelledHanded (labelled_order m) (labelled_course before (nothing_labelled m.layers)) (labelled_course after end)
+  pub frame : OfBuild (StopsAtFrame end.board) stop
+
+-- behind the manifest, which was handed over and read, a copper or drill file, a name or the frame stops it
+pub record IsLaterLabelledStopHanded (before after : List Handed) (name : List ℕ) (stop : LabelledStop) : Type 0 where
+  pub listed : Manifest
+  pub first : List Handed
+  pub manifest : IsManifestHanded before first name listed
+  pub stops : StopsLabelledAmongHanded (labelled_order listed) (labelled_course first (nothing_labelled listed.layers)) after stop ⊎ IsLabelledFrameStopHanded first after listed stop
+
+-- the first stop of what was handed over under the name of a manifest
+abbrev pub IsFirstLabelledStopHanded : List Handed → List Handed → List ℕ → LabelledStop → Type 0
+IsFirstLabelledStopHanded before after name stop = OfBuild (StopsAtManifestHanded before after name) stop ⊎ IsLaterLabelledStopHanded before after name stop
+
+-- the manifest of this name was handed over, then each copper and drill file of its order, and nothing else; and this is their
+-- labelled board
+pub record IsLabelledBoardHanded (before after : List Handed) (name : List ℕ) (board : PlainBoard) : Type 0 where
+  pub listed : Manifest
+  pub first : List Handed
+  pub manifest : IsManifestHanded before first name listed
+  pub end : Labelled
+  pub walked : WalksBy GoesLabelledHanded (labelled_order listed) (labelled_course first (nothing_labelled listed.layers)) (labelled_course after end)
+  pub frame : Fits (common_box end.board.pieces)
+  pub is : board ≡ labelled_board_of end.tables end.board
+
+-- the manifest was handed over and read, and a file of the order comes next, with all before it handed over and read
+pub record LabelledComesLaterHanded (before after : List Handed) (manifest name : List ℕ) : Type 0 where
+  pub listed : Manifest
+  pub first : List Handed
+  pub manifest_file : IsManifestHanded before first manifest listed
+  pub comes : LabelledComesAmongHanded (labelled_order listed) (labelled_course first (nothing_labelled listed.layers)) after name
+
+-- the name is that of the manifest or of a file of its order but the netlist, which comes next
+abbrev pub LabelledComesHanded : List Handed → List Handed → List ℕ → List ℕ → Type 0
+LabelledComesHanded before after manifest name = ComesNext before after manifest name ⊎ LabelledComesLaterHanded before after manifest name

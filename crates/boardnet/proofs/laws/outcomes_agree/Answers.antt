@@ -1,0 +1,5 @@
+use Rattle.boardnet.proofs.Tasks.{sound}
+use Rattle.boardnet.proofs.laws.outcomes_agree.Goals as goal
+
+pub returns : goal.returns
+returns c = λ files before after command outcome w is. ((sound command).agrees c.handed_is_held.ensures files before after w).outcome outcome is

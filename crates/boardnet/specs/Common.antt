@@ -1,0 +1,60 @@
+-- What the commands share: the status of a verdict, the lines of refusals, and what an outcome is.
+use Rattle.std.specs.Prelude.{◌≡◌, ◌⊎◌, ℕ, List, length, codes}
+use Rattle.board_io.specs.Handed.{Handed}
+use Rattle.board_io.specs.Package.{Files}
+use Rattle.board_package.specs.HandedBoard.{IsFirstStopHanded}
+use Rattle.board_package.specs.PackageBoard.{Stop, absent, longer, not_json, bad_manifest, refused, frame_too_large, IsFirstStop}
+use Rattle.board_package.specs.Refusals.{refusal_number, refusal_name}
+use Rattle.board_package.specs.declared.reading.Refusal.{Refusal}
+use Rattle.board_package.specs.declared.reading.Refusal.TheVariants.{Layer, Drill, Netlist}
+use Rattle.boardnet.specs.Lines.{at_byte, at_item, plain_line, file_line, frame_line, kind_line, differs_line}
+use Rattle.verdict.specs.ReportText.{Agrees}
+use Rattle.verdict.specs.declared.verdict.Verdict.{Verdict}
+
+-- The status of a verdict, and its line.
+abbrev pub HasStatus : Verdict → ℕ → List ℕ → Type 0
+HasStatus v status line =
+    (Agrees v × (status ≡ 0) × (line ≡ plain_line (codes "agrees")))
+    ⊎ ((Agrees v → ⊥) × (status ≡ 1) × (line ≡ differs_line (length v.opens) (length v.shorts) (length v.bare)))
+
+-- the form of a file that is refused
+abbrev pub form_of : Refusal → List ℕ
+form_of (Layer kind command byte) = codes "Gerber"
+form_of (Drill kind line byte) = codes "drill"
+form_of (Netlist kind line) = codes "netlist"
+
+-- where it is refused; the refusal of a netlist has no byte
+abbrev pub place_of : Refusal → List ℕ
+place_of (Layer kind command byte) = at_byte (codes "command") command byte
+place_of (Drill kind line byte) = at_byte (codes "line") line byte
+place_of (Netlist kind line) = at_item (codes "line") line
+
+-- The line of a file that is refused.
+abbrev pub refusal_line : List ℕ → Refusal → List ℕ
+refusal_line name why = kind_line name (form_of why) (refusal_number why) (refusal_name why) (place_of why)
+
+-- The line of a stop that is a refusal. A file that is not held is none.
+abbrev pub IsLineOf : List ℕ → Stop → List ℕ → Type 0
+IsLineOf manifest (absent name) line = ⊥
+IsLineOf manifest (longer name) line = line ≡ file_line name (codes "longer than 67108864 bytes")
+IsLineOf manifest not_json line = line ≡ file_line manifest (codes "not JSON")
+IsLineOf manifest bad_manifest line = line ≡ file_line manifest (codes "not a manifest")
+IsLineOf manifest (refused name why) line = line ≡ refusal_line name why
+IsLineOf manifest (frame_too_large box) line = line ≡ frame_line box
+
+-- The package's first stop is a refusal, and this is its line.
+pub record IsRefusal (files : Files) (manifest line : List ℕ) : Type 0 where
+  pub stop : Stop
+  pub first : IsFirstStop files manifest stop
+  pub line_is : IsLineOf manifest stop line
+
+-- The first stop of what was handed over is a refusal, and this is its line.
+pub record IsRefusalHanded (before after : List Handed) (manifest line : List ℕ) : Type 0 where
+  pub stop : Stop
+  pub first : IsFirstStopHanded before after manifest stop
+  pub line_is : IsLineOf manifest stop line
+
+-- What a command comes to: a text with its status and its line, or the line of a refusal.
+pub data Outcome : Type 0 where
+  Told : List ℕ → ℕ → List ℕ → Outcome
+  Refused : List ℕ → Outcome

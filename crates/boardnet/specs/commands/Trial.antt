@@ -1,0 +1,96 @@
+-- The command `trial SEED SIZE`: the made board of two numbers is checked.
+use Rattle.std.specs.List.{concat}
+use Rattle.std.specs.Str.Parse.{digits_value}
+use Rattle.std.specs.Prelude.{◌≡◌, ◌<◌, ◌≤◌, ◌⊎◌, ℕ, List, [], ◌∷◌, length, Some, codes, decimal, ◌^◌, map, string_bytes, String, Option, None}
+use Rattle.std.specs.declared.alloc.Global.{Global}
+use Rattle.board_maker.specs.MadePackage.{made_files}
+use Rattle.board_package.specs.PackageBoard.{IsBoardOf, IsFirstStop}
+use Rattle.board_shapes.specs.Plain.{PlainBoard}
+use Rattle.boardnet.specs.Command.{Command, Trial}
+use Rattle.boardnet.specs.Common.{IsRefusal, Outcome, Told, Refused}
+use Rattle.boardnet.specs.Lines.{plain_line, end}
+use Rattle.boardnet.specs.Right.{IsRightOn}
+use Rattle.boardnet.specs.Task.{Task}
+use Rattle.boardnet.specs.declared.answer.Unanswered.{Unanswered}
+use Rattle.boardnet.specs.declared.answer.Unanswered.TheVariants.{SizeTooLarge}
+use Rattle.verdict.specs.ReportText.{Agrees}
+use Rattle.verdict.specs.declared.verdict.Verdict.{Verdict}
+
+-- `trial`, a seed below 2^64 and a size below 2^32, as decimals without a sign or a leading zero
+pub record IsTrial (words : List (String Global)) (seed size : ℕ) : Type 0 where
+  pub spelled : map string_bytes words ≡ codes "trial" ∷ decimal seed ∷ decimal size ∷ []
+  pub seed_fits : seed < 2 ^ 64
+  pub size_fits : size < 2 ^ 32
+
+-- the name of a made package's manifest
+abbrev pub made_manifest : List ℕ
+made_manifest = codes "m.json"
+
+-- the summary of a verdict on a made board: its two numbers, and the count of each part of the verdict
+abbrev pub summary_text : ℕ → ℕ → Verdict → List ℕ
+summary_text seed size v = concat (codes "trial " ∷ decimal seed ∷ codes " " ∷ decimal size
+    ∷ codes "\npieces " ∷ decimal v.pieces ∷ codes "\nnets " ∷ decimal (length v.nets) ∷ codes "\npoints " ∷ decimal (length v.points)
+    ∷ codes "\nopens " ∷ decimal (length v.opens) ∷ codes "\nshorts " ∷ decimal (length v.shorts) ∷ codes "\nmissing " ∷ decimal (length v.bare) ∷ end ∷ [])
+
+-- the status of a verdict, as for `check`
+abbrev pub IsStatusOf : Verdict → ℕ → Type 0
+IsStatusOf v status = (Agrees v × (status ≡ 0)) ⊎ ((Agrees v → ⊥) × (status ≡ 1))
+
+-- The made package fits, and this is the summary of a right verdict on its board, with its status and its line.
+pub record IsTrialReport (seed size : ℕ) (text : List ℕ) (status : ℕ) (line : List ℕ) : Type 0 where
+  pub small : size ≤ 10000
+  pub board : PlainBoard
+  pub board_is : IsBoardOf (made_files seed size) made_manifest board
+  pub verdict : Verdict
+  pub right : IsRightOn board verdict
+  pub text_is : text ≡ summary_text seed size verdict
+  pub status_is : IsStatusOf verdict status
+  pub line_is : line ≡ plain_line (codes "trial done")
+
+-- There is no made package of so many cells.
+pub record IsTooLarge (size : ℕ) (line : List ℕ) : Type 0 where
+  pub large : 10000 < size
+  pub line_is : line ≡ plain_line (codes "trial size too large")
+
+-- The made package's first stop is a refusal, and this is its line.
+pub record IsMadeRefusal (seed size : ℕ) (line : List ℕ) : Type 0 where
+  pub small : size ≤ 10000
+  pub refusal : IsRefusal (made_files seed size) made_manifest line
+
+-- `trial` comes to the summary of a made board, or to the refusal of its size or of the made package
+abbrev pub TrialOutcome : ℕ → ℕ → Outcome → Type 0
+TrialOutcome seed size (Told text status line) = IsTrialReport seed size text status line
+TrialOutcome seed size (Refused line) = IsTooLarge size line ⊎ IsMadeRefusal seed size line
+
+-- beside a stop: there is no made board of the size
+abbrev pub TrialRefuses : ℕ → Unanswered → Type 0
+TrialRefuses size SizeTooLarge = 10000 < size
+TrialRefuses size other = ⊥
+
+-- It takes no file of the package.
+abbrev pub trial : ℕ → ℕ → Task
+trial seed size = record {
+  asks = λ words. IsTrial words seed size;
+  spelled = codes "trial" ∷ decimal seed ∷ decimal size ∷ [];
+  in_range = (seed < 2 ^ 64) × (size < 2 ^ 32);
+  subject = made_manifest;
+  report = [];
+  takes = ⊥;
+  reads = λ held. Some (made_files seed size);
+  comes = λ files name. ⊥;
+  stops = λ files stop. (size ≤ 10000) × IsFirstStop (made_files seed size) made_manifest stop;
+  refuses = λ held why. TrialRefuses size why;
+  outcome = λ files outcome. TrialOutcome seed size outcome;
+  has_text = λ files. (size ≤ 10000) × (board : PlainBoard) × IsBoardOf (made_files seed size) made_manifest board;
+  handed = λ before after. record {
+    stops = λ stop. (size ≤ 10000) × IsFirstStop (made_files seed size) made_manifest stop;
+    comes = λ name. ⊥;
+    refuses = λ why. TrialRefuses size why;
+    outcome = λ outcome. TrialOutcome seed size outcome;
+  };
+}
+
+-- the command that words behind its name can ask for; whether they are texts, and in range, is for `IsTrial` to say
+abbrev pub trial_by : List (List ℕ) → Option Command
+trial_by (seed ∷ size ∷ []) = Some (Trial (digits_value 10 seed) (digits_value 10 size))
+trial_by other = None
