@@ -1,0 +1,40 @@
+"""Tries docs/CLAIMS.md: that it has each clause of the top call and names no other, and that its laws are there."""
+import os
+import re
+import unittest
+
+import common
+
+RUN = os.path.join(common.TOP, "crates", "boardnet", "src", "run.rt")
+NAME = re.compile(r"`(\w+)`")
+
+
+def read(*names):
+    with open(os.path.join(common.TOP, *names), encoding="utf-8") as file:
+        return file.read()
+
+
+def rows(head):
+    """The rows of the page's tables with that first head."""
+    found, is_in = [], False
+    for line in read("docs", "CLAIMS.md").splitlines():
+        cells = [cell.strip() for cell in line.strip("|").split(" | ")]
+        is_in = line.startswith(f"| {head} |") or is_in and line.startswith("|")
+        if is_in and cells[0] != head and not cells[0].startswith("---"):
+            found.append(cells)
+    return found
+
+
+class Claims(unittest.TestCase):
+    def test_clauses(self):
+        told = {name for first, *_ in rows("Clause") for name in NAME.findall(first)}
+        call = read("crates", "boardnet", "src", "run.rt").partition("pub fn run<")[2].partition("\n{\n")[0]
+        self.assertEqual(told, set(re.findall(r"(?m)^    ensures (\w+) \{", call)))
+
+    def test_laws(self):
+        before = []
+        for laws, crates, *_ in rows("Law"):
+            before = NAME.findall(crates) or before
+            for crate in before:
+                for law in NAME.findall(laws):
+                    self.assertRegex(read("crates", crate, "src", "laws.rt"), rf"pub fn {law}\b", (crate, law))
