@@ -1,13 +1,13 @@
 -- Files that agree with what was handed over make the board that was handed over.
 use Rattle.std.proofs.Common.{◌≡◌, inl, inr, ℕ, List, [], ◌∷◌, None, sym, ap}
 use Rattle.board_io.proofs.Agreeing.{agree_back, agree_file, agree_front, agree_long, grows_file, grows_long, grows_none, grows_on}
-use Rattle.board_io.specs.Handed.{AgreeWith, Grows, Handed, with_file}
+use Rattle.board_io.specs.Handed.{AgreeWith, Grows, Handed}
 use Rattle.board_io.specs.Package.{Files}
 use Rattle.board_shapes.specs.Plain.{PlainBoard}
 use Rattle.board_package.specs.HandedBoard.{ComesHanded, ComesNext, Course, GoesHanded, IsBoardHanded, IsFirstStopHanded, IsHanded, IsHandedWith, StopsAtHanded, StopsAtManifestHanded, StopsHanding, course}
-use Rattle.board_package.specs.HandedLabelled.{GoesLabelledHanded, IsFirstLabelledStopHanded, IsLabelledBoardHanded, LabelledComesHanded, LabelledCourse, StopsLabelledAtHanded, labelled_course, unlabelled}
+use Rattle.board_package.specs.HandedLabelled.{GoesLabelledHanded, IsFirstLabelledStopHanded, IsLabelledBoardHanded, LabelledComesHanded, LabelledCourse, StopsLabelledAtHanded, unlabelled}
 use Rattle.board_package.specs.HandedLaw.{HandedIsHeld, HoldsWhatWasHanded}
-use Rattle.board_package.specs.LabelledBoard.{GoesLabelled, IsFirstLabelledStop, IsLabelledBoardOf, Labelled, LabelledComes, LabelledStop, OfBuild, StopsLabelledAt, mislabelled, unbuilt}
+use Rattle.board_package.specs.LabelledBoard.{GoesLabelled, IsFirstLabelledStop, IsLabelledBoardOf, LabelledComes, LabelledStop, OfBuild, StopsLabelledAt, mislabelled, unbuilt}
 use Rattle.board_package.specs.PackageBoard.{AtOneBy, Comes, Goes, IsBoardOf, IsFirstStop, IsHeld, IsHeldWith, Stop, StopsAt, StopsAtManifest, StopsTaking, WalksBy, absent, longer, not_json, bad_manifest, refused, frame_too_large}
 use Rattle.board_package.specs.declared.entry.Entry.{Entry}
 

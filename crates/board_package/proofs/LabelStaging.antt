@@ -1,5 +1,5 @@
 -- The stages of the taking with labels, by what was handed over.
-use Rattle.std.proofs.Common.{◌≡◌, inl, inr, ℕ, ◌+◌, ◌<◌, ◌≤◌, true, List, [], ◌∷◌, length, take, get_or, Some, None, refl, subst, sym, ap, ◌∙◌, arith}
+use Rattle.std.proofs.Common.{◌≡◌, inl, inr, ℕ, ◌+◌, ◌<◌, ◌≤◌, true, List, [], ◌∷◌, length, take, get_or, Some, None, refl, subst, sym, ◌∙◌, arith}
 use Rattle.std.specs.List.{filter}
 use Rattle.board_io.specs.Handed.{Handed}
 use Rattle.board_shapes.specs.Plain.{PlainBoard, common_box, Fits}
@@ -8,7 +8,7 @@ use Rattle.board_package.specs.HandedBoard.{ComesNext, GoesHanded, IsHanded, IsM
 use Rattle.board_package.specs.HandedLabelled.{GoesLabelledHanded, IsFirstLabelledStopHanded, IsLabelledBoardHanded, LabelledComesAmongHanded, LabelledComesHanded, LabelledCourse, StopsLabelledAmongHanded, labelled_course, unlabelled}
 use Rattle.board_package.specs.LabelledBoard.{Labelled, LabelledStop, Lists, Mislabels, is_board_file, labelled_board_of, labelled_order, mislabelled, nothing_labelled, unbuilt}
 use Rattle.board_package.specs.LabelledCauses.{HandedLabelledCause, IsMislabelling}
-use Rattle.board_package.specs.PackageBoard.{Stop, StopsAtFrame, WalksBy}
+use Rattle.board_package.specs.PackageBoard.{StopsAtFrame, WalksBy}
 use Rattle.board_package.specs.declared.entry.Entry.{Entry}
 use Rattle.board_package.specs.declared.fault.BuildFault.{BuildFault}
 use Rattle.board_package.specs.declared.fault.LabelledFault.{LabelledFault}
@@ -17,7 +17,7 @@ use Rattle.board_package.specs.declared.manifest.Manifest.{Manifest}
 use Rattle.board_package.proofs.LabelCauses.{CarriesLabelled, frame_of_pieces, lift_labelled, only, with_board}
 use Rattle.board_package.proofs.Lift.{frame_cause}
 use Rattle.board_package.proofs.Staging.{carry, one_handed}
-use Rattle.board_package.proofs.Walking.{passing_at_one, passing_walk_more}
+use Rattle.board_package.proofs.Walking.{passing_at_one}
 
 -- a cause of one stage is one of the next
 pub carry_labelled : (S T : LabelledStop → Type 0) (C D : List ℕ → Type 0) (before mid now : ℕ) (lost : List ℕ) (why : LabelledFault) → CarriesLabelled S T C D → before ≤ mid → HandedLabelledCause S C mid now lost why → HandedLabelledCause T D before now lost why

@@ -1,10 +1,8 @@
 -- From what a command says of what was handed over to it to what it comes to, and to all files that agree.
-use Rattle.std.proofs.Common.{◌≡◌, ◌≤◌, ℕ, List, [], ◌∷◌, ◌++◌, Option, Some, None, Result, Ok, Err, IfErr, IfOk, MatchResult, codes, refl, sym, subst, arith}
+use Rattle.std.proofs.Common.{◌≡◌, ◌≤◌, ℕ, List, [], ◌∷◌, ◌++◌, Option, Some, None, Result, Ok, Err, IfErr, IfOk, MatchResult, refl, sym, subst, arith}
 use Rattle.board_io.specs.Handed.{Handed}
 use Rattle.board_io.specs.Package.{Files, IsFaultless}
-use Rattle.board_io.specs.Sink.{Gains, GainsFrontOf}
 use Rattle.board_package.proofs.Lift.{retold}
-use Rattle.board_package.specs.Causes.{HandedCause}
 use Rattle.board_package.specs.PackageBoard.{Stop, longer, not_json, bad_manifest, refused, frame_too_large}
 use Rattle.board_package.specs.declared.fault.BuildFault.{BuildFault}
 use Rattle.board_package.specs.declared.fault.BuildFault.TheVariants as fault
@@ -16,7 +14,7 @@ use Rattle.boardnet.specs.Answers.{Refuses, RefusesFor, line_of, status_of, subj
 use Rattle.boardnet.specs.Ends.{HasReason, Puts, Works, cut, whole}
 use Rattle.boardnet.specs.HandedOutcome.{EndsHanded, HasHandedReason, IsAccount, account_of}
 use Rattle.boardnet.specs.Kept.{LeftBy}
-use Rattle.boardnet.specs.Lines.{Says, file_line, plain_line}
+use Rattle.boardnet.specs.Lines.{Says}
 use Rattle.boardnet.specs.Outcome.{ComesFor, IsLineOf, Refused, Told, read_by}
 use Rattle.boardnet.specs.Task.{Account}
 use Rattle.boardnet.specs.Words.{Command, Trial, task_of}

@@ -1,4 +1,4 @@
-use Rattle.std.proofs.Common.{◌≡◌, arith, rules, subst}
+use Rattle.std.proofs.Common.{◌≡◌, rules, subst}
 use Rattle.board_io.specs.Package.{IsFaultless}
 use Rattle.board_package.specs.Causes.{HandedCause, HasCause, IsFrameFault, KeepsFaults}
 use Rattle.board_package.specs.HandedBoard.{ComesAmongHanded, ComesHanded, GoesHanded, IsFirstStopHanded, StopsAmongHanded, course}
