@@ -11,7 +11,7 @@ import os
 import re
 from typing import NamedTuple
 
-from . import UNDECIDED, UNJUDGED, judged, netlist
+from . import UNDECIDED, UNJUDGED, fault_of, judged, netlist
 from .differing import Differing
 from .exact import Refused
 from .joint import Joint
@@ -19,8 +19,9 @@ from .package import beside
 from .two_sides import of_text
 from .words import counted
 
-# ClearPolarity, Arc, Macro, Polygon, Hole, OffGrid, TooManyVertices: what copper files hold that bounds may be given for.
-OUTSIDE = re.compile(r"(.*): Gerber (10|11|12|14|15|23|28) |(.*): flatten ")
+# ClearPolarity, Arc, Macro, Block, Polygon, Hole, Transform, ApertureTwice, PenNotCircle, OffGrid, TooManyVertices, NoOperation: what
+# copper files hold that bounds may be given for.
+OUTSIDE = re.compile(r"(.*): Gerber (1[0-6]|18|19|23|28|29) |(.*): flatten ")
 SIDES = ("lower", "upper")
 
 
@@ -46,14 +47,20 @@ def is_outside(line):
     return bool(OUTSIDE.match(line))
 
 
+def sides_of(package, name):
+    try:
+        return of_text(package.read(name).decode("latin-1"))
+    except Refused as why:
+        raise Refused(f"{name}: {why}") from None
+    except Exception as fault:
+        raise fault_of(package.told_path(name), fault) from fault
+
+
 def of_package(package):
     """Both sides of each copper file that holds something outside the profile; the others are the same files."""
     files, sources, left_out, replaced = ({}, {}), ({}, {}), [], 0
     for name in dict.fromkeys(package.manifest.copper):
-        try:
-            copper = of_text(package.read(name).decode("latin-1"))
-        except Refused as why:
-            raise Refused(f"{name}: {why}") from None
+        copper = sides_of(package, name)
         left_out += [f"{name}: {what}" for what in copper.lost]
         replaced += copper.replaced
         for side, data, origin in zip(copper.sides, files, sources):

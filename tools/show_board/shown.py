@@ -1,7 +1,7 @@
 """One board, from its files to its findings."""
 import os
 
-from . import UNJUDGED, Stop, bounds, copper, findings, hints, judged, netlist, package, report
+from . import UNJUDGED, Stop, bounds, copper, fault_of, findings, hints, judged, netlist, package, report
 from .board import Board
 
 NO_PLACES = "this program writes reports of version 1, which do not say where copper is from: what is told is the report and the netlist alone"
@@ -88,7 +88,8 @@ def show(path, asked, program, scratch):
         outside(program, told, shown)
         if asked.keep:
             package.keep(files, shown.report, asked.keep)
-    except Stop as stop:
+    except Exception as fault:
+        stop = fault_of(path, fault)
         shown.status, shown.line = stop.status, str(stop)
     return shown
 
