@@ -88,6 +88,8 @@ def show(path, asked, program, scratch):
         outside(program, told, shown)
         if asked.keep:
             package.keep(files, shown.report, asked.keep)
+    except BrokenPipeError:
+        raise
     except Exception as fault:
         stop = fault_of(path, fault)
         shown.status, shown.line = stop.status, str(stop)

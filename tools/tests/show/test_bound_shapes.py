@@ -5,7 +5,7 @@ import random
 import unittest
 from fractions import Fraction as Q
 
-from real_shapes import FINE, NEAR, Real, circle_ends, contour_of, every, fine, gerber_of, has, in_sector, pieces_of, through
+from real_shapes import FINE, NEAR, Real, circle_ends, contour_of, every, fine, gerber_of, has, in_sector, on_circle, pieces_of, through
 from show_board.arcs import Arc, arc_chain, chain_bounds, goes_once
 from show_board.contours import contour_bound, contour_lower
 from show_board.exact import Refused, cos_sin, minus, plus, root, times
@@ -152,6 +152,85 @@ def parts_of(contour):
 
 def corner(part):
     return part[1] if len(part) == 3 else part
+
+
+def words_for(contour, *more):
+    """A copper file with a region, in tenths of a nanometre."""
+    return gerber_of(contour).replace("%MOMM*%", "\n".join(("%MOMM*%", *more)))
+
+
+class SmallCircles(unittest.TestCase):
+    """Circles of about a tenth of a micrometre, from below the least radius of chains on: UPPER has all of them."""
+
+    def test_places(self):
+        rng = random.Random(13)
+        for radius in range(980, 1200, 7):
+            (x, y, r), pen = on_circle(rng, radius), rng.choice((2, 900, 1100, 5000, 10 ** 6))
+            start = rng.choice(((r, 0), (x, y)))
+            text = gerber_of([start, ((0, 0), start, rng.random() < .5)])
+            drawn = text.replace("%MOMM*%", f"%MOMM*%\n%ADD10C,{pen * 2 / 10 ** 7:.7f}*%\nD10*").replace("G36*", "").replace("G37*", "")
+            filled, outline = ([pieces_of(side) for side in Copper(it).sides] for it in (text, drawn))
+            for _ in range(40):
+                t, off = rng.random() * 7, rng.choice((0, 3, 100))
+                p = tuple(round((r + rng.choice((-pen, pen, 0)) + off) * f(t) * FINE) for f in (math.cos, math.sin))
+                square, reach = dot((0, 0), p, p), (r * FINE, pen * FINE)
+                self.assertTrue(square > reach[0] ** 2 or has(filled[1], p), (r, p))
+                self.assertTrue(square <= reach[0] ** 2 or not has(filled[0], p), (r, p))
+                inside = square <= sum(reach) ** 2 and (pen >= r or square >= (r * FINE - reach[1]) ** 2)
+                self.assertTrue(not inside or has(outline[1], p), (r, pen, p))
+                self.assertTrue(inside or not has(outline[0], p), (r, pen, p))
+
+
+class TwoRadii(unittest.TestCase):
+    """Contours with an arc whose ends are not equally far from its centre: LOWER lies within every curve between both distances, and
+    UPPER round it. A pie has its copper on the side of the centre, a fan beyond."""
+
+    def contour(self, rng, is_pie):
+        turn, wide = rng.random() * 6.28, math.radians(rng.choice((2, 20, 80, 91, 130, 178, 200, 250, 275, 300, 340, 358)))
+        r, more = rng.choice((2000, 30000, 10 ** 6, 10 ** 7)) * rng.randint(1, 9), rng.choice((1, 2, 10, 254, 2540, 15000, 25400))
+        at = lambda far, angle: (round(far * math.cos(angle)), round(far * math.sin(angle)))
+        start, end = at(r, turn), at(r + rng.choice((-1, 1)) * min(more, r // 3), turn + wide)
+        fan = [] if is_pie else [at(3 * r, turn + wide * k / 24) for k in range(24, -1, -1)]
+        contour = [start, ((0, 0), end, True), *(fan or [(0, 0)])]
+        if rng.random() < .5:
+            contour = [start, *reversed(contour[2:]), end, ((0, 0), start, False)]
+        return start, end, contour
+
+    def test_places(self):
+        rng, given, cases = random.Random(14), 0, 0
+        for n in range(60 * MANY):
+            start, end, contour = self.contour(rng, n % 2)
+            near, far = sorted((dot((0, 0), start, start), dot((0, 0), end, end)))
+            low, high = (pieces_of(side) for side in Copper(words_for(contour, *["%LPC*%", "%LPD*%"] * rng.randint(0, 1))).sides)
+            given, cases = given + bool(low), cases + 1
+            for _ in range(60):
+                a, t, off = rng.choice((start, end)), rng.random(), rng.choice((2, 300, 8000, 40000))
+                a = a if t < .3 else tuple(u * (1 - t) + v * t for u, v in zip(start, end)) if t < .5 else (math.cos(9 * t) * math.hypot(*start), math.sin(9 * t) * math.hypot(*start))
+                p = tuple(round(v * FINE) + rng.randint(-off, off) for v in a)
+                square = dot((0, 0), p, p)
+                if not in_sector(fine(start), fine(end), p) or not 0 < square < 2 * FINE ** 2 * near:
+                    continue
+                sure, never = (square < near * FINE ** 2, square > far * FINE ** 2) if n % 2 else (square > far * FINE ** 2, square < near * FINE ** 2)
+                self.assertTrue(sure or not has(low, p), (contour, p))
+                self.assertTrue(never or has(high, p), (contour, p))
+        self.assertGreater(given, cases * 8 // 10)
+
+
+class Concave(unittest.TestCase):
+    def test_apart(self):
+        """Across a round clearance the bounds are at most a micrometre apart."""
+        rng = random.Random(15)
+        for _ in range(6 * MANY):
+            r = rng.choice((10 ** 5, 10 ** 6, 10 ** 7)) * rng.randint(1, 9)
+            w = 2 * r
+            contour = [(-w, -w), (w, -w), (w, 0), (r, 0), ((0, 0), (r, 0), False), (w, 0), (w, w), (-w, w), (-w, -w)]
+            low, high = (pieces_of(side) for side in Copper(gerber_of(contour)).sides)
+            for _ in range(30):
+                t = rng.random() * 7
+                p, most = lambda d: tuple(round((r + d) * FINE * f(t)) for f in (math.cos, math.sin)), 0
+                least = next(d for d in range(-MICROMETRE, MICROMETRE, 100) if has(high, p(d)))
+                most = next(d for d in range(least, MICROMETRE, 100) if has(low, p(d)))
+                self.assertLess(most - least, MICROMETRE, (r, t))
 
 
 class Regions(unittest.TestCase):
