@@ -127,7 +127,7 @@ def holed(name, sizes, hole):
 
 def polygon(values, scale):
     """A regular polygon: diameter, corners, rotation, hole."""
-    if not 2 <= len(values) <= 4 or values[1] not in range(3, 13) or min(values[0], *values[3:]) < 0:
+    if not 2 <= len(values) <= 4 or values[1] not in range(3, 13) or min(values[:1] + values[3:]) < 0:
         raise Refused("polygon" if len(values) < 5 else "hole that is not round")
     if values[0] == 0:
         return Shape([], [])
