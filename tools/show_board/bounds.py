@@ -26,12 +26,15 @@ SIDES = ("lower", "upper")
 
 
 class Bounded(NamedTuple):
-    """The answer on a board between two; `findings` are (kind, sure, words, places), places (x, y, layer) with x and y in u."""
+    """The answer on a board between two; `findings` are (kind, sure, words, places), places (x, y, layer) with x and y in u.
+    `points` are those of each finding, `sides` what both boards are made of."""
 
     status: int
     line: str
     findings: list
     left_out: list
+    points: tuple = ()
+    sides: tuple = ()
 
 
 class Sides(NamedTuple):
@@ -100,7 +103,7 @@ def answered(program, package, sides, low, high):
     told = [f"{counted(certain, 'finding')} that both have"] if certain else []
     told += [f"{counted(doubt, 'finding')} that only one of them has"] if doubt else []
     line = f"{word}, between two bounds" + (f": {', '.join(told)}" if told else "") + f" (lower {low.line}; upper {high.line})"
-    return Bounded(status, line, [it[:4] for it in findings], sides.left_out)
+    return Bounded(status, line, [it[:4] for it in findings], sides.left_out, tuple(it[4] for it in findings), sides.sources)
 
 
 def judge(program, package):

@@ -49,6 +49,8 @@ def finding(board, it):
         told["parts"] = [{"count": len(part), "points": [point(board, number) for number in part[:MOST_OF_A_PART]]} for part in it.parts]
     if it.gap:
         told["gap"] = {"distance": round(mm(max(it.gap.distance, 0)), 6), **place(it.gap.place, it.gap.layer), "below": it.gap.below}
+    if it.sure is not None:
+        told["sure"] = it.sure
     if it.kind == "short":
         told["labelled"], told["meets"] = it.is_labelled, [meet(board, found) for found in it.meets]
     return told

@@ -1,10 +1,12 @@
 """One board, from its files to its findings."""
 import os
 
-from . import UNJUDGED, Stop, bounds, copper, fault_of, findings, hints, judged, netlist, package, report
+from . import UNJUDGED, Stop, between, bounds, copper, fault_of, findings, hints, judged, netlist, package, report
 from .board import Board
 
 NO_PLACES = "this program writes reports of version 1, which do not say where copper is from: what is told is the report and the netlist alone"
+
+COUNTED = {"opens": "open", "shorts": "short", "missing": "missing"}
 
 
 class Shown:
@@ -19,9 +21,13 @@ class Shown:
         self.title = os.path.basename(os.path.normpath(path)) or path
         self.board, self.findings, self.hints, self.bounds = None, [], [], None
         self.notes, self.flood, self.report = [], "", b""
+        # What an upper board has beyond a lower one, as (layer, corners).
+        self.wider = []
 
     def counts(self):
         told = self.board.report
+        if self.bounds:
+            return {word: sum(it.sure and it.kind == kind for it in self.findings) for word, kind in COUNTED.items()}
         return {"opens": len(told.opens), "shorts": len(told.shorts), "missing": len(told.bare)}
 
 
@@ -85,7 +91,7 @@ def show(path, asked, program, scratch):
         shown.notes = package_notes(files)
         if told.report:
             look(program, told, shown, asked.page or asked.svg)
-        outside(program, told, shown)
+        outside(program, told, shown, asked.page or asked.svg or asked.rdb)
         if asked.keep:
             package.keep(files, shown.report, asked.keep)
     except BrokenPipeError:
@@ -96,11 +102,27 @@ def show(path, asked, program, scratch):
     return shown
 
 
-def outside(program, told, shown):
+def outside(program, told, shown, wants_picture):
     """What copies of the files say: bounds of copper outside the profile, and hints."""
     if told.status == 3:
         shown.bounds = bounds.bounded(program, told)
         if shown.bounds:
             shown.status, shown.line = shown.bounds.status, shown.bounds.line
+            if shown.bounds.sides:
+                look_between(program, *told.package.between, shown, wants_picture)
     if told.status in (1, 3):
         shown.hints = hints.hints(program, told)
+
+
+def look_between(program, answer, low, high, shown, wants_picture):
+    """Fills in the findings of a board between bounds, over the lower one."""
+    shapes, why = shapes_of(program, low) if answer.findings or wants_picture else (None, "")
+    labels = labels_of(program, low) if low.report.shorts else None
+    program.progress.begin("looking for the places")
+    shown.audit = low.audit
+    shown.board = between.board_of(low, answer.sides[0], shapes, labels)
+    shown.findings = between.Findings(shown.board).all((*it, points) for it, points in zip(answer.findings, answer.points))
+    shown.notes += [why] if why else []
+    if wants_picture and shapes is not None:
+        above = between.board_of(high, answer.sides[1], shapes_of(program, high)[0], None)
+        shown.wider = between.wider(shown.board, above) if above.shapes is not None else []
