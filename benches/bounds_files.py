@@ -362,7 +362,7 @@ class File:
     # ---- answers
 
     def sure(self):
-        return model.layered([(dark, sure if dark else perhaps) for dark, sure, perhaps, *_ in self.objects])
+        return model.layered([(dark, model.within(sure if dark else perhaps, *reach)) for dark, sure, perhaps, *reach in self.objects])
 
     def perhaps(self):
-        return model.layered([(dark, perhaps if dark else sure) for dark, sure, perhaps, *_ in self.objects])
+        return model.layered([(dark, model.within(perhaps if dark else sure, *reach)) for dark, sure, perhaps, *reach in self.objects])

@@ -7,7 +7,7 @@ from fractions import Fraction as Q
 from math import isqrt
 
 FINE = 4
-ONE = 1 << 64
+ONE = 1 << 64           # what is multiplied is shifted by 64
 
 
 # ---- intervals
@@ -28,13 +28,20 @@ def minus(a, b):
 
 
 def times(a, b):
-    four = (a[0] * b[0], a[0] * b[1], a[1] * b[0], a[1] * b[1])
-    return min(four) // ONE, -(-max(four) // ONE)
+    (p, q), (r, s) = a, b
+    if p == q and r == s:
+        v = p * r
+        return v >> 64, -(-v >> 64)
+    four = sorted((p * r, p * s, q * r, q * s))
+    return four[0] >> 64, -(-four[3] >> 64)
 
 
 def square(a):
-    low, high = sorted((abs(a[0]), abs(a[1])))
-    return (0 if a[0] <= 0 <= a[1] else low * low // ONE), -(-high * high // ONE)
+    p, q = a
+    if p == q:
+        return p * p >> 64, -(-p * p >> 64)
+    low, high = sorted((abs(p), abs(q)))
+    return (0 if p <= 0 <= q else low * low >> 64), -(-high * high >> 64)
 
 
 def positive(a):
@@ -97,11 +104,34 @@ def half_plane(a, b):
 
 
 def both(parts):
-    return lambda p: every(*(part(p) for part in parts))
+    def inside(p):
+        answer = True
+        for part in parts:
+            said = part(p)
+            if said is False:
+                return False
+            answer = answer and said
+        return answer
+    return inside
 
 
 def either(parts):
-    return lambda p: some(*(part(p) for part in parts))
+    def inside(p):
+        answer = False
+        for part in parts:
+            said = part(p)
+            if said:
+                return True
+            answer = None if said is None else answer
+        return answer
+    return inside
+
+
+def within(part, middle, reach):
+    """A shape that has nothing further than `reach` from a place."""
+    reach = int(reach) + 2
+    box = [number(int(v) + side * reach)[0] for v in middle for side in (-1, 1)]
+    return lambda p: part(p) if box[0] <= p[0][1] and p[0][0] <= box[1] and box[2] <= p[1][1] and p[1][0] <= box[3] else False
 
 
 def box(c, w, h):
@@ -234,17 +264,22 @@ def odd_of(parts):
 
 def swept_box(a, b, w, h):
     """A rectangle along a line: for some share of the line both distances are within its halves."""
+    sizes = [(Q(v) / 2).as_integer_ratio() for v in (w, h)]
+
     def inside(p):
-        low, high = Q(0), Q(1)
-        for k, half in ((0, Q(w) / 2), (1, Q(h) / 2)):
-            at, d = Q(p[k][0], ONE) - a[k], b[k] - a[k]
+        """Of the shares, as (numerator, denominator above 0), the greatest least one and the least greatest one."""
+        low, high = (0, 1), (1, 1)
+        for k, (half, per) in enumerate(sizes):
+            at, d = (p[k][0] // ONE - a[k]) * per, (b[k] - a[k]) * per
             if d == 0:
                 if abs(at) >= half:
                     return None if abs(at) == half else False
                 continue
-            one, two = sorted(((at - half) / d, (at + half) / d))
-            low, high = max(low, one), min(high, two)
-        return None if low == high else low < high
+            one, two = ((at - half, d), (at + half, d)) if d > 0 else ((-at - half, -d), (half - at, -d))
+            low = one if one[0] * low[1] > low[0] * one[1] else low
+            high = two if two[0] * high[1] < high[0] * two[1] else high
+        apart = high[0] * low[1] - low[0] * high[1]
+        return None if apart == 0 else apart > 0
     return inside
 
 
