@@ -7,14 +7,15 @@ import re
 
 from . import clear
 from .defined import Definitions
-from .drawn import OPERATION, Operations
+from .drawn import OPERATION, STRAIGHT, Operations
 from .exact import Refused
 from .regions import Regions
 from .settings import SCALES, Settings
-from .side import Side, words_of
+from .side import DRAW, Side, words_of
 
 IN_REGIONS = ("TF", "TA", "TO", "TD", "AD", "AM", "LPD")      # what may stand there and says nothing of the contours
 MODES = ("G01", "G1", "G02", "G2", "G03", "G3")
+CORNER = re.compile(r"X([+-]?\d{1,13})Y([+-]?\d{1,13})D0?1")
 MOST_OBJECTS = 400_000
 
 
@@ -145,6 +146,11 @@ class Copper(Settings, Definitions, Operations, Regions):
     # ---- other words
 
     def plain(self, word, _):
+        match = CORNER.fullmatch(word) if self.contours and self.mode == STRAIGHT and isinstance(self.unit, int) else None
+        if match:       # most words of a plane
+            self.spot, self.last = (int(match[1]) * self.unit, int(match[2]) * self.unit), DRAW
+            self.contours[-1].append(self.spot)
+            return
         match = OPERATION.fullmatch(word)
         if match and any(match.groups()[1:]):
             self.operation(*match.groups())

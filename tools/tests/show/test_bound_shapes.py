@@ -47,7 +47,7 @@ class Primitives(unittest.TestCase):
 
     def test_places(self):
         rng, seen, untold, lost = random.Random(1), 0, 0, 0
-        for _ in range(120 * MANY):
+        for _ in range(40 * MANY):
             real = Real(rng)
             (shape,) = real.figure()
             low, high = bounds_of(shape)
@@ -59,12 +59,12 @@ class Primitives(unittest.TestCase):
                 self.assertFalse(inside and truth is False, (real.word(), p))
                 self.assertFalse(truth is True and not outside, (real.word(), p))
         self.assertLess(untold * 100, seen)
-        self.assertLess(lost * 20, 120 * MANY)
+        self.assertLess(lost * 20, 40 * MANY)
 
     def test_close(self):
         """What is 2 nm or more inside lies in LOWER, what is as far outside does not lie in UPPER, but at sharp corners."""
         rng, kept, asked = random.Random(2), 0, 0
-        for _ in range(80 * MANY):
+        for _ in range(30 * MANY):
             real = Real(rng)
             low, high = bounds_of(real.figure()[0])
             for _ in range(20):
@@ -86,7 +86,7 @@ class Arcs(unittest.TestCase):
     def test_draws(self):
         """Draws along arcs: LOWER and UPPER lie right, and at most a micrometre apart."""
         rng = random.Random(4)
-        for _ in range(60 * MANY):
+        for _ in range(20 * MANY):
             radius, a, b = circle_ends(rng, 400)
             pen = rng.randrange(1, 2 * 10 ** 6)
             chain, most = arc_chain((0, 0), a, b)
@@ -116,7 +116,7 @@ class Arcs(unittest.TestCase):
     def test_two_radii(self):
         """Ends at two distances: at angles of the sweep the chain keeps to `most` of both circles."""
         rng = random.Random(5)
-        for _ in range(100 * MANY):
+        for _ in range(40 * MANY):
             _, a, b = circle_ends(rng, 200)
             a, b = [tuple(v + rng.randint(-40, 40) for v in p) for p in (a, b)]
             if cross((0, 0), a, b) == 0:
@@ -164,7 +164,7 @@ class SmallCircles(unittest.TestCase):
 
     def test_places(self):
         rng = random.Random(13)
-        for radius in range(980, 1200, 7):
+        for radius in range(980, 1200, 14):
             (x, y, r), pen = on_circle(rng, radius), rng.choice((2, 900, 1100, 5000, 10 ** 6))
             start = rng.choice(((r, 0), (x, y)))
             text = gerber_of([start, ((0, 0), start, rng.random() < .5)])
@@ -198,7 +198,7 @@ class TwoRadii(unittest.TestCase):
 
     def test_places(self):
         rng, given, cases = random.Random(14), 0, 0
-        for n in range(60 * MANY):
+        for n in range(40 * MANY):
             start, end, contour = self.contour(rng, n % 2)
             near, far = sorted((dot((0, 0), start, start), dot((0, 0), end, end)))
             low, high = (pieces_of(side) for side in Copper(words_for(contour, *["%LPC*%", "%LPD*%"] * rng.randint(0, 1))).sides)
@@ -220,14 +220,14 @@ class Concave(unittest.TestCase):
     def test_apart(self):
         """Across a round clearance the bounds are at most a micrometre apart."""
         rng = random.Random(15)
-        for _ in range(6 * MANY):
+        for _ in range(4 * MANY):
             r = rng.choice((10 ** 5, 10 ** 6, 10 ** 7)) * rng.randint(1, 9)
             w = 2 * r
             contour = [(-w, -w), (w, -w), (w, 0), (r, 0), ((0, 0), (r, 0), False), (w, 0), (w, w), (-w, w), (-w, -w)]
             low, high = (pieces_of(side) for side in Copper(gerber_of(contour)).sides)
-            for _ in range(30):
+            for _ in range(12):
                 t = rng.random() * 7
-                p, most = lambda d: tuple(round((r + d) * FINE * f(t)) for f in (math.cos, math.sin)), 0
+                p = lambda d: tuple(round((r + d) * FINE * f(t)) for f in (math.cos, math.sin))
                 least = next(d for d in range(-MICROMETRE, MICROMETRE, 100) if has(high, p(d)))
                 most = next(d for d in range(least, MICROMETRE, 100) if has(low, p(d)))
                 self.assertLess(most - least, MICROMETRE, (r, t))
@@ -263,7 +263,7 @@ class Regions(unittest.TestCase):
 
     def test_places(self):
         rng, lost, cases, kept = random.Random(6), 0, 0, 0
-        for _ in range(70 * MANY):
+        for _ in range(25 * MANY):
             contour = contour_of(rng)
             if rng.random() < .4:
                 contour = [(tuple(v + rng.randint(-7, 7) for v in p[0]), *p[1:]) if len(p) == 3 else p for p in contour]
@@ -288,7 +288,7 @@ class Regions(unittest.TestCase):
     def test_close(self):
         """Away from corners: what is a micrometre inside lies in LOWER, what is a micrometre outside does not lie in UPPER."""
         rng, asked, far = random.Random(12), 0, MICROMETRE * FINE
-        for _ in range(25 * MANY):
+        for _ in range(12 * MANY):
             contour = contour_of(rng)
             parts = parts_of(contour)
             arcs = [p for p in parts if isinstance(p, Arc)]
@@ -304,12 +304,12 @@ class Regions(unittest.TestCase):
                 asked += all(around) or not any(around)
                 self.assertFalse(all(around) and not has([("area", corners)], p), (contour, p))
                 self.assertFalse(not any(around) and has(high, p), (contour, p))
-        self.assertGreater(asked, 50 * MANY)
+        self.assertGreater(asked, 20 * MANY)
 
     def test_wild(self):
         """Contours that cross themselves, with half circles: LOWER mostly is not given, and where it is, it lies in the area."""
         rng, given = random.Random(8), 0
-        for _ in range(400 * MANY):
+        for _ in range(150 * MANY):
             size = rng.choice((3000, 30000, 3000000))
             spots = [tuple(2 * rng.randint(-size, size) for _ in "xy") for _ in range(rng.randrange(2, 5))]
             contour = spots[:1]
@@ -325,12 +325,12 @@ class Regions(unittest.TestCase):
                 p = self.place(rng, arcs) if rng.random() < .7 else tuple(rng.randint(-8 * size, 8 * size) for _ in "xy")
                 self.assertFalse(corners and self.truth(p, contour) is False and has([("area", corners)], p), (contour, p))
                 self.assertFalse(outer and self.truth(p, contour) and not has([("area", outer)], p), (contour, p))
-        self.assertGreater(given, 40 * MANY)
+        self.assertGreater(given, 12 * MANY)
 
     def test_cusps(self):
         """An edge that comes to the arc's end at a few degrees from its tangent, from either side and either way round."""
         rng, given = random.Random(9), 0
-        for _ in range(130 * MANY):
+        for _ in range(45 * MANY):
             r, v = rng.randrange(10 ** 5, 10 ** 7), rng.randrange(10 ** 4, 10 ** 6)
             a = (r + rng.randint(-v, v) // rng.choice((3, 10, 20, 40)), v * rng.choice((-1, 1, 1)))
             start, end = (r, 0), rng.choice(((0, r), (0, -r), (-r, 0)))
@@ -343,7 +343,7 @@ class Regions(unittest.TestCase):
                 p = tuple(round(x * FINE) + rng.randint(-off, off) for x in (r * math.cos(t), r * math.sin(t)))
                 self.assertFalse(corners and self.truth(p, contour) is False and has([("area", corners)], p), (contour, p))
                 self.assertFalse(outer and self.truth(p, contour) and not has([("area", outer)], p), (contour, p))
-        self.assertGreater(given, 40 * MANY)
+        self.assertGreater(given, 12 * MANY)
 
 
 if __name__ == "__main__":
