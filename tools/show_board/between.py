@@ -43,6 +43,7 @@ class Findings:
     def finding(self, kind, sure, words, _, points):
         number, board = self.counts[kind], self.board
         self.counts[kind] += 1
+        points = [*points[1::-1], *points[2:]] if kind == "open" else points        # the part that stands apart first
         nets = list(dict.fromkeys(board.report.points[point][3] for point in points))
         names = list(dict.fromkeys(board.name_of(point) for point in points))
         known = self.shorts.get(nets[0]) if kind == "short" and sure else None
@@ -57,7 +58,7 @@ class Findings:
         if kind == "missing" or len(nets) < 2 or -1 in nets[:2]:
             return {}
         parts = [[point for point, (_, _, name, net) in enumerate(self.board.report.points) if net == of and name == self.board.name_of(points[0])] for of in nets]
-        gap = self.opens.gap(nets[0], nets[1], points[1]) if kind == "open" else self.opens.copper.gap(nets[0], nets[1]) if self.board.shapes else None
+        gap = self.opens.gap(nets[1], nets[0], points[0]) if kind == "open" else self.opens.copper.gap(nets[0], nets[1]) if self.board.shapes else None
         return {"gap": gap, "hints": open_hints(self.board, gap), "parts": parts if kind == "open" else []}
 
 
