@@ -25,7 +25,7 @@ class Definitions:
     def define(self, word):
         match = re.fullmatch(r"ADD(\d{1,9})([^,]+)(?:,(.*))?", word)
         if not match:
-            self.both(f"%{word}*%")
+            self.pass_on(f"%{word}*%")
             return
         number, name, parts = int(match[1]), match[2], match[3].split("X") if match[3] else []
         if number >= OWN or number < 10 or not self.scale:
@@ -61,7 +61,7 @@ class Definitions:
     def select(self, number, word):
         self.chosen = number
         if self.apertures.get(number) is None:
-            self.both(f"{word}*")
+            self.pass_on(f"{word}*")
 
     def aperture(self):
         """The chosen one; None where it is left to `check`."""
@@ -83,7 +83,7 @@ class Definitions:
         if change:
             self.change = change
         else:
-            self.both(f"%{word}*%")
+            self.pass_on(f"%{word}*%")
 
     # ---- blocks
 

@@ -116,7 +116,8 @@ class Operations:
                 side.operate(self.spot, DRAW, self.number)
 
     def flash(self):
-        self.flashes.add(self.spot)
+        if not self.blocks:
+            self.flashes.add(self.spot)
         made = self.aperture()
         if isinstance(made, apertures.Block):
             self.flash_block(made)
@@ -142,7 +143,9 @@ class Operations:
         """Its objects, each changed and moved; a clear flash turns dark into clear and clear into dark."""
         self.replaced += 1
         self.lost += [f"{what} of the block at command {self.number}" for what in block.lost]
-        for it in self.change.objects(block):
+        for was, it in zip(block.objects, self.change.objects(block)):
+            if was.dark and was.both[0] and not it.both[0]:
+                self.lost.append(f"a changed object of the block at command {self.number}")
             both = tuple([moved(piece, *self.spot) for piece in pieces] for pieces in it.both)
             self.stays_as(it.dark != self.clear, both)
             if it.dark != self.clear and self.number not in self.taken:

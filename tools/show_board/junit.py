@@ -1,16 +1,16 @@
 """The findings as JUnit's XML: a suite a board, a case a net name, which fails where a finding is listed under it."""
 from xml.sax.saxutils import escape, quoteattr
 
-from .lines import summary
+from .lines import doubt, summary
 from .words import for_xml
 
 
 def case(shown, name, failures):
-    told = "\n".join(f"{it.id}: {it.text()}" for it in failures)
+    told = "\n".join(f"{doubt(it)}{it.id}: {it.text()}" for it in failures)
     head = f'  <testcase classname={quoteattr(shown.title)} name={quoteattr(name)}'
     if not failures:
         return head + "/>"
-    message = quoteattr(f"{', '.join(it.id for it in failures)}")
+    message = quoteattr(f"{', '.join(doubt(it) + it.id for it in failures)}")
     return f"{head}><failure message={message}>{escape(told)}</failure></testcase>"
 
 

@@ -19,6 +19,12 @@ class Settings:
         for side in self.sides:
             side.word(text, self.number)
 
+    def pass_on(self, text):
+        """What is left to `check`; within a block it would not see it."""
+        if self.blocks and not text.startswith(("%TA", "%TO", "%TD")):
+            raise Refused("a word in a block that is not known")
+        self.both(text)
+
     def set_format(self, word):
         match = re.fullmatch(r"FSLAX([1-6])([2-7])Y\1\2", word)
         if not match or self.format not in (None, word):

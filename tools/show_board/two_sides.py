@@ -139,9 +139,9 @@ class Copper(Settings, Definitions, Operations, Regions):
             self.transform(word)
         elif word.startswith("SR"):
             self.steps(word)
-            self.both(f"%{self.step_word(word)}*%")
+            (self.both if self.copies or word == "SR" else self.pass_on)(f"%{self.step_word(word)}*%")
         else:
-            self.both(f"%{word}*%")
+            self.pass_on(f"%{word}*%")
 
     # ---- other words
 
@@ -178,4 +178,4 @@ class Copper(Settings, Definitions, Operations, Regions):
             raise Refused("a region without an end" if word in ("M02", "M2") else "a word in a region")
         if word in ("M02", "M2"):
             self.finish()
-        self.both(f"{word}*")
+        self.pass_on(f"{word}*")
