@@ -68,6 +68,8 @@ class Definitions:
         made = self.apertures.get(self.chosen)
         if isinstance(made, apertures.Unbounded):
             raise Refused(made.why)
+        if made is None and self.blocks:
+            raise Refused("no aperture")
         self.used.add(self.chosen)
         return made
 

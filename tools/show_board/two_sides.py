@@ -177,5 +177,7 @@ class Copper(Settings, Definitions, Operations, Regions):
         if self.contours is not None:
             raise Refused("a region without an end" if word in ("M02", "M2") else "a word in a region")
         if word in ("M02", "M2"):
+            if self.blocks:
+                raise Refused("a block without an end")
             self.finish()
         self.pass_on(f"{word}*")

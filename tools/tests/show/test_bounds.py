@@ -43,7 +43,7 @@ class Files(unittest.TestCase):
             ("line break in a word", ["%ADD10C,\n1*%"]), ("no whole tenth", ["%SRX2Y1I.00000005J0*%"]),
             ("coordinates without an operation", ["X5Y5D02*", "X6Y6*"]), ("a block without an end", ["%ABD12*%"]), ("a block's beginning or end", ["%AB*%"]),
             ("defined again after its use", ["%ADD10C,1*%", *use, "%ADD10C,2*%"]), ("two units", ["%ABD12*%", "%MOIN*%", "%AB*%"]),
-            *(("a word in a block that is not known", ["%ABD12*%", word, "%AB*%"]) for word in ("%IPNEG*%", "G91*", "D77*", "%SRX1*%", "%LMZ*%", "%TF.FilePolarity,Negative*%", "M02*")),
+            *(("a word in a block that is not known", ["%ABD12*%", word, "%AB*%"]) for word in ("%IPNEG*%", "G91*", "D77*", "%SRX1*%", "%LMZ*%", "%TF.FilePolarity,Negative*%")), ("no aperture", ["%ABD12*%", "X5Y5D03*", "%AB*%"]),
             ("a draw with a pen", ["%ABD12*%", "%AB*%", "D12*", "X5Y5D01*"]),
             ("over 64 brackets in one another", [f"%AMA*1,1,{'(' * 400}1{')' * 400},0,0*%", *macro]),
             ("a number of over 60 digits", [f"%AMA*1,1,{'1' * 5000},0,0*%", *macro]), ("a number of over 60 digits", [f"%ADD10C,{'1' * 5000}*%"]),
