@@ -77,7 +77,7 @@ class Regions:
         self.replaced += 1
         grown += [("capsule", by(a), by(b), most) for _, a, b, most in wide]
         if not closed:
-            return [[*map(by, outer)], [*map(by, outer)]]
+            return [[*map(by, outer)]], [[*map(by, outer)]]
         if not inner:
             self.lost.append(f"a contour with arcs of the region at command {self.number}")
         run = lambda corners: [*map(by, corners), by(corners[0])]

@@ -68,6 +68,11 @@ class Places(unittest.TestCase):
         low, high = both_of("%ADD13C,1X.2X.2*%", "%AMA*6,0,0,1,.1,.1,2,.1,1,0*%", "%ADD14A*%", "%ADD12C,1*%", "D12*", "X0Y0D03*")
         self.assertEqual((low, high), ([("capsule", (0, 0), (0, 0), MM // 2)],) * 2)
 
+    def test_open_contours(self):
+        """A contour with an arc that is not closed is passed on, so that `check` refuses it."""
+        for side in of_text("\n".join([*HEAD, "G36*", "X0Y0D02*", "G03X0Y2000000I0J1000000D01*", "G37*", "M02*"])).sides:
+            self.assertEqual((side.lines[3], side.lines[-3]), ("X0Y0D02*", "X0Y20000000D01*"))
+
     def test_long_contours(self):
         """16,000 slanted edges and an arc; numbers that grow twofold."""
         edges = [f"X{k * 6000 + far}Y{far}D01*" for k in range(8000) for far in (10 ** 8, 10 ** 6)]

@@ -74,7 +74,7 @@ class Primitives(unittest.TestCase):
                     asked, kept = asked + 1, kept + has(low, p)
                 if all(a is False for a in around):
                     asked, kept = asked + 1, kept + (not has(high, p))
-        self.assertGreater(kept, asked * 98 // 100)
+        self.assertGreater(kept, asked * 95 // 100)
 
     def test_whole_stays_exact(self):
         body = ["1,1,$1,0,0", "21,1,$1+$1,$1,0,1.0,90", "4,1,3,0,0,1,0,1,1,0,0,180", "20,1,0.2,0,0,0.3,0.4,0", "22,1,1,1,0,0,270", "1,1,1,1,0,45x2"]
