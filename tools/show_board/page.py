@@ -134,7 +134,7 @@ def wider_data(shown):
     return [[layer, [v for spot in corners for v in place(spot)]] for layer, corners in shown.wider]
 
 
-def block(board, findings, wider):
+def block(board, findings, wider=()):
     """The data, packed."""
     manifest, (column, sides) = board.manifest, sides_of(findings, board.report.pieces)
     columns = columns_of(board, column)
@@ -146,7 +146,7 @@ def block(board, findings, wider):
     head = json.dumps({
         "files": manifest.files, "copper": manifest.layers, "netlist": manifest.netlist, "flattened": sorted(board.package.flattened),
         "layers": [manifest.layer_word(k + 1) for k in range(manifest.layers)], "names": board.report.names, "netCount": board.report.nets,
-        "wider": wider, "components": components, "pins": pins, "findings": [finding_data(finding, sides) for finding in findings], "columns": columns.heads,
+        "wider": list(wider), "components": components, "pins": pins, "findings": [finding_data(finding, sides) for finding in findings], "columns": columns.heads,
     }, separators=(",", ":")).encode()
     raw = len(head).to_bytes(4, "little") + head + b"".join(columns.parts)
     return base64.b64encode(zlib.compress(raw, 9)).decode()

@@ -71,7 +71,8 @@ class Places(unittest.TestCase):
     def test_open_contours(self):
         """A contour with an arc that is not closed is passed on, so that `check` refuses it."""
         for side in of_text("\n".join([*HEAD, "G36*", "X0Y0D02*", "G03X0Y2000000I0J1000000D01*", "G37*", "M02*"])).sides:
-            self.assertEqual((side.lines[3], side.lines[-3]), ("X0Y0D02*", "X0Y20000000D01*"))
+            last = side.lines.index("G37*")
+            self.assertEqual((side.lines[3], side.lines[last - 1]), ("X0Y0D02*", "X0Y20000000D01*"))
 
     def test_long_contours(self):
         """16,000 slanted edges and an arc; numbers that grow twofold."""
