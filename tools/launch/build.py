@@ -3,11 +3,12 @@
 
 The program is taken where it stands for the very same sources: in the checkout, where the gate left it, or among the
 programs that this user's earlier builds and gates kept. Else every crate is proved, as many at a time as processors
-and memory serve, and the program is built. What was proved stays, so an interrupted call goes on where it was.
+and memory serve, and the program is built. What was proved stays, so an interrupted call goes on where it was. Meanwhile
+the words are tried, in the folder of the call, and the trial's answer is told as one that is not proved.
 
-    build.py --keep TOP      keeps a program that was built, for other checkouts of the same sources
+    build.py --only TOP [WORD ..]   the same, and then runs nothing
+    build.py --keep TOP             keeps a program that was built, for other checkouts of the same sources
 """
-import contextlib
 import os
 import re
 import signal
@@ -17,25 +18,30 @@ import time
 
 sys.dont_write_bytecode = True
 sys.path.insert(0, os.path.dirname(os.path.abspath(__file__)))
+import children  # noqa: E402
 import kept  # noqa: E402
 from progress import Progress  # noqa: E402
+from proof import Failed, Proof  # noqa: E402
+from trial import Trial  # noqa: E402
 
 INTERRUPTED, FAILED = 130, 70
-# A check takes one to four gigabytes.
+# A check takes one to four gigabytes, as does a trial.
 MEMORY_OF_A_CHECK = 3 << 30
+# Seconds in which a trial has places of its own.
+FIRST = 90
+# Seconds between two looks at what runs.
+LOOK = 0.1
 
 
-def crates_of(top):
-    """The crates in the order of crates.txt."""
-    with open(os.path.join(top, "crates.txt"), encoding="utf-8") as file:
-        return [line.split(":")[0].split()[0] for line in file if ":" in line and not line.startswith("#")]
+def say(text):
+    print(f"boardnet: {text}", file=sys.stderr, flush=True)
 
 
-def checks(each):
-    """So many checks for each processor, as far as free memory goes."""
+def places():
+    """How many checks can run at a time: one for each processor, as far as free memory goes."""
     with open("/proc/meminfo", encoding="ascii") as file:
         free = next((int(line.split()[1]) << 10 for line in file if line.startswith("MemAvailable:")), 0)
-    return max(1, min(each * len(os.sched_getaffinity(0)), free // MEMORY_OF_A_CHECK))
+    return max(1, min(len(os.sched_getaffinity(0)), free // MEMORY_OF_A_CHECK))
 
 
 def line_of_rt():
@@ -51,108 +57,73 @@ class Stop(Exception):
         self.status = status
 
 
-def interrupt(*_):
-    raise KeyboardInterrupt
-
-
-def heard():
-    """The signals that end a build; one that was ignored when it began stays so."""
-    return [it for it in (signal.SIGINT, signal.SIGTERM) if signal.getsignal(it) is not signal.SIG_IGN]
-
-
-@contextlib.contextmanager
-def heard_later():
-    """Signals that come meanwhile are heard at the end: so no command starts that nobody knows of, and would end."""
-    noted = []
-    handlers = [(it, signal.signal(it, lambda *_: noted.append(True))) for it in heard()]
-    try:
-        yield
-    finally:
-        for number, handler in handlers:
-            signal.signal(number, handler)
-    if noted:
-        raise KeyboardInterrupt
-
-
-def is_refused(said):
-    """Whether a crate's lines tell of a proof that failed; of a crate that was proved before, rt says nothing."""
-    return said != [] and not any(line.startswith(b"logic=proved") for line in said)
+def why(log):
+    """The words for a build that failed: where its log is, and the log's first errors."""
+    with open(log, encoding="utf-8", errors="replace") as file:
+        errors = [line.rstrip()[:200] for line in file if re.search(r"\berror\b|not proved|^rt: ", line)]
+    return "\n".join([f"the build failed; {log} says where", *errors[:5]])
 
 
 class Build:
-    def __init__(self, top, out=sys.stderr):
-        self.top = top
-        self.crate = os.path.join(top, "crates", "boardnet")
-        self.log = os.path.join(self.crate, "out", "build.log")
-        self.crates = crates_of(top)
-        self.progress = Progress(top, self.crates, out)
-        self.running = None
+    """Proves the crates, tries the words meanwhile, and gives the checkout its program."""
 
-    def start(self, folder, words):
+    def __init__(self, top, made, words):
+        self.top, self.made, self.words = top, made, words
+        self.log = os.path.join(os.path.dirname(kept.program_of(top)), "build.log")
+        self.proof = self.trial = self.progress = None
+
+    def begin(self):
         os.makedirs(os.path.dirname(self.log), exist_ok=True)
-        how = {"cwd": folder, "stdin": subprocess.DEVNULL, "stdout": subprocess.PIPE, "stderr": subprocess.STDOUT}
-        with heard_later():
-            self.running = subprocess.Popen(words, **how)
-        return self.running
+        with open(self.log, "wb"):
+            pass
+        self.proof = Proof(self.top, self.log, say)
+        self.proof.read()
+        self.places = places()
+        self.trial = Trial()
+        if self.places > 1:
+            self.trial.begin(self.proof.sources, os.getcwd(), self.words)
+        self.progress = Progress(self.proof.left, sys.stderr)
+        self.progress.begin(self.trial.is_running())
 
-    def end(self):
-        """Ends the command that runs. A terminal tells rt too, a lone signal does not; rt's own commands end with it."""
-        for number in heard():
-            signal.signal(number, signal.SIG_IGN)
-        if self.running:
-            self.running.terminate()
-            self.running.wait()
+    def free(self):
+        """A trial compiles and checks side by side, so it has two of four places at first, and one of fewer; then what the proof leaves."""
+        is_first = self.trial.is_running() and time.monotonic() < self.progress.started + FIRST
+        return self.places - (min(2, self.places // 2) if is_first else 0)
 
-    def libraries(self):
-        """Proves every crate under the program's, and leaves the program's check, which alone can use all processors."""
-        wanted, said, block, is_left = set(self.crates) - {"boardnet"}, {}, [], False
-        # Of the checks that rt begins some only wait for the crates below theirs: so it gets more of them than processors.
-        running = self.start(self.top, ["rt", "all", "check", "--jobs", str(checks(2))])
-        with open(self.log, "wb") as log:
-            for line in self.progress.lines(running):
-                log.write(line)
-                log.flush()
-                head = re.match(rb"== (\w+)$", line)
-                if head:
-                    block = said.setdefault(head.group(1).decode(), [])
-                    self.progress.ended(head.group(1).decode())
-                elif line:
-                    block.append(line)
-                elif not is_left and wanted <= said.keys():
-                    # What a crate says comes at once, so the last one has said all of it by now.
-                    is_left = True
-                    running.terminate()
-        if running.wait() and not is_left or any(is_refused(said.get(name, [])) for name in wanted):
-            raise Stop(FAILED, self.why())
-
-    def why(self):
-        """The words for a build that failed: where its log is, and the log's first errors."""
-        with open(self.log, encoding="utf-8", errors="replace") as log:
-            errors = [line.rstrip()[:200] for line in log if re.search(r"\berror\b|not proved|^rt: ", line)]
-        return "\n".join([f"the build failed; {self.log} says where", *errors[:5]])
-
-    def program(self):
-        """Proves the crate of the program and builds it; rt then runs the program without words, which answers 2."""
-        self.progress.says = "proving and building the program"
-        running = self.start(self.crate, ["rt", "run", "--jobs", str(checks(1))])
-        is_run = False
-        with open(self.log, "ab") as log:
-            for line in self.progress.lines(running):
-                log.write(line)
-                is_run = is_run or line.startswith(b"rt: running out/boardnet")
-        running.wait()
-        return is_run
+    def work(self):
+        while self.proof.left:
+            self.proof.step(self.free())
+            self.progress.left, self.progress.at_work = len(self.proof.left), list(self.proof.running)
+            self.progress.tell()
+            told = self.trial.told()
+            if told:
+                self.progress.end()
+                say(told)
+            time.sleep(LOOK)
 
     def run(self):
-        self.progress.begin()
+        """Whether the program is of the sources that were asked for: they may change meanwhile, and what was proved is a copy."""
         try:
-            self.libraries()
-            if not self.program():
-                raise Stop(FAILED, self.why())
-        except KeyboardInterrupt:
-            self.end()
-            raise
+            self.begin()
+            self.work()
+            is_same = kept.sum_of_sources(self.proof.sources) == self.made.sources
+            if is_same:
+                kept.put(self.top, self.proof.program(), self.made)
+            return is_same
+        except Failed:
+            raise Stop(FAILED, why(self.log)) from None
+        except OSError as error:
+            raise Stop(FAILED, f"{error.filename or self.top}: {error.strerror}: nothing can be proved") from None
         finally:
+            with children.heard_later():
+                self.end()
+
+    def end(self):
+        if self.trial:
+            self.trial.end()
+        if self.proof:
+            self.proof.end()
+        if self.progress:
             self.progress.end()
 
 
@@ -161,46 +132,55 @@ def logic_of(line):
     return line.partition(" logic ")[2] or line
 
 
-def warn_of_other_kit(top):
+def warn_of_other_kit(top, found):
     with open(os.path.join(top, "tools", "toolchain"), encoding="utf-8") as file:
         wanted = file.read().strip()
-    found = line_of_rt()
     if logic_of(found) != logic_of(wanted):
-        print(f"boardnet: rt version prints {found or 'nothing'}; these sources are made for {wanted}", file=sys.stderr)
-    return found
+        say(f"rt version prints {found or 'nothing'}; these sources are made for {wanted}")
 
 
-def build(top):
+def build(top, words):
     """Returns once the program stands for these sources."""
-    sum_of = kept.sum_of_sources(top, warn_of_other_kit(top))
-    if kept.is_same(top, sum_of):
-        return
-    if kept.take(top, sum_of):
-        print("boardnet: taking the program that this machine built of the same sources", file=sys.stderr)
-        return
-    Build(top).run()
-    kept.note(top, sum_of)
-    kept.keep(top, sum_of)
+    toolchain = line_of_rt()
+    warn_of_other_kit(top, toolchain)
+    while True:
+        made = kept.Made(toolchain, kept.sum_of_sources(top))
+        if kept.is_same(top, made):
+            return
+        if kept.take(top, made):
+            say("taking the program that this machine built of the same sources")
+            return
+        if Build(top, made, words).run():
+            kept.keep(top, made)
+        # The next turn looks at the sources again: they are the caller's, and may have changed.
+
+
+def keep(top):
+    """Keeps a program that the gate proved and built."""
+    made = kept.Made(line_of_rt(), kept.sum_of_sources(top))
+    kept.note(top, made)
+    kept.keep(top, made)
 
 
 def main(words):
-    if len(words) == 2 and words[0] == "--keep":
-        sum_of = kept.sum_of_sources(words[1], line_of_rt())
-        kept.note(words[1], sum_of)
-        kept.keep(words[1], sum_of)
-        return 0
-    if len(words) < 2:
+    flag = words[0] if words[:1] in (["--only"], ["--keep"]) else None
+    if len(words) < 2 or flag == "--keep" and len(words) != 2:
         sys.exit(__doc__)
+    if flag == "--keep":
+        keep(words[1])
+        return 0
     try:
-        for number in heard():
-            signal.signal(number, interrupt)
-        build(words[0])
-        os.execv(words[1], words[1:])
+        for number in children.heard():
+            signal.signal(number, children.interrupt)
+        build(words[1] if flag else words[0], words[2:])
+        if not flag:
+            os.execv(words[1], words[1:])
+        return 0
     except KeyboardInterrupt:
-        print("boardnet: interrupted; what was proved is kept, and the next call goes on there", file=sys.stderr)
+        say("interrupted; what was proved is kept, and the next call goes on there")
         return INTERRUPTED
     except Stop as stop:
-        print(f"boardnet: {stop}", file=sys.stderr)
+        say(stop)
         return stop.status
 
 

@@ -2,7 +2,7 @@
 # of manifests, and a loud word where nothing was judged. It changes no status and no byte of the program's output.
 #
 # The caller sets home (where help.txt and the tools lie), sets program, and has the functions version and ready: ready sees
-# to it that the program is there.
+# to it that the program is there, or for show that it knows where to have it built.
 
 say() { printf 'boardnet: %s\n' "$*" >&2; }
 
@@ -48,7 +48,7 @@ help_of() {
   printf 'boardnet %s\n\n' "$head"
   section "$1"
   case $head in *MANIFEST*) section files ;; esac
-  case $1 in install) ;; *) [ -f "$home/$1" ] || { printf 'Status\n'; section status; } ;; esac
+  case $1 in install | package) ;; *) [ -f "$home/$1" ] || { printf 'Status\n'; section status; } ;; esac
 }
 
 # Whether the command's first word is a manifest or a copper file, by its head in the help text.
@@ -94,54 +94,66 @@ find_report() {
     say "$report is no name of at most 200 printable ASCII characters: copy the report beside the manifest, or go to its folder"
 }
 
-# Sets netlist to the name in the manifest, or to nothing where it is not written plainly.
-find_netlist() {
-  text='' netlist=''
-  [ -r "$1" ] || return
-  while IFS= read -r line || [ -n "$line" ]; do text="$text $line"; done <"$1"
-  text=${text##*\"netlist\"}
-  text=${text#"${text%%[! 	]*}"}
-  case $text in :*) text=${text#:} ;; *) return ;; esac
-  text=${text#"${text%%[! 	]*}"}
-  case $text in \"*\"*) text=${text#\"} ;; *) return ;; esac
-  case ${text%%\"*} in *\\*) ;; *) netlist=${text%%\"*} ;; esac
+# Runs the program and passes its output on as it comes; sets status, and pointless where the output is a report without a test
+# point. The program's line waits until all is passed on: where that cannot be written, the line is what the program would say.
+pass_on() {
+  exec 3>&1
+  told=$(
+    {
+      {
+        { "$program" "$@" 2>&4 3>&- 4>&- 5>&- 7>&-; printf '= ended %s\n' $? >&4; } |
+          { tee /dev/fd/5 2>/dev/null >&7 7>&-; printf '= passed %s\n' $? >&4; }
+      } 4>&6 5>&1 6>&- | LC_ALL=C grep -cx 'points 0' | { read -r count; printf '= points %s\n' "$count"; } >&6
+    } 6>&1 7>&3
+  )
+  notes='' is_cut=''
+  while IFS= read -r line; do
+    case $line in
+      '= ended '*) status=${line#= ended } ;;
+      '= passed 0' | '= points 0' | '') ;;
+      '= passed '*) is_cut=1 ;;
+      '= points '*) pointless=1 ;;
+      *) notes="${notes:+$notes
+}$line" ;;
+    esac
+  done <<END
+$told
+END
+  [ -z "$is_cut" ] || status=5 notes='boardnet: output cannot be written'
+  [ -z "$notes" ] || printf '%s\n' "$notes" >&2
 }
 
-# Whether the report of a command has a test point; the command runs once more for it.
-reports_points() {
-  "$program" "$1" "$2" 2>/dev/null | {
-    while IFS= read -r line; do case $line in 'points 0') exit 1 ;; 'points '*) exit 0 ;; esac; done
-  }
-}
-
-# Whether an accepted manifest's netlist has a test record. Where its name is not plain, the report says it.
-has_points() {
-  find_netlist "$1"
-  if [ -f "$netlist" ]; then
-    while IFS= read -r line || [ -n "$line" ]; do
-      case $line in 317* | 327*) return 0 ;; esac
-    done <"$netlist"
-    return 1
-  fi
-  reports_points check "$1"
+# Whether output can be passed on here.
+can_pass_on() {
+  { : >&1; } 2>/dev/null && [ -e /dev/fd/1 ] && command -v tee >/dev/null 2>&1 && command -v grep >/dev/null 2>&1
 }
 
 # Says so where a yes is about no test point at all.
 warn_of_nothing() {
   case $1 in
-    check | audit)
-      has_points "$2" ||
-        say "NOTHING WAS JUDGED: $2 names a netlist without test points (no 317 and no 327 record), so this yes says nothing about the board"
-      ;;
-    x2)
-      reports_points x2 "$2" ||
-        say "NOTHING WAS JUDGED: no copper file of $2 has a net label (TO.N), so this yes says nothing about the board"
-      ;;
+    x2) say "NOTHING WAS JUDGED: no copper file of $2 has a net label (TO.N), so this yes says nothing about the board" ;;
+    *) say "NOTHING WAS JUDGED: $2 names a netlist without test points (no 317 and no 327 record), so this yes says nothing about the board" ;;
   esac
 }
 
-# Runs the program with these words, from the manifest's folder, and returns its status.
+# Runs the program with these words, once, and sets its status. A yes about no test point is known by the report that passes by,
+# or that was audited.
 run() {
+  status=0 pointless=''
+  case $1 in
+    check | x2) if can_pass_on; then pass_on "$@"; else "$program" "$@" || status=$?; pointless=unknown; fi ;;
+    *) "$program" "$@" || status=$? ;;
+  esac
+  if [ "$1" = audit ] && [ "$status" = 0 ] && LC_ALL=C grep -qx 'points 0' -- "$3" 2>/dev/null; then pointless=1; fi
+  [ "$status" = 0 ] || return 0
+  case $pointless in
+    1) warn_of_nothing "$1" "$2" ;;
+    unknown) say "look at the line \`points\` of the report: where it is \`points 0\`, nothing was judged" ;;
+  esac
+}
+
+# Goes to the folder of the files, sees to it that the program is there, and runs it.
+go_and_run() {
   if [ $# -ge 2 ] && takes_file "$1"; then
     command=$1
     if [ "$command" = flatten ]; then find_file "$2"; else find_manifest "$2"; fi
@@ -151,10 +163,9 @@ run() {
       CDPATH='' cd -- "$folder" && set -- "$command" "$name" "$@"
     fi
   fi
-  "$program" "$@"
-  status=$?
-  [ $status != 0 ] || [ $# -lt 2 ] || warn_of_nothing "$1" "$2"
-  return $status
+  ready "$@"
+  run "$@"
+  exit "$status"
 }
 
 # Whether the command is a tool: it has a page in the help text, and lies beside it.
@@ -186,7 +197,5 @@ front() {
     if needs_program "$1"; then ready "$@"; fi
     tool "$@"
   fi
-  ready "$@"
-  run "$@"
-  exit $?
+  go_and_run "$@"
 }

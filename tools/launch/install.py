@@ -9,17 +9,19 @@ import sys
 
 sys.dont_write_bytecode = True
 sys.path.insert(0, os.path.dirname(os.path.abspath(__file__)))
+import kept  # noqa: E402
 import texts  # noqa: E402
 
 COMMAND = """#!/bin/sh
-# boardnet, installed. The program and its tools lie in home.
-home='{home}'
+# boardnet, installed. The program and its tools lie in home, beside the folder of this command.
+home=$(readlink -f -- "$0")
+home=${home%/bin/*}/lib/boardnet
 program=$home/boardnet
 
 . "$home/launch/front.sh"
 
-version() {{ while IFS= read -r line; do printf '%s\\n' "$line"; done <"$home/version"; }}
-ready() {{ [ -x "$program" ] || {{ say "$program is not there: install it again"; exit 127; }}; }}
+version() { while IFS= read -r line; do printf '%s\\n' "$line"; done <"$home/version"; }
+ready() { [ -x "$program" ] || { say "$program is not there: install it again"; exit 127; }; }
 
 front "$@"
 """
@@ -29,63 +31,63 @@ FILES = ("launch/front.sh", "manifest", "show")
 FOLDERS = ("manifest_files", "show_board")
 
 
-class Install:
-    def __init__(self, top, prefix):
-        self.top, self.prefix = top, os.path.abspath(prefix)
-        self.stage = os.environ.get("DESTDIR", "")
-        self.wrote = []
+def read(path):
+    with open(path, "rb") as file:
+        return file.read(), 0o755 if os.access(path, os.X_OK) else 0o644
 
-    def path(self, inside):
-        path = self.stage + os.path.join(self.prefix, inside)
-        os.makedirs(os.path.dirname(path), exist_ok=True)
-        self.wrote.append(os.path.join(self.prefix, inside))
-        return path
 
-    def put(self, inside, data, mode=0o644):
-        """Writes a file apart and then renames it, so that a program that runs keeps its own."""
-        path = self.path(inside)
-        with open(path + ".new", "wb") as file:
-            file.write(data)
-        os.chmod(path + ".new", mode)
-        os.replace(path + ".new", path)
+def tools_of(top):
+    """The names of the tools' files below tools/."""
+    tools, found = os.path.join(top, "tools"), list(FILES)
+    for folder in FOLDERS:
+        found += [f"{folder}/{name}" for name in sorted(os.listdir(os.path.join(tools, folder)))]
+    return [name for name in found if os.path.isfile(os.path.join(tools, name))]
 
-    def copy(self, source, inside):
-        with open(source, "rb") as file:
-            self.put(inside, file.read(), 0o755 if os.access(source, os.X_OK) else 0o644)
 
-    def tools(self):
-        tools = os.path.join(self.top, "tools")
-        for name in FILES:
-            if os.path.exists(os.path.join(tools, name)):
-                self.copy(os.path.join(tools, name), f"lib/boardnet/{name}")
-        for folder in FOLDERS:
-            for name in sorted(os.listdir(os.path.join(tools, folder)) if os.path.isdir(os.path.join(tools, folder)) else ()):
-                if os.path.isfile(os.path.join(tools, folder, name)):
-                    self.copy(os.path.join(tools, folder, name), f"lib/boardnet/{folder}/{name}")
+def files(top):
+    """What is installed below a prefix: each file's bytes and mode by its name."""
+    found = {"lib/boardnet/boardnet": (read(kept.program_of(top))[0], 0o755)}
+    for name in tools_of(top):
+        found[f"lib/boardnet/{name}"] = read(os.path.join(top, "tools", name))
+    told = subprocess.run([os.path.join(top, "boardnet"), "--version"], stdout=subprocess.PIPE, check=True).stdout
+    made = {
+        "lib/boardnet/version": told,
+        "lib/boardnet/help.txt": texts.installed().encode(),
+        "share/man/man1/boardnet.1": texts.man(texts.release()).encode(),
+        "share/bash-completion/completions/boardnet": texts.bash().encode(),
+        "share/zsh/site-functions/_boardnet": texts.zsh().encode(),
+    }
+    found.update((name, (data, 0o644)) for name, data in made.items())
+    found["bin/boardnet"] = COMMAND.encode(), 0o755
+    return found
 
-    def all(self):
-        self.copy(os.path.join(self.top, "crates", "boardnet", "out", "boardnet"), "lib/boardnet/boardnet")
-        self.tools()
-        told = subprocess.run([os.path.join(self.top, "boardnet"), "--version"], stdout=subprocess.PIPE, check=True)
-        self.put("lib/boardnet/version", told.stdout)
-        home = os.path.join(self.prefix, "lib/boardnet").replace("'", "'\\''")
-        self.put("lib/boardnet/help.txt", texts.installed().encode())
-        self.put("bin/boardnet", COMMAND.format(home=home).encode(), 0o755)
-        self.put("share/man/man1/boardnet.1", texts.man(texts.release()).encode())
-        self.put("share/bash-completion/completions/boardnet", texts.bash().encode())
-        self.put("share/zsh/site-functions/_boardnet", texts.zsh().encode())
+
+def put(path, data, mode):
+    """Writes a file apart and then renames it, so that a program that runs keeps its own."""
+    os.makedirs(os.path.dirname(path), exist_ok=True)
+    with open(path + ".new", "wb") as file:
+        file.write(data)
+    os.chmod(path + ".new", mode)
+    os.replace(path + ".new", path)
+
+
+def install(top, prefix, stage=""):
+    """Writes all below the prefix, itself below a stage, and returns the paths without the stage."""
+    prefix, wrote = os.path.abspath(prefix), []
+    for name, (data, mode) in files(top).items():
+        wrote.append(os.path.join(prefix, name))
+        put(stage + wrote[-1], data, mode)
+    return wrote
 
 
 def main(words):
     if len(words) != 2:
         sys.exit(__doc__)
-    install = Install(*words)
     try:
-        install.all()
+        print("\n".join(install(*words, os.environ.get("DESTDIR", ""))))
     except OSError as error:
         print(f"boardnet: {error.filename}: {error.strerror}: not installed", file=sys.stderr)
         return 1
-    print("\n".join(install.wrote))
     return 0
 
 

@@ -1,9 +1,15 @@
-"""Programs that were built, by the sum of what they were built of: in the checkout, and among this user's kept files."""
+"""Programs that were built, by the sum of what they were built of: in the checkout, and among this user's kept files.
+
+    kept.py TOP     prints the sum of a checkout's sources, and whether its program is noted as proved of them
+"""
 import hashlib
 import json
 import os
+import shutil
+import sys
 import tempfile
 import time
+from typing import NamedTuple
 
 # So many programs are kept.
 MOST = 4
@@ -23,19 +29,41 @@ def sum_of_file(path):
         return hashlib.sha256(file.read()).hexdigest()
 
 
-def sum_of_sources(top, toolchain):
-    """The sum of the sources, of their names and of the toolchain's line."""
-    parts = [(os.path.relpath(path, top), sum_of_file(path)) for path in sources(top)]
-    return hashlib.sha256(repr((toolchain, parts)).encode()).hexdigest()
+def sum_of_sources(top):
+    """The sum of the sources and their names: that of the lines which sha256sum prints of these files at the top, sorted by name."""
+    names = sorted(os.path.relpath(path, top) for path in sources(top))
+    lines = [f"{sum_of_file(os.path.join(top, name))}  {name}\n" for name in names]
+    return hashlib.sha256("".join(lines).encode("utf-8", "surrogateescape")).hexdigest()
+
+
+class Made(NamedTuple):
+    """What a program is made of: the toolchain's line and the sum of the sources."""
+
+    toolchain: str
+    sources: str
+
+    def sum(self):
+        return hashlib.sha256(f"{self.toolchain}\n{self.sources}\n".encode()).hexdigest()
+
+
+def copy_sources(top, to):
+    """Copies the sources, and nothing else of the checkout."""
+    for path in sources(top):
+        apart = os.path.join(to, os.path.relpath(path, top))
+        os.makedirs(os.path.dirname(apart), exist_ok=True)
+        shutil.copyfile(path, apart)
 
 
 def program_of(top):
     return os.path.join(top, "crates", "boardnet", "out", "boardnet")
 
 
+def base():
+    return os.environ.get("XDG_CACHE_HOME") or os.path.join(os.path.expanduser("~"), ".cache")
+
+
 def place():
-    base = os.environ.get("XDG_CACHE_HOME") or os.path.join(os.path.expanduser("~"), ".cache")
-    return os.path.join(base, "boardnet")
+    return os.path.join(base(), "boardnet")
 
 
 def count_as_new(top):
@@ -45,18 +73,23 @@ def count_as_new(top):
     os.utime(program_of(top), ns=(now, now))
 
 
-def is_same(top, sum_of):
-    """Whether the checkout's program is noted as built of these very sources; then it counts as new."""
+def noted(top):
+    """What the checkout's program is made of, as was noted when it was proved; None where nothing is noted of these bytes."""
     program = program_of(top)
     try:
-        with open(program + ".made", encoding="ascii") as file:
+        with open(program + ".made", encoding="utf-8") as file:
             said = json.load(file)
-        if said != {"sources": sum_of, "program": sum_of_file(program)}:
-            return False
-        count_as_new(top)
-        return True
-    except (OSError, ValueError):
+        return Made(said["toolchain"], said["sources"]) if said["program"] == sum_of_file(program) else None
+    except (OSError, ValueError, KeyError, TypeError):
+        return None
+
+
+def is_same(top, made):
+    """Whether the checkout's program is noted as made of these very sources; then it counts as new."""
+    if noted(top) != made:
         return False
+    count_as_new(top)
+    return True
 
 
 def write_whole(path, data, mode):
@@ -72,21 +105,29 @@ def write_whole(path, data, mode):
         raise
 
 
-def note(top, sum_of):
-    """Notes of which sources the checkout's program was built."""
+def note(top, made):
+    """Notes of which sources the checkout's program was proved and built."""
     program = program_of(top)
-    said = json.dumps({"sources": sum_of, "program": sum_of_file(program)}) + "\n"
-    write_whole(program + ".made", said.encode("ascii"), 0o644)
+    said = json.dumps({**made._asdict(), "program": sum_of_file(program)}) + "\n"
+    write_whole(program + ".made", said.encode("utf-8"), 0o644)
     count_as_new(top)
 
 
-def keep(top, sum_of):
+def put(top, program, made):
+    """Gives the checkout a program and the note of what it is made of."""
+    os.makedirs(os.path.dirname(program_of(top)), exist_ok=True)
+    with open(program, "rb") as file:
+        write_whole(program_of(top), file.read(), 0o755)
+    note(top, made)
+
+
+def keep(top, made):
     """Keeps the checkout's program for other checkouts of the same sources; the oldest of too many go."""
     try:
         os.makedirs(place(), 0o700, exist_ok=True)
         with open(program_of(top), "rb") as file:
             data = file.read()
-        name = f"{sum_of}-{hashlib.sha256(data).hexdigest()}"
+        name = f"{made.sum()}-{hashlib.sha256(data).hexdigest()}"
         write_whole(os.path.join(place(), name), data, 0o755)
         found = sorted((os.path.join(place(), it) for it in os.listdir(place())), key=os.path.getmtime)
         for path in found[:-MOST]:
@@ -96,17 +137,25 @@ def keep(top, sum_of):
         pass
 
 
-def take(top, sum_of):
+def take(top, made):
     """Gives the checkout the program that is kept for these sources, and returns whether there is one."""
     try:
         for name in os.listdir(place()):
             path = os.path.join(place(), name)
-            if name == f"{sum_of}-{sum_of_file(path)}" and os.stat(path).st_uid == os.geteuid():
-                os.makedirs(os.path.dirname(program_of(top)), exist_ok=True)
-                with open(path, "rb") as file:
-                    write_whole(program_of(top), file.read(), 0o755)
-                note(top, sum_of)
+            if name == f"{made.sum()}-{sum_of_file(path)}" and os.stat(path).st_uid == os.geteuid():
+                put(top, path, made)
                 return True
     except OSError:
         pass
     return False
+
+
+def line(top):
+    """What `--version` says of the sources."""
+    sources, made = sum_of_sources(top), noted(top)
+    is_proved = made is not None and made.sources == sources
+    return f"sources {sources}, {'proved with ' + made.toolchain if is_proved else 'not noted as proved'}"
+
+
+if __name__ == "__main__":
+    print(line(sys.argv[1]))

@@ -5,12 +5,18 @@ import os
 from . import MOST_BYTES, Refused, copper, drills, is_name, kinds, netlists, shown
 
 
+# What is ours in a folder: the manifest, and the ties that `show` reads.
+OURS = ("m.json", "ties.txt")
+
+
 class Package:
     def __init__(self):
         self.layers, self.guesses, self.drills, self.netlists = [], [], [], []
         self.left_out, self.origins, self.board_layers = [], {}, None
         # Files that count and cannot stand as they are.
         self.amiss = {}
+        # Whether a Gerber file says of which nets or pins its objects are.
+        self.has_names = False
 
     def leave_out(self, name, why):
         self.left_out.append((name, why))
@@ -47,6 +53,7 @@ class Package:
 
     def add_gerber(self, name, data):
         function = copper.function_of(data)
+        self.has_names = self.has_names or b"TO.P," in data or b"TO.N," in data
         if function is None:
             guess = copper.guess_of(name, data)
             if guess:
@@ -101,14 +108,19 @@ class Package:
 
 
 class Plan:
-    """The manifest that would be written, what is guessed in it, and what else is to be said."""
+    """The manifest that would be written, what is guessed in it, and what else is to be said.
 
-    def __init__(self, package, wanted=None, may_lack_holes=False):
+    With `may_lack_netlist` a folder without one gets a plan all the same, where its copper has names: the netlist is "", and who
+    asks makes one.
+    """
+
+    def __init__(self, package, wanted=None, may_lack_holes=False, may_lack_netlist=False):
         layers = package.copper()
-        netlist = netlists.choose(package.netlists, wanted)
+        may_lack = may_lack_netlist and wanted is None and package.has_names and not package.netlists
+        netlist = netlists.Netlist("", b"") if may_lack else netlists.choose(package.netlists, wanted)
         plated, unplated = package.plated(len(layers))
         package.need_holes(netlist, len(layers), plated, may_lack_holes)
-        package.need_names([it.name for it in [*layers, *plated, netlist]])
+        package.need_names([it.name for it in [*layers, *plated, *([] if may_lack else [netlist])]])
         self.guessed = [(it.name, f"copper layer {it.number}", it.why) for it in layers if it.why]
         self.guessed += [(it.name, f"plated holes from layer {it.span[0]} to {it.span[1]}", it.why) for it in plated if it.why]
         self.guessed += [(it.name, "unplated holes, left out", it.why) for it in unplated]
@@ -129,7 +141,7 @@ def gather(folder):
     package = Package()
     for name in sorted(os.listdir(folder)):
         path = os.path.join(folder, name)
-        if name == "m.json":
+        if name in OURS:
             continue
         if not os.path.isfile(path):
             package.leave_out(name, "it is a folder" if os.path.isdir(path) else "it is no plain file")

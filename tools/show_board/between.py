@@ -25,9 +25,9 @@ def own_commands(report, manifest, sources):
     return told
 
 
-def board_of(low, sources, shapes, labels):
+def board_of(low, sources, shapes, labels, ties):
     records = netlist.records(low.package.read(low.package.manifest.netlist))
-    return Board(low.package, own_commands(low.report, low.package.manifest, sources), records, shapes, labels)
+    return Board(low.package, own_commands(low.report, low.package.manifest, sources), records, shapes, labels, ties)
 
 
 class Findings:

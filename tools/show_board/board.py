@@ -1,18 +1,18 @@
 """What findings are told about: the report, the files that it speaks of, the netlist's records, and the copper where it is known."""
 from collections import defaultdict
 
+from .netlist import NO_NET
+from .ties import Ties
 from .touching import Touching
 from .words import millimetres
-
-NO_NET = "N/C"
 
 
 class Board:
     """`shapes` is None where the copper is not known, `labels` (names of pieces by the files' own labels) where there are none."""
 
-    def __init__(self, package, report, records, shapes=None, labels=None):
+    def __init__(self, package, report, records, shapes=None, labels=None, ties=None):
         self.package, self.manifest, self.report = package, package.manifest, report
-        self.records, self.shapes, self.labels = records, shapes, labels or {}
+        self.records, self.shapes, self.labels, self.ties = records, shapes, labels or {}, ties or Ties()
         self.pieces_of, self.points_of = defaultdict(list), defaultdict(list)
         for piece, net in enumerate(report.net_of):
             self.pieces_of[net].append(piece)
@@ -30,6 +30,10 @@ class Board:
 
     def name_of(self, point):
         return self.report.points[point][2]
+
+    def side_of(self, number):
+        """What a name counts as where names meet: tied names are one."""
+        return self.ties.side(self.name(number))
 
     # ---- points
 

@@ -11,11 +11,12 @@ import os
 import re
 from typing import NamedTuple
 
-from . import UNDECIDED, UNJUDGED, fault_of, judged, netlist
+from . import UNDECIDED, UNJUDGED, fault_of, judged, netlist, unjudged
 from .differing import Differing
 from .exact import Refused
 from .joint import Joint
 from .package import beside
+from .ties import Ties, lost
 from .two_sides import of_text
 from .words import counted
 
@@ -88,39 +89,42 @@ def both_judged(program, sides):
     return told
 
 
-def answered(program, package, sides, low, high):
+def answered(program, package, sides, low, high, ties):
     """The joint answer of two judged packages."""
     records = netlist.records(package.read(package.manifest.netlist))
-    joint = Joint(low.report, high.report, records, package.manifest)
+    joint = Joint(low.report, high.report, records, package.manifest, ties)
     findings = joint.findings()
     if any(not sure for _, sure, *_ in findings):
         findings = [*map(Differing(program, low, high, sides.sources).placed, findings)]
     certain, doubt = (sum(it[1] is sure for it in findings) for sure in (True, False))
+    certain += len(list(lost(ties, high.report)))
     if joint.agrees():
         status, word = 0, "agrees"
     else:
         status, word = (1, "differs") if certain else (UNDECIDED, "undecided")
     told = [f"{counted(certain, 'finding')} that both have"] if certain else []
     told += [f"{counted(doubt, 'finding')} that only one of them has"] if doubt else []
+    word += ties.words(len(ties.ties) - len(ties.parted(low.report))) if ties.ties else ""
     line = f"{word}, between two bounds" + (f": {', '.join(told)}" if told else "") + f" (lower {low.line}; upper {high.line})"
     return Bounded(status, line, [it[:4] for it in findings], sides.left_out, tuple(it[4] for it in findings), sides.sources)
 
 
-def judge(program, package):
+def judge(program, package, ties=Ties()):
     """(answer, lower, upper) of a package, made once; Refused where no bounds can be given."""
     if not package.between:
         sides = of_package(package)
         low, high = both_judged(program, sides)
-        package.between = answered(program, package, sides, low, high), low, high
+        package.between = answered(program, package, sides, low, high, ties), low, high
     return package.between
 
 
-def bounded(program, told):
+def bounded(program, told, ties=Ties()):
     """The answer on a refused package whose copper is outside the profile, or None where bounds have nothing to say."""
     if told.status != 3 or not told.package.manifest or not is_outside(told.line):
         return None
     try:
-        answer, _, high = judge(program, told.package)
+        answer, _, high = judge(program, told.package, ties)
     except Refused as why:
         return Bounded(3, f"{told.line}; no bounds: {why}", [], [])
-    return answer if high.report.points else Bounded(UNJUDGED, judged.NOTHING, [], [])
+    nothing = "" if answer.status else unjudged.why_nothing(high.report)
+    return Bounded(UNJUDGED, nothing, [], []) if nothing else answer

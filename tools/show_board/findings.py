@@ -4,6 +4,9 @@ from .board import NO_NET
 from .nearest import NearestCopper, NearestPoints, Stacked
 
 
+SUGGESTION = "Suggestion"
+
+
 class Finding:
     """kind and number are its name for good; `name` is the net name that it is listed under, `words` what is so, `hints` where to look.
 
@@ -25,6 +28,13 @@ class Finding:
 
     def text(self):
         return " ".join([self.words, *self.hints])
+
+    def without_suggestion(self):
+        """Leaves what is known: not where to look, where something else than the copper is the cause."""
+        self.hints = [hint for hint in self.hints if not hint.startswith(SUGGESTION)]
+        self.gap = None
+        if self.kind == "short" and not self.is_labelled:
+            self.meets, self.sides = [], {}
 
 
 class Opens:
@@ -58,6 +68,30 @@ class Opens:
     def all(self):
         return [self.finding(number, *it) for number, it in enumerate(self.board.report.opens)]
 
+    def parted(self):
+        """The declared ties that the copper does not have, numbered behind the report's opens; those without a point are no findings."""
+        names = {}
+        for point, (_, _, name, _) in enumerate(self.board.report.points):
+            names.setdefault(self.board.name(name), []).append(point)
+        ties = [it for it in self.board.ties.parted(self.board.report) if all(name in names for name in it.names)]
+        return [self.tie(number, it, names) for number, it in enumerate(ties, len(self.board.report.opens))]
+
+    def tie(self, number, tie, points):
+        board, (one, other) = self.board, tie.names
+        parts = [points[one], points[other]]
+        here, there = parts[0][0], parts[1][0]
+        for key, part in zip(tie.names, parts):
+            self.points.members[tie, key] = part
+        if all(board.spot(point) for part in parts for point in part):
+            _, there, here = self.points.pair(tie, other, one)
+        nets = [board.report.points[point][3] for point in (here, there)]
+        gap = self.gap(nets[1], nets[0], here) if min(nets) >= 0 else None
+        told = f"{one} and {other} are declared to be tied ({tie.source}) and no copper joins them: {board.told(here)} and {board.told(there)} are nearest."
+        more = {"gap": gap, "hints": open_hints(board, gap) if min(nets) >= 0 else [], "names": [board.name_of(here), board.name_of(there)]}
+        if min(nets) >= 0:
+            more.update(nets=nets, parts=[[point for point in part if board.report.points[point][3] == net] for part, net in zip(parts, nets)])
+        return Finding("open", number, tie.text(), told, [here, there], **more)
+
 
 def extent(board, members):
     """Which pins of the name are on a part, those of components before vias."""
@@ -85,7 +119,8 @@ def missing(board):
 
 
 def all_findings(board):
-    return [*Opens(board).all(), *shorts.findings(board, Finding), *missing(board)]
+    opens = Opens(board)
+    return [*opens.all(), *opens.parted(), *shorts.findings(board, Finding), *missing(board)]
 
 
 def flood(board):

@@ -5,13 +5,15 @@ status stays what it is.
 """
 from typing import NamedTuple, Optional
 
-from . import Stop, bounds, judged
+from . import Stop, bounds, codes, drillings, judged
 from .exact import Refused
 from .implied import implied
 from .layering import as_labelled, layerings
 from .package import beside
 from .placement import placements
 from .report import Report
+from .origins import setting
+from .ties import Ties
 
 TRIED = 4           # placements that are checked, at most
 
@@ -23,6 +25,7 @@ class Hint(NamedTuple):
     words: str
     answer_status: int
     answer_line: str
+    explains: bool = False      # whether it leaves less than half of the findings
 
 
 class Answer(NamedTuple):
@@ -33,12 +36,14 @@ class Answer(NamedTuple):
     line: str
     words: str
     report: Optional[Report]
+    ties: Ties = Ties()
 
     def missing(self):
         return len(self.report.bare)
 
     def rank(self):
-        return self.missing(), len(self.report.opens) + len(self.report.shorts)
+        opens, shorts, missing, parted = self.ties.counts(self.report)
+        return missing, opens + shorts + parted
 
     def is_misplaced(self):
         """More than one point of ten has no copper."""
@@ -52,18 +57,25 @@ class Answer(NamedTuple):
 class Trials:
     """Changed copies, each in a folder of its own beside the package."""
 
-    def __init__(self, program):
-        self.program = program
+    def __init__(self, program, ties=Ties()):
+        self.program, self.ties, self.looked = program, ties, {}
+
+    def holes(self, package):
+        """How the holes of a package lie on its pads, looked at once."""
+        if package.folder not in self.looked:
+            self.looked[package.folder] = drillings.Holes(package)
+        return self.looked[package.folder]
 
     def answer(self, told):
         """The answer on a judged package, by bounds where it is refused for its copper."""
         if told.report or told.status != 3 or not bounds.is_outside(told.line):
-            return Answer(told.package, told.status, told.line, f"`check` says: {told.line}", told.report)
+            status, line = self.ties.answer(told)
+            return Answer(told.package, status, line, f"`check` says: {line}", told.report, self.ties)
         try:
-            both, _, high = bounds.judge(self.program, told.package)
+            both, _, high = bounds.judge(self.program, told.package, self.ties)
         except Refused as why:
             return Answer(told.package, told.status, told.line, f"`check` says: {told.line}; no bounds: {why}", None)
-        return Answer(told.package, both.status, both.line, f"`check` says of both bounds: {both.line}", high.report)
+        return Answer(told.package, both.status, both.line, f"`check` says of both bounds: {both.line}", high.report, self.ties)
 
     def of(self, package, files=None, told=None):
         """The answer on a copy with other files or another manifest."""
@@ -102,16 +114,75 @@ def layers(trials, base):
             yield hint("layers", words, answer), answer
 
 
-def best_placement(trials, base):
-    """The best of the likeliest placements, tried until one agrees."""
-    best = None
-    for (words, files), _ in zip(placements(base.package), range(TRIED)):
+def vias(trials, base):
+    yield from recoded(trials, base, codes.RULES[0])
+
+
+def bottoms(trials, base):
+    yield from recoded(trials, base, codes.RULES[1])
+
+
+def recoded(trials, base, rule):
+    """Access codes read otherwise, where that leaves fewer faults."""
+    for words, files in codes.recoded(base.package, *rule):
         answer = trials.of(base.package, files)
-        if answer.report and (best is None or answer.rank() < best[1].rank()):
-            best = hint("placement", words, answer), answer
+        if answer.report and answer.rank() < base.rank():
+            yield hint("access codes", words, answer), answer
+
+
+def best(trials, base, kind, changes, names):
+    """The best of some changes, tried until one agrees, where it leaves fewer faults."""
+    found = None
+    for (words, files), _ in zip(changes, range(TRIED)):
+        answer = trials.of(base.package, files)
+        if answer.report and answer.rank() < (found[1] if found else base).rank():
+            shown = "mirrored drills" if kind == "drills" and "mirrored upside down" in words else kind
+            found = hint(kind, words + setting(base.package, shown, names), answer), answer
         if answer.status == 0:
             break
-    return best
+    return [found] if found else []
+
+
+def drills(trials, base):
+    """Drill files whose holes miss the pads moved onto them: all by the same change, then the first few each by its own."""
+    if not base.package.manifest.drills or not base.rank()[1] or base.is_misplaced():
+        return
+    holes = trials.holes(base.package)
+    if not holes.off:
+        return
+    together = best(trials, base, "drills", drillings.moved_drills(holes, holes.off), holes.off)
+    yield from together
+    if not together or together[0][1].status:
+        yield from each_alone(trials, together[0][1] if together else base, holes)
+
+
+def each_alone(trials, base, holes):
+    for name in holes.off[:TRIED] if len(holes.off) > 1 else ():
+        left = trials.holes(base.package)
+        for found, answer in best(trials, base, "drills", drillings.moved_drills(left, [name]), [name]) if name in left.off else ():
+            yield found, answer
+            base = answer
+
+
+def copper(trials, base):
+    """The copper moved, where netlist and drills fit each other and neither fits it."""
+    if base.is_misplaced() and base.package.manifest.drills:
+        holes = trials.holes(base.package)
+        if holes.off and drillings.fit_each_other(base.package, holes):
+            yield from best(trials, base, "copper", drillings.moved_copper(base.package, holes), base.package.manifest.copper[:1])
+
+
+def best_placement(trials, base):
+    """The best of the likeliest placements, tried until one agrees."""
+    found, without = None, trials.holes(base.package).off
+    for (words, files), _ in zip(placements(base.package, without), range(TRIED)):
+        answer = trials.of(base.package, files)
+        if answer.report and (found is None or answer.rank() < found[1].rank()):
+            words += setting(base.package, "placement", base.package.manifest.copper[:1])
+            found = hint("placement", words, answer), answer
+        if answer.status == 0:
+            break
+    return found
 
 
 def nowhere(base, best):
@@ -122,36 +193,50 @@ def nowhere(base, best):
 
 
 def placed(trials, base):
-    """The best placement, and the layers once more, where they leave fewer faults and less than one point of five without copper."""
+    """The best placement, and drills and layers once more, where they leave fewer faults and less than one point of five without copper."""
     best = best_placement(trials, base)
     if best is None:
         return
-    first, last = best[1], best[1]
-    further = list(layers(trials, first)) if first.rank() < base.rank() and (first.is_wanting() or first.missing()) else []
-    for _, last in further:
-        pass
+    first, last, further = best[1], best[1], []
+    for step in (layers, drills) if first.rank() < base.rank() else ():
+        for found, answer in step(trials, last) if last.status and (last.is_wanting() or last.missing()) else ():
+            further.append((found, answer))
+            last = answer
     if first.rank() >= base.rank() or last.missing() * 5 > len(last.report.points):
         if base.missing() * 2 > len(base.report.points):
-            yield nowhere(base, first)
+            yield nowhere(base, first), first
         return
-    yield best[0]
-    for found, _ in further:
-        yield found._replace(words=f"besides, {found.words}")
+    yield best
+    yield from further
 
 
 def arranged(trials, base):
-    """Hints on a board that was judged."""
+    """Layers in another order, and the netlist in another place."""
     if base.missing() * 2 <= len(base.report.points):
         for found, answer in layers(trials, base):
-            yield found
-            if not answer.is_wanting():
-                return
+            yield found, answer
+            base = answer
     if base.is_misplaced():
         yield from placed(trials, base)
 
 
-def all_hints(program, told):
-    trials = Trials(program)
+def fitted(trials, base):
+    """Hints on a board that was judged, each on top of those before it."""
+    last = base
+    for step in (vias, bottoms, drills, copper, arranged):
+        if last.status == 0 or step is arranged and not last.is_wanting():
+            break
+        for found, answer in step(trials, last):
+            yield besides(found) if last is not base and found.kind != "no placement" else found, answer
+            last = answer
+
+
+def besides(found):
+    return found._replace(words=f"besides, {found.words}")
+
+
+def all_hints(program, told, ties):
+    trials = Trials(program, ties)
     base = trials.answer(told)
     for kind, changed in (("WrongLayer", labelled), ("ImpliedDecimals", decimals)):
         if kind in base.words and not base.report:
@@ -159,17 +244,23 @@ def all_hints(program, told):
             yield from (each for each, _ in found)
             if found:
                 base = min((answer for _, answer in found), key=Answer.rank)
-    if base.is_wanting():
-        yield from arranged(trials, base)
+    if base.report and base.status:
+        for found, answer in fitted(trials, base):
+            yield found._replace(explains=found.kind != "no placement" and sum(answer.rank()) * 2 < sum(base.rank()))
 
 
-def hints(program, told):
+def explain(found):
+    """Whether some hint explains more than half of the findings."""
+    return any(each.explains for each in found)
+
+
+def hints(program, told, ties=Ties()):
     """What may be wrong with a judged package, each with the answer of `check` on a changed copy."""
     if not told.package.manifest:
         return []
     found = []
     try:
-        found.extend(all_hints(program, told))
+        found.extend(all_hints(program, told, ties))
     except (Stop, OSError, ValueError):
         pass    # a hint changes no status: what was found so far is told
     return found

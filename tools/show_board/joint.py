@@ -2,24 +2,25 @@
 from collections import defaultdict
 
 from .board import NO_NET
+from .ties import Ties, nets_of
 from .words import counted, millimetres, spoken
 
 FEW = 4     # parts that are told by a point
 
 
 class Joint:
-    """Both reports of one board; they have the same test points and names."""
+    """Both reports of one board; they have the same test points and names. Names that are declared to be tied count as one."""
 
-    def __init__(self, low, high, records, manifest):
-        self.low, self.high, self.records, self.manifest = low, high, records, manifest
+    def __init__(self, low, high, records, manifest, ties=None):
+        self.low, self.high, self.records, self.manifest, self.ties = low, high, records, manifest, ties or Ties()
 
     def agrees(self):
-        """The premises of the law."""
-        return not self.low.opens and not self.low.bare and not self.high.shorts
+        """The premises of the law, for names of which tied ones are one."""
+        return not self.low.opens and not self.low.bare and not self.ties.shorts(self.high) and not self.ties.parted(self.low)
 
     def findings(self):
         """(kind, sure, words, places, what) with `what` the points or names in doubt."""
-        return [*self.opens(), *self.shorts(), *self.missing()]
+        return [*self.opens(), *self.parted(), *self.shorts(), *self.missing()]
 
     # ---- words
 
@@ -78,10 +79,26 @@ class Joint:
             told = f"{name} may be in {counted(len(firsts), 'part')}: {spoken(map(self.pin, firsts), FEW)} are joined on the upper board alone"
             yield "open", False, told, self.places(firsts), firsts
 
+    def parted(self):
+        """Declared ties that the copper does not have, or perhaps not; those of a name without a point have no place."""
+        above, firsts = nets_of(self.high), {}
+        for point, (*_, net) in enumerate(self.high.points):
+            firsts.setdefault(self.name(point), {}).setdefault(net, point)
+        certain = self.ties.parted(self.high)
+        for it in self.ties.parted(self.low):
+            if any(name not in firsts for name in it.names):
+                continue
+            net = min(set.intersection(*(above.get(name, set()) for name in it.names)), default=None)
+            points = [firsts[name].get(net, next(iter(firsts[name].values()))) for name in it.names]
+            sure = it in certain
+            how = "no copper joins them" if sure else "are joined on the upper board alone"
+            told = f"{spoken(it.names)} are declared to be tied ({it.source}) and {how}: {spoken(map(self.pin, points))}"
+            yield "open", sure, told, self.places(points), points
+
     # ---- shorts: names on one net; a point without a net is a name of its own
 
     def key(self, point):
-        return point if self.name(point) == NO_NET else self.name(point)
+        return point if self.name(point) == NO_NET else self.ties.side(self.name(point))
 
     def short_nets(self, report):
         """For each short net its names, each with its first point."""
@@ -89,7 +106,7 @@ class Joint:
         for point, (*_, net) in enumerate(report.points):
             if net in nets:
                 nets[net].setdefault(self.key(point), point)
-        return [nets[net] for net in sorted(nets)]
+        return [nets[net] for net in sorted(nets) if len(nets[net]) > 1]
 
     def shorts(self):
         certain = self.short_nets(self.low)

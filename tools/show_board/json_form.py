@@ -1,6 +1,7 @@
 """The findings as JSON (docs/USING.md, "The JSON form"). Lengths are millimetres, exact."""
 import json
 
+from . import ties
 from .board import NO_NET
 
 FORM = 1
@@ -68,7 +69,8 @@ def board_of(shown):
     board = shown.board
     unnamed = sum(board.name(name) == NO_NET for _, _, name, _ in board.report.points)
     return {**told, "audit": shown.audit, "copper": board.manifest.copper, "drills": [name for name, _, _ in board.manifest.drills],
-            "netlist": board.manifest.netlist, "pieces": board.report.pieces, "points": len(board.report.points), "unnamed_points": unnamed,
+            "netlist": board.manifest.netlist, "own_names": bool(board.package.own), "ties": list(ties.told_of(board.ties, board.report)),
+            "pieces": board.report.pieces, "points": len(board.report.points), "unnamed_points": unnamed,
             **shown.counts(), "flood": shown.flood, "findings": [finding(board, it) for it in shown.findings]}
 
 

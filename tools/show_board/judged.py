@@ -2,14 +2,13 @@
 import re
 from typing import NamedTuple, Optional
 
-from . import UNJUDGED, Stop
+from . import UNJUDGED, Stop, netlist
 from .copper import BadCopper
 from .package import Package
 from .report import BadReport, Report
 
 MACRO = re.compile(r"(.*): Gerber 12 Macro at command ")
 NOT_UNDERSTOOD = 2
-NOTHING = "NOTHING WAS JUDGED: the netlist has no test point (no 317 and no 327 record), so this yes says nothing about the board"
 NO_FLATTEN = "this program has no command `flatten`, so its copper is not known here: what is told is the report alone"
 
 
@@ -62,9 +61,11 @@ def judge(program, package):
     if audit.status != 0:
         raise Stop(UNJUDGED if audit.status == 1 else audit.status, f"NOTHING WAS JUDGED: `audit` does not confirm the report of `check`: {told}")
     try:
-        return Judged(package, answer.status, answer.line, Report(answer.out), answer.out, told)
+        report = Report(answer.out)
     except BadReport as fault:
         raise Stop(UNJUDGED, f"NOTHING WAS JUDGED: {fault}") from None
+    report.names = netlist.spoken(report.names, package.read(package.manifest.netlist))
+    return Judged(package, answer.status, answer.line, report, answer.out, told)
 
 
 def flat_of(program, files):

@@ -2,15 +2,17 @@
 from xml.sax.saxutils import escape, quoteattr
 
 from .lines import doubt, summary
+from .ties import lost
 from .words import for_xml
 
 
 def case(shown, name, failures):
-    told = "\n".join(f"{doubt(it)}{it.id}: {it.text()}" for it in failures)
+    """`failures` are names of findings with their words."""
+    told = "\n".join(f"{name}: {words}" for name, words in failures)
     head = f'  <testcase classname={quoteattr(shown.title)} name={quoteattr(name)}'
     if not failures:
         return head + "/>"
-    message = quoteattr(f"{', '.join(doubt(it) + it.id for it in failures)}")
+    message = quoteattr(f"{', '.join(name for name, _ in failures)}")
     return f"{head}><failure message={message}>{escape(told)}</failure></testcase>"
 
 
@@ -25,12 +27,14 @@ def whole(shown):
 def suite(shown):
     if not shown.board or shown.status not in (0, 1):
         return whole(shown)
-    failures = {}
+    failures, nowhere = {}, [("tie", words) for words in lost(shown.ties, shown.board.report)]
     for it in shown.findings:
         for name in it.names:
-            failures.setdefault(name, []).append(it)
+            failures.setdefault(name, []).append((doubt(it) + it.id, it.text()))
     cases = [case(shown, name, failures.get(number, [])) for number, name in enumerate(shown.board.report.names)]
-    return [f'<testsuite name={quoteattr(shown.title)} tests="{len(cases)}" failures="{len(failures)}" errors="0">', *cases, "</testsuite>"]
+    cases += [case(shown, "ties", nowhere)] if nowhere else []
+    failed = len(failures) + bool(nowhere)
+    return [f'<testsuite name={quoteattr(shown.title)} tests="{len(cases)}" failures="{failed}" errors="0">', *cases, "</testsuite>"]
 
 
 def text(all_shown):

@@ -1,5 +1,6 @@
 """Findings as lines: grouped by name for a reader, one a line for `grep`."""
 from . import UNJUDGED
+from .ties import lost
 from .words import counted
 
 MOST = 20
@@ -70,6 +71,7 @@ def quiet(shown):
     """A line `file:line: id: words` for each finding, as editors and CI read them, and one for the board."""
     if shown.board:
         netlist = shown.board.package.told_path(shown.board.manifest.netlist)
+        yield from (f"{shown.path}: {words}" for words in lost(shown.ties, shown.board.report))
         for finding in shown.findings:
             yield f"{netlist}:{shown.board.line(finding.points[0])}: {doubt(finding)}{finding.id}: {finding.text()}"
     for row in bounded(shown):

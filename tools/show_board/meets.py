@@ -1,4 +1,5 @@
 """The places of a net where the copper of two names meets, with the pieces that could be either's."""
+from collections import Counter
 from typing import NamedTuple
 
 from . import cuts, grid, lines_apart
@@ -55,6 +56,12 @@ def carriers(board, net, pieces):
     return {point: likely(found) for point, found in ranks.items()}
 
 
+def is_between(place, one, other):
+    """Whether a place is no farther from either of two others than they are from each other."""
+    squared = [(a[0] - b[0]) ** 2 + (a[1] - b[1]) ** 2 for a, b in ((one, other), (place, one), (place, other))]
+    return max(squared[1:]) <= squared[0]
+
+
 def graph_of(board, pieces):
     graph, ends = cuts.Graph(pieces), {piece: board.touching.anchors(piece) for piece in pieces}
     for p, q in board.touching.pairs(pieces):
@@ -69,18 +76,29 @@ class Net:
         self.board, self.pieces = board, board.pieces_of[net]
         self.graph = graph_of(board, self.pieces)
         self.carriers = carriers(board, net, self.pieces)
-        labels = {piece: board.labels[piece] for piece in self.pieces if piece in board.labels}
+        labels = self.tied({piece: board.labels[piece] for piece in self.pieces if piece in board.labels})
         self.labels = sorted(set(labels.values()))
         self.is_labelled = len(self.labels) > 1
         self.seeds, self.shared = (labels, {}) if self.is_labelled else self.by_points()
         self.sides, self.of_name, self.with_points, self.count = {}, {}, {}, 0
+
+    def tied(self, labels):
+        """Labels of pieces, tied ones as one. Ties name the netlist's names: a label is the name that most points on its pieces have."""
+        names = {}
+        for point, pieces in self.carriers.items() if self.board.ties.ties else ():
+            for piece in pieces:
+                if piece in labels:
+                    names.setdefault(labels[piece], Counter())[self.board.name(self.board.name_of(point))] += 1
+        likely = {label: min(found, key=lambda name: (-found[name], name)) for label, found in names.items()}
+        return {piece: self.board.ties.side(likely.get(label, label)) if self.board.ties.is_tied_name(likely.get(label, label)) else label
+                for piece, label in labels.items()}
 
     def by_points(self):
         """The names of pieces by the points on them, and the pieces that carry points of several names."""
         names = {}
         for point, pieces in self.carriers.items():
             for piece in pieces:
-                names.setdefault(piece, set()).add(self.board.name(self.board.name_of(point)))
+                names.setdefault(piece, set()).add(self.board.side_of(self.board.name_of(point)))
         seeds = {piece: next(iter(found)) for piece, found in names.items() if len(found) == 1}
         return seeds, {piece: sorted(found) for piece, found in names.items() if len(found) > 1}
 
@@ -120,6 +138,26 @@ class Net:
             for pair in exits[name]:
                 earlier.setdefault(pair[1], (name, pair))
         return found
+
+    def pins_on(self, piece):
+        """The points that a piece was most likely made for, by their components."""
+        found = {}
+        for point, pieces in self.carriers.items():
+            record = self.board.record(point) if piece in pieces else None
+            if record and record.component and record.component != "VIA":
+                found.setdefault(record.component, []).append(point)
+        return found
+
+    def footprint(self, meet):
+        """(component, point, point) where both names of a place come to it from pins of one component, between which it lies, or None."""
+        ours, theirs = self.pins_on(meet.chain[0]), self.pins_on(meet.chain[-1])
+        for component in sorted(ours.keys() & theirs.keys()):
+            for one in ours[component]:
+                for other in theirs[component]:
+                    sides = {self.board.side_of(self.board.name_of(point)) for point in (one, other)}
+                    if len(sides) > 1 and is_between(meet.place, self.board.spot(one), self.board.spot(other)):
+                        return component, one, other
+        return None
 
     def touches(self):
         """The touches of pieces of two names, by the names."""

@@ -4,6 +4,10 @@ from typing import NamedTuple, Optional
 
 UNITS = re.compile(rb"^P +UNITS +CUST +([01])[ \t\r]*$", re.M)
 U_OF = {b"0": 25_400, b"1": 10_000}
+# Names that are too long for their columns, and pins, as parameters and as comments that we write before a record.
+ALIAS = re.compile(rb"^P +(NNAME[0-9]+)[ \t]+([^\r\n]*)", re.M)
+PIN = b"C PIN,"
+NO_NET = "N/C"
 
 
 class Record(NamedTuple):
@@ -34,11 +38,29 @@ def records(data):
     """The records in order; the k-th is record k + 1 of a report."""
     unit_line = UNITS.search(data)
     unit = U_OF[unit_line.group(1)] if unit_line else None
-    found = []
+    found, before = [], b""
     for number, line in enumerate(data.split(b"\n"), 1):
         if line[:3] == b"999":
             break
         if line[:3] in (b"317", b"327"):
             place = length(line[42:43], line[43:49], unit), length(line[50:51], line[51:57], unit)
-            found.append(Record(number, line[:3] == b"317", printable(line[3:17]) or "N/C", printable(line[20:26]), printable(line[27:31]), *place))
+            found.append(Record(number, line[:3] == b"317", printable(line[3:17]) or NO_NET, *pin_of(line, before), *place))
+        before = line
     return found
+
+
+def pin_of(line, before):
+    """Component and pin of a record, by its columns or whole by a comment before it."""
+    fields = before[len(PIN):].decode("utf-8", "replace").rstrip("\r").split(",") if before.startswith(PIN) else []
+    return fields if len(fields) == 2 else (printable(line[20:26]), printable(line[27:31]))
+
+
+def spoken(names, data):
+    """The names of a report, aliases of the netlist as what they stand for, as long as all are distinct."""
+    whole = {alias.decode(): name.decode("utf-8", "replace").strip() for alias, name in ALIAS.findall(data)}
+    taken, told = set(names), []
+    for name in names:
+        said = whole.get(name) or name
+        told.append(name if said in taken else said)
+        taken.add(told[-1])
+    return told

@@ -9,6 +9,8 @@ from manifest_files import package as gathered
 from . import UNCLEAR, Stop, manifest
 
 UNREADABLE = 4
+# Declared net ties, beside the manifest.
+TIES = "ties.txt"
 
 
 class Package:
@@ -22,8 +24,10 @@ class Package:
         self.left_out, self.guessed = [], []
         # What the two packages say between which it lies, once they are made.
         self.between = None
-        # How the files are called where the user has them.
-        self.home = ""
+        # How the files are called where the user has them, and whether the manifest was made here.
+        self.home, self.is_made = "", False
+        # The netlist of the copper's own names, where they are judged by one, and the one that it stands for, or nothing.
+        self.own, self.theirs = "", ""
 
     def path(self, name):
         return os.path.join(self.folder, name)
@@ -51,10 +55,17 @@ class Package:
         os.makedirs(os.path.dirname(path), exist_ok=True)
         os.symlink(os.path.abspath(source), path)
 
+    def free_name(self, stem, ending):
+        """A name of a file that the package does not have."""
+        number = 0
+        while os.path.lexists(self.path(stem + (str(number) if number else "") + ending)):
+            number += 1
+        return stem + (str(number) if number else "") + ending
+
     def changed(self, folder, files=None, told=None):
         """Another package of the same files but for those that are given, in a folder of its own."""
         copy = Package(told or self.manifest, folder, self.name)
-        copy.flattened, copy.home = set(self.flattened) - set(files or ()), self.home
+        copy.flattened, copy.home, copy.own = set(self.flattened) - set(files or ()), self.home, self.own
         os.makedirs(folder)
         for name, data in (files or {}).items():
             copy.put(name, data)
@@ -101,7 +112,7 @@ def of_manifest(path, scratch):
     package = Package(told, room(scratch, told.names() if told else []), name)
     package.home = home
     package.put(name, data)
-    for each in told.names() if told else []:
+    for each in [*(told.names() if told else []), TIES]:
         package.link(each, os.path.join(home, each))
     return package
 
@@ -110,7 +121,7 @@ def of_folder(home, asked, scratch):
     """The package of a folder without a manifest, by what the files say of themselves."""
     found = gathered.gather(home)
     try:
-        plan = gathered.Plan(found, asked.netlist, asked.no_drills)
+        plan = gathered.Plan(found, asked.netlist, asked.no_drills, may_lack_netlist=True)
     except Refused as why:
         left_out = "".join(f"\n  left out: {name}: {reason}" for name, reason in found.left_out)
         raise Stop(UNCLEAR, f"{why}{left_out}") from None
@@ -120,10 +131,10 @@ def of_folder(home, asked, scratch):
                    + "".join(f"\n  would be taken: {word}" for word in guessed))
     told = manifest.Manifest(plan.manifest)
     package = Package(told, room(scratch, told.names()))
-    package.home, package.guessed = home, guessed
+    package.home, package.guessed, package.is_made = home, guessed, True
     package.left_out = [f"{name}: {why}" for name, why in found.left_out]
     package.put("m.json", told.text().encode())
-    for name in told.names():
+    for name in filter(None, [*told.names(), TIES]):
         package.link(name, os.path.join(home, name))
     return package
 

@@ -179,7 +179,9 @@ def verdict(shown):
     if shown.bounds:
         return shown.line[:1].upper() + shown.line[1:]
     if shown.status == 0:
-        return "Agrees: the copper joins exactly the points that the netlist joins."
+        made = shown.ties.words(len(shown.ties.ties)) if shown.ties.ties else ""
+        what = "to which its own files give one name" if shown.board.package.own else "that the netlist joins"
+        return f"Agrees{made}: the copper joins exactly the points {what}{' or the ties do' if made else ''}."
     if not shown.findings:
         return shown.line
     counts = shown.counts()
@@ -188,12 +190,15 @@ def verdict(shown):
     return "Differs: " + ", ".join(words for words in told if not words.startswith("0 ")) + "."
 
 
+def audited(shown):
+    return f"The report was audited: it is true of these files{', and has each declared tie as a short' if shown.ties.ties else ''}."
+
+
 def facts(shown):
     board = shown.board
     return (f"{counted(board.report.pieces, 'piece')} of copper in {counted(board.report.nets, 'net')}; "
             f"{counted(len(board.report.points), 'test point')} with {counted(len(board.report.names), 'name')}; "
-            f"{counted(board.manifest.layers, 'layer')}. "
-            + (between.NOTE if shown.bounds else "The report was audited: it is true of these files.") + " "
+            f"{counted(board.manifest.layers, 'layer')}. {between.NOTE if shown.bounds else audited(shown)} "
             "Suggestions are where to look, and no part of the report.")
 
 

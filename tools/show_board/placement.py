@@ -7,7 +7,6 @@ from collections import Counter
 from fractions import Fraction as Q
 
 from . import two_sides
-from .exact import Refused
 from .netlist import U_OF, UNITS
 from .words import millimetres
 
@@ -16,6 +15,10 @@ FEW, MANY = 8, 20_000   # centres
 ENOUGH = Q(3, 4)        # of the votes: no other centres are asked
 MOST = 999_999          # six digits
 PLACE = re.compile(r"([XY])([+-]?)(\d+\.?\d*|\.\d+)")
+# Operations of a copper file behind the beginning of a word, its unit and its format.
+OPERATION = re.compile(r"(?:(?<=[*%\s])|(?<=G0[123])|(?<=G[123]))(?=[XYD])(?:X([+-]?\d+))?(?:Y([+-]?\d+))?(?:I[+-]?\d+)?(?:J[+-]?\d+)?(?:D0?([123]))?\*")
+GERBER_UNIT = re.compile(r"%(MOMM|MOIN)\*|(?:^|[*\s])(G7[01])\*")
+FORMAT = re.compile(r"%FSLAX\d(\d)Y")
 UNIT_WORDS = {25_400: "0.0001 inch", 10_000: "0.001 mm"}
 FORMS = [("", lambda x, y: (x, y)), ("mirrored left to right", lambda x, y: (-x, y)), ("mirrored upside down", lambda x, y: (x, -y)),
          ("turned by half", lambda x, y: (-x, -y)), ("turned by a quarter", lambda x, y: (-y, x)), ("turned by three quarters", lambda x, y: (y, -x)),
@@ -74,11 +77,21 @@ def other_unit(text):
 # ---- centres
 
 def flashes(package, index):
-    """Centres of the flashes of a copper file, in u; none where it cannot be walked."""
-    try:
-        return two_sides.Copper(text_of(package, package.manifest.copper[index])).flashes
-    except Refused:
-        return set()
+    """Centres of the flashes of a copper file, in u; none without one format and unit. Copies of blocks have no vote."""
+    text, at, found = text_of(package, package.manifest.copper[index]), [0, 0], set()
+    scale, decimals = GERBER_UNIT.search(text), FORMAT.search(text)
+    if not scale or not decimals:
+        return found
+    step = Q(two_sides.SCALES[scale[1] or scale[2]], 10 ** int(decimals[1]))
+    for x, y, operation in OPERATION.findall(text):
+        at = [int(x) if x else at[0], int(y) if y else at[1]]
+        if operation == "3":
+            found.add((at[0], at[1]))
+    return {(round(x * step), round(y * step)) for x, y in found}
+
+
+def all_flashes(package):
+    return set().union(*(flashes(package, index) for index in range(package.manifest.layers)))
 
 
 def drill_unit(text):
@@ -105,15 +118,16 @@ def hits(text):
                 yield round(at[0]), round(at[1])
 
 
-def voters(package, text):
-    """Places of records with centres that they may lie on: through points and holes, else all points and all centres."""
+def voters(package, text, without=()):
+    """Places of records with centres that they may lie on: through points and holes, else all points and all centres. The holes
+    of some drill files have no vote."""
     told = records(text)
-    holes = sorted({spot for name, _, _ in package.manifest.drills for spot in hits(text_of(package, name))})
+    holes = sorted({spot for name, _, _ in package.manifest.drills if name not in without for spot in hits(text_of(package, name))})
     through = sorted({(r.x, r.y) for r in told if r.is_through})
     enough = min(len(through), len(holes)) >= FEW
     if enough:
         yield through, holes
-    pads = sorted(set(holes).union(*(flashes(package, index) for index in range(package.manifest.layers))))
+    pads = sorted(set(holes) | all_flashes(package))
     if told and pads and not (enough and len(pads) > MANY):
         yield sorted({(r.x, r.y) for r in told}), pads
 
@@ -126,10 +140,10 @@ def middle(counts):
 
 
 def vote(sample, centres, form, unit):
-    """The shifts, in units, that bring most sampled places onto a centre: (votes, shift), the best two."""
+    """The shifts, in units, that bring most sampled places, in u, onto a centre: (votes, shift), the best two."""
     turned, votes = [form(x, y) for x, y in sample], Counter()
     for x, y in turned:
-        votes.update({((cx - x * unit) // unit, (cy - y * unit) // unit) for cx, cy in centres})
+        votes.update({((cx - x) // unit, (cy - y) // unit) for cx, cy in centres})
     around = lambda c: sum(votes[c[0] + i, c[1] + j] for i in (0, 1) for j in (0, 1))
     best = sorted(((around(cell), cell) for cell, _ in votes.most_common(6)), key=lambda v: (-v[0], v[1]))
     for n, cell in best[:2]:
@@ -141,42 +155,48 @@ def settled(turned, centres, cell, unit):
     shift = Counter(), Counter()
     for x, y in turned:
         for cx, cy in centres:
-            d = cx - x * unit, cy - y * unit
+            d = cx - x, cy - y
             if all(0 <= d[k] - cell[k] * unit < 2 * unit for k in (0, 1)):
                 shift[0][d[0]] += 1
                 shift[1][d[1]] += 1
     return tuple((2 * middle(counts) + unit) // (2 * unit) for counts in shift)
 
 
-def votes(package, text, declared):
+def votes(package, text, declared, without=()):
     """((less the share of the votes, changes), (other unit, form, shift)), over both units and eight forms."""
     found = []
-    for places, centres in voters(package, text):
+    for places, centres in voters(package, text, without):
         sample = places[::max(1, len(places) // SAMPLE)][:SAMPLE]
         for other, unit in enumerate((declared, sum(UNIT_WORDS) - declared)):
             for turn, (_, form) in enumerate(FORMS):
-                found += [((-Q(n, len(sample)), other + (turn > 0) + (by != (0, 0))), (other, turn, by)) for n, by in vote(sample, centres, form, unit)]
+                here = [(x * unit, y * unit) for x, y in sample]
+                found += [((-Q(n, len(sample)), other + (turn > 0) + (by != (0, 0))), (other, turn, by)) for n, by in vote(here, centres, form, unit)]
         if found and -min(found)[0][0] > ENOUGH:
             break
     return sorted(found)
 
 
+def change(turn, by):
+    """A form and a shift in u, in words."""
+    words = [FORMS[turn][0]] if turn else []
+    words += [f"moved by ({millimetres(by[0])}, {millimetres(by[1])}) mm"] if tuple(by) != (0, 0) else []
+    return ", ".join(words)
+
+
 def spoken(other, turn, by, unit):
     words = [f"read in the other unit ({UNIT_WORDS[unit]})"] if other else []
-    words += [FORMS[turn][0]] if turn else []
-    words += [f"moved by ({millimetres(by[0] * unit)}, {millimetres(by[1] * unit)}) mm"] if by != (0, 0) else []
-    return "with the netlist " + ", ".join(words)
+    return "with the netlist " + ", ".join(filter(None, [*words, change(turn, (by[0] * unit, by[1] * unit))]))
 
 
-def placements(package):
-    """(words, changed files), the likeliest first; among equal votes the fewest changes first."""
+def placements(package, without=()):
+    """(words, changed files), the likeliest first; among equal votes the fewest changes first. Holes of some files have no vote."""
     name = package.manifest.netlist
     text = text_of(package, name)
     declared = unit_of(text)
     if declared is None or not records(text):
         return
     seen = {(0, 0, (0, 0))}
-    for _, (other, turn, by) in votes(package, text, declared):
+    for _, (other, turn, by) in votes(package, text, declared, without):
         changed = None if (other, turn, by) in seen else moved(text, FORMS[turn][1], by)
         seen.add((other, turn, by))
         if changed is not None:

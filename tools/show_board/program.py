@@ -3,7 +3,7 @@ import os
 import subprocess
 from typing import NamedTuple
 
-from . import Stop
+from . import Stop, unbuilt
 
 TOOLS = os.path.dirname(os.path.dirname(os.path.abspath(__file__)))
 # Where the program lies: beside the tools where it is installed, in a checkout where the gate or the launcher leaves it.
@@ -28,12 +28,28 @@ def found():
 
 
 class Program:
+    """The program; where it is not built yet, `path` is None until its first command."""
+
     def __init__(self, path, progress):
         self.path, self.progress = path, progress
-        self.running = None
+        self.running = self.unbuilt = None
+
+    def built(self, package, words):
+        """Has the program built; that is tried once."""
+        if self.unbuilt:
+            raise self.unbuilt
+        try:
+            self.progress.end()
+            unbuilt.build(package, words)
+            self.path = found()
+        except Stop as stop:
+            self.unbuilt = stop
+            raise
 
     def run(self, package, *words):
         """Runs a command on a package's files."""
+        if not self.path:
+            self.built(package, words)
         how = {"cwd": package.folder, "stdin": subprocess.DEVNULL, "stdout": subprocess.PIPE, "stderr": subprocess.PIPE}
         try:
             self.running = subprocess.Popen([self.path, *words], **how)

@@ -5,7 +5,7 @@ import signal
 import sys
 import tempfile
 
-from . import Stop, fault_of, json_form, junit, lines, rdb, written
+from . import Stop, fault_of, json_form, junit, lines, rdb, unbuilt, written
 from .program import TOOLS, Program, found
 from .progress import Progress
 from .shown import show
@@ -13,7 +13,8 @@ from .shown import show
 NOT_UNDERSTOOD, UNWRITABLE, INTERRUPTED = 2, 5, 130
 ONE_BOARD = ("rdb", "page", "svg", "keep")
 WITH_VALUES = ("--page", "--svg", "--at", "--json", "--junit", "--rdb", "--keep", "--netlist")
-OPTIONS = ("-q", "--all", *WITH_VALUES, "--yes", "--no-drills")
+OFTEN = ("--tie",)
+OPTIONS = ("-q", "--all", *WITH_VALUES, *OFTEN, "--labels", "--yes", "--no-drills")
 
 
 class Interrupted(BaseException):
@@ -32,7 +33,9 @@ def words(given):
     parser = argparse.ArgumentParser(prog="boardnet show", add_help=False, usage="boardnet show PATH.. [OPTION ..]; boardnet show --help prints all")
     parser.add_argument("paths", metavar="PATH", nargs="*")
     for name in (*OPTIONS, "--help", "-h"):
-        if name in WITH_VALUES:
+        if name in OFTEN:
+            parser.add_argument(name, action="append", default=[])
+        elif name in WITH_VALUES:
             parser.add_argument(name)
         else:
             parser.add_argument(name, action="store_true")
@@ -102,7 +105,7 @@ def boards(asked, program):
 def run(asked):
     progress = Progress(quiet=asked.q)
     try:
-        all_shown = boards(asked, Program(found(), progress))
+        all_shown = boards(asked, Program(None if unbuilt.checkout() else found(), progress))
         progress.begin("writing")
         progress.end()
         write(asked, all_shown)

@@ -1,5 +1,8 @@
 """The shorts of a report in words: which names one net joins, and where."""
+import shlex
+
 from . import cuts, words
+from .board import NO_NET
 from .meets import Net
 
 MOST_TOLD = 3
@@ -8,13 +11,12 @@ MOST_TOLD = 3
 def findings(board, make):
     """Each short; `make` makes a finding."""
     budget = cuts.Budget()
-    for number, (net, branches) in enumerate(board.report.shorts):
-        names = [board.spoken_name(name) for name, _, _ in branches]
+    for number, (net, branches) in board.ties.shorts(board.report):
         pins = [f"{board.spoken_name(name)} has {board.told(point)}" for name, point, _ in branches]
-        told = f"{words.spoken(names)} are joined: {words.spoken(pins, 4)}."
+        told = f"{words.spoken(sides(board, branches, board.spoken_name))} are joined: {words.spoken(pins, 4)}."
         points = [point for _, point, _ in branches]
         numbers = [name for name, _, _ in branches]
-        heading = words.spoken([board.name(name) for name in numbers], 3)
+        heading = words.spoken(sides(board, branches, board.name), 3)
         joined = Net(board, net) if board.shapes else None
         meets = joined.meets(budget) if joined else []
         hints = [*meet_hints(board, joined, meets)] if meets else by_branch(board, branches)
@@ -22,6 +24,27 @@ def findings(board, make):
         finding.sides = joined.sides if joined else {}
         finding.is_labelled = bool(joined and joined.is_labelled)
         yield finding
+
+
+def sides(board, branches, said):
+    """The names of a short, tied ones as one."""
+    found = {}
+    for name, _, _ in branches:
+        found.setdefault(board.side_of(name), []).append(said(name))
+    return ["=".join(names) for names in found.values()]
+
+
+def tie_hints(board, joined, meets):
+    """Which tie would declare what meets in one footprint, once for each two names."""
+    told = {}
+    for meet in meets:
+        found = joined.footprint(meet)
+        if found:
+            names = [board.name(board.name_of(point)) for point in found[1:]]
+            told.setdefault("=".join(names), (found[0], NO_NET in names))
+    for names, (component, is_unnamed) in list(told.items())[:MOST_TOLD]:
+        if not is_unnamed:
+            yield f"Suggestion: both have pins of {component} there; where it is to join them, --tie {shlex.quote(names)} declares it."
 
 
 def meet_hints(board, joined, meets):
@@ -33,6 +56,7 @@ def meet_hints(board, joined, meets):
         yield f"{lead}: {meet_words(board, meet)}."
     if joined.count > MOST_TOLD:
         yield f"They meet in {words.counted(joined.count - MOST_TOLD, 'more place')}."
+    yield from tie_hints(board, joined, meets)
 
 
 def meet_words(board, meet):

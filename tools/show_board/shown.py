@@ -1,7 +1,8 @@
 """One board, from its files to its findings."""
 import os
 
-from . import UNJUDGED, Stop, between, bounds, copper, fault_of, findings, hints, judged, netlist, package, report
+from . import (UNJUDGED, Stop, between, bounds, copper, fault_of, findings, hints, judged, labels, netlist, package, report, same_pins, ties,
+               unjudged)
 from .board import Board
 
 NO_PLACES = "this program writes reports of version 1, which do not say where copper is from: what is told is the report and the netlist alone"
@@ -13,22 +14,24 @@ class Shown:
     """What is told of one PATH. `status` and `line` say how it ended; `board` is None where nothing was judged.
 
     `notes` are sentences on what was taken and what is not known, `hints` answers of `check` on changed copies, `bounds` the
-    answer on a board that lies between two.
+    answer on a board that lies between two, `ties` the net ties that are declared.
     """
 
     def __init__(self, path):
         self.path, self.status, self.line, self.audit = path, 0, "", ""
         self.title = os.path.basename(os.path.normpath(path)) or path
         self.board, self.findings, self.hints, self.bounds = None, [], [], None
-        self.notes, self.flood, self.report = [], "", b""
+        self.notes, self.flood, self.report, self.ties = [], "", b"", ties.Ties()
         # What an upper board has beyond a lower one, as (layer, corners).
         self.wider = []
 
     def counts(self):
-        told = self.board.report
+        """What counts: a short that is a declared tie does not, a tie that the copper does not have is an open; between two bounds
+        what is sure."""
         if self.bounds:
             return {word: sum(it.sure and it.kind == kind for it in self.findings) for word, kind in COUNTED.items()}
-        return {"opens": len(told.opens), "shorts": len(told.shorts), "missing": len(told.bare)}
+        opens, shorts, missing, parted = self.ties.counts(self.board.report)
+        return {"opens": opens + parted, "shorts": shorts, "missing": missing}
 
 
 def shapes_of(program, told):
@@ -68,17 +71,29 @@ def package_notes(files):
 def look(program, told, shown, wants_picture):
     """Fills in the findings of a judged board."""
     records = netlist.records(told.package.read(told.package.manifest.netlist))
-    shapes, why, labels = None, "", None
-    if told.status == 1 or wants_picture:
+    shapes, why, named = None, "", None
+    if shown.status == 1 or wants_picture:
         shapes, why = shapes_of(program, told)
-    if told.report.shorts:
-        labels = labels_of(program, told)
+    if shown.ties.shorts(told.report):
+        named = labels_of(program, told)
     program.progress.begin("looking for the places")
-    shown.board = Board(told.package, told.report, records, shapes, labels)
+    shown.board = Board(told.package, told.report, records, shapes, named, shown.ties)
     shown.findings, shown.flood = findings.all_findings(shown.board), findings.flood(shown.board)
-    shown.notes += [why] if why else []
-    if not told.report.points:
-        shown.status, shown.line = UNJUDGED, judged.NOTHING
+    shown.notes += [*unjudged.unnamed_notes(shown.board), *ties.lost(shown.ties, told.report), *([why] if why else [])]
+    nothing = unjudged.why_nothing(told.report)
+    if nothing and shown.status == 0:
+        shown.status, shown.line = UNJUDGED, nothing
+
+
+def own_names(files, asked):
+    """Has the board judged by the copper's own names where there is no netlist or where it is asked; answers the notes."""
+    if not files.manifest:
+        return []
+    if files.manifest.netlist and not asked.labels:
+        files.own = labels.made_before(files)
+        return []
+    told = labels.use(files, asked.no_drills)
+    return told + (same_pins.differences(files) if files.theirs else [])
 
 
 def show(path, asked, program, scratch):
@@ -86,13 +101,18 @@ def show(path, asked, program, scratch):
     shown = Shown(path)
     try:
         files = package.opened(path, asked, scratch)
+        shown.ties, own = ties.declared(asked.tie, files), own_names(files, asked)
         told = judged.judge(program, files)
-        shown.status, shown.line, shown.audit, shown.report = told.status, told.line, told.audit, told.text or b""
-        shown.notes = package_notes(files)
+        (shown.status, shown.line), shown.audit, shown.report = shown.ties.answer(told), told.audit, told.text or b""
+        shown.notes = own + package_notes(files)
         if told.report:
             look(program, told, shown, asked.page or asked.svg)
         outside(program, told, shown, asked.page or asked.svg or asked.rdb)
+        if files.own and shown.status in labels.ANSWERS:
+            shown.line = labels.FIRST + shown.line
         if asked.keep:
+            if shown.ties.ties:
+                files.put(package.TIES, shown.ties.text().encode())
             package.keep(files, shown.report, asked.keep)
     except BrokenPipeError:
         raise
@@ -105,24 +125,29 @@ def show(path, asked, program, scratch):
 def outside(program, told, shown, wants_picture):
     """What copies of the files say: bounds of copper outside the profile, and hints."""
     if told.status == 3:
-        shown.bounds = bounds.bounded(program, told)
+        shown.bounds = bounds.bounded(program, told, shown.ties)
         if shown.bounds:
             shown.status, shown.line = shown.bounds.status, shown.bounds.line
             if shown.bounds.sides:
                 look_between(program, *told.package.between, shown, wants_picture)
-    if told.status in (1, 3):
-        shown.hints = hints.hints(program, told)
+        if told.package.between:
+            shown.notes += ties.lost(shown.ties, told.package.between[1].report)
+    if told.status == 3 or shown.status == 1:
+        shown.hints = hints.hints(program, told, shown.ties)
+        if hints.explain(shown.hints):
+            for finding in shown.findings:
+                finding.without_suggestion()
 
 
 def look_between(program, answer, low, high, shown, wants_picture):
     """Fills in the findings of a board between bounds, over the lower one."""
     shapes, why = shapes_of(program, low) if answer.findings or wants_picture else (None, "")
-    labels = labels_of(program, low) if low.report.shorts else None
+    named = labels_of(program, low) if shown.ties.shorts(low.report) else None
     program.progress.begin("looking for the places")
     shown.audit = low.audit
-    shown.board = between.board_of(low, answer.sides[0], shapes, labels)
+    shown.board = between.board_of(low, answer.sides[0], shapes, named, shown.ties)
     shown.findings = between.Findings(shown.board).all((*it, points) for it, points in zip(answer.findings, answer.points))
     shown.notes += [why] if why else []
     if wants_picture and shapes is not None:
-        above = between.board_of(high, answer.sides[1], shapes_of(program, high)[0], None)
+        above = between.board_of(high, answer.sides[1], shapes_of(program, high)[0], None, shown.ties)
         shown.wider = between.wider(shown.board, above) if above.shapes is not None else []

@@ -1,14 +1,17 @@
 """The launcher, over a stand-in for the program that tells where it runs, its words, and an answer that is asked for."""
 import os
 import shutil
+import subprocess
 
 import common
 
 STAND_IN = """#!/bin/sh
 case $STAND_IN_STATUS in '') ;; *) echo "boardnet: asked for" >&2; exit "$STAND_IN_STATUS" ;; esac
+[ -z "$STAND_IN_CALLS" ] || echo asked >>"$STAND_IN_CALLS"
 [ -z "$STAND_IN_POINTS" ] || printf 'boardnet 1\\npoints %s\\n' "$STAND_IN_POINTS"
-printf '%s\\n' "$PWD" "$@"
+if [ -n "$STAND_IN_TEXT" ]; then cat "$STAND_IN_TEXT"; else printf '%s\\n' "$PWD" "$@" 2>/dev/null; fi
 echo "boardnet: agrees" >&2
+exit "${STAND_IN_ENDS-0}"
 """
 POINT = "P  UNITS CUST 1\n327A                                  A01X+000000Y+000000\n999\n"
 NO_POINT = "C no test records\nP  UNITS CUST 1\n999\n"
@@ -92,38 +95,52 @@ class Launcher(common.Case):
                 self.assertEqual(said, (int(status), "", "boardnet: asked for\n"))
 
     def test_nothing_judged(self):
-        plain = '{"copper":["t.gbr"],"drills":[],"netlist":"n.ipc"}'
-        spread = '{"netlist"\n :\t"n.ipc",\n"copper":["netlist"], "drills":[]}\n'
-        escaped = '{"copper":["t.gbr"],"drills":[],"netl\\u0069st":"n.ipc"}'
+        """A yes about no test point is known by the report, which the program is asked for once."""
         rows = [
-            # manifest, netlist, points of the report, whether it is said
-            (plain, POINT, "1", False),
-            (plain, NO_POINT, "0", True),
-            (spread, POINT, "1", False),
-            (spread, NO_POINT, "0", True),
-            (escaped, POINT, "1", False),
-            (escaped, NO_POINT, "0", True),
-            (plain.replace("n.ipc", "n\\u002eipc"), NO_POINT, "0", True),
-            (plain, NO_POINT.replace("\n", "\r\n"), "0", True),
-            (plain, POINT.replace("327A", "317A")[:-1], "1", False),
+            # words, points of the report, what the program answers, what is said
+            (["check", "there"], "1", "0", ""),
+            (["check", "there"], "0", "0", "m.json names a netlist without test points"),
+            (["check", "there"], "0", "3", ""),
+            (["x2", "there"], "2", "0", ""),
+            (["x2", "there"], "0", "0", "no copper file of m.json has a net label"),
+            (["audit", "there", "r.txt"], "1", "0", ""),
+            (["audit", "there", "r.txt"], "0", "0", "m.json names a netlist without test points"),
+            (["audit", "there", "r.txt"], "0", "1", ""),
+            (["trial", "1", "2"], "0", "0", ""),
         ]
-        for manifest, netlist, points, is_said in rows:
-            for words in (["check", "there"], ["audit", "there", "r.txt"]):
-                with self.subTest(manifest=manifest, netlist=netlist, words=words):
-                    self.write("here/there/m.json", manifest)
-                    self.write("here/there/n.ipc", netlist)
-                    status, out, notes = self.launch(*words, STAND_IN_POINTS=points)
-                    self.assertEqual((status, out.splitlines()[1]), (0, f"points {points}"))
-                    self.assertEqual(notes.splitlines()[0], "boardnet: agrees")
-                    self.assertEqual(LOUD in notes, is_said)
-        self.assertNotIn(LOUD, self.launch("trial", "1", "2")[2])
-        self.assertIn("no copper file of m.json has a net label", self.launch("x2", "m.json", STAND_IN_POINTS="0", folder="here/there")[2])
-        self.assertNotIn(LOUD, self.launch("x2", "m.json", STAND_IN_POINTS="2", folder="here/there")[2])
+        for words, points, status, said in rows:
+            with self.subTest(words=words, points=points, status=status):
+                self.write("here/r.txt", f"boardnet 2\nname 0 points 0\npoints {points}\nagrees\n")
+                self.write("calls", "")
+                told, out, notes = self.launch(*words, STAND_IN_POINTS=points, STAND_IN_ENDS=status, STAND_IN_CALLS=self.path("calls"))
+                self.assertEqual((told, out.splitlines()[1], self.read("calls")), (int(status), f"points {points}", "asked\n"))
+                lines = notes.splitlines()
+                self.assertEqual((lines[0], len(lines)), ("boardnet: agrees", 2 if said else 1))
+                self.assertIn(f"{LOUD}: {said}" if said else "", notes)
+
+    def test_what_passes_by_is_not_changed(self):
+        """Every byte, also behind the last line feed, and of a text of megabytes."""
+        for text in ("", "points 01", "a\n\n\x01\x80b", "points 0\r\nx", "line of a report\n" * 200_000):
+            self.write("text", text)
+            done = subprocess.run([self.path("top", "boardnet"), "check", "there"], env=dict(os.environ, STAND_IN_TEXT=self.path("text")), cwd=self.path("here"), stdout=subprocess.PIPE, stderr=subprocess.PIPE)
+            self.assertEqual((done.returncode, done.stdout == text.encode(), done.stderr), (0, True, b"boardnet: agrees\n"))
+
+    def test_output_that_cannot_be_written(self):
+        for words in ("check there >/dev/full", "x2 there >/dev/full"):
+            told = self.run_words(["sh", "-c", f"'{self.path('top', 'boardnet')}' {words}"], self.path("here"), environment={"STAND_IN_POINTS": "0"})
+            self.assertEqual(told, (5, "", "boardnet: output cannot be written\n"))
+        # Where it is closed the program is asked as it is.
+        status, _, notes = self.run_words(["sh", "-c", f"'{self.path('top', 'boardnet')}' check there >&-"], self.path("here"))
+        self.assertIn("boardnet: agrees", notes)
+        # A text goes behind what a file has already.
+        self.run_words(["sh", "-c", f"{{ echo before; '{self.path('top', 'boardnet')}' check there; echo behind; }} >out.txt"], self.path("here"))
+        lines = self.read("here/out.txt").splitlines()
+        self.assertEqual((lines[0], lines[2:], lines[1].endswith("there")), ("before", ["check", "m.json", "behind"], True))
 
     def test_help(self):
         status, out, _ = self.launch("--help")
         self.assertEqual(status, 0)
-        for command in ("check", "audit", "trial", "write", "flatten", "x2", "gaps", "manifest", "show", "install"):
+        for command in ("check", "audit", "trial", "write", "flatten", "x2", "gaps", "manifest", "show", "install", "package"):
             self.assertIn(f"  boardnet {command} ", out)
             for words in ([command, "--help"], ["help", command], [command, "-h"]):
                 status, page, _ = self.launch(*words)
@@ -134,7 +151,7 @@ class Launcher(common.Case):
     def test_version(self):
         status, out, _ = self.launch("--version")
         lines = out.splitlines()
-        self.assertEqual((status, [line.split()[0] for line in lines]), (0, ["boardnet", "commit", "toolchain"]))
+        self.assertEqual((status, [line.split()[0] for line in lines]), (0, ["boardnet", "commit", "toolchain", "sources"]))
 
     def test_no_toolchain(self):
         os.remove(self.path("top", "crates", "boardnet", "out", "boardnet"))
@@ -188,3 +205,6 @@ class Program(common.Case):
             self.write(f"{name}/silent", NO_POINT)
             status, report, notes = self.run_words([launcher, "check", f"{name}/silent.json"])
             self.assertEqual((status, notes.splitlines()[0], LOUD in notes), (0, "boardnet: agrees", True))
+            self.write("mine.txt", report)
+            status, _, notes = self.run_words([launcher, "audit", f"{name}/silent.json", "mine.txt"])
+            self.assertEqual((status, notes.splitlines()[0], LOUD in notes), (0, "boardnet: audit true", True))

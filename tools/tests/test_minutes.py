@@ -46,11 +46,13 @@ class Minutes(common.Case):
         self.assertEqual(lines[2:], ["| `high` | 0.0 | 2.5 | 1.0 | 3.5 |", "| `low` | 1.2 | 0.0 | 0.0 | 1.2 |", "| all | 1 | 2 | 1 | 5 |"])
 
     def test_first_call(self):
-        below = minutes.crates_of("# lowest first\nlow: thiserror\nwide:\nmiddle: low\nboardnet: low middle serde_json\n")
-        self.assertEqual(below, {"low": set(), "wide": set(), "middle": {"low"}, "boardnet": {"low", "middle"}})
+        using = {"low": [], "wide": [], "middle": ["low"], "boardnet": ["low", "middle"]}
         proofs = {"low": 2.0, "wide": 1.0, "middle": 1.0, "boardnet": 3.0}
-        # One processor does all in turn. On two, the program waits for the chain below it, and is proved on both.
-        self.assertEqual([minutes.first_call(proofs, below, n) for n in (1, 2)], [7.0, 4.5])
+        # One processor does all in turn. On two, the chain of low has both all the way, and wide comes last. On four, low and middle
+        # have three and wide has the fourth; the last has all, of which it uses three.
+        for processors, wanted in ((1, 7.0), (2, 3 + 0.5), (4, 2 / 3 + 1 / 3 + 1)):
+            self.assertAlmostEqual(minutes.first_call(proofs, using, processors), wanted)
+        self.assertEqual(minutes.longest_chain(proofs, using), ["low", "middle", "boardnet"])
 
     def test_a_run(self):
         command = ["sh", "-c", '"$0" -c "$1" --crate-name low --test; exit 3', sys.executable, BURNS]

@@ -88,7 +88,7 @@ class Unforeseen(made.Case):
     def board(self, name, *lines):
         self.write(f"{name}/m.json", manifest())
         self.write(f"{name}/top.gbr", "\n".join([*HEAD, "%ADD10C,1.0*%", "D10*", *lines, "M02*", ""]))
-        self.write(f"{name}/n.ipc", netlist(record("A", "J1.1", 1, 0)))
+        self.write(f"{name}/n.ipc", netlist(record("A", "J1.1", 1, 0), record("A", "J1.2", 1, 0)))
 
     def test_fault(self):
         self.board("bad", "X1000000Y0D02*", "G03X-1000000Y0I-1000000J0D01*")

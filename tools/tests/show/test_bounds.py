@@ -12,7 +12,7 @@ from show_board.exact import Refused
 from show_board.package import Package
 from show_board.program import Program
 from show_board.progress import Progress
-from show_board.judged import NOTHING
+from show_board.unjudged import NO_POINTS
 from show_board.side import words_of
 from show_board.two_sides import Copper
 
@@ -185,7 +185,7 @@ class Packages(made.Case):
             told = self.bounded(program, pad, [record("A", "J1.1", 1, 0), record("B", "J1.2", -1, 0), record("N/C", "J2.1", 0, 1.6002)])
             self.assertEqual((told.status, [it[:2] for it in told.findings]), (1, [("short", True), ("short", False)]))
             told = self.bounded(program, pad, [record("N/C", "J1.1", 1, 0), record("N/C", "J2.1", 0, 1.6002)])
-            self.assertEqual((told.status, told.findings), (0, []))
+            self.assertEqual((told.status, told.findings, told.line[:18]), (12, [], "NOTHING WAS JUDGED"))
 
     def test_left_out(self):
         """What the lower bound does not have is told, and makes its points undecided."""
@@ -225,7 +225,7 @@ class Packages(made.Case):
                 answer = bounds.bounded(runs, told)
                 why = "a hole that is not round at command 12" if line != "G36*" else "a region without an end at command 11"
                 self.assertEqual((answer.status, answer.line), (3, f"{told.line}; no bounds: top.gbr: {why}"))
-            self.assertEqual(self.bounded(program, self.ARC, [])[:2], (12, NOTHING))
+            self.assertEqual(self.bounded(program, self.ARC, [])[:2], (12, NO_POINTS))
             self.assertIsNone(bounds.bounded(*self.judged(program, [*HEAD, "%ADD10C,1.0*%", *flash(10, (1, 0))], points)))
 
     def test_names_with_dots(self):

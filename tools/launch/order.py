@@ -1,0 +1,55 @@
+"""Which crates are proved next, and on how many processors each."""
+import re
+
+# A check gains little from more; and one that all wait for gets so many while others run.
+MOST_JOBS, JOBS_OF_THE_LAST = 4, 3
+
+
+def name_of(line):
+    """The crate that a line of a crates.txt is about, if it is about one."""
+    found = re.match(r"(\w+)[^:#]*:", line)
+    return found and found.group(1)
+
+
+def uses(text):
+    """The crates of a crates.txt in its order, each with those of them that it stands on."""
+    found = {}
+    for line in text.splitlines():
+        if name_of(line):
+            found[name_of(line)] = [it for it in line.partition(":")[2].split() if it in found]
+    return found
+
+
+def below(using):
+    """What each crate stands on, all the way down."""
+    found = {}
+    for name, of in using.items():
+        found[name] = set(of).union(*(found[it] for it in of))
+    return found
+
+
+def chains(under, work):
+    """For each crate the work of the longest chain that begins with it, each crate of which stands on the one before."""
+    longest = {}
+    for name in reversed(list(under)):
+        above = [longest[it] for it in longest if name in under[it]]
+        longest[name] = work[name] + max(above, default=0)
+    return longest
+
+
+def chosen(ready, chain, work, running, processors):
+    """The crates to begin now, with their processors: those of the longest chains first, each on one and on those that no other waits for.
+
+    `work` has the work of each crate that is left, `running` the processors of those that run. A chain that is longer than all that
+    is left would take on all processors is what the end waits for: its crate gets more, and one that is taken already with them.
+    """
+    begun, idle, waiting = {}, processors - sum(running.values()), sorted(ready, key=lambda it: -chain[it])
+    for at, name in enumerate(waiting):
+        if idle < 1:
+            break
+        jobs = max(1, idle // (len(waiting) - at))
+        if chain[name] * processors > sum(work.values()):
+            jobs = max(jobs, min(JOBS_OF_THE_LAST, idle + 1))
+        begun[name] = min(MOST_JOBS, jobs)
+        idle -= begun[name]
+    return begun

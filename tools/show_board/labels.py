@@ -1,0 +1,260 @@
+"""A netlist of the names that the copper files give their own pads (Gerber Layer Format Specification, 5.6: .P, .N and .C).
+
+One test point for each flash and each region with a pin, on the layer of its file; where no file names a pin, one for each with a
+net. What is known so are opens and shorts against the copper's own names: that these are the right ones nothing says.
+"""
+import os
+import re
+from typing import NamedTuple
+
+from . import UNCLEAR, UNDECIDED, Stop, clear, netlist, points, two_sides
+from .exact import Refused
+from .manifest import Manifest
+from .package import UNREADABLE
+from .side import words_of
+from .tree import Tree
+from .words import at_most, counted, spoken
+
+# Mode, X and Y of an operation, and its code where it is no draw.
+OPERATION = re.compile(r"(G0?[123])?(X[+-]?\d+)?(Y[+-]?\d+)?(?:I[+-]?\d+)?(?:J[+-]?\d+)?(?:D0?(?:1|([23])))?")
+COMMENT = re.compile(r"G04 #@! ?(T[OD].*)")
+FIRST = "by the copper's own names, so that only opens and shorts against those are known: "
+MADE = "C made by boardnet show of the copper's own attributes"
+# Statuses of an answer: agrees, differs, undecided.
+ANSWERS = (0, 1, UNDECIDED)
+NO_NAMES = "the copper files do not say of which pins or nets their pads are (TO.P, TO.N): export Gerber X2 with net attributes"
+
+
+class Label(NamedTuple):
+    """What is in force where an object is made; nothing is an empty text."""
+
+    component: str
+    pin: str
+    name: str
+
+
+class Point(NamedTuple):
+    layer: int
+    label: Label
+    pad: points.Pad
+    is_known: bool      # whether the pad's copper is known, and not only bounded from above
+
+
+def field(text):
+    """A field of an attribute as it can be printed."""
+    told = text.encode("latin-1").decode("utf-8", "replace").strip()
+    return "".join(c if c.isprintable() else "?" for c in told)
+
+
+class Names:
+    """The attributes of objects in force, as words set and end them."""
+
+    def __init__(self):
+        self.set = {}
+
+    def word(self, word):
+        kind, *fields = word[2:].split(",")
+        if word.startswith("TO"):
+            self.set[kind] = [field(each) for each in fields]
+        elif kind:
+            self.set.pop(kind, None)
+        else:
+            self.set.clear()
+
+    def label(self):
+        part, pin, *_ = [*self.set.get(".P", []), "", ""]
+        name = next(iter(self.set.get(".N", [])), "")
+        return Label(part or next(iter(self.set.get(".C", [])), ""), pin, "" if name == netlist.NO_NET else name)
+
+
+class Pads:
+    """The words of a copper file with its labelled flashes and regions alone: walking all copper of a board would take long.
+
+    `labels` are those of the commands of the new text that end a flash or a region. Draws and other regions leave their last place,
+    as what comes next may go on from it; where the file erases copper all words stay.
+    """
+
+    def __init__(self, text, wants_pins):
+        self.wants_pins, self.stays = wants_pins, "LPC*" in text
+        self.names, self.words, self.labels, self.region = Names(), [], {}, None
+        for extended, word, first in words_of(text):
+            comment = None if extended else COMMENT.fullmatch(word)
+            if comment or extended and word.startswith(("TO", "TD")):
+                self.names.word(comment[1] if comment else word)
+            elif extended:
+                self.words.append((True, word, first))
+            else:
+                self.plain(word)
+
+    def plain(self, word):
+        operation = OPERATION.fullmatch(word) if word and word not in two_sides.MODES else None
+        if word == "G36":
+            self.region = len(self.words)
+        if word == "G37" and self.region is not None:
+            self.end_region()
+        elif operation and self.region is None and not operation[4]:
+            self.draw(word, operation)
+        else:
+            self.words.append((False, word, True))
+            if operation and operation[4] == "3":
+                self.label()
+
+    def label(self):
+        """Notes the label of the command that was last; answers whether it is wanted."""
+        found = self.names.label()
+        if found.pin or found.name and not self.wants_pins:
+            self.labels[len(self.words)] = found
+            return True
+        return False
+
+    def draw(self, word, operation):
+        mode, x, y, _ = operation.groups()
+        if self.stays:
+            self.words.append((False, word, True))
+        else:
+            self.words += [(False, each, True) for each in (mode, (x or "") + (y or "") + "D02") if each]
+
+    def end_region(self):
+        first, self.region = self.region, None
+        self.words.append((False, "G37", True))
+        if self.label() or self.stays:
+            return
+        inner, self.words[first:] = [word for _, word, _ in self.words[first:]], []
+        found = [match.groups() for match in map(OPERATION.fullmatch, inner) if match]
+        modes, xs, ys = ([it[k] for it in found if it[k]] for k in range(3))
+        self.words += [(False, each, True) for each in ("".join(modes[-1:]), "".join(xs[-1:] + ys[-1:] + ["D02"])) if each]
+
+    def text(self):
+        out = []
+        for extended, word, first in self.words:
+            if extended and not first:
+                out[-1] = out[-1][:-1]
+            out.append(f"{'%' if extended and first else ''}{word}*{'%' if extended else ''}")
+        return "\n".join(out) + "\n"
+
+
+def erased(objects):
+    """For a piece, and the place of its object in the order, the pieces that later clear objects take away near it."""
+    pieces = [(piece, at) for at, it in enumerate(objects) if not it.dark for piece in it.both[1]]
+    tree = Tree([clear.box(piece) for piece, _ in pieces]) if pieces else None
+
+    def near(box, at):
+        return [pieces[k][0] for k in tree.meeting(box) if pieces[k][1] > at] if tree else []
+    return near
+
+
+def points_of(text, layer, wants_pins):
+    """The labelled flashes and regions of a copper file."""
+    # Breaks within words say nothing of copper: `check` judges them.
+    pads = Pads(text.replace("\r", "").replace("\n", ""), wants_pins)
+    objects = two_sides.Copper(pads.text(), cuts=True).objects
+    near = erased(objects)
+    for at, it in enumerate(objects):
+        pieces = it.both[0] or it.both[1]
+        if it.dark and pieces and it.tag in pads.labels:
+            boxes = [clear.box(piece) for piece in pieces]
+            left, low, right, high = (side(box[k] for box in boxes) for k, side in enumerate((min, min, max, max)))
+            pad = points.Pad(((left + right) // 2, (low + high) // 2), pieces, near((left, low, right, high), at))
+            yield Point(layer, pads.labels[it.tag], pad, bool(it.both[0]))
+
+
+def text_at(package, name):
+    try:
+        return package.read(name).decode("latin-1")
+    except OSError:
+        raise Stop(UNREADABLE, f"{name}: cannot be read") from None
+
+
+def all_points(package):
+    """The points of all copper files: those of pins, or where there are none those of nets."""
+    texts, found = {name: text_at(package, name) for name in package.manifest.copper}, []
+    wants_pins = any("TO.P," in text for text in texts.values())
+    for layer, name in enumerate(package.manifest.copper, 1):
+        try:
+            found += points_of(texts[name], layer, wants_pins) if "TO." in texts[name] else []
+        except Refused as why:
+            raise Stop(UNCLEAR, f"{name}: its pads cannot be read ({why}), so their own names cannot be judged") from None
+    return found
+
+
+# ---- the netlist
+
+def named(names):
+    """What stands for each name in 14 columns: itself, or an alias."""
+    plain = re.compile(r"(?!NNAME)[!-~]{1,14}")
+    return {name: name if plain.fullmatch(name) else f"NNAME{number}" for number, name in enumerate(names, 1)}
+
+
+def lines_of(point, place, name):
+    component, pin = point.label.component, point.label.pin
+    if not re.fullmatch("[!-~]{0,6}", component) or not re.fullmatch("[!-~]{0,4}", pin):
+        yield f"C PIN,{component},{pin}"
+        component, pin = (re.sub("[^!-~]", "?", word) for word in (component, pin))
+    yield f"327{name:<14}   {component[:6]:<6}{'-' if pin else ' '}{pin[:4]:<4}{'':7}A{point.layer:02d}X{place.x:+07d}Y{place.y:+07d}"
+
+
+def text_of(found, unit, places):
+    """The netlist as a text."""
+    names = named(list(dict.fromkeys(it.label.name for it in found if it.label.name)))
+    lines = [MADE, f"P  UNITS CUST {points.CUST[unit]}"]
+    lines += [f"P  {alias}  {name}" for name, alias in names.items() if alias != name]
+    for point, place in zip(found, places):
+        if place:
+            lines += lines_of(point, place, names.get(point.label.name, netlist.NO_NET))
+    return "\n".join([*lines, "999", ""]).encode()
+
+
+def notes_of(package, found, unit, places):
+    """What was taken, and which pads are no test points or not at their middles."""
+    kept = [(point, place) for point, place in zip(found, places) if place]
+    names, files = {it.label.name for it, _ in kept if it.label.name}, sorted({it.layer for it in found})
+    told = [f"names: {counted(len(kept), 'test point')} of {counted(len(names), 'net')} by the attributes of "
+            f"{spoken(package.manifest.copper[layer - 1] for layer in files)} (a netlist of their own, which --keep keeps)"]
+    moved = max((place.off for _, place in kept), default=0)
+    if moved > unit * unit:
+        told.append(f"names: no test point is more than {at_most(moved ** 0.5)} mm from the middle of its pad")
+    for words, some in (("has no place on the netlist's grid and is no test point", [it for it, place in zip(found, places) if not place]),
+                        ("is known from above alone, so its test point may lie beside it", [it for it, _ in kept if not it.is_known])):
+        if some:
+            told.append(f"names: {counted(len(some), 'pad')}, first {pin_of(package, some[0])}: its copper {words}")
+    return told
+
+
+def pin_of(package, point):
+    layer = package.manifest.layer_word(point.layer)
+    return f"{point.label.component} pin {point.label.pin} ({layer})" if point.label.pin else f"one of {point.label.name} ({layer})"
+
+
+def need_holes(package, found):
+    """Refuses a board of several layers without holes whose pins stand on several."""
+    layers = {}
+    for it in found:
+        if it.label.pin:
+            layers.setdefault(it.label[:2], set()).add(it.layer)
+    through = sum(len(of) > 1 for of in layers.values())
+    if through and not package.manifest.drills:
+        raise Stop(UNCLEAR, f"{counted(through, 'pin')} of the copper files stand on several layers, and there is no drill file of plated holes, which join them: "
+                            "export it in the Excellon format; where the board truly has no plated hole, say --no-drills")
+
+
+def made_before(package):
+    """The package's netlist, where it was made here, as --keep keeps it; else nothing."""
+    name = package.manifest.netlist
+    return name if os.path.exists(package.path(name)) and package.read(name).startswith(MADE.encode()) else ""
+
+
+def use(package, may_lack_holes):
+    """Has the package judged by a netlist of the copper's own names; answers the notes."""
+    found = all_points(package)
+    if not found:
+        raise Stop(UNCLEAR, NO_NAMES)
+    if package.is_made and not may_lack_holes:
+        need_holes(package, found)
+    unit, places = points.settled([it.pad for it in found])
+    manifest = package.manifest
+    package.theirs, package.own = manifest.netlist, package.free_name("names", ".ipc")
+    drills = [{"file": name, "from": first, "to": last} for name, first, last in manifest.drills]
+    package.manifest = Manifest({"copper": manifest.copper, "drills": drills, "netlist": package.own})
+    package.put(package.own, text_of(found, unit, places))
+    package.put(package.name, package.manifest.text().encode())
+    return notes_of(package, found, unit, places)

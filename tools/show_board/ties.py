@@ -1,0 +1,124 @@
+"""Net ties that are declared: names that the copper is meant to join, as `--tie A=B` and lines of ties.txt say.
+
+A short whose names are all tied together is such a tie and no finding. A tie that no copper makes is an open. What `check` says
+is not changed: its report has each tie as a short, and `audit` confirms that report.
+"""
+from typing import NamedTuple
+
+from . import Stop
+from .netlist import NO_NET
+from .package import TIES
+from .words import counted
+
+NOT_UNDERSTOOD = 2
+
+
+class Tie(NamedTuple):
+    """Two names, and where they are declared."""
+
+    names: tuple
+    source: str
+
+    def text(self):
+        return "=".join(self.names)
+
+
+def tie(text, source):
+    names = tuple(part.strip() for part in text.split("="))
+    if len(names) != 2 or not all(names) or names[0] == names[1] or NO_NET in names:
+        raise Stop(NOT_UNDERSTOOD, f"{source}: `{text.strip()}` is no tie: two net names as GND=AGND")
+    return Tie(names, source)
+
+
+def declared(asked, package):
+    """The ties of the command and of the file beside the manifest, each once."""
+    found = [tie(text, "--tie") for text in asked]
+    try:
+        lines = package.read(TIES).decode("utf-8", "replace").splitlines()
+    except OSError:
+        lines = []
+    found += [tie(line, f"{TIES}, line {number}") for number, line in enumerate(lines, 1) if line.strip() and not line.lstrip().startswith("#")]
+    return Ties({frozenset(it.names): it for it in reversed(found)}.values())
+
+
+class Ties:
+    """All that is declared. `side` is what a name counts as: tied names count as one."""
+
+    def __init__(self, ties=()):
+        self.ties, self.of = sorted(ties, key=lambda it: it.names), {}
+        for it in self.ties:
+            one, two = (self.of.get(name, (name,)) for name in it.names)
+            both = tuple(sorted({*one, *two}))
+            self.of.update(dict.fromkeys(both, both))
+
+    def text(self):
+        """The lines of a file that declares them."""
+        return "".join(f"{it.text()}\n" for it in self.ties)
+
+    def side(self, name):
+        return "=".join(self.of.get(name, (name,)))
+
+    def sides(self, names):
+        return {self.side(name) for name in names}
+
+    def is_tied_name(self, name):
+        """Whether a name is tied to another."""
+        return name in self.of
+
+    # ---- a report
+
+    def is_tied(self, report, short):
+        """Whether a short of a report joins names that are tied together alone."""
+        return len(self.sides(report.names[name] for name, *_ in short[1])) == 1
+
+    def shorts(self, report):
+        """The shorts that count, each with its number."""
+        return [(number, short) for number, short in enumerate(report.shorts) if not self.is_tied(report, short)]
+
+    def parted(self, report):
+        """The ties that no copper of a report makes."""
+        nets = nets_of(report)
+        return [it for it in self.ties if not nets.get(it.names[0], set()) & nets.get(it.names[1], set())]
+
+    def counts(self, report):
+        """How many opens, shorts, points without copper and open ties count."""
+        return len(report.opens), len(self.shorts(report)), len(report.bare), len(self.parted(report))
+
+    def answer(self, told):
+        """(status, line) of a judged package, with the ties taken into account."""
+        if not self.ties or not told.report:
+            return told.status, told.line
+        counts = self.counts(told.report)
+        word = "differs, " + ", ".join(f"{name} {count}" for name, count in zip(("opens", "shorts", "missing", "open ties"), counts)) if any(counts) else "agrees"
+        return int(any(counts)), f"{word}{self.words(len(self.ties) - counts[3])}; the report itself says: {told.line}"
+
+    @staticmethod
+    def words(made):
+        """How many ties the copper has, behind the answer's first word."""
+        return f", with {counted(made, 'declared tie')}"
+
+
+def nets_of(report):
+    """For each name the nets that have points of it."""
+    nets = {}
+    for _, _, name, net in report.points:
+        if net >= 0:
+            nets.setdefault(report.names[name], set()).add(net)
+    return nets
+
+
+def told_of(ties, report):
+    """Each tie for JSON: its names, where it is declared, and the net that makes it, or None."""
+    nets = nets_of(report)
+    for it in ties.ties:
+        both = nets.get(it.names[0], set()) & nets.get(it.names[1], set())
+        yield {"names": list(it.names), "source": it.source, "net": min(both, default=None)}
+
+
+def lost(ties, report):
+    """Ties of names that no test point has: they have no place to be told at."""
+    names = set(report.names)
+    for it in ties.ties:
+        absent = [name for name in it.names if name not in names]
+        if absent:
+            yield f"the tie {it.text()} ({it.source}) is open: no test point has the name {' or '.join(absent)}"

@@ -1,0 +1,202 @@
+"""What is installed and packaged of a checkout, over a stand-in for its program, and the texts that are made of the help."""
+import os
+import shutil
+import sys
+
+import common
+
+sys.path.insert(0, os.path.join(common.TOOLS, "launch"))
+import kept  # noqa: E402
+import package  # noqa: E402
+
+
+class Installed(common.Case):
+    """A checkout whose program is a stand-in, and what is installed of it."""
+
+    def setUp(self):
+        super().setUp()
+        self.top = self.path("top")
+        os.makedirs(self.top)
+        shutil.copy(os.path.join(common.TOP, "boardnet"), self.top)
+        shutil.copytree(common.TOOLS, os.path.join(self.top, "tools"), ignore=shutil.ignore_patterns("tests", "__pycache__"))
+        self.write("top/.gitignore", "out/\n")
+        self.write("top/crates.txt", "boardnet:\n")
+        self.write("top/crates/boardnet/src/main.rt", "// a source\n")
+        self.write("top/crates/boardnet/out/boardnet", "#!/bin/sh\necho ran \"$@\"\n", 0o755)
+
+    def launch(self, *words, **environment):
+        return self.run_words([os.path.join(self.top, "boardnet"), *words], environment=environment)
+
+    def serves(self, command, said):
+        """Whether an installed command has all that it is to have, where the checkout is gone."""
+        self.assertEqual(self.run_words([command, "show", "--help"])[1].split("\n")[0], "boardnet show PATH.. [OPTION ..]")
+        # The program is a stand-in that answers nothing that could be judged.
+        status, out, _ = self.run_words([command, "show", os.path.join(common.EXAMPLES, "two_layer")], environment={"BOARDNET": ""})
+        self.assertEqual((status, "NOTHING WAS JUDGED" in out), (12, True))
+        self.assertEqual(self.run_words([command, "trial", "1", "2"])[:2], (0, said))
+        page = self.run_words([command, "--help"])[1]
+        self.assertIn("boardnet check MANIFEST", page)
+        self.assertNotIn("install", page)
+        shutil.copytree(os.path.join(common.EXAMPLES, "two_layer"), self.path("board"))
+        os.remove(self.path("board", "m.json"))
+        self.assertEqual(self.run_words([command, "manifest", "board"])[0], 0)
+        with open(os.path.join(common.EXAMPLES, "two_layer", "m.json")) as file:
+            self.assertEqual(self.read("board/m.json"), file.read())
+
+
+def tree(top):
+    """Each file below a folder, with its mode and bytes."""
+    found = {}
+    for at, _, names in os.walk(top):
+        for name in names:
+            path = os.path.join(at, name)
+            with open(path, "rb") as file:
+                found[os.path.relpath(path, top)] = os.stat(path).st_mode & 0o777, file.read()
+    return found
+
+
+class Install(Installed):
+    def test_installed_without_the_checkout(self):
+        prefix = self.path("it's here")
+        status, out, _ = self.launch("install", prefix)
+        self.assertEqual(status, 0)
+        for path in out.splitlines():
+            self.assertTrue(os.path.isfile(path), path)
+        for inside in ("bin/boardnet", "share/man/man1/boardnet.1", "share/bash-completion/completions/boardnet", "share/zsh/site-functions/_boardnet"):
+            self.assertIn(os.path.join(prefix, inside), out)
+        for name in ("page.html", "page.css", "data.js", "draw.js", "chosen.js", "act.js"):
+            self.assertTrue(os.path.isfile(os.path.join(prefix, "lib", "boardnet", "show_board", name)), name)
+        shutil.rmtree(self.top)
+        # It can be moved, and a link leads to it.
+        os.rename(prefix, self.path("moved"))
+        os.symlink(self.path("moved", "bin", "boardnet"), self.path("link"))
+        self.serves(self.path("link"), "ran trial 1 2\n")
+        self.assertEqual(self.run_words([self.path("link"), "--version"])[1].split()[0], "boardnet")
+
+    def test_staged(self):
+        status, out, _ = self.launch("install", "/usr", DESTDIR=self.path("stage"))
+        self.assertEqual((status, out.split()[0]), (0, "/usr/lib/boardnet/boardnet"))
+        self.assertTrue(os.path.isfile(self.path("stage", "usr", "bin", "boardnet")))
+
+
+class Package(Installed):
+    """The stand-in is echo, a program of ELF that wants the C library alone."""
+
+    def setUp(self):
+        super().setUp()
+        if not all(shutil.which(it) for it in ("dpkg-deb", "git", "echo")):
+            self.skipTest("it wants dpkg-deb and git")
+        shutil.copy(shutil.which("echo"), self.path("top", "crates", "boardnet", "out", "boardnet"))
+        self.git("init", "-q")
+        self.commit()
+        self.note()
+
+    def git(self, *words):
+        return self.run_words(["git", "-C", self.top, "-c", "user.name=a", "-c", "user.email=a@b", *words])[1].strip()
+
+    def commit(self):
+        self.git("add", "-A")
+        self.git("commit", "-q", "-m", "made")
+
+    def note(self):
+        kept.note(self.top, kept.Made("a kit logic 1", kept.sum_of_sources(self.top)))
+
+    def test_holds_what_is_installed(self):
+        status, out, notes = self.launch("package", self.path("made"))
+        commit = self.git("rev-parse", "--short=12", "HEAD")
+        archive, package = self.path("made", f"boardnet-0.9+{commit}.tar.xz"), self.path("made", f"boardnet_0.9+{commit}_amd64.deb")
+        self.assertEqual((status, out, notes), (0, f"{archive}\n{package}\n", ""))
+        self.launch("install", self.path("installed"))
+        os.makedirs(self.path("unpacked"))
+        for words in (["tar", "-C", "unpacked", "--strip-components=1", "-xf", archive], ["dpkg-deb", "-x", package, "root"]):
+            self.assertEqual(self.run_words(words)[0], 0)
+        self.assertEqual(tree(self.path("unpacked")), tree(self.path("installed")))
+        self.assertEqual(tree(self.path("root", "usr")), tree(self.path("installed")))
+        told = self.run_words(["dpkg-deb", "-f", package, "Depends", "Recommends", "Version"])[1]
+        self.assertRegex(told, r"Depends: libc6 \(>= 2\.\d+\)\nRecommends: python3 \(>= 3.8\)\n")
+        self.assertEqual(self.run_words(["dpkg-deb", "--ctrl-tarfile", package])[0], 0)
+        # The guide says how the sum is made.
+        with open(os.path.join(common.TOP, "docs", "USING.md"), encoding="utf-8") as file:
+            sums = next(line.strip() for line in file if line.startswith("    find crates.txt"))
+        sums = self.run_words(["sh", "-c", sums], self.top)[1]
+        shutil.rmtree(self.top)
+        for command in (self.path("root", "usr", "bin", "boardnet"), self.path("unpacked", "bin", "boardnet")):
+            lines = self.run_words([command, "--version"])[1].splitlines()
+            self.assertEqual([lines[0], lines[1], lines[3]], ["boardnet 0.9", f"commit {commit}", f"sources {sums.split()[0]}, proved with a kit logic 1"])
+        self.serves(command, "trial 1 2\n")
+
+    def test_refused(self):
+        source = "top/crates/boardnet/src/main.rt"
+        program = self.path("top", "crates", "boardnet", "out", "boardnet")
+
+        def other_sources():
+            self.write(source, "// another\n")
+            self.commit()
+
+        rows = [
+            # the reason begins so, what is done to a checkout that has a package
+            ("the checkout is changed, so its commit does not name its sources: M crates/boardnet/src/main.rt", lambda: self.write(source, "// changed\n")),
+            ("the checkout is changed, so its commit does not name its sources: ?? tools/more", lambda: self.write("top/tools/more", "")),
+            ("the program was proved of other sources", other_sources),
+            ("nothing says that this program was proved", lambda: shutil.copy(shutil.which("true"), program)),
+            ("nothing says that this program was proved", lambda: os.remove(program + ".made")),
+            ("the program is not built", lambda: os.remove(program)),
+            ("this is no checkout of git with a commit", lambda: shutil.rmtree(self.path("top", ".git"))),
+        ]
+        for reason, spoil in rows:
+            with self.subTest(reason=reason):
+                spoil()
+                status, out, notes = self.launch("package", self.path("made"), GIT_CEILING_DIRECTORIES=self.scratch)
+                self.assertEqual((status, out), (1, ""))
+                self.assertTrue(notes.startswith(f"boardnet: no package: {reason}"), notes)
+                self.assertFalse(os.path.exists(self.path("made")))
+            if os.path.isdir(self.path("top", ".git")):
+                self.git("checkout", "-q", "--", ".")
+                self.git("clean", "-fdq")
+                shutil.copy(shutil.which("echo"), program)
+                self.note()
+
+    def test_a_program_of_unknown_libraries(self):
+        for program in (b"\x7fELF" + bytes(60) + b"\0libodd.so.3\0", b"#!/bin/sh\n"):
+            with self.assertRaises(package.Refused):
+                package.depends(program)
+
+
+class Texts(common.Case):
+    def made(self, kind):
+        status, text, notes = self.run_words([sys.executable, os.path.join(common.TOOLS, "launch", "texts.py"), kind])
+        self.assertEqual((status, notes), (0, ""))
+        return text
+
+    def test_man_page_has_the_words_of_help(self):
+        text = self.made("man")
+        page = text.replace("\\-", "-").replace("\\e", "\\").replace("\\&", "").split("\n")
+        for line in self.run_words([os.path.join(common.TOP, "boardnet"), "audit", "--help"])[1].splitlines()[4:]:
+            self.assertIn(line, [*page, "Status", ""])
+        self.assertTrue(text.startswith(".TH BOARDNET 1"))
+        for part in (".SH NAME", ".SH SYNOPSIS", ".SH COMMANDS", ".SS boardnet check MANIFEST", ".SH FILES", ".SH EXIT STATUS"):
+            self.assertIn(part, text)
+
+    def test_completions_read(self):
+        for shell, kind in (("bash", "bash"), ("zsh", "zsh")):
+            text = self.made(kind)
+            for command in ("check", "audit", "trial", "manifest"):
+                self.assertIn(command, text)
+            self.assertNotIn("install", text)
+            self.assertNotIn("@", text)
+            if shutil.which(shell):
+                path = self.write(kind, text)
+                self.assertEqual(self.run_words([shell, "-n", path]), (0, "", ""))
+
+    def test_bash_completes(self):
+        if not shutil.which("bash"):
+            self.skipTest("there is no bash")
+        script = self.made("bash") + """
+        compopt() { :; }
+        COMP_WORDS=(boardnet "$1") COMP_CWORD=1; _boardnet; echo "${COMPREPLY[@]}"
+        COMP_WORDS=(boardnet manifest --) COMP_CWORD=2; _boardnet; echo "${COMPREPLY[@]}"
+        COMP_WORDS=(boardnet check fil) COMP_CWORD=2; _boardnet; echo "${COMPREPLY[@]}"
+        """
+        self.write("file.json", "")
+        out = self.run_words(["bash", "-c", script, "bash", "a"])[1].splitlines()
+        self.assertEqual(out, ["audit", "--help --netlist --yes --no-drills", "file.json"])
