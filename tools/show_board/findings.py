@@ -19,6 +19,8 @@ class Finding:
         self.hints, self.nets = more.get("hints", []), more.get("nets", [])
         self.gap, self.meets, self.names = more.get("gap"), more.get("meets", []), more.get("names", [])
         self.parts = more.get("parts", [])
+        # Between two bounds: whether both boards have it.
+        self.sure = None
 
     @property
     def id(self):

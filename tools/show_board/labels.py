@@ -147,7 +147,7 @@ def points_of(text, layer, wants_pins):
     """The labelled flashes and regions of a copper file."""
     # Breaks within words say nothing of copper: `check` judges them.
     pads = Pads(text.replace("\r", "").replace("\n", ""), wants_pins)
-    objects = two_sides.Copper(pads.text()).objects
+    objects = two_sides.Copper(pads.text(), cuts=True).objects
     near = erased(objects)
     for at, it in enumerate(objects):
         pieces = it.both[0] or it.both[1]

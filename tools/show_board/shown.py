@@ -1,10 +1,13 @@
 """One board, from its files to its findings."""
 import os
 
-from . import UNDECIDED, UNJUDGED, Stop, beside, bounds, copper, findings, hints, judged, labels, mending, netlist, package, report, same_pins, ties, unjudged
+from . import (UNDECIDED, UNJUDGED, Stop, beside, between, bounds, copper, fault_of, findings, hints, judged, labels, mending, netlist, package, report,
+               same_pins, ties, unjudged)
 from .board import Board
 
 NO_PLACES = "this program writes reports of version 1, which do not say where copper is from: what is told is the report and the netlist alone"
+
+COUNTED = {"opens": "open", "shorts": "short", "missing": "missing"}
 
 
 class Shown:
@@ -19,13 +22,18 @@ class Shown:
         self.title = os.path.basename(os.path.normpath(path)) or path
         self.board, self.findings, self.hints, self.bounds = None, [], [], None
         self.notes, self.flood, self.report, self.ties, self.mends = [], "", b"", ties.Ties(), []
+        # What an upper board has beyond a lower one, as (layer, corners).
+        self.wider = []
         # What was asked for beside: the netlist for a tester, the comparison with another board, the record.
         self.tester = self.like = self.record = self.gap_count = None
         # Status and line of the netlist alone.
         self.verdict = None
 
     def counts(self):
-        """What counts: a short that is a declared tie does not, a tie that the copper does not have is an open."""
+        """What counts: a short that is a declared tie does not, a tie that the copper does not have is an open; between two bounds
+        what is sure."""
+        if self.bounds:
+            return {word: sum(it.sure and it.kind == kind for it in self.findings) for word, kind in COUNTED.items()}
         opens, shorts, missing, parted = self.ties.counts(self.board.report)
         return {"opens": opens + parted, "shorts": shorts, "missing": missing}
 
@@ -115,7 +123,7 @@ def show(path, asked, program, scratch):
         shown.notes = own + package_notes(files)
         if told.report:
             look(program, told, shown, asked.page or asked.svg or beside.wants_copper(asked))
-        outside(program, told, shown)
+        outside(program, told, shown, asked.page or asked.svg or asked.rdb)
         mending.say(files, shown)
         if files.own and shown.status in labels.ANSWERS:
             shown.line = labels.FIRST + shown.line
@@ -124,17 +132,22 @@ def show(path, asked, program, scratch):
             if shown.ties.ties:
                 files.put(package.TIES, shown.ties.text().encode())
             package.keep(files, shown.report, asked.keep)
-    except Stop as stop:
+    except BrokenPipeError:
+        raise
+    except Exception as fault:
+        stop = fault_of(path, fault)
         shown.status, shown.line = stop.status, str(stop)
     return shown
 
 
-def outside(program, told, shown):
+def outside(program, told, shown, wants_picture):
     """What copies of the files say: bounds of copper outside the profile, and hints."""
     if told.status == 3:
         shown.bounds = bounds.bounded(program, told, shown.ties)
         if shown.bounds:
             shown.status, shown.line = shown.bounds.status, shown.bounds.line
+            if shown.bounds.sides:
+                look_between(program, *told.package.between, shown, wants_picture)
         if told.package.between:
             shown.notes += ties.lost(shown.ties, told.package.between[1].report)
     if told.status == 3 or shown.status == 1:
@@ -142,3 +155,17 @@ def outside(program, told, shown):
         if hints.explain(shown.hints):
             for finding in shown.findings:
                 finding.without_suggestion()
+
+
+def look_between(program, answer, low, high, shown, wants_picture):
+    """Fills in the findings of a board between bounds, over the lower one."""
+    shapes, why = shapes_of(program, low) if answer.findings or wants_picture else (None, "")
+    named = labels_of(program, low) if shown.ties.shorts(low.report) else None
+    program.progress.begin("looking for the places")
+    shown.audit = low.audit
+    shown.board = between.board_of(low, answer.sides[0], shapes, named, shown.ties)
+    shown.findings = between.Findings(shown.board).all((*it, points) for it, points in zip(answer.findings, answer.points))
+    shown.notes += [why] if why else []
+    if wants_picture and shapes is not None:
+        above = between.board_of(high, answer.sides[1], shapes_of(program, high)[0], None, shown.ties)
+        shown.wider = between.wider(shown.board, above) if above.shapes is not None else []
