@@ -25,7 +25,8 @@ def own_commands(report, manifest, sources):
     return told
 
 
-def board_of(low, sources, shapes, labels, ties):
+def board_of(low, sources, shapes, labels=None, ties=None):
+    """One of the two judged boards."""
     records = netlist.records(low.package.read(low.package.manifest.netlist))
     return Board(low.package, own_commands(low.report, low.package.manifest, sources), records, shapes, labels, ties)
 
@@ -37,10 +38,12 @@ class Findings:
         self.board, self.opens, self.counts = board, Opens(board), Counter()
         self.shorts = {it.nets[0]: it for it in shorts_of(board, Finding)}
 
-    def all(self, told):
-        return [self.finding(*it) for it in told]
+    def of(self, answer):
+        """The findings of the joint answer."""
+        return [self.finding(*it, points) for it, points in zip(answer.findings, answer.points)]
 
     def finding(self, kind, sure, words, _, points):
+        """One of them; its places are told by its points."""
         number, board = self.counts[kind], self.board
         self.counts[kind] += 1
         points = [*points[1::-1], *points[2:]] if kind == "open" else points        # the part that stands apart first

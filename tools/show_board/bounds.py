@@ -133,4 +133,4 @@ def bounded(program, told, ties=Ties()):
     except Refused as why:
         return Bounded(3, f"{told.line}; no bounds: {why}", [], [])
     nothing = "" if answer.status else unjudged.why_nothing(high.report)
-    return Bounded(UNJUDGED, nothing, [], []) if nothing else answer
+    return answer._replace(status=UNJUDGED, line=nothing) if nothing else answer

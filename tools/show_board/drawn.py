@@ -14,11 +14,8 @@ STRAIGHT, ANTICLOCKWISE = 1, 3
 
 
 class Operations:
-    """`flashes` are the places of flashes."""
-
     def __init__(self):
         self.spot, self.mode, self.quadrants, self.last = (0, 0), STRAIGHT, None, None
-        self.flashes = set()
 
     def operation(self, mode, x, y, i, j, operation):
         if mode:
@@ -116,8 +113,6 @@ class Operations:
                 side.operate(self.spot, DRAW, self.number)
 
     def flash(self):
-        if not self.blocks:
-            self.flashes.add(self.spot)
         made = self.aperture()
         if isinstance(made, apertures.Block):
             self.flash_block(made)

@@ -176,11 +176,12 @@ def list_of(kind, findings):
 
 
 def verdict(shown):
-    besides = shown.line.partition("; ")[2]
+    status, line = shown.verdict or (shown.status, shown.line)
+    besides = shown.line[len(line):].lstrip("; ")
     more = f" Besides: {besides}." if besides else ""
     if shown.bounds:
         return shown.line[:1].upper() + shown.line[1:]
-    if (shown.verdict or (shown.status,))[0] == 0:
+    if status == 0:
         made = shown.ties.words(len(shown.ties.ties)) if shown.ties.ties else ""
         what = "to which its own files give one name" if shown.board.package.own else "that the netlist joins"
         return f"Agrees{made}: the copper joins exactly the points {what}{' or the ties do' if made else ''}.{more}"

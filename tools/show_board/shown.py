@@ -1,7 +1,7 @@
 """One board, from its files to its findings."""
 import os
 
-from . import (UNDECIDED, UNJUDGED, Stop, beside, between, bounds, copper, fault_of, findings, hints, judged, labels, mending, netlist, package, report,
+from . import (FAULT, UNDECIDED, UNJUDGED, Stop, beside, between, bounds, copper, fault_of, findings, hints, judged, labels, mending, netlist, package, report,
                same_pins, ties, unjudged)
 from .board import Board
 
@@ -123,7 +123,7 @@ def show(path, asked, program, scratch):
         shown.notes = own + package_notes(files)
         if told.report:
             look(program, told, shown, asked.page or asked.svg or beside.wants_copper(asked))
-        outside(program, told, shown, asked.page or asked.svg or asked.rdb)
+        outside(program, told, shown, asked)
         mending.say(files, shown)
         if files.own and shown.status in labels.ANSWERS:
             shown.line = labels.FIRST + shown.line
@@ -136,18 +136,19 @@ def show(path, asked, program, scratch):
         raise
     except Exception as fault:
         stop = fault_of(path, fault)
+        shown = Shown(path) if stop.status == FAULT else shown
         shown.status, shown.line = stop.status, str(stop)
     return shown
 
 
-def outside(program, told, shown, wants_picture):
+def outside(program, told, shown, asked):
     """What copies of the files say: bounds of copper outside the profile, and hints."""
     if told.status == 3:
         shown.bounds = bounds.bounded(program, told, shown.ties)
         if shown.bounds:
             shown.status, shown.line = shown.bounds.status, shown.bounds.line
             if shown.bounds.sides:
-                look_between(program, *told.package.between, shown, wants_picture)
+                look_between(program, *told.package.between, shown, asked)
         if told.package.between:
             shown.notes += ties.lost(shown.ties, told.package.between[1].report)
     if told.status == 3 or shown.status == 1:
@@ -157,14 +158,15 @@ def outside(program, told, shown, wants_picture):
                 finding.without_suggestion()
 
 
-def look_between(program, answer, low, high, shown, wants_picture):
+def look_between(program, answer, low, high, shown, asked):
     """Fills in the findings of a board between bounds, over the lower one."""
-    shapes, why = shapes_of(program, low) if answer.findings or wants_picture else (None, "")
+    wants_picture = asked.page or asked.svg or asked.rdb
+    shapes, why = shapes_of(program, low) if answer.findings or wants_picture or beside.wants_copper(asked) else (None, "")
     named = labels_of(program, low) if shown.ties.shorts(low.report) else None
     program.progress.begin("looking for the places")
     shown.audit = low.audit
     shown.board = between.board_of(low, answer.sides[0], shapes, named, shown.ties)
-    shown.findings = between.Findings(shown.board).all((*it, points) for it, points in zip(answer.findings, answer.points))
+    shown.findings = between.Findings(shown.board).of(answer)
     shown.notes += [why] if why else []
     if wants_picture and shapes is not None:
         above = between.board_of(high, answer.sides[1], shapes_of(program, high)[0], None, shown.ties)

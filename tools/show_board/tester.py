@@ -1,8 +1,7 @@
 """The netlist for a tester: made of a judged board, or of the lower one of two bounds, and given out where `check` confirms it."""
 from typing import NamedTuple, Optional
 
-from . import Stop, copper, judged, netlist, padlist
-from .board import Board
+from . import Stop, between, copper, judged, padlist
 from .ipc import Netlist
 from .package import beside
 
@@ -17,22 +16,21 @@ class Tester(NamedTuple):
     netlist: Optional[Netlist]
 
 
-def with_copper(program, told, commands=None):
-    """A judged package as a board whose copper is known."""
-    package = told.package
-    shapes = copper.shapes_of(package, told.report, judged.flat_of(program, package))
-    return Board(package, told.report, netlist.records(package.read(package.manifest.netlist)), shapes, commands=commands)
+def with_copper(program, told, sources=()):
+    """A judged package as a board whose copper is known; one of two bounds with the user's commands by its `sources`."""
+    shapes = copper.shapes_of(told.package, told.report, judged.flat_of(program, told.package))
+    return between.board_of(told, dict(sources), shapes)
 
 
-def sides_of(program, told, board=None):
-    """The board that the netlist is of, with the user's package and commands where it is the lower of two bounds."""
+def copper_of(program, told, board=None):
+    """The board whose copper is told of, the lower one of two; `board` where its copper is known already."""
+    if board and board.shapes:
+        return board
     if told.report:
-        return board if board and board.shapes else with_copper(program, told), None, None
+        return with_copper(program, told)
     if not told.package.between:
         raise Stop(told.status, told.line)
-    package, low = told.package, told.package.between[1]
-    sources = package.sides.sources[0]
-    return with_copper(program, low, sources), package, sources
+    return with_copper(program, told.package.between[1], told.package.sides.sources[0])
 
 
 def confirmed(program, package, text):
@@ -56,8 +54,8 @@ def above(program, base, text):
 def made(program, told, title, board=None):
     """The netlist of a judged package."""
     try:
-        board, base, sources = sides_of(program, told, board)
-        its = Netlist(padlist.Padlist(board, padlist.origins(board, base, sources)), title)
+        board, base = copper_of(program, told, board), told.package if told.package.between else None
+        its = Netlist(padlist.Padlist(board, padlist.origins(board, base)), title)
     except (Stop, copper.BadCopper) as why:
         return Tester(None, [f"no netlist for a tester: {why}"], None)
     text = its.text()
