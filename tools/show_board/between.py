@@ -60,7 +60,8 @@ class Findings:
         """The nearest copper of the first two nets."""
         if kind == "missing" or len(nets) < 2 or -1 in nets[:2]:
             return {}
-        parts = [[point for point, (_, _, name, net) in enumerate(self.board.report.points) if net == of and name == self.board.name_of(points[0])] for of in nets]
+        names = {self.board.name_of(point) for point in points}
+        parts = [[point for point, (_, _, name, net) in enumerate(self.board.report.points) if net == of and name in names] for of in nets]
         gap = self.opens.gap(nets[1], nets[0], points[0]) if kind == "open" else self.opens.copper.gap(nets[0], nets[1]) if self.board.shapes else None
         return {"gap": gap, "hints": open_hints(self.board, gap), "parts": parts if kind == "open" else []}
 

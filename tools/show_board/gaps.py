@@ -53,7 +53,7 @@ def finding(nets, number, it, distance="", sure=None, others=()):
     """Two nets on a layer that are too close, and the pins near the place. Between bounds `distance` is in words, and a net and a piece
     that the lower board lacks are None, with the piece's source among the `others`."""
     board, known = nets.board, [net for net in it.nets if net is not None]
-    whats = spoken(LEFT_OUT if net is None else nets.word(net) for net in it.nets)
+    whats = spoken(LEFT_OUT if net is None else nets.word(net) for net in it.nets) if known else "two parts of " + LEFT_OUT
     sources = [others[k] if piece is None else board.source(piece) for k, piece in enumerate(it.pieces)]
     pins = [point for point in (nets.near(net, it.place) for net in known) if point is not None]
     near = f"; near {spoken(map(board.pin, pins))}" if pins else ""
@@ -100,7 +100,7 @@ def add(program, told, shown, u):
     shown.findings += found
     shown.notes.append(words)
     if shown.bounds:
-        shown.bounds.findings.extend((it.kind, it.sure, it.words, [(*it.gap.place, it.gap.layer)]) for it in found)
+        shown.bounds.findings.extend((it.kind, it.sure, it.words[:-1], [(*it.gap.place, it.gap.layer)]) for it in found)
     possible = sum(it.sure is False for it in found)
     shown.gap_count = len(found) - possible
     shown.found(shown.gap_count, possible, f"{counted(shown.gap_count, 'gap') if shown.gap_count else 'no gap'} under {millimetres(u)} mm"

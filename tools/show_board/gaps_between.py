@@ -128,9 +128,10 @@ def gaps(program, low, high, u):
             certain[it.layer, nets] = it
 
     def below(it):
-        pieces = tuple(both.lower(piece, it.place) for piece in it.pieces)
+        sides = sorted(((both.lower(piece, it.place), high.source(piece)) for piece in it.pieces), key=lambda side: side[0] is None)
+        pieces, sources = zip(*sides)
         nets = tuple(None if piece is None else low.report.net_of[piece] for piece in pieces)
-        return it._replace(nets=nets, pieces=pieces), tuple(map(high.source, it.pieces))
+        return it._replace(nets=nets, pieces=pieces), sources
     for at, it in certain.items():
         least_above = f"at least {upper[at].at_least()} and " if at in upper else ""
         yield True, it, f"are {least_above}at most {it.at_most()} mm apart", ()

@@ -147,9 +147,10 @@ def points_of(text, layer, wants_pins):
     """The labelled flashes and regions of a copper file."""
     # Breaks within words say nothing of copper: `check` judges them.
     pads = Pads(text.replace("\r", "").replace("\n", ""), wants_pins)
-    objects = two_sides.Copper(pads.text(), cuts=True).objects
-    near = erased(objects)
-    for at, it in enumerate(objects):
+    copper = two_sides.Copper(pads.text(), cuts=True)
+    near = erased(copper.objects)
+    # What a negative file makes is where there is no copper.
+    for at, it in enumerate(copper.objects if not copper.negative else ()):
         pieces = it.both[0] or it.both[1]
         if it.dark and pieces and it.tag in pads.labels:
             boxes = [clear.box(piece) for piece in pieces]
