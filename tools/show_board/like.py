@@ -150,7 +150,7 @@ def checked(program, told, text, ties):
 
 
 def reference(program, path, asked, scratch):
-    """The other board's netlist."""
+    """The other board's netlist, as it was made and as a text."""
     folder = os.path.join(scratch, "like")
     os.makedirs(folder)
     files = package.opened(path, asked, folder)
@@ -162,7 +162,7 @@ def reference(program, path, asked, scratch):
     made = tester.made(program, theirs, os.path.basename(os.path.normpath(path)))
     if made.text is None:
         raise Stop(theirs.status, f"{path}: {'; '.join(made.lines)}")
-    return made.netlist, made.text.encode("latin-1")
+    return made, made.text.encode("latin-1")
 
 
 def add(program, told, shown, asked, scratch):
@@ -170,12 +170,13 @@ def add(program, told, shown, asked, scratch):
     try:
         made, text = reference(program, asked.like, asked, scratch)
         answer, placed = checked(program, told, text, shown.ties.allowed())
-        its = differences(program, shown.board and shown.board.shapes, answer, made, text)
+        its = differences(program, shown.board and shown.board.shapes, answer, made.netlist, text)
     except (Stop, copper.BadCopper) as why:
         shown.lacks(f"not compared with {asked.like}: {why}")
         return
     sure = sum(it.sure for it in its)
     counts = [counted(sum(it.kind == kind for it in its), word) for kind, word in (("parted", "parted net"), ("joined", "joined net"), ("missing", "missing pad"))]
-    line = "joins what it joins" if not its else ", ".join(word for word in counts if not word.startswith("0 "))
-    shown.like = Likeness(asked.like, 1 if sure else UNDECIDED if its else 0, line, placed, its)
-    shown.found(sure, len(its) - sure, f"like {asked.like}: {line}")
+    doubt = len(its) - sure + (not made.is_whole)
+    line = f"joins what {'it' if made.is_whole else 'its lower bound'} joins" if not its else ", ".join(word for word in counts if not word.startswith("0 "))
+    shown.like = Likeness(asked.like, 1 if sure else UNDECIDED if doubt else 0, line, placed, its)
+    shown.found(sure, doubt, f"like {asked.like}: {line}")

@@ -93,7 +93,7 @@ def look(program, told, shown, wants_picture):
         named = labels_of(program, told)
     program.progress.begin("looking for the places")
     shown.board = Board(told.package, told.report, records, shapes, named, shown.ties)
-    shown.findings, shown.flood = findings.all_findings(shown.board), findings.flood(shown.board)
+    shown.findings, shown.flood = findings.all_findings(shown.board), findings.flood(told.report)
     shown.notes += [*unjudged.unnamed_notes(shown.board), *ties.lost(shown.ties, told.report), *([why] if why else [])]
     nothing = unjudged.why_nothing(told.report)
     if nothing and shown.status == 0:
@@ -166,8 +166,8 @@ def look_between(program, answer, low, high, shown, asked):
     program.progress.begin("looking for the places")
     shown.audit = low.audit
     shown.board = between.board_of(low, answer.sides[0], shapes, named, shown.ties)
-    shown.findings = between.Findings(shown.board).of(answer)
-    shown.notes += [why] if why else []
+    shown.findings, shown.flood = between.Findings(shown.board).of(answer), findings.flood(high.report)
+    shown.notes += [*unjudged.unnamed_notes(shown.board), *([why] if why else [])]
     if wants_picture and shapes is not None:
         above = between.board_of(high, answer.sides[1], shapes_of(program, high)[0], None, shown.ties)
         shown.wider = between.wider(shown.board, above) if above.shapes is not None else []

@@ -9,11 +9,13 @@ LOWER = "it is of the lower of two bounds: what that leaves out has no record"
 
 
 class Tester(NamedTuple):
-    """`text` is None where nothing was confirmed; `lines` are told of it, and `netlist` has the records."""
+    """`text` is None where nothing was confirmed; `lines` are told of it, and `netlist` has the records. `is_whole` but where the upper
+    of two bounds joins what it has apart."""
 
     text: Optional[str]
     lines: list
     netlist: Optional[Netlist]
+    is_whole: bool = True
 
 
 def with_copper(program, told, sources=()):
@@ -48,7 +50,7 @@ def above(program, base, text):
     """What the upper of two bounds says of the netlist: where both agree, so does the board between them."""
     is_right, said = confirmed(program, base.between[2].package, text)
     meaning = "so the board itself agrees" if is_right else "so some of its nets may be one on the board"
-    return f"on the upper bound {said}, {meaning}"
+    return is_right, f"on the upper bound {said}, {meaning}"
 
 
 def made(program, told, title, board=None):
@@ -61,10 +63,10 @@ def made(program, told, title, board=None):
     text = its.text()
     try:
         is_right, said = confirmed(program, board.package, text)
-        lower = [LOWER, above(program, base, text)] if base and is_right else []
+        is_whole, upper = above(program, base, text) if base and is_right else (True, "")
     except Stop as stop:
         is_right, said = False, str(stop)
     if not is_right:
         return Tester(None, [f"no netlist for a tester is written: {said}"], its)
     first, *rest = its.lines()
-    return Tester(text, [f"{first}; {said}", *rest, *lower], its)
+    return Tester(text, [f"{first}; {said}", *rest, *([LOWER, upper] if upper else [])], its, is_whole)
