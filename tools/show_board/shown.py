@@ -33,7 +33,8 @@ class Shown:
         """What counts: a short that is a declared tie does not, a tie that the copper does not have is an open; between two bounds
         what is sure."""
         if self.bounds:
-            return {word: sum(it.sure and it.kind == kind for it in self.findings) for word, kind in COUNTED.items()}
+            told = {word: sum(it.sure and it.kind == kind for it in self.findings) for word, kind in COUNTED.items()}
+            return {**told, "opens": told["opens"] + len(list(ties.lost(self.ties, self.board.report)))}
         opens, shorts, missing, parted = self.ties.counts(self.board.report)
         return {"opens": opens + parted, "shorts": shorts, "missing": missing}
 
