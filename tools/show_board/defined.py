@@ -83,6 +83,7 @@ class Definitions:
         value = word[2:] if word.startswith("LM") else decimal(word[2:])
         change = self.change.told(word[:2], value)
         if change:
+            self.replaced += change != Change()
             self.change = change
         else:
             self.pass_on(f"%{word}*%")

@@ -99,6 +99,11 @@ class Files(unittest.TestCase):
         area = pieces_of(copper.sides[1])[0][1]
         self.assertTrue(all(abs(x - 254000000) < 20000000 and abs(y) < 20000000 for x, y in area))
 
+    def test_mirrored_circles(self):
+        """A word that changes no circle: the file is written without it all the same, since `check` refuses it."""
+        copper = copper_of("%ADD10C,1*%", "%LMX*%", "D10*", "X5Y5D03*")
+        self.assertEqual((copper.replaced, [line for line in copper.sides[0].lines if "LM" in line]), (1, []))
+
     def test_odd_sizes(self):
         copper = copper_of("%ADD10C,0.0000003*%", "D10*", "X0Y0D03*")
         self.assertEqual([line for side in copper.sides for line in side.lines if line.startswith("%AD")],
