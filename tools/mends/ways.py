@@ -9,7 +9,7 @@ TOOLS = (
 )
 COMMENTS = re.compile(rb"^[ \t]*;[^\n]*|G04[^*]*\*|TF\.GenerationSoftware[^*\n]*", re.M)
 NEWLINE = b"\n"
-REFUSAL = re.compile(r"(.*): (Gerber|drill|flatten) \d+ (\w+) at (?:command|line) \d+, byte (\d+)")
+REFUSAL = re.compile(r"(.*?): (Gerber|drill|flatten) \d+ (\w+) at (?:command|line) \d+, byte (\d+)")
 
 # By the kind of refusal: for some tools by their own words, else for all.
 WAYS = {

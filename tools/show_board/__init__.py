@@ -4,9 +4,12 @@ Nothing here is proved, and nothing here judges: what is right and wrong is what
 is known from the program alone, by `flatten`'s normal form and the report's places and sources. What is added, as where copper
 comes nearest, or where two names part, is a suggestion and is called so.
 """
+import errno
 
-# The statuses beside those of the program: no package can be made of the files; the answer lies between two bounds; nothing was judged.
-UNCLEAR, UNDECIDED, UNJUDGED = 10, 11, 12
+# The statuses beside those of the program: no package can be made of the files; the answer lies between two bounds; nothing was judged;
+# a fault of `show` itself.
+UNCLEAR, UNDECIDED, UNJUDGED, FAULT = 10, 11, 12, 70
+UNWRITABLE, NO_MEMORY = 5, 6
 
 
 class Stop(Exception):
@@ -15,3 +18,19 @@ class Stop(Exception):
     def __init__(self, status, words):
         super().__init__(words)
         self.status = status
+
+
+def fault_of(path, fault):
+    """What ends a PATH where something happens that nothing here foresees."""
+    if isinstance(fault, Stop):
+        return fault
+    if isinstance(fault, MemoryError):
+        return Stop(NO_MEMORY, f"{path}: out of memory")
+    if isinstance(fault, OSError) and fault.errno in (errno.ENOSPC, errno.EDQUOT):
+        return Stop(UNWRITABLE, f"{path}: {fault.strerror}")
+    step = fault.__traceback__
+    while step.tb_next:
+        step = step.tb_next
+    where = f"{step.tb_frame.f_code.co_filename.rsplit('/', 1)[-1]} line {step.tb_lineno}"
+    words = " ".join(f"{type(fault).__name__} {fault}".split())[:120]
+    return Stop(FAULT, f"{path}: a fault of `show` itself, which is no answer on the board ({words}, in {where}): please report it with this file")

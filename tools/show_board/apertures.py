@@ -2,25 +2,60 @@
 from fractions import Fraction as Q
 
 from .arcs import Arc, arc_chain, chain_bounds
-from .exact import Refused
-from .macros import macro_bounds, regular
+from .exact import Refused, exact
+from .macros import macro_bounds, rectangle, regular, without
 from .outlines import convex_bounds
+from .spots import cross
 
 OBROUND, RECTANGLE, CIRCLE = "O", "R", "C"
 
 
 class Shape:
-    """A flash: its pieces on both sides, and what the lower side leaves out."""
+    """A flash: its pieces on both sides, and what the lower side leaves out. One that is a pen has one convex piece a side."""
 
-    def __init__(self, lower, upper, lost=None):
-        self.both, self.lost = (lower, upper), lost
+    def __init__(self, lower, upper, lost=None, is_pen=False):
+        self.both, self.lost, self.is_pen = (lower, upper), lost, is_pen
 
 
 class Pen:
     """A passed on aperture: half the diameter of a circle, else None; for each side its even sizes."""
 
+    lost, is_pen = None, True
+
     def __init__(self, name, radius, sizes):
         self.name, self.radius, self.sizes = name, radius, sizes
+        self.both = tuple(solid(name, size) for size in sizes)
+
+
+class Block:
+    """What the objects of a block are, in order, and what their lower sides leave out."""
+
+    def __init__(self, objects, lost):
+        self.objects, self.lost = objects, lost
+
+
+class Unbounded:
+    """An aperture without bounds, and why."""
+
+    def __init__(self, why):
+        self.why = why
+
+
+def of(name, values, scale, macros):
+    """The aperture of a definition; None where it is left to `check`."""
+    if name == "P":
+        return polygon(values, scale)
+    if name not in (CIRCLE, RECTANGLE, OBROUND):
+        if name not in macros:
+            raise Refused("a macro that is not defined")
+        return macro(name, macros[name], values, scale)
+    sizes = 1 if name == CIRCLE else 2
+    if len(values) > sizes + 1:
+        raise Refused("a hole that is not round")
+    if len(values) < sizes:
+        return None
+    lengths = [v * scale for v in values]
+    return standard(name, lengths[:sizes], lengths[sizes] if len(values) > sizes else Q(0))
 
 
 def even_down(length):
@@ -36,6 +71,8 @@ def standard(name, lengths, hole):
     if min(lengths) < 0 or hole < 0:
         raise Refused("a size under 0")
     low, high = [even_down(v) for v in lengths], [even_up(v) for v in lengths]
+    if hole and name == OBROUND:
+        return holed_shape(obround(*lengths), hole)
     if hole:
         lower, upper = holed(name, low, hole), solid(name, high)
         return Shape(lower, upper, "a shape with a hole" if upper and not lower else None)
@@ -57,9 +94,22 @@ def solid(name, sizes):
     return [("capsule", (-a[0], -a[1]), a, min(x, y))]
 
 
+def obround(w, h):
+    """The figures of an obround: two discs and what lies between them."""
+    r = min(w, h) / 2
+    x, y = w / 2 - r, h / 2 - r
+    ends = [("disc", (exact(s * x), exact(s * y)), r) for s in (-1, 1)]
+    return ends + ([("convex", rectangle(*((-x, -r, x, r) if x else (-r, -y, r, y))))] if x or y else []) if r else []
+
+
+def holed_shape(figures, hole):
+    lower, upper, lost = without([*figures, ("off", ("disc", (exact(0), exact(0)), hole / 2))])
+    return Shape(lower, upper, "a shape with a hole" if lost or upper and not lower else None)
+
+
 def holed(name, sizes, hole):
-    """Within a shape with a round hole: a ring is what a pen leaves on a circle; of a rectangle an area with a cut to a polygon
-    that lies round the hole, as even-odd means it."""
+    """Within a circle or rectangle with a round hole: a ring is what a pen leaves on a circle; of a rectangle an area with a cut to
+    a polygon that lies round the hole, as even-odd means it."""
     if hole >= min(sizes):
         return []
     if name == CIRCLE:
@@ -67,8 +117,6 @@ def holed(name, sizes, hole):
         spot = (middle.__floor__(), 0)
         chain, most = arc_chain((0, 0), spot, spot)
         return chain_bounds(chain, most + 1, pen)[0]
-    if name == OBROUND:
-        raise Refused("obround with a hole")
     half = (hole / 2).__ceil__()
     arc = Arc((0, 0), (half, 0), (half, 0), True)
     x, y = sizes[0] // 2, sizes[1] // 2
@@ -78,17 +126,45 @@ def holed(name, sizes, hole):
 
 
 def polygon(values, scale):
-    """A regular polygon: diameter, corners, rotation."""
-    if not 2 <= len(values) <= 4 or values[1] not in range(3, 13) or values[0] < 0:
+    """A regular polygon: diameter, corners, rotation, hole."""
+    if not 2 <= len(values) <= 4 or values[1] not in range(3, 13) or min(values[:1] + values[3:]) < 0:
         raise Refused("polygon" if len(values) < 5 else "hole that is not round")
-    if len(values) == 4 and values[3]:
-        raise Refused("polygon with a hole")
     if values[0] == 0:
         return Shape([], [])
-    lower, upper = convex_bounds(regular(int(values[1]), Q(0), Q(0), values[0] * scale, values[2] if len(values) > 2 else 0))
-    return Shape(lower, upper, None if lower else "a polygon")
+    corners = regular(int(values[1]), Q(0), Q(0), values[0] * scale, values[2] if len(values) > 2 else 0)
+    if len(values) == 4 and values[3]:
+        return holed_shape([("convex", corners)], values[3] * scale)
+    lower, upper = convex_bounds(corners)
+    return Shape(lower, upper, None if lower else "a polygon", len(lower) < 2 > len(upper))
 
 
 def macro(name, body, values, scale):
     lower, upper, lost = macro_bounds(body, values, scale)
     return Shape(lower, upper, f"{lost} of the primitives of macro {name}" if lost else None)
+
+
+# ---- draws with pens
+
+def swept(piece, a, b):
+    """What a convex piece covers along a line: the hull of the piece at both ends, or for a round one the hull of its middle line
+    with draws round it."""
+    moved = lambda spots: [(x + p, y + q) for p, q in (a, b) for x, y in spots]
+    if piece[0] == "area":
+        return [("area", hull(moved(piece[1])))]
+    spots, radius = hull(moved(piece[1:3])), piece[3]
+    if len(spots) < 3:
+        return [("capsule", spots[0], spots[-1], radius)]
+    return [("area", spots)] + [("capsule", p, q, radius) for p, q in zip(spots, spots[1:] + spots[:1])]
+
+
+def hull(spots):
+    """The corners of the least convex area round some places, counterclockwise; of places in one line its ends."""
+    spots, halves = sorted(set(spots)), []
+    for order in (spots, spots[::-1]):
+        half = []
+        for spot in order:
+            while len(half) > 1 and cross(half[-2], half[-1], spot) <= 0:
+                half.pop()
+            half.append(spot)
+        halves += half[:-1]
+    return halves or spots

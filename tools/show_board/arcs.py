@@ -9,7 +9,7 @@ from math import isqrt
 from .exact import ceil_root, floor_root
 from .spots import cross, dot
 
-SAGITTA = 4000      # a chord leaves its arc by at most 0.4 micrometres
+SAGITTA = 3600      # a chord leaves its arc by about 0.36 micrometres at most
 LEAST = 1000        # arcs of a smaller radius are one chord with a wide allowance
 
 
@@ -79,7 +79,8 @@ def goes_once(turn, chain):
 def arc_chain(centre, start, end):
     """(spots, most): at each angle of the sweep chain and arc are at most `most` apart, for every curve whose distance from
     the centre stays between those of its ends; past half a turn it may leave that range by its width. So the circle through
-    both ends whose centre is nearest to the given one is such a curve, up to three quarters of a turn."""
+    both ends whose centre is nearest to the given one is such a curve, up to three quarters of a turn. Where no chain goes
+    round once, its place is the whole disc about the centre."""
     near, far = sorted((dot(centre, start, start), dot(centre, end, end)))
     least, most = isqrt(near), ceil_root(far)
     if least < LEAST:
@@ -88,7 +89,7 @@ def arc_chain(centre, start, end):
     if cross(centre, start, end) < 0 and near != far:
         least, most = 2 * least - most, 2 * most - least
     inner, outer = least, most
-    if not goes_once(lambda p, q: cross(centre, p, q), chain):
+    if len(chain) < 2 or not goes_once(lambda p, q: cross(centre, p, q), chain):
         return [start, end], 2 * most + 1
     for p, q in zip(chain, chain[1:]):
         inner = min(inner, isqrt(cross(centre, p, q) ** 2 // dot(p, q, q)))
@@ -119,8 +120,7 @@ class Arc:
         self.chain, self.most = arc_chain(centre, a, b)
         self.square = self.off2(a)
         off = floor_root(self.square) // self.n
-        wide = shift != 0 and (cross(centre, a, b) < 0 and dot(centre, a, b) > 0)    # a sweep of over 270 degrees
-        self.sound = len(self.chain) > 2 and not wide
+        self.sound, self.is_exact = len(self.chain) > 2, shift == 0
         around = (round(Q(self.c[0], self.n)), round(Q(self.c[1], self.n)))
         least = isqrt(min(dot(centre, a, a), dot(centre, b, b)))
         radius = min(off, least)

@@ -8,15 +8,11 @@ from .words import millimetres
 
 
 class Board:
-    """`shapes` is None where the copper is not known, `labels` (names of pieces by the files' own labels) where there are none.
+    """`shapes` is None where the copper is not known, `labels` (names of pieces by the files' own labels) where there are none."""
 
-    `commands` has for each file that was written anew, as for bounds, the user's command of each new one.
-    """
-
-    def __init__(self, package, report, records, shapes=None, labels=None, ties=None, commands=None):
+    def __init__(self, package, report, records, shapes=None, labels=None, ties=None):
         self.package, self.manifest, self.report = package, package.manifest, report
         self.records, self.shapes, self.labels, self.ties = records, shapes, labels or {}, ties or Ties()
-        self.commands = commands or {}
         self.pieces_of, self.points_of = defaultdict(list), defaultdict(list)
         for piece, net in enumerate(report.net_of):
             self.pieces_of[net].append(piece)
@@ -92,8 +88,6 @@ class Board:
             return f"piece {piece}"
         file, command, copy, *_ = self.report.sources[piece]
         name = self.manifest.files[file]
-        if name in self.commands and not self.manifest.is_drilled(file):
-            command = self.commands[name][command - 1]
         word = "line" if self.manifest.is_drilled(file) else "command"
         flattened = " as flattened" if name in self.package.flattened and not self.manifest.is_drilled(file) else ""
         return f"{name}{flattened} {word} {command}" + (f" copy {copy}" if copy else "")

@@ -11,27 +11,31 @@ import os
 import re
 from typing import NamedTuple
 
-from . import UNDECIDED, UNJUDGED, judged, netlist, unjudged
+from . import UNDECIDED, UNJUDGED, fault_of, judged, negative, netlist, unjudged
 from .differing import Differing
 from .exact import Refused
 from .joint import Joint
 from .package import beside
 from .ties import Ties, lost
-from .two_sides import of_text
+from .two_sides import Copper, of_text
 from .words import counted
 
-# ClearPolarity, Arc, Macro, Polygon, Hole, OffGrid, TooManyVertices: what copper files hold that bounds may be given for.
-OUTSIDE = re.compile(r"(.*): Gerber (10|11|12|14|15|23|28) |(.*): flatten ")
+# ClearPolarity, Arc, Macro, Block, Polygon, Hole, Transform, ApertureTwice, PenNotCircle, OffGrid, NegativeFile, TooManyVertices,
+# NoOperation: what copper files hold that bounds may be given for.
+OUTSIDE = re.compile(r"(.*): Gerber (1[0-6]|18|19|23|26|28|29) |(.*): flatten ")
 SIDES = ("lower", "upper")
 
 
 class Bounded(NamedTuple):
-    """The answer on a board between two; `findings` are (kind, sure, words, places), places (x, y, layer) with x and y in u."""
+    """The answer on a board between two; `findings` are (kind, sure, words, places), places (x, y, layer) with x and y in u.
+    `points` are those of each finding, `sides` what both boards are made of."""
 
     status: int
     line: str
     findings: list
     left_out: list
+    points: tuple = ()
+    sides: tuple = ()
 
 
 class Sides(NamedTuple):
@@ -47,14 +51,26 @@ def is_outside(line):
     return bool(OUTSIDE.match(line))
 
 
+def outline_of(package):
+    """The box of a board with negative files."""
+    texts = [package.read(name).decode("latin-1") for name in dict.fromkeys(package.manifest.copper)]
+    return negative.outline_of(negative.profile_of(package.home or package.folder), texts, lambda text: Copper(text, cuts=True).objects)
+
+
+def sides_of(package, name):
+    try:
+        return of_text(package.read(name).decode("latin-1"), lambda: outline_of(package))
+    except Refused as why:
+        raise Refused(f"{name}: {why}") from None
+    except Exception as fault:
+        raise fault_of(package.told_path(name), fault) from fault
+
+
 def of_package(package):
     """Both sides of each copper file that holds something outside the profile; the others are the same files."""
     files, sources, left_out, replaced = ({}, {}), ({}, {}), [], 0
     for name in dict.fromkeys(package.manifest.copper):
-        try:
-            copper = of_text(package.read(name).decode("latin-1"))
-        except Refused as why:
-            raise Refused(f"{name}: {why}") from None
+        copper = sides_of(package, name)
         left_out += [f"{name}: {what}" for what in copper.lost]
         replaced += copper.replaced
         for side, data, origin in zip(copper.sides, files, sources):
@@ -96,7 +112,7 @@ def answered(program, package, sides, low, high, ties):
     told += [f"{counted(doubt, 'finding')} that only one of them has"] if doubt else []
     word += ties.words(len(ties.ties) - len(ties.parted(low.report))) if ties.ties else ""
     line = f"{word}, between two bounds" + (f": {', '.join(told)}" if told else "") + f" (lower {low.line}; upper {high.line})"
-    return Bounded(status, line, [it[:4] for it in findings], sides.left_out)
+    return Bounded(status, line, [it[:4] for it in findings], sides.left_out, tuple(it[4] for it in findings), sides.sources)
 
 
 def judge(program, package, ties=Ties()):
@@ -117,4 +133,4 @@ def bounded(program, told, ties=Ties()):
     except Refused as why:
         return Bounded(3, f"{told.line}; no bounds: {why}", [], [])
     nothing = "" if answer.status else unjudged.why_nothing(high.report)
-    return Bounded(UNJUDGED, nothing, [], []) if nothing else answer
+    return answer._replace(status=UNJUDGED, line=nothing) if nothing else answer

@@ -31,8 +31,22 @@ function paintCopper() {
       paint(scratchPen, picture.layers[l - 1], ink.nets, true);
     });
   }
+  paintWider(order);
   paintHoles(pen, picture.drilled, ink.nets);
   paintPoints();
+}
+function paintWider(order) {                      // what the upper of two bounds has beyond the lower one
+  pen.strokeStyle = ink.bad;
+  pen.lineWidth = ratio;
+  pen.setLineDash([4 * ratio, 3 * ratio]);
+  for (const [layer, spots] of board.wider) {
+    if (!order.includes(layer)) continue;
+    pen.beginPath();
+    for (let k = 0; k < spots.length; k += 2) pen.lineTo(toX(spots[k]), toY(spots[k + 1]));
+    pen.closePath();
+    pen.stroke();
+  }
+  pen.setLineDash([]);
 }
 let copperAt = null;                              // the view that the copper was drawn for
 function drawCopper() {

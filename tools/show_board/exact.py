@@ -1,7 +1,11 @@
 """Exact numbers for bounds: roots, and intervals of fractions that hold sines, cosines and turned places. There is no float."""
+import re
 from fractions import Fraction as Q
 from math import isqrt
 
+DECIMAL = re.compile(r"[+-]?(\d+\.?\d*|\.\d+)")
+MOST_DIGITS = 60        # of a number in a file
+MOST_BITS = 1000        # of a number that macros reckon
 PI = Q(314159265358979323846264338327950288419716939937510, 10 ** 50)   # cut: the next digits are 58..
 FIX = 1 << 120
 ULPS = 200      # of FIX: more than all cuts of a series of 40 terms
@@ -9,6 +13,23 @@ ULPS = 200      # of FIX: more than all cuts of a series of 40 terms
 
 class Refused(Exception):
     """What no bound is made for, by name."""
+
+
+# ---- numbers of files
+
+def decimal(text):
+    """A decimal as a fraction; None where it is none."""
+    if not DECIMAL.fullmatch(text):
+        return None
+    if len(text) > MOST_DIGITS:
+        raise Refused(f"a number of over {MOST_DIGITS} digits")
+    return Q(text)
+
+
+def limited(q):
+    if q.numerator.bit_length() > MOST_BITS or q.denominator.bit_length() > MOST_BITS:
+        raise Refused(f"macro: a number of over {MOST_BITS} bits")
+    return q
 
 
 # ---- roots

@@ -19,6 +19,8 @@ class Finding:
         self.hints, self.nets = more.get("hints", []), more.get("nets", [])
         self.gap, self.meets, self.names = more.get("gap"), more.get("meets", []), more.get("names", [])
         self.parts = more.get("parts", [])
+        # Between two bounds: whether both boards have it.
+        self.sure = None
 
     @property
     def id(self):
@@ -121,9 +123,9 @@ def all_findings(board):
     return [*opens.all(), *opens.parted(), *shorts.findings(board, Finding), *missing(board)]
 
 
-def flood(board):
+def flood(report):
     """A sentence where most points have no copper, so that what follows has one cause, else nothing."""
-    bare, points = len(board.report.bare), len(board.report.points)
+    bare, points = len(report.bare), len(report.points)
     if bare < 4 or 2 * bare <= points:
         return ""
     return (f"{bare} of {points} test points lie beside the copper. Such a flood has one cause: the netlist and the copper count from other "

@@ -1,22 +1,17 @@
-"""Nets that are too close as findings, and what is certain of them between two bounds.
-
-Between bounds the board's copper lies in the upper board's and holds the lower one's. So nets of the lower board that are too close
-are so for certain where the upper one does not join them, and no nets are that the upper board has farther apart and does not join.
-"""
+"""Nets that are too close as findings; of a board between bounds those that `gaps_between` tells."""
 from bisect import bisect_left
 from collections import defaultdict
 
-from . import Stop, copper
+from . import Stop, copper, gaps_between
 from .board import NO_NET
 from .findings import Finding
 from .nearest import Gap
-from .spacing import MOST, STEP, spacings
-from .tester import with_copper
-from .tree import Tree
+from .spacing import STEP, spacings
+from .tester import copper_of, with_copper
 from .words import counted, millimetres, spoken
 
-MARGIN = 20_000     # bounds are mostly at most a micrometre apart on each side, in u
 FEW_NAMES = 2
+LEFT_OUT = "copper that the lower bound leaves out"
 
 
 class Nets:
@@ -54,102 +49,59 @@ class Nets:
         return best and best[1]
 
 
-def words(board, nets, it, distance=None):
-    """What is told of two nets that are too close, and the pins near the place."""
-    pins = [point for point in (nets.near(net, it.place) for net in it.nets) if point is not None]
+def finding(nets, number, it, distance="", sure=None, others=()):
+    """Two nets on a layer that are too close, and the pins near the place. Between bounds `distance` is in words, and a net and a piece
+    that the lower board lacks are None, with the piece's source among the `others`."""
+    board, known = nets.board, [net for net in it.nets if net is not None]
+    whats = spoken(LEFT_OUT if net is None else nets.word(net) for net in it.nets) if known else "two parts of " + LEFT_OUT
+    sources = [others[k] if piece is None else board.source(piece) for k, piece in enumerate(it.pieces)]
+    pins = [point for point in (nets.near(net, it.place) for net in known) if point is not None]
     near = f"; near {spoken(map(board.pin, pins))}" if pins else ""
-    pieces = spoken(map(board.source, it.pieces))
-    told = f"{spoken(map(nets.word, it.nets))} are {distance or it.at_least()} mm apart on {board.copper_place(it.place, it.layer)}: {pieces}{near}."
-    return told, pins
+    told = f"{whats} {distance or f'are {it.at_least()} mm apart'} on {board.copper_place(it.place, it.layer)}: {spoken(sources)}{near}."
+    names = [name for net in known for name in nets.numbers(net)]
+    one = Finding("gap", number, whats, told, pins, nets=known, names=names, gap=Gap(it.distance // STEP * STEP, it.place, it.layer))
+    one.pieces, one.sure = [piece for piece in it.pieces if piece is not None], sure
+    return one
 
 
-def findings(board, found):
-    """A finding for each pair of nets on a layer."""
-    nets = Nets(board)
-    for number, it in enumerate(found):
-        told, pins = words(board, nets, it)
-        names = [name for net in it.nets for name in nets.numbers(net)]
-        one = Finding("gap", number, spoken(map(nets.word, it.nets)), told, pins, nets=list(it.nets), names=names, gap=Gap(it.distance // STEP * STEP, it.place, it.layer))
-        one.pieces = list(it.pieces)
-        yield one
-
-
-def rule(u, listed, found):
+def rule(u):
     """A sentence on what is counted."""
+    return f"gaps: two nets on a layer whose copper is closer than {millimetres(u)} mm; exactly that is no gap here"
+
+
+def listed_by(u, listed, found):
+    """What the program says beside it."""
     even = f", of which {listed - found} that are exactly so far" if listed > found and u % 10 == 0 else ""
-    return (f"gaps: two nets on a layer whose copper is closer than {millimetres(u)} mm; exactly that is no gap here. "
-            f"The program's `gaps` lists what is at most that far apart: {counted(listed, 'pair')}{even}")
+    return f"The program's `gaps` lists what is at most that far apart: {counted(listed, 'pair')}{even}"
 
 
-# ---- between bounds
-
-class Above:
-    """Which net of the upper board a piece of the lower one lies in."""
-
-    def __init__(self, low, high):
-        self.low, self.high, self.trees = low, high, {}
-        for layer in range(1, high.manifest.layers + 1):
-            pieces = [piece for piece, (*_, top, bottom) in enumerate(high.report.sources) if top <= layer <= bottom]
-            self.trees[layer] = pieces, Tree([high.touching.box(piece) for piece in pieces]) if pieces else None
-
-    def net(self, piece, layer):
-        place = self.low.shapes.places(piece)[0]
-        pieces, tree = self.trees[layer]
-        for k in tree.meeting(place * 2) if tree else ():
-            if self.high.touching.holds(pieces[k], place):
-                return self.high.report.net_of[pieces[k]]
-        return -1
+def of_board(program, told, board, u):
+    """The gaps of a board, and the sentence on what is counted."""
+    found, listed = spacings(program, board, u)
+    nets = Nets(board)
+    return [finding(nets, number, it) for number, it in enumerate(found)], f"{rule(u)}. {listed_by(u, listed, len(found))}"
 
 
-def between(program, low, high, u):
-    """(certain, possible) gaps of a board between two; of the first the lower board's spacing, with the upper one's distance."""
-    above, upper, certain, joined = Above(low, high), {}, {}, []
-    for it in spacings(program, high, u)[0]:
-        upper[it.layer, it.nets] = it
-    for it in spacings(program, low, min(u + MARGIN, MOST))[0]:
-        nets = tuple(sorted(above.net(piece, it.layer) for piece in it.pieces))
-        if nets[0] == nets[1]:
-            joined.append(it)
-        elif it.distance < u and ((it.layer, nets) not in certain or it.distance < certain[it.layer, nets].distance):
-            certain[it.layer, nets] = it
-    possible = [it for key, it in upper.items() if key not in certain]
-    return [(it, upper.get(key)) for key, it in certain.items()], possible, joined
+def of_bounds(program, told, board, u):
+    """The gaps of a board between two, of which `board` is the lower one."""
+    high, nets = with_copper(program, told.package.between[2], told.package.sides.sources[1]), Nets(board)
+    found = gaps_between.gaps(program, board, high, u)
+    return [finding(nets, number, it, words, sure, others) for number, (sure, it, words, others) in enumerate(found)], rule(u)
 
-
-def bounded(program, told, u):
-    """The gaps of a board between bounds, as its findings are: (kind, sure, words, places)."""
-    _, *both = told.package.between
-    low, high = (with_copper(program, its, sources) for its, sources in zip(both, told.package.sides.sources))
-    certain, possible, joined = between(program, low, high, u)
-    low_nets, high_nets = Nets(low), Nets(high)
-    for it, nearest in certain:
-        least = f"at least {nearest.at_least()} and " if nearest else ""
-        yield "gap", True, words(low, low_nets, it, f"{least}at most {it.at_most()}")[0], [(*it.place, it.layer)]
-    for it in possible:
-        yield "gap", False, words(high, high_nets, it, f"at least {it.at_least()}")[0], [(*it.place, it.layer)]
-    for it in joined:
-        yield "gap", False, "joined, or apart: " + words(low, low_nets, it, f"at most {it.at_most()}")[0], [(*it.place, it.layer)]
-
-
-# ---- of what is shown
 
 def add(program, told, shown, u):
     """Adds the gaps to what is told of a board, and to its answer."""
     try:
-        if shown.board:
-            board = shown.board if shown.board.shapes else with_copper(program, told)
-            found, listed = spacings(program, board, u)
-            shown.findings += findings(board, found)
-            shown.gap_count, possible = len(found), 0
-            shown.notes.append(rule(u, listed, len(found)))
-        elif told.package.between:
-            found = list(bounded(program, told, u))
-            shown.bounds.findings.extend(found)
-            shown.gap_count, possible = sum(it[1] for it in found), sum(not it[1] for it in found)
-        else:
-            raise Stop(told.status, told.line)
+        board = copper_of(program, told, shown.board)
+        found, words = (of_bounds if told.package.between else of_board)(program, told, board, u)
     except (Stop, copper.BadCopper) as why:
         shown.lacks(f"gaps are not known: {why}")
         return
+    shown.findings += found
+    shown.notes.append(words)
+    if shown.bounds:
+        shown.bounds.findings.extend((it.kind, it.sure, it.words[:-1], [(*it.gap.place, it.gap.layer)]) for it in found)
+    possible = sum(it.sure is False for it in found)
+    shown.gap_count = len(found) - possible
     shown.found(shown.gap_count, possible, f"{counted(shown.gap_count, 'gap') if shown.gap_count else 'no gap'} under {millimetres(u)} mm"
                 + (f" and {counted(possible, 'possible one')}" if possible else ""))

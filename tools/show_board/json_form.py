@@ -52,6 +52,8 @@ def finding(board, it):
         told["gap"] = {"distance": round(mm(max(it.gap.distance, 0)), 6), **place(it.gap.place, it.gap.layer), "below": it.gap.below}
     if it.kind == "gap":
         told["pieces"] = [piece(board, number) for number in it.pieces]
+    if it.sure is not None:
+        told["sure"] = it.sure
     if it.kind == "short":
         told["labelled"], told["meets"] = it.is_labelled, [meet(board, found) for found in it.meets]
     return told

@@ -1,7 +1,7 @@
 """The findings as JUnit's XML: a suite a board, a case a net name, which fails where a finding is listed under it."""
 from xml.sax.saxutils import escape, quoteattr
 
-from .lines import summary
+from .lines import doubt, summary
 from .ties import lost
 from .words import for_xml
 
@@ -31,7 +31,7 @@ def suite(shown):
     gaps = [(it.id, it.text()) for it in shown.findings if it.kind == "gap"]
     for it in shown.findings:
         for name in it.names if it.kind != "gap" else ():
-            failures.setdefault(name, []).append((it.id, it.text()))
+            failures.setdefault(name, []).append((doubt(it) + it.id, it.text()))
     cases = [case(shown, name, failures.get(number, [])) for number, name in enumerate(shown.board.report.names)]
     cases += [case(shown, "ties", nowhere)] if nowhere else []
     cases += [case(shown, "gaps between nets", gaps)] if shown.gap_count is not None else []

@@ -150,9 +150,10 @@ def points_of(text, layer, wants_pins):
     """The labelled flashes and regions of a copper file."""
     # Breaks within words say nothing of copper: `check` judges them.
     pads = Pads(text.replace("\r", "").replace("\n", ""), wants_pins)
-    objects = two_sides.Copper(pads.text()).objects
-    near = erased(objects)
-    for at, it in enumerate(objects):
+    copper = two_sides.Copper(pads.text(), cuts=True)
+    near = erased(copper.objects)
+    # What a negative file makes is where there is no copper.
+    for at, it in enumerate(copper.objects if not copper.negative else ()):
         if it.dark and it.tag in pads.labels:
             # The contours of a region may stand apart.
             is_region = it.both[0] and pads.words[it.tag - 1][1] == "G37"

@@ -6,7 +6,7 @@ hints, and what is told is what `check` says of the moved netlist.
 import os
 from typing import NamedTuple
 
-from . import Stop, bounds, copper, findings, judged, mending, netlist, package, tester
+from . import UNDECIDED, Stop, between, bounds, copper, findings, judged, labels, mending, netlist, package, tester
 from .board import Board
 from .distances import from_line
 from .hints import Trials, best_placement
@@ -122,24 +122,23 @@ def difference(board, other, it):
         piece = other.row(records[0]).place.pieces[0]
         there = f"there {other.board.source(piece)} has it"
     kind = KINDS[it.kind]
-    return Difference(f"{kind}-{it.number}", kind, True, f"{it.name}: {it.text()}", there, here, places + [other.point(record) for record in records[:FEW]])
+    return Difference(f"{kind}-{it.number}", kind, it.sure is not False, f"{it.name}: {it.text()}", there, here, places + [other.point(record) for record in records[:FEW]])
 
 
 def differences(program, shapes, answer, made, other_text):
-    """What the check of the other one's netlist finds."""
-    if answer.package.between:
-        return [Difference(f"{KINDS[kind]}-{k}", KINDS[kind], sure, words, "", places, [])
-                for k, (kind, sure, words, places) in enumerate(answer.package.between[0].findings)]
+    """What the check of the other one's netlist finds. `shapes` are those of this board, or of the lower one of two, where they are known."""
     after = netlist.records(answer.package.read(answer.package.manifest.netlist))
-    other = Other(made, Move(netlist.records(other_text), after))
-    shapes = shapes or copper.shapes_of(answer.package, answer.report, judged.flat_of(program, answer.package))
-    board = Board(answer.package, answer.report, after, shapes)
-    return [difference(board, other, it) for it in findings.all_findings(board)]
+    other, bounded = Other(made, Move(netlist.records(other_text), after)), answer.package.between
+    told, sources = (bounded[1], bounded[0].sides[0]) if bounded else (answer, {})
+    shapes = shapes or copper.shapes_of(told.package, told.report, judged.flat_of(program, told.package))
+    board = between.board_of(told, sources, shapes, ties=answer.ties)
+    its = between.Findings(board).of(bounded[0]) if bounded else findings.all_findings(board)
+    return [difference(board, other, it) for it in its]
 
 
-def checked(program, told, text):
+def checked(program, told, text, ties):
     """(answer, words of the placement) of this board with the other one's netlist, moved where that makes it fit."""
-    trials = Trials(program)
+    trials = Trials(program, ties)
     answer = trials.of(told.package, {told.package.manifest.netlist: text})
     if answer.report is None:
         raise Stop(answer.status, answer.words)
@@ -151,30 +150,33 @@ def checked(program, told, text):
 
 
 def reference(program, path, asked, scratch):
-    """The other board's netlist."""
+    """The other board's netlist, as it was made and as a text."""
     folder = os.path.join(scratch, "like")
     os.makedirs(folder)
     files = package.opened(path, asked, folder)
+    if files.manifest and not files.manifest.netlist:
+        labels.use(files, asked.no_drills)
     mending.mend(files, program.progress)
     theirs = judged.judge(program, files)
     bounds.bounded(program, theirs)
     made = tester.made(program, theirs, os.path.basename(os.path.normpath(path)))
     if made.text is None:
         raise Stop(theirs.status, f"{path}: {'; '.join(made.lines)}")
-    return made.netlist, made.text.encode("latin-1")
+    return made, made.text.encode("latin-1")
 
 
 def add(program, told, shown, asked, scratch):
     """Compares a board with another one."""
     try:
         made, text = reference(program, asked.like, asked, scratch)
-        answer, placed = checked(program, told, text)
-        its = differences(program, shown.board and shown.board.shapes, answer, made, text)
+        answer, placed = checked(program, told, text, shown.ties.allowed())
+        its = differences(program, shown.board and shown.board.shapes, answer, made.netlist, text)
     except (Stop, copper.BadCopper) as why:
         shown.lacks(f"not compared with {asked.like}: {why}")
         return
     sure = sum(it.sure for it in its)
     counts = [counted(sum(it.kind == kind for it in its), word) for kind, word in (("parted", "parted net"), ("joined", "joined net"), ("missing", "missing pad"))]
-    line = "joins what it joins" if not its else ", ".join(word for word in counts if not word.startswith("0 "))
-    shown.like = Likeness(asked.like, answer.status, line, placed, its)
-    shown.found(sure, len(its) - sure, f"like {asked.like}: {line}")
+    doubt = len(its) - sure + (not made.is_whole)
+    line = f"joins what {'it' if made.is_whole else 'its lower bound'} joins" if not its else ", ".join(word for word in counts if not word.startswith("0 "))
+    shown.like = Likeness(asked.like, 1 if sure else UNDECIDED if doubt else 0, line, placed, its)
+    shown.found(sure, doubt, f"like {asked.like}: {line}")

@@ -21,12 +21,14 @@ def notes(shown):
     return told + [f"hint: {hint.words}" for hint in shown.hints]
 
 
+def doubt(finding):
+    """The word before a finding that only one of two boards has."""
+    return "undecided " if finding.sure is False else ""
+
+
 def bounded(shown):
-    """The findings of a board between two bounds."""
-    if not shown.bounds:
-        return []
-    rows = [f"  {kind if sure else f'undecided {kind}'}: {told}" for kind, sure, told, _ in shown.bounds.findings]
-    return rows + [f"  left out of the lower bound: {word}" for word in shown.bounds.left_out]
+    """What a board between two bounds leaves out below."""
+    return [f"  left out of the lower bound: {word}" for word in shown.bounds.left_out] if shown.bounds else []
 
 
 def grouped(findings):
@@ -42,14 +44,13 @@ def blocks(shown):
     for name, members in grouped(shown.findings).items():
         for at, finding in enumerate(members):
             head = [name] if at == 0 else []
-            yield head + [f"  {finding.id}: {finding.words}"] + [f"      {hint}" for hint in finding.hints]
+            yield head + [f"  {doubt(finding)}{finding.id}: {finding.words}"] + [f"      {hint}" for hint in finding.hints]
 
 
 def reader(shown, is_all):
     """What is printed of one board: at most twenty lines of findings where not all are wanted."""
-    yield heading(shown) + (f" ({shown.audit})" if shown.audit and shown.status != UNJUDGED else "")
+    yield heading(shown) + (f" ({shown.audit})" if shown.audit and shown.status != UNJUDGED and not shown.bounds else "")
     yield from notes(shown)
-    yield from cut(bounded(shown), is_all)
     printed, told = 0, 0
     for block in blocks(shown):
         if not is_all and told and printed + len(block) > MOST:
@@ -59,6 +60,7 @@ def reader(shown, is_all):
     left = len(shown.findings) - told
     if left:
         yield f"{counted(left, 'further finding')}: --all prints them, --page FILE shows them"
+    yield from cut(bounded(shown), is_all)
     yield from cut(list(beside.lines(shown)), is_all)
 
 
@@ -73,7 +75,7 @@ def quiet(shown):
         yield from (f"{shown.path}: {words}" for words in lost(shown.ties, shown.board.report))
         for finding in shown.findings:
             place = f"{netlist}:{shown.board.line(finding.points[0])}" if finding.points else shown.path
-            yield f"{place}: {finding.id}: {finding.text()}"
+            yield f"{place}: {doubt(finding)}{finding.id}: {finding.text()}"
     for row in bounded(shown):
         yield f"{shown.path}: {row.strip()}"
     for hint in shown.hints:

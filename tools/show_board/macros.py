@@ -3,10 +3,11 @@ import re
 from fractions import Fraction as Q
 
 from .clear import Object, whole
-from .exact import Refused, cos_sin, exact, minus, plus, root, times, turned
+from .exact import Refused, cos_sin, decimal, exact, limited, minus, plus, root, times, turned
 from .outlines import convex_bounds, disc_bounds, polygon_bounds
 
-TOKEN = re.compile(r"\$(\d+)|(\d+\.?\d*|\.\d+)|([-+xX/()])")
+MOST_DEEP = 64          # brackets in one another
+TOKEN = re.compile(r"\$(\d{1,9})|(\d+\.?\d*|\.\d+)|([-+xX/()])")
 
 
 class Expression:
@@ -22,7 +23,7 @@ class Expression:
             self.tokens.append(match.groups())
             at = match.end()
         self.tokens.append((None, None, ""))
-        self.at = 0
+        self.at = self.deep = 0
 
     def sign(self, signs):
         if self.tokens[self.at][2] and self.tokens[self.at][2] in signs:
@@ -42,7 +43,7 @@ class Expression:
             sign = self.sign("+-")
             if sign is None:
                 return total
-            total += self.product() if sign == "+" else -self.product()
+            total = limited(total + (self.product() if sign == "+" else -self.product()))
 
     def product(self):
         value = self.factor()
@@ -51,27 +52,33 @@ class Expression:
             if sign is None:
                 return value
             other = self.factor()
-            if sign != "/":
-                value *= other
-            elif other == 0:
+            if sign == "/" and other == 0:
                 raise Refused("macro: division by 0")
-            else:
-                value /= other
+            value = limited(value / other if sign == "/" else value * other)
 
     def factor(self):
-        sign = self.sign("+-(")
-        if sign == "(":
-            value = self.total()
-            if self.sign(")") is None:
-                raise Refused("macro: no expression")
-            return value
-        if sign:
-            return self.factor() if sign == "+" else -self.factor()
+        turned_round, sign = False, self.sign("+-")
+        while sign:
+            turned_round, sign = turned_round != (sign == "-"), self.sign("+-")
+        value = self.bracket() if self.sign("(") else self.operand()
+        return -value if turned_round else value
+
+    def bracket(self):
+        self.deep += 1
+        if self.deep > MOST_DEEP:
+            raise Refused(f"macro: over {MOST_DEEP} brackets in one another")
+        value = self.total()
+        if self.sign(")") is None:
+            raise Refused("macro: no expression")
+        self.deep -= 1
+        return value
+
+    def operand(self):
         variable, number, _ = self.tokens[self.at]
         if variable is None and number is None:
             raise Refused("macro: no expression")
         self.at += 1
-        return Q(number) if number else self.variables.get(int(variable), Q(0))
+        return decimal(number) if number else self.variables.get(int(variable), Q(0))
 
 
 def rectangle(left, low, right, high):
@@ -82,6 +89,8 @@ def vector_line(w, x1, y1, x2, y2):
     """Flat ends; the half width to each side along the normal, which is an interval where the length is no fraction."""
     dx, dy = x2 - x1, y2 - y1
     low, high = root(dx * dx + dy * dy)
+    if low <= 0:
+        raise Refused("macro: a line of nearly no length")
     share = (w / 2 / high, w / 2 / low)
     nx, ny = times(share, exact(-dy)), times(share, exact(dx))
     at = lambda x, y, sign: (plus(exact(x), nx if sign > 0 else minus(nx)), plus(exact(y), ny if sign > 0 else minus(ny)))
@@ -107,7 +116,7 @@ def figures(body, parameters, scale):
         word = re.sub(r"\s", "", word)
         if not word or word.startswith("0"):
             continue
-        match = re.fullmatch(r"\$(\d+)=(.*)", word)
+        match = re.fullmatch(r"\$(\d{1,9})=(.*)", word)
         if match:
             variables[int(match[1])] = Expression(match[2], variables).value()
             continue

@@ -7,10 +7,12 @@ import re
 from fractions import Fraction as Q
 from typing import NamedTuple
 
-from .exact import Refused
+from .drawn import OPERATION
+from .exact import DECIMAL, Refused
 from .macros import Expression
-from .side import words_of
-from .two_sides import DECIMAL, DRAW, FLASH, MODES, MOVE, OPERATION, SCALES
+from .settings import SCALES
+from .side import DRAW, FLASH, MOVE, words_of
+from .two_sides import MODES
 
 PRIMITIVES = {1: (2,), 20: (2,), 21: (2, 3)}     # where a primitive has its sizes; without one it makes nothing
 

@@ -59,18 +59,17 @@ def by_command(package, name):
     return {(it.command, it.copy): it for it in its}
 
 
-def origins(board, base=None, sources=None):
-    """The object of each piece of copper. Between bounds `base` is the package of the user's files, `sources` their commands."""
-    package, report, found = base or board.package, board.report, []
+def origins(board, base=None):
+    """The object of each piece of copper. Between bounds `base` is the package of the user's files, and the board has their commands."""
+    package, sources, found = base or board.package, board.report.sources, []
     by_file = defaultdict(list)
-    for piece, (file, *_) in enumerate(report.sources):
+    for piece, (file, *_) in enumerate(sources):
         by_file[file].append(piece)
     for file, name in enumerate(package.manifest.copper):
         pieces = by_file[file]
-        if sources and name in sources:
-            objects, old = by_command(package, name), sources[name]
-            places = [(old[report.sources[piece][1] - 1], report.sources[piece][2]) for piece in pieces]
-            found += [objects.get(place) or objects.get((place[0], 0)) for place in places]
+        if base and name in base.sides.sources[0]:
+            objects = by_command(package, name)
+            found += [objects.get((command, copy)) or objects.get((command, 0)) for _, command, copy, *_ in (sources[piece] for piece in pieces)]
         else:
             its = of_file(package, name)
             if len(its) != len(pieces):

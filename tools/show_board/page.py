@@ -13,7 +13,8 @@ import sys
 import zlib
 from array import array
 
-from . import record_page
+from . import between, record_page
+from .lines import doubt
 from .words import counted
 
 HERE = os.path.dirname(os.path.abspath(__file__))
@@ -128,7 +129,12 @@ def finding_data(finding, sides):
     return told
 
 
-def block(board, findings):
+def wider_data(shown):
+    """What the upper of two bounds has beyond the lower one: layer and corners."""
+    return [[layer, [v for spot in corners for v in place(spot)]] for layer, corners in shown.wider]
+
+
+def block(board, findings, wider=()):
     """The data, packed."""
     manifest, (column, sides) = board.manifest, sides_of(findings, board.report.pieces)
     columns = columns_of(board, column)
@@ -140,7 +146,7 @@ def block(board, findings):
     head = json.dumps({
         "files": manifest.files, "copper": manifest.layers, "netlist": manifest.netlist, "flattened": sorted(board.package.flattened),
         "layers": [manifest.layer_word(k + 1) for k in range(manifest.layers)], "names": board.report.names, "netCount": board.report.nets,
-        "components": components, "pins": pins, "findings": [finding_data(finding, sides) for finding in findings], "columns": columns.heads,
+        "wider": list(wider), "components": components, "pins": pins, "findings": [finding_data(finding, sides) for finding in findings], "columns": columns.heads,
     }, separators=(",", ":")).encode()
     raw = len(head).to_bytes(4, "little") + head + b"".join(columns.parts)
     return base64.b64encode(zlib.compress(raw, 9)).decode()
@@ -148,7 +154,7 @@ def block(board, findings):
 
 def row(finding, is_hinted):
     hints = "".join(f'<p class="hint">{html.escape(hint)}</p>' for hint in finding.hints) if is_hinted else ""
-    return (f'<li id="{finding.id}"><a href="#{finding.id}"><b>{finding.kind} {finding.number}</b> '
+    return (f'<li id="{finding.id}"><a href="#{finding.id}"><b>{doubt(finding)}{finding.kind} {finding.number}</b> '
             f"{html.escape(finding.words)}</a>{hints}</li>")
 
 
@@ -170,9 +176,12 @@ def list_of(kind, findings):
 
 
 def verdict(shown):
-    besides = shown.line.partition("; ")[2]
+    status, line = shown.verdict or (shown.status, shown.line)
+    besides = shown.line[len(line):].lstrip("; ")
     more = f" Besides: {besides}." if besides else ""
-    if (shown.verdict or (shown.status,))[0] == 0:
+    if shown.bounds:
+        return shown.line[:1].upper() + shown.line[1:]
+    if status == 0:
         made = shown.ties.words(len(shown.ties.ties)) if shown.ties.ties else ""
         what = "to which its own files give one name" if shown.board.package.own else "that the netlist joins"
         return f"Agrees{made}: the copper joins exactly the points {what}{' or the ties do' if made else ''}.{more}"
@@ -184,12 +193,15 @@ def verdict(shown):
     return "Differs: " + ", ".join(words for words in told if not words.startswith("0 ")) + f".{more}"
 
 
+def audited(shown):
+    return f"The report was audited: it is true of these files{', and has each declared tie as a short' if shown.ties.ties else ''}."
+
+
 def facts(shown):
     board = shown.board
     return (f"{counted(board.report.pieces, 'piece')} of copper in {counted(board.report.nets, 'net')}; "
             f"{counted(len(board.report.points), 'test point')} with {counted(len(board.report.names), 'name')}; "
-            f"{counted(board.manifest.layers, 'layer')}. The report was audited: it is true of these files"
-            f"{', and has each declared tie as a short' if shown.ties.ties else ''}. "
+            f"{counted(board.manifest.layers, 'layer')}. {between.NOTE if shown.bounds else audited(shown)} "
             "Suggestions are where to look, and no part of the report.")
 
 
@@ -209,7 +221,7 @@ def text(shown):
         "POLICY": f"default-src 'none'; script-src {source_hash(code)}; style-src {source_hash(style)}; base-uri 'none'; form-action 'none'",
         "TITLE": html.escape(shown.title), "STYLE": style, "SCRIPT": code, "STATE": "agrees" if shown.status == 0 else "differs",
         "VERDICT": html.escape(verdict(shown)), "FACTS": html.escape(facts(shown)), "ADVICE": notes(shown),
-        "FINDINGS": lists or '<p class="none">No open, no short, no point without copper.</p>', "DATA": block(shown.board, shown.findings),
+        "FINDINGS": lists or '<p class="none">No open, no short, no point without copper.</p>', "DATA": block(shown.board, shown.findings, wider_data(shown)),
         "RECORD": record_page.section(shown.record),
     }
     parts = asset("page.html").split("@@")

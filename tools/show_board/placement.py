@@ -6,8 +6,8 @@ import re
 from collections import Counter
 from fractions import Fraction as Q
 
-from . import two_sides
 from .netlist import U_OF, UNITS
+from .settings import SCALES
 from .words import millimetres
 
 SAMPLE = 40             # records that vote
@@ -82,7 +82,7 @@ def flashes(package, index):
     scale, decimals = GERBER_UNIT.search(text), FORMAT.search(text)
     if not scale or not decimals:
         return found
-    step = Q(two_sides.SCALES[scale[1] or scale[2]], 10 ** int(decimals[1]))
+    step = Q(SCALES[scale[1] or scale[2]], 10 ** int(decimals[1]))
     for x, y, operation in OPERATION.findall(text):
         at = [int(x) if x else at[0], int(y) if y else at[1]]
         if operation == "3":

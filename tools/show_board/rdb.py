@@ -1,10 +1,11 @@
 """The findings as a marker database of KLayout (*.lyrdb): lengths are micrometres."""
 from xml.sax.saxutils import escape
 
+from .lines import doubt
 from .words import counted, for_xml
 
 KINDS = {"open": "Parts of a name that no copper joins", "short": "Names that copper joins", "missing": "Test points without copper",
-         "gap": "Nets that are too close"}
+         "gap": "Nets that are too close", "wider": "Copper that the upper of two bounds has and the lower one has not"}
 # Half the side of the box round a place, in u.
 HALF = 1_000_000
 
@@ -48,18 +49,18 @@ def item(kind, name, marked):
 
 
 def items_of(shown):
-    """The findings of a board, or of one that lies between two bounds."""
-    if shown.board:
-        return [item(finding.kind, finding.id, values(shown.board, finding)) for finding in shown.findings]
-    told = shown.bounds.findings if shown.bounds else []
-    return [item(kind, kind if sure else f"undecided {kind}", [*(box((x, y)) for x, y, _ in places), quoted(words)]) for kind, sure, words, places in told]
+    """The findings of a board, and where one that lies between two bounds is wider above."""
+    if not shown.board:
+        return []
+    wider = [item("wider", f"{shown.board.manifest.layer_word(layer)}", [f"polygon: ({';'.join(map(at, corners))})"]) for layer, corners in shown.wider]
+    return [item(finding.kind, doubt(finding) + finding.id, values(shown.board, finding)) for finding in shown.findings] + wider
 
 
 def text(shown):
     categories = "".join(f"<category><name>{kind}</name><description>{told}</description><categories/></category>" for kind, told in KINDS.items())
     items = items_of(shown)
     rows = ['<?xml version="1.0" encoding="utf-8"?>', "<report-database>",
-            f"  <description>{escape(shown.title)}: {counted(len(items), 'finding')} of boardnet</description>", "  <original-file/>",
+            f"  <description>{escape(shown.title)}: {counted(len(shown.findings), 'finding')} of boardnet</description>", "  <original-file/>",
             "  <generator>boardnet show</generator>", "  <top-cell>board</top-cell>", "  <tags/>",
             f"  <categories>{categories}</categories>", "  <cells><cell><name>board</name><variant/><layout-name/><references/></cell></cells>",
             "  <items>", *items, "  </items>", "</report-database>", ""]

@@ -8,6 +8,7 @@ import hashlib
 import json
 import os
 import subprocess
+from functools import lru_cache
 
 from . import Stop
 from .program import TOOLS
@@ -35,6 +36,7 @@ def sum_of_path(path):
 
 # ---- what is recorded
 
+@lru_cache()
 def version_text():
     """What `--version` prints, of an installed program or of a checkout."""
     try:

@@ -5,7 +5,7 @@ import signal
 import sys
 import tempfile
 
-from . import Stop, json_form, junit, lines, rdb, record, record_page, spacing, unbuilt, written
+from . import Stop, fault_of, json_form, junit, lines, rdb, record, record_page, spacing, unbuilt, written
 from .program import TOOLS, Program, found
 from .progress import Progress
 from .shown import show
@@ -140,3 +140,7 @@ def main(given):
     except BrokenPipeError:
         os.dup2(os.open(os.devnull, os.O_WRONLY), 1)
         return UNWRITABLE
+    except Exception as fault:
+        stop = fault_of(asked.paths[0], fault)
+        print(f"boardnet: {stop}", file=sys.stderr)
+        return stop.status

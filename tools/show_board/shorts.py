@@ -64,10 +64,11 @@ def meet_words(board, meet):
     (one, other), (first, second) = meet.names, meet.touch
     if not meet.between:
         return f"{board.source(first)} of {one} touches {board.source(second)} of {other} on {where}"
-    pieces = words.spoken([board.source(piece) for piece in meet.between], 4)
-    are = "is one piece" if len(meet.between) == 1 else f"are {len(meet.between)} pieces"
-    ends = f", between {board.source(first)} and {board.source(second)}" if first != second else ""
-    return f"{one} and {other} meet on {where}; {pieces} {are} that could be either's{ends}"
+    sources = list(dict.fromkeys(map(board.source, meet.between)))
+    many = len(meet.between)
+    are = "is one piece" if many == 1 else f"are {many} pieces" if len(sources) > 1 else f"makes {many} pieces"
+    ends = f", between {board.source(first)} and {board.source(second)}" if board.source(first) != board.source(second) else ""
+    return f"{one} and {other} meet on {where}; {words.spoken(sources, 4)} {are} that could be either's{ends}"
 
 
 def by_branch(board, branches):

@@ -1,10 +1,13 @@
 """One board, from its files to its findings."""
 import os
 
-from . import UNDECIDED, UNJUDGED, Stop, beside, bounds, copper, findings, hints, judged, labels, mending, netlist, package, report, same_pins, ties, unjudged
+from . import (FAULT, UNDECIDED, UNJUDGED, Stop, beside, between, bounds, copper, fault_of, findings, hints, judged, labels, mending, netlist, package, report,
+               same_pins, ties, unjudged)
 from .board import Board
 
 NO_PLACES = "this program writes reports of version 1, which do not say where copper is from: what is told is the report and the netlist alone"
+
+COUNTED = {"opens": "open", "shorts": "short", "missing": "missing"}
 
 
 class Shown:
@@ -19,13 +22,19 @@ class Shown:
         self.title = os.path.basename(os.path.normpath(path)) or path
         self.board, self.findings, self.hints, self.bounds = None, [], [], None
         self.notes, self.flood, self.report, self.ties, self.mends = [], "", b"", ties.Ties(), []
+        # What an upper board has beyond a lower one, as (layer, corners).
+        self.wider = []
         # What was asked for beside: the netlist for a tester, the comparison with another board, the record.
         self.tester = self.like = self.record = self.gap_count = None
         # Status and line of the netlist alone.
         self.verdict = None
 
     def counts(self):
-        """What counts: a short that is a declared tie does not, a tie that the copper does not have is an open."""
+        """What counts: a short that is a declared tie does not, a tie that the copper does not have is an open; between two bounds
+        what is sure."""
+        if self.bounds:
+            told = {word: sum(it.sure and it.kind == kind for it in self.findings) for word, kind in COUNTED.items()}
+            return {**told, "opens": told["opens"] + len(list(ties.lost(self.ties, self.board.report)))}
         opens, shorts, missing, parted = self.ties.counts(self.board.report)
         return {"opens": opens + parted, "shorts": shorts, "missing": missing}
 
@@ -85,7 +94,7 @@ def look(program, told, shown, wants_picture):
         named = labels_of(program, told)
     program.progress.begin("looking for the places")
     shown.board = Board(told.package, told.report, records, shapes, named, shown.ties)
-    shown.findings, shown.flood = findings.all_findings(shown.board), findings.flood(shown.board)
+    shown.findings, shown.flood = findings.all_findings(shown.board), findings.flood(told.report)
     shown.notes += [*unjudged.unnamed_notes(shown.board), *ties.lost(shown.ties, told.report), *([why] if why else [])]
     nothing = unjudged.why_nothing(told.report)
     if nothing and shown.status == 0:
@@ -115,7 +124,7 @@ def show(path, asked, program, scratch):
         shown.notes = own + package_notes(files)
         if told.report:
             look(program, told, shown, asked.page or asked.svg or beside.wants_copper(asked))
-        outside(program, told, shown)
+        outside(program, told, shown, asked)
         mending.say(files, shown)
         if files.own and shown.status in labels.ANSWERS:
             shown.line = labels.FIRST + shown.line
@@ -124,17 +133,23 @@ def show(path, asked, program, scratch):
             if shown.ties.ties:
                 files.put(package.TIES, shown.ties.text().encode())
             package.keep(files, shown.report, asked.keep)
-    except Stop as stop:
+    except BrokenPipeError:
+        raise
+    except Exception as fault:
+        stop = fault_of(path, fault)
+        shown = Shown(path) if stop.status == FAULT else shown
         shown.status, shown.line = stop.status, str(stop)
     return shown
 
 
-def outside(program, told, shown):
+def outside(program, told, shown, asked):
     """What copies of the files say: bounds of copper outside the profile, and hints."""
     if told.status == 3:
         shown.bounds = bounds.bounded(program, told, shown.ties)
         if shown.bounds:
             shown.status, shown.line = shown.bounds.status, shown.bounds.line
+            if shown.bounds.sides:
+                look_between(program, *told.package.between, shown, asked)
         if told.package.between:
             shown.notes += ties.lost(shown.ties, told.package.between[1].report)
     if told.status == 3 or shown.status == 1:
@@ -142,3 +157,18 @@ def outside(program, told, shown):
         if hints.explain(shown.hints):
             for finding in shown.findings:
                 finding.without_suggestion()
+
+
+def look_between(program, answer, low, high, shown, asked):
+    """Fills in the findings of a board between bounds, over the lower one."""
+    wants_picture = asked.page or asked.svg or asked.rdb
+    shapes, why = shapes_of(program, low) if answer.findings or wants_picture or beside.wants_copper(asked) else (None, "")
+    named = labels_of(program, low) if shown.ties.shorts(low.report) else None
+    program.progress.begin("looking for the places")
+    shown.audit = low.audit
+    shown.board = between.board_of(low, answer.sides[0], shapes, named, shown.ties)
+    shown.findings, shown.flood = between.Findings(shown.board).of(answer), findings.flood(high.report)
+    shown.notes += [*unjudged.unnamed_notes(shown.board), *([why] if why else [])]
+    if wants_picture and shapes is not None:
+        above = between.board_of(high, answer.sides[1], shapes_of(program, high)[0], None, shown.ties)
+        shown.wider = between.wider(shown.board, above) if above.shapes is not None else []

@@ -1,27 +1,26 @@
 """The words of a copper file, and one of the two files that are written in its place."""
+import re
+
 from .exact import Refused
 
 OWN = 900_000_000       # numbers of apertures that are made here
+DRAW, MOVE, FLASH = 1, 2, 3
+TOKENS = re.compile(r"[\t\n\r ]*(?:(%)|([^*%]*)(\*?))")
 
 
 def words_of(text):
     """(in a pair of percent signs, word, first of its pair) in order."""
-    at, end, inside, first = 0, len(text), False, True
-    while at < end:
-        sign = text[at]
-        if sign in "\t\n\r ":
-            at += 1
-        elif sign == "%":
-            inside, first, at = not inside, True, at + 1
-        else:
-            star = text.find("*", at)
-            if star < 0:
-                raise Refused("a word without an end")
-            word = text[at:star]
-            if "%" in word:
-                raise Refused(f"a broken word at byte {at}")
+    inside, first = False, True
+    for match in TOKENS.finditer(text):
+        sign, word, star = match.groups()
+        if sign:
+            inside, first = not inside, True
+        elif star:
             yield inside, word, first
-            first, at = False, star + 1
+            first = False
+        elif word:
+            is_broken = match.end() < len(text) and "*" in text[match.end():]
+            raise Refused(f"a broken word at byte {match.start(2)}" if is_broken else "a word without an end")
 
 
 def millimetres(u):
@@ -53,28 +52,31 @@ class Side:
 
     def move(self, spot, source):
         if self.at != spot:
-            self.operate(spot, 2, source)
+            self.operate(spot, MOVE, source)
 
     def operate(self, spot, operation, source):
         self.word(f"X{spot[0]}Y{spot[1]}D0{operation}*", source)
         self.at = spot
 
-    def contour(self, corners, source):
-        for k, spot in enumerate(corners + corners[:1]):
-            self.operate(spot, 1 if k else 2, source)
+    def run(self, spots, source):
+        """A contour by its places, the first one at its end again."""
+        self.operate(spots[0], MOVE, source)
+        self.lines += [f"X{x}Y{y}D01*" for x, y in spots[1:]]
+        self.sources += [source] * (len(spots) - 1)
+        self.at = spots[-1]
 
     def region(self, corners, source):
         self.word("G36*", source)
-        self.contour(corners, source)
+        self.run(corners + corners[:1], source)
         self.word("G37*", source)
 
     def capsule(self, a, b, radius, source):
         self.circle(radius, source)
         if a == b:
-            self.operate(a, 3, source)
+            self.operate(a, FLASH, source)
         else:
             self.move(a, source)
-            self.operate(b, 1, source)
+            self.operate(b, DRAW, source)
 
     def pieces(self, pieces, by, source):
         """Pieces about a place."""

@@ -51,15 +51,18 @@ def listed(program, package, u):
 
 
 class Lines:
-    """The lines of each net on each layer: (line, radius, piece), with their boxes, and a tree of those where there are many."""
+    """The lines of each net on each layer: (line, radius, piece), with their boxes, and a tree of those where there are many. In place
+    of nets other groups may be given, as those of each piece."""
 
-    def __init__(self, board):
+    def __init__(self, board, groups=None):
         self.board, self.rows = board, defaultdict(list)
-        self.trees = {}
-        for piece, (*_, top, bottom) in enumerate(board.report.sources):
-            for layer in range(top, bottom + 1):
-                self.rows[board.report.net_of[piece], layer].append(piece)
-        self.found = {}
+        self.trees, self.found = {}, {}
+        groups = dict(enumerate(zip(board.report.net_of))) if groups is None else groups
+        for piece, its in groups.items():
+            *_, top, bottom = board.report.sources[piece]
+            for group in its:
+                for layer in range(top, bottom + 1):
+                    self.rows[group, layer].append(piece)
 
     def of(self, net, layer):
         key = net, layer

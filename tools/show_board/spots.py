@@ -51,19 +51,24 @@ def odd_inside(corners, p, scale=1):
 
 
 class Segments:
-    """Segments by cells; asked for those whose box may meet a box."""
+    """Segments by cells along them; asked for those that may come within r of another."""
 
     def __init__(self, segments):
         self.segments, self.cells = segments, {}
-        self.step = 1 + sum(max(abs(a[0] - b[0]), abs(a[1] - b[1])) for a, b in segments) // max(1, len(segments)) * 2
+        self.step = 1 + sum(abs(a[0] - b[0]) + abs(a[1] - b[1]) for a, b in segments) // (2 * max(1, len(segments)))
         for k, (a, b) in enumerate(segments):
             for cell in self.cells_of(a, b, 0):
                 self.cells.setdefault(cell, []).append(k)
 
     def cells_of(self, a, b, r):
-        s = self.step
-        for i in range((min(a[0], b[0]) - r) // s, (max(a[0], b[0]) + r) // s + 1):
-            for j in range((min(a[1], b[1]) - r) // s, (max(a[1], b[1]) + r) // s + 1):
+        """Column by column: where it is in a column, or within r of it."""
+        s, ((ax, ay), (bx, by)) = self.step, (a, b) if a <= b else (b, a)
+        for i in range((ax - r) // s, (bx + r) // s + 1):
+            low, high = sorted((ay, by))
+            if bx > ax:
+                ends = [ay + (by - ay) * (x - ax) // (bx - ax) for x in (max(ax, i * s - r), min(bx, (i + 1) * s + r))]
+                low, high = min(ends), max(ends) + 1
+            for j in range((low - r) // s, (high + r) // s + 1):
                 yield i, j
 
     def near(self, a, b, r):

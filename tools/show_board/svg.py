@@ -13,7 +13,7 @@ ROOM, LEAST, WIDTH = 10_000_000, 60_000_000, 1000
 STYLE = """
 .copper { fill: #c9ced6; stroke: #c9ced6; } .a { fill: #0072b2; stroke: #0072b2; } .b { fill: url(#stripes); stroke: url(#stripes); }
 .c { fill: #f5d000; stroke: #f5d000; } .area { stroke: none; fill-rule: evenodd; } .line { fill: none; stroke-linecap: round; }
-.hole { fill: #ffffff; stroke: #16191d; } .slot { stroke: #ffffff; } .mark { fill: none; stroke: #a0006b; } .path { fill: none; stroke: #000000; }
+.hole { fill: #ffffff; stroke: #16191d; } .slot { stroke: #ffffff; } .wider { fill: none; stroke: #a0006b; } .mark { fill: none; stroke: #a0006b; } .path { fill: none; stroke: #000000; }
 text { font-family: "DejaVu Sans", sans-serif; fill: #16191d; stroke: #ffffff; stroke-width: 0.25em; paint-order: stroke; }
 """.strip()
 STRIPES = ('<pattern id="stripes" patternUnits="userSpaceOnUse" width="{0}" height="{0}" patternTransform="rotate(45)">'
@@ -100,11 +100,19 @@ class Picture:
             pieces = [piece for piece in seen if sources[piece][3] == layer and piece not in holes]
             yield f'<g opacity="{1 if layer == self.front() else 0.4}">'
             yield from (solid(self.board.shapes, piece, words.get(piece, "copper")) for piece in sorted(pieces, key=lambda piece: (piece in words, piece)))
+            yield from self.wider(layer)
             yield "</g>"
         yield f'<g stroke-width="{micrometres(self.pixel)}">'
         for piece in sorted(holes):
             yield from self.hole(piece)
         yield "</g>"
+
+    def wider(self, layer):
+        """What the upper of two bounds has beyond the lower one, by its outline in dashes."""
+        dash = micrometres(3 * self.pixel)
+        for of, corners in self.shown.wider:
+            if of == layer:
+                yield f'<path class="wider" stroke-width="{micrometres(self.pixel)}" stroke-dasharray="{dash}" d="M{"L".join(map(point, corners))}Z"/>'
 
     def hole(self, piece):
         """A hole with a dark rim, of a slot by a wider stroke below."""

@@ -1,8 +1,7 @@
 """The netlist for a tester: made of a judged board, or of the lower one of two bounds, and given out where `check` confirms it."""
 from typing import NamedTuple, Optional
 
-from . import Stop, copper, judged, netlist, padlist
-from .board import Board
+from . import Stop, between, copper, judged, padlist
 from .ipc import Netlist
 from .package import beside
 
@@ -10,29 +9,30 @@ LOWER = "it is of the lower of two bounds: what that leaves out has no record"
 
 
 class Tester(NamedTuple):
-    """`text` is None where nothing was confirmed; `lines` are told of it, and `netlist` has the records."""
+    """`text` is None where nothing was confirmed; `lines` are told of it, and `netlist` has the records. `is_whole` but where the upper
+    of two bounds joins what it has apart."""
 
     text: Optional[str]
     lines: list
     netlist: Optional[Netlist]
+    is_whole: bool = True
 
 
-def with_copper(program, told, commands=None):
-    """A judged package as a board whose copper is known."""
-    package = told.package
-    shapes = copper.shapes_of(package, told.report, judged.flat_of(program, package))
-    return Board(package, told.report, netlist.records(package.read(package.manifest.netlist)), shapes, commands=commands)
+def with_copper(program, told, sources=()):
+    """A judged package as a board whose copper is known; one of two bounds with the user's commands by its `sources`."""
+    shapes = copper.shapes_of(told.package, told.report, judged.flat_of(program, told.package))
+    return between.board_of(told, dict(sources), shapes)
 
 
-def sides_of(program, told, board=None):
-    """The board that the netlist is of, with the user's package and commands where it is the lower of two bounds."""
+def copper_of(program, told, board=None):
+    """The board whose copper is told of, the lower one of two; `board` where its copper is known already."""
+    if board and board.shapes:
+        return board
     if told.report:
-        return board if board and board.shapes else with_copper(program, told), None, None
+        return with_copper(program, told)
     if not told.package.between:
         raise Stop(told.status, told.line)
-    package, low = told.package, told.package.between[1]
-    sources = package.sides.sources[0]
-    return with_copper(program, low, sources), package, sources
+    return with_copper(program, told.package.between[1], told.package.sides.sources[0])
 
 
 def confirmed(program, package, text):
@@ -50,23 +50,23 @@ def above(program, base, text):
     """What the upper of two bounds says of the netlist: where both agree, so does the board between them."""
     is_right, said = confirmed(program, base.between[2].package, text)
     meaning = "so the board itself agrees" if is_right else "so some of its nets may be one on the board"
-    return f"on the upper bound {said}, {meaning}"
+    return is_right, f"on the upper bound {said}, {meaning}"
 
 
 def made(program, told, title, board=None):
     """The netlist of a judged package."""
     try:
-        board, base, sources = sides_of(program, told, board)
-        its = Netlist(padlist.Padlist(board, padlist.origins(board, base, sources)), title)
+        board, base = copper_of(program, told, board), told.package if told.package.between else None
+        its = Netlist(padlist.Padlist(board, padlist.origins(board, base)), title)
     except (Stop, copper.BadCopper) as why:
         return Tester(None, [f"no netlist for a tester: {why}"], None)
     text = its.text()
     try:
         is_right, said = confirmed(program, board.package, text)
-        lower = [LOWER, above(program, base, text)] if base and is_right else []
+        is_whole, upper = above(program, base, text) if base and is_right else (True, "")
     except Stop as stop:
         is_right, said = False, str(stop)
     if not is_right:
         return Tester(None, [f"no netlist for a tester is written: {said}"], its)
     first, *rest = its.lines()
-    return Tester(text, [f"{first}; {said}", *rest, *lower], its)
+    return Tester(text, [f"{first}; {said}", *rest, *([LOWER, upper] if upper else [])], its, is_whole)

@@ -61,6 +61,12 @@ class Ties:
     def sides(self, names):
         return {self.side(name) for name in names}
 
+    def allowed(self):
+        """What the ties allow, without asking that the copper has them."""
+        its = Ties()
+        its.of = self.of
+        return its
+
     def is_tied_name(self, name):
         """Whether a name is tied to another."""
         return name in self.of

@@ -259,7 +259,7 @@ def pieces_of(side):
     pieces, radii, at, contour, pen = [], {}, None, None, None
     for line in side.lines:
         word = line.strip("%*\n")
-        if word.startswith("ADD"):
+        if word.startswith("ADD") and "C," in word:
             number, d = word[3:].split("C,")
             radii[number] = round(Q(d) * 10 ** 7) // 2
         elif word == "G36":

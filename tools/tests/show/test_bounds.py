@@ -25,21 +25,32 @@ def copper_of(*lines):
 
 class Files(unittest.TestCase):
     def test_refused_by_name(self):
-        macro = "%ADD10A*%"
+        use = ["D10*", "X5Y5D03*"]
+        macro = ["%ADD10A*%", *use]
         region = ["G36*", "X0Y0D02*", "X1000000Y0D01*", "X0Y1000000D01*"]
         rows = [
-            ("a word in a region", region + ["%LPC*%"]), ("exposure not 0 or 1", ["%AMA*1,2,1,0,0*%", macro]),
-            ("moire", ["%AMA*6,0,0,1,.1,.1,2,.1,1,0*%", macro]), ("no thermal", ["%AMA*7,0,0,1,1.8,.1,0*%", macro]),
-            ("a contour that is not closed", ["%LPC*%", *region, "G37*"]), ("a draw with a pen that is no circle", ["%ADD10R,1X1*%", "D10*", "%LPC*%", "X5Y5D01*"]),
-            ("too many copies", ["%ADD10C,1*%", "D10*", "%SRX1000Y1000I1J1*%", "X5Y5D03*", "%SR*%"]),
+            ("a word in a region", region + ["%LPC*%"]), ("exposure not 0 or 1", ["%AMA*1,2,1,0,0*%", *macro]),
+            ("moire", ["%AMA*6,0,0,1,.1,.1,2,.1,1,0*%", *macro]), ("no thermal", ["%AMA*7,0,0,1,1.8,.1,0*%", *macro]),
+            ("a contour that is not closed", ["%LPC*%", *region, "G37*"]),
+            ("too many copies", ["%ADD10C,1*%", "D10*", "%SRX1000Y1000I1J1*%", "X5Y5D03*", "%SR*%", "%LPC*%"]),
             ("arc with a pen that is no circle", ["%ADD10R,1X1*%", "D10*", "X0Y0D02*", "G03X2000000Y0I1000000J0D01*"]),
-            ("draw with a pen that is no circle", ["%ADD10P,1X6*%", "D10*", "X0Y0D02*", "X2000000Y0D01*"]),
-            ("two units", ["%MOIN*%"]), ("hole that is not round", ["%ADD10C,1X.2X.2*%"]), ("obround with a hole", ["%ADD10O,1X2X.2*%"]),
-            ("outline not closed", ["%AMA*4,1,3,0,0,1,0,1,1,0,.1,0*%", macro]), ("macro that is not defined", [macro]),
-            ("a size under 0", ["%AMA*1,1,-1,0,0*%", macro]), ("arc without I and J", ["%ADD10C,1*%", "D10*", "G02X1000000D01*"]),
+            ("draw with a pen that is no circle, rectangle, obround or polygon", ["%ADD10P,1X6X0X.1*%", "D10*", "X0Y0D02*", "X2000000Y0D01*"]),
+            ("two units", ["%MOIN*%"]), ("hole that is not round", ["%ADD10C,1X.2X.2*%", *use]), ("hole that is not round", ["%ADD10O,1X2X.2X.2*%", *use]),
+            ("outline not closed", ["%AMA*4,1,3,0,0,1,0,1,1,0,.1,0*%", *macro]), ("macro that is not defined", macro),
+            ("a size under 0", ["%AMA*1,1,-1,0,0*%", *macro]), ("arc without I and J", ["%ADD10C,1*%", "D10*", "G02X1000000D01*"]),
             ("I or J without an arc", ["%ADD10C,1*%", "D10*", "G01X1000000I5D01*"]), ("format", ["%FSLIX46Y46*%"]),
             ("word in a region", region + ["%SRX2Y1I5J0*%"]), ("region without an end", region), ("flash in a region", region + ["X0Y0D03*"]),
             ("line break in a word", ["%ADD10C,\n1*%"]), ("no whole tenth", ["%SRX2Y1I.00000005J0*%"]),
+            ("coordinates without an operation", ["X5Y5D02*", "X6Y6*"]), ("a block without an end", ["%ABD12*%"]), ("a block's beginning or end", ["%AB*%"]),
+            ("defined again after its use", ["%ADD10C,1*%", *use, "%ADD10C,2*%"]), ("two units", ["%ABD12*%", "%MOIN*%", "%AB*%"]),
+            *(("a word in a block that is not known", ["%ABD12*%", word, "%AB*%"]) for word in ("%IPNEG*%", "G91*", "D77*", "%SRX1*%", "%LMZ*%", "%TF.FilePolarity,Negative*%")), ("no aperture", ["%ABD12*%", "X5Y5D03*", "%AB*%"]),
+            ("a draw with a pen", ["%ABD12*%", "%AB*%", "D12*", "X5Y5D01*"]),
+            ("over 64 brackets in one another", [f"%AMA*1,1,{'(' * 400}1{')' * 400},0,0*%", *macro]),
+            ("a number of over 60 digits", [f"%AMA*1,1,{'1' * 5000},0,0*%", *macro]), ("a number of over 60 digits", [f"%ADD10C,{'1' * 5000}*%"]),
+            ("a number of over 60 digits", [f"%SRX2Y1I{'1' * 5000}J0*%"]), ("a number of over 60 digits", [f"%LR{'1' * 5000}*%"]),
+            ("no expression", [f"%AMA*1,1,${'1' * 5000},0,0*%", *macro]), ("no expression", [f"%AMA*${'1' * 5000}=1*1,1,1,0,0*%", *macro]),
+            ("a line of nearly no length", [f"%AMA*20,1,.1,0,0,{'.' + '0' * 40}1,0,0*%", *macro]),
+            ("a number of over 1000 bits", ["%AMA*" + "$1=0.123456789*" + "$1=$1x$1*" * 20 + "1,1,$1,0,0*%", *macro]),
         ]
         for words, lines in rows:
             with self.subTest(words=words), self.assertRaisesRegex(Refused, words + ".* at command|" + words):
@@ -54,13 +65,13 @@ class Files(unittest.TestCase):
     def test_passed_on(self):
         """What the profile has stays as it is, and so does what `check` is to refuse; each word knows its command."""
         lines = ["%TF.Part,Single*%", "%ADD10C,1.0*%", "%ADD11R,0.5X0.4*%", "D10*", "X1000000Y0D02*", "Y2000000D01*", "%TO.N,A*%", "D11*",
-                 "D03*", "G36*", "X0Y0D02*", "X1Y0D01*", "X0Y1D01*", "X0Y0D01*", "G37*", "%LMX*%", "G91*"]
+                 "D03*", "G36*", "X0Y0D02*", "X1Y0D01*", "X0Y1D01*", "X0Y0D01*", "G37*", "%LMZ*%", "G91*"]
         copper = copper_of(*lines)
         self.assertEqual((copper.replaced, copper.lost, copper.sides[0].lines), (0, [], copper.sides[1].lines))
         self.assertEqual(copper.sides[0].lines, [
             "%FSLAX47Y47*%", "%MOMM*%", "%TF.Part,Single*%", "%ADD10C,1.0000000*%", "%ADD11R,0.5000000X0.4000000*%", "X10000000Y0D02*", "D10*",
             "X10000000Y20000000D01*", "%TO.N,A*%", "D11*", "X10000000Y20000000D03*", "G36*", "X0Y0D02*", "X10Y0D01*", "X0Y10D01*", "X0Y0D01*",
-            "G37*", "%LMX*%", "G91*", "M02*"])
+            "G37*", "%LMZ*%", "G91*", "M02*"])
         given = [word for _, word, _ in words_of("\n".join(HEAD + lines))]
         self.assertEqual([given[source - 1] for source in copper.sides[0].sources[5:11]],
                          ["X1000000Y0D02", "Y2000000D01", "Y2000000D01", "TO.N,A", "D03", "D03"])
@@ -87,6 +98,11 @@ class Files(unittest.TestCase):
         self.assertIn("%SRX2Y1I12.7000000J0.0000000*%", copper.sides[0].lines)
         area = pieces_of(copper.sides[1])[0][1]
         self.assertTrue(all(abs(x - 254000000) < 20000000 and abs(y) < 20000000 for x, y in area))
+
+    def test_mirrored_circles(self):
+        """A word that changes no circle: the file is written without it all the same, since `check` refuses it."""
+        copper = copper_of("%ADD10C,1*%", "%LMX*%", "D10*", "X5Y5D03*")
+        self.assertEqual((copper.replaced, [line for line in copper.sides[0].lines if "LM" in line]), (1, []))
 
     def test_odd_sizes(self):
         copper = copper_of("%ADD10C,0.0000003*%", "D10*", "X0Y0D03*")
@@ -209,10 +225,10 @@ class Packages(made.Case):
         """Refused as before, with why there are no bounds; or nothing to say."""
         points = [record("A", "J1.1", 1, 0)]
         for program in self.over_both():
-            for line in ("%LMX*%\n%ADD12C,1X.2X.2*%", "G36*"):
+            for line in ("%ADD12C,1X.2X.2*%\nD12*\nX5Y5D03*", "G36*"):
                 runs, told = self.judged(program, [*self.ARC, line], points)
                 answer = bounds.bounded(runs, told)
-                why = "a hole that is not round at command 11" if line != "G36*" else "a region without an end at command 11"
+                why = "a hole that is not round at command 12" if line != "G36*" else "a region without an end at command 11"
                 self.assertEqual((answer.status, answer.line), (3, f"{told.line}; no bounds: top.gbr: {why}"))
             self.assertEqual(self.bounded(program, self.ARC, [])[:2], (12, NO_POINTS))
             self.assertIsNone(bounds.bounded(*self.judged(program, [*HEAD, "%ADD10C,1.0*%", *flash(10, (1, 0))], points)))
@@ -243,7 +259,7 @@ class Packages(made.Case):
         status, out, _ = self.show("board")
         self.assertEqual((status, out.splitlines()[0]), (11, "board: undecided, between two bounds: 1 finding that only one of them has "
                                                              "(lower differs, opens 0, shorts 0, missing 1; upper agrees)"))
-        self.assertIn("  undecided missing: copper lies under J1 pin 1 (the one layer, 0.000, 1.100 mm), of A, on the upper board alone", out)
+        self.assertIn("  undecided missing-0: copper lies under J1 pin 1 (the one layer, 0.000, 1.100 mm), of A, on the upper board alone", out)
         self.assertEqual({name: os.stat(self.path("board", name)).st_mtime_ns for name in os.listdir(self.path("board"))}, before)
 
 

@@ -31,6 +31,14 @@ ROWS = [
 ]
 
 
+def arc(width):
+    """An arc of 1 mm about the origin from the right to the left; of one of 0.0002 mm the lower board has nothing."""
+    return [f"%ADD20C,{width}*%", "D20*", "G75*", "X1000000Y0D02*", "G03X-1000000Y0I-1000000J0D01*", "G01*"]
+
+
+WIDE, THIN = arc("0.2"), arc("0.0002")
+
+
 class Gaps(made.Case):
     def gaps(self, files, mm, *words, **more):
         self.board(files)
@@ -66,7 +74,7 @@ class Gaps(made.Case):
         self.assertEqual([line.split(" ")[1] for line in out.splitlines()[:2]], ["gap-0:", "gap-1:"])
         cases = minidom.parse(self.path("j.xml")).getElementsByTagName("testcase")
         self.assertEqual([(it.getAttribute("name"), len(it.getElementsByTagName("failure"))) for it in cases], [("A", 0), ("B", 0), ("gaps between nets", 1)])
-        self.assertEqual([it.firstChild.data for it in minidom.parse(self.path("r.xml")).getElementsByTagName("category")[4:]], ["gap", "gap"])
+        self.assertEqual([it.firstChild.data for it in minidom.parse(self.path("r.xml")).getElementsByTagName("category")[5:]], ["gap", "gap"])
         page = self.read("p.html")
         self.assertIn("Agrees: the copper joins exactly the points that the netlist joins. Besides: 2 gaps under 0.400 mm.", page)
         self.assertIn('<li id="gap-1">', page)
@@ -76,10 +84,35 @@ class Gaps(made.Case):
         """An arc about a disc, 1 mm from it: certain under 1.01, none under 0.99, possible where it may be just under."""
         arc = ["G75*", *flash(10, (0, 0)), "D11*", "X1600000Y0D02*", "G03*", "X0Y1600000I-1600000J0D01*", "G01*"]
         for program in self.over_both():
-            for mm, status, word in (("1.01", 1, "gap"), ("0.99", 0, None), ("1", 11, "undecided gap")):
+            for mm, status, word in (("1.01", 1, "gap-0"), ("0.99", 0, None), ("1", 11, "undecided gap-0")):
                 self.board({**CLOSE, "top.gbr": gerber(*arc), "n.ipc": netlist(record("A", "J1.1", 0, 0), record("B", "J1.2", 1.6, 0))})
                 told, out, _ = self.show("board", "--gaps", mm, program=program)
-                self.assertEqual((told, [line.split(":")[0].strip() for line in out.splitlines()[1:]]), (status, [word] if word else []), out)
+                self.assertEqual((told, [line.split(":")[0].strip() for line in out.splitlines()[2:]]), (status, ["A and B", word] if word else []), out)
+
+    JOINED_ROWS = [
+        # copper, places of both points, distance, nets of each gap of the lower board, words of the first one
+        # A pad that touches the arc above alone; nets that are joined below are none.
+        ([*WIDE, *flash(10, (0, 1.6002))], [(1, 0), (0, 1.6002)], "0.0001", [[0, 1]], "A and B are joined, or apart, by at most "),
+        ([*WIDE, *flash(10, (0, 1.59))], [(1, 0), (0, 1.59)], "1", [], ""),
+        ([*WIDE, *flash(10, (0, 1.602))], [(1, 0), (0, 1.602)], "0.0005", [], ""),
+        # Pads at both ends of an arc that is left out, 1 mm apart: each against the arc, and under that each other.
+        ([*THIN, *flash(10, (1, 0), (-1, 0))], [(1, 0), (-1, 0)], "0.9", [[0], [1]], "A and copper that the lower bound leaves out are joined, or apart, perhaps by nothing, on "),
+        ([*THIN, *flash(10, (1, 0), (-1, 0))], [(1, 0), (-1, 0)], "1.1", [[0, 1], [0], [1]], "A and B are joined, or apart, by at most 1.0001 mm, on "),
+        # A pad that the thin arc passes at 0.5 mm: another net on both.
+        ([*THIN, *flash(10, (0, 2))], [(0, 2), (0, 2)], "0.51", [[0]], "A and copper that the lower bound leaves out are at least 0.499"),
+        ([*THIN, *flash(10, (0, 2))], [(0, 2), (0, 2)], "0.49", [], ""),
+    ]
+
+    def test_joined_above(self):
+        """What one net of the upper board holds may be several on the board, which come as close as may be."""
+        for lines, (one, other), mm, wanted, words in self.JOINED_ROWS:
+            with self.subTest(mm=mm, words=words):
+                files = {**CLOSE, "top.gbr": gerber(*lines), "n.ipc": netlist(record("A", "J1.1", *one), record("A" if one == other else "B", "J1.2", *other))}
+                _, told = self.gaps(files, mm, program=made.built() or made.STAND_IN)
+                found = [it for it in told["findings"] if it["kind"] == "gap"]
+                self.assertEqual(sorted(it["nets"] for it in found), sorted(wanted), found)
+                self.assertEqual((told["gaps"], {it["sure"] for it in found}), (0, {False} if wanted else set()))
+                self.assertTrue(not words or any(it["words"].startswith(words) for it in found), found)
 
     def test_words_of_the_distance(self):
         for text, u in (("0.1", 1_000_000), ("10", 100_000_000), (".0000001", 1), ("10.0000001", None), ("0", None), ("-1", None), ("1e3", None), ("", None), ("1.12345678", None)):

@@ -77,7 +77,7 @@ class Answers(made.Case):
             ({"p.drl": DRILL.replace("MixedPlating", "Plated")}, "line 14 makes a hole that the file itself calls unplated, and what it says of the others does not fit or is missing"),
             ({"p.drl": DRILL.replace("X0.0", "X0")}, "drill 6 ImpliedDecimals at line 11, byte 194, after 1 mend; to export: KiCad: Generate Drill Files, zeros format 'Decimal format' "
              "(kicad-cli: --excellon-zeros-format decimal)"),
-            ({"bot.gbr": TRACK.replace("D11*", "%LMX*%\nD11*")}, "Gerber 16 Transform at command 9, byte 99, after 1 mend; line 9 of bot.gbr; to export: objects mirrored, turned and scaled by the tool, without LM, LR and LS"),
+            ({"bot.gbr": TRACK.replace("D11*", "G91*\nD11*")}, "Gerber 9 Incremental at command 9, byte 98, after 1 mend; line 9 of bot.gbr; to export: absolute coordinates"),
         ]
         for files, words in rows:
             self.board({**BOARD, **files})

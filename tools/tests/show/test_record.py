@@ -5,6 +5,7 @@ import zipfile
 
 import made
 from pages import BOARD
+from show_board.record import version_text
 
 ARC = made.gerber("G75*", *made.flash(10, (0, 0)), "D11*", "X1600000Y0D02*", "G03*", "X0Y1600000I-1600000J0D01*", "G01*")
 BOUNDED = {"m.json": made.manifest(), "top.gbr": ARC, "n.ipc": made.netlist(made.record("A", "J1.1", 0, 0), made.record("B", "J1.2", 1.6, 0))}
@@ -17,6 +18,11 @@ def sum_of(text):
 
 
 class Records(made.Case):
+    @classmethod
+    def setUpClass(cls):
+        # Asked once, for all children.
+        version_text()
+
     def recorded(self, files, **more):
         """The record of a board."""
         self.board(files)

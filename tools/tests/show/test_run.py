@@ -164,7 +164,7 @@ class Answers(made.Case):
         self.assertEqual((status, out.startswith("board: differs, between two bounds: 3 findings that both have ")), (1, True))
         self.assertIn("top.gbr could not be flattened: this program has no command `flatten`, which rewrites macros\n", out)
         self.show("board", "--junit", "b.xml", "--rdb", "b.lyrdb", STAND_IN_LACKS="flatten")
-        self.assertEqual(minidom.parseString(self.read("b.xml")).getElementsByTagName("testsuite")[0].getAttribute("failures"), "1")
+        self.assertEqual(minidom.parseString(self.read("b.xml")).getElementsByTagName("testsuite")[0].getAttribute("failures"), "3")
         self.assertEqual(len(minidom.parseString(self.read("b.lyrdb")).getElementsByTagName("item")), 3)
         self.board({**BAD, "top.gbr": gerber(*[line.replace("1,1,", "1,0,") for line in lines])}, "off")
         self.assertIn("top.gbr could not be flattened: top.gbr: flatten 34 ExposureOff", self.show("off")[1])

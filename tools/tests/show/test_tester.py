@@ -172,6 +172,24 @@ class Likenesses(made.Case):
             self.assertIn("There they are 1.8284 mm apart on the one layer (top.gbr) at 8.000, 3.000 mm, between top.gbr command 14 and top.gbr command 23.", out)
         self.assertEqual(self.compared(with_it, with_it)[0], 0)
 
+    def test_ties_and_bounds(self):
+        """A tie that is declared for this board is no joined net, nor one that both boards keep apart an open one; between bounds places are told, too."""
+        arc = ["D11*", "X20000000Y0D02*", "G75*", "G03X21000000Y1000000I0J1000000D01*", "G01*"]
+        names = netlist(record("NET1", "J1.1", 3, 1), record("NET4", "J1.2", 6, 6))
+        joined, apart = ({**one(*spread(0, 0, (0, 1), *more), *arc), "n.ipc": names} for more in ([(1, 4)], []))
+        tie, apart_there = ("--tie", "NET1=NET4"), "There they are 4.8309 mm apart on the one layer (top.gbr) at 4.500, 3.500 mm, between top.gbr command 11 and top.gbr command 20."
+        rows = [(joined, apart, (), 1, ["1 joined net", "joined-0: NET1 and NET4: ", apart_there]), (joined, apart, tie, 0, ["joins what it joins"]),
+                (apart, apart, tie, 1, ["joins what it joins"]), (joined, joined, (), 1, ["joins what it joins"]),
+                (apart, joined, (), 1, ["1 parted net", "parted-0: NET0: ", "There top.gbr command 42 is near that place, the one layer (top.gbr) at 4.500, 3.500 mm."])]
+        for board, other, words, status, lines in rows:
+            with self.subTest(lines=lines, words=words):
+                self.board(other, "other")
+                self.board(board)
+                told, out, _ = self.show("board", "--like", "other", *words, program=made.built() or made.STAND_IN)
+                self.assertEqual(told, status, out)
+                for line in (f"like other: {lines[0]}\n", *lines[1:]):
+                    self.assertIn(line, out)
+
     def test_moved_and_panel(self):
         other = one(*spread(0, 0, (0, 1)))
         rows = [(spread(7.3, -2.1, (0, 1)), 0, "(the other board moved by (7.300, -2.100) mm)"), (spread(7.3, -2.1), 1, "1 parted net (the other board moved by"),

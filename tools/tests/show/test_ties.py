@@ -133,6 +133,8 @@ class Ties(made.Case):
                 self.assertEqual((told[0], told[1].startswith(f"board: {line}")), (status, True), told[1])
             told = self.tied(arc, words=["--tie", "GND=AGND", "--tie", "GND=AGMD"], program=program)
             self.assertEqual((told[0], "the tie GND=AGMD (--tie) is open: no test point has the name AGMD" in told[1]), (1, True), told[1])
+            _, out, _ = self.show("board", "--tie", "GND=AGND", "--tie", "GND=AGMD", "--json", "-", program=program)
+            self.assertEqual([json.loads(out)["boards"][0][word] for word in ("opens", "shorts", "missing")], [1, 0, 0])
 
 
 class Classes(unittest.TestCase):

@@ -1,0 +1,54 @@
+"""A made package whose layers are large planes, tracks, pads, and some arcs, which are outside the profile: how long `show` takes."""
+import json
+import math
+import os
+import random
+import resource
+import subprocess
+import sys
+import tempfile
+import time
+
+HEAD = "%FSLAX46Y46*%\n%MOMM*%\nG75*\n%ADD10C,0.2*%\n%ADD11C,0.5*%\nG01*"
+
+
+def plane(rng, middle, edges):
+    """A ring of corners, in and out."""
+    spots = []
+    for k in range(edges):
+        angle, far = 2 * math.pi * k / edges, 25_000_000 + k % 2 * rng.randint(0, 3_000_000)
+        spots.append(tuple(round(v + far * f(angle)) for v, f in zip(middle, (math.cos, math.sin))))
+    return ["G36*", "X%dY%dD02*" % spots[0], *("X%dY%dD01*" % spot for spot in spots[1:] + spots[:1]), "G37*"]
+
+
+def layer(rng, edges):
+    lines = [HEAD]
+    for k in range(4):
+        lines += plane(rng, (20_000_000 + 60_000_000 * (k % 2), 20_000_000 + 60_000_000 * (k // 2)), edges // 4)
+    lines.append("D10*")
+    for k in range(1500):
+        x, y = rng.randint(0, 10 ** 8), -rng.randint(5_000_000, 55_000_000)
+        lines.append(f"X{x}Y{y}D02*\nG01X{x + 500_000}Y{y}D01*" + (f"\nG03X{x + 600_000}Y{y + 100_000}I0J100000D01*" if k % 3 == 0 else ""))
+    lines += ["D11*", *(f"X{k * 150_000}Y-60000000D03*" for k in range(500)), "M02*", ""]
+    return "\n".join(lines)
+
+
+def timed(layers, edges):
+    """Prints what `show` says, and its processor seconds with those of the program, and the most memory that one of them had."""
+    rng = random.Random(3)
+    with tempfile.TemporaryDirectory() as folder:
+        names = [f"l{k}.gbr" for k in range(layers)]
+        for name in names:
+            with open(os.path.join(folder, name), "w") as file:
+                file.write(layer(rng, edges // layers))
+        with open(os.path.join(folder, "n.ipc"), "w") as file:
+            file.write("P  UNITS CUST 1\n327A                J1    -1          A01X+000000Y-060000\n999\n")
+        with open(os.path.join(folder, "m.json"), "w") as file:
+            json.dump({"copper": names, "drills": [], "netlist": "n.ipc"}, file)
+        began = time.time()
+        told = subprocess.run([sys.executable, os.path.join(os.path.dirname(os.path.dirname(os.path.abspath(__file__))), "tools", "show"), folder, "-q"],
+                              stdout=subprocess.PIPE, check=False)
+    used = resource.getrusage(resource.RUSAGE_CHILDREN)
+    print(told.stdout.decode().strip().split(": ", 1)[-1])
+    print(f"{layers} layers, {edges} edges: {used.ru_utime + used.ru_stime:.1f} processor seconds, {time.time() - began:.0f} by the clock, {used.ru_maxrss // 1024} MB")
+    return told.returncode

@@ -1,0 +1,148 @@
+"""Operations of a copper file: draws, arcs, flashes."""
+import re
+
+from . import apertures
+from .arcs import arc_chain, chain_bounds
+from .clear import moved
+from .exact import Refused
+from .rounds import ring
+from .side import DRAW, FLASH, MOVE
+from .spots import cross, dot
+
+OPERATION = re.compile(r"(?:G0?([123]))?(?:X([+-]?\d{1,13}))?(?:Y([+-]?\d{1,13}))?(?:I([+-]?\d{1,13}))?(?:J([+-]?\d{1,13}))?(?:D0?([123]))?")
+STRAIGHT, ANTICLOCKWISE = 1, 3
+
+
+class Operations:
+    def __init__(self):
+        self.spot, self.mode, self.quadrants, self.last = (0, 0), STRAIGHT, None, None
+
+    def operation(self, mode, x, y, i, j, operation):
+        if mode:
+            self.mode = int(mode)
+        start, code = self.spot, int(operation) if operation else self.last
+        if code is None or not operation and code == MOVE:
+            raise Refused("coordinates without an operation")
+        self.replaced += code == FLASH and not operation
+        self.spot = (self.length(x) if x else start[0], self.length(y) if y else start[1])
+        self.last = code
+        is_arc = code == DRAW and self.mode != STRAIGHT
+        if bool(i or j) != is_arc:
+            raise Refused("an arc without I and J" if is_arc else "I or J without an arc")
+        if is_arc:
+            self.arc(start, self.centre(start, (self.length(i or "0"), self.length(j or "0"))))
+        elif self.contours is not None:
+            self.in_region(code, start)
+        elif code == DRAW:
+            self.draw(start)
+        elif code == FLASH:
+            self.flash()
+        else:
+            for side in self.sides:
+                side.operate(self.spot, MOVE, self.number)
+
+    # ---- arcs
+
+    def centre(self, start, offset):
+        """The centre of an arc; None where a single quadrant has both ends at one place, so no arc. Where rounding makes a quarter
+        circle more than a right angle, as much as a unit of the file at both ends is allowed."""
+        if self.quadrants is None:
+            raise Refused("an arc before G74 or G75")
+        if self.quadrants == "G75":
+            return start[0] + offset[0], start[1] + offset[1]
+        if start == self.spot:
+            return None
+        found = []
+        for c in {(start[0] + dx, start[1] + dy) for dx in (offset[0], -offset[0]) for dy in (offset[1], -offset[1])}:
+            turn = cross(c, start, self.spot) * (1 if self.mode == ANTICLOCKWISE else -1)
+            reach = sum(abs(p[k] - c[k]) for p in (start, self.spot) for k in (0, 1))
+            apart = abs(dot(c, start, start) - dot(c, self.spot, self.spot))
+            if turn >= 0 and dot(c, start, self.spot) >= -self.unit * (reach + self.unit):
+                found.append((dot(c, start, self.spot) < 0, apart, c))
+        found.sort()
+        if not found or len(found) > 1 and found[0][:2] == found[1][:2]:
+            raise Refused("an arc without one centre")
+        return found[0][2]
+
+    def arc(self, start, centre):
+        anticlockwise = self.mode == ANTICLOCKWISE
+        if self.contours is not None:
+            self.arc_in_region(centre, start, anticlockwise)
+            return
+        radius = self.pen_radius()
+        if self.passes():
+            return
+        self.replaced += 1
+        chain, most = arc_chain(centre, *((start, self.spot) if anticlockwise else (self.spot, start))) if centre is not None else ([start, start], 0)
+        both = chain_bounds(chain if anticlockwise else chain[::-1], most, radius)
+        if radius > 0 and not both[0]:
+            self.lose(f"an arc at command {self.number}")
+        areas = ring(centre, chain, radius.__ceil__()) if self.cuts and centre is not None else None
+        self.write_pieces(both, areas)
+
+    def pen_radius(self):
+        made = self.aperture()
+        if made is None:
+            raise Refused("no aperture")
+        if not isinstance(made, apertures.Pen) or made.radius is None:
+            raise Refused("an arc with a pen that is no circle")
+        return made.radius * self.change.size
+
+    # ---- draws and flashes
+
+    def write_pieces(self, both, areas=None):
+        if self.stays(*both, areas):
+            for side, pieces in zip(self.sides, both):
+                side.pieces(pieces, (0, 0), self.number)
+
+    def draw(self, start):
+        made = self.aperture()
+        if made is not None and (not isinstance(made, apertures.Pen) or made.radius is None or self.change.alters(made)):
+            self.replaced += 1
+            pen = None if isinstance(made, apertures.Block) else self.changed(made)
+            if not pen or not pen.is_pen:
+                raise Refused("a draw with a pen that is no circle, rectangle, obround or polygon")
+            self.write_pieces([[piece for it in pieces for piece in apertures.swept(it, start, self.spot)] for pieces in pen.both])
+            return
+        drawn = [[("capsule", start, self.spot, size[0] // 2)] if size[0] else [] for size in made.sizes] if made else ([], [])
+        if self.stays(*drawn):
+            for side in self.sides:
+                if made:
+                    side.select(self.chosen, self.number)
+                side.move(start, self.number)
+                side.operate(self.spot, DRAW, self.number)
+
+    def flash(self):
+        made = self.aperture()
+        if isinstance(made, apertures.Block):
+            self.flash_block(made)
+            return
+        if made is not None and (self.change.alters(made) or not isinstance(made, apertures.Pen)):
+            self.replaced += 1
+            shape = self.changed(made)
+            if shape.lost:
+                self.lose(f"{shape.lost} at command {self.number}")
+            if self.stays(*([moved(piece, *self.spot) for piece in pieces] for pieces in shape.both) if self.is_noted() else ((), ())):
+                for side, pieces in zip(self.sides, shape.both):
+                    side.pieces(pieces, self.spot, self.number)
+            return
+        flat = made.both if made and self.is_noted() else ([], [])
+        if not self.stays(*([moved(piece, *self.spot) for piece in pieces] for pieces in flat)):
+            return
+        for side in self.sides:
+            if made:
+                side.select(self.chosen, self.number)
+            side.operate(self.spot, FLASH, self.number)
+
+    def flash_block(self, block):
+        """Its objects, each changed and moved; a clear flash turns dark into clear and clear into dark."""
+        self.replaced += 1
+        self.lost += [f"{what} of the block at command {self.number}" for what in block.lost]
+        for was, it in zip(block.objects, self.change.objects(block)):
+            if was.dark and was.both[0] and not it.both[0]:
+                self.lost.append(f"a changed object of the block at command {self.number}")
+            both = tuple([moved(piece, *self.spot) for piece in pieces] for pieces in it.both)
+            self.stays_as(it.dark != self.clear, both)
+            if it.dark != self.clear and self.number not in self.taken:
+                for side, pieces in zip(self.sides, both):
+                    side.pieces(pieces, (0, 0), self.number)
