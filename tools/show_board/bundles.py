@@ -1,0 +1,109 @@
+"""Strands that cross between a line and the next whole y, a unit above: straight ones stand there in their place.
+
+The strands of a bundle are some that lie side by side, and none of them crosses another. The greatest of straight lines bends
+outwards, so its chord lies beyond all of them, and the least likewise. Strands of the bundle that do not cross each other cut it
+into columns. One is dark or clear where it is that at every height, by all orders that the strands have on the way; where both occur
+it is clear for LOWER and dark for UPPER.
+"""
+from fractions import Fraction as Q
+
+from .exact import Refused
+from .strands import crossing, straight, toggled
+
+MOST_BUNDLES = 300_000
+MOST_WALLS = 24         # strands of a bundle whose orders are looked at
+DARK, CLEAR = (-1,), (-2,)
+
+
+def straighten(sweep, y):
+    """Bundles for all neighbours that were found to cross above a line."""
+    status, found = sweep.status, []
+    for a, b in sweep.seeds:
+        if a.active and a.after is b:
+            i = sweep.find(y, a.at(y))
+            while status[i] is not a:
+                i += 1
+            found.append([i, i + 2])
+    sweep.seeds, before = [], None
+    while found != before:
+        before, found = found, merged([widened(status, i, j, y + 1) for i, j in sorted(found)])
+    for i, j in reversed(found):
+        bundle(sweep, y, i, j)
+
+
+def widened(status, i, j, top):
+    """With the neighbours that cross one of them; and where they are a unit above."""
+    xs = [e.at(top) for e in status[i:j]]
+    low, high = min(xs), max(xs)
+    while i and status[i - 1].at(top) > low:
+        i -= 1
+        low, high = min(low, status[i].at(top)), max(high, status[i].at(top))
+    while j < len(status) and status[j].at(top) < high:
+        low, high = min(low, status[j].at(top)), max(high, status[j].at(top))
+        j += 1
+    return i, j, low, high
+
+
+def merged(ranges):
+    """Those that overlap, or whose strands cross, are one."""
+    out = []
+    for i, j, low, high in ranges:
+        if out and (i < out[-1][1] or i == out[-1][1] and low < out[-1][2]):
+            out[-1][1:] = [max(out[-1][1], j), max(out[-1][2], high)]
+        else:
+            out.append([i, j, high])
+    return [it[:2] for it in out]
+
+
+def bundle(sweep, y, i, j):
+    """Straight strands in place of those that cross; these come back a unit above."""
+    sweep.count += j - i
+    if sweep.count > MOST_BUNDLES:
+        raise Refused("too many borders that cross")
+    old, left = sweep.status[i:j], sweep.status[i - 1].cover if i else ()
+    ends = [e.at(y + 1) for e in old]
+    walls, states = columns(sweep, left, old, y)
+    new = [straight((old[0].at(y), y), (min(ends), y + 1)), *(straight((e.at(y), y), (e.at(y + 1), y + 1)) for e in walls)]
+    for e, its in zip(new, states):
+        e.cover = DARK if its == {True} or len(its) == 2 and sweep.upper else CLEAR
+    new.append(straight((old[-1].at(y), y), (max(ends), y + 1)))
+    new[-1].cover = old[-1].cover
+    below = sweep.below(y, old)
+    sweep.put(i, j, new)
+    sweep.recast(y, i, old, new, below)
+    sweep.note(y + 1, new[0].x2)
+    sweep.spans.setdefault(y + 1, []).append((new[0].x2, new[-1].x2))
+    sweep.back.setdefault(y + 1, []).extend((x, e) for x, e in zip(ends, old) if e.y2 > y + 1)
+
+
+def columns(sweep, left, old, y):
+    """The strands that stay as walls, the steepest first, and for the columns between them whether dark, clear or both occur."""
+    if len(old) > MOST_WALLS:
+        return [], [{True, False}]
+    crosses = {(a, b) for k, a in enumerate(old) for b in old[k + 1:] if a.at(y + 1) > b.at(y + 1)}
+    walls = []
+    for e in sorted(old, key=lambda e: abs(e.at(y + 1) - e.at(y))):
+        if not any((e, w) in crosses or (w, e) in crosses for w in walls):
+            walls.append(e)
+    walls = [e for e in old if e in walls]
+    states = [set() for _ in range(len(walls) + 1)]
+    states[0].add(sweep.is_dark(left))
+    states[-1].add(sweep.is_dark(old[-1].cover))
+    heights = sorted({y, y + 1} | {Q(*crossing(a, b)) for a, b in crosses})
+    for low, high in zip(heights, heights[1:]):
+        middle = Q(low + high) / 2
+        across(sweep, left, sorted((e.at(middle), k, e) for k, e in enumerate(old)), walls, states)
+    return walls, states
+
+
+def across(sweep, left, order, walls, states):
+    """Adds what each column has at one height; an edge that is left of two areas belongs to the columns beside it."""
+    cover, column, gap = left, 0, left
+    for (x, _, e), after in zip(order, order[1:] + [(None,)]):
+        cover, column = toggled(cover, e.item), column + (e in walls)
+        if x != after[0]:
+            dark = sweep.is_dark(cover)
+            states[column].add(dark)
+            if sweep.upper and not dark and not sweep.is_dark(gap) and sweep.hair(gap, cover) is not None:
+                states[column].add(True)
+            gap = cover

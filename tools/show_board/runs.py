@@ -1,0 +1,117 @@
+"""Dark runs between two strands, from line to line, as contours: their sides are rounded inwards for LOWER and outwards for UPPER.
+
+A side is straight between two corners, and all lines are at whole y, so what is rounded at both ends is on the right side all along.
+A corner on a straight side is left out where the run is so wide there that its sides cannot cross: a side stays within a unit of its
+strand. What is rounded past the other side is no part of LOWER.
+"""
+from .spots import edges
+from .strands import slope
+
+LONGEST = 30_000        # corners of a side that is still added to
+APART = 4               # a run is wide where it is wider all along
+
+
+class Piece:
+    """A dark run since a line; `lefts` and `rights` are corners of its contour, None where it has none yet. A side is moved by
+    `left_by` and `right_by`, inwards for LOWER and outwards for UPPER."""
+
+    __slots__ = ("left", "right", "since", "item", "lefts", "rights", "left_by", "right_by")
+
+    def __init__(self, since, item):
+        self.since, self.item, self.lefts, self.rights = since, item, None, None
+
+    def take(self, left, right, left_by, right_by):
+        if left is not None:
+            self.left, left.opens, self.left_by = left, self, left_by
+        if right is not None:
+            self.right, right.ends, self.right_by = right, self, right_by
+
+
+class Runs:
+    """Pieces become contours in `out`, as (corners, item)."""
+
+    def __init__(self, upper):
+        self.upper, self.out = upper, []
+
+    def sides(self, piece, y):
+        left, right = piece.left, piece.right
+        if self.upper:
+            return left.down(y) - piece.left_by, right.up(y) + piece.right_by
+        return (left.down(y) + 1 if piece.left_by else left.up(y)), (right.up(y) - 1 if piece.right_by else right.down(y))
+
+    def settle(self, piece, y):
+        """Adds the trapezoid from the piece's last line to this one."""
+        if piece.since == y:
+            return
+        l1, r1 = self.sides(piece, y)
+        if piece.lefts is None:
+            l0, r0 = self.sides(piece, piece.since)
+            if l0 > r0 or l1 > r1:
+                self.thin(piece, y, l0 <= r0)
+                return
+            piece.lefts, piece.rights = [(l0, piece.since)], [(r0, piece.since)]
+        elif l1 > r1:
+            self.thin(piece, y, True)
+            return
+        if r1 - l1 < 2:
+            piece.lefts.append((l1, y))
+            piece.rights.append((r1, y))
+        piece.since = y
+
+    def thin(self, piece, y, starts):
+        """At an end of the trapezoid the sides round past each other: what is of it where they are so far apart that they do not."""
+        a, b = piece.left, piece.right
+        need = 2 if piece.left_by and piece.right_by else 1
+        width = (b.x1 * b.dy - b.dx * b.y1) * a.dy - (a.x1 * a.dy - a.dx * a.y1) * b.dy - need * a.dy * b.dy
+        more = slope(b, a)
+        if starts and more < 0:
+            self.settle(piece, max(piece.since, width // -more))
+        self.flush(piece)
+        if not starts and more > 0 and -(width // more) < y:
+            piece.since = max(piece.since, -(width // more))
+            low, high = self.sides(piece, y)
+            if low <= high:
+                self.settle(piece, y)
+        piece.since = y
+
+    def turn(self, piece, strand, x, y):
+        """A side has a corner where it touches nothing."""
+        is_left, lefts = strand is piece.left, piece.lefts
+        apart = piece.right.low - strand.high if is_left else strand.low - piece.left.high
+        if apart <= APART or lefts is None or len(lefts) > LONGEST or len(piece.rights) > LONGEST:
+            self.settle(piece, y)
+            if piece.lefts and max(len(piece.lefts), len(piece.rights)) > LONGEST:
+                self.flush(piece)
+        if piece.lefts is not None:
+            if is_left:
+                piece.lefts.append((x - piece.left_by if self.upper else x + piece.left_by, y))
+            else:
+                piece.rights.append((x + piece.right_by if self.upper else x - piece.right_by, y))
+        piece.since = y
+
+    def change(self, piece, y, left, right, left_by, right_by):
+        """Other strands from a settled line on; None where a side goes on. What is below it and above it is one contour where both
+        share a place of the line."""
+        l0, r0 = self.sides(piece, y)
+        piece.take(left, right, left_by, right_by)
+        if piece.lefts is None:
+            return
+        l1, r1 = self.sides(piece, y)
+        if max(l0, l1) > min(r0, r1):
+            self.close(piece, l0, r0)
+            return
+        if left is not None:
+            piece.lefts += [(l0, y), (l1, y)]
+        if right is not None:
+            piece.rights += [(r0, y), (r1, y)]
+
+    def flush(self, piece):
+        if piece.lefts is not None:
+            self.close(piece, *self.sides(piece, piece.since))
+
+    def close(self, piece, low, high):
+        around = piece.lefts + [(low, piece.since), (high, piece.since)] + piece.rights[::-1]
+        piece.lefts = piece.rights = None
+        corners = [p for k, p in enumerate(around) if p != around[k - 1]]
+        if sum(a[0] * b[1] - a[1] * b[0] for a, b in edges(corners)):
+            self.out.append((corners, piece.item))

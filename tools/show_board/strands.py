@@ -1,0 +1,97 @@
+"""Contours of whole corners as strands that rise, for a line that goes upwards over them."""
+from fractions import Fraction as Q
+
+from .spots import edges
+
+
+class Strand:
+    """A part of a contour that rises, by its edge at the line, from (x1, y1) to (x2, y2) between `low` and `high`, and the `rest` of
+    its corners, the next one last. `cover` are the areas right of it, `opens` and `ends` the piece whose left or right side it is,
+    `before` and `after` its neighbours on the line while it is `active`."""
+
+    __slots__ = ("x1", "y1", "x2", "y2", "dx", "dy", "low", "high", "item", "rest", "cover", "opens", "ends", "before", "after", "active")
+
+    def __init__(self, corners, item):
+        self.rest, self.item = corners[::-1], item
+        self.x2, self.y2 = self.rest.pop()
+        self.cover, self.opens, self.ends, self.before, self.after, self.active = (), None, None, None, None, False
+
+    def rise(self):
+        """The next edge."""
+        x1, y1 = self.x1, self.y1 = self.x2, self.y2
+        x2, y2 = self.x2, self.y2 = self.rest.pop()
+        self.dx, self.dy = x2 - x1, y2 - y1
+        self.low, self.high = (x1, x2) if x1 < x2 else (x2, x1)
+
+    def corners(self):
+        """All that are ahead, from the first one on."""
+        return [(self.x2, self.y2)] + self.rest[::-1]
+
+    def at(self, y):
+        rise = self.dx * (y - self.y1)
+        return self.x1 + (rise // self.dy if rise % self.dy == 0 else Q(rise, self.dy))
+
+    def down(self, y):
+        return (self.x1 * self.dy + self.dx * (y - self.y1)) // self.dy
+
+    def up(self, y):
+        return -((-self.x1 * self.dy - self.dx * (y - self.y1)) // self.dy)
+
+    def side(self, x, y):
+        """Over 0 where the strand is right of a place, under 0 where it is left of it."""
+        if self.low > x:
+            return 1
+        if self.high < x:
+            return -1
+        return self.dx * (y - self.y1) - (x - self.x1) * self.dy
+
+
+def straight(a, b, item=None):
+    found = Strand([a, b], item)
+    found.rise()
+    return found
+
+
+def slope(a, b):
+    return a.dx * b.dy - b.dx * a.dy
+
+
+def order(a, b, y):
+    """By place on the line, then by place above it."""
+    x = (a.x1 * a.dy + a.dx * (y - a.y1)) * b.dy - (b.x1 * b.dy + b.dx * (y - b.y1)) * a.dy
+    return x or slope(a, b)
+
+
+def crossing(a, b):
+    """The height at which the lines of two edges meet, as numerator and denominator."""
+    return (b.x1 * b.dy - b.dx * b.y1) * a.dy - (a.x1 * a.dy - a.dx * a.y1) * b.dy, slope(a, b)
+
+
+def toggled(cover, item):
+    """The areas right of an edge, in order, by those left of it."""
+    if not cover or item > cover[-1]:
+        return cover + (item,)
+    if item == cover[-1]:
+        return cover[:-1]
+    return tuple(sorted(set(cover) ^ {item}))
+
+
+def strands_of(corners, item):
+    """(strands, level edges as (y, low, high))."""
+    around = [(a, b) for a, b in edges(corners) if a != b]
+    way = [(a[1] < b[1]) - (a[1] > b[1]) for a, b in around]
+    first = next((k for k in range(len(around)) if way[k] != way[k - 1]), 0)
+    strands, levels, run = [], [], []
+    for k in range(first, first + len(around)):
+        k %= len(around)
+        a, b = around[k]
+        if way[k] == 0:
+            levels.append((a[1], min(a[0], b[0]), max(a[0], b[0])))
+            continue
+        run = run or [a]
+        run.append(b)
+        after = (k + 1) % len(around)
+        if way[after] != way[k] or after == first:
+            strands.append(Strand(run if way[k] > 0 else run[::-1], item))
+            run = []
+    return strands, levels
