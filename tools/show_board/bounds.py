@@ -11,18 +11,18 @@ import os
 import re
 from typing import NamedTuple
 
-from . import UNDECIDED, UNJUDGED, fault_of, judged, netlist, unjudged
+from . import UNDECIDED, UNJUDGED, fault_of, judged, negative, netlist, unjudged
 from .differing import Differing
 from .exact import Refused
 from .joint import Joint
 from .package import beside
 from .ties import Ties, lost
-from .two_sides import of_text
+from .two_sides import Copper, of_text
 from .words import counted
 
-# ClearPolarity, Arc, Macro, Block, Polygon, Hole, Transform, ApertureTwice, PenNotCircle, OffGrid, TooManyVertices, NoOperation: what
-# copper files hold that bounds may be given for.
-OUTSIDE = re.compile(r"(.*): Gerber (1[0-6]|18|19|23|28|29) |(.*): flatten ")
+# ClearPolarity, Arc, Macro, Block, Polygon, Hole, Transform, ApertureTwice, PenNotCircle, OffGrid, NegativeFile, TooManyVertices,
+# NoOperation: what copper files hold that bounds may be given for.
+OUTSIDE = re.compile(r"(.*): Gerber (1[0-6]|18|19|23|26|28|29) |(.*): flatten ")
 SIDES = ("lower", "upper")
 
 
@@ -51,9 +51,15 @@ def is_outside(line):
     return bool(OUTSIDE.match(line))
 
 
+def outline_of(package):
+    """The box of a board with negative files."""
+    texts = [package.read(name).decode("latin-1") for name in dict.fromkeys(package.manifest.copper)]
+    return negative.outline_of(negative.profile_of(package.home or package.folder), texts, lambda text: Copper(text, cuts=True).objects)
+
+
 def sides_of(package, name):
     try:
-        return of_text(package.read(name).decode("latin-1"))
+        return of_text(package.read(name).decode("latin-1"), lambda: outline_of(package))
     except Refused as why:
         raise Refused(f"{name}: {why}") from None
     except Exception as fault:

@@ -98,12 +98,13 @@ def columns(sweep, left, old, y):
 
 def across(sweep, left, order, walls, states):
     """Adds what each column has at one height; an edge that is left of two areas belongs to the columns beside it."""
-    cover, column, gap = left, 0, left
+    cover, column, gap, items = left, 0, left, []
     for (x, _, e), after in zip(order, order[1:] + [(None,)]):
         cover, column = toggled(cover, e.item), column + (e in walls)
+        items.append(e.item)
         if x != after[0]:
             dark = sweep.is_dark(cover)
             states[column].add(dark)
-            if sweep.upper and not dark and not sweep.is_dark(gap) and sweep.hair(gap, cover) is not None:
+            if sweep.upper and not dark and not sweep.is_dark(gap) and sweep.hair(gap, cover, items) is not None:
                 states[column].add(True)
-            gap = cover
+            gap, items = cover, []

@@ -113,3 +113,16 @@ def corners_of(it, side):
         corners = polygon(piece, outer)
         if corners:
             yield corners
+            if outer and not it.dark and piece[0] == "area":
+                yield from caps(corners)
+
+
+def caps(corners):
+    """A unit round all level edges and all corners at which a contour turns upwards or downwards: with these and the sweep's
+    distance to both sides LOWER has nothing of a clear area's border."""
+    spots = [p for k, p in enumerate(corners) if p != corners[k - 1]]
+    for k, (x, y) in enumerate(spots):
+        p, q = spots[k - 1], spots[(k + 1) % len(spots)]
+        if q[1] == y or p[1] != y and (p[1] < y) == (q[1] < y):
+            low, high = (min(x, q[0]), max(x, q[0])) if q[1] == y else (x, x)
+            yield [(low - 1, y - 1), (high + 1, y - 1), (high + 1, y + 1), (low - 1, y + 1)]

@@ -89,6 +89,17 @@ class Runs:
                 piece.rights.append((x + piece.right_by if self.upper else x - piece.right_by, y))
         piece.since = y
 
+    def narrow(self, piece, y, left, right):
+        """A side keeps off its strand at a line, before that is settled. Where it would cross the other, the contour ends before."""
+        was = piece.left_by, piece.right_by
+        now = piece.left_by or int(left), piece.right_by or int(right)
+        piece.left_by, piece.right_by = now
+        low, high = self.sides(piece, y)
+        if low > high:
+            piece.left_by, piece.right_by = was
+            self.flush(piece)
+            piece.left_by, piece.right_by = now
+
     def change(self, piece, y, left, right, left_by, right_by):
         """Other strands from a settled line on; None where a side goes on. What is below it and above it is one contour where both
         share a place of the line."""

@@ -1,5 +1,6 @@
 """Contours of whole corners as strands that rise, for a line that goes upwards over them."""
 from fractions import Fraction as Q
+from functools import cmp_to_key
 
 from .spots import edges
 
@@ -26,6 +27,14 @@ class Strand:
     def corners(self):
         """All that are ahead, from the first one on."""
         return [(self.x2, self.y2)] + self.rest[::-1]
+
+    def way(self):
+        return self.dx, self.dy
+
+    def ahead(self):
+        """The way of the next edge."""
+        x, y = self.rest[-1]
+        return x - self.x2, y - self.y2
 
     def at(self, y):
         rise = self.dx * (y - self.y1)
@@ -56,10 +65,17 @@ def slope(a, b):
     return a.dx * b.dy - b.dx * a.dy
 
 
-def order(a, b, y):
-    """By place on the line, then by place above it."""
-    x = (a.x1 * a.dy + a.dx * (y - a.y1)) * b.dy - (b.x1 * b.dy + b.dx * (y - b.y1)) * a.dy
-    return x or slope(a, b)
+def ordered(y, strands):
+    """By place on a line, then by place above it."""
+    if len(strands) < 2:
+        return strands
+    ways = {e: (e.at(y), *(e.way() if e.y2 > y else e.ahead())) for e in strands}
+
+    def order(a, b):
+        (x, dx, dy), (x2, dx2, dy2) = ways[a], ways[b]
+        return x - x2 or dx * dy2 - dx2 * dy
+
+    return sorted(strands, key=cmp_to_key(order))
 
 
 def crossing(a, b):

@@ -9,13 +9,13 @@ The border of a clear area may be dark or not. LOWER keeps a unit off it to both
 looked at for that, so who wants them out makes the area larger. UPPER has it, also where two areas share an edge and
 nothing else is left.
 """
-from functools import cmp_to_key
 from heapq import heapify, heappop, heappush
 
 from . import bundles
 from .exact import Refused
 from .runs import Piece, Runs
-from .strands import crossing, order, slope, strands_of, toggled
+from .spots import cross
+from .strands import crossing, ordered, slope, strands_of, toggled
 
 
 def windows_of(spans, starts):
@@ -38,8 +38,8 @@ class Sweep:
     """`items` are (dark, corners) in order; `out` are (corners, item) of the contours."""
 
     def __init__(self, items, upper):
-        self.upper, self.status, self.runs, self.seeds, self.count = upper, [], Runs(upper), [], 0
-        self.noted, self.spans, self.back, self.heap = {}, {}, {}, []
+        self.upper, self.status, self.runs, self.seeds, self.count, self.touched = upper, [], Runs(upper), [], 0, ()
+        self.noted, self.spans, self.levels, self.back, self.heap = {}, {}, {}, {}, []
         self.dark = [dark for dark, _ in items] + [False, True]     # the last two: what stands for clear and dark in a bundle
         self.out = self.runs.out
         events, strands = [], []
@@ -51,6 +51,7 @@ class Sweep:
             for y, low, high in levels:
                 self.note(y, low)
                 self.spans.setdefault(y, []).append((low, high))
+                self.levels.setdefault(y, []).append((low, high, k))
         events.sort()
         self.lines(events, strands)
         if self.status:
@@ -129,16 +130,17 @@ class Sweep:
         a, b = self.status[i - 1] if i else None, self.status[i] if i < len(self.status) else None
         if b and b.side(x, y) <= 0:
             return False
+        turn = cross((x, y), s.rest[-1], t.rest[-1])
+        if not turn:
+            return False
         s.rise()
         t.rise()
-        if slope(s, t) > 0:
+        if turn > 0:
             s, t = t, s
         outer = t.cover = a.cover if a else ()
         inner = s.cover = toggled(outer, s.item)
         self.put(i, i, [s, t])
-        if not slope(s, t):
-            pass
-        elif self.is_dark(inner) and not self.is_dark(outer):
+        if self.is_dark(inner) and not self.is_dark(outer):
             by = self.off(inner, outer)
             Piece(y, inner[-1]).take(s, t, by, by)
         elif self.is_dark(outer) and not self.is_dark(inner):
@@ -208,30 +210,65 @@ class Sweep:
         while j < len(status) and status[j].side(high, y) <= 0:
             j += 1
         old = status[i:j]
-        places, below = [(e.at(y), e.cover) for e in old], self.below(y, old)
-        new = [e for e in old if e.y2 > y or e.rest] + started
-        for e in new:
+        below = [(e.at(y), e.cover, e.item) for e in old]
+        new = ordered(y, [e for e in old if e.y2 > y or e.rest] + started)
+        above = self.covered(y, i, old, new)
+        (self.keep_points if self.upper else self.keep_off)(y, old, self.status[i - 1].cover if i else (), below, above)
+        runs = self.below(y, old)
+        for e, (_, cover, _) in zip(new, above):
             if e.y2 == y:
                 e.rise()
-        if len(new) > 1:
-            new.sort(key=cmp_to_key(slope if low == high else lambda a, b: order(a, b, y)))
-        self.cover(i, old, new)
+            e.cover = cover
         self.put(i, j, new)
-        self.recast(y, i, old, new, below)
+        self.recast(y, i, old, new, runs)
         j = i + len(new)
-        if self.upper and low < high:
-            self.level(y, i, places, [(e.at(y), e.cover) for e in new])
+        if self.upper and low < high and y in self.levels:
+            self.level(y, i, below, above)
         for k in range(max(i - 1, 0), min(j, len(status) - 1)):
             self.meet(status[k], status[k + 1], y)
 
-    def cover(self, i, old, new):
-        """What covers the gaps of a window."""
-        cover = self.status[i - 1].cover if i else ()
+    def covered(self, y, i, old, new):
+        """For each strand of a window its place, what covers the gap right of it, and its area."""
+        cover, found = self.status[i - 1].cover if i else (), []
         right = old[-1].cover if old else cover
         for e in new:
-            e.cover = cover = toggled(cover, e.item)
+            cover = toggled(cover, e.item)
+            found.append((e.at(y), cover, e.item))
         if cover != right:
             raise Refused("a sweep that does not close")
+        return found
+
+    def keep_off(self, y, old, left, below, above):
+        """For LOWER the places of a window at which the last area that comes up to them is clear: runs keep off these."""
+        last = {}
+        for side in (below, above):
+            cover = left
+            for x, after, item in side:
+                last[x] = max(last.get(x, -2), -2 if item is None else item, *cover, *after)
+                cover = after
+        self.touched = {x for x, k in last.items() if not self.dark[k]}
+        for e, (x, *_) in zip(old, below):
+            for piece in (e.opens, e.ends) if x in self.touched else ():
+                if piece:
+                    self.runs.narrow(piece, y, e is piece.left, e is piece.right)
+
+    def keep_points(self, y, _, left, below, above):
+        """For UPPER the places of a window that are left alone where clear areas do not have their borders, as small squares."""
+        near = {}
+        for side in (below, above):
+            cover = left
+            for x, after, item in side:
+                gaps, items = near.setdefault(x, ([], []))
+                gaps += [cover, after]
+                items += [item, *cover, *after]
+                cover = after
+        for x, (gaps, items) in near.items():
+            if not any(map(self.is_dark, gaps)):
+                every = set(gaps[0]).intersection(*gaps[1:])
+                last = max((k for k in items if k is not None and (self.dark[k] or k in every)), default=-2)
+                if self.dark[last]:
+                    low, high = x.__floor__() - 1, x.__ceil__() + 1
+                    self.out.append(([(low, y - 1), (high, y - 1), (high, y + 1), (low, y + 1)], last))
 
     def is_dark(self, cover):
         return bool(cover) and self.dark[cover[-1]]
@@ -276,34 +313,36 @@ class Sweep:
                 continue
             was, now, x, strand = self.is_dark(before), self.is_dark(e.cover), e.at(y), new[first]
             if now and not was:
-                found.append([x, None, strand, None, e.cover, self.off(e.cover, before), 0])
+                found.append([x, None, strand, None, e.cover, self.off(e.cover, before, x), 0])
             elif was and not now:
-                found[-1][1], found[-1][3], found[-1][6] = x, strand, self.off(before, e.cover)
-            elif k > first and not now and self.upper and self.hair(before, e.cover) is not None:
-                found.append([x, x, strand, e, (self.hair(before, e.cover),), 1, 1])
+                found[-1][1], found[-1][3], found[-1][6] = x, strand, self.off(before, e.cover, x)
+            elif k > first and not now and self.upper:
+                last = self.hair(before, e.cover, [it.item for it in new[first:k + 1]])
+                found += [[x, x, strand, e, (last,), 1, 1]] if last is not None else []
             before, first = e.cover, k + 1
         return found
 
-    def off(self, dark, gap):
+    def off(self, dark, gap, x=None):
         """Whether the border of a dark gap is that of a later clear area, or may be."""
-        return int(not self.upper and bool(gap) and (gap[-1] > dark[-1] or dark[-1] < 0 or gap[-1] < 0))
+        return int(not self.upper and (x in self.touched or bool(gap) and (gap[-1] > dark[-1] or dark[-1] < 0 or gap[-1] < 0)))
 
-    def hair(self, one, two):
-        """The area that an edge between two gaps is left of where clear areas do not have their borders, or None."""
-        last = max((k for k in set(one) | set(two) if self.dark[k] or k in one and k in two), default=-2)
+    def hair(self, one, two, items):
+        """The dark area that is left on a border of some between two gaps, where clear areas do not have their borders, or None."""
+        last = max((k for k in {*one, *two, *items} if k is not None and (self.dark[k] or k in one and k in two)), default=-2)
         return last if self.dark[last] else None
 
     def level(self, y, i, below, above):
         """What is left of level edges between two gaps that are not dark, as thin contours."""
         left = self.status[i - 1].cover if i else ()
-        one, two, k, m = left, left, 0, 0
-        xs = sorted({x for x, _ in below + above})
+        one, two, k, m, levels = left, left, 0, 0, self.levels[y]
+        xs = sorted({x for x, *_ in below + above} | {x for low, high, _ in levels for x in (low, high)})
         for a, b in zip(xs, xs[1:]):
             while k < len(below) and below[k][0] <= a:
                 one, k = below[k][1], k + 1
             while m < len(above) and above[m][0] <= a:
                 two, m = above[m][1], m + 1
-            last = None if self.is_dark(one) or self.is_dark(two) or one == two else self.hair(one, two)
+            items = [item for low, high, item in levels if low <= a and b <= high]
+            last = self.hair(one, two, items) if items and not self.is_dark(one) and not self.is_dark(two) else None
             if last is not None:
                 low, high = a.__floor__() - 1, b.__ceil__() + 1
                 self.out.append(([(low, y - 1), (high, y - 1), (high, y + 1), (low, y + 1)], last))

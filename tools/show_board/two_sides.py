@@ -5,7 +5,7 @@ clear polarity, or with contours that are too long, is walked twice: once for it
 """
 import re
 
-from . import clear
+from . import clear, negative
 from .defined import Definitions
 from .drawn import OPERATION, STRAIGHT, Operations
 from .exact import Refused
@@ -19,14 +19,20 @@ CORNER = re.compile(r"X([+-]?\d{1,13})Y([+-]?\d{1,13})D0?1")
 MOST_OBJECTS = 400_000
 
 
-def of_text(text):
-    """Both sides of a copper file."""
+def of_text(text, outline=None):
+    """Both sides of a copper file; `outline` gives the box of the board where it is asked for."""
     copper = Copper(text)
     if copper.long and not copper.cuts:
         copper = Copper(text, cuts=True)
-    if not copper.clears and not copper.long:
+    if not copper.clears and not copper.long and not copper.negative:
         return copper
-    taken, *written = clear.cut(copper.objects, copper.long)
+    objects, also = copper.objects, copper.long
+    if copper.negative:
+        if outline is None:
+            raise Refused("a negative file")
+        objects = negative.exchanged(objects, outline(), copper.negative)
+        also = {it.tag for it in objects}
+    taken, *written = clear.cut(objects, also)
     again = Copper(text, taken, written, True)
     again.lost = copper.lost
     return again
@@ -36,7 +42,7 @@ class Copper(Settings, Definitions, Operations, Regions):
     """Walks a copper file and writes both sides.
 
     `lost` says what LOWER leaves out, `replaced` counts what is written otherwise. `objects` is all that the file makes, in order,
-    where it is asked for. Dark objects of commands of `taken` are not written, but at the end what is `written`.
+    where it is asked for; `negative` is the command that says that they are none. Dark objects of commands of `taken` are not written, but at the end what is `written`.
     """
 
     def __init__(self, text, taken=(), written=((), ()), cuts=False):
@@ -45,7 +51,8 @@ class Copper(Settings, Definitions, Operations, Regions):
         self.sides = self.files = (Side(), Side())
         self.lost, self.replaced, self.number = [], len(taken), None
         self.taken, self.written, self.objects, self.copies = taken, written, [], None
-        self.clear, self.clears, self.cuts = False, False, cuts or "LPC*" in text
+        self.clear, self.clears, self.negative = False, False, None
+        self.cuts = cuts or "LPC*" in text or "IPNEG*" in text or ".FilePolarity,Negative" in text
         for self.number, (extended, word, first) in enumerate(words_of(text), 1):
             try:
                 (self.extended if extended else self.plain)(word, first)
@@ -135,6 +142,10 @@ class Copper(Settings, Definitions, Operations, Regions):
             self.set_scale(word, "%MOMM*%")
         elif word in ("LPC", "LPD"):
             self.polarity(word)
+        elif negative.is_negative(word):
+            if self.negative:
+                raise Refused("a file that is negative twice")
+            self.negative = self.number
         elif word.startswith(("LM", "LR", "LS")):
             self.transform(word)
         elif word.startswith("SR"):
