@@ -13,12 +13,13 @@ APART = 4               # a run is wide where it is wider all along
 
 class Piece:
     """A dark run since a line; `lefts` and `rights` are corners of its contour, None where it has none yet. A side is moved by
-    `left_by` and `right_by`, inwards for LOWER and outwards for UPPER."""
+    `left_by` and `right_by`, inwards for LOWER and outwards for UPPER. Where it is `tight` at its last line, both sides want
+    corners there."""
 
-    __slots__ = ("left", "right", "since", "item", "lefts", "rights", "left_by", "right_by")
+    __slots__ = ("left", "right", "since", "item", "lefts", "rights", "left_by", "right_by", "tight")
 
     def __init__(self, since, item):
-        self.since, self.item, self.lefts, self.rights = since, item, None, None
+        self.since, self.item, self.lefts, self.rights, self.tight = since, item, None, None, False
 
     def take(self, left, right, left_by, right_by):
         if left is not None:
@@ -43,6 +44,11 @@ class Runs:
         """Adds the trapezoid from the piece's last line to this one."""
         if piece.since == y:
             return
+        if piece.tight and piece.lefts is not None:
+            low, high = self.sides(piece, piece.since)
+            piece.lefts.append((low, piece.since))
+            piece.rights.append((high, piece.since))
+        piece.tight = False
         l1, r1 = self.sides(piece, y)
         if piece.lefts is None:
             l0, r0 = self.sides(piece, piece.since)
@@ -53,10 +59,7 @@ class Runs:
         elif l1 > r1:
             self.thin(piece, y, True)
             return
-        if r1 - l1 < 2:
-            piece.lefts.append((l1, y))
-            piece.rights.append((r1, y))
-        piece.since = y
+        piece.tight, piece.since = r1 - l1 < 2, y
 
     def thin(self, piece, y, starts):
         """At an end of the trapezoid the sides round past each other: what is of it where they are so far apart that they do not."""
@@ -78,7 +81,7 @@ class Runs:
         """A side has a corner where it touches nothing."""
         is_left, lefts = strand is piece.left, piece.lefts
         apart = piece.right.low - strand.high if is_left else strand.low - piece.left.high
-        if apart <= APART or lefts is None or len(lefts) > LONGEST or len(piece.rights) > LONGEST:
+        if apart <= APART or lefts is None or piece.tight or len(lefts) > LONGEST or len(piece.rights) > LONGEST:
             self.settle(piece, y)
             if piece.lefts and max(len(piece.lefts), len(piece.rights)) > LONGEST:
                 self.flush(piece)
@@ -90,14 +93,17 @@ class Runs:
         piece.since = y
 
     def narrow(self, piece, y, left, right):
-        """A side keeps off its strand at a line, before that is settled. Where it would cross the other, the contour ends before."""
+        """A side keeps off its strand at a line. Where it would cross the other, the contour ends before; where that was settled
+        already, in a run of a unit's width, it is left out."""
         was = piece.left_by, piece.right_by
         now = piece.left_by or int(left), piece.right_by or int(right)
         piece.left_by, piece.right_by = now
         low, high = self.sides(piece, y)
         if low > high:
             piece.left_by, piece.right_by = was
-            self.flush(piece)
+            if piece.since < y:
+                self.flush(piece)
+            piece.lefts = piece.rights = None
             piece.left_by, piece.right_by = now
 
     def change(self, piece, y, left, right, left_by, right_by):
