@@ -79,8 +79,8 @@ class Operations:
         chain, most = arc_chain(centre, *((start, self.spot) if anticlockwise else (self.spot, start))) if centre is not None else ([start, start], 0)
         both = chain_bounds(chain if anticlockwise else chain[::-1], most, radius)
         if radius > 0 and not both[0]:
-            self.lost.append(f"an arc at command {self.number}")
-        areas = ring(centre, chain, radius.__floor__() - most, radius.__ceil__()) if self.cuts and centre is not None else None
+            self.lose(f"an arc at command {self.number}")
+        areas = ring(centre, chain, radius.__ceil__()) if self.cuts and centre is not None else None
         self.write_pieces(both, areas)
 
     def pen_radius(self):
@@ -126,7 +126,7 @@ class Operations:
             self.replaced += 1
             shape = self.changed(made)
             if shape.lost:
-                self.lost.append(f"{shape.lost} at command {self.number}")
+                self.lose(f"{shape.lost} at command {self.number}")
             if self.stays(*([moved(piece, *self.spot) for piece in pieces] for pieces in shape.both) if self.is_noted() else ((), ())):
                 for side, pieces in zip(self.sides, shape.both):
                     side.pieces(pieces, self.spot, self.number)

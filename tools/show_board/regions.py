@@ -79,7 +79,7 @@ class Regions:
         if not closed:
             return [[*map(by, outer)]], [[*map(by, outer)]]
         if not inner:
-            self.lost.append(f"a contour with arcs of the region at command {self.number}")
+            self.lose(f"a contour with arcs of the region at command {self.number}")
         run = lambda corners: [*map(by, corners), by(corners[0])]
         return [run(corners) for corners in inner], [run(outer)] if outer else []
 

@@ -43,7 +43,7 @@ def in_it(dx, dy, radius):
 
 @lru_cache(4096)
 def round_it(dx, dy, radius):
-    """Convex, and both ends lie left of each side, a radius from it at least."""
+    """Convex, and both ends lie left of each side, over a radius from it."""
     for more in (3, 8, 64):
         half = normals(dx, dy, max(radius, SMALL) + more)
         tips = [tip(p, q, max(radius, SMALL) + more) for p, q in zip(half, half[1:])]
@@ -69,35 +69,45 @@ def is_convex(corners):
 
 def keeps_off(p, q, c, radius):
     turn = cross(p, q, c)
-    return turn > 0 and turn * turn >= radius * radius * dot(p, q, q)
+    return turn > 0 and turn * turn > radius * radius * dot(p, q, q)
 
 
-def ring(centre, chain, low, high):
-    """(inner, outer): areas for a draw along an arc with half a pen `high`, by its chain counterclockwise; None where it is too
-    small. `low` is less by what chain and arc are apart. The corners of an inner one lie so far within half a pen of a link of a
-    finer chain that it lies in the draw. Where a place of the draw lies at an angle of the arc, its distance from the centre is
-    within `high` of the arc's, so in an outer area; elsewhere an end is the nearest of a circular arc, so it lies in the disc
-    about that, wider by what the arc's distances and the rounding are."""
+def ring(centre, chain, high):
+    """(inner, outer): areas for a draw along an arc with half a pen of over `high` - 1 and at most `high`, by its chain
+    counterclockwise; None where it is too small. Every curve counts whose distances from the centre are within `least` and `most`:
+    those of the ends, and past half a turn as much further as they differ.
+
+    The corners of an inner one lie within `low` of a link of a finer chain. At each angle link and curve are at most `slack` less 8
+    apart, at the ends by 2 beside it, so all of it lies in the draw. Where a place of the draw lies at an angle of the arc, its
+    distance from the centre is within `high` of the curve's, so in an outer area. Elsewhere an end is the nearest of a circular
+    arc, so it lies in the disc about that, wider by what the distances differ and the rounding."""
     offs = [dot(centre, p, p) for p in (chain[0], chain[-1])]
     near, far = isqrt(min(offs)), ceil_root(max(offs))
-    deep, low, wide, slim = max(0, near - (high - low)), low - (far - near) - 4, far + high, max(0, near - high)
-    if low < 1000 or near < 1000 or len(chain) < 3:
+    bent = far - near if cross(centre, chain[0], chain[-1]) < 0 and offs[0] != offs[1] else 0
+    least, most = near - bent, far + bent
+    wide, slim = most + high, max(0, least - high)
+    if least < 1000 or len(chain) < 3:
         return None
     out = lambda p, by: scaled(centre, (p[0] - centre[0], p[1] - centre[1]), by)
     fine = arc_points(centre, out(chain[0], wide), out(chain[-1], wide), wide)
     if not goes_once(lambda p, q: cross(centre, p, q), fine):
         return None
-    off = [(x - centre[0], y - centre[1]) for x, y in (out(p, low - 2) for p in fine)]
     links = [out(p, (near + far) // 2) for p in fine]
+    deep = min(isqrt(cross(centre, p, q) ** 2 // dot(p, q, q)) for p, q in zip(links, links[1:]))
+    slack = max(most - deep, max(ceil_root(dot(centre, p, p)) for p in links) - least) + 8
+    low = high - 1 - slack
+    if low < 1000:
+        return None
+    off = [(x - centre[0], y - centre[1]) for x, y in (out(p, low - 2) for p in fine)]
     sides = [[(p[0] + s * x, p[1] + s * y) for p, (x, y) in zip(links, off)] for s in (1, -1)]
     step = max(dot(p, q, q) for p, q in zip(fine, fine[1:]))
     tops, feet = [out(p, wide + step // (4 * wide) + 8) for p in fine], [out(p, slim - 2) if slim > 2 else centre for p in fine]
     if any(dot((0, 0), p, p) > low * low for p in off) or any(dot(centre, p, p) > slim * slim for p in feet):
         return None
-    if not all(keeps_off(*two, centre, by) for chain_of, by in ((tops, wide), (links, deep)) for two in zip(chain_of, chain_of[1:])):
+    if not all(keeps_off(p, q, centre, wide) for p, q in zip(tops, tops[1:])):
         return None
     both = [[[a, b, d, c] for a, b, c, d in zip(one, one[1:], two, two[1:])] for one, two in (sides, (tops, feet))]
     for end in {chain[0], chain[-1]}:
-        both[0] += [found for found in [polygon(("capsule", end, end, low), False)] if found]
-        both[1].append(polygon(("capsule", end, end, high + 2 * (far - near) + 8), True))
+        both[0] += [found for found in [polygon(("capsule", end, end, high - 1), False)] if found]
+        both[1].append(polygon(("capsule", end, end, high + 4 * (far - near) + 8), True))
     return tuple(both)

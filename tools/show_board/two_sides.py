@@ -84,6 +84,10 @@ class Copper(Settings, Definitions, Operations, Regions):
         """Whether an object is known already and is not written: by a second walk."""
         return any(self.written) and not self.blocks and (self.clear or self.number in self.taken)
 
+    def lose(self, what):
+        """What LOWER leaves out, or what a clear object does not take away from UPPER."""
+        self.lost.append(f"what {what} takes away, which the upper bound has" if self.clear else what)
+
     def polarity(self, word):
         if self.contours is not None and (self.clear or word == "LPC"):
             raise Refused("a word in a region")

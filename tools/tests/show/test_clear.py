@@ -204,9 +204,9 @@ class Rounds(unittest.TestCase):
         rng = random.Random(27)
         for _ in range(8 * MANY):
             radius, a, b = circle_ends(rng, 400)
-            pen = rng.choice((rng.randrange(2000, 2 * 10 ** 6), rng.randrange(2000, radius * 3)))
-            chain, most = arc_chain((0, 0), a, b)
-            low, high = ([("area", corners) for corners in its] for its in ring((0, 0), chain, pen - most, pen))
+            pen = rng.choice((rng.randrange(10 ** 4, 2 * 10 ** 6), rng.randrange(10 ** 4, radius * 3 + 2 * 10 ** 4)))
+            chain, _ = arc_chain((0, 0), a, b)
+            low, high = ([("area", corners) for corners in its] for its in ring((0, 0), chain, pen))
             for _ in range(40):
                 t, side, end, off = rng.random() * 7, rng.choice((-1, 1)), rng.choice((None, None, a, b)), rng.choice((2, 12, 5000, 20000))
                 at = [v + pen * f(t) if end else (radius + side * pen) * f(t) for v, f in zip(end or a, (math.cos, math.sin))]
