@@ -6,9 +6,10 @@ into columns. One is dark or clear where it is that at every height, by all orde
 it is clear for LOWER and dark for UPPER.
 """
 from fractions import Fraction as Q
+from functools import cmp_to_key
 
 from .exact import Refused
-from .strands import crossing, straight, toggled
+from .strands import crossing, slope, straight, toggled
 
 MOST_BUNDLES = 300_000
 MOST_WALLS = 24         # strands of a bundle whose orders are looked at
@@ -73,7 +74,16 @@ def bundle(sweep, y, i, j):
     sweep.recast(y, i, old, new, below)
     sweep.note(y + 1, new[0].x2)
     sweep.spans.setdefault(y + 1, []).append((new[0].x2, new[-1].x2))
+    sweep.unders.setdefault(y + 1, []).extend(under(left, old, y + 1))
     sweep.back.setdefault(y + 1, []).extend((x, e) for x, e in zip(ends, old) if e.y2 > y + 1)
+
+
+def under(left, old, top):
+    """For each strand its place on the upper line, what covers the gaps beside it just below that, and its area."""
+    cover = left
+    for e in sorted(old, key=cmp_to_key(lambda a, b: a.at(top) - b.at(top) or slope(b, a))):
+        before, cover = cover, toggled(cover, e.item)
+        yield e.at(top), before, cover, e.item
 
 
 def columns(sweep, left, old, y):

@@ -4,6 +4,7 @@ The copper is what each dark object has outside all clear ones after it. Below i
 the clear objects' pieces round them; above it are the pieces round without the pieces within. At a border between dark and clear
 either is allowed. Dark objects that no later clear one comes near stay as they are.
 """
+from collections import Counter
 from typing import NamedTuple
 
 from .rounds import polygon
@@ -89,8 +90,8 @@ def cut(objects, also=()):
     apart, out = set(swept), []
     for side in (0, 1):
         written = [(piece, it.tag) for n, it in enumerate(objects) if it.dark and it.tag in tags and n not in apart for piece in it.both[side]]
-        items = [(it.dark, corners, it.tag) for it in (objects[n] for n in swept) for corners in corners_of(it, side)]
-        made = Sweep([it[:2] for it in items], bool(side)).out
+        items = [(it.dark, corners, it.tag, within) for it in (objects[n] for n in swept) for corners, within in corners_of(it, side)]
+        made = Sweep([it[:2] for it in items], bool(side), [k for k, it in enumerate(items) if it[3]]).out
         last = max((k for k, it in enumerate(items) if it[0]), default=0)
         written += [(("area", corners), items[k if k >= 0 else last][2]) for corners, k in made]
         out.append(written)
@@ -104,25 +105,27 @@ def whole(objects):
 
 
 def corners_of(it, side):
-    """For UPPER the dark ones round and the clear ones within, and the other way for LOWER."""
+    """(corners, whether they lie within the object's border) of areas, for UPPER of the dark ones round and the clear ones within,
+    and the other way for LOWER."""
     outer = bool(side) == it.dark
     if it.areas:
-        yield from it.areas[1 if outer else 0]
+        yield from ((corners, not outer) for corners in it.areas[1 if outer else 0])
         return
     for piece in it.both[1 if outer else 0]:
         corners = polygon(piece, outer)
         if corners:
-            yield corners
+            yield corners, not outer and piece[0] != "area"
             if outer and not it.dark and piece[0] == "area":
-                yield from caps(corners)
+                yield from ((cap, False) for cap in caps(corners))
 
 
 def caps(corners):
-    """A unit round all level edges and all corners at which a contour turns upwards or downwards: with these and the sweep's
-    distance to both sides LOWER has nothing of a clear area's border."""
+    """A unit round all level edges and all corners at which a contour turns upwards or downwards, or comes twice: with these and
+    the sweep's distance to both sides LOWER has nothing of a clear area's border."""
     spots = [p for k, p in enumerate(corners) if p != corners[k - 1]]
+    often = Counter(spots)
     for k, (x, y) in enumerate(spots):
         p, q = spots[k - 1], spots[(k + 1) % len(spots)]
-        if q[1] == y or p[1] != y and (p[1] < y) == (q[1] < y):
+        if q[1] == y or often[x, y] > 1 or p[1] != y and (p[1] < y) == (q[1] < y):
             low, high = (min(x, q[0]), max(x, q[0])) if q[1] == y else (x, x)
             yield [(low - 1, y - 1), (high + 1, y - 1), (high + 1, y + 1), (low - 1, y + 1)]

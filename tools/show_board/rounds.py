@@ -32,13 +32,14 @@ def normals(dx, dy, radius):
 
 @lru_cache(4096)
 def in_it(dx, dy, radius):
-    """All corners lie in the piece, which is convex."""
-    small = radius < SMALL
-    half = [(radius, 0), (0, radius)] if small else normals(dx, dy, radius - 2)
-    found = [(x + dx, y + dy) for x, y in half] + [(-x, -y) for x, y in half]
-    if small:
-        found = [(radius, 0), (0, radius), (-radius, 0), (0, -radius)]
-    return found if all(min(dot((0, 0), p, p), dot((dx, dy), p, p)) <= radius * radius for p in found) else None
+    """All corners lie in the piece and not on its border, and it is convex."""
+    within = radius - 1 if radius < SMALL else radius - 2
+    if radius < SMALL:
+        found = [(within, 0), (0, within), (-within, 0), (0, -within)]
+    else:
+        half = normals(dx, dy, within)
+        found = [(x + dx, y + dy) for x, y in half] + [(-x, -y) for x, y in half]
+    return found if within and all(min(dot((0, 0), p, p), dot((dx, dy), p, p)) < radius * radius for p in found) else None
 
 
 @lru_cache(4096)

@@ -35,13 +35,14 @@ def windows_of(spans, starts):
 
 
 class Sweep:
-    """`items` are (dark, corners) in order; `out` are (corners, item) of the contours."""
+    """`items` are (dark, corners) in order; `out` are (corners, item) of the contours. Of clear ones whose numbers are `closed` the
+    border is theirs for certain."""
 
-    def __init__(self, items, upper):
+    def __init__(self, items, upper, closed=()):
         self.upper, self.status, self.runs, self.seeds, self.count, self.touched = upper, [], Runs(upper), [], 0, ()
-        self.noted, self.spans, self.levels, self.back, self.heap = {}, {}, {}, {}, []
+        self.noted, self.spans, self.levels, self.back, self.unders, self.heap = {}, {}, {}, {}, {}, []
         self.dark = [dark for dark, _ in items] + [False, True]     # the last two: what stands for clear and dark in a bundle
-        self.out = self.runs.out
+        self.out, self.closed = self.runs.out, set(closed)
         events, strands = [], []
         for k, (_, corners) in enumerate(items):
             found, levels = strands_of(corners, k)
@@ -87,7 +88,7 @@ class Sweep:
             events = [event for group in places(events) if not self.alone(y, group) for event in group]
         if events or spans:
             spans.update((x, x) for x, _ in events)
-            starts = self.back.pop(y, [])
+            starts, self.under = self.back.pop(y, []), self.unders.pop(y, ())
             for x, strand in events:
                 if strand.rest and not strand.active:
                     strand.rise()
@@ -258,14 +259,17 @@ class Sweep:
         for side in (below, above):
             cover = left
             for x, after, item in side:
-                gaps, items = near.setdefault(x, ([], []))
-                gaps += [cover, after]
-                items += [item, *cover, *after]
+                if item is not None:
+                    near.setdefault(x, []).append((cover, after, item))
                 cover = after
-        for x, (gaps, items) in near.items():
+        for x, before, after, item in self.under:
+            if x in near:
+                near[x].append((before, after, item))
+        for x, found in near.items():
+            gaps = [gap for before, after, _ in found for gap in (before, after)]
             if not any(map(self.is_dark, gaps)):
-                every = set(gaps[0]).intersection(*gaps[1:])
-                last = max((k for k in items if k is not None and (self.dark[k] or k in every)), default=-2)
+                every, items = set(gaps[0]).intersection(*gaps[1:]), {item for *_, item in found}.union(*gaps)
+                last = max((k for k in items if self.dark[k] or k in self.closed or k in every), default=-2)
                 if self.dark[last]:
                     low, high = x.__floor__() - 1, x.__ceil__() + 1
                     self.out.append(([(low, y - 1), (high, y - 1), (high, y + 1), (low, y + 1)], last))
@@ -328,7 +332,7 @@ class Sweep:
 
     def hair(self, one, two, items):
         """The dark area that is left on a border of some between two gaps, where clear areas do not have their borders, or None."""
-        last = max((k for k in {*one, *two, *items} if k is not None and (self.dark[k] or k in one and k in two)), default=-2)
+        last = max((k for k in {*one, *two, *items} if k is not None and (self.dark[k] or k in self.closed or k in one and k in two)), default=-2)
         return last if self.dark[last] else None
 
     def level(self, y, i, below, above):
