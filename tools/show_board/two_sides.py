@@ -146,7 +146,7 @@ class Copper(Settings, Definitions, Operations, Regions):
             self.set_scale(word, "%MOMM*%")
         elif word in ("LPC", "LPD"):
             self.polarity(word)
-        elif negative.is_negative(word):
+        elif negative.is_negative(word) and not self.blocks:
             if self.negative:
                 raise Refused("a file that is negative twice")
             self.negative = self.number
