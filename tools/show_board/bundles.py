@@ -87,7 +87,12 @@ def under(left, old, top):
 
 
 def columns(sweep, left, old, y):
-    """The strands that stay as walls, the steepest first, and for the columns between them whether dark, clear or both occur."""
+    """The strands that stay as walls, the steepest first, and for the columns between them whether dark, clear or both occur. Those
+    of areas under the last one that covers all of the bundle do not matter."""
+    last = max(set(left).difference(e.item for e in old), default=-1)
+    old = [e for e in old if e.item > last]
+    if not old:
+        return [], [{sweep.is_dark(left)}]
     if len(old) > MOST_WALLS:
         return [], [{True, False}]
     crosses = {(a, b) for k, a in enumerate(old) for b in old[k + 1:] if a.at(y + 1) > b.at(y + 1)}

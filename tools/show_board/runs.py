@@ -40,15 +40,19 @@ class Runs:
             return left.down(y) - piece.left_by, right.up(y) + piece.right_by
         return (left.down(y) + 1 if piece.left_by else left.up(y)), (right.up(y) - 1 if piece.right_by else right.down(y))
 
-    def settle(self, piece, y):
-        """Adds the trapezoid from the piece's last line to this one."""
-        if piece.since == y:
-            return
+    def pin(self, piece):
+        """Adds the corners that are wanted at the piece's last line."""
         if piece.tight and piece.lefts is not None:
             low, high = self.sides(piece, piece.since)
             piece.lefts.append((low, piece.since))
             piece.rights.append((high, piece.since))
         piece.tight = False
+
+    def settle(self, piece, y):
+        """Adds the trapezoid from the piece's last line to this one."""
+        if piece.since == y:
+            return
+        self.pin(piece)
         l1, r1 = self.sides(piece, y)
         if piece.lefts is None:
             l0, r0 = self.sides(piece, piece.since)
@@ -95,6 +99,8 @@ class Runs:
     def narrow(self, piece, y, left, right):
         """A side keeps off its strand at a line. Where it would cross the other, the contour ends before; where that was settled
         already, in a run of a unit's width, it is left out."""
+        if piece.since < y:
+            self.pin(piece)
         was = piece.left_by, piece.right_by
         now = piece.left_by or int(left), piece.right_by or int(right)
         piece.left_by, piece.right_by = now

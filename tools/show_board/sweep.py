@@ -9,7 +9,8 @@ The border of a clear area may be dark or not. LOWER keeps a unit off it to both
 looked at for that, so who wants them out makes the area larger. UPPER has it, also where two areas share an edge and
 nothing else is left.
 """
-from heapq import heapify, heappop, heappush
+from bisect import bisect_right
+from heapq import heappop, heappush
 
 from . import bundles
 from .exact import Refused
@@ -265,8 +266,9 @@ class Sweep:
         for x, before, after, item in self.under:
             if x in near:
                 near[x].append((before, after, item))
+        sides = [([x for x, *_ in side], [left] + [after for _, after, _ in side]) for side in (below, above)]
         for x, found in near.items():
-            gaps = [gap for before, after, _ in found for gap in (before, after)]
+            gaps = [gap for before, after, _ in found for gap in (before, after)] + [covers[bisect_right(xs, x)] for xs, covers in sides]
             if not any(map(self.is_dark, gaps)):
                 every, items = set(gaps[0]).intersection(*gaps[1:]), {item for *_, item in found}.union(*gaps)
                 last = max((k for k in items if self.dark[k] or k in self.closed or k in every), default=-2)
