@@ -10,6 +10,7 @@ from functools import cmp_to_key
 
 from .exact import Refused
 from .strands import crossing, slope, straight, toggled
+from .swaps import Swap
 
 MOST_BUNDLES = 300_000
 MOST_WALLS = 24         # strands of a bundle whose orders are looked at
@@ -28,8 +29,15 @@ def straighten(sweep, y):
     sweep.seeds, before = [], None
     while found != before:
         before, found = found, merged([widened(status, i, j, y + 1) for i, j in sorted(found)])
+    swaps = []
     for i, j in reversed(found):
-        bundle(sweep, y, i, j)
+        swap = Swap(sweep, y, i) if j - i == 2 else None
+        if swap and swap.is_plain():
+            swaps.append(swap)
+        else:
+            bundle(sweep, y, i, j)
+    for swap in swaps:
+        swap.make()
 
 
 def widened(status, i, j, top):

@@ -271,6 +271,7 @@ class Sweep:
             gaps = [gap for before, after, _ in found for gap in (before, after)] + [covers[bisect_right(xs, x)] for xs, covers in sides]
             if not any(map(self.is_dark, gaps)):
                 every, items = set(gaps[0]).intersection(*gaps[1:]), {item for *_, item in found}.union(*gaps)
+                items.update(item for low, high, item in self.levels.get(y, ()) if low <= x <= high)
                 last = max((k for k in items if self.dark[k] or k in self.closed or k in every), default=-2)
                 if self.dark[last]:
                     low, high = x.__floor__() - 1, x.__ceil__() + 1
