@@ -68,25 +68,35 @@ class Sweep:
     # ---- lines
 
     def lines(self, events, strands):
-        at, end = 0, len(events)
-        while at < end or self.heap:
-            y = events[at][0] if at < end else self.heap[0]
-            if self.heap and self.heap[0] < y:
-                y = self.heap[0]
-            if self.heap and self.heap[0] == y:
-                heappop(self.heap)
-            here = []
-            while at < end and events[at][0] == y:
-                here.append((events[at][1], strands[events[at][2]]))
+        """Line by line; what is alone at its place is done at once, but where a line was noted."""
+        at, end, heap, events = 0, len(events), self.heap, events + [(None, None, None)]
+        y, x, k = events[0]
+        while at < end or heap:
+            if at == end or heap and heap[0] <= y:
+                line, here = heappop(heap), []
+                while at < end and y == line:
+                    here.append((x, strands[k]))
+                    at += 1
+                    y, x, k = events[at]
+                self.line(line, here)
+                continue
+            line, here = y, []
+            while y == line:
+                group, place = [strands[k]], x
                 at += 1
-            self.line(y, here)
+                y, x, k = events[at]
+                while x == place and y == line:
+                    group.append(strands[k])
+                    at += 1
+                    y, x, k = events[at]
+                if not (self.turn(line, place, group[0]) if len(group) == 1 else self.pair(line, place, group)):
+                    here += [(place, strand) for strand in group]
+            if here or self.seeds:
+                self.line(line, here)
 
     def line(self, y, events):
         spans = {(x, x) for x in self.noted.pop(y, ())}
-        if spans:
-            spans.update(self.spans.pop(y, ()))
-        else:
-            events = [event for group in places(events) if not self.alone(y, group) for event in group]
+        spans.update(self.spans.pop(y, ()))
         if events or spans:
             spans.update((x, x) for x, _ in events)
             starts, self.under = self.back.pop(y, []), self.unders.pop(y, ())
@@ -101,19 +111,17 @@ class Sweep:
 
     # ---- where one contour touches no other
 
-    def alone(self, y, group):
-        """Does all that is to be done at a place; False where more may meet there."""
-        if len(group) == 1:
-            return self.turn(y, *group[0])
-        (x, s), (_, t) = group[:2]
+    def pair(self, y, x, group):
+        """Does all that is to be done where two strands end or start; False where more may meet there."""
+        s, t = group[:2]
         if len(group) > 2 or s.item != t.item or s.active != t.active or bool(s.rest) != bool(t.rest) or s.active == bool(s.rest):
             return False
         return self.ends(y, x, s, t) if s.active else self.starts(y, x, s, t)
 
     def turn(self, y, x, s):
-        """A strand goes on with another edge."""
+        """A strand goes on with another edge; False where more may meet there."""
         a, b = s.before, s.after
-        if not s.active or not s.rest or a and a.side(x, y) >= 0 or b and b.side(x, y) <= 0:
+        if not s.active or not s.rest or a and a.high >= x and a.side(x, y) >= 0 or b and b.low <= x and b.side(x, y) <= 0:
             return False
         if s.opens:
             self.runs.turn(s.opens, s, x, y)
@@ -386,17 +394,6 @@ class Sweep:
                 Piece(y, cover[-1]).take(a, b, left_by, right_by)
             else:
                 self.runs.change(below[n][2], y, a, b, left_by, right_by)
-
-
-def places(events):
-    """Events at one place together; they are sorted."""
-    out = []
-    for event in events:
-        if out and out[-1][0][0] == event[0]:
-            out[-1].append(event)
-        else:
-            out.append([event])
-    return out
 
 
 def linked(below, above):
