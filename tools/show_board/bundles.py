@@ -5,6 +5,7 @@ outwards, so its chord lies beyond all of them, and the least likewise. Strands 
 into columns. One is dark or clear where it is that at every height, by all orders that the strands have on the way; where both occur
 it is clear for LOWER and dark for UPPER.
 """
+from collections import Counter
 from fractions import Fraction as Q
 from functools import cmp_to_key
 
@@ -29,15 +30,19 @@ def straighten(sweep, y):
     sweep.seeds, before = [], None
     while found != before:
         before, found = found, merged([widened(status, i, j, y + 1) for i, j in sorted(found)])
-    swaps = []
+    swaps, often = [], Counter(piece for i, j in found for piece in pieces(status[i:j]))
     for i, j in reversed(found):
-        swap = Swap(sweep, y, i) if j - i == 2 else None
+        swap = Swap(sweep, y, i) if j - i == 2 and all(often[piece] == 1 for piece in pieces(status[i:j])) else None
         if swap and swap.is_plain():
             swaps.append(swap)
         else:
             bundle(sweep, y, i, j)
     for swap in swaps:
         swap.make()
+
+
+def pieces(strands):
+    return {piece for e in strands for piece in (e.opens, e.ends) if piece}
 
 
 def widened(status, i, j, top):

@@ -60,12 +60,11 @@ class Swap:
     def bend(self, was, now, is_chord, is_left, by):
         """A side goes on another strand. What is too narrow for that is left out of LOWER."""
         y, piece, runs = self.y, was.opens if is_left else was.ends, self.runs
-        if piece.since <= y:
-            runs.settle(piece, y)
-            self.begin(piece)
+        runs.settle(piece, y)
+        self.begin(piece)
         if piece.lefts is not None:
-            mine, other = (piece.lefts, piece.rights) if is_left else (piece.rights, piece.lefts)
-            far = other[-1][0] if piece.since > y else self.place(piece.right if is_left else piece.left, y + 1, not is_left)
+            mine = piece.lefts if is_left else piece.rights
+            far = self.place(piece.right if is_left else piece.left, y + 1, not is_left)
             corners = [(self.place(was, y, is_left), y) if is_chord else (self.place(was, y + 1, is_left), y + 1), (self.place(now, y + 1, is_left), y + 1)]
             if self.sweep.upper or all(2 <= (far - x if is_left else x - far) for x in (self.place(was, y + 1, is_left), corners[1][0])):
                 mine += corners
