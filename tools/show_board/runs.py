@@ -138,3 +138,17 @@ class Runs:
         corners = [p for k, p in enumerate(around) if p != around[k - 1]]
         if sum(a[0] * b[1] - a[1] * b[0] for a, b in edges(corners)):
             self.out.append((corners, piece.item))
+
+
+def linked(below, above):
+    """For each run above the line those below it that it shares more than a place with."""
+    ups, k = [[] for _ in above], 0
+    for n, (low, high, *_) in enumerate(below):
+        while k < len(above) and above[k][1] is not None and low is not None and above[k][1] <= low:
+            k += 1
+        m = k
+        while m < len(above) and (above[m][0] is None or high is None or above[m][0] < high):
+            if above[m][1] is None or low is None or above[m][1] > low:
+                ups[m].append(n)
+            m += 1
+    return ups

@@ -14,25 +14,9 @@ from heapq import heappop, heappush
 
 from . import bundles
 from .exact import Refused
-from .runs import Piece, Runs
+from .runs import Piece, Runs, linked
 from .spots import cross
-from .strands import crossing, ordered, slope, strands_of, toggled
-
-
-def windows_of(spans, starts):
-    """Spans of x that touch are one; each with the strands that start in it."""
-    out = []
-    for low, high in sorted(spans):
-        if out and low <= out[-1][1]:
-            out[-1][1] = max(out[-1][1], high)
-        else:
-            out.append([low, high, []])
-    k = 0
-    for x, _, strand in sorted((x, n, strand) for n, (x, strand) in enumerate(starts)):
-        while out[k][1] < x:
-            k += 1
-        out[k][2].append(strand)
-    return out
+from .strands import crossing, ordered, slope, strands_of, toggled, windows_of
 
 
 class Sweep:
@@ -394,17 +378,3 @@ class Sweep:
                 Piece(y, cover[-1]).take(a, b, left_by, right_by)
             else:
                 self.runs.change(below[n][2], y, a, b, left_by, right_by)
-
-
-def linked(below, above):
-    """For each run above the line those below it that it shares more than a place with."""
-    ups, k = [[] for _ in above], 0
-    for n, (low, high, *_) in enumerate(below):
-        while k < len(above) and above[k][1] is not None and low is not None and above[k][1] <= low:
-            k += 1
-        m = k
-        while m < len(above) and (above[m][0] is None or high is None or above[m][0] < high):
-            if above[m][1] is None or low is None or above[m][1] > low:
-                ups[m].append(n)
-            m += 1
-    return ups
