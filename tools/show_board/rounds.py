@@ -78,9 +78,9 @@ def ring(centre, chain, high):
     counterclockwise; None where it is too small. Every curve counts whose distances from the centre are within `least` and `most`:
     those of the ends, and past half a turn as much further as they differ.
 
-    The corners of an inner one lie within `low` of a link of a finer chain, the centre where the pen is so wide. At each angle link and curve are at most `slack` less 8
-    apart, at the ends by 2 beside it, so all of it lies in the draw. Where a place of the draw lies at an angle of the arc, its
-    distance from the centre is within `high` of the curve's, so in an outer area. Elsewhere an end is the nearest of a circular
+    The corners of an inner one lie within `low` of a link of a finer chain, the centre where the pen is so wide. At each angle link
+    and curve are at most `slack` less 8 apart, at the ends by 2 beside it, so all of it lies in the draw. Where a place of the draw
+    lies at an angle of the arc, its distance from the centre is within `high` of the curve's, so in an outer area. Elsewhere an end is the nearest of a circular
     arc, so it lies in the disc about that, wider by what the distances differ and the rounding."""
     offs = [dot(centre, p, p) for p in (chain[0], chain[-1])]
     near, far = isqrt(min(offs)), ceil_root(max(offs))
