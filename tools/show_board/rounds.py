@@ -80,8 +80,8 @@ def ring(centre, chain, high):
 
     The corners of an inner one lie within `low` of a link of a finer chain, the centre where the pen is so wide. At each angle link
     and curve are at most `slack` less 8 apart, at the ends by 2 beside it, so all of it lies in the draw. Where a place of the draw
-    lies at an angle of the arc, its distance from the centre is within `high` of the curve's, so in an outer area. Elsewhere an end is the nearest of a circular
-    arc, so it lies in the disc about that, wider by what the distances differ and the rounding."""
+    lies at an angle of the arc, its distance from the centre is within `high` of the curve's, so in an outer area. Elsewhere an end
+    is the nearest of a circular arc, so it lies in the disc about that, wider by what the distances differ and the rounding."""
     offs = [dot(centre, p, p) for p in (chain[0], chain[-1])]
     near, far = isqrt(min(offs)), ceil_root(max(offs))
     bent = far - near if cross(centre, chain[0], chain[-1]) < 0 and offs[0] != offs[1] else 0
