@@ -5,11 +5,13 @@ outwards, so its chord lies beyond all of them, and the least likewise. Strands 
 into columns. One is dark or clear where it is that at every height, by all orders that the strands have on the way; where both occur
 it is clear for LOWER and dark for UPPER.
 """
+from collections import Counter
 from fractions import Fraction as Q
 from functools import cmp_to_key
 
 from .exact import Refused
 from .strands import crossing, slope, straight, toggled
+from .swaps import Swap
 
 MOST_BUNDLES = 300_000
 MOST_WALLS = 24         # strands of a bundle whose orders are looked at
@@ -28,8 +30,19 @@ def straighten(sweep, y):
     sweep.seeds, before = [], None
     while found != before:
         before, found = found, merged([widened(status, i, j, y + 1) for i, j in sorted(found)])
+    swaps, often = [], Counter(piece for i, j in found for piece in pieces(status[i:j]))
     for i, j in reversed(found):
-        bundle(sweep, y, i, j)
+        swap = Swap(sweep, y, i) if j - i == 2 and all(often[piece] == 1 for piece in pieces(status[i:j])) else None
+        if swap and swap.is_plain():
+            swaps.append(swap)
+        else:
+            bundle(sweep, y, i, j)
+    for swap in swaps:
+        swap.make()
+
+
+def pieces(strands):
+    return {piece for e in strands for piece in (e.opens, e.ends) if piece}
 
 
 def widened(status, i, j, top):
@@ -87,7 +100,12 @@ def under(left, old, top):
 
 
 def columns(sweep, left, old, y):
-    """The strands that stay as walls, the steepest first, and for the columns between them whether dark, clear or both occur."""
+    """The strands that stay as walls, the steepest first, and for the columns between them whether dark, clear or both occur. Those
+    of areas under the last one that covers all of the bundle do not matter."""
+    last = max(set(left).difference(e.item for e in old), default=-1)
+    old = [e for e in old if e.item > last]
+    if not old:
+        return [], [{sweep.is_dark(left)}]
     if len(old) > MOST_WALLS:
         return [], [{True, False}]
     crosses = {(a, b) for k, a in enumerate(old) for b in old[k + 1:] if a.at(y + 1) > b.at(y + 1)}

@@ -5,9 +5,11 @@ the clear objects' pieces round them; above it are the pieces round without the 
 either is allowed. Dark objects that no later clear one comes near stay as they are.
 """
 from collections import Counter
+from math import gcd
 from typing import NamedTuple
 
 from .rounds import polygon
+from .spots import edges
 from .sweep import Sweep
 
 CELLS = 64          # to each side
@@ -120,12 +122,33 @@ def corners_of(it, side):
 
 
 def caps(corners):
-    """A unit round all level edges and all corners at which a contour turns upwards or downwards, or comes twice: with these and
-    the sweep's distance to both sides LOWER has nothing of a clear area's border."""
+    """A unit beyond all corners at which a contour turns upwards or downwards, and round level edges and corners where it runs along
+    itself or comes twice: with these and the sweep's distance to both sides LOWER has nothing of a clear area's border."""
     spots = [p for k, p in enumerate(corners) if p != corners[k - 1]]
-    often = Counter(spots)
+    often = {p for p, times in Counter(spots).items() if times > 1} | doubled(spots)
     for k, (x, y) in enumerate(spots):
         p, q = spots[k - 1], spots[(k + 1) % len(spots)]
-        if q[1] == y or often[x, y] > 1 or p[1] != y and (p[1] < y) == (q[1] < y):
+        if q[1] == y or (x, y) in often:
             low, high = (min(x, q[0]), max(x, q[0])) if q[1] == y else (x, x)
             yield [(low - 1, y - 1), (high + 1, y - 1), (high + 1, y + 1), (low - 1, y + 1)]
+        elif p[1] != y and (p[1] < y) == (q[1] < y):
+            yield [(x - 1, y), (x, y - 1 if p[1] > y else y + 1), (x + 1, y)]
+
+
+def doubled(spots):
+    """The ends of edges, but level ones, that overlap along a line."""
+    lines, found = {}, set()
+    for a, b in edges(spots):
+        if a[1] != b[1]:
+            (x, y), (u, v) = a, b = (a, b) if a[1] < b[1] else (b, a)
+            by = gcd(u - x, v - y)
+            dx, dy = (u - x) // by, (v - y) // by
+            lines.setdefault((dx, dy, dx * y - dy * x), []).append((y, v, a, b))
+    for its in lines.values():
+        its.sort()
+        top = its[0]
+        for it in its[1:]:
+            if it[0] < top[1]:
+                found.update(it[2:] + top[2:])
+            top = max(top, it, key=lambda one: one[1])
+    return found

@@ -78,10 +78,10 @@ def ring(centre, chain, high):
     counterclockwise; None where it is too small. Every curve counts whose distances from the centre are within `least` and `most`:
     those of the ends, and past half a turn as much further as they differ.
 
-    The corners of an inner one lie within `low` of a link of a finer chain. At each angle link and curve are at most `slack` less 8
-    apart, at the ends by 2 beside it, so all of it lies in the draw. Where a place of the draw lies at an angle of the arc, its
-    distance from the centre is within `high` of the curve's, so in an outer area. Elsewhere an end is the nearest of a circular
-    arc, so it lies in the disc about that, wider by what the distances differ and the rounding."""
+    The corners of an inner one lie within `low` of a link of a finer chain, the centre where the pen is so wide. At each angle link
+    and curve are at most `slack` less 8 apart, at the ends by 2 beside it, so all of it lies in the draw. Where a place of the draw
+    lies at an angle of the arc, its distance from the centre is within `high` of the curve's, so in an outer area. Elsewhere an end
+    is the nearest of a circular arc, so it lies in the disc about that, wider by what the distances differ and the rounding."""
     offs = [dot(centre, p, p) for p in (chain[0], chain[-1])]
     near, far = isqrt(min(offs)), ceil_root(max(offs))
     bent = far - near if cross(centre, chain[0], chain[-1]) < 0 and offs[0] != offs[1] else 0
@@ -95,12 +95,13 @@ def ring(centre, chain, high):
         return None
     links = [out(p, (near + far) // 2) for p in fine]
     deep = min(isqrt(cross(centre, p, q) ** 2 // dot(p, q, q)) for p, q in zip(links, links[1:]))
-    slack = max(most - deep, max(ceil_root(dot(centre, p, p)) for p in links) - least) + 8
+    reach = max(ceil_root(dot(centre, p, p)) for p in links)
+    slack = max(most - deep, reach - least) + 8
     low = high - 1 - slack
     if low < 1000:
         return None
     off = [(x - centre[0], y - centre[1]) for x, y in (out(p, low - 2) for p in fine)]
-    sides = [[(p[0] + s * x, p[1] + s * y) for p, (x, y) in zip(links, off)] for s in (1, -1)]
+    sides = [[(p[0] + s * x, p[1] + s * y) if s > 0 or low < reach else centre for p, (x, y) in zip(links, off)] for s in (1, -1)]
     step = max(dot(p, q, q) for p, q in zip(fine, fine[1:]))
     tops, feet = [out(p, wide + step // (4 * wide) + 8) for p in fine], [out(p, slim - 2) if slim > 2 else centre for p in fine]
     if any(dot((0, 0), p, p) > low * low for p in off) or any(dot(centre, p, p) > slim * slim for p in feet):

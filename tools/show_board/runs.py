@@ -40,15 +40,19 @@ class Runs:
             return left.down(y) - piece.left_by, right.up(y) + piece.right_by
         return (left.down(y) + 1 if piece.left_by else left.up(y)), (right.up(y) - 1 if piece.right_by else right.down(y))
 
-    def settle(self, piece, y):
-        """Adds the trapezoid from the piece's last line to this one."""
-        if piece.since == y:
-            return
+    def pin(self, piece):
+        """Adds the corners that are wanted at the piece's last line."""
         if piece.tight and piece.lefts is not None:
             low, high = self.sides(piece, piece.since)
             piece.lefts.append((low, piece.since))
             piece.rights.append((high, piece.since))
         piece.tight = False
+
+    def settle(self, piece, y):
+        """Adds the trapezoid from the piece's last line to this one."""
+        if piece.since == y:
+            return
+        self.pin(piece)
         l1, r1 = self.sides(piece, y)
         if piece.lefts is None:
             l0, r0 = self.sides(piece, piece.since)
@@ -95,6 +99,8 @@ class Runs:
     def narrow(self, piece, y, left, right):
         """A side keeps off its strand at a line. Where it would cross the other, the contour ends before; where that was settled
         already, in a run of a unit's width, it is left out."""
+        if piece.since < y:
+            self.pin(piece)
         was = piece.left_by, piece.right_by
         now = piece.left_by or int(left), piece.right_by or int(right)
         piece.left_by, piece.right_by = now
@@ -132,3 +138,17 @@ class Runs:
         corners = [p for k, p in enumerate(around) if p != around[k - 1]]
         if sum(a[0] * b[1] - a[1] * b[0] for a, b in edges(corners)):
             self.out.append((corners, piece.item))
+
+
+def linked(below, above):
+    """For each run above the line those below it that it shares more than a place with."""
+    ups, k = [[] for _ in above], 0
+    for n, (low, high, *_) in enumerate(below):
+        while k < len(above) and above[k][1] is not None and low is not None and above[k][1] <= low:
+            k += 1
+        m = k
+        while m < len(above) and (above[m][0] is None or high is None or above[m][0] < high):
+            if above[m][1] is None or low is None or above[m][1] > low:
+                ups[m].append(n)
+            m += 1
+    return ups

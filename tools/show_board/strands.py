@@ -111,3 +111,19 @@ def strands_of(corners, item):
             strands.append(Strand(run if way[k] > 0 else run[::-1], item))
             run = []
     return strands, levels
+
+
+def windows_of(spans, starts):
+    """Spans of x that touch are one; each with the strands that start in it."""
+    out = []
+    for low, high in sorted(spans):
+        if out and low <= out[-1][1]:
+            out[-1][1] = max(out[-1][1], high)
+        else:
+            out.append([low, high, []])
+    k = 0
+    for x, _, strand in sorted((x, n, strand) for n, (x, strand) in enumerate(starts)):
+        while out[k][1] < x:
+            k += 1
+        out[k][2].append(strand)
+    return out

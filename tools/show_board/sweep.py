@@ -9,29 +9,14 @@ The border of a clear area may be dark or not. LOWER keeps a unit off it to both
 looked at for that, so who wants them out makes the area larger. UPPER has it, also where two areas share an edge and
 nothing else is left.
 """
-from heapq import heapify, heappop, heappush
+from bisect import bisect_right
+from heapq import heappop, heappush
 
 from . import bundles
 from .exact import Refused
-from .runs import Piece, Runs
+from .runs import Piece, Runs, linked
 from .spots import cross
-from .strands import crossing, ordered, slope, strands_of, toggled
-
-
-def windows_of(spans, starts):
-    """Spans of x that touch are one; each with the strands that start in it."""
-    out = []
-    for low, high in sorted(spans):
-        if out and low <= out[-1][1]:
-            out[-1][1] = max(out[-1][1], high)
-        else:
-            out.append([low, high, []])
-    k = 0
-    for x, _, strand in sorted((x, n, strand) for n, (x, strand) in enumerate(starts)):
-        while out[k][1] < x:
-            k += 1
-        out[k][2].append(strand)
-    return out
+from .strands import crossing, ordered, slope, strands_of, toggled, windows_of
 
 
 class Sweep:
@@ -67,25 +52,35 @@ class Sweep:
     # ---- lines
 
     def lines(self, events, strands):
-        at, end = 0, len(events)
-        while at < end or self.heap:
-            y = events[at][0] if at < end else self.heap[0]
-            if self.heap and self.heap[0] < y:
-                y = self.heap[0]
-            if self.heap and self.heap[0] == y:
-                heappop(self.heap)
-            here = []
-            while at < end and events[at][0] == y:
-                here.append((events[at][1], strands[events[at][2]]))
+        """Line by line; what is alone at its place is done at once, but where a line was noted."""
+        at, end, heap, events = 0, len(events), self.heap, events + [(None, None, None)]
+        y, x, k = events[0]
+        while at < end or heap:
+            if at == end or heap and heap[0] <= y:
+                line, here = heappop(heap), []
+                while at < end and y == line:
+                    here.append((x, strands[k]))
+                    at += 1
+                    y, x, k = events[at]
+                self.line(line, here)
+                continue
+            line, here = y, []
+            while y == line:
+                group, place = [strands[k]], x
                 at += 1
-            self.line(y, here)
+                y, x, k = events[at]
+                while x == place and y == line:
+                    group.append(strands[k])
+                    at += 1
+                    y, x, k = events[at]
+                if not (self.turn(line, place, group[0]) if len(group) == 1 else self.pair(line, place, group)):
+                    here += [(place, strand) for strand in group]
+            if here or self.seeds:
+                self.line(line, here)
 
     def line(self, y, events):
         spans = {(x, x) for x in self.noted.pop(y, ())}
-        if spans:
-            spans.update(self.spans.pop(y, ()))
-        else:
-            events = [event for group in places(events) if not self.alone(y, group) for event in group]
+        spans.update(self.spans.pop(y, ()))
         if events or spans:
             spans.update((x, x) for x, _ in events)
             starts, self.under = self.back.pop(y, []), self.unders.pop(y, ())
@@ -100,19 +95,17 @@ class Sweep:
 
     # ---- where one contour touches no other
 
-    def alone(self, y, group):
-        """Does all that is to be done at a place; False where more may meet there."""
-        if len(group) == 1:
-            return self.turn(y, *group[0])
-        (x, s), (_, t) = group[:2]
+    def pair(self, y, x, group):
+        """Does all that is to be done where two strands end or start; False where more may meet there."""
+        s, t = group[:2]
         if len(group) > 2 or s.item != t.item or s.active != t.active or bool(s.rest) != bool(t.rest) or s.active == bool(s.rest):
             return False
         return self.ends(y, x, s, t) if s.active else self.starts(y, x, s, t)
 
     def turn(self, y, x, s):
-        """A strand goes on with another edge."""
+        """A strand goes on with another edge; False where more may meet there."""
         a, b = s.before, s.after
-        if not s.active or not s.rest or a and a.side(x, y) >= 0 or b and b.side(x, y) <= 0:
+        if not s.active or not s.rest or a and a.high >= x and a.side(x, y) >= 0 or b and b.low <= x and b.side(x, y) <= 0:
             return False
         if s.opens:
             self.runs.turn(s.opens, s, x, y)
@@ -265,10 +258,12 @@ class Sweep:
         for x, before, after, item in self.under:
             if x in near:
                 near[x].append((before, after, item))
+        sides = [([x for x, *_ in side], [left] + [after for _, after, _ in side]) for side in (below, above)]
         for x, found in near.items():
-            gaps = [gap for before, after, _ in found for gap in (before, after)]
+            gaps = [gap for before, after, _ in found for gap in (before, after)] + [covers[bisect_right(xs, x)] for xs, covers in sides]
             if not any(map(self.is_dark, gaps)):
                 every, items = set(gaps[0]).intersection(*gaps[1:]), {item for *_, item in found}.union(*gaps)
+                items.update(item for low, high, item in self.levels.get(y, ()) if low <= x <= high)
                 last = max((k for k in items if self.dark[k] or k in self.closed or k in every), default=-2)
                 if self.dark[last]:
                     low, high = x.__floor__() - 1, x.__ceil__() + 1
@@ -383,28 +378,3 @@ class Sweep:
                 Piece(y, cover[-1]).take(a, b, left_by, right_by)
             else:
                 self.runs.change(below[n][2], y, a, b, left_by, right_by)
-
-
-def places(events):
-    """Events at one place together; they are sorted."""
-    out = []
-    for event in events:
-        if out and out[-1][0][0] == event[0]:
-            out[-1].append(event)
-        else:
-            out.append([event])
-    return out
-
-
-def linked(below, above):
-    """For each run above the line those below it that it shares more than a place with."""
-    ups, k = [[] for _ in above], 0
-    for n, (low, high, *_) in enumerate(below):
-        while k < len(above) and above[k][1] is not None and low is not None and above[k][1] <= low:
-            k += 1
-        m = k
-        while m < len(above) and (above[m][0] is None or high is None or above[m][0] < high):
-            if above[m][1] is None or low is None or above[m][1] > low:
-                ups[m].append(n)
-            m += 1
-    return ups

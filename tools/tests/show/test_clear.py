@@ -143,10 +143,20 @@ class Borders(unittest.TestCase):
             ("a void round an island, in its cut", [(True, SQUARE), (False, ring)], (12, 12), (False, False)),
             ("the island", [(True, SQUARE), (False, ring)], (20, 20), (True, True)),
             ("the island's side", [(True, SQUARE), (False, ring)], (14, 20), (False, True)),
+            ("a tip a unit off the side", [(True, block_of(0, 0, 20, 20)), (False, [(0, 14), (12, 19), (1, 11), (8, 0), (12, 19), (0, 14)])], (1, 11), (False, True)),
+            ("a void that runs along itself to its tip", [(True, [(0, 0), (12, 12), (0, 12)]), (False, [(2, 1), (2, 5), (0, 7), (2, 10)])], (2, 5), (False, True)),
+            ("the end of a thin area on a level side", [(True, [(8, 11), (8, 7), (8, 10)]), (False, [(9, 11), (10, 0), (6, 11)])], (8, 11), (False, True)),
+            ("a thin area on an upright side", [(True, [(1, 2), (2, 2), (2, 2), (1, 2)]), (False, [(1, 0), (1, 5), (3, 0), (3, 3)])], (1, 2), (False, True)),
         )
         for name, items, place, want in cases:
             low, high = self.bounds(*items)
             self.assertEqual((holds(low, place, 1), holds(high, place, 1)), want, name)
+
+    def test_two_crossings(self):
+        """Both sides of a narrow area cross a clear border within a unit; a place on that border, times 16."""
+        items = [(True, [(7, 2), (0, 0), (2, 7)]), (True, [(3, 3), (5, 1), (7, 3), (5, 5)]), (True, [(3, 6), (5, 4), (7, 6), (5, 8)]), (False, [(7, 6), (0, 4), (2, 11)])]
+        low, high = self.bounds(*items)
+        self.assertEqual((holds(low, (35, 74), 16), holds(high, (35, 74), 16)), (False, True))
 
     def around(self, corners, p):
         """Whether it is inside all round a place of a contour's line; None where it is inside and outside. Far finer places than
@@ -620,7 +630,6 @@ class Boards(made.Case):
         plane.records = lambda: iter([record("A", "J1.1", 1, 1), record("A", "J1.2", 4, 9), record("B", "J2.1", 6, 9)])
         status, out = self.told(plane)
         self.assertEqual((status, out.splitlines()[0]), (1, "board: differs, opens 0, shorts 0, missing 1, after 2 mends (audit true)"), out)
-
 
 if __name__ == "__main__":
     unittest.main()
