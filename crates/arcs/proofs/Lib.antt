@@ -1,0 +1,9 @@
+mod Along
+mod Chain
+mod Crossing
+mod Ends
+mod Lower
+mod Upper
+mod Read
+mod Ring
+mod Vectors
