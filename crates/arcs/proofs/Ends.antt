@@ -3,8 +3,9 @@ use Rattle.std.proofs.Common.{◌≡◌, ◌⊎◌, inl, inr, ℤ, pos, neg_ℤ,
 use Rattle.planar.specs.declared.Spot.{Spot}
 use Rattle.planar.specs.Plane.{InCapsule, Point, cross_of, square}
 use Rattle.planar.proofs.Ring.{ring, linear, mul_assoc, times_from_zero, times_cancel, times-zero, over_zero}
-use Rattle.arcs.specs.Copper.{InRing, InTurn, IsNear, side_of}
-use Rattle.arcs.specs.Laws.{ChordBelow, InTurnBoth, in_less, after_start, before_end, in_half, in_whole, IsChord, IsRim, IsRoom}
+use Rattle.arcs.specs.Copper.{InTurn, side_of}
+use Rattle.arcs.proofs.Whole.{ChordBelow, InRing, IsNear, IsRim}
+use Rattle.arcs.specs.Chains.{InTurnBoth, in_less, after_start, before_end, in_half, in_whole, IsChord, IsRoom}
 use Rattle.arcs.proofs.Vectors.{norm, scaled, scaled_over, unscaled}
 use Rattle.arcs.proofs.Crossing.{Crossed, near_end, from_less, from_more, from_half}
 use Rattle.arcs.proofs.Upper.{off}

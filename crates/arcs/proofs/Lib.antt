@@ -1,9 +1,12 @@
 mod Along
 mod Chain
+mod Closed
 mod Crossing
 mod Ends
+mod Grown
 mod Lower
-mod Upper
 mod Read
 mod Ring
+mod Upper
 mod Vectors
+mod Whole

@@ -4,7 +4,8 @@ use Rattle.planar.specs.declared.Spot.{Spot}
 use Rattle.planar.specs.Plane.{square}
 use Rattle.planar.proofs.Ring.{ring, linear, mul_assoc, le_or_lt, times_from_zero, square_from_zero, square_mono, square_zero, square-neg, times_mono, times_cancel, times-zero}
 use Rattle.arcs.specs.Copper.{AtMostLonger, reach_of}
-use Rattle.arcs.specs.Laws.{IsChord, IsRoom, RingHoldsChord}
+use Rattle.arcs.proofs.Whole.{RingHoldsChord}
+use Rattle.arcs.specs.Chains.{IsChord, IsRoom}
 use Rattle.arcs.proofs.Vectors.{norm, norm_from_zero, lagrange, sum_within, part_over, scaled, scaled_over, square_scaled, unscaled, unscaled_over}
 use Rattle.arcs.proofs.Ring.{longer_by, by_pen}
 

@@ -3,8 +3,9 @@ use Rattle.std.proofs.Common.{◌≡◌, ◌⊎◌, inl, inr, ℤ, pos, neg_ℤ,
 use Rattle.planar.specs.declared.Spot.{Spot}
 use Rattle.planar.specs.Plane.{InCapsule, Point, cross_of, square}
 use Rattle.planar.proofs.Ring.{ring, linear, mul_assoc, le_or_lt, times_from_zero, square_from_zero, square_mono, square_cancel, times_mono, times_cancel, times-zero, zero-times}
-use Rattle.arcs.specs.Copper.{AtMostLonger, IsNear, side_of}
-use Rattle.arcs.specs.Laws.{ChordHoldsRing, IsRoom}
+use Rattle.arcs.specs.Copper.{AtMostLonger, side_of}
+use Rattle.arcs.proofs.Whole.{ChordHoldsRing, IsNear}
+use Rattle.arcs.specs.Chains.{IsRoom}
 use Rattle.arcs.proofs.Vectors.{norm, norm_from_zero, square_of_sum, square_scaled, scaled, scaled_over}
 use Rattle.arcs.proofs.Along.{apart_along}
 use Rattle.arcs.proofs.Ring.{is_longer_by}

@@ -1,6 +1,5 @@
 //! Whether a chord lies in a ring, and a chord in a turn.
-ghost use Rattle.arcs.specs.Chains.{AnyOf, EachFrom, EndsAt, IsInner, IsMiddle, IsWalked};
-ghost use Rattle.arcs.specs.Laws.{InTurnBoth, IsChord};
+ghost use Rattle.arcs.specs.Chains.{EachFrom, EndsAt, InTurnBoth, IsChord, IsInner};
 ghost use Rattle.planar.specs.Plane.{IsPlaced, cross_of, dot_of, square};
 ghost use Rattle.std.specs.Prelude.{All, IsTrue, length, pos, ◌*◌, ◌<◌, ◌∷◌, ◌≡◌, ◌≤◌, ◌*ℤ◌, ◌<ℤ◌, ◌≤ℤ◌};
 
@@ -179,78 +178,4 @@ pub fn chain_round(c: Spot, near: u128, far: u128, start: Spot, rest: &[Spot], e
         from = *to;
     }
     is_same(from, end)
-}
-
-/// Whether `m` is on the left of `s` and on the right of `e`.
-fn is_amid(c: Spot, s: Spot, e: Spot, m: Spot) -> bool
-    requires c_placed { IsPlaced c }
-    requires s_placed { IsPlaced s }
-    requires e_placed { IsPlaced e }
-    requires m_placed { IsPlaced m }
-    ensures left { IsTrue result → pos 0 ≤ℤ cross_of c s m }
-    ensures right { IsTrue result → cross_of c e m ≤ℤ pos 0 }
-{
-    cross(c, s, m) >= 0 && cross(c, e, m) <= 0
-}
-
-/// Whether `m` is on the other side of `c` than `s`.
-fn is_opposite(c: Spot, s: Spot, m: Spot) -> bool
-    requires c_placed { IsPlaced c }
-    requires s_placed { IsPlaced s }
-    requires m_placed { IsPlaced m }
-    ensures line { IsTrue result → cross_of c s m ≡ pos 0 }
-    ensures back { IsTrue result → dot_of c s m <ℤ pos 0 }
-{
-    cross(c, s, m) == 0 && dot(c, s, m) < 0
-}
-
-/// Whether `m` is in the middle of the turn from `s` to `e` about `c`, which is more than a half turn.
-fn is_middle(c: Spot, s: Spot, e: Spot, m: Spot) -> bool
-    requires c_placed { IsPlaced c }
-    requires s_placed { IsPlaced s }
-    requires e_placed { IsPlaced e }
-    requires m_placed { IsPlaced m }
-    ensures { IsTrue result → IsMiddle c s e m }
-{
-    if cross(c, s, e) < 0 {
-        is_amid(c, s, e, m)
-    } else if is_same(s, e) {
-        is_opposite(c, s, m)
-    } else {
-        false
-    }
-}
-
-/// Whether one of the spots is.
-fn has_middle(c: Spot, s: Spot, e: Spot, rest: &[Spot]) -> bool
-    requires c_placed { IsPlaced c }
-    requires s_placed { IsPlaced s }
-    requires e_placed { IsPlaced e }
-    requires rest_placed { All IsPlaced rest.now }
-    ensures { IsTrue result → AnyOf (IsMiddle c s e) rest.now }
-{
-    for m in rest {
-        if is_middle(c, s, e, *m) {
-            return true;
-        }
-    }
-    false
-}
-
-/// Whether the turn is at most a half turn, or one of the spots is in its middle.
-pub fn is_walked(c: Spot, s: Spot, e: Spot, rest: &[Spot]) -> bool
-    requires c_placed { IsPlaced c }
-    requires s_placed { IsPlaced s }
-    requires e_placed { IsPlaced e }
-    requires rest_placed { All IsPlaced rest.now }
-    ensures { IsTrue result → IsWalked c s e rest.now }
-{
-    let way = cross(c, s, e);
-    if way > 0 {
-        true
-    } else if way == 0 && dot(c, s, e) < 0 {
-        true
-    } else {
-        has_middle(c, s, e, rest)
-    }
 }

@@ -7,27 +7,25 @@
 //! - `below`: whether a chain lies in the copper of every curve of the arc.
 //! - `chords`: whether a chord lies in a ring, and a chord in a turn.
 //! - `rings`: whole numbers round the radii of an arc.
-//! - `laws`: laws over the definitions alone.
 #![tactic(auto)]
 
 mod above;
 mod below;
 mod chords;
-pub mod laws;
 mod rings;
 
 pub use above::is_above;
 pub use below::is_below;
 pub use planar::Spot;
 
-/// An arc draw with a round pen of the radius `pen`: counterclockwise about `centre`, from `start` to
-/// `end`. One that goes clockwise has the same copper as the one that goes back.
+/// An arc draw with a round pen of the diameter `width`: counterclockwise about `centre`, from `start`
+/// to `end`. One that goes clockwise has the same copper as the one that goes back.
 #[derive(Clone, Copy)]
 pub struct Arc {
     pub centre: Spot,
     pub start: Spot,
     pub end: Spot,
-    pub pen: u64,
+    pub width: u64,
 }
 
 #[cfg(test)]

@@ -10,7 +10,7 @@ fn arc(centre: (i64, i64), start: (i64, i64), end: (i64, i64)) -> Arc {
         centre: spot(centre),
         start: spot(start),
         end: spot(end),
-        pen: 1000,
+        width: 2000,
     }
 }
 

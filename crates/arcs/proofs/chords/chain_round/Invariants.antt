@@ -1,7 +1,6 @@
 use Rattle.std.proofs.Common.{pos, drop}
 use Rattle.planar.specs.Plane.{IsPlaced}
-use Rattle.arcs.specs.Chains.{EachFrom, EndsAt}
-use Rattle.arcs.specs.Laws.{IsChord}
+use Rattle.arcs.specs.Chains.{EachFrom, EndsAt, IsChord}
 use Rattle.arcs.proofs.chords.chain_round.Given as goal
 
 abbrev pub invariant-loop-to : goal.invariant-loop-to

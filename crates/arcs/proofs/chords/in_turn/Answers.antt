@@ -1,6 +1,6 @@
 use Rattle.std.proofs.Common.{arith}
 use Rattle.std.proofs.lemmas.Int.{ints}
-use Rattle.arcs.specs.Laws.{after_start, before_end, in_half}
+use Rattle.arcs.specs.Chains.{after_start, before_end, in_half}
 use Rattle.arcs.proofs.chords.in_turn.Goals as goal
 
 pub returns-then-both_left-2 : goal.returns-then-both_left-2
