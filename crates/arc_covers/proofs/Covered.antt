@@ -9,7 +9,7 @@ use Rattle.board_shapes.specs.Spans.{InSpan}
 use Rattle.arcs.specs.Copper.{InChain, InFrom}
 use Rattle.covers.specs.Boards.{Joined, Layout, Span, TouchAt}
 use Rattle.covers.specs.Covering.{HasAt, IsCovered}
-use Rattle.arc_covers.specs.Links.{AreChain, AreLinks, HasSet}
+use Rattle.arc_covers.specs.Links.{AreChain, AreLinks}
 
 abbrev numbers : ℕ → List Spot → List ℕ
 numbers first [] = []
@@ -62,21 +62,21 @@ module _ (holds : ℕ → Point → Type 0) (b : Layout) (holds' : ℕ → Point
       by more (inr x) (inl y) = let w = more j (suc first) x next in subst (λ (n : ℕ). Joined holds' c j n) y (behind w.0 j (suc first) first w.1 (forth first a d e rest links).1)
       by more (inr x) (inr y) = more j k x y
 
-  pub covered : (i first : ℕ) (chain : List Spot) (S : Point → Type 0) → HasSet holds b span i S → AreChain holds' c span first chain r → ((p : Point) → S p → InChain chain r p) → IsCovered holds b holds' c i
-  covered i first [] S has links holds_all = record { cover = []; covers = λ layer p h. absurd (holds_all p ((has.copper p).1 h.place)); joined = λ j k (n, within, same) g. absurd (omega arith) }
-  covered i first (a ∷ rest) S has links holds_all = record {
+  pub covered : (i first : ℕ) (chain : List Spot) → slice_get b.spans i ≡ Some span → AreChain holds' c span first chain r → ((p : Point) → holds i p → InChain chain r p) → IsCovered holds b holds' c i
+  covered i first [] is links holds_all = record { cover = []; covers = λ layer p h. absurd (holds_all p h.place); joined = λ j k (n, within, same) g. absurd (omega arith) }
+  covered i first (a ∷ rest) is links holds_all = record {
     cover = numbers first rest;
-    covers = λ layer p h. let same : h.span ≡ span = same_Some h.span span (sym h.span_is ∙ has.is) in one first layer a rest p links (subst (λ (s : Span). InSpan s.top s.bottom layer) same h.layers) (holds_all p ((has.copper p).1 h.place));
+    covers = λ layer p h. let same : h.span ≡ span = same_Some h.span span (sym h.span_is ∙ is) in one first layer a rest p links (subst (λ (s : Span). InSpan s.top s.bottom layer) same h.layers) (holds_all p h.place);
     joined = joined first a rest links;
   }
 
 -- ---- and the other way round: each capsule of a chain that lies in a piece is covered by it
 
-module _ (holds : ℕ → Point → Type 0) (b : Layout) (holds' : ℕ → Point → Type 0) (c : Layout) (span : Span) (r : ℤ) (i : ℕ) (S : Point → Type 0) (has : HasSet holds' c span i S) where
-  by_piece : (j : ℕ) → slice_get b.spans j ≡ Some span → ((p : Point) → holds j p → S p) → IsCovered holds b holds' c j
+module _ (holds : ℕ → Point → Type 0) (b : Layout) (holds' : ℕ → Point → Type 0) (c : Layout) (span : Span) (r : ℤ) (i : ℕ) (there : slice_get c.spans i ≡ Some span) where
+  by_piece : (j : ℕ) → slice_get b.spans j ≡ Some span → ((p : Point) → holds j p → holds' i p) → IsCovered holds b holds' c j
   by_piece j is inside = record {
     cover = i ∷ [];
-    covers = λ layer p h. let same : h.span ≡ span = same_Some h.span span (sym h.span_is ∙ is) in (i, (0, omega arith, refl), record { span = span; span_is = has.is; layers = subst (λ (s : Span). InSpan s.top s.bottom layer) same h.layers; place = (has.copper p).0 (inside p h.place) });
+    covers = λ layer p h. let same : h.span ≡ span = same_Some h.span span (sym h.span_is ∙ is) in (i, (0, omega arith, refl), record { span = span; span_is = there; layers = subst (λ (s : Span). InSpan s.top s.bottom layer) same h.layers; place = inside p h.place });
     joined = λ k l h g. ([], by k l (first_or_later i k [] h) (first_or_later i l [] g));
   }
     where
@@ -85,7 +85,7 @@ module _ (holds : ℕ → Point → Type 0) (b : Layout) (holds' : ℕ → Point
       by k l (inl x) (inr (n, within, same)) = absurd (omega arith)
       by k l (inr (n, within, same)) y = absurd (omega arith)
 
-  link : (first : ℕ) (a : Spot) (rest : List Spot) → AreLinks holds b span first a rest r → ((p : Point) → InFrom a rest r p → S p) → (j : ℕ) → first ≤ j → j < first + length rest → IsCovered holds b holds' c j
+  link : (first : ℕ) (a : Spot) (rest : List Spot) → AreLinks holds b span first a rest r → ((p : Point) → InFrom a rest r p → holds' i p) → (j : ℕ) → first ≤ j → j < first + length rest → IsCovered holds b holds' c j
   link first a [] links all j from to = absurd (omega arith)
   link first a (d ∷ rest) links all j from to = elim (cases first j from) [
     | inl same ↦ subst (λ (n : ℕ). IsCovered holds b holds' c n) same (by_piece first links.0 (λ p h. all p (inl ((links.1 p).1 h))))
@@ -95,6 +95,6 @@ module _ (holds : ℕ → Point → Type 0) (b : Layout) (holds' : ℕ → Point
       cases : (n m : ℕ) → n ≤ m → (n ≡ m) ⊎ (suc n ≤ m)
       cases n m h = grind arith
 
-  pub linked : (first : ℕ) (chain : List Spot) → AreChain holds b span first chain r → ((p : Point) → InChain chain r p → S p) → (j : ℕ) → first ≤ j → j + 1 < first + length chain → IsCovered holds b holds' c j
+  pub linked : (first : ℕ) (chain : List Spot) → AreChain holds b span first chain r → ((p : Point) → InChain chain r p → holds' i p) → (j : ℕ) → first ≤ j → j + 1 < first + length chain → IsCovered holds b holds' c j
   linked first [] links all j from to = absurd (omega arith)
   linked first (a ∷ rest) links all j from to = link first a rest links all j from (omega arith)

@@ -2,7 +2,7 @@
 use Rattle.std.proofs.Common.{◌≡◌, ◌⊎◌, inl, inr, ℤ, pos, neg_ℤ, ◌+ℤ◌, ◌-ℤ◌, ◌*ℤ◌, ◌≤ℤ◌, ◌<ℤ◌, arith}
 use Rattle.planar.specs.declared.Spot.{Spot}
 use Rattle.planar.specs.Plane.{InCapsule, Point, cross_of, square}
-use Rattle.planar.proofs.Ring.{ring, linear, mul_assoc, times_from_zero, times_cancel, times-zero, over_zero}
+use Rattle.planar.proofs.Ring.{ring, linear, le_or_lt, mul_assoc, neg-mul, times_from_zero, times_cancel, times_mono, times-zero, over_zero}
 use Rattle.arcs.specs.Copper.{InTurn, side_of}
 use Rattle.arcs.proofs.Whole.{ChordBelow, InRing, IsNear, IsRim}
 use Rattle.arcs.specs.Chains.{InTurnBoth, in_less, after_start, before_end, in_half, in_whole, IsChord, IsRoom}
@@ -30,6 +30,35 @@ right_place : (n m i sx sy ax ay bx by : ℤ) → pos 1 ≤ℤ n → pos 0 ≤�
 right_place n m i sx sy ax ay bx by some hi him h k =
     let f : pos 0 ≤ℤ (n *ℤ ((m -ℤ i) *ℤ neg_ℤ (sx *ℤ ay -ℤ sy *ℤ ax) +ℤ i *ℤ neg_ℤ (sx *ℤ by -ℤ sy *ℤ bx))) = mixed n m i (neg_ℤ (sx *ℤ ay -ℤ sy *ℤ ax)) (neg_ℤ (sx *ℤ by -ℤ sy *ℤ bx)) some hi him (omega (arith, linear, h)) (omega (arith, linear, k)) in
     omega (arith, linear, f, mixed_neg n m i (sx *ℤ ay -ℤ sy *ℤ ax) (sx *ℤ by -ℤ sy *ℤ bx), place_side n m i sx sy ax ay bx by)
+
+-- past a half turn from s to e a chord from the left of s to the right of e keeps out of what is between e and s
+across : (n m i sx sy ex ey ax ay bx by : ℤ) → pos 1 ≤ℤ n → pos 0 ≤ℤ i → i ≤ℤ m → (sx *ℤ ey -ℤ sy *ℤ ex) <ℤ pos 0 → pos 1 ≤ℤ (ax *ℤ by -ℤ ay *ℤ bx) → pos 0 ≤ℤ (sx *ℤ ay -ℤ sy *ℤ ax) → (ex *ℤ by -ℤ ey *ℤ bx) ≤ℤ pos 0
+    → (pos 0 ≤ℤ (sx *ℤ (n *ℤ place m i ay by) -ℤ sy *ℤ (n *ℤ place m i ax bx))) ⊎ ((ex *ℤ (n *ℤ place m i ay by) -ℤ ey *ℤ (n *ℤ place m i ax bx)) ≤ℤ pos 0)
+across n m i sx sy ex ey ax ay bx by some hi him way turn left right = elim (le_or_lt (pos 0) (sx *ℤ by -ℤ sy *ℤ bx)) [
+  | inl l ↦ inl (left_place n m i sx sy ax ay bx by some hi him left l)
+  | inr sb ↦ elim (le_or_lt (ex *ℤ ay -ℤ ey *ℤ ax) (pos 0)) [
+    | inl l ↦ inr (right_place n m i ex ey ax ay bx by some hi him l right)
+    | inr ea ↦ elim (le_or_lt (pos 0) ((m -ℤ i) *ℤ (sx *ℤ ay -ℤ sy *ℤ ax) +ℤ i *ℤ (sx *ℤ by -ℤ sy *ℤ bx))) [
+      | inl l ↦ inl (rw (place_side n m i sx sy ax ay bx by) (times_from_zero n ((m -ℤ i) *ℤ (sx *ℤ ay -ℤ sy *ℤ ax) +ℤ i *ℤ (sx *ℤ by -ℤ sy *ℤ bx)) (omega (arith, linear, some)) l))
+      | inr u ↦ elim (le_or_lt ((m -ℤ i) *ℤ (ex *ℤ ay -ℤ ey *ℤ ax) +ℤ i *ℤ (ex *ℤ by -ℤ ey *ℤ bx)) (pos 0)) [
+        | inl l ↦ inr (rw (place_side n m i ex ey ax ay bx by) (omega (arith, linear, times_mono n ((m -ℤ i) *ℤ (ex *ℤ ay -ℤ ey *ℤ ax) +ℤ i *ℤ (ex *ℤ by -ℤ ey *ℤ bx)) (pos 0) (omega (arith, linear, some)) l, times-zero n)))
+        | inr v ↦ absurd (none (m -ℤ i) i (sx *ℤ ay -ℤ sy *ℤ ax) (sx *ℤ by -ℤ sy *ℤ bx) (ex *ℤ ay -ℤ ey *ℤ ax) (ex *ℤ by -ℤ ey *ℤ bx) (omega (arith, linear, him)) hi left sb ea right u v
+        (omega (arith, linear, both, over_zero (neg_ℤ (sx *ℤ ey -ℤ sy *ℤ ex)) (ax *ℤ by -ℤ ay *ℤ bx) (omega (arith, linear, way)) turn, neg-mul (sx *ℤ ey -ℤ sy *ℤ ex) (ax *ℤ by -ℤ ay *ℤ bx))))
+      ]
+    ]
+  ]
+]
+  where
+    both : (sx *ℤ ay -ℤ sy *ℤ ax) *ℤ (ex *ℤ by -ℤ ey *ℤ bx) -ℤ (sx *ℤ by -ℤ sy *ℤ bx) *ℤ (ex *ℤ ay -ℤ ey *ℤ ax) ≡ (sx *ℤ ey -ℤ sy *ℤ ex) *ℤ (ax *ℤ by -ℤ ay *ℤ bx)
+    both = simp ring (omega (arith, linear))
+
+    none : (f g sa sb ea eb : ℤ) → pos 0 ≤ℤ f → pos 0 ≤ℤ g → pos 0 ≤ℤ sa → sb <ℤ pos 0 → pos 0 <ℤ ea → eb ≤ℤ pos 0 → (f *ℤ sa +ℤ g *ℤ sb) <ℤ pos 0 → pos 0 <ℤ (f *ℤ ea +ℤ g *ℤ eb) → (sa *ℤ eb -ℤ sb *ℤ ea) <ℤ pos 0 → ⊥
+    none f g sa sb ea eb hf hg hsa hsb hea heb u v w =
+        let a : pos 0 ≤ℤ (neg_ℤ eb *ℤ neg_ℤ (f *ℤ sa +ℤ g *ℤ sb)) = times_from_zero (neg_ℤ eb) (neg_ℤ (f *ℤ sa +ℤ g *ℤ sb)) (omega (arith, linear, heb)) (omega (arith, linear, u)) in
+        let b : pos 1 ≤ℤ (neg_ℤ sb *ℤ (f *ℤ ea +ℤ g *ℤ eb)) = over_zero (neg_ℤ sb) (f *ℤ ea +ℤ g *ℤ eb) (omega (arith, linear, hsb)) (omega (arith, linear, v)) in
+        let d : pos 0 ≤ℤ (f *ℤ neg_ℤ (sa *ℤ eb -ℤ sb *ℤ ea)) = times_from_zero f (neg_ℤ (sa *ℤ eb -ℤ sb *ℤ ea)) hf (omega (arith, linear, w)) in
+        let e : neg_ℤ eb *ℤ neg_ℤ (f *ℤ sa +ℤ g *ℤ sb) +ℤ neg_ℤ sb *ℤ (f *ℤ ea +ℤ g *ℤ eb) ≡ neg_ℤ (f *ℤ neg_ℤ (sa *ℤ eb -ℤ sb *ℤ ea)) = simp ring (omega (arith, linear)) in
+        omega (arith, linear, a, b, d, e)
 
 -- ---- and that of m times the point
 
@@ -105,7 +134,8 @@ module _ (c s e a b : Spot) (low high least most near far k v : ℤ) (p : Point)
       | inr z ↦ ended z
     ]
     below (after_start way sa sb) = more way (inl (left_of s sa sb))
-    below (before_end way ea eb) = more way (inr (right_of e ea eb))
+    below (before_end way (inr ea) eb) = more way (inr (right_of e ea eb))
+    below (before_end way (inl sa) eb) = more way (across p.n inside.m inside.i (s.x -ℤ c.x) (s.y -ℤ c.y) (e.x -ℤ c.x) (e.y -ℤ c.y) (a.x -ℤ c.x) (a.y -ℤ c.y) (b.x -ℤ c.x) (b.y -ℤ c.y) p.positive inside.from_start inside.to_end way chord.left sa eb)
     below (in_half way back sa sb) = elim (from_half px py qx qy (s.x -ℤ c.x) (s.y -ℤ c.y) (e.x -ℤ c.x) (e.y -ℤ c.y) way back (left_of s sa sb)) [
       | inl t ↦ here (inr (inr (inl (way, back, point_left s t))))
       | inr z ↦ ended z

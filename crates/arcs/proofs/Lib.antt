@@ -5,6 +5,7 @@ mod Crossing
 mod Ends
 mod Grown
 mod Lower
+mod Places
 mod Read
 mod Ring
 mod Upper

@@ -1,5 +1,5 @@
 -- Chords and chains of chords.
-use Rattle.std.specs.Prelude.{ℤ, pos, ◌+ℤ◌, ◌*ℤ◌, ◌≤ℤ◌, ◌<ℤ◌, ◌≡◌, ⊤, List, [], ◌∷◌}
+use Rattle.std.specs.Prelude.{ℤ, pos, ◌+ℤ◌, ◌*ℤ◌, ◌≤ℤ◌, ◌<ℤ◌, ◌≡◌, ◌⊎◌, ⊤, List, [], ◌∷◌}
 use Rattle.planar.specs.Plane.{cross_of, dot_of, square}
 use Rattle.planar.specs.declared.Spot.{Spot}
 
@@ -10,11 +10,11 @@ pub record IsChord (c : Spot) (near far : ℤ) (a b : Spot) : Type 0 where
   pub last : dot_of c b b ≤ℤ square far
   pub line : (square near *ℤ dot_of a b b) ≤ℤ square (cross_of c a b)
 
--- a and b lie in the turn, and so does the way from one to the other
+-- a and b, which is on the left of a, lie in the turn, and so does the way from one to the other
 pub data InTurnBoth (c s e a b : Spot) : Type 0 where
   in_less : pos 0 <ℤ cross_of c s e → pos 0 ≤ℤ cross_of c s a → pos 0 ≤ℤ cross_of c s b → cross_of c e a ≤ℤ pos 0 → cross_of c e b ≤ℤ pos 0 → InTurnBoth c s e a b
   after_start : cross_of c s e <ℤ pos 0 → pos 0 ≤ℤ cross_of c s a → pos 0 ≤ℤ cross_of c s b → InTurnBoth c s e a b
-  before_end : cross_of c s e <ℤ pos 0 → cross_of c e a ≤ℤ pos 0 → cross_of c e b ≤ℤ pos 0 → InTurnBoth c s e a b
+  before_end : cross_of c s e <ℤ pos 0 → (pos 0 ≤ℤ cross_of c s a) ⊎ (cross_of c e a ≤ℤ pos 0) → cross_of c e b ≤ℤ pos 0 → InTurnBoth c s e a b
   in_half : cross_of c s e ≡ pos 0 → dot_of c s e <ℤ pos 0 → pos 0 ≤ℤ cross_of c s a → pos 0 ≤ℤ cross_of c s b → InTurnBoth c s e a b
   in_whole : s ≡ e → InTurnBoth c s e a b
 

@@ -1,7 +1,7 @@
 //! Whether a chord lies in a ring, and a chord in a turn.
 ghost use Rattle.arcs.specs.Chains.{EachFrom, EndsAt, InTurnBoth, IsChord, IsInner};
 ghost use Rattle.planar.specs.Plane.{IsPlaced, cross_of, dot_of, square};
-ghost use Rattle.std.specs.Prelude.{All, IsTrue, length, pos, ◌*◌, ◌<◌, ◌∷◌, ◌≡◌, ◌≤◌, ◌*ℤ◌, ◌<ℤ◌, ◌≤ℤ◌};
+ghost use Rattle.std.specs.Prelude.{All, IsTrue, length, pos, ◌*◌, ◌<◌, ◌∷◌, ◌≡◌, ◌⊎◌, ◌≤◌, ◌*ℤ◌, ◌<ℤ◌, ◌≤ℤ◌};
 
 use planar::{Spot, cross, dot};
 
@@ -98,6 +98,30 @@ fn both_right(c: Spot, e: Spot, a: Spot, b: Spot) -> bool
     cross(c, e, a) <= 0 && cross(c, e, b) <= 0
 }
 
+/// Whether `b` is on the right of `e`, or on it, and `a` is that too, or on the left of `s`.
+fn comes_before(c: Spot, s: Spot, e: Spot, a: Spot, b: Spot) -> bool
+    requires c_placed { IsPlaced c }
+    requires s_placed { IsPlaced s }
+    requires e_placed { IsPlaced e }
+    requires a_placed { IsPlaced a }
+    requires b_placed { IsPlaced b }
+    ensures first { IsTrue result → (pos 0 ≤ℤ cross_of c s a) ⊎ (cross_of c e a ≤ℤ pos 0) }
+    ensures second { IsTrue result → cross_of c e b ≤ℤ pos 0 }
+{
+    cross(c, e, b) <= 0 && is_turned(c, s, e, a)
+}
+
+/// Whether `a` is on the left of `s`, or on the right of `e`, or on one of both.
+fn is_turned(c: Spot, s: Spot, e: Spot, a: Spot) -> bool
+    requires c_placed { IsPlaced c }
+    requires s_placed { IsPlaced s }
+    requires e_placed { IsPlaced e }
+    requires a_placed { IsPlaced a }
+    ensures { IsTrue result → (pos 0 ≤ℤ cross_of c s a) ⊎ (cross_of c e a ≤ℤ pos 0) }
+{
+    cross(c, s, a) >= 0 || cross(c, e, a) <= 0
+}
+
 /// Whether the spots are one.
 pub fn is_same(a: Spot, b: Spot) -> bool
     ensures { IsTrue result → a ≡ b }
@@ -105,8 +129,8 @@ pub fn is_same(a: Spot, b: Spot) -> bool
     a.x == b.x && a.y == b.y
 }
 
-/// Whether the chord from `a` to `b` lies in the turn from `s` to `e` about `c`. Past a half turn it has
-/// to lie on the left of `s` or on the right of `e`.
+/// Whether the chord from `a` to `b` lies in the turn from `s` to `e` about `c`. Past a half turn it
+/// may lie on the left of `s`, on the right of `e`, or lead from the one to the other.
 pub fn in_turn(c: Spot, s: Spot, e: Spot, a: Spot, b: Spot) -> bool
     requires c_placed { IsPlaced c }
     requires s_placed { IsPlaced s }
@@ -119,7 +143,7 @@ pub fn in_turn(c: Spot, s: Spot, e: Spot, a: Spot, b: Spot) -> bool
     if way > 0 {
         both_left(c, s, a, b) && both_right(c, e, a, b)
     } else if way < 0 {
-        both_left(c, s, a, b) || both_right(c, e, a, b)
+        both_left(c, s, a, b) || comes_before(c, s, e, a, b)
     } else if dot(c, s, e) < 0 {
         both_left(c, s, a, b)
     } else {

@@ -1,4 +1,4 @@
-//! Bounds for the copper of an arc draw with a round pen.
+//! Bounds of arc draws.
 //!
 //! A chain of spots with a radius is a row of capsules, each from a spot to the next. Whoever makes a
 //! chain, the checks here say whether its copper lies in that of the arc, or holds it.
@@ -7,11 +7,13 @@
 //! - `below`: whether a chain lies in the copper of every curve of the arc.
 //! - `chords`: whether a chord lies in a ring, and a chord in a turn.
 //! - `rings`: whole numbers round the radii of an arc.
+//! - `laws`: a law over the definitions alone.
 #![tactic(auto)]
 
 mod above;
 mod below;
 mod chords;
+pub mod laws;
 mod rings;
 
 pub use above::is_above;

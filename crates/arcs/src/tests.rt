@@ -48,42 +48,71 @@ fn round() -> [Spot; 17] {
     ]
 }
 
-/// Less than a half turn: one u more or less is refused.
+/// Whether the chain is taken below with the radius `low` and no greater one, and above with `high` and no lesser one.
+fn lies_between(a: &Arc, chain: &[Spot], low: u64, high: u64) -> bool {
+    let below = is_below(a, chain, low) && !is_below(a, chain, low.saturating_add(1));
+    let above = is_above(a, chain, high) && !is_above(a, chain, high.saturating_sub(1));
+    below && above
+}
+
+/// Less than a half turn, with a pen of an even and of an odd width.
 #[test]
 fn a_quarter(rt: HostRuntime) {
-    let a = arc((0, 0), (3000, 4000), (-4000, 3000));
-    assert!(rt; is_below(&a, &quarter(), 935) && !is_below(&a, &quarter(), 936));
-    assert!(rt; is_above(&a, &quarter(), 1065) && !is_above(&a, &quarter(), 1064));
+    let mut a = arc((0, 0), (3000, 4000), (-4000, 3000));
+    assert!(rt; lies_between(&a, &quarter(), 935, 1065));
+    a.width = 2001;
+    assert!(rt; lies_between(&a, &quarter(), 935, 1066));
 }
 
 #[test]
-fn a_half_turn(rt: HostRuntime) {
+fn a_half_turn_and_more(rt: HostRuntime) {
     let chain = round();
-    let a = arc((0, 0), (5000, 0), (-5000, 0));
-    assert!(rt; is_below(&a, &chain[..9], 903) && !is_below(&a, &chain[..9], 904));
-    assert!(rt; is_above(&a, &chain[..9], 1097) && !is_above(&a, &chain[..9], 1096));
+    let half = arc((0, 0), (5000, 0), (-5000, 0));
+    assert!(rt; lies_between(&half, &chain[..9], 903, 1097));
+    let more = arc((0, 0), (5000, 0), (0, -5000));
+    assert!(rt; lies_between(&more, &chain[..13], 903, 1097));
+    let nearly = arc((0, 0), (5000, 0), (4619, -1914));
+    assert!(rt; lies_between(&nearly, &chain[..16], 903, 1097));
 }
 
-#[test]
-fn three_quarters(rt: HostRuntime) {
-    let chain = round();
-    let a = arc((0, 0), (5000, 0), (0, -5000));
-    assert!(rt; is_below(&a, &chain[..13], 903) && !is_below(&a, &chain[..14], 903));
-    assert!(rt; is_above(&a, &chain[..13], 1097) && !is_above(&a, &chain[..12], 1097));
-}
-
+/// A whole turn, also where no spot is opposite to the start, and the other way round.
 #[test]
 fn a_whole_turn(rt: HostRuntime) {
     let chain = round();
     let a = arc((0, 0), (5000, 0), (5000, 0));
-    assert!(rt; is_below(&a, &chain, 903) && is_above(&a, &chain, 1097));
+    assert!(rt; lies_between(&a, &chain, 903, 1097));
+    let mut other = chain;
+    other[8] = spot((-4900, 100));
+    assert!(rt; lies_between(&a, &other, 839, 1161));
+    let back = arc((0, 0), (0, 5000), (5000, 0));
+    assert!(rt; !is_below(&back, &chain[..5], 0) && !is_above(&back, &chain[..5], 9000));
 }
 
-/// A chain that goes past an end, and one that stops before it.
+/// Ends at two distances: the allowance is reckoned from both. In one direction they may be a whole turn
+/// apart or none.
+#[test]
+fn two_distances(rt: HostRuntime) {
+    let mut chain = round();
+    chain[4] = spot((0, 5010));
+    let a = arc((0, 0), (5000, 0), (0, 5010));
+    assert!(rt; lies_between(&a, &chain[..5], 893, 1107));
+    let mut loops = round();
+    loops[16] = spot((5010, 0));
+    let b = arc((0, 0), (5000, 0), (5010, 0));
+    assert!(rt; !is_below(&b, &loops, 0) && is_above(&b, &loops, 1107));
+}
+
+/// A chain that goes past an end, one that stops before it, one that leaves a spot out, and one spot alone.
 #[test]
 fn too_long_and_too_short(rt: HostRuntime) {
     let chain = round();
     let a = arc((0, 0), (5000, 0), (0, 5000));
-    assert!(rt; is_below(&a, &chain[..5], 903) && !is_below(&a, &chain[..6], 903));
-    assert!(rt; is_above(&a, &chain[..5], 1097) && !is_above(&a, &chain[..4], 1097));
+    assert!(rt; lies_between(&a, &chain[..5], 903, 1097));
+    assert!(rt; !is_below(&a, &chain[..6], 0) && !is_above(&a, &chain[..4], 9000));
+    let mut gap = chain;
+    gap[1] = chain[2];
+    gap[2] = chain[3];
+    gap[3] = chain[4];
+    assert!(rt; lies_between(&a, &gap[..4], 619, 1381) && !is_below(&a, &gap[..4], 903));
+    assert!(rt; is_below(&a, &chain[..1], 1000) && !is_above(&a, &chain[..1], 9000));
 }

@@ -1,0 +1,7 @@
+//! Laws over the definitions. Their calls do nothing.
+ghost use Rattle.arcs.specs.Laws.{SurelyIsPossibly};
+
+/// What lies in the copper of every curve of an arc lies in that of some.
+pub fn surely_is_possibly()
+    ensures { SurelyIsPossibly }
+{}
