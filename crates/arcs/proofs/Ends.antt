@@ -43,7 +43,7 @@ across n m i sx sy ex ey ax ay bx by some hi him way turn left right = elim (le_
       | inr u ↦ elim (le_or_lt ((m -ℤ i) *ℤ (ex *ℤ ay -ℤ ey *ℤ ax) +ℤ i *ℤ (ex *ℤ by -ℤ ey *ℤ bx)) (pos 0)) [
         | inl l ↦ inr (rw (place_side n m i ex ey ax ay bx by) (omega (arith, linear, times_mono n ((m -ℤ i) *ℤ (ex *ℤ ay -ℤ ey *ℤ ax) +ℤ i *ℤ (ex *ℤ by -ℤ ey *ℤ bx)) (pos 0) (omega (arith, linear, some)) l, times-zero n)))
         | inr v ↦ absurd (none (m -ℤ i) i (sx *ℤ ay -ℤ sy *ℤ ax) (sx *ℤ by -ℤ sy *ℤ bx) (ex *ℤ ay -ℤ ey *ℤ ax) (ex *ℤ by -ℤ ey *ℤ bx) (omega (arith, linear, him)) hi left sb ea right u v
-        (omega (arith, linear, both, over_zero (neg_ℤ (sx *ℤ ey -ℤ sy *ℤ ex)) (ax *ℤ by -ℤ ay *ℤ bx) (omega (arith, linear, way)) turn, neg-mul (sx *ℤ ey -ℤ sy *ℤ ex) (ax *ℤ by -ℤ ay *ℤ bx))))
+            (omega (arith, linear, both, over_zero (neg_ℤ (sx *ℤ ey -ℤ sy *ℤ ex)) (ax *ℤ by -ℤ ay *ℤ bx) (omega (arith, linear, way)) turn, neg-mul (sx *ℤ ey -ℤ sy *ℤ ex) (ax *ℤ by -ℤ ay *ℤ bx))))
       ]
     ]
   ]

@@ -66,10 +66,13 @@ module _ (k : ℤ) (some : pos 1 ≤ℤ k) where
   module _ (c s e : Spot) (p : Point) where
     turn_grown : InTurn c s e p → InTurn (grown k c) (grown k s) (grown k e) (grown_point k p)
     turn_grown (inl less) = inl (rw (cross_grown c s e) (over (cross_of c s e) less.0), rw (side_grown c s p) (from_zero (side_of c s p) less.1), rw (side_grown c e p) (to_zero (side_of c e p) less.2))
-    turn_grown (inr (inl more)) = inr (inl (rw (cross_grown c s e) (under (cross_of c s e) more.0), elim more.1 [
-      | inl h ↦ inl (rw (side_grown c s p) (from_zero (side_of c s p) h))
-      | inr h ↦ inr (rw (side_grown c e p) (to_zero (side_of c e p) h))
-    ]))
+    turn_grown (inr (inl more)) = inr (inl (
+      rw (cross_grown c s e) (under (cross_of c s e) more.0),
+      elim more.1 [
+        | inl h ↦ inl (rw (side_grown c s p) (from_zero (side_of c s p) h))
+        | inr h ↦ inr (rw (side_grown c e p) (to_zero (side_of c e p) h))
+      ],
+    ))
     turn_grown (inr (inr (inl half))) = inr (inr (inl (rw (cross_grown c s e) (flat (cross_of c s e) half.0), rw (dot_grown c s e) (under (dot_of c s e) half.1), rw (side_grown c s p) (from_zero (side_of c s p) half.2))))
     turn_grown (inr (inr (inr same))) = inr (inr (inr (ap (grown k) same)))
 

@@ -87,6 +87,22 @@ too_long a b w g j hg hj hb hw over under less h = by h
         let q : square g *ℤ square j ≡ square j *ℤ square g = simp ring in
         omega (arith, linear, l, f, e, m, o, p, q, gj)
 
+-- two more, squared: `simp ring` does not take the literal
+two_more : (v : ℤ) → square (v +ℤ (pos 1 +ℤ pos 1)) ≡ square v +ℤ (four v +ℤ pos 4)
+two_more v = omega (arith, linear, sum v (pos 1 +ℤ pos 1), twice v, all)
+  where
+    sum : (v t : ℤ) → square (v +ℤ t) ≡ square v +ℤ ((v *ℤ t +ℤ v *ℤ t) +ℤ square t)
+    sum v t = simp ring (omega (arith, linear))
+
+    twice : (v : ℤ) → v *ℤ (pos 1 +ℤ pos 1) ≡ v +ℤ v
+    twice v = omega (arith, ints)
+
+    all : square (pos 1 +ℤ pos 1) ≡ pos 4
+    all = omega (arith, ints)
+
+by_four : (z : ℤ) → z *ℤ pos 4 ≡ four z
+by_four z = omega (arith, ints)
+
 -- ---- i / (k d n) of the way to the point is about as far as a radius
 
 module _ (n k d i w low high : ℤ) (hn : pos 1 ≤ℤ n) (hk : pos 1 ≤ℤ k) (hd : pos 1 ≤ℤ d) (hi : pos 0 ≤ℤ i) (hw : pos 0 ≤ℤ w) (hl : pos 0 ≤ℤ low) (lh : low ≤ℤ high)
@@ -129,7 +145,7 @@ module _ (n k d i w low high : ℤ) (hn : pos 1 ≤ℤ n) (hk : pos 1 ≤ℤ k) 
   behind h hg = elim (le_or_lt (square ((k *ℤ d +ℤ k *ℤ d) -ℤ ((i +ℤ pos 1) +ℤ (i +ℤ pos 1)))) ((square k *ℤ d) *ℤ square (n *ℤ w))) [
     | inl l ↦ l
     | inr l ↦ absurd (too_long ((square k *ℤ d) *ℤ four d) ((square k *ℤ d) *ℤ four (square n *ℤ low)) ((square k *ℤ d) *ℤ square (n *ℤ w)) ((k *ℤ d +ℤ k *ℤ d) -ℤ ((i +ℤ pos 1) +ℤ (i +ℤ pos 1))) ((i +ℤ pos 1) +ℤ (i +ℤ pos 1)) hg (omega (arith, linear, hi)) nlf w0
-    (rw whole (omega (arith, linear, point_length))) (omega (arith, linear, radius_length (square n *ℤ low), doubled (i +ℤ pos 1), over)) l (scaled_by (square k *ℤ d) (n *ℤ w) (four d) (four (square n *ℤ low)) f0 h))
+        (rw whole (omega (arith, linear, point_length))) (omega (arith, linear, radius_length (square n *ℤ low), doubled (i +ℤ pos 1), over)) l (scaled_by (square k *ℤ d) (n *ℤ w) (four d) (four (square n *ℤ low)) f0 h))
   ]
     where
       whole : ((k *ℤ d +ℤ k *ℤ d) -ℤ ((i +ℤ pos 1) +ℤ (i +ℤ pos 1))) +ℤ ((i +ℤ pos 1) +ℤ (i +ℤ pos 1)) ≡ k *ℤ d +ℤ k *ℤ d
@@ -140,7 +156,7 @@ module _ (n k d i w low high : ℤ) (hn : pos 1 ≤ℤ n) (hk : pos 1 ≤ℤ k) 
   past h hg = elim (le_or_lt (square ((i +ℤ i) -ℤ (k *ℤ d +ℤ k *ℤ d))) ((square k *ℤ d) *ℤ square (n *ℤ w))) [
     | inl l ↦ l
     | inr l ↦ absurd (too_long ((square k *ℤ d) *ℤ four (square n *ℤ high)) ((square k *ℤ d) *ℤ four d) ((square k *ℤ d) *ℤ square (n *ℤ w)) ((i +ℤ i) -ℤ (k *ℤ d +ℤ k *ℤ d)) (k *ℤ d +ℤ k *ℤ d) hg (omega (arith, linear, kd)) (times_from_zero (square k *ℤ d) (four d) f0 (omega (arith, linear, d0))) w0
-    (rw whole (omega (arith, linear, radius_length (square n *ℤ high), doubled i, under, more))) (omega (arith, linear, point_length)) l (scaled_by (square k *ℤ d) (n *ℤ w) (four (square n *ℤ high)) (four d) f0 h))
+        (rw whole (omega (arith, linear, radius_length (square n *ℤ high), doubled i, under, more))) (omega (arith, linear, point_length)) l (scaled_by (square k *ℤ d) (n *ℤ w) (four (square n *ℤ high)) (four d) f0 h))
   ]
     where
       whole : ((i +ℤ i) -ℤ (k *ℤ d +ℤ k *ℤ d)) +ℤ (k *ℤ d +ℤ k *ℤ d) ≡ i +ℤ i
@@ -167,7 +183,24 @@ module _ (n k d i w low high : ℤ) (hn : pos 1 ≤ℤ n) (hk : pos 1 ≤ℤ k) 
       dnkw = times_from_zero (d *ℤ square n) (k *ℤ w) (omega (arith, linear, dn)) kw
 
       right : d *ℤ square (n *ℤ (k *ℤ w +ℤ (pos 1 +ℤ pos 1))) ≡ (square k *ℤ d) *ℤ square (n *ℤ w) +ℤ (four ((d *ℤ square n) *ℤ (k *ℤ w)) +ℤ four (d *ℤ square n))
-      right = simp ring (omega (arith, linear))
+      right = omega (arith, linear, plain d n (k *ℤ w), regrouped)
+        where
+          plain : (d n v : ℤ) → d *ℤ square (n *ℤ (v +ℤ (pos 1 +ℤ pos 1))) ≡ d *ℤ (square n *ℤ square v) +ℤ (four ((d *ℤ square n) *ℤ v) +ℤ four (d *ℤ square n))
+          plain d n v =
+              let e : (d *ℤ square n) *ℤ square (v +ℤ (pos 1 +ℤ pos 1)) ≡ (d *ℤ square n) *ℤ square v +ℤ ((d *ℤ square n) *ℤ four v +ℤ (d *ℤ square n) *ℤ pos 4) = rw (two_more v) (spread (d *ℤ square n) (square v) (four v) (pos 4)) in
+              omega (arith, linear, scaled d n (v +ℤ (pos 1 +ℤ pos 1)), e, parts d n v, by_four (d *ℤ square n))
+            where
+              scaled : (d n z : ℤ) → d *ℤ square (n *ℤ z) ≡ (d *ℤ square n) *ℤ square z
+              scaled d n z = simp ring
+
+              spread : (f x y z : ℤ) → f *ℤ (x +ℤ (y +ℤ z)) ≡ f *ℤ x +ℤ (f *ℤ y +ℤ f *ℤ z)
+              spread f x y z = simp ring (omega (arith, linear))
+
+              parts : (d n v : ℤ) → (d *ℤ square n) *ℤ square v +ℤ (d *ℤ square n) *ℤ four v ≡ d *ℤ (square n *ℤ square v) +ℤ four ((d *ℤ square n) *ℤ v)
+              parts d n v = simp ring (omega (arith, linear))
+
+          regrouped : d *ℤ (square n *ℤ square (k *ℤ w)) ≡ (square k *ℤ d) *ℤ square (n *ℤ w)
+          regrouped = simp ring
 
       far : pos 0 ≤ℤ ((i +ℤ i) -ℤ (k *ℤ d +ℤ k *ℤ d)) → square ((i +ℤ i) -ℤ (k *ℤ d +ℤ k *ℤ d)) ≤ℤ ((square k *ℤ d) *ℤ square (n *ℤ w)) → square ((k *ℤ d -ℤ i) +ℤ (k *ℤ d -ℤ i)) ≤ℤ (d *ℤ square (n *ℤ (k *ℤ w +ℤ (pos 1 +ℤ pos 1))))
       far from l =
@@ -185,7 +218,7 @@ module _ (n k d i w low high : ℤ) (hn : pos 1 ≤ℤ n) (hk : pos 1 ≤ℤ k) 
               let o : (square k *ℤ d) *ℤ square (n *ℤ w) ≡ d *ℤ (square n *ℤ square (k *ℤ w)) = simp ring in
               let a : (d *ℤ (square n *ℤ square (k *ℤ w))) ≤ℤ square ((d *ℤ square n) *ℤ (k *ℤ w)) = wider in
               let b : g ≤ℤ ((d *ℤ square n) *ℤ (k *ℤ w)) = square_cancel g ((d *ℤ square n) *ℤ (k *ℤ w)) dnkw (omega (arith, linear, l, o, a)) in
-              let s : square (g +ℤ (pos 1 +ℤ pos 1)) ≡ square g +ℤ (four g +ℤ four (pos 1)) = simp ring (omega (arith, linear)) in
+              let s : square (g +ℤ (pos 1 +ℤ pos 1)) ≡ square g +ℤ (four g +ℤ pos 4) = two_more g in
               rw e (omega (arith, linear, s, l, b, right, dn))
             where
               wider : (d *ℤ (square n *ℤ square (k *ℤ w))) ≤ℤ square ((d *ℤ square n) *ℤ (k *ℤ w))
@@ -254,7 +287,7 @@ square_two : (z : ℤ) → square (pos 2) *ℤ z ≡ four z
 square_two z = omega (arith, ints)
 
 -- the place i/m of the way from c to the point
-along : Spot → ℤ → (m : ℤ) → pos 1 ≤ℤ m → Point → Point
+abbrev along : Spot → ℤ → (m : ℤ) → pos 1 ≤ℤ m → Point → Point
 along c i m some p = record { x = m *ℤ c.x +ℤ i *ℤ (p.x -ℤ p.n *ℤ c.x); y = m *ℤ c.y +ℤ i *ℤ (p.y -ℤ p.n *ℤ c.y); n = m; positive = some }
 
 way : (m i x n c : ℤ) → (m *ℤ c +ℤ i *ℤ (x -ℤ n *ℤ c)) -ℤ m *ℤ c ≡ i *ℤ (x -ℤ n *ℤ c)
@@ -344,8 +377,9 @@ ring_at c a low high k from to =
     let e : reach_of c (at a) ≡ dot_of c a a = by a.x a.y c.x c.y in
     let one : (z : ℤ) → square (pos 1) *ℤ z ≡ z = λ z. omega (arith, ints) in
     rw (e, one low, one high) (
-    inl (omega (arith, linear, times_mono (square k) (dot_of c a a) high (square_from_zero k) to, square_from_zero (pos 1 *ℤ pos 1))),
-    inl (omega (arith, linear, times_mono (square k) low (dot_of c a a) (square_from_zero k) from, square_from_zero (pos 1 *ℤ pos 1))))
+      inl (omega (arith, linear, times_mono (square k) (dot_of c a a) high (square_from_zero k) to, square_from_zero (pos 1 *ℤ pos 1))),
+      inl (omega (arith, linear, times_mono (square k) low (dot_of c a a) (square_from_zero k) from, square_from_zero (pos 1 *ℤ pos 1))),
+    )
   where
     by : (ax ay cx cy : ℤ) → square (ax -ℤ pos 1 *ℤ cx) +ℤ square (ay -ℤ pos 1 *ℤ cy) ≡ (ax -ℤ cx) *ℤ (ax -ℤ cx) +ℤ (ay -ℤ cy) *ℤ (ay -ℤ cy)
     by ax ay cx cy = simp ring (omega (arith, linear))
@@ -455,8 +489,8 @@ from_centre a p none h = by (p.x -ℤ p.n *ℤ a.centre.x) (p.y -ℤ p.n *ℤ a.
             plain n x y = simp ring (omega (arith, linear))
 
 in_turn : (a : Arc) (k : ℤ) (p : Point) → pos 1 ≤ℤ k → InTurn a.centre a.start a.end p → InRing (pos 2) (pos a.width) a.centre (greater a) (lesser a) p → HasPlace a k p
-in_turn a k p some turn ring = elim (le_or_lt (pos 1) (reach_of a.centre p)) [
-  | inr none ↦ at_start a k p some (from_centre a p (omega (arith, linear, none, square_from_zero (p.x -ℤ p.n *ℤ a.centre.x), square_from_zero (p.y -ℤ p.n *ℤ a.centre.y))) ring.1)
+in_turn a k p some turn within = elim (le_or_lt (pos 1) (reach_of a.centre p)) [
+  | inr none ↦ at_start a k p some (from_centre a p (omega (arith, linear, none, square_from_zero (p.x -ℤ p.n *ℤ a.centre.x), square_from_zero (p.y -ℤ p.n *ℤ a.centre.y))) within.1)
   | inl hd ↦ by (reach_of a.centre p) refl hd
 ]
   where
@@ -473,10 +507,10 @@ in_turn a k p some turn ring = elim (le_or_lt (pos 1) (reach_of a.centre p)) [
         fours = square_two
 
         not_over : AtMostLonger (p.n *ℤ pos a.width) (four d) (four (square p.n *ℤ lesser a))
-        not_over = rw (← (fours d), ← (fours (square p.n *ℤ lesser a)), ← reach) ring.0
+        not_over = rw (← (fours d), ← (fours (square p.n *ℤ lesser a)), ← reach) within.0
 
         not_under : AtMostLonger (p.n *ℤ pos a.width) (four (square p.n *ℤ greater a)) (four d)
-        not_under = rw (← (fours d), ← (fours (square p.n *ℤ greater a)), ← reach) ring.1
+        not_under = rw (← (fours d), ← (fours (square p.n *ℤ greater a)), ← reach) within.1
 
         with_root : Root ((square p.n *ℤ lesser a) *ℤ (square k *ℤ d)) → HasPlace a k p
         with_root r = record {
@@ -484,11 +518,12 @@ in_turn a k p some turn ring = elim (le_or_lt (pos 1) (reach_of a.centre p)) [
           turn = inl (turn_along a.centre r.i ((k *ℤ d) *ℤ p.n) r.from m_some p a.start a.end turn);
           ring = rw (reach_along a.centre r.i ((k *ℤ d) *ℤ p.n) r.from m_some p, reach) (
             ring_low p.n k d r.i (pos a.width) (lesser a) (greater a) p.positive some hd r.from (omega (arith, ints)) (least_over a) lh r.under r.over,
-            ring_high p.n k d r.i (pos a.width) (lesser a) (greater a) p.positive some hd r.from (omega (arith, ints)) (least_over a) lh r.under r.over);
+            ring_high p.n k d r.i (pos a.width) (lesser a) (greater a) p.positive some hd r.from (omega (arith, ints)) (least_over a) lh r.under r.over,
+          );
           near = near_along a.centre r.i k d (pos a.width) p m_some reach (omega (arith, linear, hd)) (apart p.n k d r.i (pos a.width) (lesser a) (greater a) p.positive some hd r.from (omega (arith, ints)) (least_over a) lh r.under r.over not_over not_under);
         }
 
 pub surely_is_possibly : SurelyIsPossibly
-surely_is_possibly a p (inl (turn, ring)) k some = in_turn a k p some turn ring
+surely_is_possibly a p (inl (turn, within)) k some = in_turn a k p some turn within
 surely_is_possibly a p (inr (inl h)) k some = at_start a k p some h
 surely_is_possibly a p (inr (inr h)) k some = at_end a k p some h
