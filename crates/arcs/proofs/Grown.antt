@@ -1,11 +1,10 @@
 -- The plane at k times its size.
-use Rattle.std.proofs.Common.{◌≡◌, ◌⊎◌, inl, inr, ℕ, ℤ, pos, ◌+◌, ◌-◌, ◌*◌, ◌≤◌, neg_ℤ, ◌+ℤ◌, ◌-ℤ◌, ◌*ℤ◌, ◌≤ℤ◌, ◌<ℤ◌, List, [], ◌∷◌, map, arith, ap, length, subst, sym, refl, ◌∙◌}
-use Rattle.std.proofs.lemmas.Int.{ints, clamps}
+use Rattle.std.proofs.Common.{◌≡◌, inl, inr, ℤ, pos, neg_ℤ, ◌+ℤ◌, ◌-ℤ◌, ◌*ℤ◌, ◌≤ℤ◌, ◌<ℤ◌, List, [], ◌∷◌, map, arith, ap}
+use Rattle.std.proofs.lemmas.Int.{ints}
 use Rattle.planar.specs.declared.Spot.{Spot}
-use Rattle.planar.specs.Plane.{InCapsule, Point, cross_of, dot_of, square}
-use Rattle.planar.proofs.Ring.{ring, linear, le_or_lt, mul_assoc, over_zero, square_from_zero, times_cancel, times_from_zero, times_mono}
-use Rattle.arcs.specs.declared.Arc.{Arc}
-use Rattle.arcs.specs.Copper.{AreNear, HasPlace, InChain, InFrom, InTurn, MayTurn, Possibly, greater, lesser, reach_of, side_of}
+use Rattle.planar.specs.Plane.{Point, cross_of, dot_of, square}
+use Rattle.planar.proofs.Ring.{ring, linear, over_zero, square_from_zero, times_from_zero, times_mono}
+use Rattle.arcs.specs.Copper.{InFrom, InTurn, MayTurn, reach_of, side_of}
 use Rattle.arcs.specs.Copper.{InRing as InRingBy}
 use Rattle.arcs.specs.Chains.{EachFrom, EndsAt, HasRoom, IsChord, IsRoom}
 use Rattle.arcs.proofs.Whole.{InRing}

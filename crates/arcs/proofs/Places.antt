@@ -6,7 +6,7 @@ use Rattle.planar.specs.Plane.{Point, at, cross_of, dot_of, square}
 use Rattle.planar.proofs.Ring.{ring, linear, le_or_lt, over_zero, square_cancel, square_from_zero, square_mono, square_zero, times_from_zero, times_mono}
 use Rattle.planar.proofs.SpotWithin.{whole_from_zero}
 use Rattle.arcs.specs.declared.Arc.{Arc}
-use Rattle.arcs.specs.Copper.{AreNear, AtMostLonger, HasPlace, InRing, InTurn, IsNear, MayTurn, Possibly, Surely, greater, lesser, reach_of, side_of}
+use Rattle.arcs.specs.Copper.{AreNear, AtMostLonger, HasPlace, InRing, InTurn, IsNear, MayTurn, greater, lesser, reach_of, side_of}
 use Rattle.arcs.specs.Laws.{SurelyIsPossibly}
 
 -- ---- the whole root of a number

@@ -71,8 +71,13 @@ fn a_half_turn_and_more(rt: HostRuntime) {
     assert!(rt; lies_between(&half, &chain[..9], 903, 1097));
     let more = arc((0, 0), (5000, 0), (0, -5000));
     assert!(rt; lies_between(&more, &chain[..13], 903, 1097));
-    let nearly = arc((0, 0), (5000, 0), (4619, -1914));
-    assert!(rt; lies_between(&nearly, &chain[..16], 903, 1097));
+}
+
+#[test]
+fn nearly_a_whole_turn(rt: HostRuntime) {
+    let chain = round();
+    let a = arc((0, 0), (5000, 0), (4619, -1914));
+    assert!(rt; lies_between(&a, &chain[..16], 903, 1097));
 }
 
 /// A whole turn, also where no spot is opposite to the start, and the other way round.
