@@ -1,14 +1,15 @@
 -- Chains against the copper of an arc.
 use Rattle.std.proofs.Common.{◌≡◌, ◌⊎◌, inl, inr, ℕ, ℤ, pos, ◌+◌, ◌-◌, ◌≤◌, neg_ℤ, ◌+ℤ◌, ◌-ℤ◌, ◌*ℤ◌, ◌≤ℤ◌, ◌<ℤ◌, List, [], ◌∷◌, arith, subst, sym}
-use Rattle.std.proofs.lemmas.Int.{ints, clamps}
+use Rattle.std.proofs.lemmas.Int.{ints}
 use Rattle.planar.specs.declared.Spot.{Spot}
 use Rattle.planar.specs.Plane.{InCapsule, Point, cross_of, dot_of}
 use Rattle.planar.proofs.Ring.{ring, linear, le_or_lt, mul_comm, neg-mul, mul-neg, over_zero, square_from_zero, square_zero, times_cancel, times_from_zero, times-zero, zero-times}
 use Rattle.planar.proofs.SpotWithin.{whole_from_zero}
 use Rattle.arcs.specs.declared.Arc.{Arc}
-use Rattle.arcs.specs.Copper.{InChain, InFrom, InTurn, MayTurn, Surely, greater, lesser, side_of}
+use Rattle.arcs.specs.Copper.{InChain, InFrom, InTurn, IsMeant, MayTurn, Surely, inmost, outmost, side_of}
 use Rattle.arcs.specs.Chains.{EachFrom, EndsAt, HasRoom, IsChord, IsInner}
 use Rattle.arcs.proofs.Whole.{InRing, IsNear, IsRim, near_out, ring_out}
+use Rattle.arcs.proofs.Radii.{end_over, end_under, inmost_from, start_over, start_under}
 use Rattle.arcs.proofs.Vectors.{norm}
 use Rattle.arcs.proofs.Ends.{chord_below}
 use Rattle.arcs.proofs.Upper.{chord_holds_ring}
@@ -21,22 +22,19 @@ module _ (c s e : Spot) (low high near far k v : ℤ) (hv : pos 0 ≤ℤ v) (h :
   each_below a (b ∷ rest) all (inl inside) = chord_below c s e a b low high h.least h.most near far k v p hv h.room first last all.0.0 all.0.1 inside
   each_below a (b ∷ rest) all (inr more) = each_below b rest all.1 more
 
-rim_start : (a : Arc) → IsRim a.centre (lesser a) (greater a) a.start
-rim_start a = (omega (arith, ints, clamps), omega (arith, ints, clamps))
+rim_start : (a : Arc) → IsRim a.centre (inmost a) (outmost a) a.start
+rim_start a = (start_over a, start_under a)
 
-rim_end : (a : Arc) → IsRim a.centre (lesser a) (greater a) a.end
-rim_end a = (omega (arith, ints, clamps), omega (arith, ints, clamps))
+rim_end : (a : Arc) → IsRim a.centre (inmost a) (outmost a) a.end
+rim_end a = (end_over a, end_under a)
 
-lesser_from : (a : Arc) → pos 0 ≤ℤ lesser a
-lesser_from a = omega (arith, ints, clamps, whole_from_zero a.centre a.start, whole_from_zero a.centre a.end)
-
-pub below_read : (arc : Arc) (chain : List Spot) (r half : ℕ) (near far : ℤ) (a : Spot) (rest : List Spot) → half + half ≤ arc.width → r ≤ half → HasRoom (lesser arc) (greater arc) near far (pos (half - r)) → chain ≡ a ∷ rest
+pub below_read : (arc : Arc) (chain : List Spot) (r half : ℕ) (near far : ℤ) (a : Spot) (rest : List Spot) → half + half ≤ arc.width → r ≤ half → HasRoom (inmost arc) (outmost arc) near far (pos (half - r)) → chain ≡ a ∷ rest → IsMeant arc
     → EachFrom (IsInner arc.centre arc.start arc.end near far) a rest → (p : Point) → InChain chain (pos r) p → Surely arc p
-below_read arc chain r half near far a rest wide l h e all p inside =
+below_read arc chain r half near far a rest wide l h e meant all p inside =
     let i : InFrom a rest (pos r) p = subst (λ (xs : List Spot). InChain xs (pos r) p) e inside in
     let w : pos r +ℤ pos (half - r) ≡ pos half = omega (arith, ints, l) in
-    by (subst (λ (z : ℤ). (InTurn arc.centre arc.start arc.end p × InRing z arc.centre (greater arc) (lesser arc) p) ⊎ (IsNear z arc.start p ⊎ IsNear z arc.end p)) w
-    (each_below arc.centre arc.start arc.end (lesser arc) (greater arc) near far (pos (half - r)) (pos r) (omega (arith, ints)) h (rim_start arc) (rim_end arc) p a rest all i))
+    by (subst (λ (z : ℤ). (InTurn arc.centre arc.start arc.end p × InRing z arc.centre (outmost arc) (inmost arc) p) ⊎ (IsNear z arc.start p ⊎ IsNear z arc.end p)) w
+    (each_below arc.centre arc.start arc.end (inmost arc) (outmost arc) near far (pos (half - r)) (pos r) (omega (arith, ints)) h (rim_start arc) (rim_end arc) p a rest all i))
   where
     from : pos 0 ≤ℤ pos half
     from = omega (arith, ints)
@@ -47,8 +45,8 @@ below_read arc chain r half near far a rest wide l h e all p inside =
     twice : (pos 2 *ℤ pos half) ≤ℤ pos arc.width
     twice = omega (arith, ints, wide)
 
-    by : (InTurn arc.centre arc.start arc.end p × InRing (pos half) arc.centre (greater arc) (lesser arc) p) ⊎ (IsNear (pos half) arc.start p ⊎ IsNear (pos half) arc.end p) → Surely arc p
-    by (inl (turn, ring)) = inl (turn, ring_out (pos 2) (pos half) (pos arc.width) one p from twice arc.centre (greater arc) (lesser arc) (lesser_from arc) ring)
+    by : (InTurn arc.centre arc.start arc.end p × InRing (pos half) arc.centre (outmost arc) (inmost arc) p) ⊎ (IsNear (pos half) arc.start p ⊎ IsNear (pos half) arc.end p) → Surely arc p
+    by (inl (turn, ring)) = inl (meant, turn, ring_out (pos 2) (pos half) (pos arc.width) one p from twice arc.centre (outmost arc) (inmost arc) (inmost_from arc) ring)
     by (inr (inl h)) = inr (inl (near_out (pos 2) (pos half) (pos arc.width) one p from twice arc.start h))
     by (inr (inr h)) = inr (inr (near_out (pos 2) (pos half) (pos arc.width) one p from twice arc.end h))
 

@@ -7,7 +7,7 @@ use Rattle.planar.proofs.Near.{Near, before_start, at_start, beside, at_foot, tu
 use Rattle.planar.proofs.Ends.{same_near}
 use Rattle.planar.proofs.Ring.{ring, linear, le_or_lt, over_zero, square_from_zero, square_mono, times_cancel, times_from_zero, times_mono}
 use Rattle.arcs.specs.declared.Arc.{Arc}
-use Rattle.arcs.specs.Copper.{HasPlace, InChain, InFrom, Possibly, greater, lesser}
+use Rattle.arcs.specs.Copper.{HasPlace, InChain, InFrom, IsMeant, Possibly, inmost, outmost}
 use Rattle.arcs.specs.Copper.{AreNear as AreNearBy}
 use Rattle.arcs.specs.Chains.{EachFrom, EndsAt, HasRoom, IsChord}
 use Rattle.arcs.proofs.Vectors.{norm, scaled, sum_within, unscaled}
@@ -256,10 +256,10 @@ near_grown k half width z p some from wide h = by z.x z.y z.n p.x p.y p.n z.posi
             spread : (u v : ℤ) → square (u *ℤ (v +ℤ v)) ≡ ((square (u *ℤ v) +ℤ square (u *ℤ v)) +ℤ square (u *ℤ v)) +ℤ square (u *ℤ v)
             spread u v = simp ring (omega (arith, linear))
 
-pub above_read : (arc : Arc) (chain : List Spot) (r half : ℕ) (near far : ℤ) (a : Spot) (rest : List Spot) → arc.width ≤ half + half → half ≤ r → 2 ≤ length chain → HasRoom (lesser arc) (greater arc) near far (pos (r - half)) → chain ≡ a ∷ rest → a ≡ arc.start
+pub above_read : (arc : Arc) (chain : List Spot) (r half : ℕ) (near far : ℤ) (a : Spot) (rest : List Spot) → arc.width ≤ half + half → half ≤ r → 2 ≤ length chain → HasRoom (inmost arc) (outmost arc) near far (pos (r - half)) → chain ≡ a ∷ rest → a ≡ arc.start → IsMeant arc
     → EachFrom (IsChord arc.centre near far) a rest → EndsAt arc.end a rest → (p : Point) → Possibly arc p → InChain chain (pos r) p
-above_read arc chain r half near far a [] wide l two room e start all last p h = let n : length chain ≡ 1 = ap length e in absurd (omega (arith, n, two))
-above_read arc chain r half near far a (b ∷ rest) wide l two room e start all last p h =
+above_read arc chain r half near far a [] wide l two room e start meant all last p h = let n : length chain ≡ 1 = ap length e in absurd (omega (arith, n, two))
+above_read arc chain r half near far a (b ∷ rest) wide l two room e start meant all last p h =
     subst (λ (xs : List Spot). InChain xs (pos r) p) (sym e) (closed (pos r) (omega (arith, ints)) p a (b ∷ rest) each)
   where
     sum : (k r h : ℤ) → (pos 1 +ℤ k *ℤ r) +ℤ (k *ℤ h +ℤ pos 1) ≡ k *ℤ (r +ℤ h) +ℤ pos 2
@@ -267,9 +267,9 @@ above_read arc chain r half near far a (b ∷ rest) wide l two room e start all 
 
     each : (k : ℤ) → pos 1 ≤ℤ k → InFrom (grown k a) (map (grown k) (b ∷ rest)) (k *ℤ pos r +ℤ pos 2) (grown_point k p)
     each k some =
-        let q : HasPlace arc k p = h k some in
+        let q : HasPlace arc k p = h meant k some in
         let hk : pos 0 ≤ℤ k = omega (arith, linear, some) in
-        let on : InFrom (grown k a) (map (grown k) (b ∷ rest)) (pos 1 +ℤ k *ℤ pos (r - half)) (grown_point k q.place) = place_held k some arc.centre arc.start arc.end (lesser arc) (greater arc) near far (pos (r - half)) room a b rest start all last q.place q.turn q.ring in
+        let on : InFrom (grown k a) (map (grown k) (b ∷ rest)) (pos 1 +ℤ k *ℤ pos (r - half)) (grown_point k q.place) = place_held k some arc.centre arc.start arc.end (inmost arc) (outmost arc) near far (pos (r - half)) room a b rest start all last q.place q.turn q.ring in
         let close : AreNear (k *ℤ pos half +ℤ pos 1) (grown_point k q.place) (grown_point k p) = near_grown k (pos half) (pos arc.width) q.place p some (omega (arith, ints)) (omega (arith, ints, wide)) q.near in
         let w : pos (r - half) +ℤ pos half ≡ pos r = omega (arith, ints, l) in
         subst (λ (z : ℤ). InFrom (grown k a) (map (grown k) (b ∷ rest)) (k *ℤ z +ℤ pos 2) (grown_point k p)) w

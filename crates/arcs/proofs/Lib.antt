@@ -2,10 +2,12 @@ mod Along
 mod Chain
 mod Closed
 mod Crossing
+mod Each
 mod Ends
 mod Grown
 mod Lower
 mod Places
+mod Radii
 mod Read
 mod Ring
 mod Upper

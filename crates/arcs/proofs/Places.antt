@@ -1,13 +1,13 @@
 -- A place of the curve near each point that is surely copper.
 use Rattle.std.proofs.Common.{◌≡◌, ◌⊎◌, inl, inr, ℕ, zero, suc, negsuc, ℤ, pos, neg_ℤ, ◌+ℤ◌, ◌-ℤ◌, ◌*ℤ◌, ◌≤ℤ◌, ◌<ℤ◌, arith, refl, sym, subst}
-use Rattle.std.proofs.lemmas.Int.{ints, clamps}
+use Rattle.std.proofs.lemmas.Int.{ints}
 use Rattle.planar.specs.declared.Spot.{Spot}
 use Rattle.planar.specs.Plane.{Point, at, cross_of, dot_of, square}
 use Rattle.planar.proofs.Ring.{ring, linear, le_or_lt, over_zero, square_cancel, square_from_zero, square_mono, square_zero, times_from_zero, times_mono}
-use Rattle.planar.proofs.SpotWithin.{whole_from_zero}
 use Rattle.arcs.specs.declared.Arc.{Arc}
-use Rattle.arcs.specs.Copper.{AreNear, AtMostLonger, HasPlace, InRing, InTurn, IsNear, MayTurn, greater, lesser, reach_of, side_of}
+use Rattle.arcs.specs.Copper.{AreNear, AtMostLonger, HasPlace, InRing, InTurn, IsNear, MayTurn, inmost, outmost, reach_of, side_of}
 use Rattle.arcs.specs.Laws.{SurelyIsPossibly}
+use Rattle.arcs.proofs.Radii.{end_over, end_under, in_order, inmost_from, start_over, start_under}
 
 -- ---- the whole root of a number
 
@@ -439,14 +439,11 @@ near_along c i k d w p some reach hd h =
 
 -- ---- the law
 
-least_over : (a : Arc) → pos 0 ≤ℤ lesser a
-least_over a = omega (arith, ints, clamps, whole_from_zero a.centre a.start, whole_from_zero a.centre a.end)
-
 at_start : (a : Arc) (k : ℤ) (p : Point) → pos 1 ≤ℤ k → IsNear (pos 2) (pos a.width) a.start p → HasPlace a k p
 at_start a k p some h = record {
   place = at a.start;
   turn = turn_start a.centre a.start a.end;
-  ring = ring_at a.centre a.start (lesser a) (greater a) k (omega (arith, ints, clamps)) (omega (arith, ints, clamps));
+  ring = ring_at a.centre a.start (inmost a) (outmost a) k (start_over a) (start_under a);
   near = near_at a.start (pos a.width) k p (omega (arith, ints)) some h;
 }
 
@@ -454,30 +451,30 @@ at_end : (a : Arc) (k : ℤ) (p : Point) → pos 1 ≤ℤ k → IsNear (pos 2) (
 at_end a k p some h = record {
   place = at a.end;
   turn = turn_end a.centre a.start a.end;
-  ring = ring_at a.centre a.end (lesser a) (greater a) k (omega (arith, ints, clamps)) (omega (arith, ints, clamps));
+  ring = ring_at a.centre a.end (inmost a) (outmost a) k (end_over a) (end_under a);
   near = near_at a.end (pos a.width) k p (omega (arith, ints)) some h;
 }
 
 -- where the point is the centre, the pen is as long as the radius
-from_centre : (a : Arc) (p : Point) → reach_of a.centre p ≡ pos 0 → AtMostLonger (p.n *ℤ pos a.width) (square (pos 2) *ℤ (square p.n *ℤ greater a)) (square (pos 2) *ℤ reach_of a.centre p) → IsNear (pos 2) (pos a.width) a.start p
-from_centre a p none h = by (p.x -ℤ p.n *ℤ a.centre.x) (p.y -ℤ p.n *ℤ a.centre.y) none (longest (subst (λ (z : ℤ). AtMostLonger (p.n *ℤ pos a.width) (square (pos 2) *ℤ (square p.n *ℤ greater a)) (square (pos 2) *ℤ z)) none h))
+from_centre : (a : Arc) (p : Point) → reach_of a.centre p ≡ pos 0 → AtMostLonger (p.n *ℤ pos a.width) (square (pos 2) *ℤ (square p.n *ℤ outmost a)) (square (pos 2) *ℤ reach_of a.centre p) → IsNear (pos 2) (pos a.width) a.start p
+from_centre a p none h = by (p.x -ℤ p.n *ℤ a.centre.x) (p.y -ℤ p.n *ℤ a.centre.y) none (longest (subst (λ (z : ℤ). AtMostLonger (p.n *ℤ pos a.width) (square (pos 2) *ℤ (square p.n *ℤ outmost a)) (square (pos 2) *ℤ z)) none h))
   where
-    longest : AtMostLonger (p.n *ℤ pos a.width) (square (pos 2) *ℤ (square p.n *ℤ greater a)) (square (pos 2) *ℤ pos 0) → (square (pos 2) *ℤ (square p.n *ℤ greater a)) ≤ℤ square (p.n *ℤ pos a.width)
+    longest : AtMostLonger (p.n *ℤ pos a.width) (square (pos 2) *ℤ (square p.n *ℤ outmost a)) (square (pos 2) *ℤ pos 0) → (square (pos 2) *ℤ (square p.n *ℤ outmost a)) ≤ℤ square (p.n *ℤ pos a.width)
     longest (inl l) = let z : square (pos 2) *ℤ pos 0 ≡ pos 0 = omega (arith, ints) in omega (arith, linear, l, z)
     longest (inr l) =
         let z : square (pos 2) *ℤ pos 0 ≡ pos 0 = omega (arith, ints) in
         let o : square (p.n *ℤ pos a.width +ℤ p.n *ℤ pos a.width) *ℤ pos 0 ≡ pos 0 = simp ring in
-        let m : square ((square (pos 2) *ℤ (square p.n *ℤ greater a)) -ℤ (square (pos 2) *ℤ pos 0) -ℤ square (p.n *ℤ pos a.width)) ≤ℤ pos 0 = omega (arith, linear, subst (λ (u : ℤ). square ((square (pos 2) *ℤ (square p.n *ℤ greater a)) -ℤ (square (pos 2) *ℤ pos 0) -ℤ square (p.n *ℤ pos a.width)) ≤ℤ (square (p.n *ℤ pos a.width +ℤ p.n *ℤ pos a.width) *ℤ u)) z l, o) in
-        let e : (square (pos 2) *ℤ (square p.n *ℤ greater a)) -ℤ (square (pos 2) *ℤ pos 0) -ℤ square (p.n *ℤ pos a.width) ≡ pos 0 = square_zero ((square (pos 2) *ℤ (square p.n *ℤ greater a)) -ℤ (square (pos 2) *ℤ pos 0) -ℤ square (p.n *ℤ pos a.width)) m in
+        let m : square ((square (pos 2) *ℤ (square p.n *ℤ outmost a)) -ℤ (square (pos 2) *ℤ pos 0) -ℤ square (p.n *ℤ pos a.width)) ≤ℤ pos 0 = omega (arith, linear, subst (λ (u : ℤ). square ((square (pos 2) *ℤ (square p.n *ℤ outmost a)) -ℤ (square (pos 2) *ℤ pos 0) -ℤ square (p.n *ℤ pos a.width)) ≤ℤ (square (p.n *ℤ pos a.width +ℤ p.n *ℤ pos a.width) *ℤ u)) z l, o) in
+        let e : (square (pos 2) *ℤ (square p.n *ℤ outmost a)) -ℤ (square (pos 2) *ℤ pos 0) -ℤ square (p.n *ℤ pos a.width) ≡ pos 0 = square_zero ((square (pos 2) *ℤ (square p.n *ℤ outmost a)) -ℤ (square (pos 2) *ℤ pos 0) -ℤ square (p.n *ℤ pos a.width)) m in
         omega (arith, linear, e, z)
 
-    by : (x y : ℤ) → square x +ℤ square y ≡ pos 0 → (square (pos 2) *ℤ (square p.n *ℤ greater a)) ≤ℤ square (p.n *ℤ pos a.width) → IsNear (pos 2) (pos a.width) a.start p
+    by : (x y : ℤ) → square x +ℤ square y ≡ pos 0 → (square (pos 2) *ℤ (square p.n *ℤ outmost a)) ≤ℤ square (p.n *ℤ pos a.width) → IsNear (pos 2) (pos a.width) a.start p
     by x y z l =
         let zx : p.x -ℤ p.n *ℤ a.centre.x ≡ pos 0 = square_zero (p.x -ℤ p.n *ℤ a.centre.x) (omega (arith, linear, none, square_from_zero (p.x -ℤ p.n *ℤ a.centre.x), square_from_zero (p.y -ℤ p.n *ℤ a.centre.y))) in
         let zy : p.y -ℤ p.n *ℤ a.centre.y ≡ pos 0 = square_zero (p.y -ℤ p.n *ℤ a.centre.y) (omega (arith, linear, none, square_from_zero (p.x -ℤ p.n *ℤ a.centre.x), square_from_zero (p.y -ℤ p.n *ℤ a.centre.y))) in
         let r : reach_of a.start p ≡ square p.n *ℤ dot_of a.centre a.start a.start = seen p.x p.y p.n a.start.x a.start.y a.centre.x a.centre.y zx zy in
-        let m : (square p.n *ℤ dot_of a.centre a.start a.start) ≤ℤ (square p.n *ℤ greater a) = times_mono (square p.n) (dot_of a.centre a.start a.start) (greater a) (square_from_zero p.n) (omega (arith, ints, clamps)) in
-        rw (square_two (reach_of a.start p)) (omega (arith, linear, r, m, square_two (square p.n *ℤ greater a), l))
+        let m : (square p.n *ℤ dot_of a.centre a.start a.start) ≤ℤ (square p.n *ℤ outmost a) = times_mono (square p.n) (dot_of a.centre a.start a.start) (outmost a) (square_from_zero p.n) (start_under a) in
+        rw (square_two (reach_of a.start p)) (omega (arith, linear, r, m, square_two (square p.n *ℤ outmost a), l))
       where
         shifted : (x n s c : ℤ) → x -ℤ n *ℤ c ≡ pos 0 → x -ℤ n *ℤ s ≡ neg_ℤ (n *ℤ (s -ℤ c))
         shifted x n s c e = let f : n *ℤ (s -ℤ c) ≡ n *ℤ s -ℤ n *ℤ c = simp ring in omega (arith, linear, e, f)
@@ -488,42 +485,42 @@ from_centre a p none h = by (p.x -ℤ p.n *ℤ a.centre.x) (p.y -ℤ p.n *ℤ a.
             plain : (n x y : ℤ) → square (neg_ℤ (n *ℤ x)) +ℤ square (neg_ℤ (n *ℤ y)) ≡ square n *ℤ (x *ℤ x +ℤ y *ℤ y)
             plain n x y = simp ring (omega (arith, linear))
 
-in_turn : (a : Arc) (k : ℤ) (p : Point) → pos 1 ≤ℤ k → InTurn a.centre a.start a.end p → InRing (pos 2) (pos a.width) a.centre (greater a) (lesser a) p → HasPlace a k p
+in_turn : (a : Arc) (k : ℤ) (p : Point) → pos 1 ≤ℤ k → InTurn a.centre a.start a.end p → InRing (pos 2) (pos a.width) a.centre (outmost a) (inmost a) p → HasPlace a k p
 in_turn a k p some turn within = elim (le_or_lt (pos 1) (reach_of a.centre p)) [
   | inr none ↦ at_start a k p some (from_centre a p (omega (arith, linear, none, square_from_zero (p.x -ℤ p.n *ℤ a.centre.x), square_from_zero (p.y -ℤ p.n *ℤ a.centre.y))) within.1)
   | inl hd ↦ by (reach_of a.centre p) refl hd
 ]
   where
     by : (d : ℤ) → reach_of a.centre p ≡ d → pos 1 ≤ℤ d → HasPlace a k p
-    by d reach hd = with_root (root_of ((square p.n *ℤ lesser a) *ℤ (square k *ℤ d)) (times_from_zero (square p.n *ℤ lesser a) (square k *ℤ d) (times_from_zero (square p.n) (lesser a) (square_from_zero p.n) (least_over a)) (times_from_zero (square k) d (square_from_zero k) (omega (arith, linear, hd)))))
+    by d reach hd = with_root (root_of ((square p.n *ℤ inmost a) *ℤ (square k *ℤ d)) (times_from_zero (square p.n *ℤ inmost a) (square k *ℤ d) (times_from_zero (square p.n) (inmost a) (square_from_zero p.n) (inmost_from a)) (times_from_zero (square k) d (square_from_zero k) (omega (arith, linear, hd)))))
       where
         m_some : pos 1 ≤ℤ ((k *ℤ d) *ℤ p.n)
         m_some = over_zero (k *ℤ d) p.n (over_zero k d some hd) p.positive
 
-        lh : lesser a ≤ℤ greater a
-        lh = omega (arith, ints, clamps)
+        lh : inmost a ≤ℤ outmost a
+        lh = in_order a
 
         fours : (z : ℤ) → square (pos 2) *ℤ z ≡ four z
         fours = square_two
 
-        not_over : AtMostLonger (p.n *ℤ pos a.width) (four d) (four (square p.n *ℤ lesser a))
-        not_over = rw (← (fours d), ← (fours (square p.n *ℤ lesser a)), ← reach) within.0
+        not_over : AtMostLonger (p.n *ℤ pos a.width) (four d) (four (square p.n *ℤ inmost a))
+        not_over = rw (← (fours d), ← (fours (square p.n *ℤ inmost a)), ← reach) within.0
 
-        not_under : AtMostLonger (p.n *ℤ pos a.width) (four (square p.n *ℤ greater a)) (four d)
-        not_under = rw (← (fours d), ← (fours (square p.n *ℤ greater a)), ← reach) within.1
+        not_under : AtMostLonger (p.n *ℤ pos a.width) (four (square p.n *ℤ outmost a)) (four d)
+        not_under = rw (← (fours d), ← (fours (square p.n *ℤ outmost a)), ← reach) within.1
 
-        with_root : Root ((square p.n *ℤ lesser a) *ℤ (square k *ℤ d)) → HasPlace a k p
+        with_root : Root ((square p.n *ℤ inmost a) *ℤ (square k *ℤ d)) → HasPlace a k p
         with_root r = record {
           place = along a.centre r.i ((k *ℤ d) *ℤ p.n) m_some p;
           turn = inl (turn_along a.centre r.i ((k *ℤ d) *ℤ p.n) r.from m_some p a.start a.end turn);
           ring = rw (reach_along a.centre r.i ((k *ℤ d) *ℤ p.n) r.from m_some p, reach) (
-            ring_low p.n k d r.i (pos a.width) (lesser a) (greater a) p.positive some hd r.from (omega (arith, ints)) (least_over a) lh r.under r.over,
-            ring_high p.n k d r.i (pos a.width) (lesser a) (greater a) p.positive some hd r.from (omega (arith, ints)) (least_over a) lh r.under r.over,
+            ring_low p.n k d r.i (pos a.width) (inmost a) (outmost a) p.positive some hd r.from (omega (arith, ints)) (inmost_from a) lh r.under r.over,
+            ring_high p.n k d r.i (pos a.width) (inmost a) (outmost a) p.positive some hd r.from (omega (arith, ints)) (inmost_from a) lh r.under r.over,
           );
-          near = near_along a.centre r.i k d (pos a.width) p m_some reach (omega (arith, linear, hd)) (apart p.n k d r.i (pos a.width) (lesser a) (greater a) p.positive some hd r.from (omega (arith, ints)) (least_over a) lh r.under r.over not_over not_under);
+          near = near_along a.centre r.i k d (pos a.width) p m_some reach (omega (arith, linear, hd)) (apart p.n k d r.i (pos a.width) (inmost a) (outmost a) p.positive some hd r.from (omega (arith, ints)) (inmost_from a) lh r.under r.over not_over not_under);
         }
 
 pub surely_is_possibly : SurelyIsPossibly
-surely_is_possibly a p (inl (turn, within)) k some = in_turn a k p some turn within
-surely_is_possibly a p (inr (inl h)) k some = at_start a k p some h
-surely_is_possibly a p (inr (inr h)) k some = at_end a k p some h
+surely_is_possibly a p (inl (_, turn, within)) meant k some = in_turn a k p some turn within
+surely_is_possibly a p (inr (inl h)) meant k some = at_start a k p some h
+surely_is_possibly a p (inr (inr h)) meant k some = at_end a k p some h

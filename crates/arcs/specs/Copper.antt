@@ -1,6 +1,7 @@
 -- The copper of an arc draw with a round pen, as sets of rational points, without roots and angles.
--- Sources: Gerber Layer Format Specification, 4.7.2 (arcs: G02, G03, G75, the centre, the whole turn, ends at two distances), 4.8.2 (a draw with a round pen has round ends), and of its deprecated commands G74
-use Rattle.std.specs.Prelude.{ℤ, pos, ◌+ℤ◌, ◌-ℤ◌, ◌*ℤ◌, ◌≤ℤ◌, ◌<ℤ◌, ◌≡◌, ◌⊎◌, List, [], ◌∷◌}
+-- Sources, cited as docs/FORMATS.md says: Gerber Layer Format Specification, 4.7.2 (arcs: G02, G03, G75, the centre, the whole turn, ends at two distances), 4.8.2 (a draw with a round pen has round ends)
+-- Radii are fractions w/m, with m from 1 and w from 0
+use Rattle.std.specs.Prelude.{ℤ, pos, neg_ℤ, int_lt, if◌then◌else◌, ◌+ℤ◌, ◌-ℤ◌, ◌*ℤ◌, ◌≤ℤ◌, ◌<ℤ◌, ◌≡◌, ◌⊎◌, List, [], ◌∷◌}
 use Rattle.std.specs.Int.{int_min, int_max}
 use Rattle.planar.specs.Plane.{InCapsule, Point, cross_of, dot_of, square}
 use Rattle.planar.specs.declared.Spot.{Spot}
@@ -57,24 +58,57 @@ lesser a = int_min (dot_of a.centre a.start a.start) (dot_of a.centre a.end a.en
 abbrev pub greater : Arc → ℤ
 greater a = int_max (dot_of a.centre a.start a.start) (dot_of a.centre a.end a.end)
 
--- In the copper of every curve of the arc, whatever its distances from the centre between those of the ends: in the turn and at most half the pen's width
--- from each such distance, or at most that from an end. Where the ends are at one distance this is the copper of the arc
-abbrev pub Surely : Arc → Point → Type 0
-Surely a p = (InTurn a.centre a.start a.end p × InRing (pos 2) (pos a.width) a.centre (greater a) (lesser a) p) ⊎ (IsNear (pos 2) (pos a.width) a.start p ⊎ IsNear (pos 2) (pos a.width) a.end p)
+-- their difference
+abbrev pub unlike : Arc → ℤ
+unlike a = greater a -ℤ lesser a
 
--- some place of the turn is at most 1/k off the distances between those of the ends, and at most half the pen's width and 1/k from the point
+-- the cross product of the ways from the centre to both ends: below 0 where the turn is more than a half
+abbrev pub swing : Arc → ℤ
+swing a = cross_of a.centre a.start a.end
+
+-- the square of the distance between the ends
+abbrev pub apart : Arc → ℤ
+apart a = dot_of a.start a.end a.end
+
+-- Where the ends are at two distances: the circle through both whose centre is nearest to the given one goes round the given one; and its turn is of at most
+-- about 307 degrees. Asked is what suffices, without roots. Ends in one line with the centre need neither
+abbrev pub IsMeant : Arc → Type 0
+IsMeant a =
+    (swing a ≡ pos 0) ⊎ ((unlike a ≡ pos 0) ⊎
+    (((pos 0 <ℤ swing a) × ((unlike a ≤ℤ (swing a +ℤ swing a)) ⊎ (unlike a ≤ℤ apart a))) ⊎
+    ((swing a <ℤ pos 0) × (unlike a ≤ℤ apart a) × (neg_ℤ (swing a) ≤ℤ apart a))))
+
+-- How far a curve may leave the distances of the ends, by the squares: past a half turn by their difference, since there that circle leaves them, by less than
+-- two thirds of it. Ends at one distance have none
+abbrev pub spread : Arc → ℤ
+spread a = if int_lt (swing a) (pos 0) then unlike a else pos 0
+
+-- the squares of the least and of the greatest distance that a curve may have from the centre
+abbrev pub inmost : Arc → ℤ
+inmost a = int_max (lesser a -ℤ spread a) (pos 0)
+
+abbrev pub outmost : Arc → ℤ
+outmost a = greater a +ℤ spread a
+
+-- In the copper of every curve of the arc, whatever its distances from the centre: in the turn and at most half the pen's width from each distance that a
+-- curve may have, or at most that from an end
+abbrev pub Surely : Arc → Point → Type 0
+Surely a p = (IsMeant a × InTurn a.centre a.start a.end p × InRing (pos 2) (pos a.width) a.centre (outmost a) (inmost a) p) ⊎ (IsNear (pos 2) (pos a.width) a.start p ⊎ IsNear (pos 2) (pos a.width) a.end p)
+
+-- some place of the turn is at most 1/k off the distances that a curve may have, and at most half the pen's width and 1/k from the point
 pub record HasPlace (a : Arc) (k : ℤ) (p : Point) : Type 0 where
   pub place : Point
   pub turn : MayTurn a.centre a.start a.end place
-  pub ring : InRing k (pos 1) a.centre (lesser a) (greater a) place
+  pub ring : InRing k (pos 1) a.centre (inmost a) (outmost a) place
   pub near : AreNear (pos 2 *ℤ k) (k *ℤ pos a.width +ℤ pos 2) place p
 
--- In the copper of some curve of the arc, or in the limit of such points: the pen, on some place that the curve may take, reaches the point
+-- In the copper of some curve of the arc, or in the limit of such points: the pen, on some place that the curve may take, reaches the point. Where no arc
+-- is meant, that is any point
 abbrev pub Possibly : Arc → Point → Type 0
-Possibly a p = (k : ℤ) → pos 1 ≤ℤ k → HasPlace a k p
+Possibly a p = IsMeant a → (k : ℤ) → pos 1 ≤ℤ k → HasPlace a k p
 
--- the points are the copper of an arc draw: of one curve from start to end that turns one way, and whose distances from the centre are between those of
--- the ends (4.7.2: such a curve is what an arc with ends at two distances means)
+-- the points are the copper of an arc draw: of one curve from start to end that turns one way, and whose distances from the centre are those of the ends,
+-- between them (our reading of 4.7.2, where they are two) or, past a half turn, as far off them as `spread` says
 pub record IsCopper (a : Arc) (holds : Point → Type 0) : Type 0 where
   pub least : (p : Point) → Surely a p → holds p
   pub most : (p : Point) → holds p → Possibly a p

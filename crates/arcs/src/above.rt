@@ -4,6 +4,7 @@ ghost use Rattle.planar.specs.Plane.{Point};
 ghost use Rattle.std.specs.Prelude.{IsTrue, pos};
 
 use super::Arc;
+use super::alike::is_meant;
 use super::chords::{chain_round, first_and_rest, is_same};
 use super::rings::ring_of;
 use planar::{Spot, are_placed, is_placed};
@@ -18,7 +19,7 @@ pub fn is_above(arc: &Arc, chain: &[Spot], r: u64) -> bool
         return false;
     }
     let half = arc.width - arc.width / 2;
-    if r < half || chain.len() < 2 {
+    if r < half || chain.len() < 2 || !is_meant(arc) {
         return false;
     }
     let (near, far) = ring_of(arc, r - half);

@@ -4,6 +4,7 @@ ghost use Rattle.planar.specs.Plane.{Point};
 ghost use Rattle.std.specs.Prelude.{IsTrue, pos};
 
 use super::Arc;
+use super::alike::is_meant;
 use super::chords::{chain_inside, first_and_rest};
 use super::rings::ring_of;
 use planar::{Spot, are_placed, is_placed};
@@ -17,7 +18,7 @@ pub fn is_below(arc: &Arc, chain: &[Spot], r: u64) -> bool
         return false;
     }
     let half = arc.width / 2;
-    if half < r || chain.is_empty() {
+    if half < r || chain.is_empty() || !is_meant(arc) {
         return false;
     }
     let (near, far) = ring_of(arc, half - r);

@@ -7,10 +7,12 @@
 //! - `below`: whether a chain lies in the copper of every curve of the arc.
 //! - `chords`: whether a chord lies in a ring, and a chord in a turn.
 //! - `rings`: whole numbers round the radii of an arc.
+//! - `alike`: whether its ends are alike enough for it to be meant.
 //! - `laws`: a law over the definitions alone.
 #![tactic(auto)]
 
 mod above;
+mod alike;
 mod below;
 mod chords;
 pub mod laws;

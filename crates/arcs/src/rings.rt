@@ -1,12 +1,12 @@
 //! Whole numbers round the radii of an arc.
 ghost use Rattle.arcs.specs.Chains.{HasRoom};
-ghost use Rattle.arcs.specs.Copper.{greater, lesser};
+ghost use Rattle.arcs.specs.Copper.{greater, inmost, lesser, outmost, spread};
 ghost use Rattle.arcs.specs.declared.Arc.{Arc};
-ghost use Rattle.planar.specs.Plane.{IsPlaced, square};
-ghost use Rattle.std.specs.Prelude.{pos, ◌*◌, ◌<◌, ◌≤◌, ◌≤ℤ◌, ◌^◌};
+ghost use Rattle.planar.specs.Plane.{IsPlaced, dot_of, square};
+ghost use Rattle.std.specs.Prelude.{pos, ◌*◌, ◌<◌, ◌≡◌, ◌≤◌, ◌≤ℤ◌, ◌^◌};
 
 use super::Arc;
-use planar::dot;
+use planar::{Spot, cross, dot};
 
 /// The least whole number whose square is at least `n`.
 fn root_up(n: u128) -> u128
@@ -25,30 +25,67 @@ fn root_down(n: u128) -> u128
     n.isqrt()
 }
 
-/// A whole number that is not over the lesser radius.
+/// The square of the distance between two spots.
+pub fn square_of(a: Spot, b: Spot) -> u128
+    requires a_placed { IsPlaced a }
+    requires b_placed { IsPlaced b }
+    ensures value { pos result ≡ dot_of a b b }
+    ensures small { result < 2 ^ 127 }
+{
+    dot(a, b, b).unsigned_abs()
+}
+
+/// The squares of the lesser and of the greater of the distances of the ends from the centre.
+pub fn squares_of(arc: &Arc) -> (u128, u128)
+    requires centre { IsPlaced arc.now.centre }
+    requires start { IsPlaced arc.now.start }
+    requires end { IsPlaced arc.now.end }
+    ensures near { pos result.0 ≡ lesser arc.now }
+    ensures far { pos result.1 ≡ greater arc.now }
+    ensures order { result.0 ≤ result.1 }
+    ensures small { result.1 < 2 ^ 127 }
+{
+    let first = square_of(arc.centre, arc.start);
+    let last = square_of(arc.centre, arc.end);
+    (first.min(last), first.max(last))
+}
+
+/// How far a curve may leave the distances of the ends, by the squares.
+fn spread_of(arc: &Arc) -> u128
+    requires centre { IsPlaced arc.now.centre }
+    requires start { IsPlaced arc.now.start }
+    requires end { IsPlaced arc.now.end }
+    ensures value { pos result ≡ spread arc.now }
+    ensures small { result < 2 ^ 127 }
+{
+    if cross(arc.centre, arc.start, arc.end) < 0 {
+        let (near, far) = squares_of(arc);
+        far - near
+    } else {
+        0
+    }
+}
+
+/// A whole number that is not over the least distance that a curve may have.
 fn least_of(arc: &Arc) -> u128
     requires centre { IsPlaced arc.now.centre }
     requires start { IsPlaced arc.now.start }
     requires end { IsPlaced arc.now.end }
-    ensures under { square (pos result) ≤ℤ lesser arc.now }
+    ensures under { square (pos result) ≤ℤ inmost arc.now }
     ensures small { result < 2 ^ 64 }
 {
-    let first = dot(arc.centre, arc.start, arc.start);
-    let last = dot(arc.centre, arc.end, arc.end);
-    root_down(first.min(last).unsigned_abs())
+    root_down(squares_of(arc).0.saturating_sub(spread_of(arc)))
 }
 
-/// A whole number that is not under the greater radius.
+/// A whole number that is not under the greatest.
 fn most_of(arc: &Arc) -> u128
     requires centre { IsPlaced arc.now.centre }
     requires start { IsPlaced arc.now.start }
     requires end { IsPlaced arc.now.end }
-    ensures over { greater arc.now ≤ℤ square (pos result) }
+    ensures over { outmost arc.now ≤ℤ square (pos result) }
     ensures small { result ≤ 2 ^ 64 }
 {
-    let first = dot(arc.centre, arc.start, arc.start);
-    let last = dot(arc.centre, arc.end, arc.end);
-    root_up(first.max(last).unsigned_abs())
+    root_up(squares_of(arc).1 + spread_of(arc))
 }
 
 /// How near to the centre and how far from it a chord may be that is at most `k` off.
@@ -56,7 +93,7 @@ pub fn ring_of(arc: &Arc, k: u64) -> (u128, u128)
     requires centre { IsPlaced arc.now.centre }
     requires start { IsPlaced arc.now.start }
     requires end { IsPlaced arc.now.end }
-    ensures { HasRoom (lesser arc.now) (greater arc.now) (pos result.0) (pos result.1) (pos k) }
+    ensures { HasRoom (inmost arc.now) (outmost arc.now) (pos result.0) (pos result.1) (pos k) }
 {
     let k = k as u128;
     let least = least_of(arc);

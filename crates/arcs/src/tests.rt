@@ -107,6 +107,21 @@ fn two_distances(rt: HostRuntime) {
     assert!(rt; !is_below(&b, &loops, 0) && is_above(&b, &loops, 1107));
 }
 
+/// Past a half turn a curve may leave both distances; ends that differ too much for their turn are refused.
+#[test]
+fn two_distances_past_a_half_turn(rt: HostRuntime) {
+    let mut chain = round();
+    chain[12] = spot((0, -5010));
+    let a = arc((0, 0), (5000, 0), (0, -5010));
+    assert!(rt; lies_between(&a, &chain[..13], 883, 1117));
+    chain[15] = spot((4619, -1920));
+    let nearly = arc((0, 0), (5000, 0), (4619, -1920));
+    assert!(rt; !is_below(&nearly, &chain[..16], 0) && !is_above(&nearly, &chain[..16], 9000));
+    let steep = [spot((10, 0)), spot((20, 1))];
+    let short = arc((0, 0), (10, 0), (20, 1));
+    assert!(rt; !is_below(&short, &steep, 0) && !is_above(&short, &steep, 9000));
+}
+
 /// A chain that goes past an end, one that stops before it, one that leaves a spot out, and one spot alone.
 #[test]
 fn too_long_and_too_short(rt: HostRuntime) {
