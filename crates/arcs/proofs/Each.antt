@@ -1,9 +1,10 @@
 -- What is surely copper is that of each distance.
 use Rattle.std.proofs.Common.{inl, inr, ℤ, pos, ◌+ℤ◌, ◌-ℤ◌, ◌*ℤ◌, ◌≤ℤ◌, ◌<ℤ◌, arith}
+use Rattle.planar.specs.declared.Spot.{Spot}
 use Rattle.planar.specs.Plane.{Point, square}
 use Rattle.planar.proofs.Ring.{linear, le_or_lt, square_from_zero, square_mono, times_mono}
 use Rattle.arcs.specs.declared.Arc.{Arc}
-use Rattle.arcs.specs.Copper.{AtMostLonger, inmost, outmost, reach_of}
+use Rattle.arcs.specs.Copper.{AtMostLonger, InRing, inmost, outmost, reach_of}
 use Rattle.arcs.specs.Laws.{SurelyOfEach}
 
 longer_within : (w a b a' b' : ℤ) → a' ≤ℤ a → b ≤ℤ b' → AtMostLonger w a b → AtMostLonger w a' b'
@@ -22,10 +23,13 @@ stretched m n a b h = times_mono (square m) (square n *ℤ a) (square n *ℤ b) 
 same : (z : ℤ) → z ≤ℤ z
 same z = omega (arith, linear)
 
+-- a ring between other distances
+pub ring_within : (m w : ℤ) (c : Spot) (near far near' far' : ℤ) (p : Point) → near' ≤ℤ near → far ≤ℤ far' → InRing m w c near far p → InRing m w c near' far' p
+ring_within m w c near far near' far' p h k ring = (
+  longer_within (p.n *ℤ w) (square m *ℤ reach_of c p) (square m *ℤ (square p.n *ℤ far)) (square m *ℤ reach_of c p) (square m *ℤ (square p.n *ℤ far')) (same (square m *ℤ reach_of c p)) (stretched m p.n far far' k) ring.0,
+  longer_within (p.n *ℤ w) (square m *ℤ (square p.n *ℤ near)) (square m *ℤ reach_of c p) (square m *ℤ (square p.n *ℤ near')) (square m *ℤ reach_of c p) (stretched m p.n near' near h) (same (square m *ℤ reach_of c p)) ring.1,
+)
+
 pub surely_of_each : SurelyOfEach
-surely_of_each a f p low high (inl (meant, turn, ring)) = inl (
-    turn,
-    longer_within (p.n *ℤ pos a.width) (square (pos 2) *ℤ reach_of a.centre p) (square (pos 2) *ℤ (square p.n *ℤ inmost a)) (square (pos 2) *ℤ reach_of a.centre p) (square (pos 2) *ℤ (square p.n *ℤ f)) (same (square (pos 2) *ℤ reach_of a.centre p)) (stretched (pos 2) p.n (inmost a) f low) ring.0,
-    longer_within (p.n *ℤ pos a.width) (square (pos 2) *ℤ (square p.n *ℤ outmost a)) (square (pos 2) *ℤ reach_of a.centre p) (square (pos 2) *ℤ (square p.n *ℤ f)) (square (pos 2) *ℤ reach_of a.centre p) (stretched (pos 2) p.n f (outmost a) high) (same (square (pos 2) *ℤ reach_of a.centre p)) ring.1,
-  )
+surely_of_each a f p low high (inl (meant, turn, ring)) = inl (turn, ring_within (pos 2) (pos a.width) a.centre (outmost a) (inmost a) f f p high low ring)
 surely_of_each a f p low high (inr ends) = inr ends

@@ -6,7 +6,8 @@ use Rattle.planar.specs.Plane.{Point, at, cross_of, dot_of, square}
 use Rattle.planar.proofs.Ring.{ring, linear, le_or_lt, over_zero, square_cancel, square_from_zero, square_mono, square_zero, times_from_zero, times_mono}
 use Rattle.arcs.specs.declared.Arc.{Arc}
 use Rattle.arcs.specs.Copper.{AreNear, AtMostLonger, HasPlace, InRing, InTurn, IsNear, MayTurn, inmost, outmost, reach_of, side_of}
-use Rattle.arcs.specs.Laws.{SurelyIsPossibly}
+use Rattle.arcs.specs.Laws.{PossiblyAtEnds, PossiblyOfEach, SurelyIsPossibly}
+use Rattle.arcs.proofs.Each.{ring_within}
 use Rattle.arcs.proofs.Radii.{end_over, end_under, in_order, inmost_from, start_over, start_under}
 
 -- ---- the whole root of a number
@@ -485,42 +486,54 @@ from_centre a p none h = by (p.x -ℤ p.n *ℤ a.centre.x) (p.y -ℤ p.n *ℤ a.
             plain : (n x y : ℤ) → square (neg_ℤ (n *ℤ x)) +ℤ square (neg_ℤ (n *ℤ y)) ≡ square n *ℤ (x *ℤ x +ℤ y *ℤ y)
             plain n x y = simp ring (omega (arith, linear))
 
+-- a place of the turn in the direction of p, at a distance between low and high
+along_turn : (a : Arc) (k : ℤ) (p : Point) (low high d : ℤ) → pos 1 ≤ℤ k → pos 0 ≤ℤ low → low ≤ℤ high → inmost a ≤ℤ low → high ≤ℤ outmost a → reach_of a.centre p ≡ d → pos 1 ≤ℤ d → InTurn a.centre a.start a.end p → InRing (pos 2) (pos a.width) a.centre high low p → HasPlace a k p
+along_turn a k p low high d some low_from lh from to reach hd turn within =
+    with_root (root_of ((square p.n *ℤ low) *ℤ (square k *ℤ d)) (times_from_zero (square p.n *ℤ low) (square k *ℤ d) (times_from_zero (square p.n) low (square_from_zero p.n) low_from) (times_from_zero (square k) d (square_from_zero k) (omega (arith, linear, hd)))))
+  where
+    m_some : pos 1 ≤ℤ ((k *ℤ d) *ℤ p.n)
+    m_some = over_zero (k *ℤ d) p.n (over_zero k d some hd) p.positive
+
+    fours : (z : ℤ) → square (pos 2) *ℤ z ≡ four z
+    fours = square_two
+
+    not_over : AtMostLonger (p.n *ℤ pos a.width) (four d) (four (square p.n *ℤ low))
+    not_over = rw (← (fours d), ← (fours (square p.n *ℤ low)), ← reach) within.0
+
+    not_under : AtMostLonger (p.n *ℤ pos a.width) (four (square p.n *ℤ high)) (four d)
+    not_under = rw (← (fours d), ← (fours (square p.n *ℤ high)), ← reach) within.1
+
+    with_root : Root ((square p.n *ℤ low) *ℤ (square k *ℤ d)) → HasPlace a k p
+    with_root r = record {
+      place = along a.centre r.i ((k *ℤ d) *ℤ p.n) m_some p;
+      turn = inl (turn_along a.centre r.i ((k *ℤ d) *ℤ p.n) r.from m_some p a.start a.end turn);
+      ring = ring_within k (pos 1) a.centre low high (inmost a) (outmost a) (along a.centre r.i ((k *ℤ d) *ℤ p.n) m_some p) from to narrow;
+      near = near_along a.centre r.i k d (pos a.width) p m_some reach (omega (arith, linear, hd)) (apart p.n k d r.i (pos a.width) low high p.positive some hd r.from (omega (arith, ints)) low_from lh r.under r.over not_over not_under);
+    }
+      where
+        narrow : InRing k (pos 1) a.centre low high (along a.centre r.i ((k *ℤ d) *ℤ p.n) m_some p)
+        narrow = rw (reach_along a.centre r.i ((k *ℤ d) *ℤ p.n) r.from m_some p, reach) (
+          ring_low p.n k d r.i (pos a.width) low high p.positive some hd r.from (omega (arith, ints)) low_from lh r.under r.over,
+          ring_high p.n k d r.i (pos a.width) low high p.positive some hd r.from (omega (arith, ints)) low_from lh r.under r.over,
+        )
+
+same : (z : ℤ) → z ≤ℤ z
+same z = omega (arith, linear)
+
 in_turn : (a : Arc) (k : ℤ) (p : Point) → pos 1 ≤ℤ k → InTurn a.centre a.start a.end p → InRing (pos 2) (pos a.width) a.centre (outmost a) (inmost a) p → HasPlace a k p
 in_turn a k p some turn within = elim (le_or_lt (pos 1) (reach_of a.centre p)) [
   | inr none ↦ at_start a k p some (from_centre a p (omega (arith, linear, none, square_from_zero (p.x -ℤ p.n *ℤ a.centre.x), square_from_zero (p.y -ℤ p.n *ℤ a.centre.y))) within.1)
-  | inl hd ↦ by (reach_of a.centre p) refl hd
+  | inl hd ↦ along_turn a k p (inmost a) (outmost a) (reach_of a.centre p) some (inmost_from a) (in_order a) (same (inmost a)) (same (outmost a)) refl hd turn within
 ]
-  where
-    by : (d : ℤ) → reach_of a.centre p ≡ d → pos 1 ≤ℤ d → HasPlace a k p
-    by d reach hd = with_root (root_of ((square p.n *ℤ inmost a) *ℤ (square k *ℤ d)) (times_from_zero (square p.n *ℤ inmost a) (square k *ℤ d) (times_from_zero (square p.n) (inmost a) (square_from_zero p.n) (inmost_from a)) (times_from_zero (square k) d (square_from_zero k) (omega (arith, linear, hd)))))
-      where
-        m_some : pos 1 ≤ℤ ((k *ℤ d) *ℤ p.n)
-        m_some = over_zero (k *ℤ d) p.n (over_zero k d some hd) p.positive
-
-        lh : inmost a ≤ℤ outmost a
-        lh = in_order a
-
-        fours : (z : ℤ) → square (pos 2) *ℤ z ≡ four z
-        fours = square_two
-
-        not_over : AtMostLonger (p.n *ℤ pos a.width) (four d) (four (square p.n *ℤ inmost a))
-        not_over = rw (← (fours d), ← (fours (square p.n *ℤ inmost a)), ← reach) within.0
-
-        not_under : AtMostLonger (p.n *ℤ pos a.width) (four (square p.n *ℤ outmost a)) (four d)
-        not_under = rw (← (fours d), ← (fours (square p.n *ℤ outmost a)), ← reach) within.1
-
-        with_root : Root ((square p.n *ℤ inmost a) *ℤ (square k *ℤ d)) → HasPlace a k p
-        with_root r = record {
-          place = along a.centre r.i ((k *ℤ d) *ℤ p.n) m_some p;
-          turn = inl (turn_along a.centre r.i ((k *ℤ d) *ℤ p.n) r.from m_some p a.start a.end turn);
-          ring = rw (reach_along a.centre r.i ((k *ℤ d) *ℤ p.n) r.from m_some p, reach) (
-            ring_low p.n k d r.i (pos a.width) (inmost a) (outmost a) p.positive some hd r.from (omega (arith, ints)) (inmost_from a) lh r.under r.over,
-            ring_high p.n k d r.i (pos a.width) (inmost a) (outmost a) p.positive some hd r.from (omega (arith, ints)) (inmost_from a) lh r.under r.over,
-          );
-          near = near_along a.centre r.i k d (pos a.width) p m_some reach (omega (arith, linear, hd)) (apart p.n k d r.i (pos a.width) (inmost a) (outmost a) p.positive some hd r.from (omega (arith, ints)) (inmost_from a) lh r.under r.over not_over not_under);
-        }
 
 pub surely_is_possibly : SurelyIsPossibly
 surely_is_possibly a p (inl (_, turn, within)) meant k some = in_turn a k p some turn within
 surely_is_possibly a p (inr (inl h)) meant k some = at_start a k p some h
 surely_is_possibly a p (inr (inr h)) meant k some = at_end a k p some h
+
+pub possibly_of_each : PossiblyOfEach
+possibly_of_each a f p low high off turn within meant k some = along_turn a k p f f (reach_of a.centre p) some (omega (arith, linear, low, inmost_from a)) (same f) low high refl off turn within
+
+pub possibly_at_ends : PossiblyAtEnds
+possibly_at_ends a p (inl h) meant k some = at_start a k p some h
+possibly_at_ends a p (inr h) meant k some = at_end a k p some h
