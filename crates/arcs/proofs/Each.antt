@@ -3,7 +3,6 @@ use Rattle.std.proofs.Common.{inl, inr, ℤ, pos, ◌+ℤ◌, ◌-ℤ◌, ◌*�
 use Rattle.planar.specs.declared.Spot.{Spot}
 use Rattle.planar.specs.Plane.{Point, square}
 use Rattle.planar.proofs.Ring.{linear, le_or_lt, square_from_zero, square_mono, times_mono}
-use Rattle.arcs.specs.declared.Arc.{Arc}
 use Rattle.arcs.specs.Copper.{AtMostLonger, InRing, inmost, outmost, reach_of}
 use Rattle.arcs.specs.Laws.{SurelyOfEach}
 

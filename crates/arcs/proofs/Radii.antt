@@ -1,5 +1,5 @@
 -- The least and the greatest distance that a curve of an arc may have.
-use Rattle.std.proofs.Common.{◌≡◌, Bool, true, false, if◌then◌else◌, ℤ, pos, int_lt, ◌+ℤ◌, ◌-ℤ◌, ◌≤ℤ◌, arith}
+use Rattle.std.proofs.Common.{Bool, true, false, if◌then◌else◌, ℤ, pos, int_lt, ◌+ℤ◌, ◌-ℤ◌, ◌≤ℤ◌, arith}
 use Rattle.std.proofs.lemmas.Int.{ints, clamps}
 use Rattle.std.specs.Int.{int_max}
 use Rattle.planar.specs.Plane.{dot_of}

@@ -107,13 +107,19 @@ fn two_distances(rt: HostRuntime) {
     assert!(rt; !is_below(&b, &loops, 0) && is_above(&b, &loops, 1107));
 }
 
-/// Past a half turn a curve may leave both distances; ends that differ too much for their turn are refused.
+/// Past a half turn a curve may leave both distances.
 #[test]
 fn two_distances_past_a_half_turn(rt: HostRuntime) {
     let mut chain = round();
     chain[12] = spot((0, -5010));
     let a = arc((0, 0), (5000, 0), (0, -5010));
     assert!(rt; lies_between(&a, &chain[..13], 883, 1117));
+}
+
+/// Ends that differ too much for their turn: it is nearly a whole one, or the circle through both goes past the centre.
+#[test]
+fn ends_too_unlike(rt: HostRuntime) {
+    let mut chain = round();
     chain[15] = spot((4619, -1920));
     let nearly = arc((0, 0), (5000, 0), (4619, -1920));
     assert!(rt; !is_below(&nearly, &chain[..16], 0) && !is_above(&nearly, &chain[..16], 9000));
