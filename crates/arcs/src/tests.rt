@@ -75,9 +75,10 @@ fn a_half_turn_and_more(rt: HostRuntime) {
 
 #[test]
 fn nearly_a_whole_turn(rt: HostRuntime) {
-    let chain = round();
-    let a = arc((0, 0), (5000, 0), (4619, -1914));
-    assert!(rt; lies_between(&a, &chain[..16], 903, 1097));
+    let mut chain = round();
+    chain[16] = spot((4800, -1400));
+    let a = arc((0, 0), (5000, 0), (4800, -1400));
+    assert!(rt; lies_between(&a, &chain, 903, 1097));
 }
 
 /// A whole turn, also where no spot is opposite to the start, and the other way round.
