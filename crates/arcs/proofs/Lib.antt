@@ -1,0 +1,15 @@
+mod Along
+mod Chain
+mod Closed
+mod Crossing
+mod Each
+mod Ends
+mod Grown
+mod Lower
+mod Places
+mod Radii
+mod Read
+mod Ring
+mod Upper
+mod Vectors
+mod Whole

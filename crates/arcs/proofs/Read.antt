@@ -1,0 +1,34 @@
+-- What the code's numbers and answers tell.
+use Rattle.std.proofs.Common.{◌≡◌, ℕ, negsuc, ℤ, pos, ◌+◌, ◌*◌, ◌≤◌, ◌*ℤ◌, ◌≤ℤ◌, unsigned_abs, FitsSigned, to_z, of_z, to_z-of_z, arith, ap, ◌∙◌}
+use Rattle.std.proofs.lemmas.Int.{ints}
+use Rattle.std.specs.Int.{w128}
+use Rattle.planar.specs.Plane.{square}
+use Rattle.arcs.specs.Chains.{HasRoom}
+
+line_whole : (near whole off : ℕ) (d k : ℤ) → pos 0 ≤ℤ d → pos 0 ≤ℤ k → whole ≡ unsigned_abs d → off ≡ unsigned_abs k → near * near * whole ≤ off * off → (pos (near * near) *ℤ d) ≤ℤ square k
+line_whole near whole off (pos d) (pos k) hd hk e f l = let g : near * near * d ≤ k * k = rw (e, f) at l in omega (arith, ints, g)
+line_whole near whole off (negsuc d) k hd hk e f l = absurd (omega (arith, ints, hd))
+line_whole near whole off (pos d) (negsuc k) hd hk e f l = absurd (omega (arith, ints, hk))
+
+pub line_read : (near whole off : ℕ) (d k whole_is off_is : ℤ) → d ≡ whole_is → k ≡ off_is → pos 0 ≤ℤ whole_is → pos 0 ≤ℤ k → FitsSigned w128 d → FitsSigned w128 k → whole ≡ unsigned_abs (to_z w128 (of_z w128 d)) → off ≡ unsigned_abs (to_z w128 (of_z w128 k))
+    → near * near * whole ≤ off * off → (pos (near * near) *ℤ whole_is) ≤ℤ square off_is
+line_read near whole off d k whole_is off_is g h hd hk fd fk e f l =
+    let m : (pos (near * near) *ℤ d) ≤ℤ square k = line_whole near whole off d k (omega (arith, ints, hd, g)) hk (e ∙ ap unsigned_abs (to_z-of_z fd)) (f ∙ ap unsigned_abs (to_z-of_z fk)) l in
+    rw (← g, ← h) m
+
+pub room_read : (low high : ℤ) (least most near k : ℕ) → square (pos least) ≤ℤ low → high ≤ℤ square (pos most) → most ≤ near + k → HasRoom low high (pos near) (pos (least + k)) (pos k)
+room_read low high least most near k h l n = record {
+  least = pos least;
+  most = pos most;
+  room = record {
+    least_from = omega (arith, ints);
+    most_from = omega (arith, ints);
+    near_from = omega (arith, ints);
+    far_from = omega (arith, ints);
+    k_from = omega (arith, ints);
+    least_is = h;
+    most_is = l;
+    near_is = omega (arith, ints, n);
+    far_is = omega (arith, ints);
+  };
+}

@@ -1,0 +1,11 @@
+use Rattle.std.proofs.Common.{arith, rules}
+use Rattle.std.proofs.lemmas.Int.{ints}
+use Rattle.planar.specs.Plane.{cross_of, dot_of}
+use Rattle.planar.proofs.SpotWithin.{whole_from_zero}
+use Rattle.arcs.proofs.Read.{line_read}
+use Rattle.arcs.proofs.chords.line_over.Goals as goal
+
+pub returns-then-off-gt0-clause-line : goal.returns-then-off-gt0-clause-line
+returns-then-off-gt0-clause-line c = λ yes.
+    line_read c.args.near c.unsigned_abs.result c.unsigned_abs-then-off-gt0.result c.dot.result c.cross-off.result (dot_of c.args.a c.args.b c.args.b) (cross_of c.args.c c.args.a c.args.b) c.dot.ensures c.cross-off.ensures
+    (whole_from_zero c.args.a c.args.b) (omega (arith, ints)) (search rules) (search rules) c.unsigned_abs.ensures.value c.unsigned_abs-then-off-gt0.ensures.value (c.line_beyond.ensures yes)

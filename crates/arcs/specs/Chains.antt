@@ -1,0 +1,51 @@
+-- Chords and chains of chords.
+use Rattle.std.specs.Prelude.{ℤ, pos, ◌+ℤ◌, ◌*ℤ◌, ◌≤ℤ◌, ◌<ℤ◌, ◌≡◌, ◌⊎◌, ⊤, List, [], ◌∷◌}
+use Rattle.planar.specs.Plane.{cross_of, dot_of, square}
+use Rattle.planar.specs.declared.Spot.{Spot}
+
+-- a and b are at most `far` from c, b on the left of a, and the line through both is at least `near` from c
+pub record IsChord (c : Spot) (near far : ℤ) (a b : Spot) : Type 0 where
+  pub left : pos 1 ≤ℤ cross_of c a b
+  pub first : dot_of c a a ≤ℤ square far
+  pub last : dot_of c b b ≤ℤ square far
+  pub line : (square near *ℤ dot_of a b b) ≤ℤ square (cross_of c a b)
+
+-- a and b, which is on the left of a, lie in the turn, and so does the way from one to the other
+pub data InTurnBoth (c s e a b : Spot) : Type 0 where
+  in_less : pos 0 <ℤ cross_of c s e → pos 0 ≤ℤ cross_of c s a → pos 0 ≤ℤ cross_of c s b → cross_of c e a ≤ℤ pos 0 → cross_of c e b ≤ℤ pos 0 → InTurnBoth c s e a b
+  after_start : cross_of c s e <ℤ pos 0 → pos 0 ≤ℤ cross_of c s a → pos 0 ≤ℤ cross_of c s b → InTurnBoth c s e a b
+  before_end : cross_of c s e <ℤ pos 0 → (pos 0 ≤ℤ cross_of c s a) ⊎ (cross_of c e a ≤ℤ pos 0) → cross_of c e b ≤ℤ pos 0 → InTurnBoth c s e a b
+  in_half : cross_of c s e ≡ pos 0 → dot_of c s e <ℤ pos 0 → pos 0 ≤ℤ cross_of c s a → pos 0 ≤ℤ cross_of c s b → InTurnBoth c s e a b
+  in_whole : s ≡ e → InTurnBoth c s e a b
+
+-- a chord in the turn
+abbrev pub IsInner : Spot → Spot → Spot → ℤ → ℤ → Spot → Spot → Type 0
+IsInner c s e near far a b = IsChord c near far a b × InTurnBoth c s e a b
+
+-- Whole numbers round the radii whose squares are low and high: least is at most the one, most at least the other. Chords between near and far of c are at most k off
+pub record IsRoom (low high least most near far k : ℤ) : Type 0 where
+  pub least_from : pos 0 ≤ℤ least
+  pub most_from : pos 0 ≤ℤ most
+  pub near_from : pos 0 ≤ℤ near
+  pub far_from : pos 0 ≤ℤ far
+  pub k_from : pos 0 ≤ℤ k
+  pub least_is : square least ≤ℤ low
+  pub most_is : high ≤ℤ square most
+  pub near_is : most ≤ℤ (near +ℤ k)
+  pub far_is : far ≤ℤ (least +ℤ k)
+
+-- some whole numbers lie round the radii
+pub record HasRoom (low high near far k : ℤ) : Type 0 where
+  pub least : ℤ
+  pub most : ℤ
+  pub room : IsRoom low high least most near far k
+
+-- what is said of two spots holds of a and the first of the list, and of each and the next
+abbrev pub EachFrom : (Spot → Spot → Type 0) → Spot → List Spot → Type 0
+EachFrom P a [] = ⊤
+EachFrom P a (b ∷ rest) = P a b × EachFrom P b rest
+
+-- the last of a and the list is e
+abbrev pub EndsAt : Spot → Spot → List Spot → Type 0
+EndsAt e a [] = a ≡ e
+EndsAt e a (b ∷ rest) = EndsAt e b rest

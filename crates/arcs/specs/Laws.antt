@@ -1,0 +1,22 @@
+-- Laws over the definitions.
+use Rattle.std.specs.Prelude.{ℤ, pos, ◌≤ℤ◌, ◌⊎◌}
+use Rattle.planar.specs.Plane.{Point}
+use Rattle.arcs.specs.declared.Arc.{Arc}
+use Rattle.arcs.specs.Copper.{InRing, InTurn, IsNear, Possibly, Surely, inmost, outmost, reach_of}
+
+-- What is in the copper of every curve is in that of some: so an arc draw has a copper, of which the one is the least and the other the most
+abbrev pub SurelyIsPossibly : Type 0
+SurelyIsPossibly = (a : Arc) (p : Point) → Surely a p → Possibly a p
+
+-- What lies surely in the copper is at most half the pen's width from each distance that a curve may have, or from an end
+abbrev pub SurelyOfEach : Type 0
+SurelyOfEach = (a : Arc) (f : ℤ) (p : Point) → inmost a ≤ℤ f → f ≤ℤ outmost a → Surely a p →
+    (InTurn a.centre a.start a.end p × InRing (pos 2) (pos a.width) a.centre f f p) ⊎ (IsNear (pos 2) (pos a.width) a.start p ⊎ IsNear (pos 2) (pos a.width) a.end p)
+
+-- The copper along each such distance is possible, but for the centre itself, which a wide pen may reach
+abbrev pub PossiblyOfEach : Type 0
+PossiblyOfEach = (a : Arc) (f : ℤ) (p : Point) → inmost a ≤ℤ f → f ≤ℤ outmost a → pos 1 ≤ℤ reach_of a.centre p → InTurn a.centre a.start a.end p → InRing (pos 2) (pos a.width) a.centre f f p → Possibly a p
+
+-- and so is the round of each end
+abbrev pub PossiblyAtEnds : Type 0
+PossiblyAtEnds = (a : Arc) (p : Point) → IsNear (pos 2) (pos a.width) a.start p ⊎ IsNear (pos 2) (pos a.width) a.end p → Possibly a p

@@ -1,0 +1,39 @@
+//! Whether the ends of an arc are alike enough for it to be meant.
+ghost use Rattle.arcs.specs.Copper.{IsMeant, unlike};
+ghost use Rattle.arcs.specs.declared.Arc.{Arc};
+ghost use Rattle.planar.specs.Plane.{IsPlaced};
+ghost use Rattle.std.specs.Prelude.{IsTrue, pos, ◌≡◌};
+
+use super::Arc;
+use super::rings::{square_of, squares_of};
+use planar::cross;
+
+/// The difference of the squares of the distances of the ends from the centre.
+fn unlike_of(arc: &Arc) -> u128
+    requires centre { IsPlaced arc.now.centre }
+    requires start { IsPlaced arc.now.start }
+    requires end { IsPlaced arc.now.end }
+    ensures { pos result ≡ unlike arc.now }
+{
+    let (near, far) = squares_of(arc);
+    far - near
+}
+
+/// Whether the arc is meant: it is not refused for its ends.
+pub fn is_meant(arc: &Arc) -> bool
+    requires centre { IsPlaced arc.now.centre }
+    requires start { IsPlaced arc.now.start }
+    requires end { IsPlaced arc.now.end }
+    ensures { IsTrue result → IsMeant arc.now }
+{
+    let swing = cross(arc.centre, arc.start, arc.end);
+    let unlike = unlike_of(arc);
+    let apart = square_of(arc.start, arc.end);
+    if swing == 0 || unlike == 0 {
+        true
+    } else if swing > 0 {
+        unlike <= apart || unlike.saturating_sub(swing.unsigned_abs()) <= swing.unsigned_abs()
+    } else {
+        unlike <= apart && swing.unsigned_abs() <= apart
+    }
+}

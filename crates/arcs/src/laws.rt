@@ -1,0 +1,22 @@
+//! Laws over the definitions. Their calls do nothing.
+ghost use Rattle.arcs.specs.Laws.{PossiblyAtEnds, PossiblyOfEach, SurelyIsPossibly, SurelyOfEach};
+
+/// What lies in the copper of every curve of an arc lies in that of some.
+pub fn surely_is_possibly()
+    ensures { SurelyIsPossibly }
+{}
+
+/// What lies in the copper of every curve lies in that of each distance that a curve may have.
+pub fn surely_of_each()
+    ensures { SurelyOfEach }
+{}
+
+/// The copper along each distance that a curve may have lies in that of some.
+pub fn possibly_of_each()
+    ensures { PossiblyOfEach }
+{}
+
+/// So do the rounds of both ends.
+pub fn possibly_at_ends()
+    ensures { PossiblyAtEnds }
+{}

@@ -1,0 +1,36 @@
+//! Bounds of arc draws.
+//!
+//! A chain of spots with a radius is a row of capsules, each from a spot to the next. Whoever makes a
+//! chain, the checks here say whether its copper lies in that of the arc, or holds it.
+//!
+//! - `above`: whether a chain holds the copper of an arc.
+//! - `below`: whether a chain lies in the copper of every curve of the arc.
+//! - `chords`: whether a chord lies in a ring, and a chord in a turn.
+//! - `rings`: whole numbers round the radii of an arc.
+//! - `alike`: whether its ends are alike enough for it to be meant.
+//! - `laws`: a law over the definitions alone.
+#![tactic(auto)]
+
+mod above;
+mod alike;
+mod below;
+mod chords;
+pub mod laws;
+mod rings;
+
+pub use above::is_above;
+pub use below::is_below;
+pub use planar::Spot;
+
+/// An arc draw with a round pen of the diameter `width`: counterclockwise about `centre`, from `start`
+/// to `end`. One that goes clockwise has the same copper as the one that goes back.
+#[derive(Clone, Copy)]
+pub struct Arc {
+    pub centre: Spot,
+    pub start: Spot,
+    pub end: Spot,
+    pub width: u64,
+}
+
+#[cfg(test)]
+mod tests;

@@ -1,0 +1,129 @@
+"""The chains of tools/show_board/arcs.py, by the arithmetic of the checks in crates/arcs, written anew from their definitions."""
+import random
+import unittest
+from math import atan2, cos, hypot, isqrt, pi, sin
+
+from show_board.arcs import arc_chain
+from show_board.spots import cross, dot
+
+
+def is_meant(centre, start, end):
+    """Ends at two distances are taken where the circle through both with the nearest centre goes round the given one, up to about 307 degrees."""
+    swing, apart = cross(centre, start, end), dot(start, end, end)
+    unlike = abs(dot(centre, start, start) - dot(centre, end, end))
+    if swing == 0 or unlike == 0:
+        return True
+    return unlike <= max(2 * swing, apart) if swing > 0 else unlike <= apart and -swing <= apart
+
+
+def ring(centre, start, end, k):
+    """How near to the centre and how far from it a chord may be that is at most k off."""
+    low, high = sorted((dot(centre, start, start), dot(centre, end, end)))
+    spread = high - low if cross(centre, start, end) < 0 else 0
+    low, high = max(low - spread, 0), high + spread
+    most = isqrt(high) + (isqrt(high) ** 2 < high)
+    return max(most - k, 0), isqrt(low) + k
+
+
+def is_chord(centre, near, far, a, b):
+    turn = cross(centre, a, b)
+    lies_within = max(dot(centre, a, a), dot(centre, b, b)) <= far * far
+    return turn > 0 and lies_within and near * near * dot(a, b, b) <= turn * turn < 2 ** 128
+
+
+def is_in_turn(centre, start, end, a, b):
+    turn = cross(centre, start, end)
+    left, right = ([cross(centre, start, p) >= 0 for p in (a, b)], [cross(centre, end, p) <= 0 for p in (a, b)])
+    if turn > 0:
+        return all(left) and all(right)
+    if turn < 0:
+        return all(left) or right[1] and (left[0] or right[0])
+    return all(left) if dot(centre, start, end) < 0 else start == end
+
+
+def is_below(centre, start, end, width, chain, r):
+    half = width // 2
+    if half < r or not chain or not is_meant(centre, start, end):
+        return False
+    near, far = ring(centre, start, end, half - r)
+    links = list(zip(chain, chain[1:]))
+    return all(is_chord(centre, near, far, a, b) and is_in_turn(centre, start, end, a, b) for a, b in links)
+
+
+def is_above(centre, start, end, width, chain, r):
+    half = width - width // 2
+    if r < half or len(chain) < 2 or chain[0] != start or chain[-1] != end or not is_meant(centre, start, end):
+        return False
+    near, far = ring(centre, start, end, r - half)
+    return all(is_chord(centre, near, far, a, b) for a, b in zip(chain, chain[1:]))
+
+
+def arcs(count):
+    """Arcs of 1 um to 79 mm: ends at one distance (mirror images of a spot), at two up to 303 degrees, and whole turns."""
+    for k in range(count):
+        radius, angle = int(10 ** random.uniform(4, 8.9)), random.uniform(0, 2 * pi)
+        centre = (random.randint(-10 ** 8, 10 ** 8), random.randint(-10 ** 8, 10 ** 8))
+        place = lambda t: (round(radius * cos(t)), round(radius * sin(t)))
+        u, v = place(angle)
+        mirrored = [(u, v), (-v, u), (-u, -v), (v, -u), (u, -v), (v, u), (-u, v), (-v, -u)]
+        start = (u, v)
+        end = (random.choice(mirrored), place(angle + random.uniform(0.01, 5.3)), start)[k % 3]
+        yield centre, *((centre[0] + x, centre[1] + y) for x, y in (start, end))
+
+
+class TestArcChains(unittest.TestCase):
+    def test_the_chains_are_taken(self):
+        """For pens of even and of odd width."""
+        random.seed(62)
+        for centre, start, end in arcs(300):
+            chain, most = arc_chain(centre, start, end)
+            width = 2 * most + random.randint(2, 6000000)
+            low, high = width // 2 - most, width - width // 2 + most
+            with self.subTest(centre=centre, start=start, end=end, width=width):
+                self.assertTrue(is_below(centre, start, end, width, chain, low))
+                self.assertTrue(is_above(centre, start, end, width, chain, high))
+
+    def test_one_u_more_is_refused(self):
+        """Where both ends are at one whole distance the allowance is the least that the checks take."""
+        a, b, c = (0, 0), (300000, 400000), (-400000, 300000)
+        for start, end in ((b, c), (c, b), (b, b), (b, (-300000, -400000))):
+            chain, most = arc_chain(a, start, end)
+            with self.subTest(start=start, end=end):
+                self.assertTrue(is_below(a, start, end, 20001, chain, 10000 - most))
+                self.assertFalse(is_below(a, start, end, 20001, chain, 10001 - most))
+                self.assertTrue(is_above(a, start, end, 20001, chain, 10001 + most))
+                self.assertFalse(is_above(a, start, end, 20001, chain, 10000 + most))
+
+    def test_the_circle_with_a_moved_centre(self):
+        """It goes through both ends, and its centre is the nearest to the given one. Where the arc is meant, it turns one way and keeps
+        within the squares that the checks go by: tried at each of its places that a fine chain has, in floats."""
+        random.seed(63)
+        for tried in range(2000):
+            start, end = ((random.randint(-99, 99), random.randint(-99, 99)) for _ in range(2))
+            swing, apart = cross((0, 0), start, end), dot(start, end, end)
+            if not swing or not is_meant((0, 0), start, end):
+                continue
+            low, high = sorted((dot((0, 0), start, start), dot((0, 0), end, end)))
+            spread = high - low if swing < 0 else 0
+            shift = (dot((0, 0), end, end) - dot((0, 0), start, start)) / (2 * apart)
+            x, y = (shift * (end[j] - start[j]) for j in (0, 1))
+            radius = hypot(start[0] - x, start[1] - y)
+            first, last = (atan2(p[1] - y, p[0] - x) for p in (start, end))
+            places = [(x + radius * cos(t), y + radius * sin(t)) for t in (first + (last - first) % (2 * pi) * k / 200 for k in range(201))]
+            with self.subTest(start=start, end=end):
+                self.assertTrue(all(low - spread - 1e-6 <= px * px + py * py <= high + spread + 1e-6 for px, py in places))
+                self.assertTrue(all(a[0] * b[1] - a[1] * b[0] > 0 for a, b in zip(places, places[1:])))
+
+    def test_other_turns_are_refused(self):
+        centre, start, end = (0, 0), (500000, 0), (0, 500000)
+        chain, most = arc_chain(centre, start, end)
+        low, high = 10000 - most, 10000 + most
+        self.assertFalse(is_below(centre, end, start, 20000, chain, low))
+        self.assertFalse(is_above(centre, end, start, 20000, chain, high))
+        self.assertFalse(is_above(centre, start, end, 20000, chain[:1] + chain[2:], high))
+        self.assertFalse(is_above(centre, start, end, 20000, chain[::-1], high))
+        self.assertFalse(is_above(centre, start, end, 20000, chain[:-1], high))
+
+
+if __name__ == "__main__":
+    unittest.main()
