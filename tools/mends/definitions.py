@@ -1,6 +1,7 @@
 """Apertures and macros of a copper file: which are used, and those outside the profile that are not; words of macros broken over lines."""
 import re
 from decimal import Decimal
+from fractions import Fraction
 
 from .copper_words import AXES, COMMENT, DECIMAL, NOTHING, SELECTION, SIZES, pairs, words
 from .table import LINES, UNUSED
@@ -37,7 +38,7 @@ class Aperture:
         """Whether `check` takes the definition."""
         if len(self.values) != SIZES.get(self.name):
             return False
-        sizes = [Decimal(value.decode()) * scale for value in self.values]
+        sizes = [Fraction(Decimal(value.decode())) * scale for value in self.values]
         return (all(size % 2 == 0 and 0 <= size <= MOST for size in sizes) and min(sizes) <= MOST_WIDE
                 and (self.name == b"C" or min(sizes) > 0))
 

@@ -1,6 +1,7 @@
 """Macros whose rotation is a parameter: written by its values, where all of these are quarter turns."""
 import re
 from decimal import Decimal
+from fractions import Fraction
 
 from .copper_words import DECIMAL
 from .table import TURN
@@ -30,8 +31,8 @@ def quarter(aperture, parameter):
     text = parts[parameter - 1] if parameter <= len(parts) else b"0"
     if not re.fullmatch(DECIMAL, text):
         return None
-    value = Decimal(text.decode()) % 360
-    value += 360 if value < 0 else 0
+    # A decimal's own arithmetic rounds to 28 digits.
+    value = Fraction(Decimal(text.decode())) % 360
     return int(value) if value in QUARTERS else None
 
 

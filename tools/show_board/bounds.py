@@ -103,7 +103,7 @@ def answered(program, package, sides, low, high, ties):
     if any(not sure for _, sure, *_ in findings):
         findings = [*map(Differing(program, low, high, sides.sources).placed, findings)]
     certain, doubt = (sum(it[1] is sure for it in findings) for sure in (True, False))
-    certain += len(list(lost(ties, high.report)))
+    certain += len(lost(ties, high.report))
     if joint.agrees():
         status, word = 0, "agrees"
     else:

@@ -59,6 +59,13 @@ def finding(board, it):
     return told
 
 
+def absent_ties(shown):
+    """The ties of names that no test point has, as findings without a place."""
+    for number, (it, words) in enumerate(ties.absent(shown.ties, shown.board.report)):
+        yield {"id": f"tie-{number}", "kind": "tie", "names": list(it.names), "words": words, "hints": [], "points": [], "nets": [],
+               **({"sure": True} if shown.bounds else {})}
+
+
 def like_of(it):
     """The comparison with another board."""
     places = lambda its: [place((x, y), layer) for x, y, layer in its]
@@ -87,7 +94,7 @@ def board_of(shown):
     return {**told, "audit": shown.audit, "copper": board.manifest.copper, "drills": [name for name, _, _ in board.manifest.drills],
             "netlist": board.manifest.netlist, "own_names": bool(board.package.own), "ties": list(ties.told_of(board.ties, board.report)),
             "pieces": board.report.pieces, "points": len(board.report.points), "unnamed_points": unnamed,
-            **shown.counts(), "flood": shown.flood, "findings": [finding(board, it) for it in shown.findings]}
+            **shown.counts(), "flood": shown.flood, "findings": [*(finding(board, it) for it in shown.findings), *absent_ties(shown)]}
 
 
 def text(all_shown):

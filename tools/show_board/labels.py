@@ -1,13 +1,14 @@
 """A netlist of the names that the copper files give their own pads (Gerber Layer Format Specification, 5.6: .P, .N and .C).
 
 One test point for each flash and each contour of a region with a pin, on the layer of its file; where no file names a pin, one for
-each with a net. What is known so are opens and shorts against the copper's own names: that these are the right ones nothing says.
+each with a net. A pad of several nets has a point of each and declares that they are tied. What is known so are opens and shorts
+against the copper's own names: that these are the right ones nothing says.
 """
 import os
 import re
 from typing import NamedTuple
 
-from . import UNCLEAR, UNDECIDED, Stop, clear, netlist, points, two_sides
+from . import UNCLEAR, UNDECIDED, Stop, clear, netlist, points, ties, two_sides
 from .exact import Refused
 from .manifest import Manifest
 from .package import UNREADABLE
@@ -30,7 +31,7 @@ class Label(NamedTuple):
 
     component: str
     pin: str
-    name: str
+    names: tuple
 
 
 class Point(NamedTuple):
@@ -66,8 +67,8 @@ class Names:
 
     def label(self):
         part, pin, *_ = [*self.set.get(".P", []), "", ""]
-        name = next(iter(self.set.get(".N", [])), "")
-        return Label((part or next(iter(self.set.get(".C", [])), "")).strip(), pin.strip(), "" if name.strip() in ("", netlist.NO_NET) else name)
+        names = tuple(name for name in dict.fromkeys(self.set.get(".N", [])) if name.strip() not in ("", netlist.NO_NET))
+        return Label((part or next(iter(self.set.get(".C", [])), "")).strip(), pin.strip(), names)
 
 
 class Pads:
@@ -105,7 +106,7 @@ class Pads:
     def label(self):
         """Notes the label of the command that was last; answers whether it is wanted."""
         found = self.names.label()
-        if found.pin or found.name and not self.wants_pins:
+        if found.pin or found.names and not self.wants_pins:
             self.labels[len(self.words)] = found
             return True
         return False
@@ -206,34 +207,45 @@ def lines_of(point, place, name):
 
 def text_of(found, unit, places):
     """The netlist as a text."""
-    names = named(list(dict.fromkeys(it.label.name for it in found if it.label.name)))
+    names = named(list(dict.fromkeys(name for it in found for name in it.label.names)))
     lines = [MADE, f"P  UNITS CUST {points.CUST[unit]}"]
     lines += [f"P  {alias}  {name}" for name, alias in names.items() if alias != name]
     for point, place in zip(found, places):
-        if place:
-            lines += lines_of(point, place, names.get(point.label.name, netlist.NO_NET))
+        for name in point.label.names or (netlist.NO_NET,) if place else ():
+            lines += lines_of(point, place, names.get(name, netlist.NO_NET))
     return "\n".join([*lines, "999", ""]).encode()
 
 
 def notes_of(package, found, unit, places):
     """What was taken, and which pads are no test points or not at their middles."""
     kept = [(point, place) for point, place in zip(found, places) if place]
-    names, files = {it.label.name for it, _ in kept if it.label.name}, sorted({it.layer for it in found})
-    told = [f"names: {counted(len(kept), 'test point')} of {counted(len(names), 'net')} by the attributes of "
+    names, files = {name for it, _ in kept for name in it.label.names}, sorted({it.layer for it in found})
+    count = sum(max(1, len(it.label.names)) for it, _ in kept)
+    told = [f"names: {counted(count, 'test point')} of {counted(len(names), 'net')} by the attributes of "
             f"{spoken(package.manifest.copper[layer - 1] for layer in files)} (a netlist of their own, which --keep keeps)"]
     moved = max((place.off for _, place in kept), default=0)
     if moved > unit * unit:
         told.append(f"names: no test point is more than {at_most(moved ** 0.5)} mm from the middle of its pad")
-    for words, some in (("has no place on the netlist's grid and is no test point", [it for it, place in zip(found, places) if not place]),
-                        ("is known from above alone, so its test point may lie beside it", [it for it, _ in kept if not it.is_known])):
+    for words, some in (
+            ("its copper has no place on the netlist's grid and is no test point", [it for it, place in zip(found, places) if not place]),
+            ("later clear objects erase its copper, and its test point is where it would be", [it for it, place in kept if points.is_erased(it.pad, place, unit)]),
+            ("its copper is known from above alone, so its test point may lie beside it", [it for it, _ in kept if not it.is_known]),
+            ("it is of several nets, so they are declared to be tied: a test point of each is there", [it for it, _ in kept if len(it.label.names) > 1])):
         if some:
-            told.append(f"names: {counted(len(some), 'pad')}, first {pin_of(package, some[0])}: its copper {words}")
+            told.append(f"names: {counted(len(some), 'pad')}, first {pin_of(package, some[0])}: {words}")
     return told
 
 
 def pin_of(package, point):
     layer = package.manifest.layer_word(point.layer)
-    return f"{point.label.component} pin {point.label.pin} ({layer})" if point.label.pin else f"one of {point.label.name} ({layer})"
+    return f"{point.label.component} pin {point.label.pin} ({layer})" if point.label.pin else f"one of {point.label.names[0]} ({layer})"
+
+
+def tied(package, found):
+    """The ties that pads of several nets declare."""
+    for it in found:
+        for names in zip(it.label.names, it.label.names[1:]):
+            yield ties.Tie(names, f"{package.manifest.copper[it.layer - 1]}, {pin_of(package, it)}")
 
 
 def need_holes(package, found):
@@ -268,4 +280,5 @@ def use(package, may_lack_holes):
     package.manifest = Manifest({"copper": manifest.copper, "drills": drills, "netlist": package.own})
     package.put(package.own, text_of(found, unit, places))
     package.put(package.name, package.manifest.text().encode())
+    package.ties = list(tied(package, [it for it, place in zip(found, places) if place]))
     return notes_of(package, found, unit, places)

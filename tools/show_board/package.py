@@ -30,8 +30,9 @@ class Package:
         self.between = self.sides = None
         # How the files are called where the user has them, and whether the manifest was made here.
         self.home, self.is_made = "", False
-        # The netlist of the copper's own names, where they are judged by one, and the one that it stands for, or nothing.
-        self.own, self.theirs = "", ""
+        # The netlist of the copper's own names, where they are judged by one, and the one that it stands for, or nothing; the ties
+        # that pads of several nets declare.
+        self.own, self.theirs, self.ties = "", "", []
 
     def path(self, name):
         return os.path.join(self.folder, name)

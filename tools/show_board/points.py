@@ -2,13 +2,14 @@
 
 An IPC-D-356A file counts whole units of 0.0001 inch or 0.001 mm, and the middle of a pad is seldom a whole number of both. The
 place nearest to it is taken, where that is copper of the pad, and else another within the pad: a record is never off its copper.
-All is whole numbers and fractions.
+All is whole numbers and fractions. A pad that is erased again has a record all the same: where its copper would be.
 """
 from fractions import Fraction as Q
 from itertools import islice
 from typing import NamedTuple
 
 from .clear import box
+from .rounds import polygon
 from .spots import edges, odd_inside, point_within
 
 CUST = {25_400: 0, 10_000: 1}       # units in u, by their codes
@@ -82,8 +83,9 @@ def within(piece, unit):
     """Places of the grid that may lie in a piece."""
     for spot in middles(piece):
         yield from around(spot, unit)
-    for row in rows(piece, unit) if piece[0] == "area" else ():
-        for first, last in across(piece[1], row * unit)[:ROWS]:
+    corners = piece[1] if piece[0] == "area" else polygon(piece, False)
+    for row in rows(piece, unit) if corners else ():
+        for first, last in across(corners, row * unit)[:ROWS]:
             for k in (4, 2, 6, 1, 7):
                 yield round((first + (last - first) * k / 8) / unit), row
 
@@ -93,8 +95,17 @@ def size(piece):
     return (right - left) * (high - low)
 
 
+def is_erased(pad, at, unit):
+    return bool(pad.gone) and not is_copper(pad, (at.x * unit, at.y * unit))
+
+
 def place(pad, unit):
-    """A place of the grid in a pad's copper, as near to its middle as is easily found, or None."""
+    """A place of the grid in a pad's copper, as near to its middle as is easily found, or None. Of a pad that is erased again it is
+    the place that it would have, so that its copper is missed there."""
+    return found_in(pad, unit) or (found_in(pad._replace(gone=()), unit) if pad.gone else None)
+
+
+def found_in(pad, unit):
     for at in around(pad.middle, unit):
         if max(map(abs, at)) <= MOST and is_copper(pad, (at[0] * unit, at[1] * unit)):
             return Place(*at, apart(at, pad.middle, unit))
@@ -105,7 +116,7 @@ def place(pad, unit):
 
 
 def settled(pads):
-    """(unit, places): the unit in which most pads have a place, and of two such that with most at their middles."""
+    """(unit, places): the unit in which most pads have a place in copper, and of two such that with most at their middles."""
     tried = [(unit, [place(pad, unit) for pad in pads]) for unit in CUST]
-    return min(tried, key=lambda it: (sum(at is None for at in it[1]), sum(at is not None and at.off > 0 for at in it[1]),
+    return min(tried, key=lambda it: (sum(at is None or is_erased(pad, at, it[0]) for pad, at in zip(pads, it[1])), sum(at is not None and at.off > 0 for at in it[1]),
                                       sum(at.off for at in it[1] if at)))

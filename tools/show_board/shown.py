@@ -34,7 +34,7 @@ class Shown:
         what is sure."""
         if self.bounds:
             told = {word: sum(it.sure and it.kind == kind for it in self.findings) for word, kind in COUNTED.items()}
-            return {**told, "opens": told["opens"] + len(list(ties.lost(self.ties, self.board.report)))}
+            return {**told, "opens": told["opens"] + len(ties.lost(self.ties, self.board.report))}
         opens, shorts, missing, parted = self.ties.counts(self.board.report)
         return {"opens": opens + parted, "shorts": shorts, "missing": missing}
 
@@ -117,7 +117,8 @@ def show(path, asked, program, scratch):
     shown = Shown(path)
     try:
         files = package.opened(path, asked, scratch)
-        shown.ties, own = ties.declared(asked.tie, files), own_names(files, asked)
+        own = own_names(files, asked)
+        shown.ties = ties.declared(asked.tie, files)
         mending.mend(files, program.progress)
         told = judged.judge(program, files)
         (shown.status, shown.line), shown.audit, shown.report = shown.ties.answer(told), told.audit, told.text or b""

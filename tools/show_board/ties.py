@@ -1,8 +1,9 @@
-"""Net ties that are declared: names that the copper is meant to join, as `--tie A=B` and lines of ties.txt say.
+"""Net ties that are declared: names that the copper is meant to join, as `--tie A=B`, lines of ties.txt and pads of several nets say.
 
 A short whose names are all tied together is such a tie and no finding. A tie that no copper makes is an open. What `check` says
 is not changed: its report has each tie as a short, and `audit` confirms that report.
 """
+import re
 from typing import NamedTuple
 
 from . import Stop
@@ -11,6 +12,8 @@ from .package import TIES
 from .words import counted
 
 NOT_UNDERSTOOD = 2
+# A line of ties.txt that begins with the sign, or what comes behind it with blanks round it: names may have it.
+COMMENT = re.compile(r"\A\s*#.*|\s#(\s.*)?\Z")
 
 
 class Tie(NamedTuple):
@@ -22,23 +25,32 @@ class Tie(NamedTuple):
     def text(self):
         return "=".join(self.names)
 
+    def line(self):
+        """A line of ties.txt that declares it, or a comment where the names have what no line can say."""
+        lines = ("=".join(names) for names in (self.names, self.names[::-1]))
+        return next((line for line in lines if sorted(parts_of(COMMENT.sub("", line))) == sorted(self.names)), f"# not in a line: {self.text()}")
+
+
+def parts_of(text):
+    return tuple(part.strip() for part in text.split("="))
+
 
 def tie(text, source):
-    names = tuple(part.strip() for part in text.split("="))
+    names = parts_of(text)
     if len(names) != 2 or not all(names) or names[0] == names[1] or NO_NET in names:
         raise Stop(NOT_UNDERSTOOD, f"{source}: `{text.strip()}` is no tie: two net names as GND=AGND")
     return Tie(names, source)
 
 
 def declared(asked, package):
-    """The ties of the command and of the file beside the manifest, each once."""
+    """The ties of the command, of the file beside the manifest and of the copper's own names, each once."""
     found = [tie(text, "--tie") for text in asked]
     try:
-        lines = package.read(TIES).decode("utf-8", "replace").splitlines()
+        lines = [COMMENT.sub("", line) for line in package.read(TIES).decode("utf-8-sig", "replace").splitlines()]
     except OSError:
         lines = []
-    found += [tie(line, f"{TIES}, line {number}") for number, line in enumerate(lines, 1) if line.strip() and not line.lstrip().startswith("#")]
-    return Ties({frozenset(it.names): it for it in reversed(found)}.values())
+    found += [tie(line, f"{TIES}, line {number}") for number, line in enumerate(lines, 1) if line.strip()]
+    return Ties({frozenset(it.names): it for it in reversed([*found, *package.ties])}.values())
 
 
 class Ties:
@@ -53,7 +65,7 @@ class Ties:
 
     def text(self):
         """The lines of a file that declares them."""
-        return "".join(f"{it.text()}\n" for it in self.ties)
+        return "".join(f"{it.line()}\n" for it in self.ties)
 
     def side(self, name):
         return "=".join(self.of.get(name, (name,)))
@@ -122,9 +134,13 @@ def told_of(ties, report):
 
 
 def lost(ties, report):
-    """Ties of names that no test point has: they have no place to be told at."""
+    """For each tie of names that no test point has, and so without a place, what is told of it."""
+    return [words for _, words in absent(ties, report)]
+
+
+def absent(ties, report):
     names = set(report.names)
     for it in ties.ties:
-        absent = [name for name in it.names if name not in names]
-        if absent:
-            yield f"the tie {it.text()} ({it.source}) is open: no test point has the name {' or '.join(absent)}"
+        some = [name for name in it.names if name not in names]
+        if some:
+            yield it, f"the tie {it.text()} ({it.source}) is open: no test point has the name {' or '.join(some)}"

@@ -34,6 +34,7 @@ COPPER = [
     (table.END, PLAIN.replace("M02", "M00"), PLAIN, "`M00`, ends the file"),
     (table.UNUSED, HEAD + "%AMOC8*\n5,1,8,0,0,1.08239X$1,22.5*\n%\n" + PADS + DRAW + END, PLAIN, "line 3, `AMOC8`, is used by no draw"),
     (table.UNUSED, HEAD + "%ADD11P,1.0X6*%\nD11*\nX1Y1D02*\n" + PADS + "G36*\nG37*\n" + DRAW + END, PLAIN, "line 3, `ADD11P,1.0X6`"),
+    (table.UNUSED, HEAD + f"%ADD11C,1.{'0' * 30}1*%\n" + PADS + DRAW + END, PLAIN, "line 3, `ADD11C,1.0"),
     (table.LINES, macro(f"4,1,3,{OUTLINE[:8]}\n{OUTLINE[8:]},0\n"), macro(f"4,1,3,{OUTLINE},0"), "a macro's word over several lines"),
     (table.LINES, macro("1, 1, 1.0 ,0,\r\n0"), macro("1,1,1.0,0,0"), "joined"),
     (table.TURN, macro("21,1,1.0,0.5,0,0,$1", flash="%ADD11M,-90.0*%\n%ADD12M,360*%\nD11*\nX0Y5000000D03*\nD12*\nX5000000D03*\n"),
@@ -56,6 +57,7 @@ COPPER_STAYS = {
     "a break in a number": macro("1,1,1.\n0,0,0"),
     "a break behind a sign": macro("1,1,1.0,0,-\n0.1"),
     "a turn of 45": macro("21,1,1.0,0.5,0,0,$1", flash="%ADD11M,90*%\n%ADD12M,45*%\nD11*\nX0Y5000000D03*\nD12*\nX5000000D03*\n"),
+    "a turn of nearly 90": macro("21,1,1.0,0.5,0,0,$1", flash=f"%ADD11M,90.{'0' * 30}1*%\nD11*\nX0Y5000000D03*\n"),
     "a name for two macros": macro("5,1,8,0,0,1.0,22.5", "%AMM*\n1,1,1.0,0,0*%\n"),
     "a sign without a partner": PLAIN.replace("%MOMM*%", "%MOMM*%\nG04 100% of it*\n%OFA0.0B0.0*%"),
 }

@@ -115,6 +115,48 @@ class Labels(made.Case):
         for program in self.over_both():
             status, out, board = self.told({"one.gbr": layer(1, "Top", *lines)}, program=program)
             self.assertEqual((status, out.startswith(f"board: {FIRST}agrees, between two bounds ")), (0, True), out)
+            self.assertEqual((board["points"], "its copper" in out), (3, False), out)
+
+    @unittest.skipUnless(made.built(), "the program is not built")
+    def test_erased(self):
+        """A pad that a clear object erases is missing; one that it erases in part, or before, or that is drawn again, is not."""
+        pad, clear = flash(10, (5, 0)), ["%LPC*%", *flash(12, (5, 0)), "%LPD*%"]
+        ring = ["%LPC*%", *flash(11, (5, 0)), "%LPD*%"]
+        rows = [(pad + clear, 1, 1, 1), (flash(11, (5, 0)) + clear, 1, 1, 1), (pad + ring, 0, 0, 0), (clear + pad, 0, 0, 0), (pad + clear + pad, 0, 0, 1),
+                (pad + clear + ["%TD*%"] + pad, 0, 0, 1)]
+        for lines, status, missing, notes in rows:
+            lines = [*pin("U2", "1", "A"), *flash(10, (0, 0)), *pin("U2", "2", "A"), *lines, "%TD*%", *draw(11, (0, 0), (4.6, 0))]
+            told, out, board = self.told({"one.gbr": layer(1, "Top", *lines)}, program=made.built())
+            self.assertEqual((told, board["missing"]), (status, missing), out)
+            self.assertEqual(out.count("names: 1 pad, first U2 pin 2 (the one layer): later clear objects erase its copper"), notes, out)
+
+    def test_several_nets(self):
+        """A pad of several nets is a point of each and declares their tie: what is lost of either is told."""
+        tied = "with 1 declared tie; the report itself says: "
+        both, one = draw(11, (0, 0), (10, 0)), draw(11, (0, 0), (5, 0))
+        rows = [
+            ("GND,AGND", both, "AGND", 0, f"agrees, {tied}differs, opens 0, shorts 1, missing 0"),
+            ("GND,AGND", one, "AGND", 1, f"differs, opens 1, shorts 0, missing 0, open ties 0, {tied}differs, opens 1, shorts 1, missing 0"),
+            ("GND,AGND", one, "VCC", 0, f"agrees, {tied}differs, opens 0, shorts 1, missing 0"),
+            ("GND,AGND", both, "VCC", 1, f"differs, opens 0, shorts 1, missing 0, open ties 0, {tied}differs, opens 0, shorts 1, missing 0"),
+            ("GND", both, "AGND", 1, "differs, opens 0, shorts 1, missing 0"),
+            ("GND,GND,", one, "AGND", 0, "agrees"),
+            ("N/C,GND", one, "AGND", 0, "agrees"),
+        ]
+        for program in self.over_both():
+            for names, track, other, status, line in rows:
+                lines = [*pin("J1", "1", "GND"), *flash(10, (0, 0)), *pin("NT1", "1", names), *flash(10, (5, 0)), *pin("U1", "1", other), *flash(10, (10, 0)), "%TD*%", *track]
+                told, out, board = self.told({"one.gbr": layer(1, "Top", *lines)}, program=program)
+                self.assertEqual((told, out.splitlines()[0]), (status, f"board: {FIRST}{line} (audit true)"))
+                self.assertEqual([(it["names"], it["source"]) for it in board["ties"]], [(["GND", "AGND"], "one.gbr, NT1 pin 1 (the one layer)")] * (names == "GND,AGND"))
+                self.assertEqual("names: 1 pad, first NT1 pin 1 (the one layer): it is of several nets" in out, names == "GND,AGND")
+
+    def test_several_nets_are_kept(self):
+        """With a name that no line of ties.txt can say the kept package has the short."""
+        for names, text, status in (("GND,AGND", "GND=AGND\n", 0), ("#WE,GND", "GND=#WE\n", 0), ("A=B,GND", "# not in a line: A=B=GND\n", 1)):
+            lines = [*pin("NT1", "1", names), *flash(10, (0, 0)), *pin("U1", "1", "VCC"), *flash(10, (5, 0))]
+            self.assertEqual(self.told({"one.gbr": layer(1, "Top", *lines)}, "--keep", names)[0], 0)
+            self.assertEqual((self.read(f"{names}/ties.txt"), self.show(names)[0]), (text, status))
 
     def test_macros(self):
         """A pad that is a macro beside its origin: flattened, with its point in its copper, and no bounds."""
@@ -190,7 +232,7 @@ class Places(unittest.TestCase):
         far = ("area", [(5_003, 0), (999_003, 994_000), (999_003, 1_006_000), (5_003, 12_000)])
         rows = [[self.DISC], [("capsule", (12_345, 6_789), (12_345, 6_789), 8_000)], [square], [far], [("capsule", (3, 3), (700_003, 100_003), 6_000)]]
         for pieces in rows:
-            for gone in ([], [("capsule", (0, 0), (0, 0), 3_000)]):
+            for gone in ([], [("capsule", (0, 0), (0, 0), 3_000)], [("capsule", (0, 0), (0, 0), 3_000_000)] if pieces == [self.DISC] else []):
                 pad = points.Pad((0, 0), pieces, gone)
                 place = points.place(pad, 10_000)
                 self.assertIsNotNone(place, pieces)

@@ -40,6 +40,7 @@ class Ties(made.Case):
         line = "board: agrees, with 1 declared tie; the report itself says: differs, opens 0, shorts 1, missing 0 (audit true)\n"
         for program in self.over_both():
             for words, text, source in ((["--tie", "GND=AGND"], None, "--tie"), ([], "# jumpers\n\n AGND = GND \n", "ties.txt, line 3"),
+                                        ([], "\ufeffGND=AGND # NT1\n", "ties.txt, line 1"),
                                         (["--tie", "AGND=GND"], "GND=AGND\n", "--tie")):
                 status, out, board = self.tied(words=words, text=text, program=program)
                 self.assertEqual((status, out, board["findings"], board["shorts"]), (0, line, [], 0))
@@ -92,6 +93,8 @@ class Ties(made.Case):
             status, out, board = self.tied(words=["--tie", "GND=AGND", *words])
             self.assertEqual((status, board["opens"], self.failures()), (1, 1, ["ties"]))
             self.assertIn(f"the tie {words[1]} (--tie) is open: no test point has the name ", out)
+            found = [(it["id"], it["kind"], it["names"], it["points"]) for it in board["findings"]]
+            self.assertEqual((found, board["findings"][0]["words"] in board["notes"]), ([("tie-0", "tie", words[1].split("="), [])], True))
             self.assertIn("is open", self.show("board", "-q", "--tie", "GND=AGND", *words)[1])
 
     def test_no_tie(self):
@@ -133,11 +136,17 @@ class Ties(made.Case):
                 self.assertEqual((told[0], told[1].startswith(f"board: {line}")), (status, True), told[1])
             told = self.tied(arc, words=["--tie", "GND=AGND", "--tie", "GND=AGMD"], program=program)
             self.assertEqual((told[0], "the tie GND=AGMD (--tie) is open: no test point has the name AGMD" in told[1]), (1, True), told[1])
-            _, out, _ = self.show("board", "--tie", "GND=AGND", "--tie", "GND=AGMD", "--json", "-", program=program)
-            self.assertEqual([json.loads(out)["boards"][0][word] for word in ("opens", "shorts", "missing")], [1, 0, 0])
+            board = json.loads(self.show("board", "--tie", "GND=AGND", "--tie", "GND=AGMD", "--json", "-", program=program)[1])["boards"][0]
+            self.assertEqual([board[word] for word in ("opens", "shorts", "missing")], [1, 0, 0])
+            self.assertEqual([(it["id"], it["sure"]) for it in board["findings"]], [("tie-0", True)])
 
 
 class Classes(unittest.TestCase):
+    def test_comments(self):
+        """Names may have the sign of a comment."""
+        for line, wanted in (("A=B # tie", "A=B"), ("A=B #", "A=B"), (" #A=B", ""), ("WE#=OE#", "WE#=OE#"), ("A=B #2", "A=B #2"), ("A=#B", "A=#B")):
+            self.assertEqual(ties.COMMENT.sub("", line), wanted)
+
     def test_sides(self):
         found = ties.Ties([ties.tie(text, "") for text in ("A=B", "C=D", "B=C", "X=Y")])
         self.assertEqual([found.side(name) for name in "ABCDXZ"], ["A=B=C=D"] * 4 + ["X=Y", "Z"])
