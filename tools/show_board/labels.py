@@ -228,7 +228,8 @@ def notes_of(package, found, unit, places):
         told.append(f"names: no test point is more than {at_most(moved ** 0.5)} mm from the middle of its pad")
     for words, some in (
             ("its copper has no place on the netlist's grid and is no test point", [it for it, place in zip(found, places) if not place]),
-            ("later clear objects erase its copper, and its test point is where it would be", [it for it, place in kept if points.is_erased(it.pad, place, unit)]),
+            ("later clear objects leave no place of its copper that was found, so its test point is where that would be",
+             [it for it, place in kept if points.is_erased(it.pad, place, unit)]),
             ("its copper is known from above alone, so its test point may lie beside it", [it for it, _ in kept if not it.is_known]),
             ("it is of several nets, so they are declared to be tied: a test point of each is there", [it for it, _ in kept if len(it.label.names) > 1])):
         if some:

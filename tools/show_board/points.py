@@ -118,5 +118,5 @@ def found_in(pad, unit):
 def settled(pads):
     """(unit, places): the unit in which most pads have a place in copper, and of two such that with most at their middles."""
     tried = [(unit, [place(pad, unit) for pad in pads]) for unit in CUST]
-    return min(tried, key=lambda it: (sum(at is None or is_erased(pad, at, it[0]) for pad, at in zip(pads, it[1])), sum(at is not None and at.off > 0 for at in it[1]),
-                                      sum(at.off for at in it[1] if at)))
+    return min(tried, key=lambda it: (sum(at is None or is_erased(pad, at, it[0]) for pad, at in zip(pads, it[1])),
+                                      sum(at is not None and at.off > 0 for at in it[1]), sum(at.off for at in it[1] if at)))

@@ -128,7 +128,7 @@ class Labels(made.Case):
             lines = [*pin("U2", "1", "A"), *flash(10, (0, 0)), *pin("U2", "2", "A"), *lines, "%TD*%", *draw(11, (0, 0), (4.6, 0))]
             told, out, board = self.told({"one.gbr": layer(1, "Top", *lines)}, program=made.built())
             self.assertEqual((told, board["missing"]), (status, missing), out)
-            self.assertEqual(out.count("names: 1 pad, first U2 pin 2 (the one layer): later clear objects erase its copper"), notes, out)
+            self.assertEqual(out.count("names: 1 pad, first U2 pin 2 (the one layer): later clear objects leave no place of its copper"), notes, out)
 
     def test_several_nets(self):
         """A pad of several nets is a point of each and declares their tie: what is lost of either is told."""
@@ -145,7 +145,8 @@ class Labels(made.Case):
         ]
         for program in self.over_both():
             for names, track, other, status, line in rows:
-                lines = [*pin("J1", "1", "GND"), *flash(10, (0, 0)), *pin("NT1", "1", names), *flash(10, (5, 0)), *pin("U1", "1", other), *flash(10, (10, 0)), "%TD*%", *track]
+                lines = [*pin("J1", "1", "GND"), *flash(10, (0, 0)), *pin("NT1", "1", names), *flash(10, (5, 0)), *pin("U1", "1", other), *flash(10, (10, 0)),
+                         "%TD*%", *track]
                 told, out, board = self.told({"one.gbr": layer(1, "Top", *lines)}, program=program)
                 self.assertEqual((told, out.splitlines()[0]), (status, f"board: {FIRST}{line} (audit true)"))
                 self.assertEqual([(it["names"], it["source"]) for it in board["ties"]], [(["GND", "AGND"], "one.gbr, NT1 pin 1 (the one layer)")] * (names == "GND,AGND"))
