@@ -98,7 +98,7 @@ class Joint:
     # ---- shorts: names on one net; a point without a net is a name of its own
 
     def key(self, point):
-        return point if self.name(point) == NO_NET else self.ties.side(self.name(point))
+        return point if self.name(point) == NO_NET else self.ties.all_of(self.name(point))
 
     def short_nets(self, report):
         """For each short net its names, each with its first point."""
@@ -114,7 +114,7 @@ class Joint:
             yield "short", True, f"{self.these(names.values())} are joined", self.places(names.values()), list(names.values())
         for names in self.short_nets(self.high):
             groups = classes(names, certain)
-            if len(groups) > 1 and any(isinstance(key, str) for key in names):
+            if len(groups) > 1 and any(isinstance(key, tuple) for key in names):
                 firsts = [names[group[0]] for group in groups]
                 yield "short", False, f"{self.these(firsts)} are joined on the upper board alone", self.places(firsts), firsts
 

@@ -54,7 +54,7 @@ def declared(asked, package):
 
 
 class Ties:
-    """All that is declared. `side` is what a name counts as: tied names count as one."""
+    """All that is declared. `all_of` is what a name counts as: tied names count as one."""
 
     def __init__(self, ties=()):
         self.ties, self.of = sorted(ties, key=lambda it: it.names), {}
@@ -67,11 +67,13 @@ class Ties:
         """The lines of a file that declares them."""
         return "".join(f"{it.line()}\n" for it in self.ties)
 
-    def side(self, name):
-        return "=".join(self.of.get(name, (name,)))
+    def all_of(self, name):
+        """A name with all that are tied to it."""
+        return self.of.get(name, (name,))
 
-    def sides(self, names):
-        return {self.side(name) for name in names}
+    def side(self, name):
+        """The same in words; a name that has the sign may have the same words."""
+        return "=".join(self.all_of(name))
 
     def allowed(self):
         """What the ties allow, without asking that the copper has them."""
@@ -87,7 +89,7 @@ class Ties:
 
     def is_tied(self, report, short):
         """Whether a short of a report joins names that are tied together alone."""
-        return len(self.sides(report.names[name] for name, *_ in short[1])) == 1
+        return len({self.all_of(report.names[name]) for name, *_ in short[1]}) == 1
 
     def shorts(self, report):
         """The shorts that count, each with its number."""

@@ -1,5 +1,6 @@
 """Declared net ties: shorts that are meant, ties that the copper does not have, and which tie a finding asks for."""
 import json
+import types
 import unittest
 from xml.dom import minidom
 
@@ -146,6 +147,11 @@ class Classes(unittest.TestCase):
         """Names may have the sign of a comment."""
         for line, wanted in (("A=B # tie", "A=B"), ("A=B #", "A=B"), (" #A=B", ""), ("WE#=OE#", "WE#=OE#"), ("A=B #2", "A=B #2"), ("A=#B", "A=#B")):
             self.assertEqual(ties.COMMENT.sub("", line), wanted)
+
+    def test_a_name_like_a_tie(self):
+        """A net whose own name is A=B is neither A nor B."""
+        found, names = ties.Ties([ties.tie("A=B", "")]), types.SimpleNamespace(names=["A", "B", "A=B"])
+        self.assertEqual([found.is_tied(names, (0, [(name,) for name in its])) for its in ((0, 1), (0, 2), (0, 1, 2))], [True, False, False])
 
     def test_sides(self):
         found = ties.Ties([ties.tie(text, "") for text in ("A=B", "C=D", "B=C", "X=Y")])
