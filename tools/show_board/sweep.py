@@ -216,8 +216,9 @@ class Sweep:
         self.put(i, j, new)
         self.recast(y, i, old, new, runs)
         j = i + len(new)
-        if self.upper and low < high and y in self.levels:
-            self.level(y, i, below, above)
+        levels = [it for it in self.levels.get(y, ()) if low <= it[0] and it[1] <= high] if self.upper else ()
+        if levels:
+            self.level(y, i, levels, below, above)
         for k in range(max(i - 1, 0), min(j, len(status) - 1)):
             self.meet(status[k], status[k + 1], y)
 
@@ -330,10 +331,10 @@ class Sweep:
         last = max((k for k in {*one, *two, *items} if k is not None and (self.dark[k] or k in self.closed or k in one and k in two)), default=-2)
         return last if self.dark[last] else None
 
-    def level(self, y, i, below, above):
-        """What is left of level edges between two gaps that are not dark, as thin contours."""
+    def level(self, y, i, levels, below, above):
+        """What is left of a window's level edges between two gaps that are not dark, as thin contours."""
         left = self.status[i - 1].cover if i else ()
-        one, two, k, m, levels = left, left, 0, 0, self.levels[y]
+        one, two, k, m = left, left, 0, 0
         xs = sorted({x for x, *_ in below + above} | {x for low, high, _ in levels for x in (low, high)})
         for a, b in zip(xs, xs[1:]):
             while k < len(below) and below[k][0] <= a:
