@@ -16,7 +16,7 @@ from . import bundles
 from .exact import Refused
 from .runs import Piece, Runs, linked
 from .spots import cross
-from .strands import crossing, ordered, slope, strands_of, toggled, windows_of
+from .strands import beneath, crossing, ordered, slope, strands_of, toggled, windows_of
 
 
 class Sweep:
@@ -207,7 +207,13 @@ class Sweep:
         below = [(e.at(y), e.cover, e.item) for e in old]
         new = ordered(y, [e for e in old if e.y2 > y or e.rest] + started)
         above = self.covered(y, i, old, new)
-        (self.keep_points if self.upper else self.keep_off)(y, old, self.status[i - 1].cover if i else (), below, above)
+        left = self.status[i - 1].cover if i else ()
+        if self.upper:
+            under = [it for it in self.under if low <= it[0] <= high]
+            real = beneath(left, below, under)
+            self.keep_points(y, left, below, under, above, real)
+        else:
+            self.keep_off(y, old, left, below, above)
         runs = self.below(y, old)
         for e, (_, cover, _) in zip(new, above):
             if e.y2 == y:
@@ -218,7 +224,7 @@ class Sweep:
         j = i + len(new)
         levels = [it for it in self.levels.get(y, ()) if low <= it[0] and it[1] <= high] if self.upper else ()
         if levels:
-            self.level(y, i, levels, below, above)
+            self.level(y, left, levels, real, above)
         for k in range(max(i - 1, 0), min(j, len(status) - 1)):
             self.meet(status[k], status[k + 1], y)
 
@@ -247,8 +253,9 @@ class Sweep:
                 if piece:
                     self.runs.narrow(piece, y, e is piece.left, e is piece.right)
 
-    def keep_points(self, y, _, left, below, above):
-        """For UPPER the places of a window that are left alone where clear areas do not have their borders, as small squares."""
+    def keep_points(self, y, left, below, under, above, real):
+        """For UPPER the places of a window that are left alone where clear areas do not have their borders, as small squares. `under`
+        are the strands that come back from bundles, `real` all below the line."""
         near = {}
         for side in (below, above):
             cover = left
@@ -256,10 +263,9 @@ class Sweep:
                 if item is not None:
                     near.setdefault(x, []).append((cover, after, item))
                 cover = after
-        for x, before, after, item in self.under:
-            if x in near:
-                near[x].append((before, after, item))
-        sides = [([x for x, *_ in side], [left] + [after for _, after, _ in side]) for side in (below, above)]
+        for x, before, after, item in under:
+            near.setdefault(x, []).append((before, after, item))
+        sides = [([x for x, *_ in side], [left] + [after for _, after, _ in side]) for side in (real, above)]
         for x, found in near.items():
             gaps = [gap for before, after, _ in found for gap in (before, after)] + [covers[bisect_right(xs, x)] for xs, covers in sides]
             if not any(map(self.is_dark, gaps)):
@@ -331,9 +337,8 @@ class Sweep:
         last = max((k for k in {*one, *two, *items} if k is not None and (self.dark[k] or k in self.closed or k in one and k in two)), default=-2)
         return last if self.dark[last] else None
 
-    def level(self, y, i, levels, below, above):
+    def level(self, y, left, levels, below, above):
         """What is left of a window's level edges between two gaps that are not dark, as thin contours."""
-        left = self.status[i - 1].cover if i else ()
         one, two, k, m = left, left, 0, 0
         xs = sorted({x for x, *_ in below + above} | {x for low, high, _ in levels for x in (low, high)})
         for a, b in zip(xs, xs[1:]):
