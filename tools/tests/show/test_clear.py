@@ -171,6 +171,8 @@ class Borders(unittest.TestCase):
             ("the island's side", [(True, SQUARE), (False, ring)], (14, 20), (False, True)),
             ("a tip a unit off the side", [(True, block_of(0, 0, 20, 20)), (False, [(0, 14), (12, 19), (1, 11), (8, 0), (12, 19), (0, 14)])], (1, 11), (False, True)),
             ("a void that runs along itself to its tip", [(True, [(0, 0), (12, 12), (0, 12)]), (False, [(2, 1), (2, 5), (0, 7), (2, 10)])], (2, 5), (False, True)),
+            ("a tip on a corner, level with a notch", [(True, [(6, 3), (7, 4), (7, 5), (6, 4), (5, 5)]), (False, [(7, 4), (8, 3), (8, 5)])], (7, 4), (False, True)),
+            ("a tip on a corner, level with the end of a slot", [(True, [(6, 5), (7, 4), (7, 3), (6, 4), (5, 3)]), (False, [(7, 4), (8, 3), (8, 5)])], (7, 4), (False, True)),
             ("the end of a thin area on a level side", [(True, [(8, 11), (8, 7), (8, 10)]), (False, [(9, 11), (10, 0), (6, 11)])], (8, 11), (False, True)),
             ("a thin area on an upright side", [(True, [(1, 2), (2, 2), (2, 2), (1, 2)]), (False, [(1, 0), (1, 5), (3, 0), (3, 3)])], (1, 2), (False, True)),
         )
