@@ -85,10 +85,10 @@ class Runs:
         """A side has a corner where it touches nothing."""
         is_left, lefts = strand is piece.left, piece.lefts
         apart = piece.right.low - strand.high if is_left else strand.low - piece.left.high
-        if apart <= APART or lefts is None or piece.tight or len(lefts) > LONGEST or len(piece.rights) > LONGEST:
+        if lefts and max(len(lefts), len(piece.rights)) > LONGEST:
+            self.flush(piece)
+        if apart <= APART or piece.lefts is None or piece.tight:
             self.settle(piece, y)
-            if piece.lefts and max(len(piece.lefts), len(piece.rights)) > LONGEST:
-                self.flush(piece)
         if piece.lefts is not None:
             if is_left:
                 piece.lefts.append((x - piece.left_by if self.upper else x + piece.left_by, y))

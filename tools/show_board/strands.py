@@ -92,6 +92,18 @@ def toggled(cover, item):
     return tuple(sorted(set(cover) ^ {item}))
 
 
+def beneath(left, below, under):
+    """The strands of a window below its line with those that came into a bundle in place of what stood for them: each with its place,
+    what covers the gap right of all at that place, and its area."""
+    if not under:
+        return below
+    found, cover = [], left
+    for x, item in sorted([(x, item) for x, _, item in below if item is not None] + [(x, item) for x, _, _, item in under]):
+        cover = toggled(cover, item)
+        found.append((x, cover, item))
+    return found
+
+
 def strands_of(corners, item):
     """(strands, level edges as (y, low, high))."""
     around = [(a, b) for a, b in edges(corners) if a != b]

@@ -1,11 +1,14 @@
 """Two strands that cross each other alone between a line and the next whole y: they change places there.
 
 Four gaps meet where they cross. Where one is dark, or all but one beside the strands, a side of one piece goes from one strand to
-the other. The least of two straight lines bends outwards: a chord lies beyond both, and the strand that it came on lies on the
-other side of it. So one of the two is right for LOWER and the other for UPPER.
+the other. The least of two straight lines bends outwards: a chord lies beyond both. Where the other side of them is asked for, the
+side stands upright at the farthest place that it comes to. Either way each place between it and the strands has one of these
+within a unit above or below it, however level they are.
 """
+from fractions import Fraction as Q
+
 from .runs import Piece
-from .strands import toggled
+from .strands import crossing, toggled
 
 
 class Swap:
@@ -57,17 +60,24 @@ class Swap:
         by = 0 if self.sweep.upper else 1
         return e.down(y) + by if is_left else e.up(y) - by
 
+    def farthest(self, places, is_left):
+        """Where an upright side stands that is beyond some places, and beyond the one at which the strands cross."""
+        far, by = min if is_left == self.sweep.upper else max, 0 if self.sweep.upper else 1
+        x = far(*places, self.a.at(Q(*crossing(self.a, self.b))))
+        return x.__floor__() + by if is_left else x.__ceil__() - by
+
     def bend(self, was, now, is_chord, is_left, by):
         """A side goes on another strand. What is too narrow for that is left out of LOWER."""
         y, piece, runs = self.y, was.opens if is_left else was.ends, self.runs
         runs.settle(piece, y)
         self.begin(piece)
         if piece.lefts is not None:
-            mine = piece.lefts if is_left else piece.rights
-            far = self.place(piece.right if is_left else piece.left, y + 1, not is_left)
-            corners = [(self.place(was, y, is_left), y) if is_chord else (self.place(was, y + 1, is_left), y + 1), (self.place(now, y + 1, is_left), y + 1)]
-            if self.sweep.upper or all(2 <= (far - x if is_left else x - far) for x in (self.place(was, y + 1, is_left), corners[1][0])):
-                mine += corners
+            x = self.farthest((was.at(y), now.at(y + 1)), is_left)
+            corners = [(self.place(was, y, is_left), y), *([] if is_chord else [(x, y), (x, y + 1)]), (self.place(now, y + 1, is_left), y + 1)]
+            other = piece.right if is_left else piece.left
+            far = {h: self.place(other, h, not is_left) for h in (y, y + 1)}
+            if self.sweep.upper or all(2 <= (far[h] - x if is_left else x - far[h]) for x, h in corners):
+                (piece.lefts if is_left else piece.rights).extend(corners)
             else:
                 runs.flush(piece)
         piece.since = y + 1
@@ -94,10 +104,11 @@ class Swap:
         if self.sweep.upper:
             self.begin(piece)
             low, high = self.runs.sides(piece, y)
-            piece.lefts.append((low, y))
-            piece.rights.append((high, y))
+            left, right = self.farthest([a.at(y)], True), self.farthest([b.at(y)], False)
+            piece.lefts += [(low, y), (left, y)]
+            piece.rights += [(high, y), (right, y)]
             piece.since = y + 1
-            self.runs.close(piece, b.down(y + 1), a.up(y + 1))
+            self.runs.close(piece, left, right)
         else:
             self.runs.flush(piece)
         a.opens = b.ends = None
@@ -107,4 +118,6 @@ class Swap:
         piece = Piece(y + 1, self.over[-1])
         piece.take(b, a, off(self.over, self.left), off(self.over, self.right))
         if self.sweep.upper:
-            piece.lefts, piece.rights = [(a.down(y), y), (b.down(y + 1), y + 1)], [(b.up(y), y), (a.up(y + 1), y + 1)]
+            left, right = self.farthest([b.at(y + 1)], True), self.farthest([a.at(y + 1)], False)
+            piece.lefts = [(left, y), (left, y + 1), (b.down(y + 1), y + 1)]
+            piece.rights = [(right, y), (right, y + 1), (a.up(y + 1), y + 1)]

@@ -16,7 +16,7 @@ from . import bundles
 from .exact import Refused
 from .runs import Piece, Runs, linked
 from .spots import cross
-from .strands import crossing, ordered, slope, strands_of, toggled, windows_of
+from .strands import beneath, crossing, ordered, slope, strands_of, toggled, windows_of
 
 
 class Sweep:
@@ -25,7 +25,7 @@ class Sweep:
 
     def __init__(self, items, upper, closed=()):
         self.upper, self.status, self.runs, self.seeds, self.count, self.touched = upper, [], Runs(upper), [], 0, ()
-        self.noted, self.spans, self.levels, self.back, self.unders, self.heap = {}, {}, {}, {}, {}, []
+        self.noted, self.spans, self.levels, self.back, self.unders, self.heap, self.marks = {}, {}, {}, {}, {}, [], ()
         self.dark = [dark for dark, _ in items] + [False, True]     # the last two: what stands for clear and dark in a bundle
         self.out, self.closed = self.runs.out, set(closed)
         events, strands = [], []
@@ -64,7 +64,10 @@ class Sweep:
                     y, x, k = events[at]
                 self.line(line, here)
                 continue
-            line, here = y, []
+            line, here, last = y, [], at
+            while events[last][0] == line:
+                last += 1
+            self.marks = {it[1] for it in events[at:last]} if last > at + 1 and not self.upper else ()
             while y == line:
                 group, place = [strands[k]], x
                 at += 1
@@ -88,7 +91,12 @@ class Sweep:
                 if strand.rest and not strand.active:
                     strand.rise()
                     starts.append((x, strand))
-            for low, high, started in windows_of(spans, starts):
+            windows = windows_of(spans, starts)
+            if len(windows) > 1 and not self.upper:     # first of all of them: one piece may come to several
+                for low, high, started in windows:
+                    _, old, _, left, below, above = self.around(y, low, high, started)
+                    self.keep_off(y, old, left, below, above)
+            for low, high, started in windows:
                 self.window(y, low, high, started)
         if self.seeds:
             bundles.straighten(self, y)
@@ -124,14 +132,14 @@ class Sweep:
         a, b = self.status[i - 1] if i else None, self.status[i] if i < len(self.status) else None
         if b and b.side(x, y) <= 0:
             return False
-        turn = cross((x, y), s.rest[-1], t.rest[-1])
-        if not turn:
+        turn, outer = cross((x, y), s.rest[-1], t.rest[-1]), a.cover if a else ()
+        if not turn or self.marks and self.is_dark(outer) and self.is_marked(y, self.spanning(i).left, self.spanning(i).right):
             return False
         s.rise()
         t.rise()
         if turn > 0:
             s, t = t, s
-        outer = t.cover = a.cover if a else ()
+        t.cover = outer
         inner = s.cover = toggled(outer, s.item)
         self.put(i, i, [s, t])
         if self.is_dark(inner) and not self.is_dark(outer):
@@ -155,6 +163,8 @@ class Sweep:
         a, b = s.before, t.after
         if s.after is not t or a and a.side(x, y) >= 0 or b and b.side(x, y) <= 0:
             return False
+        if self.marks and s.ends and self.is_marked(y, s.ends.left, t.opens.right):
+            return False
         i = self.find(y, x)
         self.put(i, i + 2, [])
         if s.opens:
@@ -169,6 +179,10 @@ class Sweep:
         if a and b:
             self.meet(a, b, y)
         return True
+
+    def is_marked(self, y, left, right):
+        """Whether the sides of what is dark beside a place may be touched on the same line: corners there are not known yet."""
+        return left.at(y) in self.marks or right.at(y) in self.marks
 
     def find(self, y, x):
         """The first strand that is not left of x."""
@@ -198,16 +212,27 @@ class Sweep:
         if after:
             after.before = before
 
-    def window(self, y, low, high, started):
+    def around(self, y, low, high, started):
+        """Of a window its place among the strands, those below and above its line, what covers the gap left of it, and the gaps."""
         status = self.status
         i = j = self.find(y, low)
         while j < len(status) and status[j].side(high, y) <= 0:
             j += 1
         old = status[i:j]
-        below = [(e.at(y), e.cover, e.item) for e in old]
         new = ordered(y, [e for e in old if e.y2 > y or e.rest] + started)
-        above = self.covered(y, i, old, new)
-        (self.keep_points if self.upper else self.keep_off)(y, old, self.status[i - 1].cover if i else (), below, above)
+        left = status[i - 1].cover if i else ()
+        return i, old, new, left, [(e.at(y), e.cover, e.item) for e in old], self.covered(y, i, old, new)
+
+    def window(self, y, low, high, started):
+        status = self.status
+        i, old, new, left, below, above = self.around(y, low, high, started)
+        j = i + len(old)
+        if self.upper:
+            under = [it for it in self.under if low <= it[0] <= high]
+            real = beneath(left, below, under)
+            self.keep_points(y, left, below, under, above, real)
+        else:
+            self.keep_off(y, old, left, below, above)
         runs = self.below(y, old)
         for e, (_, cover, _) in zip(new, above):
             if e.y2 == y:
@@ -216,8 +241,9 @@ class Sweep:
         self.put(i, j, new)
         self.recast(y, i, old, new, runs)
         j = i + len(new)
-        if self.upper and low < high and y in self.levels:
-            self.level(y, i, below, above)
+        levels = [it for it in self.levels.get(y, ()) if low <= it[0] and it[1] <= high] if self.upper else ()
+        if levels:
+            self.level(y, left, levels, real, above)
         for k in range(max(i - 1, 0), min(j, len(status) - 1)):
             self.meet(status[k], status[k + 1], y)
 
@@ -246,8 +272,9 @@ class Sweep:
                 if piece:
                     self.runs.narrow(piece, y, e is piece.left, e is piece.right)
 
-    def keep_points(self, y, _, left, below, above):
-        """For UPPER the places of a window that are left alone where clear areas do not have their borders, as small squares."""
+    def keep_points(self, y, left, below, under, above, real):
+        """For UPPER the places of a window that are left alone where clear areas do not have their borders, as small squares. `under`
+        are the strands that come back from bundles, `real` all below the line."""
         near = {}
         for side in (below, above):
             cover = left
@@ -255,10 +282,9 @@ class Sweep:
                 if item is not None:
                     near.setdefault(x, []).append((cover, after, item))
                 cover = after
-        for x, before, after, item in self.under:
-            if x in near:
-                near[x].append((before, after, item))
-        sides = [([x for x, *_ in side], [left] + [after for _, after, _ in side]) for side in (below, above)]
+        for x, before, after, item in under:
+            near.setdefault(x, []).append((before, after, item))
+        sides = [([x for x, *_ in side], [left] + [after for _, after, _ in side]) for side in (real, above)]
         for x, found in near.items():
             gaps = [gap for before, after, _ in found for gap in (before, after)] + [covers[bisect_right(xs, x)] for xs, covers in sides]
             if not any(map(self.is_dark, gaps)):
@@ -330,10 +356,9 @@ class Sweep:
         last = max((k for k in {*one, *two, *items} if k is not None and (self.dark[k] or k in self.closed or k in one and k in two)), default=-2)
         return last if self.dark[last] else None
 
-    def level(self, y, i, below, above):
-        """What is left of level edges between two gaps that are not dark, as thin contours."""
-        left = self.status[i - 1].cover if i else ()
-        one, two, k, m, levels = left, left, 0, 0, self.levels[y]
+    def level(self, y, left, levels, below, above):
+        """What is left of a window's level edges between two gaps that are not dark, as thin contours."""
+        one, two, k, m = left, left, 0, 0
         xs = sorted({x for x, *_ in below + above} | {x for low, high, _ in levels for x in (low, high)})
         for a, b in zip(xs, xs[1:]):
             while k < len(below) and below[k][0] <= a:

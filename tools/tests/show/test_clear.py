@@ -97,6 +97,30 @@ class Areas(unittest.TestCase):
                 self.assertEqual((holds(low, p, PARTS), holds(high, p, PARTS)), (truth, truth), (items, p))
         self.assertGreater(asked, 120 * MANY)
 
+    def test_covered(self):
+        """Nothing is left of what a later clear area covers."""
+        rng = random.Random(29)
+        for _ in range(25 * MANY):
+            size = rng.choice((6, 12, 20, 60, 400))
+            items = [*self.items(rng, size), (False, block_of(-1, -1, size + 3, size + 3))]
+            self.assertEqual([Sweep(items, upper).out for upper in (False, True)], [[], []], items)
+
+    def test_nearly_level(self):
+        """Edges that rise by a few u over a millimetre, and places far off them within the same u of height."""
+        size, tilts = 10 ** 7, (-7, -3, -1, 0, 1, 3, 7)
+        for a, b in ((a, b) for a in tilts for b in tilts):
+            plane = [(0, 0), (size, a), (size - a, size + a), (-a, size)]
+            band = [(3 * size // 10, -size), (4 * size // 10, -size), (4 * size // 10 - b, 2 * size), (3 * size // 10 - b, 2 * size)]
+            for dark, items in ((True, [(True, plane), (False, band)]), (False, [(True, block_of(-size, -size, 2 * size, 2 * size)), (False, plane), (True, band)])):
+                low, high = ([c for c, _ in Sweep(items, upper).out] for upper in (False, True))
+                for y in range(min(0, a) - 2, max(0, a) + 3):
+                    for x, inside in ((size // 5, False), (35 * size // 100, True), (size // 2, False)):
+                        for p in ((x * PARTS, y * PARTS + k) for k in (1, 6, 11)):
+                            above = p[1] * size > a * p[0]
+                            if abs(p[1] * size - a * p[0]) > 3 * PARTS * size or inside:
+                                truth = (above and not inside) == dark
+                                self.assertEqual((holds(low, p, PARTS), holds(high, p, PARTS)), (truth, truth), (a, b, dark, p))
+
     def test_sides_do_not_cross(self):
         """Each contour has its corners up one side and down the other, and at each of its heights the sides in order."""
         rng = random.Random(23)
@@ -141,10 +165,14 @@ class Borders(unittest.TestCase):
             ("a void that is filled again", [(True, SQUARE), (False, block_of(10, 10, 30, 30)), (True, block_of(10, 10, 30, 30))], (10, 20), (True, True)),
             ("an island with the void's corner", [(True, SQUARE), (False, block_of(10, 10, 30, 30)), (True, block_of(10, 10, 20, 20))], (10, 10), (True, True)),
             ("a void round an island, in its cut", [(True, SQUARE), (False, ring)], (12, 12), (False, False)),
+            ("a covered level side beside another one", [(True, block_of(0, 0, 10, 10)), (False, block_of(-5, -5, 20, 20)), (True, block_of(60, 0, 70, 10)), (False, block_of(60, 0, 70, 10))], (5, 10), (False, False)),
+            ("the other one", [(True, block_of(0, 0, 10, 10)), (False, block_of(-5, -5, 20, 20)), (True, block_of(60, 0, 70, 10)), (False, block_of(60, 0, 70, 10))], (65, 10), (False, True)),
             ("the island", [(True, SQUARE), (False, ring)], (20, 20), (True, True)),
             ("the island's side", [(True, SQUARE), (False, ring)], (14, 20), (False, True)),
             ("a tip a unit off the side", [(True, block_of(0, 0, 20, 20)), (False, [(0, 14), (12, 19), (1, 11), (8, 0), (12, 19), (0, 14)])], (1, 11), (False, True)),
             ("a void that runs along itself to its tip", [(True, [(0, 0), (12, 12), (0, 12)]), (False, [(2, 1), (2, 5), (0, 7), (2, 10)])], (2, 5), (False, True)),
+            ("a tip on a corner, level with a notch", [(True, [(6, 3), (7, 4), (7, 5), (6, 4), (5, 5)]), (False, [(7, 4), (8, 3), (8, 5)])], (7, 4), (False, True)),
+            ("a tip on a corner, level with the end of a slot", [(True, [(6, 5), (7, 4), (7, 3), (6, 4), (5, 3)]), (False, [(7, 4), (8, 3), (8, 5)])], (7, 4), (False, True)),
             ("the end of a thin area on a level side", [(True, [(8, 11), (8, 7), (8, 10)]), (False, [(9, 11), (10, 0), (6, 11)])], (8, 11), (False, True)),
             ("a thin area on an upright side", [(True, [(1, 2), (2, 2), (2, 2), (1, 2)]), (False, [(1, 0), (1, 5), (3, 0), (3, 3)])], (1, 2), (False, True)),
         )
