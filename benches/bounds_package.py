@@ -42,7 +42,8 @@ def timed(layers, edges):
             with open(os.path.join(folder, name), "w") as file:
                 file.write(layer(rng, edges // layers))
         with open(os.path.join(folder, "n.ipc"), "w") as file:
-            file.write("P  UNITS CUST 1\n327A                J1    -1          A01X+000000Y-060000\n999\n")
+            points = [f"327A                J1    -{k + 1}          A01X+{150 * k:06}Y-060000" for k in range(2)]
+            file.write("\n".join(["P  UNITS CUST 1", *points, "999", ""]))
         with open(os.path.join(folder, "m.json"), "w") as file:
             json.dump({"copper": names, "drills": [], "netlist": "n.ipc"}, file)
         began = time.time()
