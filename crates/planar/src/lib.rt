@@ -39,7 +39,7 @@ pub const METRE: u64 = 10_000_000_000;
 pub const TWO_METRES: u64 = 2 * METRE;
 
 /// The side of a frame, in u: one metre.
-pub const SIDE: i64 = 10_000_000_000;
+pub const SIDE: i64 = METRE as i64;
 
 /// The greatest radius that `segments_within` takes, in u: 70 mm.
 pub const MOST_REACH: i64 = 700_000_000;
