@@ -1,6 +1,7 @@
 //! The lines of a file, one after another.
 ghost use Rattle.std.specs.Prelude.{◌≡◌, ◌≤◌, ◌+◌, length};
 ghost use Rattle.texts.specs.Lines as spec;
+ghost use Rattle.texts.specs.declared.TheConstants.{MOST_BYTES};
 
 use crate::parts::place_of;
 
@@ -18,7 +19,7 @@ pub struct Lines<'a> {
     number: u32,
     at: usize,
     rest: &'a [u8],
-    ghost fits: { at + length rest.now ≤ 67108864 },
+    ghost fits: { at + length rest.now ≤ MOST_BYTES },
     ghost counts: { number ≤ at + 1 },
 }
 
@@ -37,9 +38,9 @@ impl<'a> Lines<'a> {
     ghost use Rattle.texts.specs.Lines.{start};
     ghost use Rattle.texts.specs.Stepping.{Gives, Shortens, ahead};
 
-    /// A file of at most 67,108,864 bytes, before its first line.
+    /// A file of at most `MOST_BYTES`, before its first line.
     pub fn new(file: &'a [u8]) -> Lines<'a>
-        requires { length file.now ≤ 67108864 }
+        requires { length file.now ≤ MOST_BYTES }
         ensures { ahead result ≡ start file.now }
     {
         Lines {

@@ -6,12 +6,12 @@ ghost use Rattle.std.specs.Prelude.{drop, length, ◌≡◌, ◌≤◌};
 use std::marker::Model;
 
 /// The most bytes of a text: a sign and twenty digits.
-const MOST_BYTES: usize = 21;
+const LONGEST: usize = 21;
 
 /// The decimal text of a number, without leading zeros, and with a sign only where it is negative.
 #[derive(Drop)]
 pub struct Numeral {
-    bytes: [u8; MOST_BYTES],
+    bytes: [u8; LONGEST],
     start: usize,
 }
 
@@ -30,7 +30,7 @@ impl Numeral {
     pub fn of(n: u64) -> Numeral
         ensures { result ≡ decimal n }
     {
-        let mut bytes = [0; MOST_BYTES];
+        let mut bytes = [0; LONGEST];
         let start = write_digits(n, &mut bytes);
         Numeral { bytes, start }
     }
@@ -39,7 +39,7 @@ impl Numeral {
     pub fn signed(z: i64) -> Numeral
         ensures { result ≡ signed_decimal z }
     {
-        let mut bytes = [0; MOST_BYTES];
+        let mut bytes = [0; LONGEST];
         let mut start = write_digits(z.unsigned_abs(), &mut bytes);
         if z < 0 {
             start -= 1;
@@ -57,13 +57,13 @@ impl Numeral {
 }
 
 // Writes the digits to the end of the buffer, and answers where they start.
-fn write_digits(n: u64, buffer: &mut [u8; MOST_BYTES]) -> usize
+fn write_digits(n: u64, buffer: &mut [u8; LONGEST]) -> usize
     ensures start { (1 ≤ result) × (result ≤ 21) }
     ensures long { length buffer.new ≡ 21 }
     ensures written { drop result buffer.new ≡ decimal n }
 {
     let mut left = n;
-    let mut at = MOST_BYTES;
+    let mut at = LONGEST;
     while left >= 10 {
         at -= 1;
         buffer[at] = b'0' + (left % 10) as u8;
