@@ -8,6 +8,7 @@ use Rattle.contact.specs.Solid.{joined}
 use Rattle.area_contact.specs.declared.AreaFault.{AreaFault}
 use Rattle.area_contact.specs.declared.AreaFault.TheVariants.{Open, Short, TooLong, NoMemory}
 use Rattle.area_contact.specs.declared.Edge.{Edge}
+use Rattle.area_contact.specs.declared.TheConstants.{MOST_CONTOUR_POINTS}
 
 -- exactly one of the two holds
 abbrev pub ExactlyOne : Type 0 → Type 0 → Type 0
@@ -91,14 +92,14 @@ area_box (a ∷ rest) = box_from a rest
 pub record IsContour (points : List Spot) : Type 0 where
   pub closed : IsClosed points
   pub enough : 4 ≤ length points
-  pub not_many : length points ≤ 100_001
+  pub not_many : length points ≤ MOST_CONTOUR_POINTS
   pub placed : All IsPlaced points
 
 -- why a list of points is no contour; the three are told apart in this order
 abbrev pub IsAreaFault : List Spot → AreaFault → Type 0
 IsAreaFault points Open = ¬ IsClosed points
 IsAreaFault points Short = IsClosed points × (length points < 4)
-IsAreaFault points TooLong = IsClosed points × (100_001 < length points)
+IsAreaFault points TooLong = IsClosed points × (MOST_CONTOUR_POINTS < length points)
 IsAreaFault points NoMemory = Unit {0}
 
 -- ---- of two points p and q with one n

@@ -571,9 +571,9 @@ fn faults(rt: HostRuntime) -> Result<(), Fail> {
         let made = contour(rt.alloc(), corners, (0, 0), VIEWS[0])?;
         assert!(rt; fault_of(made) == Some(wanted));
     }
-    assert!(rt; fault_of(many(rt.alloc(), 100_002)?) == Some(AreaFault::TooLong));
-    let full = many(rt.alloc(), 100_001)?.expect(&rt, "full");
-    assert_eq!(rt; full.edges(), 100_000);
+    assert!(rt; fault_of(many(rt.alloc(), MOST_CONTOUR_POINTS + 1)?) == Some(AreaFault::TooLong));
+    let full = many(rt.alloc(), MOST_CONTOUR_POINTS)?.expect(&rt, "full");
+    assert_eq!(rt; full.edges(), MOST_CONTOUR_EDGES);
     Ok(())
 }
 
