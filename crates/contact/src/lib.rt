@@ -88,7 +88,7 @@ pub const MOST_RADIUS: i64 = 250_000_000;
 
 /// The greatest diameter of a circle or a tool, and the greatest lesser side of an obround, in u:
 /// 50 mm, twice `MOST_RADIUS`.
-pub const MOST_DIAMETER: u64 = 500_000_000;
+pub const MOST_DIAMETER: u64 = 2 * MOST_RADIUS as u64;
 
 /// The places that are at most `r` away from the segment from `a` to `b`, all in u.
 #[derive(Clone, Copy)]
