@@ -5,13 +5,14 @@ use Rattle.std.proofs.lemmas.List.{length-map, map-append, take_more}
 use Rattle.std.proofs.lemmas.List.Elements.{All-push, All-nil, All-cons, All-head, All-tail}
 use Rattle.planar.specs.Plane.{IsPlaced, IsReached, IsWithin}
 use Rattle.planar.specs.declared.Spot.{Spot}
+use Rattle.planar.specs.declared.TheConstants.{TWO_METRES}
 use Rattle.area_contact.specs.Contour.{end_from, IsClosed}
 use Rattle.board_shapes.specs.Figures.{Stroke, round, filled}
 use Rattle.board_shapes.specs.Moved.{shifted, IsShift, IsMoveFault}
 use Rattle.board_shapes.specs.declared.moved.MoveFault.{MoveFault}
 use Rattle.board_shapes.specs.declared.moved.MoveFault.TheVariants.{OutOfRange}
 
-sum_read : (a b : ℤ) → IsReached a → IsWithin 20_000_000_000 b → to_z w64 (of_z w64 (to_z w64 (of_z w64 a) +ℤ to_z w64 (of_z w64 b))) ≡ a +ℤ b
+sum_read : (a b : ℤ) → IsReached a → IsWithin TWO_METRES b → to_z w64 (of_z w64 (to_z w64 (of_z w64 a) +ℤ to_z w64 (of_z w64 b))) ≡ a +ℤ b
 sum_read a b h k = omega (arith, ints)
 
 pub shift_read : (p : Spot) (dx dy : ℤ) → IsPlaced p → IsShift dx → IsShift dy →

@@ -23,5 +23,11 @@ pub use probe::Probe;
 pub use rectangles::{corners_around, rectangle};
 pub use shape::Shape;
 
+/// The most pieces of a board that is read from files.
+pub const MOST_PIECES: u32 = 200_000;
+
+/// The most layers of such a board.
+pub const MOST_LAYERS: u8 = 32;
+
 #[cfg(test)]
 mod tests;

@@ -6,7 +6,7 @@ ghost use Rattle.contact.specs.RoundLaws.{turned};
 ghost use Rattle.planar.specs.Plane.{IsPlaced};
 ghost use Rattle.std.specs.Prelude.{All, IfOk, length, ◌≡◌, ◌≤◌};
 
-use area_contact::{Area, AreaFault};
+use area_contact::{Area, AreaFault, MOST_CONTOUR_POINTS};
 use contact::{Bounds, Capsule, Closed, Meets};
 use lengths::NoMemory;
 use planar::{Frame, Spot};
@@ -32,12 +32,12 @@ impl Shape {
         }
     }
 
-    /// The area that points bound which are known to be a contour: 4 to 100,001 of them, the last the first, each within 1 m.
+    /// The area that points bound which are known to be a contour: 4 to `MOST_CONTOUR_POINTS`, the last the first, each within 1 m.
     /// `NoMemory` where memory is wanted.
     pub fn area_of(alloc: Global, points: Vec<Spot>) -> Result<Shape, NoMemory>
         requires closed { IsClosed points.items }
         requires enough { 4 ≤ length points.items }
-        requires not_many { length points.items ≤ 100_001 }
+        requires not_many { length points.items ≤ MOST_CONTOUR_POINTS }
         requires placed { All IsPlaced points.items }
         ensures { IfOk result (λ shape. figure_of shape ≡ filled points.items) }
     {
