@@ -3,6 +3,7 @@ use Rattle.std.specs.Prelude.{Bool, false, ◌&&◌, not, ◌==◌, nat_lt, if�
 use Rattle.planar.specs.declared.Spot.{Spot}
 use Rattle.area_contact.specs.Contour.{end_from}
 use Rattle.area_contact.specs.declared.Area.{Area}
+use Rattle.area_contact.specs.declared.TheConstants.{MOST_CONTOUR_EDGES}
 use Rattle.regions.specs.declared.contour.Contour.{Contour}
 use Rattle.regions.specs.declared.contour.AddFault.{AddFault}
 use Rattle.regions.specs.declared.contour.AddFault.TheVariants as add
@@ -49,8 +50,8 @@ Closes (Err Open) closed = Err stays_open ≡ closed
 Closes (Err Short) closed = Err too_short ≡ closed
 Closes (Err NoMemory) closed = Unit {0}
 
--- the points have one more, or stay; the contour is too long where it has 100,000 edges
+-- the points have one more, or stay; the contour is too long where it has MOST_CONTOUR_EDGES
 abbrev pub Adds : List Spot → Spot → Result (Unit {0}) AddFault → List Spot → Type 0
 Adds old to (Ok done) new = new ≡ old ++ to ∷ []
-Adds old to (Err add.TooLong) new = (100_000 < length old) × (new ≡ old)
+Adds old to (Err add.TooLong) new = (MOST_CONTOUR_EDGES < length old) × (new ≡ old)
 Adds old to (Err add.NoMemory) new = new ≡ old

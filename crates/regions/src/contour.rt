@@ -1,8 +1,9 @@
 //! A contour that grows edge by edge.
+ghost use Rattle.area_contact.specs.declared.TheConstants.{MOST_CONTOUR_EDGES};
 ghost use Rattle.planar.specs.Plane.{IsPlaced};
 ghost use Rattle.std.specs.Prelude.{All, IsOk, IsTrue, List, [], length, ◌++◌, ◌+◌, ◌∷◌, ◌<◌, ◌≡◌, ◌≤◌, ◌↔◌};
 
-use area_contact::{Area, AreaFault};
+use area_contact::{Area, AreaFault, MOST_CONTOUR_EDGES};
 use planar::Spot;
 use std::alloc::Global;
 use thiserror::Error;
@@ -10,7 +11,7 @@ use thiserror::Error;
 /// Why an edge is not added.
 #[derive(Clone, Copy, Debug, PartialEq, Eq, Error)]
 pub enum AddFault {
-    /// There are 100,000 edges already.
+    /// There are `MOST_CONTOUR_EDGES` already.
     #[error("too many edges")]
     TooLong = 1,
     #[error("memory is wanted")]
@@ -37,7 +38,7 @@ pub struct Contour {
     pub ends: Vec<Spot>,
     ghost begun: { IsPlaced first },
     ghost placed: { All IsPlaced ends.items },
-    ghost few: { length ends.items ≤ 100_000 },
+    ghost few: { length ends.items ≤ MOST_CONTOUR_EDGES },
 }
 
 impl Contour {
@@ -56,12 +57,12 @@ impl Contour {
 
     /// Adds an edge from the last spot to this one, within 1 m.
     ///
-    /// `TooLong` where there are 100,000 edges already. A refusal changes nothing.
+    /// `TooLong` where there are `MOST_CONTOUR_EDGES` already. A refusal changes nothing.
     pub fn add(&mut self, to: Spot) -> Result<(), AddFault>
         requires { IsPlaced to }
         ensures { Adds (points_of self.old) to result (points_of self.new) }
     {
-        if self.ends.len() >= 100_000 {
+        if self.ends.len() >= MOST_CONTOUR_EDGES as usize {
             return Err(AddFault::TooLong);
         }
         match self.ends.push(to) {
@@ -73,7 +74,7 @@ impl Contour {
     /// The number of edges.
     pub fn edges(&self) -> u32
         ensures value { result + 1 ≡ length (points_of self.now) }
-        ensures few { result ≤ 100_000 }
+        ensures few { result ≤ MOST_CONTOUR_EDGES }
     {
         self.ends.len() as u32
     }

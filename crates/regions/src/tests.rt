@@ -2,7 +2,7 @@
 ghost use Rattle.planar.specs.Plane.{IsPlaced};
 
 use crate::{AddFault, CloseFault, Contour};
-use area_contact::Area;
+use area_contact::{Area, MOST_CONTOUR_EDGES};
 use contact::Closed;
 use planar::{Frame, Spot};
 use std::alloc::Global;
@@ -84,7 +84,7 @@ fn bad_contours(rt: HostRuntime) {
 #[test]
 fn the_longest_contour(rt: HostRuntime) {
     let mut contour = Contour::begin(rt.alloc(), spot(0, 0));
-    for _ in 0..99_999 {
+    for _ in 1..MOST_CONTOUR_EDGES {
         assert!(rt; contour.add(spot(1, 1)).is_ok());
     }
     assert!(rt; contour.add(spot(0, 0)).is_ok());
@@ -93,7 +93,7 @@ fn the_longest_contour(rt: HostRuntime) {
             .add(spot(0, 0))
             .is_err_and(|fault| fault == AddFault::TooLong)
     );
-    assert_eq!(rt; contour.edges(), 100_000);
+    assert_eq!(rt; contour.edges(), MOST_CONTOUR_EDGES);
     let area = contour.close();
-    assert!(rt; area.is_ok_and(|area| area.is_some_and(|area| area.edges() == 100_000)));
+    assert!(rt; area.is_ok_and(|area| area.is_some_and(|area| area.edges() == MOST_CONTOUR_EDGES)));
 }
