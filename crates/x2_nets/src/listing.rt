@@ -9,6 +9,7 @@ use gerber_words::laws::words_lie_ahead;
 use gerber_words::{Step, Words};
 use lengths::{Rows, Text, TextFault};
 use std::alloc::Global;
+use texts::MOST_BYTES;
 
 /// Why the labels of a file are not listed.
 #[derive(Clone, Copy, Debug, PartialEq, Eq)]
@@ -59,9 +60,9 @@ fn list_word(
 ///
 /// A `TO.N` word gives its field 1 as name, or `N/C` where that is missing or empty; the others give none. `Bad` comes
 /// exactly at the first `TO.N` word whose field 1 is not empty and no text of 1 to 200 bytes from 32 to 126; want of memory
-/// is `NoMemory`. The file has at most 67,108,864 bytes.
+/// is `NoMemory`. The file has at most `MOST_BYTES`.
 pub fn labels(alloc: Global, file: &[u8]) -> Result<Rows<Label>, LabelFault>
-    requires size { length file.now ≤ 67_108_864 }
+    requires size { length file.now ≤ MOST_BYTES }
     ensures ok { IfOk result (λ labels. IsRead file.now labels) }
     ensures rise { IfOk result (λ labels. Rise labels) }
     ensures fault { IfErr result (IsFault file.now) }

@@ -4,10 +4,11 @@ use lengths::{Rows, Text};
 use std::alloc::{AllocError, Global};
 use std::fmt::Write;
 use std::test::Fail;
+use texts::MOST_BYTES;
 
 // The labels of a file, if it is short enough to be read.
 fn read(alloc: Global, file: &[u8]) -> Result<Rows<Label>, LabelFault> {
-    if file.len() > 67_108_864 {
+    if file.len() > MOST_BYTES {
         return Err(LabelFault::NoMemory);
     }
     labels(alloc, file)
