@@ -93,7 +93,7 @@ fn coordinate(text: &[u8], parameters: &[Decimal], unit: Unit) -> Result<i64, Ma
 #[tactic(auto, unfolding(crate::specs::Values::size_at))]
 pub fn size(text: &[u8], parameters: &[Decimal], unit: Unit) -> Result<u64, MacroFault>
     ensures value { result ≡ spec.size_at text.now parameters.now unit }
-    ensures small { IfOk result (λ n. n ≤ 10 ^ 10) }
+    ensures small { IfOk result (λ n. n ≤ METRE) }
 {
     let u = coordinate(text, parameters, unit)?;
     if u.unsigned_abs() % 2 != 0 {

@@ -1,10 +1,11 @@
 use Rattle.std.proofs.Common.{◌≡◌, ◌-◌, ◌*◌, ◌≤ℤ◌, ◌+ℤ◌, pos}
+use Rattle.planar.specs.declared.TheConstants.{METRE}
 use Rattle.aperture_macros.specs.Values.{sum_from}
 use Rattle.aperture_macros.proofs.values.sum.Given as goal
 
 abbrev pub invariant-loop : goal.invariant-loop
 invariant-loop l = record {
   same : sum_from (64 - l.counter) l.sum l.rest l.parameters l.unit ≡ sum_from 64 (pos 0) l.text l.parameters l.unit;
-  low : pos 0 ≤ℤ (l.sum +ℤ pos (l.counter * 10000000000));
-  high : l.sum ≤ℤ pos (l.counter * 10000000000);
+  low : pos 0 ≤ℤ (l.sum +ℤ pos (l.counter * METRE));
+  high : l.sum ≤ℤ pos (l.counter * METRE);
 }
