@@ -26,6 +26,7 @@ use Rattle.ipc356_records.specs.Settings.{known_at, records_before, names_of}
 use Rattle.ipc356_records.specs.NetlistFile.{probes_in, probes_of, effect_at, Netlist, IsRead, FitsBoard}
 use Rattle.ipc356_records.proofs.Outcome.{Tested, past_test}
 use Rattle.ipc356_records.proofs.Bridge.{Outcome, outcome}
+use Rattle.ipc356_records.specs.declared.TheConstants.{MOST_RECORDS}
 
 -- a place that is taken is within 1 m
 signed_reached : (negative : Bool) (n : ℕ) → n ≤ METRE → IsReached (signed negative n)
@@ -102,7 +103,7 @@ layers_fit layers access some h = by (eqb access 0) refl
 -- what a history without a fault has made
 pub record Fit (layers : ℕ) (earlier : List Form) : Type 0 where
   pub lawful : All (IsProbe (length (names_of earlier)) layers) (probes_of layers earlier)
-  pub records : records_before earlier ≤ 200000
+  pub records : records_before earlier ≤ MOST_RECORDS
   pub names : length (names_of earlier) ≤ records_before earlier
   pub probes : length (probes_of layers earlier) ≤ 2 * records_before earlier
 
@@ -122,7 +123,7 @@ tested_fit layers earlier fields e some f ok t =
     let grown : names_of (tests fields ∷ earlier) ≡ with_name t.name names = rw t.name_is refl in
     let grows : Grows (length names) (length (with_name t.name names)) = names_grow t.name names in
     let reach = layers_fit layers t.access some (leb-true _ _ t.access_in) in
-    let room : records_before earlier < 200000 = leb-false _ _ t.room in
+    let room : records_before earlier < MOST_RECORDS = leb-false _ _ t.room in
     let made : List Probe = map (probe_at (records_before earlier + 1) (index_of t.name names) t.at) (layers_of layers t.access) in
     let made_is : probes_of layers (tests fields ∷ earlier) ≡ probes_of layers earlier ++ made = rw (ok, t.is) refl in
     let at : IsPlaced t.at = (placed_reached t.unit t.x t.at.x t.x_is, placed_reached t.unit t.y t.at.y t.y_is) in

@@ -8,6 +8,7 @@ use Rattle.ipc356_records.specs.declared.kind.RecordKind.{RecordKind}
 use Rattle.ipc356_records.specs.declared.kind.RecordKind.TheVariants as kind
 use Rattle.ipc356_records.specs.Line.{TestFields}
 use Rattle.ipc356_records.specs.Table.{Known, Effect, adds, ◌>>=◌, needed, within, placed, test}
+use Rattle.ipc356_records.specs.declared.TheConstants.{MOST_RECORDS}
 
 pub bind_ok : {A B : Type 0} (r : Result A RecordKind) (f : A → Result B RecordKind) (y : B) → (r >>= f) ≡ Ok y → (x : A) × (r ≡ Ok x) × (f x ≡ Ok y)
 bind_ok (Ok x) f y h = (x, refl, h)
@@ -45,7 +46,7 @@ pub record Tested (k : Known) (f : TestFields) (e : Effect) : Type 0 where
   pub access_in : nat_le access k.layers ≡ true
   pub x_is : placed unit x ≡ Ok at.x
   pub y_is : placed unit y ≡ Ok at.y
-  pub room : nat_le 200000 k.records ≡ false
+  pub room : nat_le MOST_RECORDS k.records ≡ false
   pub is : e ≡ adds name access at
 
 pub tested : (k : Known) (f : TestFields) (e : Effect) → test k f ≡ Ok e → Tested k f e
@@ -58,7 +59,7 @@ tested k f e h =
     let y = bind_ok (needed kind.BadNumber f.y) _ e x.2 in
     let p = bind_ok (placed u.0 x.0) _ e y.2 in
     let q = bind_ok (placed u.0 y.0) _ e p.2 in
-    let r = past_test (nat_le 200000 k.records) kind.TooManyRecords _ e q.2 in
+    let r = past_test (nat_le MOST_RECORDS k.records) kind.TooManyRecords _ e q.2 in
     record {
       unit = u.0;
       name = n.0;

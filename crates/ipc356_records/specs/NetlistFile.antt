@@ -1,5 +1,5 @@
 -- What a netlist file is read as.
-use Rattle.std.specs.Prelude.{ℕ, ◌+◌, ◌≤◌, List, [], ◌∷◌, ◌++◌, length, map, All, Result, Ok, Err}
+use Rattle.std.specs.Prelude.{ℕ, ◌+◌, ◌*◌, ◌≤◌, List, [], ◌∷◌, ◌++◌, length, map, All, Result, Ok, Err}
 use Rattle.board_shapes.specs.Lawful.{IsProbe}
 use Rattle.board_shapes.specs.declared.probe.Probe.{Probe}
 use Rattle.file_reading.specs.Reading as reading
@@ -12,6 +12,7 @@ use Rattle.ipc356_records.specs.Line.{Form, finishes}
 use Rattle.ipc356_records.specs.Reading.{form_of}
 use Rattle.ipc356_records.specs.Settings.{known_at, names_of}
 use Rattle.ipc356_records.specs.Table.{Known, Effect, effect, probes_of_effect}
+use Rattle.ipc356_records.specs.declared.TheConstants.{MOST_RECORDS}
 
 -- the probes of a line, none where it has a fault
 abbrev pub probes_in : Known → Result Effect RecordKind → List Probe
@@ -64,5 +65,5 @@ HasOneAnswer file layers = reading.HasOneAnswer (λ (n : Netlist). IsRead file l
 -- what a board asks of probes and names
 pub record FitsBoard (layers : ℕ) (probes : List Probe) (names : List (List ℕ)) : Type 0 where
   pub lawful : All (IsProbe (length names) layers) probes
-  pub few_probes : length probes ≤ 400000
-  pub few_names : length names ≤ 200000
+  pub few_probes : length probes ≤ 2 * MOST_RECORDS
+  pub few_names : length names ≤ MOST_RECORDS

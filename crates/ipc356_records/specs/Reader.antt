@@ -14,6 +14,7 @@ use Rattle.ipc356_records.specs.Line.{Form}
 use Rattle.ipc356_records.specs.Names.{with_name}
 use Rattle.ipc356_records.specs.NameTable.{names_in}
 use Rattle.ipc356_records.specs.Table.{Known, Effect, stays, sets, closes, adds, effect, probes_of_effect}
+use Rattle.ipc356_records.specs.declared.TheConstants.{MOST_RECORDS}
 
 -- the effect that was seen, the name as its bytes, or the fault of a line
 abbrev pub shown : Seen → Effect
@@ -59,9 +60,9 @@ pub record Pushes (old : Reader) (more : List Probe) (new : Reader) : Type 0 whe
   pub is : new ≡ record old { probes = new.probes }
   pub probes : new.probes ≡ old.probes ++ more
 
--- what a reader keeps between two lines: at most 200,000 test records, and no more names than records
+-- what a reader keeps between two lines: at most MOST_RECORDS test records, and no more names than records
 pub record IsLawfulReader (r : Reader) : Type 0 where
-  pub records : r.records ≤ 200000
+  pub records : r.records ≤ MOST_RECORDS
   pub few : length (names_in r.names) ≤ r.records
   pub names : All IsText (names_in r.names)
   pub some_layer : 1 ≤ r.layers
@@ -71,7 +72,7 @@ abbrev pub IsFit : Reader → Effect → Type 0
 IsFit r stays = Unit {0}
 IsFit r (sets unit) = Unit {0}
 IsFit r closes = Unit {0}
-IsFit r (adds name access at) = IsText name × (access ≤ r.layers) × (r.records < 200000)
+IsFit r (adds name access at) = IsText name × (access ≤ r.layers) × (r.records < MOST_RECORDS)
 
 -- what stops the reader at a line
 abbrev pub Halts : Known → Form → Halt RecordKind → Type 0

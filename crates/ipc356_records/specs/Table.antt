@@ -11,6 +11,7 @@ use Rattle.ipc356_records.specs.declared.kind.RecordKind.{RecordKind}
 use Rattle.ipc356_records.specs.declared.kind.RecordKind.TheVariants as kind
 use Rattle.ipc356_records.specs.Line.{Form, TestFields, blank, unread, units, ends, continues, tests, unknown, finishes}
 use Rattle.ipc356_records.specs.Names.{index_of}
+use Rattle.ipc356_records.specs.declared.TheConstants.{MOST_RECORDS}
 pub use Rattle.file_reading.specs.Conditions.{◌>>=◌, unless, needed}
 
 -- What is known before a line: the unit, how many test records stand before it, their distinct names in first-seen order,
@@ -53,7 +54,7 @@ test k f = do
   y ← needed kind.BadNumber f.y
   to_x ← placed unit x
   to_y ← placed unit y
-  unless (nat_le 200000 k.records) kind.TooManyRecords (Ok (adds name access (record { x = to_x; y = to_y })))
+  unless (nat_le MOST_RECORDS k.records) kind.TooManyRecords (Ok (adds name access (record { x = to_x; y = to_y })))
 
 -- a parameter record with the word `UNITS`
 unfoldable pub set_unit : Option Measure → Option Measure → Result Effect RecordKind

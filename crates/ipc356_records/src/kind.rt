@@ -40,7 +40,7 @@ pub enum RecordKind {
     /// A line after `999` that is not blank.
     #[error("a line after 999")]
     AfterEnd = 11,
-    /// A test record after 200,000 others.
+    /// A test record after `MOST_RECORDS` others.
     #[error("too many test records")]
     TooManyRecords = 12,
 }

@@ -24,5 +24,8 @@ pub use names::NameTable;
 pub use netlist::{Netlist, read_netlist};
 pub use record::{Record, Records};
 
+/// The most test records of a netlist.
+pub const MOST_RECORDS: u32 = 200_000;
+
 #[cfg(test)]
 mod tests;

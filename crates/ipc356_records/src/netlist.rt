@@ -9,10 +9,11 @@ use crate::line::Form;
 use crate::reader::Reader;
 use crate::reading::read_form;
 use crate::record::Records;
-use board_shapes::Probe;
+use board_shapes::{MOST_LAYERS, Probe};
 use file_reading::Halt;
 use lengths::{Rows, Text};
 use std::alloc::Global;
+use texts::MOST_BYTES;
 
 /// What a netlist holds: the probes of its test records in order, and the distinct names of its nets in first-seen order.
 #[derive(Drop)]
@@ -46,14 +47,14 @@ fn finished(alloc: Global, mut reader: Reader, line: u32) -> Result<Netlist, Rec
 }
 
 /// The probes of a netlist in record order and the distinct names of its nets, or the first faulty line. The board has
-/// 1 to 32 layers, the file at most 67,108,864 bytes.
+/// 1 to `MOST_LAYERS`, the file at most `MOST_BYTES`.
 ///
 /// `Refused` gives the first line with a fault, from 1, and the first condition that it breaks; a file without `999` is
 /// refused at the next line number. `NoMemory` may come at any file.
 pub fn read_netlist(alloc: Global, file: &[u8], layers: u8) -> Result<Netlist, RecordFault>
     requires some_layer { 1 ≤ layers }
-    requires few_layers { layers ≤ 32 }
-    requires size { length file.now ≤ 67108864 }
+    requires few_layers { layers ≤ MOST_LAYERS }
+    requires size { length file.now ≤ MOST_BYTES }
     ensures ok { IfOk result (λ n. IsRead file.now layers n.probes n.names) }
     ensures fits { IfOk result (λ n. FitsBoard layers n.probes n.names) }
     ensures fault { IfErr result (IsFault file.now layers) }

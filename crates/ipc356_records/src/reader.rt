@@ -1,4 +1,5 @@
 //! What the reader of a netlist keeps, and how it obeys a line.
+use crate::MOST_RECORDS;
 use crate::effect::Effect;
 use crate::kind::RecordKind;
 use crate::line::{Form, TestFields};
@@ -63,7 +64,7 @@ impl<'a> Reader<'a> {
         let y = needed(RecordKind::BadNumber, fields.y)?;
         let x = placed(unit, x)?;
         let y = placed(unit, y)?;
-        if self.records >= 200_000 {
+        if self.records >= MOST_RECORDS {
             return Err(RecordKind::TooManyRecords);
         }
         Ok(Effect::Adds(name, access, Spot { x, y }))

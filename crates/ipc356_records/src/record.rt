@@ -4,7 +4,7 @@ ghost use Rattle.texts.specs.Blanks.{trimmed};
 ghost use Rattle.texts.specs.Lines.{start};
 ghost use Rattle.ipc356_records.specs.Columns.{name_from, name_to, part};
 
-use texts::{Lines, trimmed};
+use texts::{Lines, MOST_BYTES, trimmed};
 
 /// A line of a netlist: its number, from 1, and its bytes without the line end.
 #[derive(Clone, Copy, Debug)]
@@ -59,9 +59,9 @@ impl<'a> Records<'a> {
     ghost use Rattle.texts.specs.Stepping.{Shortens};
     ghost use Rattle.ipc356_records.specs.Records.{ahead, Gives, IsShorter};
 
-    /// A file of at most 67,108,864 bytes, before its first line.
+    /// A file of at most `MOST_BYTES`, before its first line.
     pub fn new(file: &'a [u8]) -> Records<'a>
-        requires size { length file.now ≤ 67108864 }
+        requires size { length file.now ≤ MOST_BYTES }
         ensures start { ahead result ≡ start file.now }
     {
         Records {

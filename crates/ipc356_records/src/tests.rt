@@ -1,14 +1,13 @@
 // Files, and what they are read as.
 use super::*;
-use board_shapes::Probe;
+use board_shapes::{MOST_LAYERS, Probe};
 use planar::Spot;
 use std::alloc::Global;
 use std::test::Fail;
-
-const SIZE: usize = 67_108_864;
+use texts::MOST_BYTES;
 
 fn fault_of(alloc: Global, file: &[u8], layers: u8) -> Option<RecordFault> {
-    if file.len() > SIZE || layers == 0 || layers > 32 {
+    if file.len() > MOST_BYTES || layers == 0 || layers > MOST_LAYERS {
         return None;
     }
     match read_netlist(alloc, file, layers) {
@@ -112,7 +111,7 @@ fn probes_and_names(rt: HostRuntime) -> Result<(), Fail> {
         b"C                   \nP  JOB x\nP  UNITS CUST 1  \n317 GND                               A00X+001000Y-000020S0                     \n367yyyyyyyyyyyyyyyyy\n\t \n327                                   A01X-000005Y+000000z\n327N/C                                A02X      7Y     07\n327GND                                A 2X+000000Y+000000\n999\n\n\n",
     ];
     for file in files {
-        if file.len() > SIZE {
+        if file.len() > MOST_BYTES {
             return Ok(());
         }
         let netlist = read_netlist(rt.alloc(), file, 2)?;
