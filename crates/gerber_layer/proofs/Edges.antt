@@ -5,6 +5,7 @@ use Rattle.std.proofs.Math.Seq.{take-length}
 use Rattle.std.proofs.lemmas.List.{drop-map, map-append}
 use Rattle.std.specs.List.{take-map}
 use Rattle.std.proofs.lemmas.List.Sums.{sum_by-append, sum_by-cons, sum_by-take-drop}
+use Rattle.area_contact.specs.declared.TheConstants.{MOST_CONTOUR_EDGES}
 use Rattle.board_shapes.specs.Figures.{figure_edges, figure_of}
 use Rattle.board_shapes.specs.Pieces.{PlainPiece, plain_piece, plain_pieces}
 use Rattle.board_shapes.specs.declared.shape.Shape.{Shape}
@@ -12,18 +13,18 @@ use Rattle.board_shapes.specs.declared.shape.Shape.TheVariants.{Round, Filled}
 use Rattle.board_shapes.specs.declared.placed.Placed.{Placed}
 use Rattle.gerber_layer.specs.Table.{edges_of}
 
-pub few_shape : (s : Shape) → figure_edges (figure_of s) ≤ 100_000
+pub few_shape : (s : Shape) → figure_edges (figure_of s) ≤ MOST_CONTOUR_EDGES
 few_shape (Round c) = omega arith
 few_shape (Filled area) = let h = area.not_many in omega (arith, h)
 
--- a piece has at most 100,000 of them
-pub edges_few : (pieces : List (Placed Shape)) → edges_of (plain_pieces pieces) ≤ 100_000 * length pieces
+-- a piece has at most MOST_CONTOUR_EDGES of them
+pub edges_few : (pieces : List (Placed Shape)) → edges_of (plain_pieces pieces) ≤ MOST_CONTOUR_EDGES * length pieces
 edges_few [] = omega arith
 edges_few (p ∷ pieces) =
-    let more : edges_of (plain_pieces pieces) ≤ 100_000 * length pieces = edges_few pieces in
-    let first : figure_edges (figure_of p.shape) ≤ 100_000 = few_shape p.shape in
+    let more : edges_of (plain_pieces pieces) ≤ MOST_CONTOUR_EDGES * length pieces = edges_few pieces in
+    let first : figure_edges (figure_of p.shape) ≤ MOST_CONTOUR_EDGES = few_shape p.shape in
     let sum : edges_of (plain_pieces (p ∷ pieces)) ≡ figure_edges (figure_of p.shape) + edges_of (plain_pieces pieces) = sum_by-cons (λ (q : PlainPiece). figure_edges q.figure) (plain_piece p) (plain_pieces pieces) in
-    omega (arith, mul-suc 100_000 (length pieces))
+    omega (arith, mul-suc MOST_CONTOUR_EDGES (length pieces))
 
 -- those of the pieces before a place, and of the others
 pub edges_split : (pieces : List PlainPiece) (i : ℕ) → edges_of (take i pieces) + edges_of (drop i pieces) ≡ edges_of pieces

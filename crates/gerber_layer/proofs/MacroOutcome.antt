@@ -12,6 +12,7 @@ use Rattle.apertures.specs.Reading.{aperture_at, name_of}
 use Rattle.aperture_macros.specs.BodyWord.{PlainPrimitive, primitive_at}
 use Rattle.aperture_macros.specs.declared.fault.MacroFault.{MacroFault}
 use Rattle.gerber_layer.specs.Command.{Command, defines, functions, names_macro, body_word}
+use Rattle.gerber_layer.specs.declared.TheConstants.{MOST_APERTURES}
 use Rattle.gerber_layer.specs.declared.kind.GerberKind.{GerberKind}
 use Rattle.gerber_layer.specs.declared.kind.GerberKind.TheVariants as kind
 use Rattle.gerber_layer.specs.declared.macro_kind.FlattenKind.{FlattenKind}
@@ -67,8 +68,8 @@ composes : (k : Known) (n : ℕ) (name : List ℕ) (body : List PlainPrimitive) 
 unfolding compose_as
 composes k n name body parameters unit e h =
     let last : Result Effect FlattenKind = as_macro (all_judged body parameters unit) >>= λ done. Ok (makes n (composed name parameters unit)) in
-    let one = past_test (is_some (k.defined n)) (Gerber kind.ApertureTwice) (unless (nat_le 65536 k.definitions) (Gerber kind.TooManyApertures) last) e h in
-    let two = past_test (nat_le 65536 k.definitions) (Gerber kind.TooManyApertures) last e one in
+    let one = past_test (is_some (k.defined n)) (Gerber kind.ApertureTwice) (unless (nat_le MOST_APERTURES k.definitions) (Gerber kind.TooManyApertures) last) e h in
+    let two = past_test (nat_le MOST_APERTURES k.definitions) (Gerber kind.TooManyApertures) last e one in
     let d = bind_ok (as_macro (all_judged body parameters unit)) (λ done. Ok (makes n (composed name parameters unit))) e two in
     let done : ◌≡◌ {A = Result Effect FlattenKind} (Ok (makes n (composed name parameters unit))) (Ok e) = d.2 in
     let same : makes n (composed name parameters unit) ≡ e = cc in
@@ -120,7 +121,7 @@ row_did k (functions function layer) e h = ok_stays e h
 row_did k other e h = row_outcome k other e (gerber_ok (row k other) e h)
 
 few_same : (x e : Effect) → few_radii x ≡ Ok e → x ≡ e
-few_same (concludes pieces) e h = let f : ◌≡◌ {A = Result Effect FlattenKind} (Ok (concludes pieces)) (Ok e) = past_test (nat_lt 65536 (length (radii_of pieces))) TooManyRadii (Ok (concludes pieces)) e h in cc
+few_same (concludes pieces) e h = let f : ◌≡◌ {A = Result Effect FlattenKind} (Ok (concludes pieces)) (Ok e) = past_test (nat_lt MOST_APERTURES (length (radii_of pieces))) TooManyRadii (Ok (concludes pieces)) e h in cc
 few_same other e h = cc
 
 few_ok : (r : Result Effect FlattenKind) (e : Effect) → (r >>= few_radii) ≡ Ok e → r ≡ Ok e

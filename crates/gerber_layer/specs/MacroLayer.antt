@@ -1,6 +1,8 @@
 -- What a copper file is read as where it may have macros.
 use Rattle.std.specs.Prelude.{ℕ, List}
 use Rattle.board_shapes.specs.Pieces.{PlainPiece}
+use Rattle.board_shapes.specs.declared.TheConstants.{MOST_PIECES}
+use Rattle.gerber_layer.specs.declared.TheConstants.{MOST_FLAT_EDGES}
 use Rattle.file_reading.specs.Reading as reading
 use Rattle.file_reading.specs.declared.halt.Halt.{Halt}
 use Rattle.file_reading.specs.declared.halt.Halt.TheVariants as halt
@@ -16,9 +18,9 @@ use Rattle.gerber_layer.specs.Table.{Place}
 abbrev pub with_macros : Dialect FlattenKind
 with_macros = record { command = command_with_macros; table = effect_with_macros }
 
--- the pieces stand on layer 1 of file 0, and there is room for 200,000 pieces and 1,000,000 edges
+-- the pieces stand on layer 1 of file 0, and there is room for MOST_PIECES and MOST_FLAT_EDGES
 abbrev pub flat_place : Place
-flat_place = record { layer = 1; file = 0; room = record { pieces = 200_000; edges = 1_000_000 } }
+flat_place = record { layer = 1; file = 0; room = record { pieces = MOST_PIECES; edges = MOST_FLAT_EDGES } }
 
 -- no command has a fault, and these are the pieces that they make
 abbrev pub IsReadWithMacros : List ℕ → List PlainPiece → Type 0

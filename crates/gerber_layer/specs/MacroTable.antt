@@ -14,6 +14,7 @@ use Rattle.aperture_macros.specs.Images.{judged}
 use Rattle.aperture_macros.specs.declared.fault.MacroFault.{MacroFault}
 use Rattle.aperture_macros.specs.declared.fault.MacroFault.TheVariants as shape
 use Rattle.gerber_layer.specs.Command.{Command, defines, functions, names_macro, body_word}
+use Rattle.gerber_layer.specs.declared.TheConstants.{MOST_APERTURES}
 use Rattle.gerber_layer.specs.declared.kind.GerberKind.{GerberKind}
 use Rattle.gerber_layer.specs.declared.kind.GerberKind.TheVariants as kind
 use Rattle.gerber_layer.specs.declared.macro_kind.FlattenKind.{FlattenKind}
@@ -68,7 +69,7 @@ all_judged (p ∷ body) parameters unit = judged p parameters unit >>= λ done. 
 -- an aperture n of the macro of this name and body with these parameters
 unfoldable pub compose_as : Known → ℕ → List ℕ → List PlainPrimitive → List Fraction → Measure → Result Effect FlattenKind
 compose_as k n name body parameters unit =
-    unless (is_some (k.defined n)) (Gerber kind.ApertureTwice) (unless (nat_le 65536 k.definitions) (Gerber kind.TooManyApertures)
+    unless (is_some (k.defined n)) (Gerber kind.ApertureTwice) (unless (nat_le MOST_APERTURES k.definitions) (Gerber kind.TooManyApertures)
     (as_macro (all_judged body parameters unit) >>= λ done. Ok (makes n (composed name parameters unit))))
 
 -- a definition of an aperture by a macro
@@ -103,9 +104,9 @@ row_with_macros k (defines text) = define_any k text
 row_with_macros k (functions function layer) = Ok stays
 row_with_macros k other = gerber (row k other)
 
--- where the file ends, its image has at most 65,536 radii
+-- where the file ends, its image has at most MOST_APERTURES radii
 abbrev pub few_radii : Effect → Result Effect FlattenKind
-few_radii (concludes pieces) = unless (nat_lt 65536 (length (radii_of pieces))) TooManyRadii (Ok (concludes pieces))
+few_radii (concludes pieces) = unless (nat_lt MOST_APERTURES (length (radii_of pieces))) TooManyRadii (Ok (concludes pieces))
 few_radii other = Ok other
 
 -- and a fault stays

@@ -33,6 +33,7 @@ use Rattle.file_reading.specs.declared.halt.Halt.{Halt}
 use Rattle.file_reading.specs.declared.halt.Halt.TheVariants as halt
 use Rattle.gerber_layer.specs.declared.effect.Effect.{Effect as Seen}
 use Rattle.gerber_layer.specs.declared.effect.Effect.TheVariants as seen
+use Rattle.board_shapes.specs.declared.TheConstants.{MOST_LAYERS}
 use Rattle.gerber_layer.specs.declared.dictionary.Dictionary.{Dictionary}
 use Rattle.gerber_layer.specs.declared.dictionary.Macro.{Macro as Begun}
 use Rattle.gerber_layer.specs.declared.tool.Tool.{Tool as Given}
@@ -226,7 +227,7 @@ pub record IsLawfulReader (r : Reader) : Type 0 where
   pub dictionary : AreLawful r.dictionary
   pub marked : AreMarked r.dictionary
   pub counted : AreCounted r
-  pub layer : r.layer ≤ 32
+  pub layer : r.layer ≤ MOST_LAYERS
 
 -- an effect that the reader can carry out
 abbrev pub IsFit : Dictionary → Seen → Type 0

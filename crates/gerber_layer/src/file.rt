@@ -10,11 +10,12 @@ ghost use Rattle.gerber_layer.specs.Reader.{IsLawfulReader, Leaves, Obeys, Stops
 use crate::command::Command;
 use crate::dialect::Dialect;
 use crate::reader::Reader;
-use board_shapes::{Piece, Room};
+use board_shapes::{MOST_LAYERS, Piece, Room};
 use file_reading::Halt;
 use gerber_words::laws::words_lie_ahead;
 use gerber_words::{Step, Words};
 use std::alloc::Global;
+use texts::MOST_BYTES;
 
 /// What stopped a reader.
 #[derive(Clone, Copy, Debug, Drop)]
@@ -78,8 +79,8 @@ pub fn read_by<D: Dialect>(
     file_number: u32,
     room: Room,
 ) -> Result<Vec<Piece>, Stopped<D::Kind>>
-    requires layer { (1 ≤ layer) × (layer ≤ 32) }
-    requires size { length file.now ≤ 67_108_864 }
+    requires layer { (1 ≤ layer) × (layer ≤ MOST_LAYERS) }
+    requires size { length file.now ≤ MOST_BYTES }
     requires outcomes { HasOutcomes D.dialect.table }
     ensures ok { IfOk result (λ pieces. IsReadBy D.dialect file.now (record { layer = layer; file = file_number; room = room }) (plain_pieces pieces.items)) }
     ensures few { IfOk result (λ pieces. length pieces.items ≤ room.pieces) }

@@ -3,12 +3,14 @@ ghost use Rattle.std.specs.Prelude.{◌≡◌, ◌≤◌, length, IfOk, IfErr};
 ghost use Rattle.board_shapes.specs.Pieces.{plain_pieces};
 ghost use Rattle.gerber_layer.specs.MacroLayer.{IsMacroFault, IsReadWithMacros, macro_fault_at};
 
+use crate::MOST_FLAT_EDGES;
 use crate::dialect::WithMacros;
 use crate::file::read_by;
 use crate::macro_kind::{FlattenFault, FlattenKind};
-use board_shapes::{Piece, Room};
+use board_shapes::{MOST_PIECES, Piece, Room};
 use file_reading::Halt;
 use std::alloc::Global;
+use texts::MOST_BYTES;
 
 fn macro_fault_at(halt: Halt<FlattenKind>, command: u32, at: usize) -> FlattenFault
     ensures { result ≡ macro_fault_at halt command at }
@@ -24,18 +26,18 @@ fn macro_fault_at(halt: Halt<FlattenKind>, command: u32, at: usize) -> FlattenFa
 /// A flash of a macro makes a piece for each of its primitives that has an image. The file's
 /// function is any.
 ///
-/// The pieces stand on layer 1 of file 0; at most 200,000 pieces with 1,000,000 edges in all come.
+/// The pieces stand on layer 1 of file 0; at most `MOST_PIECES` with `MOST_FLAT_EDGES` in all come.
 /// `Refused` is the first command with a fault, and the first condition of its row that holds; want
-/// of memory is `NoMemory`. The file has at most 67,108,864 bytes.
+/// of memory is `NoMemory`. The file has at most `MOST_BYTES`.
 pub fn read_flat(alloc: Global, file: &[u8]) -> Result<Vec<Piece>, FlattenFault>
-    requires size { length file.now ≤ 67_108_864 }
+    requires size { length file.now ≤ MOST_BYTES }
     ensures ok { IfOk result (λ pieces. IsReadWithMacros file.now (plain_pieces pieces.items)) }
-    ensures few { IfOk result (λ pieces. length pieces.items ≤ 200_000) }
+    ensures few { IfOk result (λ pieces. length pieces.items ≤ MOST_PIECES) }
     ensures fault { IfErr result (IsMacroFault file.now) }
 {
     let room = Room {
-        pieces: 200_000,
-        edges: 1_000_000,
+        pieces: MOST_PIECES,
+        edges: MOST_FLAT_EDGES,
     };
     read_by::<WithMacros>(alloc, file, 1, 0, room).map_err(|why| macro_fault_at(
         why.halt,

@@ -6,9 +6,10 @@ ghost use Rattle.gerber_layer.specs.Layer.{IsFault, IsRead, fault_at};
 use crate::dialect::Standard;
 use crate::file::read_by;
 use crate::kind::{GerberKind, LayerFault};
-use board_shapes::{Piece, Room};
+use board_shapes::{MOST_LAYERS, Piece, Room};
 use file_reading::Halt;
 use std::alloc::Global;
+use texts::MOST_BYTES;
 
 fn fault_at(halt: Halt<GerberKind>, command: u32, at: usize) -> LayerFault
     ensures { result ≡ fault_at halt command at }
@@ -22,10 +23,10 @@ fn fault_at(halt: Halt<GerberKind>, command: u32, at: usize) -> LayerFault
 /// The pieces of a layer's copper, in the order of the commands that make them; all lengths are in u,
 /// a tenth of a nanometre.
 ///
-/// `layer` is from 1 to 32 and stands as span and in the file's function; `file_number` goes into the
+/// `layer` is from 1 to `MOST_LAYERS` and stands as span and in the file's function; `file_number` goes into the
 /// origins; `room` says how many pieces and edges may still come. `Refused` is the first command with
 /// a fault, and the first condition of its row that holds; want of memory is `NoMemory`. The file has at most
-/// 67,108,864 bytes.
+/// `MOST_BYTES`.
 pub fn read_layer(
     alloc: Global,
     file: &[u8],
@@ -33,8 +34,8 @@ pub fn read_layer(
     file_number: u32,
     room: Room,
 ) -> Result<Vec<Piece>, LayerFault>
-    requires layer { (1 ≤ layer) × (layer ≤ 32) }
-    requires size { length file.now ≤ 67_108_864 }
+    requires layer { (1 ≤ layer) × (layer ≤ MOST_LAYERS) }
+    requires size { length file.now ≤ MOST_BYTES }
     ensures ok { IfOk result (λ pieces. IsRead file.now (record { layer = layer; file = file_number; room = room }) (plain_pieces pieces.items)) }
     ensures few { IfOk result (λ pieces. length pieces.items ≤ room.pieces) }
     ensures layers { IfOk result (λ pieces. All (λ piece. (piece.top ≡ layer) × (piece.bottom ≡ layer)) pieces.items) }

@@ -27,7 +27,7 @@ pub enum FlattenKind {
     Turn,
     /// A vector line that is not along an axis.
     Slanted,
-    /// Over 65,536 radii.
+    /// Over `MOST_APERTURES` radii.
     TooManyRadii,
 }
 

@@ -11,6 +11,7 @@ ghost use Rattle.gerber_layer.specs.Reader.{AreBlank, Stops, body_of};
 ghost use Rattle.gerber_layer.specs.Tools.{macro_named};
 ghost use Rattle.gerber_layer.specs.Table.{concludes, row};
 
+use crate::MOST_APERTURES;
 use crate::command::Command;
 use crate::effect::Effect;
 use crate::kind::GerberKind;
@@ -156,7 +157,7 @@ impl<'a> Reader<'a> {
         if self.dictionary.defines(n) {
             return Err(Halt::Fault(FlattenKind::Gerber(GerberKind::ApertureTwice)));
         }
-        if self.dictionary.len() >= 65_536 {
+        if self.dictionary.len() >= MOST_APERTURES {
             return Err(Halt::Fault(FlattenKind::Gerber(GerberKind::TooManyApertures)));
         }
         let marks = judge(alloc, body, &parameters, unit)?;
@@ -247,7 +248,7 @@ impl<'a> Reader<'a> {
         }
     }
 
-    // The pieces have at most 65,536 radii.
+    // The pieces have at most `MOST_APERTURES` radii.
     fn has_few_radii(&self, alloc: Global) -> Result<(), Halt<FlattenKind>>
         ensures ok { IfOk result (λ _. spec.few_radii (concludes (plain_pieces self.now.pieces.items)) ≡ Ok (concludes (plain_pieces self.now.pieces.items))) }
         ensures halt { IfErr result (Stops (spec.few_radii (concludes (plain_pieces self.now.pieces.items)))) }
@@ -255,7 +256,7 @@ impl<'a> Reader<'a> {
         let Ok(radii) = Radii::of(alloc, &self.pieces) else {
             return Err(Halt::NoMemory);
         };
-        if radii.len() > 65_536 {
+        if radii.len() > MOST_APERTURES {
             return Err(Halt::Fault(FlattenKind::TooManyRadii));
         }
         Ok(())

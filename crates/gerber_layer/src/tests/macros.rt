@@ -4,6 +4,7 @@ use crate::{FlattenFault, read_flat};
 use std::alloc::{AllocError, Global};
 use std::fmt::Write;
 use std::test::Fail;
+use texts::MOST_BYTES;
 
 // Primitives, and what they flash.
 fn of_images() -> [(&'static str, &'static str); 13] {
@@ -397,7 +398,7 @@ fn refusal(alloc: Global, fault: FlattenFault) -> Result<String, AllocError> {
 }
 
 fn told(alloc: Global, file: &[u8]) -> Result<String, AllocError> {
-    if file.len() > 67_108_864 {
+    if file.len() > MOST_BYTES {
         return String::from_str(alloc, "no file");
     }
     match read_flat(alloc, file) {
@@ -440,7 +441,7 @@ fn macros_are_read(rt: HostRuntime) -> Result<(), Fail> {
 
 // What large files are read as: how many pieces, or the refusal.
 fn counted(alloc: Global, file: &[u8]) -> Result<String, AllocError> {
-    if file.len() > 67_108_864 {
+    if file.len() > MOST_BYTES {
         return String::from_str(alloc, "no file");
     }
     match read_flat(alloc, file) {
