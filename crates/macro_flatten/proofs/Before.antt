@@ -32,18 +32,19 @@ use Rattle.gerber_layer.specs.Tools.{Macro, Macros, Tool, standard, composed, co
 use Rattle.gerber_layer.specs.Table.{gridded, coordinate, code_of}
 use Rattle.gerber_layer.specs.Settings.{as_number, definition_in, defined_before, drawn, contour_by, contour_before, lengthened, macros_by, macros_before, point_before, region_open, unit_before, format_before, value_in, value_or, with_body, x_before, x_in, y_before, y_in}
 use Rattle.macro_flatten.proofs.Primitives.{read_sized}
+use Rattle.planar.specs.declared.TheConstants.{METRE}
 
 -- ---- The current point
 
-signed_reached : (negative : Bool) (n : ℕ) → n ≤ 10_000_000_000 → IsReached (signed negative n)
+signed_reached : (negative : Bool) (n : ℕ) → n ≤ METRE → IsReached (signed negative n)
 signed_reached false n h = (omega (arith, ints), omega (arith, ints, h))
 signed_reached true n h = (omega (arith, ints, h), omega (arith, ints))
 
 position_reached : (negative : Bool) (o : Option ℕ) (z : ℤ) → as_position negative o ≡ Ok z → IsReached z
 position_reached negative None z h = cc
-position_reached negative (Some n) z h = by (nat_lt 10_000_000_000 n) refl h
+position_reached negative (Some n) z h = by (nat_lt METRE n) refl h
   where
-    by : (b : Bool) → nat_lt 10_000_000_000 n ≡ b → ◌≡◌ {A = Result ℤ GridFault} (cond b (Err grid.OutOfRange) (Ok (signed negative n))) (Ok z) → IsReached z
+    by : (b : Bool) → nat_lt METRE n ≡ b → ◌≡◌ {A = Result ℤ GridFault} (cond b (Err grid.OutOfRange) (Ok (signed negative n))) (Ok z) → IsReached z
     by true e h = cc
     by false e h = let s : signed negative n ≡ z = cc in subst IsReached s (signed_reached negative n (ltb-false _ _ e))
 

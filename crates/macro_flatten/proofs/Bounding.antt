@@ -20,6 +20,7 @@ use Rattle.macro_flatten.proofs.Operations.{reads_move, reads_draw, reads_openin
 use Rattle.macro_flatten.proofs.Effects.{at_spot, opens_one, begins_at, extends_to, leaves_one}
 use Rattle.macro_flatten.proofs.History.{told, behind, behind-append, as_read, figure_in, Stands, is_set, clean_then, pieces_then, figures-none, figures-more, point_then}
 use Rattle.macro_flatten.proofs.Drawing.{Drawing, as_many}
+use Rattle.area_contact.specs.declared.TheConstants.{MOST_CONTOUR_EDGES}
 
 -- the contour from a spot through others
 abbrev pub traced : Spot → List Spot → List Spot
@@ -71,7 +72,7 @@ edges-traced a [] = omega arith
 edges-traced a (c ∷ done) = omega arith
 
 -- one edge more
-lengthens : (p : Place) (pens : List ℕ) (last : Option ℕ) (figures : List Figure) (h : List Command) (a b : Spot) (done : List Spot) → IsPlaced b → length done < 100_000 → sum_by figure_edges figures + (length done + 1) ≤ p.room.edges → Bounding p pens last figures a done h → Bounding p pens last figures a (done ++ b ∷ []) (at_spot b Draw ∷ h)
+lengthens : (p : Place) (pens : List ℕ) (last : Option ℕ) (figures : List Figure) (h : List Command) (a b : Spot) (done : List Spot) → IsPlaced b → length done < MOST_CONTOUR_EDGES → sum_by figure_edges figures + (length done + 1) ≤ p.room.edges → Bounding p pens last figures a done h → Bounding p pens last figures a (done ++ b ∷ []) (at_spot b Draw ∷ h)
 lengthens p pens last figures h a b done placed few room d =
     let edges : edges_in (contour_before h) ≡ length done = ap edges_in d.contour ∙ edges-traced a done in
     let all : edges_of (pieces_of p h) ≡ sum_by figure_edges figures = edges_are (pieces_of p h) ∙ ap (sum_by figure_edges) d.are in
@@ -87,7 +88,7 @@ lengthens p pens last figures h a b done placed few room d =
     }
 
 -- and all of them
-lengthens_all : (p : Place) (pens : List ℕ) (last : Option ℕ) (figures : List Figure) (h : List Command) (a : Spot) (done rest : List Spot) → AllByRecursion IsPlaced rest → length done + length rest ≤ 100_000 → sum_by figure_edges figures + (length done + length rest) ≤ p.room.edges → Bounding p pens last figures a done h → Bounding p pens last figures a (done ++ rest) (behind h (map draw rest))
+lengthens_all : (p : Place) (pens : List ℕ) (last : Option ℕ) (figures : List Figure) (h : List Command) (a : Spot) (done rest : List Spot) → AllByRecursion IsPlaced rest → length done + length rest ≤ MOST_CONTOUR_EDGES → sum_by figure_edges figures + (length done + length rest) ≤ p.room.edges → Bounding p pens last figures a done h → Bounding p pens last figures a (done ++ rest) (behind h (map draw rest))
 lengthens_all p pens last figures h a done [] placed few room d = subst (λ (xs : List Spot). Bounding p pens last figures a xs h) (sym (append-nil done)) d
 lengthens_all p pens last figures h a done (b ∷ rest) placed few room d =
     let more = lengthens p pens last figures h a b done placed.0 (omega (arith, few)) (omega (arith, room)) d in

@@ -23,6 +23,8 @@ use Rattle.macro_flatten.specs.FlatText.{millimetres}
 use Rattle.macro_flatten.proofs.Digits.{runs, wider, none, digit_is_not, written}
 use Rattle.texts.proofs.LastDigits.{last_are_digits, length-last_digits, last_value}
 use Rattle.macro_flatten.proofs.Operations.{seven}
+use Rattle.contact.specs.declared.TheConstants.{MOST_DIAMETER}
+use Rattle.planar.specs.declared.TheConstants.{METRE}
 
 -- ---- A length in millimetres
 
@@ -63,7 +65,7 @@ pub record IsSizeText (n : ℕ) : Type 0 where
   pub size : size_at (millimetres n) Mm ≡ Ok (pos n)
   pub plain : list_any is_x (millimetres n) ≡ false
 
-pub size_text : (n : ℕ) → n % 2 ≡ 0 → n ≤ 10_000_000_000 → IsSizeText n
+pub size_text : (n : ℕ) → n % 2 ≡ 0 → n ≤ METRE → IsSizeText n
 unfolding size_at
 size_text n even most =
     let w = written (n / 10_000_000) (omega (arith, most)) in
@@ -92,11 +94,11 @@ not_empty (c ∷ ds) h = refl
 abbrev pub circle_text : ℕ → ℕ → List ℕ
 circle_text n d = codes "ADD" ++ (decimal n ++ (codes "C," ++ millimetres d))
 
-reads_circle : (text : List ℕ) (d : ℕ) → d ≤ 500_000_000 → size_at text Mm ≡ Ok (pos d) → list_any is_x text ≡ false → solid_by (67 ∷ []) (67 ∷ 44 ∷ text) Mm ≡ Ok (Circle (pos d))
+reads_circle : (text : List ℕ) (d : ℕ) → d ≤ MOST_DIAMETER → size_at text Mm ≡ Ok (pos d) → list_any is_x text ≡ false → solid_by (67 ∷ []) (67 ∷ 44 ∷ text) Mm ≡ Ok (Circle (pos d))
 unfolding solid_by circle_at last_behind diameter_at
 reads_circle text d narrow size plain = rw (plain, size, le-ltb _ _ narrow) refl
 
-pub defines_circle : (n d : ℕ) → 10 ≤ n → n ≤ 70_000 → d % 2 ≡ 0 → d ≤ 500_000_000 → aperture_at (circle_text n d) Mm ≡ Ok (n, Circle (pos d))
+pub defines_circle : (n d : ℕ) → 10 ≤ n → n ≤ 70_000 → d % 2 ≡ 0 → d ≤ MOST_DIAMETER → aperture_at (circle_text n d) Mm ≡ Ok (n, Circle (pos d))
 unfolding aperture_at numbered_at
 defines_circle n d low high even most =
     let w = written n (omega (arith, high)) in

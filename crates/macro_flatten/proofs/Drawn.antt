@@ -19,6 +19,9 @@ use Rattle.apertures.specs.declared.aperture.Aperture.{Aperture}
 use Rattle.apertures.specs.declared.aperture.Aperture.TheVariants.{Circle, Rectangle, Obround}
 use Rattle.regions.specs.Contours.{stays_open, too_short, close_of, same_number, same_spot}
 use Rattle.macro_flatten.specs.Laws.{IsDrawn}
+use Rattle.area_contact.specs.declared.TheConstants.{MOST_CONTOUR_POINTS}
+use Rattle.contact.specs.declared.TheConstants.{MOST_DIAMETER, MOST_RADIUS}
+use Rattle.planar.specs.declared.TheConstants.{METRE}
 
 both : (a b : Bool) → (a && b) ≡ true → (a ≡ true) × (b ≡ true)
 both true b h = (refl, h)
@@ -26,13 +29,13 @@ both false b h = cc
 
 -- ---- Within one metre
 
-reached : (z : ℤ) → unsigned_abs z ≤ 10_000_000_000 → IsReached z
+reached : (z : ℤ) → unsigned_abs z ≤ METRE → IsReached z
 reached (pos n) h = (omega (arith, ints), omega (arith, ints, h))
 reached (negsuc n) h = (omega (arith, ints, h), omega (arith, ints))
 
 pub spot_placed : (p : Spot) → is_placed p ≡ true → IsPlaced p
 spot_placed p h =
-    let b = both (nat_le (unsigned_abs p.x) 10_000_000_000) (nat_le (unsigned_abs p.y) 10_000_000_000) h in
+    let b = both (nat_le (unsigned_abs p.x) METRE) (nat_le (unsigned_abs p.y) METRE) h in
     (reached p.x (leb-true _ _ b.0), reached p.y (leb-true _ _ b.1))
 
 pub spots_placed : (ps : List Spot) → list_all is_placed ps ≡ true → AllByRecursion IsPlaced ps
@@ -46,10 +49,10 @@ over_zero zero h = cc
 over_zero (suc n) h = omega arith
 
 -- half a size is the radius of a pen
-pub half_drawn : (n : ℕ) → n % 2 ≡ 0 → n ≤ 500_000_000 → eqb n 0 ≡ false → (pos 0 <ℤ pos (n / 2)) × (pos (n / 2) ≤ℤ pos 250_000_000)
+pub half_drawn : (n : ℕ) → n % 2 ≡ 0 → n ≤ MOST_DIAMETER → eqb n 0 ≡ false → (pos 0 <ℤ pos (n / 2)) × (pos (n / 2) ≤ℤ MOST_RADIUS)
 half_drawn n even most some = let s = over_zero n some in (omega (arith, ints, s, even), omega (arith, ints, most))
 
-size_drawn : (z : ℤ) → IsSize z → unsigned_abs z ≤ 500_000_000 → is_zero z ≡ false → (pos 0 <ℤ pos (unsigned_abs z / 2)) × (pos (unsigned_abs z / 2) ≤ℤ pos 250_000_000)
+size_drawn : (z : ℤ) → IsSize z → unsigned_abs z ≤ MOST_DIAMETER → is_zero z ≡ false → (pos 0 <ℤ pos (unsigned_abs z / 2)) × (pos (unsigned_abs z / 2) ≤ℤ MOST_RADIUS)
 size_drawn (pos n) s narrow some = half_drawn n s.even narrow some
 size_drawn (negsuc n) s narrow some = let l = s.low in absurd (omega (arith, ints, l))
 
@@ -62,7 +65,7 @@ pen_drawn a b d h k s narrow some = let r = size_drawn d s narrow some in (h, k,
 same_figure : (f g : Figure) → ◌≡◌ {A = Result (Option Figure) NoFlash} (Ok (Some f)) (Ok (Some g)) → IsDrawn f → IsDrawn g
 same_figure f g e h = let s : f ≡ g = cc in subst IsDrawn s h
 
-disc_drawn : (n : ℕ) (to : Spot) (f : Figure) → n % 2 ≡ 0 → n ≤ 500_000_000 → IsPlaced to → ◌≡◌ {A = Result (Option Figure) NoFlash} (Ok (disc n to)) (Ok (Some f)) → IsDrawn f
+disc_drawn : (n : ℕ) (to : Spot) (f : Figure) → n % 2 ≡ 0 → n ≤ MOST_DIAMETER → IsPlaced to → ◌≡◌ {A = Result (Option Figure) NoFlash} (Ok (disc n to)) (Ok (Some f)) → IsDrawn f
 disc_drawn n to f even most h e = by (eqb n 0) refl e
   where
     by : (b : Bool) → eqb n 0 ≡ b → ◌≡◌ {A = Result (Option Figure) NoFlash} (Ok (cond b None (Some (round (record { a = to; b = to; r = pos (n / 2) }))))) (Ok (Some f)) → IsDrawn f
@@ -72,7 +75,7 @@ disc_drawn n to f even most h e = by (eqb n 0) refl e
 rectangle_drawn : (x y : ℕ) (to : Spot) (f : Figure) → rectangle_at x y to ≡ Ok (Some f) → IsDrawn f
 rectangle_drawn x y to f e = by (rectangle (lower to x y) (upper to x y)) refl (omega arith) (omega arith) e
   where
-    by : (points : List Spot) → IsClosed points → 4 ≤ length points → length points ≤ 100_001 → cond (list_all is_placed points) (Ok (Some (filled points))) (Err leaves) ≡ Ok (Some f) → IsDrawn f
+    by : (points : List Spot) → IsClosed points → 4 ≤ length points → length points ≤ MOST_CONTOUR_POINTS → cond (list_all is_placed points) (Ok (Some (filled points))) (Err leaves) ≡ Ok (Some f) → IsDrawn f
     by points closed enough few e = placed_or_not (list_all is_placed points) refl e
       where
         placed_or_not : (b : Bool) → list_all is_placed points ≡ b → cond b (Ok (Some (filled points))) (Err leaves) ≡ Ok (Some f) → IsDrawn f
@@ -84,7 +87,7 @@ rectangle_drawn x y to f e = by (rectangle (lower to x y) (upper to x y)) refl (
           placed = All-from_recursion IsPlaced points (spots_placed points z);
         })
 
-ends_drawn : (s : Stroke) (f : Figure) → pos 0 <ℤ s.r → s.r ≤ℤ pos 250_000_000 → placed s ≡ Ok (Some f) → IsDrawn f
+ends_drawn : (s : Stroke) (f : Figure) → pos 0 <ℤ s.r → s.r ≤ℤ MOST_RADIUS → placed s ≡ Ok (Some f) → IsDrawn f
 ends_drawn s f low high e = by (is_placed s.a && is_placed s.b) refl e
   where
     by : (b : Bool) → (is_placed s.a && is_placed s.b) ≡ b → cond b (Ok (Some (round s))) (Err leaves) ≡ Ok (Some f) → IsDrawn f
@@ -95,8 +98,8 @@ obround_drawn : (x y : ℤ) (to : Spot) (f : Figure) → IsSize x → IsSize y �
 obround_drawn x y to f hx hy sx sy narrow e = by (nat_lt (unsigned_abs y) (unsigned_abs x)) refl e
   where
     by : (b : Bool) → nat_lt (unsigned_abs y) (unsigned_abs x) ≡ b → cond b (placed (record { a = lower to (unsigned_abs x - unsigned_abs y) 0; b = upper to (unsigned_abs x - unsigned_abs y) 0; r = pos (unsigned_abs y / 2) })) (placed (record { a = lower to 0 (unsigned_abs y - unsigned_abs x); b = upper to 0 (unsigned_abs y - unsigned_abs x); r = pos (unsigned_abs x / 2) })) ≡ Ok (Some f) → IsDrawn f
-    by true z e = let less = ltb-true _ _ z in let small : unsigned_abs y ≤ 500_000_000 = omega (arith, narrow, less) in let r = size_drawn y hy small sy in ends_drawn (record { a = lower to (unsigned_abs x - unsigned_abs y) 0; b = upper to (unsigned_abs x - unsigned_abs y) 0; r = pos (unsigned_abs y / 2) }) f r.0 r.1 e
-    by false z e = let most = ltb-false _ _ z in let small : unsigned_abs x ≤ 500_000_000 = omega (arith, narrow, most) in let r = size_drawn x hx small sx in ends_drawn (record { a = lower to 0 (unsigned_abs y - unsigned_abs x); b = upper to 0 (unsigned_abs y - unsigned_abs x); r = pos (unsigned_abs x / 2) }) f r.0 r.1 e
+    by true z e = let less = ltb-true _ _ z in let small : unsigned_abs y ≤ MOST_DIAMETER = omega (arith, narrow, less) in let r = size_drawn y hy small sy in ends_drawn (record { a = lower to (unsigned_abs x - unsigned_abs y) 0; b = upper to (unsigned_abs x - unsigned_abs y) 0; r = pos (unsigned_abs y / 2) }) f r.0 r.1 e
+    by false z e = let most = ltb-false _ _ z in let small : unsigned_abs x ≤ MOST_DIAMETER = omega (arith, narrow, most) in let r = size_drawn x hx small sx in ends_drawn (record { a = lower to 0 (unsigned_abs y - unsigned_abs x); b = upper to 0 (unsigned_abs y - unsigned_abs x); r = pos (unsigned_abs x / 2) }) f r.0 r.1 e
 
 -- what a lawful aperture flashes
 pub flash_drawn : (a : Aperture) (to : Spot) (f : Figure) → IsLawful a → IsPlaced to → flash_of a to ≡ Ok (Some f) → IsDrawn f
@@ -120,7 +123,7 @@ spot_is a b h =
     ap (λ (z : ℤ). record { x = z; y = a.y }) (number_is a.x b.x s.0) ∙ ap (λ (z : ℤ). record { x = b.x; y = z }) (number_is a.y b.y s.1)
 
 -- what a contour of few spots bounds
-pub contour_drawn : (contour points : List Spot) → AllByRecursion IsPlaced contour → length contour ≤ 100_001 → close_of contour ≡ Ok (Some points) → IsDrawn (filled points)
+pub contour_drawn : (contour points : List Spot) → AllByRecursion IsPlaced contour → length contour ≤ MOST_CONTOUR_POINTS → close_of contour ≡ Ok (Some points) → IsDrawn (filled points)
 unfolding close_of
 contour_drawn [] points h few e = cc
 contour_drawn (a ∷ []) points h few e = cc

@@ -19,6 +19,8 @@ use Rattle.gerber_layer.specs.declared.command.Code.TheVariants.{Draw, Move}
 use Rattle.gerber_layer.specs.Table.{Known, stays, makes, performs, extends, closes, opens, leaves, concludes, target, selected, room_for, edges_of, edges_in, draw, extend, closing, perform, perform_in_region, operate, leave, ended_block, define, row, effect}
 use Rattle.gerber_layer.specs.Tools.{Tool, standard}
 use Rattle.macro_flatten.proofs.Operations.{seven, coordinate_is}
+use Rattle.area_contact.specs.declared.TheConstants.{MOST_CONTOUR_EDGES}
+use Rattle.gerber_layer.specs.declared.TheConstants.{MOST_APERTURES}
 
 -- the settings of the text are in force, and it has not ended
 pub record IsSet (k : Known) : Type 0 where
@@ -72,7 +74,7 @@ pub begins_at : (k : Known) (to : Spot) → IsSet k → IsPlaced to → k.settin
 unfolding perform_in_region closing close_of room_for
 begins_at k to s h inside none = operated k to Move s h ∙ rw (inside, none) refl
 
-pub extends_to : (k : Known) (to : Spot) → IsSet k → IsPlaced to → k.settings.region ≡ true → edges_in k.contour < 100_000 → edges_of k.pieces + (edges_in k.contour + 1) ≤ k.place.room.edges → effect k (at_spot to Draw) ≡ Ok (extends to)
+pub extends_to : (k : Known) (to : Spot) → IsSet k → IsPlaced to → k.settings.region ≡ true → edges_in k.contour < MOST_CONTOUR_EDGES → edges_of k.pieces + (edges_in k.contour + 1) ≤ k.place.room.edges → effect k (at_spot to Draw) ≡ Ok (extends to)
 unfolding perform_in_region extend
 extends_to k to s h inside few room = operated k to Draw s h ∙ rw (inside, lt-leb _ _ few, le-ltb _ _ room) refl
 
@@ -107,7 +109,7 @@ pub sets_unit : (k : Known) → k.settings.ended ≡ false → k.settings.unit �
 unfolding effect row
 sets_unit k on none = rw (on, none) refl
 
-pub makes_one : (k : Known) (text : List ℕ) (n : ℕ) (a : Aperture) → IsSet k → aperture_at text Mm ≡ Ok (n, a) → k.defined n ≡ None → k.definitions < 65_536 → effect k (defines text) ≡ Ok (makes n (standard a))
+pub makes_one : (k : Known) (text : List ℕ) (n : ℕ) (a : Aperture) → IsSet k → aperture_at text Mm ≡ Ok (n, a) → k.defined n ≡ None → k.definitions < MOST_APERTURES → effect k (defines text) ≡ Ok (makes n (standard a))
 unfolding effect row define
 makes_one k text n a s is fresh few = rw (s.ended, s.unit, is, fresh, lt-leb _ _ few) refl
 

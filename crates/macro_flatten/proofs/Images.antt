@@ -28,6 +28,8 @@ use Rattle.macro_flatten.proofs.Bounding.{edges_are}
 use Rattle.macro_flatten.proofs.Copies.{Drawn}
 use Rattle.macro_flatten.proofs.Makes.{Fit, Made, Sound, Within, as_fit, block_made, closing_made, draw_made, flash_made, pushed}
 use Rattle.macro_flatten.proofs.Rows.{HasRows, standard_rows}
+use Rattle.area_contact.specs.declared.TheConstants.{MOST_CONTOUR_EDGES, MOST_CONTOUR_POINTS}
+use Rattle.gerber_layer.specs.declared.TheConstants.{MOST_APERTURES}
 
 -- what stands before a command is lawful
 sound : {W : Type 0} (f : Profile W) (p : Place) (h : List Command) → Sound (known_by f p h)
@@ -53,9 +55,9 @@ pub then_pieces : {W : Type 0} (f : Profile W) (p : Place) (h : List Command) (c
 unfolding image_by
 then_pieces {W = W} f p h c e is = ap (λ (r : Result Effect W). (with_effect p (length h + 1) (image_by f p h) r).pieces) is
 
-within : {W : Type 0} (f : Profile W) (p : Place) (h : List Command) (c : Command) (pieces : List PlainPiece) (contour : List Spot) → pieces_by f p (c ∷ h) ≡ pieces → contour_before (c ∷ h) ≡ contour → length contour ≤ 100_001 → Fit p pieces → edges_of pieces + edges_in contour ≤ p.room.edges → Within (known_by f p (c ∷ h))
+within : {W : Type 0} (f : Profile W) (p : Place) (h : List Command) (c : Command) (pieces : List PlainPiece) (contour : List Spot) → pieces_by f p (c ∷ h) ≡ pieces → contour_before (c ∷ h) ≡ contour → length contour ≤ MOST_CONTOUR_POINTS → Fit p pieces → edges_of pieces + edges_in contour ≤ p.room.edges → Within (known_by f p (c ∷ h))
 within f p h c pieces contour a b short fit edges = record {
-  short = subst (λ (ps : List Spot). length ps ≤ 100_001) (sym b) short;
+  short = subst (λ (ps : List Spot). length ps ≤ MOST_CONTOUR_POINTS) (sym b) short;
   drawn = subst Drawn (sym a) fit.drawn;
   few = subst (λ (ps : List PlainPiece). length ps ≤ p.room.pieces) (sym a) fit.few;
   edges = subst (λ (ps : List Spot). edges_of (pieces_by f p (c ∷ h)) + edges_in ps ≤ p.room.edges) (sym b) (subst (λ (ps : List PlainPiece). edges_of ps + edges_in contour ≤ p.room.edges) (sym a) edges);
@@ -162,10 +164,10 @@ performed k Flash to e s w there g = flash_made k to e s w there g
 
 -- one edge more
 record Longer (contour longer : List Spot) : Type 0 where
-  short : length longer ≤ 100_001
+  short : length longer ≤ MOST_CONTOUR_POINTS
   edges : edges_in longer ≤ edges_in contour + 1
 
-longer : (contour : List Spot) (from to : Spot) → edges_in contour < 100_000 → Longer contour (lengthened contour from to)
+longer : (contour : List Spot) (from to : Spot) → edges_in contour < MOST_CONTOUR_EDGES → Longer contour (lengthened contour from to)
 longer [] from to few = record { short = omega arith; edges = omega arith }
 longer (a ∷ rest) from to few =
     let long = length-append rest (to ∷ []) in
@@ -174,14 +176,14 @@ longer (a ∷ rest) from to few =
 -- what a draw in a region does
 record Extended (k : Known) (to : Spot) (e : Effect) : Type 0 where
   is : e ≡ extends to
-  few : edges_in k.contour < 100_000
+  few : edges_in k.contour < MOST_CONTOUR_EDGES
   room : edges_of k.pieces + (edges_in k.contour + 1) ≤ k.place.room.edges
 
 extended_by : (k : Known) (to : Spot) (e : Effect) → extend k to ≡ Ok e → Extended k to e
 unfolding extend
-extended_by k to e g = by (nat_le 100_000 (edges_in k.contour)) (exceed k (edges_in k.contour + 1)) refl refl g
+extended_by k to e g = by (nat_le MOST_CONTOUR_EDGES (edges_in k.contour)) (exceed k (edges_in k.contour + 1)) refl refl g
   where
-    by : (a b : Bool) → nat_le 100_000 (edges_in k.contour) ≡ a → exceed k (edges_in k.contour + 1) ≡ b → cond (a || b) (Err kind.TooManyVertices) (Ok (extends to)) ≡ Ok e → Extended k to e
+    by : (a b : Bool) → nat_le MOST_CONTOUR_EDGES (edges_in k.contour) ≡ a → exceed k (edges_in k.contour + 1) ≡ b → cond (a || b) (Err kind.TooManyVertices) (Ok (extends to)) ≡ Ok e → Extended k to e
     by true b ea eb g = cc
     by false true ea eb g = cc
     by false false ea eb g = let s : extends to ≡ e = cc in record { is = sym s; few = leb-false _ _ ea; room = ltb-false _ _ eb }
@@ -255,7 +257,7 @@ figures_drawn [] h = tt
 figures_drawn (q ∷ pieces) h = (h.0, figures_drawn pieces h.1)
 
 -- the figures of a clean history, where few pens draw them
-pub image_flat : {W : Type 0} (f : Profile W) → HasRows f → (p : Place) (h : List Command) → p.room ≡ flat_room → Clean (effect_by f p) h → length (pens_of (figures_in (pieces_by f p h))) ≤ 65_536 → IsFlat (figures_in (pieces_by f p h))
+pub image_flat : {W : Type 0} (f : Profile W) → HasRows f → (p : Place) (h : List Command) → p.room ≡ flat_room → Clean (effect_by f p) h → length (pens_of (figures_in (pieces_by f p h))) ≤ MOST_APERTURES → IsFlat (figures_in (pieces_by f p h))
 image_flat f t p h room clean pens =
     let w = image_within f t p h clean in
     let few = subst (λ (r : Room). length (pieces_by f p h) ≤ r.pieces) room w.few in
@@ -273,4 +275,4 @@ pub images_are_flat : ImagesAreFlat
 images_are_flat file layer number pieces (items, are, r) few =
     let p : Place = record { layer = layer; file = number; room = flat_room } in
     let flat = image_flat effect standard_rows p (said r.earlier) refl r.whole.clean in
-    subst (λ (ps : List PlainPiece). length (pens_of (figures_in ps)) ≤ 65_536 → IsFlat (figures_in ps)) (sym r.is) flat few
+    subst (λ (ps : List PlainPiece). length (pens_of (figures_in ps)) ≤ MOST_APERTURES → IsFlat (figures_in ps)) (sym r.is) flat few

@@ -27,6 +27,7 @@ use Rattle.macro_flatten.specs.FlatText.{figures_in, pens_after, pens_of, with_p
 use Rattle.macro_flatten.specs.Laws.{IsFlat, MacroImagesAreFlat}
 use Rattle.macro_flatten.proofs.Images.{image_flat, then_pieces}
 use Rattle.macro_flatten.proofs.Rows.{HasFewRadii, macro_rows, shared_by_macros}
+use Rattle.gerber_layer.specs.declared.TheConstants.{MOST_APERTURES}
 
 -- ---- A pen is twice a radius
 
@@ -88,22 +89,22 @@ stays_behind k c e over h = by k.settings.ended (is_finish c) over h
     by true false over h = cc
     by false b over h = cc
 
-few_more : (h : List Command) (c : Command) (e : Effect) → effect_with_macros (known_here h) c ≡ Ok e → has_ended (c ∷ h) ≡ true → (has_ended h ≡ true → length (radii_of (pieces_here h)) ≤ 65_536) → length (radii_of (pieces_here (c ∷ h))) ≤ 65_536
+few_more : (h : List Command) (c : Command) (e : Effect) → effect_with_macros (known_here h) c ≡ Ok e → has_ended (c ∷ h) ≡ true → (has_ended h ≡ true → length (radii_of (pieces_here h)) ≤ MOST_APERTURES) → length (radii_of (pieces_here (c ∷ h))) ≤ MOST_APERTURES
 few_more h ends e is over more =
     let few = (shared_by_macros (known_here h) ends e tt is).1 in
     let o = outcome_with_macros (known_here h) ends e is in
     let then : pieces_here (ends ∷ h) ≡ o.0 = then_pieces effect_with_macros flat_place h ends e is ∙ ap (pieces_after flat_place (length h + 1) (pieces_here h)) o.1 in
-    subst (λ (ps : List PlainPiece). length (radii_of ps) ≤ 65_536) (sym then) (subst HasFewRadii o.1 few)
+    subst (λ (ps : List PlainPiece). length (radii_of ps) ≤ MOST_APERTURES) (sym then) (subst HasFewRadii o.1 few)
 few_more h other e is over more =
     let then : pieces_here (other ∷ h) ≡ pieces_here h = then_pieces effect_with_macros flat_place h other e is ∙ ap (pieces_after flat_place (length h + 1) (pieces_here h)) (stays_behind (known_here h) other e over is) in
-    subst (λ (ps : List PlainPiece). length (radii_of ps) ≤ 65_536) (sym then) (more over)
+    subst (λ (ps : List PlainPiece). length (radii_of ps) ≤ MOST_APERTURES) (sym then) (more over)
 
 -- a file that has ended has few radii
-few_radii_behind : (h : List Command) → IsClean h → has_ended h ≡ true → length (radii_of (pieces_here h)) ≤ 65_536
+few_radii_behind : (h : List Command) → IsClean h → has_ended h ≡ true → length (radii_of (pieces_here h)) ≤ MOST_APERTURES
 few_radii_behind [] clean over = cc
 few_radii_behind (c ∷ h) clean over = by (effect_with_macros (known_here h) c) refl clean.0 (few_radii_behind h clean.1)
   where
-    by : (r : Result Effect FlattenKind) → effect_with_macros (known_here h) c ≡ r → IsOk r → (has_ended h ≡ true → length (radii_of (pieces_here h)) ≤ 65_536) → length (radii_of (pieces_here (c ∷ h))) ≤ 65_536
+    by : (r : Result Effect FlattenKind) → effect_with_macros (known_here h) c ≡ r → IsOk r → (has_ended h ≡ true → length (radii_of (pieces_here h)) ≤ MOST_APERTURES) → length (radii_of (pieces_here (c ∷ h))) ≤ MOST_APERTURES
     by (Ok e) is ok more = few_more h c e is over more
     by (Err why) is ok more = absurd (not_ok Effect why ok)
 

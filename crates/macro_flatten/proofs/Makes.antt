@@ -35,6 +35,7 @@ use Rattle.macro_flatten.proofs.Before.{AreSized, HaveSizes, IsLawfulTool}
 use Rattle.macro_flatten.proofs.Drawn.{pen_drawn, flash_drawn, contour_drawn}
 use Rattle.macro_flatten.proofs.Copies.{Drawn, all-append, are_copies}
 use Rattle.macro_flatten.proofs.Primitives.{primitive_drawn}
+use Rattle.area_contact.specs.declared.TheConstants.{MOST_CONTOUR_POINTS}
 
 -- what earlier commands have set is lawful
 pub record Sound (k : Known) : Type 0 where
@@ -46,7 +47,7 @@ pub record Sound (k : Known) : Type 0 where
 
 -- the pieces can be drawn, and they and the contour are within the room
 pub record Within (k : Known) : Type 0 where
-  pub short : length k.contour ≤ 100_001
+  pub short : length k.contour ≤ MOST_CONTOUR_POINTS
   pub drawn : Drawn k.pieces
   pub few : length k.pieces ≤ k.place.room.pieces
   pub edges : edges_of k.pieces + edges_in k.contour ≤ k.place.room.edges

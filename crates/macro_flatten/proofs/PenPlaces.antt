@@ -8,6 +8,7 @@ use Rattle.std.specs.Prelude.{unsigned_abs, ◌<ℤ◌, ◌≤ℤ◌}
 use Rattle.board_shapes.specs.Figures.{Figure, round, filled}
 use Rattle.macro_flatten.specs.FlatText.{pen_of, with_pen, pens_after}
 use Rattle.macro_flatten.specs.Laws.{IsDrawn}
+use Rattle.contact.specs.declared.TheConstants.{MOST_DIAMETER, MOST_RADIUS}
 
 -- a pen among others stands at its place
 pub record Found (r : ℕ) (pens : List ℕ) : Type 0 where
@@ -69,7 +70,7 @@ have_pens pens (filled points ∷ figures) = (tt, have_pens pens figures)
 -- ---- Each pen is a size
 
 abbrev pub IsPen : ℕ → Type 0
-IsPen d = (d % 2 ≡ 0) × (d ≤ 500_000_000)
+IsPen d = (d % 2 ≡ 0) × (d ≤ MOST_DIAMETER)
 
 small_push : (pens : List ℕ) (r : ℕ) → AllByRecursion IsPen pens → IsPen r → AllByRecursion IsPen (pens ++ r ∷ [])
 small_push [] r h k = (k, tt)
@@ -82,7 +83,7 @@ small_with r pens h k = by (list_any (nat_eq r) pens)
     by true = h
     by false = small_push pens r h k
 
-small_pen : (r : ℤ) → pos 0 <ℤ r → r ≤ℤ pos 250_000_000 → IsPen (2 * unsigned_abs r)
+small_pen : (r : ℤ) → pos 0 <ℤ r → r ≤ℤ MOST_RADIUS → IsPen (2 * unsigned_abs r)
 small_pen (pos n) h k = (omega arith, omega (arith, ints, k))
 small_pen (negsuc n) h k = absurd (omega (arith, ints, h))
 

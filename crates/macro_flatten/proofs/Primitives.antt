@@ -28,6 +28,8 @@ use Rattle.aperture_macros.specs.Values.{as_size, coordinate_at, diameter_at, po
 use Rattle.aperture_macros.proofs.Closings.{closing_is, outline_refused, outlined_by}
 use Rattle.macro_flatten.specs.Laws.{IsDrawn}
 use Rattle.macro_flatten.proofs.Drawn.{half_drawn, spot_placed, spots_placed}
+use Rattle.area_contact.specs.declared.TheConstants.{MOST_CONTOUR_POINTS}
+use Rattle.contact.specs.declared.TheConstants.{MOST_DIAMETER}
 
 then_ok : {A B : Type 0} (r : Result A MacroFault) (f : A → Result B MacroFault) (y : B) → (r >>= f) ≡ Ok y → (x : A) × (r ≡ Ok x) × (f x ≡ Ok y)
 then_ok (Ok x) f y h = (x, refl, h)
@@ -108,7 +110,7 @@ read_sized word p h = by (begins word (codes "0")) (form_at word (commas word)) 
 -- a disc has the diameter of a pen
 IsPen : Option Sketch → Type 0
 IsPen None = Unit {0}
-IsPen (Some (Disc p d)) = (d % 2 ≡ 0) × (d ≤ 500_000_000) × (eqb d 0 ≡ false)
+IsPen (Some (Disc p d)) = (d % 2 ≡ 0) × (d ≤ MOST_DIAMETER) × (eqb d 0 ≡ false)
 IsPen (Some (Rectangle low high)) = Unit {0}
 
 size_even : (text : List ℕ) (given : List Fraction) (unit : Measure) (w : ℕ) → size_at text given unit ≡ Ok w → w % 2 ≡ 0
@@ -126,13 +128,13 @@ circle_pen text given unit s h =
     let sketch = λ (d : ℕ) (p : Spot). cond (eqb d 0) None (Some (Disc p d)) in
     let d = then_ok (diameter_at (part 0 text) given unit) (λ d. point_at (past 1 text) given unit >>= λ p. Ok (sketch d p)) s h in
     let p = then_ok (point_at (past 1 text) given unit) (λ p. Ok (sketch d.0 p)) s d.2 in
-    let w = then_ok (size_at (part 0 text) given unit) (λ n. cond (nat_lt 500000000 n) (Err OutOfRange) (Ok n)) d.0 d.1 in
-    let few = passed (nat_lt 500000000 w.0) OutOfRange (Ok w.0) d.0 w.2 in
+    let w = then_ok (size_at (part 0 text) given unit) (λ n. cond (nat_lt MOST_DIAMETER n) (Err OutOfRange) (Ok n)) d.0 d.1 in
+    let few = passed (nat_lt MOST_DIAMETER w.0) OutOfRange (Ok w.0) d.0 w.2 in
     let narrow = few.1 in
     let same : w.0 ≡ d.0 = cc in
-    by d.0 p.0 (subst (λ (n : ℕ). n % 2 ≡ 0) same (size_even (part 0 text) given unit w.0 w.1)) (subst (λ (n : ℕ). n ≤ 500_000_000) same (ltb-false _ _ few.0)) (eqb d.0 0) refl p.2
+    by d.0 p.0 (subst (λ (n : ℕ). n % 2 ≡ 0) same (size_even (part 0 text) given unit w.0 w.1)) (subst (λ (n : ℕ). n ≤ MOST_DIAMETER) same (ltb-false _ _ few.0)) (eqb d.0 0) refl p.2
   where
-    by : (d : ℕ) (p : Spot) → d % 2 ≡ 0 → d ≤ 500_000_000 → (b : Bool) → eqb d 0 ≡ b → ◌≡◌ {A = Result (Option Sketch) MacroFault} (Ok (cond b None (Some (Disc p d)))) (Ok s) → IsPen s
+    by : (d : ℕ) (p : Spot) → d % 2 ≡ 0 → d ≤ MOST_DIAMETER → (b : Bool) → eqb d 0 ≡ b → ◌≡◌ {A = Result (Option Sketch) MacroFault} (Ok (cond b None (Some (Disc p d)))) (Ok s) → IsPen s
     by d p even few true none h = let same : None ≡ s = cc in subst IsPen same tt
     by d p even few false some h = let same : Some (Disc p d) ≡ s = cc in subst IsPen same (even, few, some)
 
@@ -179,7 +181,7 @@ same_figure : (f g : Figure) → ◌≡◌ {A = Result (Option Figure) MacroFaul
 same_figure f g e h = let s : f ≡ g = cc in subst IsDrawn s h
 
 -- a closed line of few points, where they are within one metre
-area_drawn : (points : List Spot) (f : Figure) → IsClosed points → 4 ≤ length points → length points ≤ 100_001 → area_at points ≡ Ok (Some f) → IsDrawn f
+area_drawn : (points : List Spot) (f : Figure) → IsClosed points → 4 ≤ length points → length points ≤ MOST_CONTOUR_POINTS → area_at points ≡ Ok (Some f) → IsDrawn f
 area_drawn points f closed enough few h = by (list_all is_placed points) refl h
   where
     by : (b : Bool) → list_all is_placed points ≡ b → cond b (Ok (Some (filled points))) (Err OutOfRange) ≡ Ok (Some f) → IsDrawn f
@@ -191,7 +193,7 @@ area_drawn points f closed enough few h = by (list_all is_placed points) refl h
       placed = All-from_recursion IsPlaced points (spots_placed points e);
     })
 
-disc_drawn : (p : Spot) (d : ℕ) (f : Figure) → d % 2 ≡ 0 → d ≤ 500_000_000 → eqb d 0 ≡ false → disc_at p d ≡ Ok (Some f) → IsDrawn f
+disc_drawn : (p : Spot) (d : ℕ) (f : Figure) → d % 2 ≡ 0 → d ≤ MOST_DIAMETER → eqb d 0 ≡ false → disc_at p d ≡ Ok (Some f) → IsDrawn f
 disc_drawn p d f even few some h = by (is_placed p) refl h
   where
     by : (b : Bool) → is_placed p ≡ b → cond b (Ok (Some (round (record { a = p; b = p; r = halved d })))) (Err OutOfRange) ≡ Ok (Some f) → IsDrawn f

@@ -32,6 +32,7 @@ use Rattle.macro_flatten.proofs.Bounding.{area-then}
 use Rattle.macro_flatten.proofs.PenPlaces.{IsPen, HasPen, found, have_pens, small_after}
 use Rattle.macro_flatten.proofs.Heading.{begun, Circled, circled}
 use Rattle.macro_flatten.proofs.LineWords.{IsTold, all_words}
+use Rattle.gerber_layer.specs.declared.TheConstants.{MOST_APERTURES}
 
 -- ---- The figures
 
@@ -63,14 +64,14 @@ ended-finish p figures h d =
 placed_all : (points : List Spot) → All IsPlaced points → AllByRecursion IsPlaced points
 placed_all points h = recursion_from_All IsPlaced points h
 
-number_fits : (pens : List ℕ) (r : ℕ) → length pens ≤ 65_536 → list_any (nat_eq r) pens ≡ true → number_of pens r ≤ 70_000
+number_fits : (pens : List ℕ) (r : ℕ) → length pens ≤ MOST_APERTURES → list_any (nat_eq r) pens ≡ true → number_of pens r ≤ 70_000
 number_fits pens r few h = let w = (found r pens h).within in omega (arith, w, few)
 
-figure_then : (p : Place) (pens : List ℕ) (last : Option ℕ) (figures : List Figure) (h : List Command) (f : Figure) → IsDrawn f → HasPen pens f → length pens ≤ 65_536 → length figures < p.room.pieces → sum_by figure_edges figures + figure_edges f ≤ p.room.edges → Drawing p pens last figures h → Drawing p pens (selected_after pens last f) (figures ++ f ∷ []) (behind h (figure_lines pens last f))
+figure_then : (p : Place) (pens : List ℕ) (last : Option ℕ) (figures : List Figure) (h : List Command) (f : Figure) → IsDrawn f → HasPen pens f → length pens ≤ MOST_APERTURES → length figures < p.room.pieces → sum_by figure_edges figures + figure_edges f ≤ p.room.edges → Drawing p pens last figures h → Drawing p pens (selected_after pens last f) (figures ++ f ∷ []) (behind h (figure_lines pens last f))
 figure_then p pens last figures h (round s) drawn known few room edges d = stroke-then p pens last figures h s drawn.0 drawn.1 drawn.2 known (number_fits pens (pen_of s) few known) room d
 figure_then p pens last figures h (filled points) drawn known few room edges d = area-then p pens last figures h points drawn (placed_all points drawn.placed) room edges d
 
-figures_then : (p : Place) (pens : List ℕ) (last : Option ℕ) (done : List Figure) (h : List Command) (figures : List Figure) → AllByRecursion IsDrawn figures → AllByRecursion (HasPen pens) figures → length pens ≤ 65_536 → length done + length figures ≤ p.room.pieces → sum_by figure_edges done + sum_by figure_edges figures ≤ p.room.edges → Drawing p pens last done h → Ended p (done ++ figures) (behind h (figures_lines pens last figures))
+figures_then : (p : Place) (pens : List ℕ) (last : Option ℕ) (done : List Figure) (h : List Command) (figures : List Figure) → AllByRecursion IsDrawn figures → AllByRecursion (HasPen pens) figures → length pens ≤ MOST_APERTURES → length done + length figures ≤ p.room.pieces → sum_by figure_edges done + sum_by figure_edges figures ≤ p.room.edges → Drawing p pens last done h → Ended p (done ++ figures) (behind h (figures_lines pens last figures))
 figures_then p pens last done h [] drawn known few room edges d = subst (λ (fs : List Figure). Ended p fs (told (word (codes "M02")) ∷ h)) (sym (append-nil done)) (as_read (Ended p done) h (word (codes "M02")) ends reads_end (ended-end p pens last done h d))
 figures_then p pens last done h (f ∷ figures) drawn known few room edges d =
     let first : sum_by figure_edges (f ∷ figures) ≡ figure_edges f + sum_by figure_edges figures = sum_by-cons figure_edges f figures in
@@ -92,7 +93,7 @@ headed p pens h c = record {
   are = ap (map figure_in) c.head.none;
 }
 
-all_then : (p : Place) (pens : List ℕ) (figures : List Figure) → AllByRecursion IsPen pens → AllByRecursion IsDrawn figures → AllByRecursion (HasPen pens) figures → length pens ≤ 65_536 → length figures ≤ p.room.pieces → sum_by figure_edges figures ≤ p.room.edges → Ended p figures (behind [] (lines_with pens figures))
+all_then : (p : Place) (pens : List ℕ) (figures : List Figure) → AllByRecursion IsPen pens → AllByRecursion IsDrawn figures → AllByRecursion (HasPen pens) figures → length pens ≤ MOST_APERTURES → length figures ≤ p.room.pieces → sum_by figure_edges figures ≤ p.room.edges → Ended p figures (behind [] (lines_with pens figures))
 all_then p pens figures small drawn known few room edges =
     let c = circled p 10 pens (counts_in Mm ∷ formats seven ∷ []) (begun p) (omega arith) (omega (arith, few)) small in
     let d = headed p pens (behind (counts_in Mm ∷ formats seven ∷ []) (circles 10 pens)) c in
@@ -146,7 +147,7 @@ lines_read one p figures lines are d =
     }
 
 -- what the lines want of the figures
-pub told_all : (pens : List ℕ) (figures : List Figure) → length pens ≤ 65_536 → AllByRecursion IsDrawn figures → AllByRecursion (HasPen pens) figures → AllByRecursion (IsTold pens) figures
+pub told_all : (pens : List ℕ) (figures : List Figure) → length pens ≤ MOST_APERTURES → AllByRecursion IsDrawn figures → AllByRecursion (HasPen pens) figures → AllByRecursion (IsTold pens) figures
 told_all pens [] few d k = tt
 told_all pens (round s ∷ figures) few d k = ((d.0.0, d.0.1, number_fits pens (pen_of s) few k.0), told_all pens figures few d.1 k.1)
 told_all pens (filled points ∷ figures) few d k = (placed_all points d.0.placed, told_all pens figures few d.1 k.1)

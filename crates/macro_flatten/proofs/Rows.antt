@@ -11,6 +11,7 @@ use Rattle.gerber_layer.specs.Table.{Known, Effect, Profile, ◌>>=◌, conclude
 use Rattle.gerber_layer.specs.MacroTable.{effect_with_macros, few_radii, gerber, row_with_macros}
 use Rattle.gerber_layer.proofs.Outcome.{Outcome, bind_ok, outcome, past_test}
 use Rattle.gerber_layer.proofs.MacroOutcome.{outcome_with_macros}
+use Rattle.gerber_layer.specs.declared.TheConstants.{MOST_APERTURES}
 
 -- the commands that make pieces or change the contour: both tables have one row for each
 abbrev pub IsShared : Command → Type 0
@@ -48,13 +49,13 @@ gerber_ok (Err why) x h = cc
 
 -- an end has few radii
 abbrev pub HasFewRadii : Effect → Type 0
-HasFewRadii (concludes pieces) = length (radii_of pieces) ≤ 65_536
+HasFewRadii (concludes pieces) = length (radii_of pieces) ≤ MOST_APERTURES
 HasFewRadii other = Unit {0}
 
 counted : (x e : Effect) → few_radii x ≡ Ok e → (x ≡ e) × HasFewRadii e
-counted (concludes pieces) e h = by (nat_lt 65536 (length (radii_of pieces))) refl h
+counted (concludes pieces) e h = by (nat_lt MOST_APERTURES (length (radii_of pieces))) refl h
   where
-    by : (b : Bool) → nat_lt 65536 (length (radii_of pieces)) ≡ b → cond b (Err TooManyRadii) (Ok (concludes pieces)) ≡ Ok e → (concludes pieces ≡ e) × HasFewRadii e
+    by : (b : Bool) → nat_lt MOST_APERTURES (length (radii_of pieces)) ≡ b → cond b (Err TooManyRadii) (Ok (concludes pieces)) ≡ Ok e → (concludes pieces ≡ e) × HasFewRadii e
     by true many h = cc
     by false few h = let same : concludes pieces ≡ e = cc in (same, subst HasFewRadii same (ltb-false _ _ few))
 counted other e h = let same : other ≡ e = cc in (same, subst HasFewRadii same tt)

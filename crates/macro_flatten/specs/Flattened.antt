@@ -4,6 +4,7 @@ use Rattle.board_shapes.specs.Pieces.{PlainPiece}
 use Rattle.gerber_layer.specs.MacroLayer.{IsReadWithMacros}
 use Rattle.macro_flatten.specs.FlatText.{figures_in, flat_text_of}
 use Rattle.macro_flatten.specs.Laws.{ReadsAs, flat_room}
+use Rattle.board_shapes.specs.declared.TheConstants.{MOST_LAYERS}
 
 -- the file has an image, and this is the text of its figures
 pub record IsFlattened (file text : List ℕ) : Type 0 where
@@ -15,4 +16,4 @@ pub record IsFlattened (file text : List ℕ) : Type 0 where
 pub record IsReadBack (file text : List ℕ) : Type 0 where
   pub pieces : List PlainPiece
   pub image : IsReadWithMacros file pieces
-  pub reads : (layer number : ℕ) → 1 ≤ layer → layer ≤ 32 → ReadsAs text (record { layer = layer; file = number; room = flat_room }) (figures_in pieces)
+  pub reads : (layer number : ℕ) → 1 ≤ layer → layer ≤ MOST_LAYERS → ReadsAs text (record { layer = layer; file = number; room = flat_room }) (figures_in pieces)

@@ -12,6 +12,9 @@ use Rattle.gerber_layer.specs.Table.{Place}
 use Rattle.gerber_layer.specs.Layer.{IsRead, IsRefused}
 use Rattle.gerber_layer.specs.MacroLayer.{IsReadWithMacros}
 use Rattle.macro_flatten.specs.FlatText.{figures_in, flat_text_of, pens_of}
+use Rattle.board_shapes.specs.declared.TheConstants.{MOST_LAYERS, MOST_PIECES}
+use Rattle.gerber_layer.specs.declared.TheConstants.{MOST_APERTURES, MOST_FLAT_EDGES}
+use Rattle.texts.specs.declared.TheConstants.{MOST_BYTES}
 
 -- ends within one metre, and a radius over 0 and of at most 25 mm; or the points of a contour
 abbrev pub IsDrawn : Figure → Type 0
@@ -20,14 +23,14 @@ IsDrawn (filled points) = IsContour points
 
 -- the most pieces and edges of a flattened file
 abbrev pub flat_room : Room
-flat_room = record { pieces = 200_000; edges = 1_000_000 }
+flat_room = record { pieces = MOST_PIECES; edges = MOST_FLAT_EDGES }
 
 -- the figures of an image that can be flattened
 pub record IsFlat (figures : List Figure) : Type 0 where
   pub drawn : AllByRecursion IsDrawn figures
-  pub few_pieces : length figures ≤ 200_000
-  pub few_edges : sum_by figure_edges figures ≤ 1_000_000
-  pub few_pens : length (pens_of figures) ≤ 65_536
+  pub few_pieces : length figures ≤ MOST_PIECES
+  pub few_edges : sum_by figure_edges figures ≤ MOST_FLAT_EDGES
+  pub few_pens : length (pens_of figures) ≤ MOST_APERTURES
 
 -- the file is read as pieces with these figures, in order, and has no refusal
 pub record ReadsAs (file : List ℕ) (p : Place) (figures : List Figure) : Type 0 where
@@ -38,11 +41,11 @@ pub record ReadsAs (file : List ℕ) (p : Place) (figures : List Figure) : Type 
 
 -- every layer reads a flattened text as pieces with exactly its figures
 abbrev pub FlatTextReads : Type 0
-FlatTextReads = (figures : List Figure) (layer file : ℕ) → 1 ≤ layer → layer ≤ 32 → IsFlat figures → ReadsAs (flat_text_of figures) (record { layer = layer; file = file; room = flat_room }) figures
+FlatTextReads = (figures : List Figure) (layer file : ℕ) → 1 ≤ layer → layer ≤ MOST_LAYERS → IsFlat figures → ReadsAs (flat_text_of figures) (record { layer = layer; file = file; room = flat_room }) figures
 
 -- the figures of a copper file that is read in this room can be flattened, where few pens draw them
 abbrev pub ImagesAreFlat : Type 0
-ImagesAreFlat = (file : List ℕ) (layer number : ℕ) (pieces : List PlainPiece) → IsRead file (record { layer = layer; file = number; room = flat_room }) pieces → length (pens_of (figures_in pieces)) ≤ 65_536 → IsFlat (figures_in pieces)
+ImagesAreFlat = (file : List ℕ) (layer number : ℕ) (pieces : List PlainPiece) → IsRead file (record { layer = layer; file = number; room = flat_room }) pieces → length (pens_of (figures_in pieces)) ≤ MOST_APERTURES → IsFlat (figures_in pieces)
 
 -- and those of a copper file that is read with macros always can: its end counts the pens
 abbrev pub MacroImagesAreFlat : Type 0
@@ -50,4 +53,4 @@ MacroImagesAreFlat = (file : List ℕ) (pieces : List PlainPiece) → IsReadWith
 
 -- a flattened text is no longer than a copper file may be
 abbrev pub FlatTextsAreShort : Type 0
-FlatTextsAreShort = (figures : List Figure) → IsFlat figures → length (flat_text_of figures) ≤ 67_108_864
+FlatTextsAreShort = (figures : List Figure) → IsFlat figures → length (flat_text_of figures) ≤ MOST_BYTES

@@ -8,16 +8,17 @@ use crate::laws::{flat_text_reads, flat_texts_are_short, macro_images_are_flat};
 use gerber_layer::{FlattenFault, read_flat};
 use lengths::NoMemory;
 use std::alloc::Global;
+use texts::MOST_BYTES;
 
 /// The text of the image of a copper file that may have aperture macros: a copper file without macros that every layer
-/// reads as exactly the same shapes, in order; it has at most 67,108,864 bytes. Its attributes are dropped.
+/// reads as exactly the same shapes, in order; it has at most `MOST_BYTES`. Its attributes are dropped.
 ///
-/// `Refused` is the file's first command with a fault; want of memory is `NoMemory`. The file has at most 67,108,864 bytes.
+/// `Refused` is the file's first command with a fault; want of memory is `NoMemory`. The file has at most `MOST_BYTES`.
 pub fn flatten(alloc: Global, file: &[u8]) -> Result<Vec<u8>, FlattenFault>
-    requires size { length file.now ≤ 67_108_864 }
+    requires size { length file.now ≤ MOST_BYTES }
     ensures text { IfOk result (λ text. IsFlattened file.now text.items) }
     ensures reads { IfOk result (λ text. IsReadBack file.now text.items) }
-    ensures short { IfOk result (λ text. length text.items ≤ 67_108_864) }
+    ensures short { IfOk result (λ text. length text.items ≤ MOST_BYTES) }
     ensures fault { IfErr result (IsMacroFault file.now) }
 {
     flat_text_reads();

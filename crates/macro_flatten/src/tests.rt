@@ -1,14 +1,15 @@
 // Copper files, and what they are flattened to.
 use super::*;
-use board_shapes::Room;
-use gerber_layer::read_layer;
+use board_shapes::{MOST_PIECES, Room};
+use gerber_layer::{MOST_FLAT_EDGES, read_layer};
 use std::alloc::Global;
 use std::test::Fail;
+use texts::MOST_BYTES;
 
 /// The room of every row.
 const ROOM: Room = Room {
-    pieces: 200_000,
-    edges: 1_000_000,
+    pieces: MOST_PIECES,
+    edges: MOST_FLAT_EDGES,
 };
 
 /// Copper files and their flattened texts.
@@ -39,7 +40,7 @@ const TEXTS: [(&str, &str); 5] = [
 
 // The flattened text of a copper file.
 fn flattened(alloc: Global, file: &[u8]) -> Result<Vec<u8>, Fail> {
-    if file.len() > 67_108_864 {
+    if file.len() > MOST_BYTES {
         return Err("the file is too long".into());
     }
     match read_layer(alloc, file, 1, 0, ROOM) {

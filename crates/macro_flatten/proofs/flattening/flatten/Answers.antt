@@ -4,6 +4,7 @@ use Rattle.gerber_layer.specs.MacroLayer.{IsReadWithMacros}
 use Rattle.macro_flatten.specs.FlatText.{figures_in}
 use Rattle.macro_flatten.specs.Laws.{IsFlat, ReadsAs, flat_room}
 use Rattle.macro_flatten.proofs.flattening.flatten.Goals as goal
+use Rattle.texts.specs.declared.TheConstants.{MOST_BYTES}
 
 pub returns-in-Ok-clause-reads : goal.returns-in-Ok-clause-reads
 returns-in-Ok-clause-reads c =
@@ -21,4 +22,4 @@ returns-in-Ok-clause-short c =
     let pieces : List PlainPiece = plain_pieces c.deref.result.now in
     let image : IsReadWithMacros c.args.file.now pieces = rw c.deref.ensures.value c.in_ok-pieces.ensures.ok in
     let flat : IsFlat (figures_in pieces) = c.macro_images_are_flat.ensures c.args.file.now pieces image in
-    subst (λ (text : List ℕ). length text ≤ 67_108_864) (sym c.in-Ok.ensures.text) (c.flat_texts_are_short.ensures (figures_in pieces) flat)
+    subst (λ (text : List ℕ). length text ≤ MOST_BYTES) (sym c.in-Ok.ensures.text) (c.flat_texts_are_short.ensures (figures_in pieces) flat)
