@@ -13,7 +13,7 @@ use crate::span::Span;
 use board_shapes::{Piece, Room};
 use file_reading::Halt;
 use std::alloc::Global;
-use texts::Lines;
+use texts::{Lines, MOST_BYTES};
 
 fn fault_at(halt: Halt<DrillKind>, line: u32, at: usize) -> DrillFault
     ensures { result ≡ fault_at halt line at }
@@ -49,7 +49,7 @@ fn finished(mut reader: Reader, at: usize) -> Result<Vec<Piece>, DrillFault>
 
 /// The barrels of a drill file: one for each hit, slot and straight rout, in the order of the
 /// lines, with half the tool's diameter as radius, on the layers of the span. The file has at most
-/// 67,108,864 bytes, `file_number` counts from 0, and `room.pieces` is how many pieces may come.
+/// `MOST_BYTES`, `file_number` counts from 0, and `room.pieces` is how many pieces may come.
 ///
 /// `Refused` gives the first line with a fault, its number from 1, the offset of its first byte,
 /// and the first condition that it breaks; a file without `M30` is refused at the next line number,
@@ -61,7 +61,7 @@ pub fn read_drill(
     file_number: u32,
     room: Room,
 ) -> Result<Vec<Piece>, DrillFault>
-    requires { length file.now ≤ 67108864 }
+    requires { length file.now ≤ MOST_BYTES }
     ensures ok { IfOk result (λ pieces. IsRead file.now (record { from = span.from; to = span.to; file = file_number; room = room.pieces }) (plain_pieces pieces.items)) }
     ensures few { IfOk result (λ pieces. length pieces.items ≤ room.pieces) }
     ensures layers { IfOk result (λ pieces. All (λ piece. (piece.top ≡ span.from) × (piece.bottom ≡ span.to)) pieces.items) }

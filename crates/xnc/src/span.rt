@@ -1,7 +1,8 @@
 //! The layers that a drill file joins.
 ghost use Rattle.std.specs.Prelude.{◌≤◌};
+ghost use Rattle.board_shapes.specs.declared.TheConstants.{MOST_LAYERS};
 
-/// The layers that each barrel of a drill file joins, 1 <= from <= to <= 32.
+/// The layers that each barrel of a drill file joins, 1 <= from <= to <= `MOST_LAYERS`.
 #[derive(Clone, Copy, Debug, PartialEq, Eq)]
 pub struct Span {
     /// The first layer, from 1.
@@ -10,5 +11,5 @@ pub struct Span {
     pub to: u8,
     pub ghost from_first: { 1 ≤ from },
     pub ghost ordered: { from ≤ to },
-    pub ghost to_last: { to ≤ 32 },
+    pub ghost to_last: { to ≤ MOST_LAYERS },
 }

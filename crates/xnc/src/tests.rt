@@ -4,10 +4,11 @@ use board_shapes::{Origin, Piece, Room, Shape};
 use planar::Spot;
 use std::alloc::Global;
 use std::test::Fail;
+use texts::MOST_BYTES;
 
 // Reads a file of layers 2 to 3 with the number 4, where two pieces may come.
 fn read(alloc: Global, file: &[u8]) -> Result<Vec<Piece>, DrillFault> {
-    if file.len() > 67_108_864 {
+    if file.len() > MOST_BYTES {
         return Err(DrillFault::NoMemory);
     }
     let room = Room {
