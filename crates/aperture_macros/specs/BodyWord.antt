@@ -1,12 +1,14 @@
 -- What a word in the body of a macro says (Gerber Layer Format Specification, 4.5.1).
-use Rattle.std.specs.Prelude.{ℕ, zero, suc, ◌+◌, ◌*◌, ◌/◌, ◌%◌, ◌-◌, ◌^◌, Bool, true, ◌&&◌, ◌||◌, not, ◌==◌, nat_le, if◌then◌else◌, List, codes, Option, Some, None, Result, Ok, Err}
+use Rattle.std.specs.Prelude.{ℕ, zero, suc, ◌+◌, ◌*◌, ◌/◌, ◌-◌, ◌^◌, Bool, true, false, ◌&&◌, ◌||◌, not, ◌==◌, nat_le, if◌then◌else◌, List, codes, Option, Some, None, Result, Ok, Err}
 use Rattle.std.specs.List.{after_first, before_first, count_by}
+use Rattle.std.specs.Option.{option_and_then}
 use Rattle.texts.specs.Words.{begins, is}
 use Rattle.lengths.specs.Decimal.{Fraction, is_decimal, fraction}
 use Rattle.aperture_macros.specs.declared.primitive.Form.{Form}
 use Rattle.aperture_macros.specs.declared.primitive.Form.TheVariants.{Circle, Outline, VectorLine, CentreLine}
 use Rattle.aperture_macros.specs.declared.primitive.Rotation.{Rotation}
 use Rattle.aperture_macros.specs.declared.primitive.Rotation.TheVariants.{Unturned, Quarter, Half, ThreeQuarters}
+use Rattle.aperture_macros.specs.declared.primitive.Row.{Row}
 use Rattle.aperture_macros.specs.declared.fault.MacroFault.{MacroFault}
 use Rattle.aperture_macros.specs.declared.fault.MacroFault.TheVariants.{BadMacro, ExposureOff, Turn}
 use Rattle.aperture_macros.specs.Expression.{is_expression}
@@ -43,19 +45,26 @@ part n word = before_first is_comma (past n word)
 abbrev pub is_number : Fraction → ℕ → Bool
 is_number d n = d.whole == n * 10 ^ d.places && (not d.negative || n == 0)
 
--- how many parts come before the lengths: the code and the exposure, and at an outline the number of its edges
-abbrev pub head : Form → ℕ
-head Circle = 2
-head (Outline n) = 3
-head VectorLine = 2
-head CentreLine = 2
+-- What stands in a body word, form by form: so many parts before the lengths (the code and the exposure, at an outline the
+-- number of its edges), then sizes (a diameter, a width, a height), then points, then the rotation, which a circle may lack.
+-- `1,e,d,x,y`, `1,e,d,x,y,r`, `4,e,n,` with n + 1 points and `r`, `20,e,w,x,y,x,y,r`, `21,e,w,h,x,y,r`.
+abbrev pub row : Form → Row
+row Circle = record { head = 2; sizes = 1; points = 1; needs_rotation = false }
+row (Outline n) = record { head = 3; sizes = 0; points = n + 1; needs_rotation = true }
+row VectorLine = record { head = 2; sizes = 1; points = 2; needs_rotation = true }
+row CentreLine = record { head = 2; sizes = 2; points = 1; needs_rotation = true }
 
--- how many lengths there are: `d,x,y`, or n + 1 points, or `w,x,y,x,y`, or `w,h,x,y`
+-- how many lengths there are
 abbrev pub count : Form → ℕ
-count Circle = 3
-count (Outline n) = 2 * (n + 1)
-count VectorLine = 5
-count CentreLine = 4
+count form = (row form).sizes + 2 * (row form).points
+
+-- a word with n commas ends with its rotation
+abbrev pub has_rotation : Form → ℕ → Bool
+has_rotation form n = n == (row form).head + count form
+
+-- a word with n commas has the parts of the form
+abbrev pub fits : Form → ℕ → Bool
+fits form n = has_rotation form n || (not (row form).needs_rotation && has_rotation form (n + 1))
 
 -- an outline of n edges, where n is from 3 to 5,000 and part 2 says so
 unfoldable pub outline_of : List ℕ → ℕ → Option Form
@@ -64,27 +73,22 @@ outline_of word n =
     else (if not (is_decimal (part 2 word)) then None
     else (if is_number (fraction (part 2 word)) n then Some (Outline n) else None))
 
--- What a word with n commas is by its code: `1,e,d,x,y`, `1,e,d,x,y,r`, `4,e,n,` with n + 1 points and `r`,
--- `20,e,w,x,y,x,y,r`, or `21,e,w,h,x,y,r`.
-unfoldable pub form_at : List ℕ → ℕ → Option Form
-form_at word n =
-    if is (part 0 word) (codes "1") then (if n == 4 || n == 5 then Some Circle else None)
-    else (if is (part 0 word) (codes "4") then (if n % 2 == 1 then outline_of word ((n - 5) / 2) else None)
-    else (if is (part 0 word) (codes "20") then (if n == 7 then Some VectorLine else None)
-    else (if is (part 0 word) (codes "21") then (if n == 6 then Some CentreLine else None)
-    else None)))
+-- what a word with n commas is by its code; its points say how many edges an outline has
+unfoldable pub form_of : List ℕ → ℕ → Option Form
+form_of word n =
+    if is (part 0 word) (codes "1") then Some Circle
+    else (if is (part 0 word) (codes "4") then outline_of word ((n - 5) / 2)
+    else (if is (part 0 word) (codes "20") then Some VectorLine
+    else (if is (part 0 word) (codes "21") then Some CentreLine else None)))
+
+-- that form, where a word with n commas has its parts
+abbrev pub form_at : List ℕ → ℕ → Option Form
+form_at word n = option_and_then (λ form. if fits form n then Some form else None) (form_of word n)
 
 -- the first n parts of a text are expressions
 unfoldable pub are_expressions : ℕ → List ℕ → Bool
 are_expressions zero text = true
 are_expressions (suc n) text = is_expression (before_first is_comma text) && are_expressions n (after_first is_comma text)
-
--- whether the primitive's last part is its rotation: only a circle may have none
-abbrev pub has_rotation : Form → ℕ → Bool
-has_rotation Circle n = n == 5
-has_rotation (Outline edges) n = true
-has_rotation VectorLine n = true
-has_rotation CentreLine n = true
 
 -- the rotation behind the lengths, 0 where there is none
 abbrev pub rotation_text : Form → ℕ → List ℕ → List ℕ
@@ -112,7 +116,7 @@ turned_at form exposure lengths rotation =
 unfoldable pub form_in : Form → ℕ → List ℕ → Result PlainPrimitive MacroFault
 form_in form n word =
     if not (is_decimal (part 1 word)) then Err BadMacro
-    else turned_at form (fraction (part 1 word)) (past (head form) word) (rotation_text form n (past (head form) word))
+    else turned_at form (fraction (part 1 word)) (past (row form).head word) (rotation_text form n (past (row form).head word))
 
 -- a word whose code and commas give no form is no primitive
 abbrev pub some_form : Option Form → ℕ → List ℕ → Result (Option PlainPrimitive) MacroFault

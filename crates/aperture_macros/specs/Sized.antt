@@ -1,5 +1,5 @@
 -- How many edges an outline has.
-use Rattle.std.specs.Prelude.{ℕ, ◌≤◌, Option, Some, None}
+use Rattle.std.specs.Prelude.{ℕ, ◌≤◌}
 use Rattle.aperture_macros.specs.declared.primitive.Form.{Form}
 use Rattle.aperture_macros.specs.declared.primitive.Form.TheVariants.{Circle, Outline, VectorLine, CentreLine}
 
@@ -13,8 +13,3 @@ outline_edges CentreLine = 3
 -- an outline has from 3 to 5,000 edges
 abbrev pub IsSized : Form → Type 0
 IsSized form = (3 ≤ outline_edges form) × (outline_edges form ≤ 5000)
-
--- where there is a form
-abbrev pub IsSizedIf : Option Form → Type 0
-IsSizedIf None = Unit {0}
-IsSizedIf (Some form) = IsSized form

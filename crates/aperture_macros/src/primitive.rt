@@ -1,6 +1,7 @@
 //! Primitives.
-ghost use Rattle.std.specs.Prelude.{◌≤◌};
-ghost use Rattle.aperture_macros.specs.Sized.{outline_edges};
+ghost use Rattle.std.specs.Prelude.{◌≡◌, ◌≤◌, ◌+◌, ◌*◌};
+ghost use Rattle.aperture_macros.specs.BodyWord.{row};
+ghost use Rattle.aperture_macros.specs.Sized.{IsSized, outline_edges};
 
 /// What a primitive is, by its code: 1, 4, 20 or 21. An outline has so many edges, from 3 to 5,000.
 #[derive(Clone, Copy, Debug, PartialEq, Eq)]
@@ -9,6 +10,46 @@ pub enum Form {
     Outline(u32),
     VectorLine,
     CentreLine,
+}
+
+/// What stands in a primitive's word: so many parts before its lengths, then sizes, then points, then the
+/// rotation, which some may lack.
+#[derive(Clone, Copy)]
+pub struct Row {
+    pub head: u8,
+    pub sizes: u8,
+    pub points: u16,
+    pub needs_rotation: bool,
+}
+
+impl Row {
+    /// How many lengths there are.
+    pub fn count(&self) -> u32
+        ensures { result ≡ self.now.sizes + 2 * self.now.points }
+    {
+        self.sizes as u32 + 2 * self.points as u32
+    }
+}
+
+impl Form {
+    /// The facts of the form.
+    pub fn row(self) -> Row
+        requires { IsSized self }
+        ensures { result ≡ row self }
+    {
+        let (head, sizes, points, needs_rotation) = match self {
+            Form::Circle => (2, 1, 1, false),
+            Form::Outline(n) => (3, 0, n as u16 + 1, true),
+            Form::VectorLine => (2, 1, 2, true),
+            Form::CentreLine => (2, 2, 1, true),
+        };
+        Row {
+            head,
+            sizes,
+            points,
+            needs_rotation,
+        }
+    }
 }
 
 /// How far a primitive is turned about the origin of its macro, counterclockwise.

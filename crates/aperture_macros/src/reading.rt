@@ -1,9 +1,9 @@
 //! How a body word is read.
-ghost use Rattle.std.specs.Prelude.{◌≡◌, Some, None, if◌then◌else◌};
+ghost use Rattle.std.specs.Prelude.{◌≡◌, IfSome};
 ghost use Rattle.lengths.specs.Decimal.{fraction};
 ghost use Rattle.aperture_macros.specs.BodyWord as spec;
 ghost use Rattle.aperture_macros.specs.Seen.{seen_body, seen_one};
-ghost use Rattle.aperture_macros.specs.Sized.{IsSized, IsSizedIf};
+ghost use Rattle.aperture_macros.specs.Sized.{IsSized};
 
 use crate::expression::is_expression;
 use crate::fault::MacroFault;
@@ -67,101 +67,56 @@ fn is_number(decimal: &Decimal, n: u32) -> bool
 }
 
 // What a word with so many commas is.
-#[tactic(auto, unfolding(crate::specs::BodyWord::form_at))]
 fn form_at(word: &[u8], commas: usize) -> Option<Form>
     ensures value { result ≡ spec.form_at word.now commas }
-    ensures sized { IsSizedIf result }
+    ensures sized { IfSome result IsSized }
+{
+    let form = form_of(word, commas)?;
+    let row = form.row();
+    let whole = (row.head as u32 + row.count()) as usize;
+    if commas == whole || !row.needs_rotation && commas < whole && whole - commas == 1 {
+        Some(form)
+    } else {
+        None
+    }
+}
+
+// What it is by its code.
+#[tactic(auto, unfolding(crate::specs::BodyWord::form_of))]
+fn form_of(word: &[u8], commas: usize) -> Option<Form>
+    ensures value { result ≡ spec.form_of word.now commas }
+    ensures sized { IfSome result IsSized }
 {
     let code = part(0, word);
     if is(code, b"1") {
-        return given(commas == 4 || commas == 5, Form::Circle);
+        return Some(Form::Circle);
     }
     if is(code, b"4") {
-        return if commas % 2 == 1 {
-            outline(word, commas.saturating_sub(5) / 2)
-        } else {
-            None
-        };
+        return outline(word, commas.saturating_sub(5) / 2);
     }
     if is(code, b"20") {
-        return given(commas == 7, Form::VectorLine);
+        return Some(Form::VectorLine);
     }
     if is(code, b"21") {
-        return given(commas == 6, Form::CentreLine);
+        return Some(Form::CentreLine);
     }
     None
-}
-
-fn given(holds: bool, form: Form) -> Option<Form>
-    requires { IsSized form }
-    ensures value { result ≡ (if holds then Some form else None) }
-    ensures sized { IsSizedIf result }
-{
-    if holds { Some(form) } else { None }
 }
 
 // An outline of n edges, where part 2 says so.
 #[tactic(auto, unfolding(crate::specs::BodyWord::outline_of))]
 fn outline(word: &[u8], n: usize) -> Option<Form>
     ensures value { result ≡ spec.outline_of word.now n }
-    ensures sized { IsSizedIf result }
+    ensures sized { IfSome result IsSized }
 {
     if n < 3 || n > 5000 {
         return None;
     }
-    let n = n as u32;
-    match read_decimal(part(2, word)) {
-        None => None,
-        Some(decimal) => given(is_number(&decimal, n), Form::Outline(n)),
-    }
-}
-
-// How many parts come before the lengths.
-fn head(form: Form) -> u32
-    ensures { result ≡ spec.head form }
-{
-    match form {
-        Form::Circle => 2,
-        Form::Outline(_) => 3,
-        Form::VectorLine => 2,
-        Form::CentreLine => 2,
-    }
-}
-
-// How many lengths there are.
-fn count(form: Form) -> u32
-    requires { IsSized form }
-    ensures { result ≡ spec.count form }
-{
-    match form {
-        Form::Circle => 3,
-        Form::Outline(n) => 2 * (n + 1),
-        Form::VectorLine => 5,
-        Form::CentreLine => 4,
-    }
-}
-
-// Whether the last part is the rotation.
-fn has_rotation(form: Form, commas: usize) -> bool
-    ensures { result ≡ spec.has_rotation form commas }
-{
-    match form {
-        Form::Circle => commas == 5,
-        Form::Outline(_) => true,
-        Form::VectorLine => true,
-        Form::CentreLine => true,
-    }
-}
-
-// The rotation behind the lengths.
-fn rotation_text(form: Form, commas: usize, lengths: &[u8]) -> &[u8]
-    requires { IsSized form }
-    ensures { result.now ≡ spec.rotation_text form commas lengths.now }
-{
-    if has_rotation(form, commas) {
-        part(count(form), lengths)
+    let decimal = read_decimal(part(2, word))?;
+    if is_number(&decimal, n as u32) {
+        Some(Form::Outline(n as u32))
     } else {
-        b"0"
+        None
     }
 }
 
@@ -173,13 +128,14 @@ fn form_in(form: Form, commas: usize, word: &[u8]) -> Result<Primitive<'_>, Macr
     let Some(exposure) = read_decimal(part(1, word)) else {
         return Err(MacroFault::BadMacro);
     };
-    let lengths = past(head(form), word);
-    turned(
-        form,
-        &exposure,
-        lengths,
-        rotation_text(form, commas, lengths),
-    )
+    let row = form.row();
+    let lengths = past(row.head as u32, word);
+    let rotation = if commas == (row.head as u32 + row.count()) as usize {
+        part(row.count(), lengths)
+    } else {
+        b"0"
+    };
+    turned(form, &exposure, lengths, rotation)
 }
 
 #[tactic(auto, unfolding(crate::specs::BodyWord::turned_at))]
@@ -192,7 +148,7 @@ fn turned<'a>(
     requires { IsSized form }
     ensures { seen_one result ≡ spec.turned_at form exposure.now lengths.now rotation.now }
 {
-    if !are_expressions(count(form), lengths) {
+    if !are_expressions(form.row().count(), lengths) {
         return Err(MacroFault::BadMacro);
     }
     let Some(degrees) = read_decimal(rotation) else {

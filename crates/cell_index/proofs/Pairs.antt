@@ -95,7 +95,7 @@ ticks_of box items p q a b old new here there other one apart away = by_test (is
   by_test false e = let same : new ≡ old = quiet e in omega arith
 
 -- One item more was tested.
-pub rivals_step : (box : ℕ → Bounds) (top bottom : ℕ → ℕ) (p q start old new : ℕ) → old ≤ start + rivals_of q box top bottom p → new ≤ old + (if is_rival box top bottom p q then 1 else 0) → new ≤ start + rivals_of (q + 1) box top bottom p
+rivals_step : (box : ℕ → Bounds) (top bottom : ℕ → ℕ) (p q start old new : ℕ) → old ≤ start + rivals_of q box top bottom p → new ≤ old + (if is_rival box top bottom p q then 1 else 0) → new ≤ start + rivals_of (q + 1) box top bottom p
 rivals_step box top bottom p q start old new before step = rw add-one (omega arith)
 
 sum_rises : (w : ℕ → ℕ) (m n : ℕ) → sum_below w m ≤ sum_below w (m + n)

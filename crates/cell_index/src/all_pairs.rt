@@ -5,7 +5,7 @@ ghost use Rattle.planar.specs.declared.Spot.{Spot};
 ghost use Rattle.std.specs.Prelude.{◌≡◌, ◌<◌, ◌^◌, All, length};
 
 use crate::field::Field;
-use crate::pieces::{is_near, is_under};
+use crate::pieces::{is_under, keep_near};
 use board_shapes::Placed;
 use contact::{Closed, Meets};
 use lengths::NoMemory;
@@ -63,10 +63,9 @@ impl<'a, S: Meets<S>> Field for AllPairs<'a, S> {
     ) -> Result<(), NoMemory> {
         into.clear();
         for q in 0..self.items.len() {
-            if is_near(self.items, self.frame, i, q, tests) {
-                into.push(q as u32)?;
-            }
+            into.push(q as u32)?;
         }
+        keep_near(self.items, self.frame, i, into, tests);
         Ok(())
     }
 

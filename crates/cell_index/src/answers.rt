@@ -1,6 +1,6 @@
 //! What a field of cells answers.
 ghost use Rattle.cell_index.specs.Among.{TouchAmong, UnderAmong, bottom_in, extent_in, top_in, turned};
-ghost use Rattle.cell_index.specs.Field.{IsNear, is_rival, rivals_of};
+ghost use Rattle.cell_index.specs.Field.{IsNear, is_rival};
 ghost use Rattle.cell_index.specs.Finding.{IsLesser};
 ghost use Rattle.cell_index.specs.Stretched.{spot_over};
 ghost use Rattle.contact.specs.Solid.{IsInside};
@@ -8,11 +8,11 @@ ghost use Rattle.planar.specs.Plane.{IsPlaced};
 ghost use Rattle.planar.specs.declared.Spot.{Spot};
 ghost use Rattle.std.specs.List.Sorted.{IsStrictlyIncreasing};
 ghost use Rattle.std.specs.Prelude.{◌≡◌, ℕ, ◌+◌, ◌<◌, ◌≤◌, ◌^◌, ◌↔◌, if◌then◌else◌, IsTrue, All, Contains, IfSome, OnOk, length};
-ghost use Rattle.tables.specs.Lists.{IsLeast, Lists};
+ghost use Rattle.tables.specs.Lists.{IsLeast};
 
 use crate::cells::Cells;
 use crate::field::Field;
-use crate::pieces::{is_near, is_under};
+use crate::pieces::{is_near, is_under, keep_near};
 use crate::wanted::{Every, Wanted};
 use board_shapes::Placed;
 use contact::{Closed, Meets};
@@ -48,25 +48,6 @@ impl<'a, S: Meets<S>> Cells<'a, S> {
         ensures ticks { tests.new ≤ tests.old + (if is_rival (extent_in S.extent self.now.items.now) (top_in self.now.items.now) (bottom_in self.now.items.now) p q then 1 else 0) }
     {
         is_near(self.items, self.frame, p, q, tests)
-    }
-
-    // Of the pieces in the list keeps those that touch piece i.
-    fn keep_near<L: Ledger>(&self, i: usize, into: &mut Vec<u32>, tests: &mut Steps<L>)
-        requires piece { i < length self.now.items.now }
-        requires known { All (λ q. q < length self.now.items.now) into.old.items }
-        requires rising { IsStrictlyIncreasing into.old.items }
-        ensures near { Lists (λ q. IsNear (length self.now.items.now) (TouchAmong S.holds self.now.items.now) i q × Contains into.old.items q) into.new.items }
-        ensures ticks { tests.new ≤ tests.old + rivals_of (length self.now.items.now) (extent_in S.extent self.now.items.now) (top_in self.now.items.now) (bottom_in self.now.items.now) i }
-    {
-        let mut kept = 0;
-        for k in 0..into.len() {
-            let q = into[k];
-            if is_near(self.items, self.frame, i, q as usize, tests) {
-                into[kept] = q;
-                kept += 1;
-            }
-        }
-        into.truncate(kept);
     }
 
     // Whether piece p is under the spot, which is stretched to this place. Its copy is looked at first.
@@ -142,7 +123,7 @@ impl<'a, S: Meets<S>> Field for Cells<'a, S> {
         tests: &mut Steps<L>,
     ) -> Result<(), NoMemory> {
         self.candidates(i, &Every, into)?;
-        self.keep_near(i, into, tests);
+        keep_near(self.items, self.frame, i, into, tests);
         Ok(())
     }
 

@@ -1,10 +1,11 @@
 -- What the primitives of a macro flash can be drawn.
-use Rattle.std.proofs.Common.{◌≡◌, ℕ, ◌+◌, ◌-◌, ◌/◌, ◌%◌, ◌≤◌, Bool, true, false, not, ◌&&◌, ◌||◌, cond, eqb, nat_le, nat_lt, List, [], length, map, ℤ, pos, Option, Some, None, Result, Ok, Err, refl, sym, ap, ◌∙◌, subst, arith}
+use Rattle.std.proofs.Common.{◌≡◌, ℕ, ◌+◌, ◌-◌, ◌/◌, ◌%◌, ◌≤◌, Bool, true, false, not, ◌&&◌, cond, eqb, nat_le, nat_lt, List, [], length, map, ℤ, pos, Option, Some, None, Result, Ok, Err, refl, sym, ap, ◌∙◌, subst, arith}
 use Rattle.std.proofs.lemmas.Bool.{eqb-true, leb-true, ltb-false}
 use Rattle.std.proofs.lemmas.List.Elements.{All-from_recursion}
 use Rattle.std.specs.List.{list_all}
 use Rattle.std.specs.Ordering.{int_eq}
-use Rattle.std.specs.Prelude.{codes, unsigned_abs, int_lt}
+use Rattle.std.specs.Option.{option_and_then}
+use Rattle.std.specs.Prelude.{IfSome, codes, unsigned_abs, int_lt}
 use Rattle.planar.specs.Plane.{IsPlaced, is_placed}
 use Rattle.planar.specs.declared.Spot.{Spot}
 use Rattle.area_contact.specs.Contour.{IsClosed}
@@ -20,10 +21,10 @@ use Rattle.aperture_macros.specs.declared.images.Sketch.TheVariants.{Disc, Recta
 use Rattle.aperture_macros.specs.declared.primitive.Form.{Form}
 use Rattle.aperture_macros.specs.declared.primitive.Form.TheVariants.{Circle, Outline, VectorLine, CentreLine}
 use Rattle.aperture_macros.specs.declared.primitive.Rotation.{Rotation}
-use Rattle.aperture_macros.specs.BodyWord.{PlainPrimitive, ◌>>=◌, are_expressions, commas, count, form_at, form_in, head, is_number, outline_of, part, past, primitive_at, rotation_of, rotation_text, some_form, turned_at}
+use Rattle.aperture_macros.specs.BodyWord.{PlainPrimitive, ◌>>=◌, are_expressions, commas, count, fits, form_at, form_in, form_of, is_number, outline_of, part, past, primitive_at, rotation_of, rotation_text, row, some_form, turned_at}
 use Rattle.aperture_macros.specs.Images.{area_at, circle_at, centre_at, centred, disc_at, figure_at, figure_by, line_at, outline_at, set_down, sketch_at, sketched, outlined, strip}
 use Rattle.aperture_macros.specs.Outlines.{closing_at, moved_from}
-use Rattle.aperture_macros.specs.Sized.{IsSized, IsSizedIf}
+use Rattle.aperture_macros.specs.Sized.{IsSized}
 use Rattle.aperture_macros.specs.Values.{as_size, coordinate_at, diameter_at, point_at, size_at}
 use Rattle.aperture_macros.proofs.Closings.{closing_is, outline_refused, outlined_by}
 use Rattle.macro_flatten.specs.Laws.{IsDrawn}
@@ -42,37 +43,35 @@ passed false e r y h = (refl, h)
 
 -- ---- Forms
 
-either_sized : (b : Bool) (o p : Option Form) → IsSizedIf o → IsSizedIf p → IsSizedIf (cond b o p)
+either_sized : (b : Bool) (o p : Option Form) → IfSome o IsSized → IfSome p IsSized → IfSome (cond b o p) IsSized
 either_sized true o p h k = h
 either_sized false o p h k = k
 
-outline_sized : (word : List ℕ) (n : ℕ) → IsSizedIf (outline_of word n)
+outline_sized : (word : List ℕ) (n : ℕ) → IfSome (outline_of word n) IsSized
 unfolding outline_of
 outline_sized word n = by (nat_le 3 n) (nat_le n 5000) refl refl
   where
-    by : (a b : Bool) → nat_le 3 n ≡ a → nat_le n 5000 ≡ b → IsSizedIf (cond (not (a && b)) None (cond (not (is_decimal (part 2 word))) None (cond (is_number (fraction (part 2 word)) n) (Some (Outline n)) None)))
+    by : (a b : Bool) → nat_le 3 n ≡ a → nat_le n 5000 ≡ b → IfSome (cond (not (a && b)) None (cond (not (is_decimal (part 2 word))) None (cond (is_number (fraction (part 2 word)) n) (Some (Outline n)) None))) IsSized
     by false b low high = tt
     by true false low high = tt
     by true true low high = either_sized (not (is_decimal (part 2 word))) None (cond (is_number (fraction (part 2 word)) n) (Some (Outline n)) None) tt (either_sized (is_number (fraction (part 2 word)) n) (Some (Outline n)) None (leb-true _ _ low, leb-true _ _ high) tt)
 
--- a test that one code alone passes, and then what is more
-coded_sized : (a b : Bool) (o p : Option Form) → IsSizedIf o → IsSizedIf p → IsSizedIf (cond a (cond b o None) p)
-coded_sized true true o p h k = h
-coded_sized true false o p h k = tt
-coded_sized false b o p h k = k
+fitting_sized : (n : ℕ) (o : Option Form) → IfSome o IsSized → IfSome (option_and_then (λ form. cond (fits form n) (Some form) None) o) IsSized
+fitting_sized n None h = tt
+fitting_sized n (Some form) h = either_sized (fits form n) (Some form) None h tt
 
-form_sized : (word : List ℕ) (n : ℕ) → IsSizedIf (form_at word n)
-unfolding form_at
+form_sized : (word : List ℕ) (n : ℕ) → IfSome (form_of word n) IsSized
+unfolding form_of
 form_sized word n =
     let code = λ (text : List ℕ). is (part 0 word) text in
     let edges = outline_of word ((n - 5) / 2) in
-    let centre : Option Form = cond (code (codes "21")) (cond (eqb n 6) (Some CentreLine) None) None in
-    let vector : Option Form = cond (code (codes "20")) (cond (eqb n 7) (Some VectorLine) None) centre in
-    let outline : Option Form = cond (code (codes "4")) (cond (eqb (n % 2) 1) edges None) vector in
-    let fourth = coded_sized (code (codes "21")) (eqb n 6) (Some CentreLine) None (omega arith, omega arith) tt in
-    let third = coded_sized (code (codes "20")) (eqb n 7) (Some VectorLine) centre (omega arith, omega arith) fourth in
-    let second = coded_sized (code (codes "4")) (eqb (n % 2) 1) edges vector (outline_sized word ((n - 5) / 2)) third in
-    coded_sized (code (codes "1")) (eqb n 4 || eqb n 5) (Some Circle) outline (omega arith, omega arith) second
+    let centre : Option Form = cond (code (codes "21")) (Some CentreLine) None in
+    let vector : Option Form = cond (code (codes "20")) (Some VectorLine) centre in
+    let outline : Option Form = cond (code (codes "4")) edges vector in
+    let fourth = either_sized (code (codes "21")) (Some CentreLine) None (omega arith, omega arith) tt in
+    let third = either_sized (code (codes "20")) (Some VectorLine) centre (omega arith, omega arith) fourth in
+    let second = either_sized (code (codes "4")) edges vector (outline_sized word ((n - 5) / 2)) third in
+    either_sized (code (codes "1")) (Some Circle) outline (omega arith, omega arith) second
 
 turned_form : (form : Form) (exposure : Fraction) (lengths rotation : List ℕ) (p : PlainPrimitive) → turned_at form exposure lengths rotation ≡ Ok p → p.form ≡ form
 unfolding turned_at
@@ -89,14 +88,14 @@ form_kept : (form : Form) (n : ℕ) (word : List ℕ) (p : PlainPrimitive) → f
 unfolding form_in
 form_kept form n word p h =
     let a = passed (not (is_decimal (part 1 word))) BadMacro _ p h in
-    turned_form form (fraction (part 1 word)) (past (head form) word) (rotation_text form n (past (head form) word)) p a.1
+    turned_form form (fraction (part 1 word)) (past (row form).head word) (rotation_text form n (past (row form).head word)) p a.1
 
 -- a primitive that is read has a form of lawful size
 pub read_sized : (word : List ℕ) (p : PlainPrimitive) → primitive_at word ≡ Ok (Some p) → IsSized p.form
 unfolding primitive_at
-read_sized word p h = by (begins word (codes "0")) (form_at word (commas word)) (form_sized word (commas word)) h
+read_sized word p h = by (begins word (codes "0")) (form_at word (commas word)) (fitting_sized (commas word) (form_of word (commas word)) (form_sized word (commas word))) h
   where
-    by : (b : Bool) (o : Option Form) → IsSizedIf o → cond b (Ok None) (some_form o (commas word) word) ≡ Ok (Some p) → IsSized p.form
+    by : (b : Bool) (o : Option Form) → IfSome o IsSized → cond b (Ok None) (some_form o (commas word) word) ≡ Ok (Some p) → IsSized p.form
     by true o s h = cc
     by false None s h = cc
     by false (Some form) s h =
