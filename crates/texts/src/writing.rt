@@ -32,8 +32,7 @@ pub fn put_signed(text: &mut Vec<u8>, z: i64) -> Result<(), AllocError>
 pub fn put_blank_number(text: &mut Vec<u8>, n: u64) -> Result<(), AllocError>
     ensures { OnOk result (text.new.items ≡ text.old.items ++ (32 ∷ decimal n)) }
 {
-    put(text, b" ")?;
-    put_number(text, n)
+    put(text, Numeral::behind(b' ', n).as_bytes())
 }
 
 /// Puts so many digits of a number, its last ones.
