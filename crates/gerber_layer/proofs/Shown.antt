@@ -1,5 +1,6 @@
 -- Where an effect leads, before and after it is carried out.
 use Rattle.std.proofs.Common.{◌≡◌, [], Some, Result, Ok, sym, ap}
+use Rattle.board_shapes.specs.declared.shape.Shape.TheVariants.{Round}
 use Rattle.board_shapes.specs.Figures.{figure_of}
 use Rattle.aperture_macros.specs.Seen.{plain}
 use Rattle.gerber_layer.specs.declared.kind.GerberKind.{GerberKind}
@@ -19,7 +20,7 @@ heads_shown k (seen.Makes n tool) e h = same_heads e (makes n (tool_of tool)) h
 heads_shown k (seen.Begins name) e h = same_heads e (begins_macro name.now) h
 heads_shown k (seen.Fills primitive) e h = same_heads e (fills_macro (plain primitive)) h
 heads_shown k (seen.Moves to) e h = same_heads e (performs to []) h
-heads_shown k (seen.Draws to shape) e h = let g = then_goes (room_for k (Some (figure_of shape))) to e h in ap heads g.is
+heads_shown k (seen.Draws to stroke) e h = let g = then_goes (room_for k (Some (figure_of (Round stroke)))) to e h in ap heads g.is
 heads_shown k (seen.Flashes to) e h = let g = flash_goes k to e h in ap heads g.is
 heads_shown k (seen.Extends to) e h = ap heads (extend_is k to e h)
 heads_shown k (seen.Closes to) e h = let g = close_is k to e h in ap heads g.1
@@ -38,7 +39,7 @@ opened_shown k (seen.Makes n tool) e h = same_opened e (makes n (tool_of tool)) 
 opened_shown k (seen.Begins name) e h = same_opened e (begins_macro name.now) h
 opened_shown k (seen.Fills primitive) e h = same_opened e (fills_macro (plain primitive)) h
 opened_shown k (seen.Moves to) e h = same_opened e (performs to []) h
-opened_shown k (seen.Draws to shape) e h = let g = then_goes (room_for k (Some (figure_of shape))) to e h in ap opened g.is
+opened_shown k (seen.Draws to stroke) e h = let g = then_goes (room_for k (Some (figure_of (Round stroke)))) to e h in ap opened g.is
 opened_shown k (seen.Flashes to) e h = let g = flash_goes k to e h in ap opened g.is
 opened_shown k (seen.Extends to) e h = ap opened (extend_is k to e h)
 opened_shown k (seen.Closes to) e h = let g = close_is k to e h in ap opened g.1

@@ -7,6 +7,7 @@ use Rattle.gerber_layer.specs.declared.kind.GerberKind.{GerberKind}
 use Rattle.gerber_layer.specs.declared.macro_kind.FlattenKind.{FlattenKind}
 use Rattle.gerber_layer.specs.declared.reader.Reader.{Reader}
 use Rattle.aperture_macros.specs.Seen.{plain}
+use Rattle.board_shapes.specs.declared.shape.Shape.TheVariants.{Round}
 use Rattle.board_shapes.specs.Figures.{figure_of}
 use Rattle.gerber_layer.specs.declared.effect.Effect.{Effect as Seen}
 use Rattle.gerber_layer.specs.declared.effect.Effect.TheVariants as seen
@@ -38,7 +39,7 @@ few_before_end k (seen.Makes n tool) e b h = same_few e (makes n (tool_of tool))
 few_before_end k (seen.Begins name) e b h = same_few e (begins_macro name.now) h refl
 few_before_end k (seen.Fills primitive) e b h = same_few e (fills_macro (plain primitive)) h refl
 few_before_end k (seen.Moves to) e b h = same_few e (performs to []) h refl
-few_before_end k (seen.Draws to shape) e b h = let g = then_goes (room_for k (Some (figure_of shape))) to e h in few_is e (performs to g.figures) g.is refl
+few_before_end k (seen.Draws to stroke) e b h = let g = then_goes (room_for k (Some (figure_of (Round stroke)))) to e h in few_is e (performs to g.figures) g.is refl
 few_before_end k (seen.Flashes to) e b h = let g = flash_goes k to e h in few_is e (performs to g.figures) g.is refl
 few_before_end k (seen.Extends to) e b h = few_is e (extends to) (extend_is k to e h) refl
 few_before_end k (seen.Closes to) e b h = let g = close_is k to e h in few_is e (closes to g.0) g.1 refl

@@ -4,6 +4,7 @@ use Rattle.std.specs.HashMap.{get, get_by, hash_map_len}
 use Rattle.texts.specs.Words.{is}
 use Rattle.planar.specs.declared.Spot.{Spot}
 use Rattle.planar.specs.Plane.{IsPlaced}
+use Rattle.board_shapes.specs.declared.shape.Shape.TheVariants.{Round}
 use Rattle.board_shapes.specs.Figures.{Figure, figure_of}
 use Rattle.board_shapes.specs.Pieces.{PlainPiece, plain_pieces}
 use Rattle.board_shapes.specs.declared.placed.Origin.{Origin}
@@ -154,7 +155,7 @@ shown k (seen.Makes n tool) = Ok (makes n (tool_of tool))
 shown k (seen.Begins name) = Ok (begins_macro name.now)
 shown k (seen.Fills primitive) = Ok (fills_macro (plain primitive))
 shown k (seen.Moves to) = Ok (performs to [])
-shown k (seen.Draws to shape) = room_for k (Some (figure_of shape)) >>= λ figure. Ok (performs to (listed figure))
+shown k (seen.Draws to stroke) = room_for k (Some (figure_of (Round stroke))) >>= λ figure. Ok (performs to (listed figure))
 shown k (seen.Flashes to) = flash k to
 shown k (seen.Extends to) = extend k to
 shown k (seen.Closes to) = closing k >>= λ area. Ok (closes to area)
@@ -171,7 +172,7 @@ showing k (Err fault) = Err fault
 -- where an effect leads, and the block that it opens
 abbrev pub leads : Seen → Option Spot
 leads (seen.Moves to) = Some to
-leads (seen.Draws to shape) = Some to
+leads (seen.Draws to stroke) = Some to
 leads (seen.Flashes to) = Some to
 leads (seen.Extends to) = Some to
 leads (seen.Closes to) = Some to
@@ -235,7 +236,7 @@ IsFit d (seen.Makes n tool) = IsLawfulTool (tool_of tool) × (defined_in d n ≡
 IsFit d (seen.Begins name) = macro_named (macros_in d) name.now ≡ None
 IsFit d (seen.Fills primitive) = Unit {0}
 IsFit d (seen.Moves to) = IsPlaced to
-IsFit d (seen.Draws to shape) = IsPlaced to
+IsFit d (seen.Draws to stroke) = IsPlaced to
 IsFit d (seen.Flashes to) = IsPlaced to
 IsFit d (seen.Extends to) = IsPlaced to
 IsFit d (seen.Closes to) = IsPlaced to

@@ -82,6 +82,29 @@ fn ends_within(a: Spot, b: Spot, c: Spot, d: Spot, r: u64, frame: Frame) -> bool
     end_within(a, b, c, d, r, frame) || end_within(c, d, a, b, r, frame)
 }
 
+/// Whether the starts of the segments from `a` to `b` and from `c` to `d`, or their ends, are at most
+/// `r` apart: a small test, which most copper passes that meets.
+fn are_near(a: Spot, b: Spot, c: Spot, d: Spot, r: u64) -> bool
+    requires a_placed { IsPlaced a }
+    requires b_placed { IsPlaced b }
+    requires c_placed { IsPlaced c }
+    requires d_placed { IsPlaced d }
+    requires radius { pos r ≤ℤ MOST_REACH }
+    ensures { IsTrue result → AnEnd a b c d (pos r) }
+{
+    spots_within(c, a, r) || spots_within(d, b, r)
+}
+
+/// Whether the segments meet, or an end of one is at most `r` from the other.
+fn are_within(a: Spot, b: Spot, c: Spot, d: Spot, r: u64, frame: Frame) -> bool
+    requires first { AreFramed frame a b }
+    requires second { AreFramed frame c d }
+    requires radius { pos r ≤ℤ MOST_REACH }
+    ensures { IsTrue result ↔ Share a b (pos 0) c d (pos r) }
+{
+    segments_meet(a, b, c, d) || ends_within(a, b, c, d, r, frame)
+}
+
 /// Whether some point of the segment from `a` to `b` is at most `r` from some point of the segment
 /// from `c` to `d`. All four spots lie in the frame, and `r` is from 0 to `MOST_REACH`.
 pub fn segments_within(a: Spot, b: Spot, c: Spot, d: Spot, r: i64, frame: Frame) -> bool
@@ -96,5 +119,6 @@ pub fn segments_within(a: Spot, b: Spot, c: Spot, d: Spot, r: i64, frame: Frame)
     requires radius { IsRadius r }
     ensures { IsTrue result ↔ Share a b (pos 0) c d r }
 {
-    segments_meet(a, b, c, d) || ends_within(a, b, c, d, r.unsigned_abs(), frame)
+    let r = r.unsigned_abs();
+    are_near(a, b, c, d, r) || are_within(a, b, c, d, r, frame)
 }

@@ -1,7 +1,7 @@
 //! Whole numbers as decimal text, without memory: what the report and the lines to the notes print.
 
 ghost use Rattle.std.specs.Fmt.{decimal, signed_decimal};
-ghost use Rattle.std.specs.Prelude.{drop, length, ◌≡◌, ◌≤◌};
+ghost use Rattle.std.specs.Prelude.{drop, length, ◌≡◌, ◌≤◌, ◌∷◌};
 
 use std::marker::Model;
 
@@ -45,6 +45,16 @@ impl Numeral {
             start -= 1;
             bytes[start] = b'-';
         }
+        Numeral { bytes, start }
+    }
+
+    /// A byte, and behind it the text of n.
+    pub fn behind(byte: u8, n: u64) -> Numeral
+        ensures { result ≡ byte ∷ decimal n }
+    {
+        let mut bytes = [0; MOST_BYTES];
+        let start = write_digits(n, &mut bytes) - 1;
+        bytes[start] = byte;
         Numeral { bytes, start }
     }
 

@@ -7,7 +7,8 @@ ghost use Rattle.texts.specs.LastDigits.{last_digits};
 use crate::numerals::Numeral;
 use std::alloc::AllocError;
 
-/// Puts bytes.
+/// Puts bytes. Written into its callers, so that a few known bytes are stored and not copied by a call.
+#[inline(always)]
 pub fn put(text: &mut Vec<u8>, bytes: &[u8]) -> Result<(), AllocError>
     ensures { OnOk result (text.new.items ≡ text.old.items ++ bytes.now) }
 {
@@ -32,8 +33,7 @@ pub fn put_signed(text: &mut Vec<u8>, z: i64) -> Result<(), AllocError>
 pub fn put_blank_number(text: &mut Vec<u8>, n: u64) -> Result<(), AllocError>
     ensures { OnOk result (text.new.items ≡ text.old.items ++ (32 ∷ decimal n)) }
 {
-    put(text, b" ")?;
-    put_number(text, n)
+    put(text, Numeral::behind(b' ', n).as_bytes())
 }
 
 /// Puts so many digits of a number, its last ones.

@@ -1,6 +1,7 @@
 use Rattle.std.proofs.Common.{ℕ, ◌+◌, Option, sym, ap, ◌∙◌}
 use Rattle.planar.specs.declared.Spot.{Spot}
 use Rattle.gerber_layer.specs.Command.{view}
+use Rattle.gerber_layer.specs.declared.settings.Settings.{Settings}
 use Rattle.gerber_layer.specs.Reader.{known_of}
 use Rattle.gerber_layer.specs.Table.{Place}
 use Rattle.gerber_layer.specs.After.{after, heads}
@@ -14,7 +15,7 @@ returns-clause-ok c =
     record {
       effect_is = o.effect_is;
       clean = o.is;
-      settings = c.after-settings.ensures ∙ ap (λ (to : Option Spot). after c.args.self.now.settings (view c.args.command.now) to c.opens_block.result) (c.leads.ensures ∙ sym (heads_shown (known_of c.args.self.now) c.args.effect o.effect_is o.is)) ∙ ap (after c.args.self.now.settings (view c.args.command.now) (heads o.effect_is)) (c.opens_block.ensures ∙ sym (opened_shown (known_of c.args.self.now) c.args.effect o.effect_is o.is));
+      settings = c.go_behind.ensures ∙ ap (λ (s : Settings). after s (view c.args.command.now) c.leads-to.result c.opens_block-next.result) o.carries.settings ∙ ap (λ (to : Option Spot). after c.args.self.now.settings (view c.args.command.now) to c.opens_block-next.result) (c.leads-to.ensures ∙ sym (heads_shown (known_of c.args.self.now) c.args.effect o.effect_is o.is)) ∙ ap (after c.args.self.now.settings (view c.args.command.now) (heads o.effect_is)) (c.opens_block-next.ensures ∙ sym (opened_shown (known_of c.args.self.now) c.args.effect o.effect_is o.is));
       dictionary = o.carries.dictionary;
       contour = o.carries.contour;
       pieces = o.carries.pieces;
@@ -29,7 +30,7 @@ returns-clause-lawful c =
     let counted = c.in_ok-carry_out.ensures.counted in
     let place = o.carries.place in
     record {
-      settings = rw (c.after-settings.ensures, c.leads.ensures, c.opens_block.ensures) (after_lawful c.args.self.now.dictionary c.args.self.now.settings (view c.args.command.now) c.args.effect c.requires.lawful.settings c.requires.command c.requires.fit);
+      settings = rw (c.go_behind.ensures, o.carries.settings, c.leads-to.ensures, c.opens_block-next.ensures) (after_lawful c.args.self.now.dictionary c.args.self.now.settings (view c.args.command.now) c.args.effect c.requires.lawful.settings c.requires.command c.requires.fit);
       dictionary = c.in_ok-carry_out.ensures.dictionary;
       marked = c.in_ok-carry_out.ensures.marked;
       counted = record { edges = counted.edges; few_pieces = counted.few_pieces; room = counted.room; start = counted.start };
