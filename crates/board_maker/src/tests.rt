@@ -1,8 +1,10 @@
 // Made boards against files that another program wrote.
 use super::*;
 use board_io::{MemoryPackage, Package, Take};
+use lengths::MOST_NAME_BYTES;
 use std::alloc::Global;
 use std::test::Fail;
+use texts::MOST_BYTES;
 
 // A board, and the length and the Adler-32 sum of each of its files as `benches/made_board.py` writes them.
 #[derive(Clone, Copy)]
@@ -21,11 +23,11 @@ const NETLIST_OF_ONE: &[u8] =
     b"P  UNITS CUST 1\n317N0                                 A00X+000000Y+000000\n327N0                                 A01X+001200Y+000000\n999\n";
 
 fn file(alloc: Global, package: &mut MemoryPackage, name: &str) -> Result<Vec<u8>, Fail> {
-    if name.is_empty() || name.len() > 200 {
+    if name.is_empty() || name.len() > MOST_NAME_BYTES {
         return Err(Fail::new(format_args!("{name} is no name")));
     }
     let mut bytes = Vec::new(alloc);
-    if package.take(name, 67_108_864, &mut bytes) != Take::Whole {
+    if package.take(name, MOST_BYTES, &mut bytes) != Take::Whole {
         return Err(Fail::new(format_args!("{name} is not held")));
     }
     Ok(bytes)

@@ -6,6 +6,8 @@ use Rattle.board_package.specs.Manifest.{has_members, list_at, name_at, manifest
 use Rattle.board_package.specs.declared.entry.Entry.{Entry}
 use Rattle.board_package.specs.declared.manifest.ManifestFault.{ManifestFault}
 use Rattle.board_package.specs.declared.manifest.ManifestFault.TheVariants.{NotJson, BadManifest, NoMemory}
+use Rattle.board_package.specs.declared.manifest.TheConstants.{MOST_DRILLS}
+use Rattle.board_shapes.specs.declared.TheConstants.{MOST_LAYERS}
 
 unless : {A : Type 0} (b : Bool) (o : Option A) → o ≡ None → cond b o None ≡ None
 unless true o e = e
@@ -45,20 +47,20 @@ unfolding manifest_of
 manifest_parts value copper drills netlist a b d e = rw (← a, ← b, ← d, e) refl
 
 -- lists of other lengths
-pub wrong_lengths : (copper drills : List Data) (netlist : List ℕ) → (nat_le 1 (length copper) && (nat_le (length copper) 32 && nat_le (length drills) 64)) ≡ false → manifest_from (Some copper) (Some drills) (Some netlist) ≡ None
+pub wrong_lengths : (copper drills : List Data) (netlist : List ℕ) → (nat_le 1 (length copper) && (nat_le (length copper) MOST_LAYERS && nat_le (length drills) MOST_DRILLS)) ≡ false → manifest_from (Some copper) (Some drills) (Some netlist) ≡ None
 wrong_lengths copper drills netlist e = rw e refl
 
-pub right_lengths : (copper drills : List Data) (netlist : List ℕ) → 1 ≤ length copper → length copper ≤ 32 → length drills ≤ 64
+pub right_lengths : (copper drills : List Data) (netlist : List ℕ) → 1 ≤ length copper → length copper ≤ MOST_LAYERS → length drills ≤ MOST_DRILLS
     → manifest_from (Some copper) (Some drills) (Some netlist) ≡ option_map (λ files. record { layers = length copper; files = files }) (files_of copper drills netlist)
-right_lengths copper drills netlist a b d = rw (le-leb 1 (length copper) a, le-leb (length copper) 32 b, le-leb (length drills) 64 d) refl
+right_lengths copper drills netlist a b d = rw (le-leb 1 (length copper) a, le-leb (length copper) MOST_LAYERS b, le-leb (length drills) MOST_DRILLS d) refl
 
 -- the files are missed for the reason that is given
-pub files_missed : (copper drills : List Data) (netlist : List ℕ) (why : ManifestFault) → 1 ≤ length copper → length copper ≤ 32 → length drills ≤ 64 → Misses (files_of copper drills netlist) why → Misses (manifest_from (Some copper) (Some drills) (Some netlist)) why
+pub files_missed : (copper drills : List Data) (netlist : List ℕ) (why : ManifestFault) → 1 ≤ length copper → length copper ≤ MOST_LAYERS → length drills ≤ MOST_DRILLS → Misses (files_of copper drills netlist) why → Misses (manifest_from (Some copper) (Some drills) (Some netlist)) why
 files_missed copper drills netlist NotJson a b d h = h
 files_missed copper drills netlist BadManifest a b d h = right_lengths copper drills netlist a b d ∙ (rw h refl)
 files_missed copper drills netlist NoMemory a b d h = tt
 
-pub files_found : (copper drills : List Data) (netlist : List ℕ) (files : List Entry) → 1 ≤ length copper → length copper ≤ 32 → length drills ≤ 64 → files_of copper drills netlist ≡ Some files
+pub files_found : (copper drills : List Data) (netlist : List ℕ) (files : List Entry) → 1 ≤ length copper → length copper ≤ MOST_LAYERS → length drills ≤ MOST_DRILLS → files_of copper drills netlist ≡ Some files
     → manifest_from (Some copper) (Some drills) (Some netlist) ≡ Some (record { layers = length copper; files = files })
 files_found copper drills netlist files a b d h = right_lengths copper drills netlist a b d ∙ (rw h refl)
 

@@ -24,6 +24,7 @@ use Rattle.board_package.specs.LabelledBoard.{Named, first_spot, label_of, named
 use Rattle.board_package.specs.Labelling.{named_as}
 use Rattle.board_package.specs.Parts.{IsLawfulParts}
 use Rattle.board_package.specs.declared.parts.Parts.{Parts}
+use Rattle.board_shapes.specs.declared.TheConstants.{MOST_PIECES}
 
 -- ---- Lawful probes
 
@@ -129,7 +130,7 @@ size_of_front pieces i within =
     omega (arith, a, b, c, within)
 
 -- there is room for one name more
-pub room_for_name : (tables : List (List Label)) (pieces : List (Placed Shape)) (i : ℕ) (old : Named) → i < length pieces → length pieces ≤ 200000 → old ≡ named_by tables (reverse (take i (plain_pieces pieces))) → length old.names + 1 < 4294967296
+pub room_for_name : (tables : List (List Label)) (pieces : List (Placed Shape)) (i : ℕ) (old : Named) → i < length pieces → length pieces ≤ MOST_PIECES → old ≡ named_by tables (reverse (take i (plain_pieces pieces))) → length old.names + 1 < 4294967296
 room_for_name tables pieces i old below few e =
     let a = names_few tables (reverse (take i (plain_pieces pieces))) in
     let b = size_of_front pieces i (omega (arith, below)) in

@@ -11,6 +11,8 @@ use Rattle.board_package.specs.declared.entry.Role.TheVariants.{Copper, Drill, N
 use Rattle.board_package.specs.declared.manifest.Manifest.{Manifest}
 use Rattle.board_package.specs.declared.manifest.ManifestFault.{ManifestFault}
 use Rattle.board_package.specs.declared.manifest.ManifestFault.TheVariants.{NotJson, BadManifest, NoMemory}
+use Rattle.board_package.specs.declared.manifest.TheConstants.{MOST_DRILLS}
+use Rattle.board_shapes.specs.declared.TheConstants.{MOST_LAYERS}
 
 -- ---- Values
 
@@ -79,10 +81,10 @@ files_of copper drills netlist =
     (each_from (drill_entry (length copper)) (length copper) drills))
     (each_from copper_entry 0 copper)
 
--- 1 to 32 copper files and 0 to 64 drill files
+-- 1 to MOST_LAYERS copper files and 0 to MOST_DRILLS drill files
 abbrev pub manifest_from : Option (List Data) → Option (List Data) → Option (List ℕ) → Option Manifest
 manifest_from (Some copper) (Some drills) (Some netlist) =
-    if nat_le 1 (length copper) && (nat_le (length copper) 32 && nat_le (length drills) 64)
+    if nat_le 1 (length copper) && (nat_le (length copper) MOST_LAYERS && nat_le (length drills) MOST_DRILLS)
     then option_map (λ files. record { layers = length copper; files = files }) (files_of copper drills netlist)
     else None
 manifest_from copper drills netlist = None
@@ -136,8 +138,8 @@ IsOnBoard layers (Copper layer) = (1 ≤ layer) × (layer ≤ layers)
 IsOnBoard layers (Drill from to) = (1 ≤ from) × (from ≤ to) × (to ≤ layers)
 IsOnBoard layers Netlist = Unit {0}
 
--- 1 to 32 layers, and files on them
+-- 1 to MOST_LAYERS, and files on them
 pub record IsLawful (m : Manifest) : Type 0 where
   pub some : 1 ≤ m.layers
-  pub few : m.layers ≤ 32
+  pub few : m.layers ≤ MOST_LAYERS
   pub roles : All (λ e. IsOnBoard m.layers e.role) m.files

@@ -10,10 +10,12 @@ use Rattle.board_package.specs.Reading.{Reads, Refuses}
 use Rattle.board_package.specs.declared.entry.Entry.{Entry}
 use Rattle.board_package.specs.declared.manifest.Manifest.{Manifest}
 use Rattle.board_package.specs.declared.reading.Refusal.{Refusal}
+use Rattle.board_shapes.specs.declared.TheConstants.{MOST_LAYERS, MOST_PIECES}
+use Rattle.texts.specs.declared.TheConstants.{MOST_BYTES}
 
 -- the most bytes of a file
 abbrev pub most_bytes : ℕ
-most_bytes = 67108864
+most_bytes = MOST_BYTES
 
 -- the files of a package after its manifest, in the order in which they are taken
 abbrev pub order_of : Manifest → List Entry
@@ -147,11 +149,11 @@ pub record IsBoardOf (files : Files) (name : List ℕ) (board : PlainBoard) : Ty
   pub walked : Walks files (order_of listed) (empty_board listed.layers) board
   pub frame : Fits (common_box board.pieces)
 
--- a lawful board of at most 200,000 pieces and 32 layers, as a package makes it
+-- a lawful board of at most MOST_PIECES and MOST_LAYERS, as a package makes it
 pub record IsWithinLimits (board : PlainBoard) : Type 0 where
   pub lawful : IsLawfulBoard board
-  pub few_pieces : length board.pieces ≤ 200000
-  pub few_layers : board.layers ≤ 32
+  pub few_pieces : length board.pieces ≤ MOST_PIECES
+  pub few_layers : board.layers ≤ MOST_LAYERS
 
 -- the manifest is read, and a file of the order has this name, with all before it read
 pub record ComesLater (files : Files) (manifest name : List ℕ) : Type 0 where

@@ -21,6 +21,7 @@ use board_io::Package;
 use board_shapes::Board;
 use lengths::{Rows, Text};
 use std::alloc::Global;
+use texts::MOST_BYTES;
 use x2_nets::{Label, LabelFault, labels};
 
 /// The board of a package under the name of its manifest, by the net names in its copper files in place of its netlist.
@@ -134,7 +135,7 @@ fn list_labels(
     file: &[u8],
     tables: &mut Rows<Rows<Label>>,
 ) -> Result<(), LabelledFault>
-    requires short { length file.now ≤ 67108864 }
+    requires short { length file.now ≤ MOST_BYTES }
     requires rise { All Rise tables.old }
     ensures listed { OnOk result (Lists entry.now.role file.now tables.old tables.new) }
     ensures rise { OnOk result (All Rise tables.new) }
@@ -153,7 +154,7 @@ fn list_labels(
 
 // The labels of a copper file of this name.
 fn labels_in(alloc: Global, name: &Text, file: &[u8]) -> Result<Rows<Label>, LabelledFault>
-    requires short { length file.now ≤ 67108864 }
+    requires short { length file.now ≤ MOST_BYTES }
     ensures ok { IfOk result (λ listed. IsRead file.now listed) }
     ensures rise { IfOk result (λ listed. Rise listed) }
     ensures fault { (layer : ℕ) → IfErr result (IsMislabelling (Role.Copper layer) name.now file.now) }

@@ -12,7 +12,7 @@ ghost use Rattle.lengths.specs.Text.{IsText};
 ghost use Rattle.x2_nets.specs.Labels.{Rise};
 
 use crate::parts::Parts;
-use board_shapes::{Origin, Piece, Probe, Shape};
+use board_shapes::{MOST_PIECES, Origin, Piece, Probe, Shape};
 use ipc356_records::NameTable;
 use lengths::{NoMemory, Rows, Text};
 use planar::Spot;
@@ -73,7 +73,7 @@ fn probes_by(
     tables: &[Rows<Label>],
     pieces: &[Piece],
 ) -> Result<(Rows<Probe>, Rows<Text>), NoMemory>
-    requires few { length pieces.now ≤ 200000 }
+    requires few { length pieces.now ≤ MOST_PIECES }
     requires rise { All Rise tables.now }
     ensures { IfOk result (λ r. named_as r.0 r.1 ≡ named_by tables.now (reverse (plain_pieces pieces.now))) }
 {

@@ -7,12 +7,16 @@ ghost use Rattle.board_package.specs.declared.manifest.ManifestFault.TheVariants
 
 use crate::entry::{Entry, Role};
 use crate::values::{has_members, list_at, name_at, name_of, number_at};
+use board_shapes::MOST_LAYERS;
 use lengths::{NoMemory, Rows, Text};
 use serde_json::Value;
 use std::alloc::Global;
 
-/// What a manifest lists: how many copper layers there are, from 1 to 32, and the files in the order in which they are
-/// taken, which are the copper files, the drill files and the netlist.
+/// The most drill files of a package.
+pub const MOST_DRILLS: usize = 64;
+
+/// What a manifest lists: how many copper layers there are, from 1 to `MOST_LAYERS`, and the files in the order in which
+/// they are taken, which are the copper files, the drill files and the netlist.
 #[derive(Drop)]
 pub struct Manifest {
     pub layers: u8,
@@ -96,7 +100,7 @@ fn manifest_from(
     ensures lawful { IfOk result (λ m. IsLawful m) }
     ensures fault { IfErr result (Misses (spec.manifest_from (Some (map view copper.now)) (Some (map view drills.now)) (Some netlist))) }
 {
-    if copper.is_empty() || copper.len() > 32 || drills.len() > 64 {
+    if copper.is_empty() || copper.len() > MOST_LAYERS as usize || drills.len() > MOST_DRILLS {
         return Err(ManifestFault::BadManifest);
     }
     let layers = copper.len() as u8;
@@ -112,8 +116,8 @@ fn files_of(
     netlist: Text,
 ) -> Result<Rows<Entry>, ManifestFault>
     requires some { 1 ≤ length copper.now }
-    requires few { length copper.now ≤ 32 }
-    requires few_drills { length drills.now ≤ 64 }
+    requires few { length copper.now ≤ MOST_LAYERS }
+    requires few_drills { length drills.now ≤ MOST_DRILLS }
     ensures ok { IfOk result (λ files. spec.files_of (map view copper.now) (map view drills.now) netlist ≡ Some files) }
     ensures lawful { IfOk result (λ files. All (λ e. IsOnBoard (length copper.now) e.role) files) }
     ensures fault { IfErr result (Misses (spec.files_of (map view copper.now) (map view drills.now) netlist)) }
@@ -132,7 +136,7 @@ fn files_of(
 
 // Adds the entries of the copper files.
 fn add_copper(alloc: Global, copper: &[Value], files: &mut Rows<Entry>) -> Result<(), ManifestFault>
-    requires few { length copper.now ≤ 32 }
+    requires few { length copper.now ≤ MOST_LAYERS }
     ensures ok { OnOk result ((added : List Entry) × (each_from copper_entry 0 (map view copper.now) ≡ Some added) × (files.new ≡ files.old ++ added)) }
     ensures lawful { OnOk result (All (λ e. IsOnBoard (length copper.now) e.role) files.old → All (λ e. IsOnBoard (length copper.now) e.role) files.new) }
     ensures fault { IfErr result (Misses (each_from copper_entry 0 (map view copper.now))) }
@@ -155,7 +159,7 @@ fn add_drills(
     layers: u8,
     files: &mut Rows<Entry>,
 ) -> Result<(), ManifestFault>
-    requires few { length drills.now ≤ 64 }
+    requires few { length drills.now ≤ MOST_DRILLS }
     ensures ok { OnOk result ((added : List Entry) × (each_from (drill_entry layers) layers (map view drills.now) ≡ Some added) × (files.new ≡ files.old ++ added)) }
     ensures lawful { OnOk result (All (λ e. IsOnBoard layers e.role) files.old → All (λ e. IsOnBoard layers e.role) files.new) }
     ensures fault { IfErr result (Misses (each_from (drill_entry layers) layers (map view drills.now))) }

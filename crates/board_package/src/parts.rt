@@ -5,13 +5,12 @@ ghost use Rattle.board_shapes.specs.Plain.{plain_pieces};
 ghost use Rattle.board_package.specs.Parts as spec;
 ghost use Rattle.board_package.specs.Parts.{board_so_far, empty_board, with_pieces, IsLawfulParts};
 
-use board_shapes::{Piece, Probe, Room, edges_in};
+use board_shapes::{MOST_LAYERS, MOST_PIECES, Piece, Probe, Room, edges_in};
 use lengths::{Rows, Text};
 use std::alloc::{AllocError, Global};
 
-const MOST_PIECES: u32 = 200_000;
-
-const MOST_EDGES: u64 = 2_000_000;
+/// The most edges of a board.
+pub const MOST_EDGES: u64 = 2_000_000;
 
 /// What the files so far give.
 #[derive(Drop)]
@@ -23,10 +22,10 @@ pub struct Parts {
 }
 
 impl Parts {
-    /// Nothing yet, on 1 to 32 layers.
+    /// Nothing yet, on 1 to `MOST_LAYERS`.
     pub fn new(alloc: Global, layers: u8) -> Parts
         requires some { 1 ≤ layers }
-        requires few { layers ≤ 32 }
+        requires few { layers ≤ MOST_LAYERS }
         ensures empty { board_so_far result ≡ empty_board layers }
         ensures lawful { IsLawfulParts result }
     {
@@ -41,7 +40,7 @@ impl Parts {
     /// Adds the pieces of a file, for which there is room.
     pub fn add(&mut self, mut pieces: Vec<Piece>) -> Result<(), AllocError>
         requires lawful { IsLawfulParts self.old }
-        requires few { length self.old.pieces.items + length pieces.items ≤ 200000 }
+        requires few { length self.old.pieces.items + length pieces.items ≤ MOST_PIECES }
         requires spans { All (IsOnLayers self.old.layers) pieces.items }
         ensures ok { OnOk result (board_so_far self.new ≡ with_pieces (board_so_far self.old) (plain_pieces pieces.items)) }
         ensures lawful { OnOk result (IsLawfulParts self.new) }
@@ -50,9 +49,9 @@ impl Parts {
     }
 }
 
-/// The pieces and edges that may still come behind these: a board has at most 200,000 and 2,000,000.
+/// The pieces and edges that may still come behind these: a board has at most `MOST_PIECES` and `MOST_EDGES`.
 pub fn room_left(pieces: &[Piece]) -> Room
-    requires { length pieces.now ≤ 200000 }
+    requires { length pieces.now ≤ MOST_PIECES }
     ensures { result ≡ spec.room_left (plain_pieces pieces.now) }
 {
     let edges = edges_in(pieces);

@@ -11,6 +11,7 @@ use crate::parts::{Parts, room_left};
 use gerber_layer::{GerberKind, LayerFault, read_layer};
 use ipc356_records::{RecordFault, RecordKind, read_netlist};
 use std::alloc::Global;
+use texts::MOST_BYTES;
 use xnc::{DrillFault, DrillKind, Span, read_drill};
 
 /// Why a file is refused: the first faulty command, line or record, by its kind, its number and its place in the file; a
@@ -66,7 +67,7 @@ pub fn read_file(
     file: &[u8],
     parts: &mut Parts,
 ) -> Result<(), BuildFault>
-    requires short { length file.now ≤ 67108864 }
+    requires short { length file.now ≤ MOST_BYTES }
     requires lawful { IsLawfulParts parts.old }
     requires role { IsOnBoard parts.old.layers entry.now.role }
     ensures ok { OnOk result (Reads entry.now.role entry.now.number file.now (board_so_far parts.old) (board_so_far parts.new)) }

@@ -17,9 +17,7 @@ use board_io::{Package, Take};
 use board_shapes::{Board, BoardFault, laws};
 use lengths::Text;
 use std::alloc::Global;
-
-/// The most bytes of a file.
-pub const MOST_BYTES: usize = 67_108_864;
+pub use texts::MOST_BYTES;
 
 /// The board of a package under the name of its manifest: its copper files' pieces and then its drill files', the probes
 /// and names of its netlist, and as many layers as copper files.
@@ -120,7 +118,7 @@ pub fn take_entry<P: Package>(
     ensures later { P.faults «package».old ≤ P.faults «package».new }
     ensures faultless { OnOk result (IsFaultless (P.faults «package».old) (P.lost «package».old) (P.faults «package».new) (P.lost «package».new)) }
     ensures kept { IfErr result (KeepsFaults (P.faults «package».old) (P.lost «package».old) (P.faults «package».new) (P.lost «package».new)) }
-    ensures short { OnOk result (length file.new.items ≤ 67108864) }
+    ensures short { OnOk result (length file.new.items ≤ MOST_BYTES) }
     ensures whole { OnOk result (IfSome (P.held «package».old) (λ files. IsHeld files entry.now.name file.new.items)) }
     ensures found { OnOk result (IfSome (P.held «package».old) (λ files. Goes files entry.now (board_so_far parts.old) (board_so_far parts.new))) }
     ensures handed_whole { OnOk result (IsHanded (P.handed «package».old) (P.handed «package».new) entry.now.name file.new.items) }
@@ -147,7 +145,7 @@ pub fn take_file<P: Package>(
     ensures later { P.faults «package».old ≤ P.faults «package».new }
     ensures faultless { OnOk result (IsFaultless (P.faults «package».old) (P.lost «package».old) (P.faults «package».new) (P.lost «package».new)) }
     ensures kept { IfErr result (KeepsFaults (P.faults «package».old) (P.lost «package».old) (P.faults «package».new) (P.lost «package».new)) }
-    ensures short { OnOk result (length file.new.items ≤ 67108864) }
+    ensures short { OnOk result (length file.new.items ≤ MOST_BYTES) }
     ensures found { OnOk result (IfSome (P.held «package».old) (λ files. IsHeld files name.now file.new.items)) }
     ensures handed { OnOk result (IsHanded (P.handed «package».old) (P.handed «package».new) name.now file.new.items) }
     ensures handed_cause { IfErr result (HandedCause (λ stop. StopsHanding (P.handed «package».old) (P.handed «package».new) name.now stop) (λ other. ComesNext (P.handed «package».old) (P.handed «package».new) name.now other) (P.faults «package».old) (P.faults «package».new) (P.lost «package».new)) }

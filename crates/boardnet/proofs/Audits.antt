@@ -7,7 +7,7 @@ use Rattle.board_package.proofs.Staging.{carry}
 use Rattle.board_package.specs.Causes.{HandedCause, HasCause}
 use Rattle.board_package.specs.HandedBoard.{ComesHanded, ComesNext, IsBoardHanded, IsFirstStopHanded, IsHanded, StopsHanding}
 use Rattle.board_package.specs.Laws.{HasOneOutcome}
-use Rattle.board_package.specs.PackageBoard.{Comes, IsBoardOf, IsFirstStop, IsHeld, StopsTaking, Stop, absent, longer, not_json, bad_manifest, refused, frame_too_large}
+use Rattle.board_package.specs.PackageBoard.{Comes, IsBoardOf, IsFirstStop, IsHeld, StopsTaking, Stop, absent, longer, not_json, bad_manifest, refused, frame_too_large, most_bytes}
 use Rattle.board_package.specs.declared.fault.BuildFault.{BuildFault}
 use Rattle.board_shapes.proofs.BoardTables.{tables_are_one}
 use Rattle.board_shapes.specs.Laws.{HasOneTables}
@@ -80,9 +80,9 @@ one_status files manifest report t l text line s status law one a b =
 pub no_stop_taking : (files : Files) (name bytes : List ℕ) (stop : Stop) → IsHeld files name bytes → StopsTaking files name stop → ⊥
 no_stop_taking files name bytes (absent other) h s = absurd (cc (h.held, s.1))
 no_stop_taking files name bytes (longer other) h s = too_long (files name) bytes h.held h.short s.1 where
-  too_long : (o : Option (List ℕ)) (bytes : List ℕ) → o ≡ Some bytes → length bytes ≤ 67108864 → IsSomeAnd o (λ b. 67108864 < length b) → ⊥
+  too_long : (o : Option (List ℕ)) (bytes : List ℕ) → o ≡ Some bytes → length bytes ≤ most_bytes → IsSomeAnd o (λ b. most_bytes < length b) → ⊥
   too_long None bytes e short h = absurd h
-  too_long (Some b) bytes e short h = let same : b ≡ bytes = cc e in let long : 67108864 < length bytes = subst (λ (z : List ℕ). 67108864 < length z) same h in omega (arith, short, long)
+  too_long (Some b) bytes e short h = let same : b ≡ bytes = cc e in let long : most_bytes < length bytes = subst (λ (z : List ℕ). most_bytes < length z) same h in omega (arith, short, long)
 no_stop_taking files name bytes not_json h s = absurd s
 no_stop_taking files name bytes bad_manifest h s = absurd s
 no_stop_taking files name bytes (refused other why) h s = absurd s

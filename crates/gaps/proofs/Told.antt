@@ -4,7 +4,7 @@ use Rattle.std.proofs.lemmas.Int.{ints, clamps}
 use Rattle.std.specs.Int.{int_min, int_max}
 use Rattle.planar.specs.declared.Frame.{Frame}
 use Rattle.planar.specs.declared.Spot.{Spot}
-use Rattle.planar.specs.declared.TheConstants.{METRE}
+use Rattle.planar.specs.declared.TheConstants.{METRE, TWO_METRES}
 use Rattle.planar.specs.Plane.{Point, at, InCapsule, IsInFrame, IsPlaced, IsWithin, Share, dot_of, square}
 use Rattle.planar.proofs.Ring.{linear, ring}
 use Rattle.planar.proofs.SpotWithin.{spot_before, whole_from_zero}
@@ -55,10 +55,10 @@ spots_read a b c d r t e h k =
 
 -- ---- the box
 
-less_back : (l g : ℤ) → IsWithin 20_000_000_000 l → IsGrowth g → to_z w64 (of_z w64 (to_z w64 (of_z w64 l) -ℤ to_z w64 (of_z w64 g))) ≡ l -ℤ g
+less_back : (l g : ℤ) → IsWithin TWO_METRES l → IsGrowth g → to_z w64 (of_z w64 (to_z w64 (of_z w64 l) -ℤ to_z w64 (of_z w64 g))) ≡ l -ℤ g
 less_back l g h k = omega (arith, ints)
 
-more_back : (l g : ℤ) → IsWithin 20_000_000_000 l → IsGrowth g → to_z w64 (of_z w64 (to_z w64 (of_z w64 l) +ℤ to_z w64 (of_z w64 g))) ≡ l +ℤ g
+more_back : (l g : ℤ) → IsWithin TWO_METRES l → IsGrowth g → to_z w64 (of_z w64 (to_z w64 (of_z w64 l) +ℤ to_z w64 (of_z w64 g))) ≡ l +ℤ g
 more_back l g h k = omega (arith, ints)
 
 pub widened_read : (b : Bounds) (g : ℤ) → IsSmallBox b → IsGrowth g →

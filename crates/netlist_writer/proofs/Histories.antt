@@ -21,6 +21,9 @@ use Rattle.netlist_writer.specs.TestLine.{in_steps, net_name, sign_of, steps_of}
 use Rattle.netlist_writer.specs.WrittenNetlist.{TestPlace, netlist_lines, place_line, place_lines}
 use Rattle.netlist_writer.specs.Laws.{names_after, present, probes_after}
 use Rattle.netlist_writer.proofs.TestLines.{IsCode, fields_of, in_record, record_back}
+use Rattle.board_shapes.specs.declared.TheConstants.{MOST_LAYERS}
+use Rattle.ipc356_records.specs.declared.TheConstants.{MOST_RECORDS}
+use Rattle.planar.specs.declared.TheConstants.{METRE}
 
 -- ---- Coordinates
 
@@ -59,7 +62,7 @@ place_back z h =
     let whole = h.whole in
     let few = h.few in
     let back : steps_of z * 10_000 ≡ unsigned_abs z = omega (arith, whole) in
-    let near : nat_lt 10_000_000_000 (unsigned_abs z) ≡ false = le-ltb _ _ (omega (arith, few)) in
+    let near : nat_lt METRE (unsigned_abs z) ≡ false = le-ltb _ _ (omega (arith, few)) in
     rw (back, near) (ap Ok (by z))
   where
     by : (z : ℤ) → signed (eqb (sign_of z) 45) (unsigned_abs z) ≡ z
@@ -76,7 +79,7 @@ pub record IsWritablePlace (layers : ℕ) (t : TestPlace) : Type 0 where
   pub x : IsInSteps t.at.x
   pub y : IsInSteps t.at.y
 
-adds_record : (k : Known) (name : List ℕ) (access : ℕ) (at : Spot) → k.ended ≡ false → k.unit ≡ Some Mm → k.records < 200000 → access ≤ k.layers → IsInSteps at.x → IsInSteps at.y → effect k (tests (fields_of name access at)) ≡ Ok (adds name access at)
+adds_record : (k : Known) (name : List ℕ) (access : ℕ) (at : Spot) → k.ended ≡ false → k.unit ≡ Some Mm → k.records < MOST_RECORDS → access ≤ k.layers → IsInSteps at.x → IsInSteps at.y → effect k (tests (fields_of name access at)) ≡ Ok (adds name access at)
 unfolding effect row test
 adds_record k name access at ongoing unit few known x y = rw (ongoing, unit, le-leb _ _ known, place_back at.x x, place_back at.y y, lt-leb _ _ few) refl
 
@@ -163,7 +166,7 @@ comment_then layers records names probes h s =
 abbrev pub probes_at : ℕ → ℕ → List (List ℕ) → TestPlace → List Probe
 probes_at layers records names t = map (probe_at (records + 1) (index_of (net_name t.net) names) t.at) (layers_of layers t.access)
 
-record_then : (layers records : ℕ) (names : List (List ℕ)) (probes : List Probe) (h : List Form) (t : TestPlace) → records < 200000 → IsWritablePlace layers t → Stands layers records names probes h
+record_then : (layers records : ℕ) (names : List (List ℕ)) (probes : List Probe) (h : List Form) (t : TestPlace) → records < MOST_RECORDS → IsWritablePlace layers t → Stands layers records names probes h
     → Stands layers (records + 1) (with_name (net_name t.net) names) (probes ++ probes_at layers records names t) (tests (fields_of (net_name t.net) t.access t.at) ∷ h)
 unfolding probes_of_effect
 record_then layers records names probes h t few fine s =
@@ -224,7 +227,7 @@ IsWritableIf layers (Some t) = IsWritablePlace layers t
 as_read : (P : List Form → Type 0) (h : List Form) (l : List ℕ) (f : Form) → form_of l ≡ f → P (f ∷ h) → P (form_of l ∷ h)
 as_read P h l f e k = subst (λ (d : Form). P (d ∷ h)) (sym e) k
 
-places_then : (layers records p : ℕ) (names : List (List ℕ)) (probes : List Probe) (h : List Form) (places : List (Option TestPlace)) → layers ≤ 32 → AllByRecursion (IsWritableIf layers) places → records + length places ≤ 200000 → Stands layers records names probes h
+places_then : (layers records p : ℕ) (names : List (List ℕ)) (probes : List Probe) (h : List Form) (places : List (Option TestPlace)) → layers ≤ MOST_LAYERS → AllByRecursion (IsWritableIf layers) places → records + length places ≤ MOST_RECORDS → Stands layers records names probes h
     → Ended layers (names_after names (present places)) (probes ++ probes_after layers records names (present places)) (behind h (place_lines p places))
 places_then layers records p names probes h [] fits fine few s =
     subst (λ (ps : List Probe). Ended layers names ps (form_of (codes "999") ∷ h)) (sym (append-nil probes)) (as_read (Ended layers names probes) h (codes "999") ends reads_end (ended-end layers records names probes h s))
@@ -240,7 +243,7 @@ places_then layers records p names probes h (Some t ∷ places) fits fine few s 
     subst (λ (ps : List Probe). Ended layers (names_after names (present (Some t ∷ places))) ps (behind h (place_lines p (Some t ∷ places)))) (append_assoc probes (probes_at layers records names t) (probes_after layers (records + 1) (with_name (net_name t.net) names) (present places))) all
 
 -- the whole text
-pub netlist_then : (layers : ℕ) (places : List (Option TestPlace)) → layers ≤ 32 → AllByRecursion (IsWritableIf layers) places → length places ≤ 200000
+pub netlist_then : (layers : ℕ) (places : List (Option TestPlace)) → layers ≤ MOST_LAYERS → AllByRecursion (IsWritableIf layers) places → length places ≤ MOST_RECORDS
     → Ended layers (names_after [] (present places)) (probes_after layers 0 [] (present places)) (behind [] (netlist_lines places))
 netlist_then layers places fits fine few =
     let start : Stands layers 0 [] [] (form_of (codes "P  UNITS CUST 1") ∷ form_of (codes "C boardnet") ∷ []) = as_read (Stands layers 0 [] []) (form_of (codes "C boardnet") ∷ []) (codes "P  UNITS CUST 1") (units (Some Mm)) reads_units (as_read (λ (h : List Form). Stands layers 0 [] [] (units (Some Mm) ∷ h)) [] (codes "C boardnet") unread reads_heading (started layers)) in

@@ -25,6 +25,8 @@ use Rattle.texts.proofs.LastDigits.{last_are_digits}
 use Rattle.netlist_writer.proofs.TestLines.{IsCode, hole, pad, blanks, line_parts, padded, tail, wider}
 use Rattle.netlist_writer.proofs.Cut.{IsPlain, is_plain, items_from, text_cut}
 use Rattle.netlist_writer.proofs.Histories.{Ended, IsWritableIf, behind, ended-finish, netlist_then}
+use Rattle.board_shapes.specs.declared.TheConstants.{MOST_LAYERS}
+use Rattle.ipc356_records.specs.declared.TheConstants.{MOST_RECORDS}
 
 -- ---- Each line is one
 
@@ -73,7 +75,7 @@ plain_places : (layers p : ℕ) (places : List (Option TestPlace)) → p + lengt
 plain_places layers p [] small fine = (refl, tt)
 plain_places layers p (place ∷ places) small fine = (plain_place layers p place (omega (arith, small)) fine.0, plain_places layers (p + 1) places (omega (arith, small)) fine.1)
 
-plain_lines : (layers : ℕ) (places : List (Option TestPlace)) → length places ≤ 200000 → AllByRecursion (IsWritableIf layers) places → AllByRecursion IsPlain (netlist_lines places)
+plain_lines : (layers : ℕ) (places : List (Option TestPlace)) → length places ≤ MOST_RECORDS → AllByRecursion (IsWritableIf layers) places → AllByRecursion IsPlain (netlist_lines places)
 plain_lines layers places few fine = (refl, (refl, plain_places layers 0 places (omega (arith, few)) fine))
 
 -- ---- The whole file
@@ -117,5 +119,5 @@ lines_read layers names probes lines plain d =
     record { read = read; not_refused = λ why line r. (one_answer file layers).not_both (netlist probes names) why r.0 line read r.1 }
 
 -- a text of test places is read as them
-pub places_read : (layers : ℕ) (places : List (Option TestPlace)) → layers ≤ 32 → AllByRecursion (IsWritableIf layers) places → length places ≤ 200000 → ReadsBack layers (netlist_text places) (probes_after layers 0 [] (present places)) (names_after [] (present places))
+pub places_read : (layers : ℕ) (places : List (Option TestPlace)) → layers ≤ MOST_LAYERS → AllByRecursion (IsWritableIf layers) places → length places ≤ MOST_RECORDS → ReadsBack layers (netlist_text places) (probes_after layers 0 [] (present places)) (names_after [] (present places))
 places_read layers places fits fine few = lines_read layers (names_after [] (present places)) (probes_after layers 0 [] (present places)) (netlist_lines places) (plain_lines layers places few fine) (netlist_then layers places fits fine few)

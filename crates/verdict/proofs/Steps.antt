@@ -12,6 +12,7 @@ use Rattle.std.proofs.lemmas.List.Elements.{All-from_recursion, recursion_from_A
 use Rattle.std.proofs.lemmas.List.Sums.{take_while-cons, split_at_first, passes_at_first}
 use Rattle.std.proofs.lemmas.Slice.Eq.{bytes_eq-Decides}
 use Rattle.std.proofs.lemmas.Str.Parse.{IsNumeralModel, numerals_by_value, parse_digits}
+use Rattle.lengths.specs.declared.TheConstants.{MOST_NAME_BYTES}
 use Rattle.texts.specs.Digits.{is_decimal_digit}
 use Rattle.lengths.specs.Text.{IsPrintable, IsText}
 use Rattle.verdict.specs.Reading.{◌>>=◌, behind, run_of, is_numeral, value_of, wide_at, number_at, word_at, layer_at, count_at, is_feed, is_name, text_at}
@@ -233,15 +234,15 @@ list_printable (b ∷ bs) e =
 pub name_takes : (bs : List ℕ) → is_name bs ≡ true → IsText bs
 unfolding is_name
 name_takes bs e =
-    let p = and_both (leb 1 (length bs)) (leb (length bs) 200 && list_all is_printable bs) e in
-    let q = and_both (leb (length bs) 200) (list_all is_printable bs) p.1 in
+    let p = and_both (leb 1 (length bs)) (leb (length bs) MOST_NAME_BYTES && list_all is_printable bs) e in
+    let q = and_both (leb (length bs) MOST_NAME_BYTES) (list_all is_printable bs) p.1 in
     record { some = leb-true _ _ p.0; short = leb-true _ _ q.0; printable = All-from_recursion IsPrintable bs (list_printable bs q.1) }
 
 pub name_again : (bs : List ℕ) → IsText bs → is_name bs ≡ true
 unfolding is_name
 name_again bs h =
     let some : leb 1 (length bs) ≡ true = le-leb _ _ h.some in
-    let short : leb (length bs) 200 ≡ true = le-leb _ _ h.short in
+    let short : leb (length bs) MOST_NAME_BYTES ≡ true = le-leb _ _ h.short in
     rw (some, short, printable_list bs (recursion_from_All IsPrintable bs h.printable)) refl
 
 -- where a feed stands, the bytes are cut there

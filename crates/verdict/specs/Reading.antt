@@ -5,6 +5,7 @@ use Rattle.std.specs.Prelude.{◌≡◌, ℕ, zero, suc, ◌+◌, ◌^◌, ℤ, 
 use Rattle.std.specs.Cmp.Lexicographic.{pointwise}
 use Rattle.std.specs.List.{after_first, before_first, list_all, list_any, prefix_len, take_while}
 use Rattle.std.specs.Str.Parse.{digits_value}
+use Rattle.lengths.specs.declared.TheConstants.{MOST_NAME_BYTES}
 use Rattle.texts.specs.Digits.{is_decimal_digit}
 use Rattle.verdict.specs.ReportText.{last_line}
 use Rattle.verdict.specs.declared.reading.ReadFault.{ReadFault}
@@ -158,7 +159,7 @@ is_feed b = b == 10
 
 -- 1 to 200 bytes from the blank to the tilde
 unfoldable pub is_name : List ℕ → Bool
-is_name bytes = nat_le 1 (length bytes) && (nat_le (length bytes) 200 && list_all (λ b. nat_le 32 b && nat_le b 126) bytes)
+is_name bytes = nat_le 1 (length bytes) && (nat_le (length bytes) MOST_NAME_BYTES && list_all (λ b. nat_le 32 b && nat_le b 126) bytes)
 
 -- a name and the end of its line
 unfoldable pub text_at : List ℕ → Option (List ℕ × List ℕ)
