@@ -6,6 +6,7 @@ ghost use Rattle.texts.specs.Digits.{is_decimal_digit};
 ghost use Rattle.verdict.specs.Reading as spec;
 
 use crate::reading::ReadFault;
+use lengths::small_value;
 use std::str;
 use texts::digits_len;
 
@@ -44,6 +45,9 @@ fn value_of(digits: &[u8]) -> Option<u64>
     requires some { spec.is_numeral digits.now ≡ true }
     ensures { result ≡ spec.value_of digits.now }
 {
+    if digits.len() <= 9 {
+        return Some(u64::from(small_value(digits)));
+    }
     match str::from_utf8(digits) {
         Ok(text) => text.parse::<u64>().ok(),
         Err(_) => None,
