@@ -52,7 +52,7 @@ impl Numeral {
     pub fn behind(byte: u8, n: u64) -> Numeral
         ensures { result ≡ byte ∷ decimal n }
     {
-        let mut bytes = [0; MOST_BYTES];
+        let mut bytes = [0; LONGEST];
         let start = write_digits(n, &mut bytes) - 1;
         bytes[start] = byte;
         Numeral { bytes, start }
