@@ -1,4 +1,5 @@
 pub mod Agreed
+pub mod ByNetlist
 pub mod CutOff
 pub mod Entries
 pub mod Form
