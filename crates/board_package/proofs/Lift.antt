@@ -1,7 +1,9 @@
 -- Causes, carried from one stage to the next.
 use Rattle.std.proofs.Common.{◌≡◌, inl, inr, ℕ, ◌≤◌, List, Option, Some, None, IfSome, Result, Ok, Err, IfErr, IfOk, OnOk, sym, ◌∙◌, subst, arith}
 use Rattle.std.specs.Result.{IsErrAnd}
+use Rattle.board_io.proofs.Agreeing.{agree_on}
 use Rattle.board_io.specs.Causes.{Rose}
+use Rattle.board_io.specs.Handed.{AgreeWith, Grows, Handed}
 use Rattle.board_io.specs.Package.{Files, IsFaultless}
 use Rattle.board_shapes.specs.Plain.{PlainBoard}
 use Rattle.board_package.specs.Causes.{HasCause, HasRefusal, IsFrameFault, KeepsFaults}
@@ -79,6 +81,11 @@ frame_cause held S C before now lost board (fault.FrameTooLarge box) h e =
 frame_cause held S C before now lost board other h e = absurd e
 
 -- ---- What a package leaves
+
+-- where it tells, what it handed over agrees with the files, in two stages
+pub agrees_on : (held after : Option Files) (a b c : List Handed) → after ≡ held → Grows a b → Grows b c → IfSome held (λ files. AgreeWith files a b) → IfSome after (λ files. AgreeWith files b c) → IfSome held (λ files. AgreeWith files a c)
+agrees_on held after a b c same g h v w =
+    told held (λ files. AgreeWith files a b) (λ files. AgreeWith files b c) (λ files. AgreeWith files a c) (λ files x y. agree_on files a b c g h x y) v (subst (λ z. IfSome z (λ files. AgreeWith files b c)) same w)
 
 pub faultless_both : (a : ℕ) (l : List ℕ) (b : ℕ) (m : List ℕ) (c : ℕ) (n : List ℕ) → IsFaultless a l b m → IsFaultless b m c n → IsFaultless a l c n
 faultless_both a l b m c n h k = record { count_stays = k.count_stays ∙ h.count_stays; lost_stays = k.lost_stays ∙ h.lost_stays }

@@ -1,6 +1,7 @@
 //! The board of a package by the net names that its copper files give.
 ghost use Rattle.std.specs.Prelude.{◌≡◌, ◌≤◌, List, ℕ, IfSome, IfOk, IfErr, OnOk};
 ghost use Rattle.board_shapes.specs.Plain.{plain_board};
+ghost use Rattle.board_io.specs.Handed.{AgreeWith, Grows};
 ghost use Rattle.board_io.specs.Package.{IsFaultless};
 ghost use Rattle.board_package.specs.LabelledBoard.{IsFirstLabelledStop, IsLabelledBoardOf, LabelledComes};
 ghost use Rattle.board_package.specs.HandedLabelled.{IsFirstLabelledStopHanded, IsLabelledBoardHanded, LabelledComesHanded};
@@ -31,6 +32,8 @@ pub fn build_labelled<P: Package>(
     package: &mut P,
 ) -> Result<Board, LabelledFault>
     ensures held { P.held «package».new ≡ P.held «package».old }
+    ensures grows { Grows (P.handed «package».old) (P.handed «package».new) }
+    ensures consistent { IfSome (P.held «package».old) (λ files. AgreeWith files (P.handed «package».old) (P.handed «package».new)) }
     ensures later { P.faults «package».old ≤ P.faults «package».new }
     ensures faultless { OnOk result (IsFaultless (P.faults «package».old) (P.lost «package».old) (P.faults «package».new) (P.lost «package».new)) }
     ensures kept { IfErr result (KeepsLabelledFaults (P.faults «package».old) (P.lost «package».old) (P.faults «package».new) (P.lost «package».new)) }

@@ -2,6 +2,7 @@
 ghost use Rattle.std.specs.Prelude.{◌≡◌, ◌≤◌, List, ℕ, [], ◌∷◌, length, All, IfSome, IfOk, IfErr, OnOk};
 ghost use Rattle.std.specs.List.{filter};
 ghost use Rattle.board_shapes.specs.Plain.{plain_board, common_box, Fits};
+ghost use Rattle.board_io.specs.Handed.{AgreeWith, Grows};
 ghost use Rattle.board_io.specs.Package.{IsFaultless};
 ghost use Rattle.board_package.specs.Causes.{HandedCause, HasCause, IsFrameFault, KeepsFaults};
 ghost use Rattle.board_package.specs.HandedBoard.{ComesHanded, ComesNext, GoesHanded, IsBoardHanded, IsFirstStopHanded, IsHanded, IsManifestHanded, StopsAtHanded, StopsAtManifestHanded, StopsHanding, course};
@@ -39,6 +40,8 @@ pub fn build<P: Package>(
     package: &mut P,
 ) -> Result<Board, BuildFault>
     ensures held { P.held «package».new ≡ P.held «package».old }
+    ensures grows { Grows (P.handed «package».old) (P.handed «package».new) }
+    ensures consistent { IfSome (P.held «package».old) (λ files. AgreeWith files (P.handed «package».old) (P.handed «package».new)) }
     ensures later { P.faults «package».old ≤ P.faults «package».new }
     ensures faultless { OnOk result (IsFaultless (P.faults «package».old) (P.lost «package».old) (P.faults «package».new) (P.lost «package».new)) }
     ensures kept { IfErr result (KeepsFaults (P.faults «package».old) (P.lost «package».old) (P.faults «package».new) (P.lost «package».new)) }
@@ -77,6 +80,8 @@ pub fn take_manifest<P: Package>(
     file: &mut Vec<u8>,
 ) -> Result<Manifest, BuildFault>
     ensures held { P.held «package».new ≡ P.held «package».old }
+    ensures grows { Grows (P.handed «package».old) (P.handed «package».new) }
+    ensures consistent { IfSome (P.held «package».old) (λ files. AgreeWith files (P.handed «package».old) (P.handed «package».new)) }
     ensures later { P.faults «package».old ≤ P.faults «package».new }
     ensures faultless { OnOk result (IsFaultless (P.faults «package».old) (P.lost «package».old) (P.faults «package».new) (P.lost «package».new)) }
     ensures kept { IfErr result (KeepsFaults (P.faults «package».old) (P.lost «package».old) (P.faults «package».new) (P.lost «package».new)) }
@@ -109,6 +114,8 @@ pub fn take_files<P: Package>(
     requires roles { All (λ e. IsOnBoard parts.old.layers e.role) entries.now }
     requires rise { All Rise tables.old }
     ensures held { P.held «package».new ≡ P.held «package».old }
+    ensures grows { Grows (P.handed «package».old) (P.handed «package».new) }
+    ensures consistent { IfSome (P.held «package».old) (λ files. AgreeWith files (P.handed «package».old) (P.handed «package».new)) }
     ensures later { P.faults «package».old ≤ P.faults «package».new }
     ensures faultless { OnOk result (IsFaultless (P.faults «package».old) (P.lost «package».old) (P.faults «package».new) (P.lost «package».new)) }
     ensures kept { IfErr result (KeepsLabelledFaults (P.faults «package».old) (P.lost «package».old) (P.faults «package».new) (P.lost «package».new)) }
@@ -139,6 +146,8 @@ fn take_needed<P: Package>(
     requires role { IsOnBoard parts.old.layers entry.now.role }
     requires rise { All Rise tables.old }
     ensures held { P.held «package».new ≡ P.held «package».old }
+    ensures grows { Grows (P.handed «package».old) (P.handed «package».new) }
+    ensures consistent { IfSome (P.held «package».old) (λ files. AgreeWith files (P.handed «package».old) (P.handed «package».new)) }
     ensures later { P.faults «package».old ≤ P.faults «package».new }
     ensures faultless { OnOk result (IsFaultless (P.faults «package».old) (P.lost «package».old) (P.faults «package».new) (P.lost «package».new)) }
     ensures kept { IfErr result (KeepsLabelledFaults (P.faults «package».old) (P.lost «package».old) (P.faults «package».new) (P.lost «package».new)) }
@@ -168,6 +177,8 @@ fn take_entry<P: Package>(
     requires lawful { IsLawfulParts parts.old }
     requires role { IsOnBoard parts.old.layers entry.now.role }
     ensures held { P.held «package».new ≡ P.held «package».old }
+    ensures grows { Grows (P.handed «package».old) (P.handed «package».new) }
+    ensures consistent { IfSome (P.held «package».old) (λ files. AgreeWith files (P.handed «package».old) (P.handed «package».new)) }
     ensures later { P.faults «package».old ≤ P.faults «package».new }
     ensures faultless { OnOk result (IsFaultless (P.faults «package».old) (P.lost «package».old) (P.faults «package».new) (P.lost «package».new)) }
     ensures kept { IfErr result (KeepsFaults (P.faults «package».old) (P.lost «package».old) (P.faults «package».new) (P.lost «package».new)) }
@@ -195,6 +206,8 @@ pub fn take_file<P: Package>(
     file: &mut Vec<u8>,
 ) -> Result<(), BuildFault>
     ensures held { P.held «package».new ≡ P.held «package».old }
+    ensures grows { Grows (P.handed «package».old) (P.handed «package».new) }
+    ensures consistent { IfSome (P.held «package».old) (λ files. AgreeWith files (P.handed «package».old) (P.handed «package».new)) }
     ensures later { P.faults «package».old ≤ P.faults «package».new }
     ensures faultless { OnOk result (IsFaultless (P.faults «package».old) (P.lost «package».old) (P.faults «package».new) (P.lost «package».new)) }
     ensures kept { IfErr result (KeepsFaults (P.faults «package».old) (P.lost «package».old) (P.faults «package».new) (P.lost «package».new)) }

@@ -1,5 +1,6 @@
 use Rattle.std.proofs.Common.{List, IfSome, subst, ap, ◌∙◌}
 use Rattle.std.specs.List.{filter}
+use Rattle.board_io.proofs.Agreeing.{grows_on}
 use Rattle.board_io.specs.Package.{IsFaultless}
 use Rattle.board_package.proofs.LabelStaging.{files_labelled_handed, frame_labelled_handed, labelled_board_handed, manifest_labelled_handed}
 use Rattle.board_package.specs.HandedLabelled.{GoesLabelledHanded, LabelledComesAmongHanded, StopsLabelledAmongHanded, labelled_course}
@@ -12,7 +13,7 @@ use Rattle.board_package.specs.declared.fault.BuildFault.TheVariants as build
 use Rattle.board_package.specs.declared.fault.LabelledFault.TheVariants as fault
 use Rattle.x2_nets.specs.declared.table.Label.{Label}
 use Rattle.board_package.proofs.LabelCauses.{files_labelled_cause, frame_labelled_cause, kept_labelled, kept_labelled_after, labelled_board_is, manifest_labelled_cause, needed, nothing_yet}
-use Rattle.board_package.proofs.Lift.{climbs, faultless_both}
+use Rattle.board_package.proofs.Lift.{agrees_on, climbs, faultless_both}
 use Rattle.board_package.proofs.labelled.build_labelled.Goals as goal
 
 -- ---- The manifest
@@ -132,3 +133,33 @@ returns-clause-handed g c =
     let named = c.in_ok-name_pieces.ensures.ok ∙ ap (λ (t : List (List Label)). labelled_board_of t (board_so_far c.take_files.new.parts)) c.as_slice.ensures in
     labelled_board_handed (g.P.Package.handed c.args.package.now) mid after c.args.manifest.now c.in_ok-listed.listed start end (board_so_far c.name_pieces.new.parts) _
     (nothing_yet _ _ _ c.new-parts.ensures.empty c.new-tables.ensures) named c.in_ok-listed.ensures.handed walked c.in_ok-board.ensures.fits c.in_ok-board.ensures.ok
+
+-- ---- What was handed over agrees with what is held
+
+pub returns-in_err-take_files-clause-grows : goal.returns-in_err-take_files-clause-grows
+returns-in_err-take_files-clause-grows g c = grows_on _ _ _ c.take_manifest.ensures.grows c.take_files.ensures.grows
+
+pub returns-in_err-take_files-clause-consistent : goal.returns-in_err-take_files-clause-consistent
+returns-in_err-take_files-clause-consistent g c =
+    agrees_on _ _ _ _ _ c.take_manifest.ensures.held c.take_manifest.ensures.grows c.take_files.ensures.grows c.take_manifest.ensures.consistent c.take_files.ensures.consistent
+
+pub returns-in_err-name_pieces-clause-grows : goal.returns-in_err-name_pieces-clause-grows
+returns-in_err-name_pieces-clause-grows g c = grows_on _ _ _ c.take_manifest.ensures.grows c.take_files.ensures.grows
+
+pub returns-in_err-name_pieces-clause-consistent : goal.returns-in_err-name_pieces-clause-consistent
+returns-in_err-name_pieces-clause-consistent g c =
+    agrees_on _ _ _ _ _ c.take_manifest.ensures.held c.take_manifest.ensures.grows c.take_files.ensures.grows c.take_manifest.ensures.consistent c.take_files.ensures.consistent
+
+pub returns-in_err-board-clause-grows : goal.returns-in_err-board-clause-grows
+returns-in_err-board-clause-grows g c = grows_on _ _ _ c.take_manifest.ensures.grows c.take_files.ensures.grows
+
+pub returns-in_err-board-clause-consistent : goal.returns-in_err-board-clause-consistent
+returns-in_err-board-clause-consistent g c =
+    agrees_on _ _ _ _ _ c.take_manifest.ensures.held c.take_manifest.ensures.grows c.take_files.ensures.grows c.take_manifest.ensures.consistent c.take_files.ensures.consistent
+
+pub returns-clause-grows : goal.returns-clause-grows
+returns-clause-grows g c = grows_on _ _ _ c.take_manifest.ensures.grows c.take_files.ensures.grows
+
+pub returns-clause-consistent : goal.returns-clause-consistent
+returns-clause-consistent g c =
+    agrees_on _ _ _ _ _ c.take_manifest.ensures.held c.take_manifest.ensures.grows c.take_files.ensures.grows c.take_manifest.ensures.consistent c.take_files.ensures.consistent

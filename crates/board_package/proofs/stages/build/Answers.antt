@@ -1,3 +1,4 @@
+use Rattle.board_io.proofs.Agreeing.{grows_on}
 use Rattle.board_shapes.specs.Plain.{plain_board}
 use Rattle.board_package.specs.Causes.{HandedCause, HasCause, IsFrameFault}
 use Rattle.board_package.specs.HandedBoard.{ComesHanded, IsFirstStopHanded}
@@ -6,7 +7,7 @@ use Rattle.board_package.specs.LabelledCauses.{labelled_so_far}
 use Rattle.board_package.specs.PackageBoard.{Comes, IsFirstStop}
 use Rattle.board_package.specs.Parts.{board_so_far}
 use Rattle.board_package.proofs.ByNetlist.{handed_plainly, no_labels, plain_cause, plain_handed, told_plainly}
-use Rattle.board_package.proofs.Lift.{climbs, if_err, if_ok}
+use Rattle.board_package.proofs.Lift.{agrees_on, climbs, if_err, if_ok}
 use Rattle.board_package.proofs.Staging.{board_handed, files_handed, framed_handed, manifest_handed}
 use Rattle.board_package.proofs.Taking.{board_is, files_cause, framed_cause}
 use Rattle.board_package.proofs.stages.build.Goals as goal
@@ -90,3 +91,19 @@ returns-in-Ok-clause-handed_cause g c =
     (λ why h. framed_handed a start.handed end.handed c.args.manifest.now c.in_ok-listed.listed start.so_far.board end.so_far.board (g.P.Package.faults c.args.package.now) (g.P.Package.faults c.take_files.new.package) (g.P.Package.lost c.take_files.new.package) why
     c.new-parts.ensures.empty c.in_ok-listed.ensures.handed walked h)
     c.framed.ensures.fault
+
+-- ---- What was handed over agrees with what is held
+
+pub returns-in-Err-Build-clause-grows : goal.returns-in-Err-Build-clause-grows
+returns-in-Err-Build-clause-grows g c = grows_on _ _ _ c.take_manifest.ensures.grows c.take_files.ensures.grows
+
+pub returns-in-Err-Build-clause-consistent : goal.returns-in-Err-Build-clause-consistent
+returns-in-Err-Build-clause-consistent g c =
+    agrees_on _ _ _ _ _ c.take_manifest.ensures.held c.take_manifest.ensures.grows c.take_files.ensures.grows c.take_manifest.ensures.consistent c.take_files.ensures.consistent
+
+pub returns-in-Ok-clause-grows : goal.returns-in-Ok-clause-grows
+returns-in-Ok-clause-grows g c = grows_on _ _ _ c.take_manifest.ensures.grows c.take_files.ensures.grows
+
+pub returns-in-Ok-clause-consistent : goal.returns-in-Ok-clause-consistent
+returns-in-Ok-clause-consistent g c =
+    agrees_on _ _ _ _ _ c.take_manifest.ensures.held c.take_manifest.ensures.grows c.take_files.ensures.grows c.take_manifest.ensures.consistent c.take_files.ensures.consistent
