@@ -43,21 +43,12 @@ pub fn build_labelled<P: Package>(
     ensures limits { IfOk result (λ board. IsWithinLimits (plain_board board)) }
     ensures fault { IfErr result (HasLabelledCause (P.held «package».old) (λ files stop. IsFirstLabelledStop files manifest.now stop) (λ files name. LabelledComes files manifest.now name) (P.faults «package».old) (P.faults «package».new) (P.lost «package».new)) }
 {
-    let mut file = Vec::new(alloc);
-    let listed = take_manifest(alloc, manifest, package, &mut file)?;
+    let listed = take_manifest(alloc, manifest, package)?;
     let mut parts = Parts::new(alloc, listed.layers);
     let mut tables = Rows::new(alloc);
     let entries = listed.files.as_slice();
     let naming = Naming::ByLabels;
-    take_files(
-        alloc,
-        package,
-        naming,
-        entries,
-        &mut parts,
-        &mut file,
-        &mut tables,
-    )?;
+    take_files(alloc, package, naming, entries, &mut parts, &mut tables)?;
     name_pieces(alloc, tables.as_slice(), &mut parts)?;
     let board = framed(parts)?;
     Ok(board)

@@ -51,33 +51,23 @@ pub fn build<P: Package>(
     ensures limits { IfOk result (λ board. IsWithinLimits (plain_board board)) }
     ensures fault { IfErr result (HasCause (P.held «package».old) (λ files stop. IsFirstStop files manifest.now stop) (λ files name. Comes files manifest.now name) (P.faults «package».old) (P.faults «package».new) (P.lost «package».new)) }
 {
-    let mut file = Vec::new(alloc);
-    let listed = take_manifest(alloc, manifest, package, &mut file)?;
+    let listed = take_manifest(alloc, manifest, package)?;
     let mut parts = Parts::new(alloc, listed.layers);
     let mut tables = Rows::new(alloc);
     let entries = listed.files.as_slice();
     let naming = Naming::ByNetlist;
-    match take_files(
-        alloc,
-        package,
-        naming,
-        entries,
-        &mut parts,
-        &mut file,
-        &mut tables,
-    ) {
+    match take_files(alloc, package, naming, entries, &mut parts, &mut tables) {
         Ok(()) => framed(parts),
         Err(LabelledFault::Build(why)) => Err(why),
         Err(LabelledFault::Label { .. }) => unreachable!(),
     }
 }
 
-/// Takes the manifest of this name into `file`, and reads it.
+/// Takes the manifest of this name, and reads it.
 pub fn take_manifest<P: Package>(
     alloc: Global,
     manifest: &Text,
     package: &mut P,
-    file: &mut Vec<u8>,
 ) -> Result<Manifest, BuildFault>
     ensures held { P.held «package».new ≡ P.held «package».old }
     ensures grows { Grows (P.handed «package».old) (P.handed «package».new) }
@@ -91,7 +81,8 @@ pub fn take_manifest<P: Package>(
     ensures lawful { IfOk result (λ m. IsLawful m) }
     ensures cause { IfErr result (HasCause (P.held «package».old) (λ files stop. StopsAtManifest files manifest.now stop) (λ files name. name ≡ manifest.now) (P.faults «package».old) (P.faults «package».new) (P.lost «package».new)) }
 {
-    take_file(alloc, manifest, package, file)?;
+    let mut file = Vec::new(alloc);
+    take_file(alloc, manifest, package, &mut file)?;
     match read_manifest(alloc, file.as_slice()) {
         Ok(listed) => Ok(listed),
         Err(ManifestFault::NotJson) => Err(BuildFault::NotJson),
@@ -107,7 +98,6 @@ pub fn take_files<P: Package>(
     naming: Naming,
     entries: &[Entry],
     parts: &mut Parts,
-    file: &mut Vec<u8>,
     tables: &mut Rows<Rows<Label>>,
 ) -> Result<(), LabelledFault>
     requires lawful { IsLawfulParts parts.old }
@@ -126,8 +116,9 @@ pub fn take_files<P: Package>(
     ensures rise { OnOk result (All Rise tables.new) }
     ensures cause { IfErr result (HasLabelledCause (P.held «package».old) (λ files stop. StopsLabelledAmong naming files (filter (λ e. is_taken naming e.role) entries.now) (labelled_so_far parts.old tables.old) stop) (λ files name. LabelledComesAmong naming files (filter (λ e. is_taken naming e.role) entries.now) (labelled_so_far parts.old tables.old) name) (P.faults «package».old) (P.faults «package».new) (P.lost «package».new)) }
 {
+    let mut file = Vec::new(alloc);
     for entry in entries {
-        take_needed(alloc, package, naming, entry, parts, file, tables)?;
+        take_needed(alloc, package, naming, entry, parts, &mut file, tables)?;
     }
     Ok(())
 }
