@@ -9,6 +9,7 @@ pub mod JsonPrefix
 pub mod LabelCauses
 pub mod LabelStaging
 pub mod LabelledOutcome
+pub mod LabelsCut
 pub mod Lift
 pub mod Listed
 pub mod Named
