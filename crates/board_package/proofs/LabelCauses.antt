@@ -7,7 +7,7 @@ use Rattle.x2_nets.specs.declared.table.Label.{Label}
 use Rattle.board_package.specs.Causes.{HasCause, IsFrameFault}
 use Rattle.board_package.specs.LabelledBoard.{GoesLabelled, IsFirstLabelledStop, IsLabelledBoardOf, Labelled, LabelledComes, LabelledComesAmong, LabelledStop, Lists, Mislabels, StopsLabelledAmong, is_taken, labelled_board_of, labelled_order, mislabelled, nothing_labelled, unbuilt}
 use Rattle.board_package.specs.LabelledCauses.{HasLabelledCause, IsMislabelling, KeepsLabelledFaults}
-use Rattle.board_package.specs.PackageBoard.{Goes, IsHeld, IsManifestFile, Stop, absent, longer, not_json, bad_manifest, refused, frame_too_large, StopsAt, StopsAtFrame, StopsAtManifest, WalksBy}
+use Rattle.board_package.specs.PackageBoard.{Goes, IsHeld, IsManifestFile, Stop, frame_too_large, StopsAt, StopsAtFrame, StopsAtManifest, WalksBy}
 use Rattle.board_package.specs.Parts.{empty_board}
 use Rattle.board_package.specs.declared.entry.Entry.{Entry}
 use Rattle.board_package.specs.declared.entry.Naming.{Naming}
@@ -167,12 +167,8 @@ files_labelled_cause held after manifest listed start before between now lost wh
 
 -- the frame of a board is that of its pieces, whatever its probes
 pub frame_of_pieces : (tables : List (List Label)) (b : PlainBoard) (stop : Stop) → StopsAtFrame (labelled_board_of tables b) stop → StopsAtFrame b stop
-frame_of_pieces tables b (absent name) s = s
-frame_of_pieces tables b (longer name) s = s
-frame_of_pieces tables b not_json s = s
-frame_of_pieces tables b bad_manifest s = s
-frame_of_pieces tables b (refused name why) s = s
 frame_of_pieces tables b (frame_too_large box) s = s
+frame_of_pieces tables b other s = absurd s
 
 -- a frame that is too large is a cause of the package
 pub frame_labelled_cause : (held after : Option Files) (manifest : List ℕ) (listed : Manifest) (start end : Labelled) (board : PlainBoard) (before now : ℕ) (lost : List ℕ) (why : BuildFault) → after ≡ held → start ≡ nothing_labelled listed.layers → board ≡ labelled_board_of end.tables end.board
