@@ -33,6 +33,10 @@ all_back : (files : Files) (xs ys : List Handed) → AllByRecursion (Agrees file
 all_back files [] ys h = h
 all_back files (x ∷ xs) ys h = all_back files xs ys h.1
 
+all_both : (files : Files) (xs ys : List Handed) → AllByRecursion (Agrees files) xs → AllByRecursion (Agrees files) ys → AllByRecursion (Agrees files) (xs ++ ys)
+all_both files [] ys h k = k
+all_both files (x ∷ xs) ys h k = (h.0, all_both files xs ys h.1 k)
+
 gained : (files : Files) (a b g : List Handed) → b ≡ a ++ g → AgreeWith files a b → AllByRecursion (Agrees files) g
 gained files a b g e h = subst (λ xs. AllByRecursion (Agrees files) xs) (ap (λ (xs : List Handed). drop (length a) xs) e ∙ drop-append_seam a g) h
 
@@ -45,6 +49,11 @@ agree_front files a b c (g, e) (h, f) w = gains files a b g e (all_front files g
 
 pub agree_back : (files : Files) (a b c : List Handed) → Grows a b → Grows b c → AgreeWith files a c → AgreeWith files b c
 agree_back files a b c (g, e) (h, f) w = gains files b c h f (all_back files g h (gained files a c (g ++ h) (f ∙ (ap (λ (xs : List Handed). xs ++ h) e ∙ append_assoc a g h)) w))
+
+-- with both stages
+pub agree_on : (files : Files) (a b c : List Handed) → Grows a b → Grows b c → AgreeWith files a b → AgreeWith files b c → AgreeWith files a c
+agree_on files a b c (g, e) (h, f) v w =
+    gains files a c (g ++ h) (f ∙ (ap (λ (xs : List Handed). xs ++ h) e ∙ append_assoc a g h)) (all_both files g h (gained files a b g e v) (gained files b c h f w))
 
 -- with one file
 pub agree_file : (files : Files) (a b : List Handed) (name bytes : List ℕ) → b ≡ with_file a name bytes → AgreeWith files a b → files name ≡ Some bytes

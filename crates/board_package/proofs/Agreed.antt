@@ -8,8 +8,9 @@ use Rattle.board_package.specs.HandedBoard.{ComesHanded, ComesNext, Course, Goes
 use Rattle.board_package.specs.HandedLabelled.{GoesLabelledHanded, IsFirstLabelledStopHanded, IsLabelledBoardHanded, LabelledComesHanded, LabelledCourse, StopsLabelledAtHanded, unlabelled}
 use Rattle.board_package.specs.HandedLaw.{HandedIsHeld, HoldsWhatWasHanded}
 use Rattle.board_package.specs.LabelledBoard.{GoesLabelled, IsFirstLabelledStop, IsLabelledBoardOf, LabelledComes, LabelledStop, OfBuild, StopsLabelledAt, mislabelled, unbuilt}
-use Rattle.board_package.specs.PackageBoard.{AtOneBy, Comes, Goes, IsBoardOf, IsFirstStop, IsHeld, IsHeldWith, Stop, StopsAt, StopsAtManifest, StopsTaking, WalksBy, absent, longer, not_json, bad_manifest, refused, frame_too_large}
+use Rattle.board_package.specs.PackageBoard.{AtOneBy, Comes, Goes, IsBoardOf, IsFirstStop, IsHeld, IsHeldWith, Stop, StopsAt, StopsAtManifest, StopsTaking, WalksBy, longer, not_json, bad_manifest, refused}
 use Rattle.board_package.specs.declared.entry.Entry.{Entry}
+use Rattle.board_package.specs.declared.entry.Naming.TheVariants.{ByLabels}
 
 -- ---- One file
 
@@ -23,39 +24,25 @@ grows_handed : (a b : List Handed) (name bytes : List ℕ) → IsHanded a b name
 grows_handed a b name bytes h = grows_file a b name bytes h.next
 
 untaken : (f : Files) (a b : List Handed) (name : List ℕ) (stop : Stop) → AgreeWith f a b → StopsHanding a b name stop → StopsTaking f name stop
-untaken f a b name (absent other) w s = absurd s
 untaken f a b name (longer other) w s = (s.0, agree_long f a b name _ s.1 w)
-untaken f a b name not_json w s = absurd s
-untaken f a b name bad_manifest w s = absurd s
-untaken f a b name (refused other why) w s = absurd s
-untaken f a b name (frame_too_large box) w s = absurd s
+untaken f a b name other w s = absurd s
 
 grows_stop : (a b : List Handed) (name : List ℕ) (stop : Stop) → StopsHanding a b name stop → Grows a b
-grows_stop a b name (absent other) s = absurd s
 grows_stop a b name (longer other) s = grows_long a b name _ s.1
-grows_stop a b name not_json s = absurd s
-grows_stop a b name bad_manifest s = absurd s
-grows_stop a b name (refused other why) s = absurd s
-grows_stop a b name (frame_too_large box) s = absurd s
+grows_stop a b name other s = absurd s
 
 abbrev goes : (f : Files) (e : Entry) (c d : Course) → AgreeWith f c.handed d.handed → GoesHanded e c d → Goes f e c.board d.board
 goes f e c d w g = record { bytes = g.bytes; held = held f c.handed d.handed e.name g.bytes w g.handed; read = g.read }
 
 stops_at : (f : Files) (e : Entry) (c : Course) (b : List Handed) (stop : Stop) → AgreeWith f c.handed b → StopsAtHanded e c b stop → StopsAt f e c.board stop
-stops_at f e c b (absent other) w s = absurd s
 stops_at f e c b (longer other) w s = untaken f c.handed b e.name (longer other) w s
-stops_at f e c b not_json w s = absurd s
-stops_at f e c b bad_manifest w s = absurd s
 stops_at f e c b (refused other why) w s = (s.0, record { bytes = s.1.bytes; held = held f c.handed b e.name s.1.bytes w s.1.handed; refused = s.1.refused })
-stops_at f e c b (frame_too_large box) w s = absurd s
+stops_at f e c b other w s = absurd s
 
 grows_at : (e : Entry) (c : Course) (b : List Handed) (stop : Stop) → StopsAtHanded e c b stop → Grows c.handed b
-grows_at e c b (absent other) s = absurd s
 grows_at e c b (longer other) s = grows_stop c.handed b e.name (longer other) s
-grows_at e c b not_json s = absurd s
-grows_at e c b bad_manifest s = absurd s
 grows_at e c b (refused other why) s = grows_handed c.handed b e.name s.1.bytes s.1.handed
-grows_at e c b (frame_too_large box) s = absurd s
+grows_at e c b other s = absurd s
 
 -- ---- The files, by any steps that tell what was handed over
 
@@ -107,12 +94,10 @@ comes_in f b name = record { grows = λ e c h. grows_none c.handed b h.1; is = �
 -- ---- The package
 
 manifest_stop : (f : Files) (a b : List Handed) (name : List ℕ) (stop : Stop) → AgreeWith f a b → StopsAtManifestHanded a b name stop → StopsAtManifest f name stop
-manifest_stop f a b name (absent other) w s = absurd s
 manifest_stop f a b name (longer other) w s = untaken f a b name (longer other) w s
 manifest_stop f a b name not_json w s = held_with f a b name _ w s
 manifest_stop f a b name bad_manifest w s = held_with f a b name _ w s
-manifest_stop f a b name (refused other why) w s = absurd s
-manifest_stop f a b name (frame_too_large box) w s = absurd s
+manifest_stop f a b name other w s = absurd s
 
 module _ (f : Files) (a b : List Handed) (w : AgreeWith f a b) where
   board_is : (name : List ℕ) (board : PlainBoard) → IsBoardHanded a b name board → IsBoardOf f name board
@@ -160,21 +145,21 @@ module _ (f : Files) (a b : List Handed) (w : AgreeWith f a b) where
 
 -- ---- By labels
 
-goes_labelled : (f : Files) (e : Entry) (c d : LabelledCourse) → AgreeWith f c.handed d.handed → GoesLabelledHanded e c d → GoesLabelled f e c.so_far d.so_far
+goes_labelled : (f : Files) (e : Entry) (c d : LabelledCourse) → AgreeWith f c.handed d.handed → GoesLabelledHanded ByLabels e c d → GoesLabelled ByLabels f e c.so_far d.so_far
 goes_labelled f e c d w g = record { goes = goes f e (unlabelled c) (unlabelled d) w g.goes; lists = g.lists }
 
-stops_labelled_at : (f : Files) (e : Entry) (c : LabelledCourse) (b : List Handed) (stop : LabelledStop) → AgreeWith f c.handed b → StopsLabelledAtHanded e c b stop → StopsLabelledAt f e c.so_far stop
+stops_labelled_at : (f : Files) (e : Entry) (c : LabelledCourse) (b : List Handed) (stop : LabelledStop) → AgreeWith f c.handed b → StopsLabelledAtHanded ByLabels e c b stop → StopsLabelledAt ByLabels f e c.so_far stop
 stops_labelled_at f e c b (unbuilt stop) w s = stops_at f e (unlabelled c) b stop w s
 stops_labelled_at f e c b (mislabelled name command at) w s = (s.0, record { after = s.1.board; goes = goes f e (unlabelled c) (course b s.1.board) w s.1.goes; amiss = s.1.amiss })
 
-grows_labelled_at : (e : Entry) (c : LabelledCourse) (b : List Handed) (stop : LabelledStop) → StopsLabelledAtHanded e c b stop → Grows c.handed b
+grows_labelled_at : (e : Entry) (c : LabelledCourse) (b : List Handed) (stop : LabelledStop) → StopsLabelledAtHanded ByLabels e c b stop → Grows c.handed b
 grows_labelled_at e c b (unbuilt stop) s = grows_at e (unlabelled c) b stop s
 grows_labelled_at e c b (mislabelled name command at) s = grows_handed c.handed b e.name s.1.goes.bytes s.1.goes.handed
 
-follows_labelled : (f : Files) → Follows f (λ (c : LabelledCourse). c.handed) (λ (c : LabelledCourse). c.so_far) GoesLabelledHanded (GoesLabelled f)
+follows_labelled : (f : Files) → Follows f (λ (c : LabelledCourse). c.handed) (λ (c : LabelledCourse). c.so_far) (GoesLabelledHanded ByLabels) (GoesLabelled ByLabels f)
 follows_labelled f = record { grows = λ e c d g. grows_handed c.handed d.handed e.name g.goes.bytes g.goes.handed; goes = λ e c d a g. goes_labelled f e c d a g }
 
-labelled_stops_in : (f : Files) (b : List Handed) (stop : LabelledStop) → EndsIn f (λ (c : LabelledCourse). c.handed) (λ (c : LabelledCourse). c.so_far) b (λ e c. StopsLabelledAtHanded e c b stop) (λ e so_far. StopsLabelledAt f e so_far stop)
+labelled_stops_in : (f : Files) (b : List Handed) (stop : LabelledStop) → EndsIn f (λ (c : LabelledCourse). c.handed) (λ (c : LabelledCourse). c.so_far) b (λ e c. StopsLabelledAtHanded ByLabels e c b stop) (λ e so_far. StopsLabelledAt ByLabels f e so_far stop)
 labelled_stops_in f b stop = record { grows = λ e c h. grows_labelled_at e c b stop h; is = λ e c a h. stops_labelled_at f e c b stop a h }
 
 labelled_comes_in : (f : Files) (b : List Handed) (name : List ℕ) → EndsIn f (λ (c : LabelledCourse). c.handed) (λ (c : LabelledCourse). c.so_far) b (λ e c. ComesNext c.handed b e.name name) (λ e so_far. e.name ≡ name)
@@ -188,12 +173,12 @@ module _ (f : Files) (a b : List Handed) (w : AgreeWith f a b) where
   labelled_is : (name : List ℕ) (board : PlainBoard) → IsLabelledBoardHanded a b name board → IsLabelledBoardOf f name board
   labelled_is name board h =
       let g = grows_handed a h.first name h.manifest.bytes h.manifest.handed in
-      let i = grows_walk f _ _ GoesLabelledHanded (GoesLabelled f) (follows_labelled f) _ _ _ h.walked in
+      let i = grows_walk f _ _ (GoesLabelledHanded ByLabels) (GoesLabelled ByLabels f) (follows_labelled f) _ _ _ h.walked in
       record {
         listed = h.listed;
         manifest = held_with f a h.first name _ (agree_front f a h.first b g i w) h.manifest;
         end = h.end;
-        walked = walks f _ _ GoesLabelledHanded (GoesLabelled f) (follows_labelled f) _ _ _ (agree_back f a h.first b g i w) h.walked;
+        walked = walks f _ _ (GoesLabelledHanded ByLabels) (GoesLabelled ByLabels f) (follows_labelled f) _ _ _ (agree_back f a h.first b g i w) h.walked;
         frame = h.frame;
         is = h.is;
       }
@@ -204,18 +189,18 @@ module _ (f : Files) (a b : List Handed) (w : AgreeWith f a b) where
       let g = grows_handed a h.first name h.manifest.bytes h.manifest.handed in
       elim h.stops [
         | inl s ↦
-            let i = grows_one f _ _ GoesLabelledHanded (GoesLabelled f) b _ _ (follows_labelled f) (labelled_stops_in f b stop) _ _ s in
+            let i = grows_one f _ _ (GoesLabelledHanded ByLabels) (GoesLabelled ByLabels f) b _ _ (follows_labelled f) (labelled_stops_in f b stop) _ _ s in
             inr (record {
               listed = h.listed;
               manifest = held_with f a h.first name _ (agree_front f a h.first b g i w) h.manifest;
-              stops = inl (at_one f _ _ GoesLabelledHanded (GoesLabelled f) b _ _ (follows_labelled f) (labelled_stops_in f b stop) _ _ (agree_back f a h.first b g i w) s);
+              stops = inl (at_one f _ _ (GoesLabelledHanded ByLabels) (GoesLabelled ByLabels f) b _ _ (follows_labelled f) (labelled_stops_in f b stop) _ _ (agree_back f a h.first b g i w) s);
             })
         | inr s ↦
-            let i = grows_walk f _ _ GoesLabelledHanded (GoesLabelled f) (follows_labelled f) _ _ _ s.walked in
+            let i = grows_walk f _ _ (GoesLabelledHanded ByLabels) (GoesLabelled ByLabels f) (follows_labelled f) _ _ _ s.walked in
             inr (record {
               listed = h.listed;
               manifest = held_with f a h.first name _ (agree_front f a h.first b g i w) h.manifest;
-              stops = inr (record { end = s.end; walked = walks f _ _ GoesLabelledHanded (GoesLabelled f) (follows_labelled f) _ _ _ (agree_back f a h.first b g i w) s.walked; frame = s.frame });
+              stops = inr (record { end = s.end; walked = walks f _ _ (GoesLabelledHanded ByLabels) (GoesLabelled ByLabels f) (follows_labelled f) _ _ _ (agree_back f a h.first b g i w) s.walked; frame = s.frame });
             })
       ]
 
@@ -223,11 +208,11 @@ module _ (f : Files) (a b : List Handed) (w : AgreeWith f a b) where
   labelled_comes_is name other (inl h) = inl h.0
   labelled_comes_is name other (inr h) =
       let g = grows_handed a h.first name h.manifest_file.bytes h.manifest_file.handed in
-      let i = grows_one f _ _ GoesLabelledHanded (GoesLabelled f) b _ _ (follows_labelled f) (labelled_comes_in f b other) _ _ h.comes in
+      let i = grows_one f _ _ (GoesLabelledHanded ByLabels) (GoesLabelled ByLabels f) b _ _ (follows_labelled f) (labelled_comes_in f b other) _ _ h.comes in
       inr (record {
         listed = h.listed;
         manifest_file = held_with f a h.first name _ (agree_front f a h.first b g i w) h.manifest_file;
-        comes = at_one f _ _ GoesLabelledHanded (GoesLabelled f) b _ _ (follows_labelled f) (labelled_comes_in f b other) _ _ (agree_back f a h.first b g i w) h.comes;
+        comes = at_one f _ _ (GoesLabelledHanded ByLabels) (GoesLabelled ByLabels f) b _ _ (follows_labelled f) (labelled_comes_in f b other) _ _ (agree_back f a h.first b g i w) h.comes;
       })
 
 holds : (f : Files) (a b : List Handed) (name : List ℕ) → AgreeWith f a b → HoldsWhatWasHanded f a b name

@@ -15,12 +15,16 @@ use Rattle.serde_json.specs.Data as json
 use Rattle.serde_json.specs.Data.{Data}
 use Rattle.serde_json.specs.Read.{read}
 use Rattle.texts.specs.Words.{is}
-use Rattle.board_package.specs.Laws.{CutIsRefusedOrTheSame, IsRefusing, cut_off, FilesHaveOneAnswer}
+use Rattle.x2_nets.specs.Labels as labels_file
+use Rattle.x2_nets.specs.declared.table.Label.{Label}
+use Rattle.board_package.specs.LabelledBoard.{GoesLabelled, Labelled, Lists, labelled_order, nothing_labelled}
+use Rattle.board_package.specs.Laws.{CutIsRefusedOrTheSame, IsRefusing, LabelledCutIsRefusedOrTheSame, cut_off, FilesHaveOneAnswer}
 use Rattle.board_package.specs.Manifest.{IsManifest, IsNotJson, manifest_of}
-use Rattle.board_package.specs.PackageBoard.{Stop, not_json, refused, IsHeld, Goes, StopsAt, StopsAmong, StopsAtManifest, IsManifestFile, Walks}
+use Rattle.board_package.specs.PackageBoard.{AtOneBy, Stop, not_json, refused, IsHeld, Goes, StopsAt, StopsAtManifest, IsManifestFile, WalksBy}
 use Rattle.board_package.specs.Parts.{empty_board, with_pieces}
 use Rattle.board_package.specs.Reading.{Reads, Refuses, layer_place, drill_place}
 use Rattle.board_package.specs.declared.entry.Entry.{Entry}
+use Rattle.board_package.specs.declared.entry.Naming.TheVariants.{ByLabels}
 use Rattle.board_package.specs.declared.entry.Role.{Role}
 use Rattle.board_package.specs.declared.entry.Role.TheVariants as role
 use Rattle.board_package.specs.declared.manifest.Manifest.{Manifest}
@@ -73,10 +77,12 @@ file_goes all same files name n e before after g = elim (held_cut files name e.n
 
 -- ---- The files in their order
 
-walk_goes : FilesHaveOneAnswer → HavePrefixes → (files : Files) (name : List ℕ) (n : ℕ) (entries : List Entry) (before after : PlainBoard) → Walks files entries before after → Walks (cut_off files name n) entries before after ⊎ ((stop : Stop) × IsRefusing stop × StopsAmong (cut_off files name n) entries before stop)
-walk_goes all same files name n [] before after w = inl w
-walk_goes all same files name n (e ∷ entries) before after (next, goes, walks) = elim (file_goes all same files name n e before next goes) [
-  | inl on ↦ elim (walk_goes all same files name n entries next after walks) [
+-- where each file goes on or stops the package, so does the walk
+walk_goes : {S : Type 0} (Step Cut : Entry → S → S → Type 0) (At : Entry → S → Stop → Type 0) → ((e : Entry) (a b : S) → Step e a b → Cut e a b ⊎ ((stop : Stop) × IsRefusing stop × At e a stop))
+    → (entries : List Entry) (a b : S) → WalksBy Step entries a b → WalksBy Cut entries a b ⊎ ((stop : Stop) × IsRefusing stop × AtOneBy Cut entries a (λ e s. At e s stop))
+walk_goes Step Cut At one [] a b w = inl w
+walk_goes Step Cut At one (e ∷ entries) a b (next, goes, walks) = elim (one e a next goes) [
+  | inl on ↦ elim (walk_goes Step Cut At one entries next b walks) [
     | inl more ↦ inl (next, on, more)
     | inr stops ↦ inr (stops.0, stops.1, inr (next, on, stops.2))
   ]
@@ -121,8 +127,38 @@ manifest_goes files name n manifest m f = elim (held_cut files name manifest f.b
 
 pub cut_is_refused_or_the_same : FilesHaveOneAnswer → HavePrefixes → (files : Files) (manifest : List ℕ) → CutIsRefusedOrTheSame files manifest
 cut_is_refused_or_the_same all same files manifest board b name n = elim (manifest_goes files name n manifest b.listed b.manifest) [
-  | inl listed ↦ elim (walk_goes all same files name n b.listed.files (empty_board b.listed.layers) board b.walked) [
+  | inl listed ↦ elim (walk_goes (Goes files) (Goes (cut_off files name n)) (λ e x stop. StopsAt (cut_off files name n) e x stop) (λ e x y g. file_goes all same files name n e x y g) b.listed.files (empty_board b.listed.layers) board b.walked) [
     | inl walked ↦ inr (record { listed = b.listed; manifest = listed; walked = walked; frame = b.frame })
+    | inr stops ↦ inl (stops.0, stops.1, inr (record { listed = b.listed; manifest = listed; stops = inl stops.2 }))
+  ]
+  | inr stops ↦ inl (stops.0, stops.1, inl stops.2)
+]
+
+-- ---- By labels
+
+-- a copper file that is cut off and read has the labels of the whole file
+abbrev pub HaveLabelsOfPrefixes : Type 0
+HaveLabelsOfPrefixes = (file : List ℕ) (p : LayerPlace) (pieces others : List PlainPiece) (n : ℕ) (labels : List Label) → layer_file.IsRead file p pieces → layer_file.IsRead (take n file) p others → labels_file.IsRead file labels → labels_file.IsRead (take n file) labels
+
+prefix_lists : HaveLabelsOfPrefixes → (r : Role) (number : ℕ) (bytes : List ℕ) (n : ℕ) (before after other : PlainBoard) (old new : List (List Label)) → Reads r number bytes before after → Reads r number (take n bytes) before other → Lists ByLabels r bytes old new → Lists ByLabels r (take n bytes) old new
+prefix_lists same (role.Copper layer) number bytes n before after other old new (pieces, read, is) (others, part, are) (labels, listed, more) = (labels, same bytes (layer_place layer number before) pieces others n labels read part listed, more)
+prefix_lists same (role.Drill from to) number bytes n before after other old new read part lists = lists
+prefix_lists same role.Netlist number bytes n before after other old new read part lists = lists
+
+file_goes_labelled : FilesHaveOneAnswer → HavePrefixes → HaveLabelsOfPrefixes → (files : Files) (name : List ℕ) (n : ℕ) (e : Entry) (before after : Labelled) → GoesLabelled ByLabels files e before after
+    → GoesLabelled ByLabels (cut_off files name n) e before after ⊎ ((stop : Stop) × IsRefusing stop × StopsAt (cut_off files name n) e before.board stop)
+file_goes_labelled all same labels files name n e before after g = elim (held_cut files name e.name g.goes.bytes n g.goes.held) [
+  | inl whole ↦ inl (record { goes = record { bytes = g.goes.bytes; held = whole; read = g.goes.read }; lists = g.lists })
+  | inr cut ↦ elim (prefix_goes all same e.role e.number g.goes.bytes n before.board after.board g.goes.read) [
+    | inl reads ↦ inl (record { goes = record { bytes = take n g.goes.bytes; held = cut; read = reads }; lists = prefix_lists labels e.role e.number g.goes.bytes n before.board after.board after.board before.tables after.tables g.goes.read reads g.lists })
+    | inr stops ↦ inr (refused e.name stops.0, tt, (refl, record { bytes = take n g.goes.bytes; held = cut; refused = stops.1 }))
+  ]
+]
+
+pub labelled_cut_is_refused_or_the_same : FilesHaveOneAnswer → HavePrefixes → HaveLabelsOfPrefixes → (files : Files) (manifest : List ℕ) → LabelledCutIsRefusedOrTheSame files manifest
+labelled_cut_is_refused_or_the_same all same labels files manifest board b name n = elim (manifest_goes files name n manifest b.listed b.manifest) [
+  | inl listed ↦ elim (walk_goes (GoesLabelled ByLabels files) (GoesLabelled ByLabels (cut_off files name n)) (λ e x stop. StopsAt (cut_off files name n) e x.board stop) (λ e x y g. file_goes_labelled all same labels files name n e x y g) (labelled_order b.listed) (nothing_labelled b.listed.layers) b.end b.walked) [
+    | inl walked ↦ inr (record { listed = b.listed; manifest = listed; end = b.end; walked = walked; frame = b.frame; is = b.is })
     | inr stops ↦ inl (stops.0, stops.1, inr (record { listed = b.listed; manifest = listed; stops = inl stops.2 }))
   ]
   | inr stops ↦ inl (stops.0, stops.1, inl stops.2)

@@ -9,6 +9,7 @@ use Rattle.board_package.specs.Laws.{HasOneLabelledOutcome, FilesHaveOneAnswer}
 use Rattle.board_package.specs.LabelledBoard.{GoesLabelled, IsFirstLabelledStop, IsLabelledBoardOf, IsLabelledFrameStop, IsMislabelled, Labelled, LabelledStop, Lists, Mislabels, OfBuild, StopsLabelledAmong, StopsLabelledAt, labelled_board_of, labelled_order, mislabelled, nothing_labelled, unbuilt}
 use Rattle.board_package.specs.PackageBoard.{IsManifestFile, StopsAtFrame, StopsAtManifest, WalksBy}
 use Rattle.board_package.specs.declared.entry.Entry.{Entry}
+use Rattle.board_package.specs.declared.entry.Naming.TheVariants.{ByLabels}
 use Rattle.board_package.specs.declared.entry.Role.{Role}
 use Rattle.board_package.specs.declared.entry.Role.TheVariants as role
 use Rattle.board_package.specs.declared.manifest.Manifest.{Manifest}
@@ -22,18 +23,18 @@ pub record HaveLabelAnswers : Type 0 where
 
 -- ---- One file
 
-lists_one : HaveLabelAnswers → (r : Role) (bytes : List ℕ) (before x y : List (List Label)) → Lists r bytes before x → Lists r bytes before y → x ≡ y
+lists_one : HaveLabelAnswers → (r : Role) (bytes : List ℕ) (before x y : List (List Label)) → Lists ByLabels r bytes before x → Lists ByLabels r bytes before y → x ≡ y
 lists_one all (role.Copper layer) bytes before x y (a, read, is) (b, read', is') =
     let e : a ≡ b = (all.labels bytes).one_value a b read read' in is ∙ ap (λ (l : List Label). before ++ l ∷ []) e ∙ sym is'
 lists_one all (role.Drill from to) bytes before x y p q = p ∙ sym q
 lists_one all role.Netlist bytes before x y p q = p ∙ sym q
 
-lists_not_amiss : HaveLabelAnswers → (r : Role) (bytes : List ℕ) (before x : List (List Label)) (command at : ℕ) → Lists r bytes before x → Mislabels r bytes command at → ⊥
+lists_not_amiss : HaveLabelAnswers → (r : Role) (bytes : List ℕ) (before x : List (List Label)) (command at : ℕ) → Lists ByLabels r bytes before x → Mislabels ByLabels r bytes command at → ⊥
 lists_not_amiss all (role.Copper layer) bytes before x command at (a, read, is) amiss = (all.labels bytes).not_both a no_text command at read amiss
 lists_not_amiss all (role.Drill from to) bytes before x command at p amiss = amiss
 lists_not_amiss all role.Netlist bytes before x command at p amiss = amiss
 
-amiss_one : HaveLabelAnswers → (r : Role) (bytes : List ℕ) (command at n place : ℕ) → Mislabels r bytes command at → Mislabels r bytes n place → (command ≡ n) × (at ≡ place)
+amiss_one : HaveLabelAnswers → (r : Role) (bytes : List ℕ) (command at n place : ℕ) → Mislabels ByLabels r bytes command at → Mislabels ByLabels r bytes n place → (command ≡ n) × (at ≡ place)
 amiss_one all (role.Copper layer) bytes command at n place p q = let e = (all.labels bytes).one_fault no_text no_text command n at place p q in (e.1, e.2)
 amiss_one all (role.Drill from to) bytes command at n place p q = absurd p
 amiss_one all role.Netlist bytes command at n place p q = absurd p
@@ -43,24 +44,24 @@ same_labelled x y p q =
     let a : x ≡ record { board = y.board; tables = x.tables } = ap (λ (b : PlainBoard). record { board = b; tables = x.tables }) p in
     a ∙ ap (λ (t : List (List Label)). record { board = y.board; tables = t }) q
 
-goes_labelled_one : HaveLabelAnswers → (files : Files) (e : Entry) (before x y : Labelled) → GoesLabelled files e before x → GoesLabelled files e before y → x ≡ y
+goes_labelled_one : HaveLabelAnswers → (files : Files) (e : Entry) (before x y : Labelled) → GoesLabelled ByLabels files e before x → GoesLabelled ByLabels files e before y → x ≡ y
 goes_labelled_one all files e before x y g h =
     let same = held_one files e.name g.goes.bytes h.goes.bytes g.goes.held h.goes.held in
     same_labelled x y (goes_one all.files files e before.board x.board y.board g.goes h.goes)
-    (lists_one all e.role h.goes.bytes before.tables x.tables y.tables (subst (λ bytes. Lists e.role bytes before.tables x.tables) same g.lists) h.lists)
+    (lists_one all e.role h.goes.bytes before.tables x.tables y.tables (subst (λ bytes. Lists ByLabels e.role bytes before.tables x.tables) same g.lists) h.lists)
 
-goes_not_stops_labelled : HaveLabelAnswers → (files : Files) (e : Entry) (before x : Labelled) (stop : LabelledStop) → GoesLabelled files e before x → StopsLabelledAt files e before stop → ⊥
+goes_not_stops_labelled : HaveLabelAnswers → (files : Files) (e : Entry) (before x : Labelled) (stop : LabelledStop) → GoesLabelled ByLabels files e before x → StopsLabelledAt ByLabels files e before stop → ⊥
 goes_not_stops_labelled all files e before x (unbuilt stop) g s = goes_not_stops all.files files e before.board x.board stop g.goes s
 goes_not_stops_labelled all files e before x (mislabelled name command at) g s =
     let same = held_one files e.name g.goes.bytes s.1.goes.bytes g.goes.held s.1.goes.held in
-    lists_not_amiss all e.role s.1.goes.bytes before.tables x.tables command at (subst (λ bytes. Lists e.role bytes before.tables x.tables) same g.lists) s.1.amiss
+    lists_not_amiss all e.role s.1.goes.bytes before.tables x.tables command at (subst (λ bytes. Lists ByLabels e.role bytes before.tables x.tables) same g.lists) s.1.amiss
 
-mislabelled_one : HaveLabelAnswers → (files : Files) (e : Entry) (before : PlainBoard) (command at n place : ℕ) → IsMislabelled files e before command at → IsMislabelled files e before n place → (command ≡ n) × (at ≡ place)
+mislabelled_one : HaveLabelAnswers → (files : Files) (e : Entry) (before : PlainBoard) (command at n place : ℕ) → IsMislabelled ByLabels files e before command at → IsMislabelled ByLabels files e before n place → (command ≡ n) × (at ≡ place)
 mislabelled_one all files e before command at n place s t =
     let same = held_one files e.name s.goes.bytes t.goes.bytes s.goes.held t.goes.held in
-    amiss_one all e.role t.goes.bytes command at n place (subst (λ bytes. Mislabels e.role bytes command at) same s.amiss) t.amiss
+    amiss_one all e.role t.goes.bytes command at n place (subst (λ bytes. Mislabels ByLabels e.role bytes command at) same s.amiss) t.amiss
 
-stops_labelled_one : HaveLabelAnswers → (files : Files) (e : Entry) (before : Labelled) (stop other : LabelledStop) → StopsLabelledAt files e before stop → StopsLabelledAt files e before other → stop ≡ other
+stops_labelled_one : HaveLabelAnswers → (files : Files) (e : Entry) (before : Labelled) (stop other : LabelledStop) → StopsLabelledAt ByLabels files e before stop → StopsLabelledAt ByLabels files e before other → stop ≡ other
 stops_labelled_one all files e before (unbuilt a) (unbuilt b) s t = ap unbuilt (stops_one all.files files e before.board a b s t)
 stops_labelled_one all files e before (unbuilt a) (mislabelled name command at) s t = absurd (goes_not_stops all.files files e before.board t.1.after a t.1.goes s)
 stops_labelled_one all files e before (mislabelled name command at) (unbuilt b) s t = absurd (goes_not_stops all.files files e before.board s.1.after b s.1.goes t)
@@ -72,17 +73,17 @@ stops_labelled_one all files e before (mislabelled name command at) (mislabelled
 -- ---- The package
 
 abbrev Later : Files → Manifest → LabelledStop → Type 0
-Later files m stop = StopsLabelledAmong files (labelled_order m) (nothing_labelled m.layers) stop ⊎ IsLabelledFrameStop files m stop
+Later files m stop = StopsLabelledAmong ByLabels files (labelled_order m) (nothing_labelled m.layers) stop ⊎ IsLabelledFrameStop files m stop
 
 abbrev Reaches : Files → Manifest → Labelled → Type 0
-Reaches files m end = WalksBy (GoesLabelled files) (labelled_order m) (nothing_labelled m.layers) end
+Reaches files m end = WalksBy (GoesLabelled ByLabels files) (labelled_order m) (nothing_labelled m.layers) end
 
 reaches_one : HaveLabelAnswers → (files : Files) (m : Manifest) (x y : Labelled) → Reaches files m x → Reaches files m y → x ≡ y
-reaches_one all files m x y p q = one_walk (GoesLabelled files) (goes_labelled_one all files) (labelled_order m) (nothing_labelled m.layers) x y p q
+reaches_one all files m x y p q = one_walk (GoesLabelled ByLabels files) (goes_labelled_one all files) (labelled_order m) (nothing_labelled m.layers) x y p q
 
-reaches_not_stops : HaveLabelAnswers → (files : Files) (m : Manifest) (x : Labelled) (stop : LabelledStop) → Reaches files m x → StopsLabelledAmong files (labelled_order m) (nothing_labelled m.layers) stop → ⊥
+reaches_not_stops : HaveLabelAnswers → (files : Files) (m : Manifest) (x : Labelled) (stop : LabelledStop) → Reaches files m x → StopsLabelledAmong ByLabels files (labelled_order m) (nothing_labelled m.layers) stop → ⊥
 reaches_not_stops all files m x stop p s =
-    walk_or_one (GoesLabelled files) (goes_labelled_one all files) (λ e b. StopsLabelledAt files e b stop) (λ e b y g h. goes_not_stops_labelled all files e b y stop g h) (labelled_order m) (nothing_labelled m.layers) x p s
+    walk_or_one (GoesLabelled ByLabels files) (goes_labelled_one all files) (λ e b. StopsLabelledAt ByLabels files e b stop) (λ e b y g h. goes_not_stops_labelled all files e b y stop g h) (labelled_order m) (nothing_labelled m.layers) x p s
 
 frame_labelled_one : (b : PlainBoard) (stop other : LabelledStop) → OfBuild (StopsAtFrame b) stop → OfBuild (StopsAtFrame b) other → stop ≡ other
 frame_labelled_one b (unbuilt s) (unbuilt t) p q = ap unbuilt (frame_one b s t p q)
@@ -95,7 +96,7 @@ fits_not_labelled b (mislabelled name command at) fits p = p
 
 later_labelled_one : HaveLabelAnswers → (files : Files) (m : Manifest) (stop other : LabelledStop) → Later files m stop → Later files m other → stop ≡ other
 later_labelled_one all files m stop other (inl s) (inl t) =
-    one_of_walk (GoesLabelled files) (goes_labelled_one all files) (λ e b. StopsLabelledAt files e b stop) (λ e b. StopsLabelledAt files e b other) (stop ≡ other)
+    one_of_walk (GoesLabelled ByLabels files) (goes_labelled_one all files) (λ e b. StopsLabelledAt ByLabels files e b stop) (λ e b. StopsLabelledAt ByLabels files e b other) (stop ≡ other)
     (λ e b y g h. goes_not_stops_labelled all files e b y stop g h) (λ e b y g h. goes_not_stops_labelled all files e b y other g h) (λ e b h k. stops_labelled_one all files e b stop other h k) (labelled_order m) (nothing_labelled m.layers) s t
 later_labelled_one all files m stop other (inl s) (inr t) = absurd (reaches_not_stops all files m t.end stop t.walked s)
 later_labelled_one all files m stop other (inr s) (inl t) = absurd (reaches_not_stops all files m s.end other s.walked t)

@@ -1,4 +1,5 @@
 pub mod Agreed
+pub mod ByNetlist
 pub mod CutOff
 pub mod Entries
 pub mod Form
@@ -8,6 +9,7 @@ pub mod JsonPrefix
 pub mod LabelCauses
 pub mod LabelStaging
 pub mod LabelledOutcome
+pub mod LabelsCut
 pub mod Lift
 pub mod Listed
 pub mod Named

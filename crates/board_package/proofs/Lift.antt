@@ -1,7 +1,9 @@
 -- Causes, carried from one stage to the next.
-use Rattle.std.proofs.Common.{◌≡◌, inl, inr, ℕ, ◌≤◌, List, Option, Some, None, IfSome, Result, Ok, Err, IfErr, OnOk, sym, ◌∙◌, subst, arith}
+use Rattle.std.proofs.Common.{◌≡◌, inl, inr, ℕ, ◌≤◌, List, Option, Some, None, IfSome, Result, Ok, Err, IfErr, IfOk, OnOk, sym, ◌∙◌, subst, arith}
 use Rattle.std.specs.Result.{IsErrAnd}
+use Rattle.board_io.proofs.Agreeing.{agree_on}
 use Rattle.board_io.specs.Causes.{Rose}
+use Rattle.board_io.specs.Handed.{AgreeWith, Grows, Handed}
 use Rattle.board_io.specs.Package.{Files, IsFaultless}
 use Rattle.board_shapes.specs.Plain.{PlainBoard}
 use Rattle.board_package.specs.Causes.{HasCause, HasRefusal, IsFrameFault, KeepsFaults}
@@ -15,6 +17,11 @@ use Rattle.board_package.specs.declared.reading.Refusal.TheVariants as refusal
 pub climbs : {B E : Type 0} (P : E → Type 0) (result : Result B E) (why : E) → IsErrAnd result (λ f. f ≡ why) → P why → IfErr result P
 climbs P (Ok x) why e p = tt
 climbs P (Err f) why e p = subst P (sym e) p
+
+-- two facts of a value, and a third that follows
+pub if_ok : {B E : Type 0} (result : Result B E) (P Q R : B → Type 0) → ((x : B) → P x → Q x → R x) → IfOk result P → IfOk result Q → IfOk result R
+if_ok (Ok x) P Q R k p q = k x p q
+if_ok (Err f) P Q R k p q = tt
 
 -- two facts of the files that are told, and a third that follows
 pub told : (held : Option Files) (A B C : Files → Type 0) → ((files : Files) → A files → B files → C files) → IfSome held A → IfSome held B → IfSome held C
@@ -69,45 +76,31 @@ refusal_cause held S C before now lost name (refusal.Netlist kind line) given h 
 -- a frame that is too large is a cause
 pub frame_cause : (held : Option Files) (S : Files → Stop → Type 0) (C : Files → List ℕ → Type 0) (before now : ℕ) (lost : List ℕ) (board : PlainBoard) (given : BuildFault)
     → IfSome held (λ files. (stop : Stop) → StopsAtFrame board stop → S files stop) → IsFrameFault board given → HasCause held S C before now lost given
-frame_cause held S C before now lost board fault.NotJson h e = absurd e
-frame_cause held S C before now lost board fault.BadManifest h e = absurd e
-frame_cause held S C before now lost board (fault.Longer name) h e = absurd e
-frame_cause held S C before now lost board (fault.CannotRead name) h e = absurd e
-frame_cause held S C before now lost board (fault.Layer name kind command at) h e = absurd e
-frame_cause held S C before now lost board (fault.Drill name kind line at) h e = absurd e
-frame_cause held S C before now lost board (fault.Netlist name kind line) h e = absurd e
 frame_cause held S C before now lost board (fault.FrameTooLarge box) h e =
     told_of held (λ files. (stop : Stop) → StopsAtFrame board stop → S files stop) (λ files. S files (frame_too_large box)) (λ files k. k (frame_too_large box) e) h
-frame_cause held S C before now lost board fault.NoMemory h e = absurd e
+frame_cause held S C before now lost board other h e = absurd e
 
 -- ---- What a package leaves
+
+-- where it tells, what it handed over agrees with the files, in two stages
+pub agrees_on : (held after : Option Files) (a b c : List Handed) → after ≡ held → Grows a b → Grows b c → IfSome held (λ files. AgreeWith files a b) → IfSome after (λ files. AgreeWith files b c) → IfSome held (λ files. AgreeWith files a c)
+agrees_on held after a b c same g h v w =
+    told held (λ files. AgreeWith files a b) (λ files. AgreeWith files b c) (λ files. AgreeWith files a c) (λ files x y. agree_on files a b c g h x y) v (subst (λ z. IfSome z (λ files. AgreeWith files b c)) same w)
 
 pub faultless_both : (a : ℕ) (l : List ℕ) (b : ℕ) (m : List ℕ) (c : ℕ) (n : List ℕ) → IsFaultless a l b m → IsFaultless b m c n → IsFaultless a l c n
 faultless_both a l b m c n h k = record { count_stays = k.count_stays ∙ h.count_stays; lost_stays = k.lost_stays ∙ h.lost_stays }
 
 -- where nothing changed, nothing did whatever the fault
 pub kept : (a : ℕ) (l : List ℕ) (b : ℕ) (m : List ℕ) (why : BuildFault) → IsFaultless a l b m → KeepsFaults a l b m why
-kept a l b m fault.NotJson h = h
-kept a l b m fault.BadManifest h = h
-kept a l b m (fault.Longer name) h = h
 kept a l b m (fault.CannotRead name) h = tt
-kept a l b m (fault.Layer name kind command at) h = h
-kept a l b m (fault.Drill name kind line at) h = h
-kept a l b m (fault.Netlist name kind line) h = h
-kept a l b m (fault.FrameTooLarge box) h = h
 kept a l b m fault.NoMemory h = tt
+kept a l b m other h = h
 
 -- nothing changed before, and then nothing but by such a fault
 pub kept_after : (a : ℕ) (l : List ℕ) (b : ℕ) (m : List ℕ) (c : ℕ) (n : List ℕ) (why : BuildFault) → IsFaultless a l b m → KeepsFaults b m c n why → KeepsFaults a l c n why
-kept_after a l b m c n fault.NotJson h k = faultless_both a l b m c n h k
-kept_after a l b m c n fault.BadManifest h k = faultless_both a l b m c n h k
-kept_after a l b m c n (fault.Longer name) h k = faultless_both a l b m c n h k
 kept_after a l b m c n (fault.CannotRead name) h k = tt
-kept_after a l b m c n (fault.Layer name kind command at) h k = faultless_both a l b m c n h k
-kept_after a l b m c n (fault.Drill name kind line at) h k = faultless_both a l b m c n h k
-kept_after a l b m c n (fault.Netlist name kind line) h k = faultless_both a l b m c n h k
-kept_after a l b m c n (fault.FrameTooLarge box) h k = faultless_both a l b m c n h k
 kept_after a l b m c n fault.NoMemory h k = tt
+kept_after a l b m c n other h k = faultless_both a l b m c n h k
 
 pub kept_err : {B : Type 0} (r : Result B BuildFault) (a : ℕ) (l : List ℕ) (b : ℕ) (m : List ℕ) → IsFaultless a l b m → IfErr r (KeepsFaults a l b m)
 kept_err (Ok x) a l b m h = tt

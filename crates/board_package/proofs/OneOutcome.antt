@@ -94,12 +94,10 @@ goes_one all files e before x y g h =
 pub goes_not_stops : FilesHaveOneAnswer → (files : Files) (e : Entry) (before x : PlainBoard) (stop : Stop) → Goes files e before x → StopsAt files e before stop → ⊥
 goes_not_stops all files e before x (absent name) g s = held_not_absent files e.name g.bytes g.held s.1
 goes_not_stops all files e before x (longer name) g s = held_not_longer files e.name g.bytes g.held s.1
-goes_not_stops all files e before x not_json g s = s
-goes_not_stops all files e before x bad_manifest g s = s
 goes_not_stops all files e before x (refused name why) g s =
     let same = held_one files e.name g.bytes s.1.bytes g.held s.1.held in
     reads_not_refused all e.role e.number s.1.bytes before x why (subst (λ bytes. Reads e.role e.number bytes before x) same g.read) s.1.refused
-goes_not_stops all files e before x (frame_too_large box) g s = s
+goes_not_stops all files e before x other g s = absurd s
 
 refused_one : FilesHaveOneAnswer → (files : Files) (e : Entry) (before : PlainBoard) (why other : Refusal) → IsRefusedFor files e before why → IsRefusedFor files e before other → why ≡ other
 refused_one all files e before why other r s =
@@ -110,27 +108,19 @@ pub stops_one : FilesHaveOneAnswer → (files : Files) (e : Entry) (before : Pla
 stops_one all files e before (absent a) (absent b) s t = ap absent (same_name e.name a b s.0 t.0)
 stops_one all files e before (absent a) (longer b) s t = absurd (absent_not_longer (files e.name) s.1 t.1)
 stops_one all files e before (absent a) (refused b why) s t = absurd (held_not_absent files e.name t.1.bytes t.1.held s.1)
-stops_one all files e before (absent a) not_json s t = absurd t
-stops_one all files e before (absent a) bad_manifest s t = absurd t
-stops_one all files e before (absent a) (frame_too_large box) s t = absurd t
+stops_one all files e before (absent a) other s t = absurd t
 stops_one all files e before (longer a) (absent b) s t = absurd (absent_not_longer (files e.name) t.1 s.1)
 stops_one all files e before (longer a) (longer b) s t = ap longer (same_name e.name a b s.0 t.0)
 stops_one all files e before (longer a) (refused b why) s t = absurd (held_not_longer files e.name t.1.bytes t.1.held s.1)
-stops_one all files e before (longer a) not_json s t = absurd t
-stops_one all files e before (longer a) bad_manifest s t = absurd t
-stops_one all files e before (longer a) (frame_too_large box) s t = absurd t
+stops_one all files e before (longer a) other s t = absurd t
 stops_one all files e before (refused a why) (absent b) s t = absurd (held_not_absent files e.name s.1.bytes s.1.held t.1)
 stops_one all files e before (refused a why) (longer b) s t = absurd (held_not_longer files e.name s.1.bytes s.1.held t.1)
 stops_one all files e before (refused a why) (refused b other) s t = both (same_name e.name a b s.0 t.0) (refused_one all files e before why other s.1 t.1)
   where
     both : a ≡ b → why ≡ other → refused a why ≡ refused b other
     both p q = cc
-stops_one all files e before (refused a why) not_json s t = absurd t
-stops_one all files e before (refused a why) bad_manifest s t = absurd t
-stops_one all files e before (refused a why) (frame_too_large box) s t = absurd t
-stops_one all files e before not_json other s t = absurd s
-stops_one all files e before bad_manifest other s t = absurd s
-stops_one all files e before (frame_too_large box) other s t = absurd s
+stops_one all files e before (refused a why) other s t = absurd t
+stops_one all files e before stop other s t = absurd s
 
 -- ---- The order
 
@@ -182,8 +172,7 @@ manifest_not_stops files name m (absent a) p s = held_not_absent files name p.by
 manifest_not_stops files name m (longer a) p s = held_not_longer files name p.bytes p.held s.1
 manifest_not_stops files name m not_json p s = with_one files name (λ bytes. IsManifest bytes m) IsNotJson ⊥ (λ bytes a b. b a.value a.read_as) p s
 manifest_not_stops files name m bad_manifest p s = with_one files name (λ bytes. IsManifest bytes m) IsOther ⊥ (λ bytes a b. manifest_not_other bytes m a b) p s
-manifest_not_stops files name m (refused a why) p s = s
-manifest_not_stops files name m (frame_too_large box) p s = s
+manifest_not_stops files name m other p s = absurd s
 
 not_json_not_other : (files : Files) (name : List ℕ) → IsHeldWith files name IsNotJson → IsHeldWith files name IsOther → ⊥
 not_json_not_other files name p q = with_one files name IsNotJson IsOther ⊥ (λ bytes a b. a b.value b.read_as) p q
@@ -193,28 +182,23 @@ at_manifest_one files name (absent a) (absent b) s t = ap absent (same_name name
 at_manifest_one files name (absent a) (longer b) s t = absurd (absent_not_longer (files name) s.1 t.1)
 at_manifest_one files name (absent a) not_json s t = absurd (held_not_absent files name t.bytes t.held s.1)
 at_manifest_one files name (absent a) bad_manifest s t = absurd (held_not_absent files name t.bytes t.held s.1)
-at_manifest_one files name (absent a) (refused b why) s t = absurd t
-at_manifest_one files name (absent a) (frame_too_large box) s t = absurd t
+at_manifest_one files name (absent a) other s t = absurd t
 at_manifest_one files name (longer a) (absent b) s t = absurd (absent_not_longer (files name) t.1 s.1)
 at_manifest_one files name (longer a) (longer b) s t = ap longer (same_name name a b s.0 t.0)
 at_manifest_one files name (longer a) not_json s t = absurd (held_not_longer files name t.bytes t.held s.1)
 at_manifest_one files name (longer a) bad_manifest s t = absurd (held_not_longer files name t.bytes t.held s.1)
-at_manifest_one files name (longer a) (refused b why) s t = absurd t
-at_manifest_one files name (longer a) (frame_too_large box) s t = absurd t
+at_manifest_one files name (longer a) other s t = absurd t
 at_manifest_one files name not_json (absent b) s t = absurd (held_not_absent files name s.bytes s.held t.1)
 at_manifest_one files name not_json (longer b) s t = absurd (held_not_longer files name s.bytes s.held t.1)
 at_manifest_one files name not_json not_json s t = refl
 at_manifest_one files name not_json bad_manifest s t = absurd (not_json_not_other files name s t)
-at_manifest_one files name not_json (refused b why) s t = absurd t
-at_manifest_one files name not_json (frame_too_large box) s t = absurd t
+at_manifest_one files name not_json other s t = absurd t
 at_manifest_one files name bad_manifest (absent b) s t = absurd (held_not_absent files name s.bytes s.held t.1)
 at_manifest_one files name bad_manifest (longer b) s t = absurd (held_not_longer files name s.bytes s.held t.1)
 at_manifest_one files name bad_manifest not_json s t = absurd (not_json_not_other files name t s)
 at_manifest_one files name bad_manifest bad_manifest s t = refl
-at_manifest_one files name bad_manifest (refused b why) s t = absurd t
-at_manifest_one files name bad_manifest (frame_too_large box) s t = absurd t
-at_manifest_one files name (refused a why) other s t = absurd s
-at_manifest_one files name (frame_too_large box) other s t = absurd s
+at_manifest_one files name bad_manifest other s t = absurd t
+at_manifest_one files name stop other s t = absurd s
 
 -- ---- The frame
 
@@ -223,24 +207,12 @@ frame_one b (frame_too_large box) (frame_too_large box') s t = ap frame_too_larg
   where
     some_one : {o : Option Bounds} → o ≡ Some box → o ≡ Some box' → box ≡ box'
     some_one p q = cc
-frame_one b (frame_too_large box) (absent a) s t = absurd t
-frame_one b (frame_too_large box) (longer a) s t = absurd t
-frame_one b (frame_too_large box) not_json s t = absurd t
-frame_one b (frame_too_large box) bad_manifest s t = absurd t
-frame_one b (frame_too_large box) (refused a why) s t = absurd t
-frame_one b (absent a) other s t = absurd s
-frame_one b (longer a) other s t = absurd s
-frame_one b not_json other s t = absurd s
-frame_one b bad_manifest other s t = absurd s
-frame_one b (refused a why) other s t = absurd s
+frame_one b (frame_too_large box) other s t = absurd t
+frame_one b stop other s t = absurd s
 
 pub fits_not_stops : (b : PlainBoard) (stop : Stop) → Fits (common_box b.pieces) → StopsAtFrame b stop → ⊥
 fits_not_stops b (frame_too_large box) fits s = s.1 (subst (λ (o : Option Bounds). Fits o) s.0 fits)
-fits_not_stops b (absent a) fits s = s
-fits_not_stops b (longer a) fits s = s
-fits_not_stops b not_json fits s = s
-fits_not_stops b bad_manifest fits s = s
-fits_not_stops b (refused a why) fits s = s
+fits_not_stops b other fits s = absurd s
 
 -- ---- The package
 

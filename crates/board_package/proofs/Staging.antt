@@ -1,17 +1,16 @@
 -- The stages of the taking, by what was handed over.
-use Rattle.std.proofs.Common.{◌≡◌, inl, inr, ℕ, ◌+◌, ◌<◌, ◌≤◌, List, [], ◌∷◌, length, take, get_or, Some, None, refl, subst, sym, arith}
+use Rattle.std.proofs.Common.{◌≡◌, inl, inr, ℕ, ◌≤◌, List, [], ◌∷◌, Some, None, refl, subst, sym, arith}
 use Rattle.board_io.specs.Handed.{Handed, with_file}
-use Rattle.board_shapes.specs.Plain.{PlainBoard}
+use Rattle.board_shapes.specs.Plain.{Fits, PlainBoard, common_box}
 use Rattle.board_package.specs.Causes.{Halts, HandedCause, IsFrameFault}
-use Rattle.board_package.specs.HandedBoard.{ComesAmongHanded, ComesHanded, ComesNext, Course, GoesHanded, IsFirstStopHanded, IsHanded, IsHandedWith, IsManifestHanded, StopsAmongHanded, StopsAtHanded, StopsAtManifestHanded, StopsHanding, course}
-use Rattle.board_package.specs.PackageBoard.{Stop, WalksBy, absent, longer, not_json, bad_manifest, refused, frame_too_large}
+use Rattle.board_package.specs.HandedBoard.{ComesAmongHanded, ComesHanded, ComesNext, Course, GoesHanded, IsBoardHanded, IsFirstStopHanded, IsHanded, IsHandedWith, IsManifestHanded, StopsAmongHanded, StopsAtHanded, StopsAtManifestHanded, StopsHanding, course}
+use Rattle.board_package.specs.PackageBoard.{Stop, WalksBy, longer}
 use Rattle.board_package.specs.Parts.{empty_board}
 use Rattle.board_package.specs.Reading.{Refuses}
 use Rattle.board_package.specs.declared.entry.Entry.{Entry}
 use Rattle.board_package.specs.declared.fault.BuildFault.{BuildFault}
 use Rattle.board_package.specs.declared.manifest.Manifest.{Manifest}
 use Rattle.board_package.proofs.Lift.{Carries, frame_cause, lift, refusal_cause}
-use Rattle.board_package.proofs.Walking.{at_one_of}
 
 -- of one file that was handed over the bytes are one
 pub one_handed : (before : List Handed) (name x y : List ℕ) → with_file before name x ≡ with_file before name y → x ≡ y
@@ -24,20 +23,12 @@ carry S T C D before mid now lost why k le h = lift (Some (λ name. None)) (λ f
 
 -- what stops the taking of the manifest, and of the file of an entry
 manifest_stop : (a b : List Handed) (name : List ℕ) (stop : Stop) → StopsHanding a b name stop → StopsAtManifestHanded a b name stop
-manifest_stop a b name (absent other) s = s
 manifest_stop a b name (longer other) s = s
-manifest_stop a b name not_json s = absurd s
-manifest_stop a b name bad_manifest s = absurd s
-manifest_stop a b name (refused other why) s = s
-manifest_stop a b name (frame_too_large box) s = s
+manifest_stop a b name other s = absurd s
 
 entry_stop : (e : Entry) (c : Course) (b : List Handed) (stop : Stop) → StopsHanding c.handed b e.name stop → StopsAtHanded e c b stop
-entry_stop e c b (absent other) s = s
 entry_stop e c b (longer other) s = s
-entry_stop e c b not_json s = s
-entry_stop e c b bad_manifest s = s
-entry_stop e c b (refused other why) s = absurd s
-entry_stop e c b (frame_too_large box) s = s
+entry_stop e c b other s = absurd s
 
 pub taking_manifest : (a b : List Handed) (name : List ℕ) (count now : ℕ) (lost : List ℕ) (why : BuildFault)
     → HandedCause (λ stop. StopsHanding a b name stop) (λ other. ComesNext a b name other) count now lost why
@@ -68,19 +59,6 @@ halted_handed e c b bytes seen count now lost given h same (inr (why, refuses, h
     (refl, record { bytes = bytes; handed = h; refused = subst (λ z. Refuses e.role e.number z c.board why) same refuses })
     has
 
--- a cause of a file's stage is one of the files
-pub entry_handed : (entries : List Entry) (i : ℕ) (e : Entry) (start mid : Course) (b : List Handed) (before between now : ℕ) (lost : List ℕ) (why : BuildFault) → i < length entries → e ≡ get_or entries i e → before ≤ between
-    → WalksBy GoesHanded (take i entries) start mid
-    → HandedCause (λ stop. StopsAtHanded e mid b stop) (λ name. ComesNext mid.handed b e.name name) between now lost why
-    → HandedCause (λ stop. StopsAmongHanded entries start b stop) (λ name. ComesAmongHanded entries start b name) before now lost why
-entry_handed entries i e start mid b before between now lost why below here later walked cause =
-    carry (λ stop. StopsAtHanded e mid b stop) (λ stop. StopsAmongHanded entries start b stop) (λ name. ComesNext mid.handed b e.name name) (λ name. ComesAmongHanded entries start b name) before between now lost why
-    (record {
-      stops = λ stop s. at_one_of GoesHanded entries i e start mid (λ d c. StopsAtHanded d c b stop) below here walked s;
-      comes = λ name s. at_one_of GoesHanded entries i e start mid (λ d c. ComesNext c.handed b d.name name) below here walked s;
-    })
-    later cause
-
 -- a cause of the manifest's stage is one of the package
 pub manifest_handed : (a b : List Handed) (manifest : List ℕ) (count now : ℕ) (lost : List ℕ) (why : BuildFault)
     → HandedCause (λ stop. StopsAtManifestHanded a b manifest stop) (λ name. ComesNext a b manifest name) count now lost why
@@ -110,3 +88,10 @@ framed_handed a f b manifest listed start board before now lost why empty is wal
     frame_cause (Some (λ name. None)) (λ files stop. IsFirstStopHanded a b manifest stop) (λ files name. ComesHanded a b manifest name) before now lost board why
     (λ stop s. inr (record { listed = listed; first = f; manifest = is; stops = inr (record { board = board; walked = subst (λ x. WalksBy GoesHanded listed.files (course f x) (course b board)) empty walked; frame = s }) }))
     fault
+
+-- the board of the package
+pub board_handed : (a f b : List Handed) (manifest : List ℕ) (listed : Manifest) (start end board : PlainBoard) → start ≡ empty_board listed.layers
+    → IsManifestHanded a f manifest listed → WalksBy GoesHanded listed.files (course f start) (course b end) → Fits (common_box end.pieces) → board ≡ end
+    → IsBoardHanded a b manifest board
+board_handed a f b manifest listed start end board empty is walked fits made =
+    subst (λ x. IsBoardHanded a b manifest x) (sym made) (record { listed = listed; first = f; manifest = is; walked = subst (λ x. WalksBy GoesHanded listed.files (course f x) (course b end)) empty walked; frame = fits })

@@ -1,16 +1,15 @@
 -- The stages of the taking.
-use Rattle.std.proofs.Common.{◌≡◌, inl, inr, ℕ, ◌+◌, ◌<◌, ◌≤◌, List, length, take, get_or, Option, IfSome, refl, sym, subst}
+use Rattle.std.proofs.Common.{◌≡◌, inl, inr, ℕ, ◌≤◌, List, Option, IfSome, refl, sym, subst}
 use Rattle.board_io.specs.Package.{Files}
 use Rattle.board_shapes.specs.Plain.{PlainBoard, common_box, Fits}
 use Rattle.board_package.specs.Causes.{Halts, HasCause, IsFrameFault}
-use Rattle.board_package.specs.PackageBoard.{Stop, refused, Goes, IsHeld, IsHeldWith, IsManifestFile, IsBoardOf, IsFirstStop, Comes, StopsAt, StopsAtFrame, StopsAtManifest, StopsAmong, ComesAmong, Walks}
+use Rattle.board_package.specs.PackageBoard.{Stop, refused, IsHeld, IsHeldWith, IsManifestFile, IsBoardOf, IsFirstStop, Comes, StopsAt, StopsAtFrame, StopsAmong, ComesAmong, Walks}
 use Rattle.board_package.specs.Parts.{empty_board}
 use Rattle.board_package.specs.Reading.{Refuses}
 use Rattle.board_package.specs.declared.entry.Entry.{Entry}
 use Rattle.board_package.specs.declared.fault.BuildFault.{BuildFault}
 use Rattle.board_package.specs.declared.manifest.Manifest.{Manifest}
-use Rattle.board_package.proofs.Lift.{Carries, lift, told, told_of, told_all, frame_cause, refusal_cause}
-use Rattle.board_package.proofs.Walking.{at_one_of, steps_more}
+use Rattle.board_package.proofs.Lift.{Carries, lift, told, told_of, frame_cause, refusal_cause}
 
 -- a file that is held, with what holds of its bytes
 pub held_with : (held : Option Files) (name bytes seen : List ℕ) (P : List ℕ → Type 0) → IfSome held (λ files. IsHeld files name bytes) → seen ≡ bytes → P seen → IfSome held (λ files. IsHeldWith files name P)
@@ -26,40 +25,6 @@ halted_cause held e before bytes seen count now lost given h same (inr (why, ref
     refusal_cause held (λ files stop. StopsAt files e before stop) (λ files name. e.name ≡ name) count now lost e.name why given
     (told_of held (λ files. IsHeld files e.name bytes) (λ files. StopsAt files e before (refused e.name why)) (λ files k. (refl, record { bytes = bytes; held = k; refused = subst (λ z. Refuses e.role e.number z before why) same refuses })) h)
     has
-
--- a cause of a file's stage is one of the files
-pub entry_cause : (held after : Option Files) (entries : List Entry) (i : ℕ) (entry : Entry) (start mid : PlainBoard) (before between now : ℕ) (lost : List ℕ) (why : BuildFault) → i < length entries → entry ≡ get_or entries i entry → after ≡ held → before ≤ between
-    → IfSome held (λ files. Walks files (take i entries) start mid)
-    → HasCause after (λ files stop. StopsAt files entry mid stop) (λ files name. entry.name ≡ name) between now lost why
-    → HasCause held (λ files stop. StopsAmong files entries start stop) (λ files name. ComesAmong files entries start name) before now lost why
-entry_cause held after entries i entry start mid before between now lost why below here same later walked cause =
-    let S : Files → Stop → Type 0 = λ files stop. StopsAt files entry mid stop in
-    let C : Files → List ℕ → Type 0 = λ files name. entry.name ≡ name in
-    let T : Files → Stop → Type 0 = λ files stop. StopsAmong files entries start stop in
-    let D : Files → List ℕ → Type 0 = λ files name. ComesAmong files entries start name in
-    lift held S T C D before between now lost why
-    (told_of held (λ files. Walks files (take i entries) start mid) (λ files. Carries (S files) (T files) (C files) (D files))
-    (λ files w. record {
-      stops = λ stop s. at_one_of (Goes files) entries i entry start mid (λ e b. StopsAt files e b stop) below here w s;
-      comes = λ name s. at_one_of (Goes files) entries i entry start mid (λ e b. e.name ≡ name) below here w s;
-    }) walked)
-    later (subst (λ h. HasCause h S C between now lost why) same cause)
-
--- one file more is read
-pub entry_walked : (held after : Option Files) (entries : List Entry) (i : ℕ) (entry : Entry) (start mid end : PlainBoard) → i < length entries → entry ≡ get_or entries i entry → after ≡ held
-    → IfSome held (λ files. Walks files (take i entries) start mid) → IfSome after (λ files. Goes files entry mid end) → IfSome held (λ files. Walks files (take (i + 1) entries) start end)
-entry_walked held after entries i entry start mid end below here same walked goes =
-    told held (λ files. Walks files (take i entries) start mid) (λ files. Goes files entry mid end) (λ files. Walks files (take (i + 1) entries) start end)
-    (λ files w g. steps_more (Goes files) entries i entry start mid end below here w g) walked (subst (λ h. IfSome h (λ files. Goes files entry mid end)) same goes)
-
--- a cause of the manifest's stage is one of the package
-pub manifest_cause : (held : Option Files) (manifest : List ℕ) (before now : ℕ) (lost : List ℕ) (why : BuildFault) → before ≤ before
-    → HasCause held (λ files stop. StopsAtManifest files manifest stop) (λ files name. name ≡ manifest) before now lost why
-    → HasCause held (λ files stop. IsFirstStop files manifest stop) (λ files name. Comes files manifest name) before now lost why
-manifest_cause held manifest before now lost why le cause =
-    lift held (λ files stop. StopsAtManifest files manifest stop) (λ files stop. IsFirstStop files manifest stop) (λ files name. name ≡ manifest) (λ files name. Comes files manifest name) before before now lost why
-    (told_all held (λ files. Carries (λ stop. StopsAtManifest files manifest stop) (λ stop. IsFirstStop files manifest stop) (λ name. name ≡ manifest) (λ name. Comes files manifest name)) (λ files. record { stops = λ stop s. inl s; comes = λ name s. inl s }))
-    le cause
 
 -- a cause of the files is one of the package
 pub files_cause : (held after : Option Files) (manifest : List ℕ) (listed : Manifest) (start : PlainBoard) (before between now : ℕ) (lost : List ℕ) (why : BuildFault) → after ≡ held → start ≡ empty_board listed.layers → before ≤ between

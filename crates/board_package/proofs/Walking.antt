@@ -1,5 +1,5 @@
 -- The files of a package, one after another.
-use Rattle.std.proofs.Common.{◌≡◌, inl, inr, ℕ, ◌+◌, ◌<◌, Bool, List, [], ◌∷◌, ◌++◌, length, take, drop, get_or, append_assoc, refl, sym, ap, subst, ◌∙◌}
+use Rattle.std.proofs.Common.{◌≡◌, inl, inr, ℕ, ◌+◌, ◌<◌, Bool, List, [], ◌∷◌, ◌++◌, length, take, drop, get_or, append_assoc, sym, ap, subst, ◌∙◌}
 use Rattle.std.proofs.lemmas.List.{take_more, take-append-drop}
 use Rattle.std.proofs.lemmas.List.Elements.{filter-append}
 use Rattle.std.specs.List.{filter}
@@ -21,21 +21,11 @@ at_one_before Step [] back start P h = absurd h
 at_one_before Step (d ∷ front) back start P (inl h) = inl h
 at_one_before Step (d ∷ front) back start P (inr h) = inr (h.0, h.1, at_one_before Step front back h.0 P h.2)
 
--- one step more
-pub steps_more : {S : Type 0} (Step : Entry → S → S → Type 0) (entries : List Entry) (i : ℕ) (e : Entry) (start mid end : S) → i < length entries → e ≡ get_or entries i e → WalksBy Step (take i entries) start mid → Step e mid end → WalksBy Step (take (i + 1) entries) start end
-steps_more Step entries i e start mid end below here w s =
-    subst (λ xs. WalksBy Step xs start end) (sym (take_more entries i e below)) (walks_on Step (take i entries) (get_or entries i e ∷ []) start mid end w (end, subst (λ (x : Entry). Step x mid end) here s, refl))
-
 split_at : (entries : List Entry) (i : ℕ) (d : Entry) → i < length entries → entries ≡ take i entries ++ get_or entries i d ∷ drop (i + 1) entries
 split_at entries i d below =
     sym (take-append-drop (i + 1) entries) ∙ (ap (λ (xs : List Entry). xs ++ drop (i + 1) entries) (take_more entries i d below) ∙ simp append_assoc)
 
--- P holds at a file, and those before it are taken on
-pub at_one_of : {S : Type 0} (Step : Entry → S → S → Type 0) (entries : List Entry) (i : ℕ) (e : Entry) (start mid : S) (P : Entry → S → Type 0) → i < length entries → e ≡ get_or entries i e → WalksBy Step (take i entries) start mid → P e mid → AtOneBy Step entries start P
-at_one_of Step entries i e start mid P below here w p =
-    subst (λ xs. AtOneBy Step xs start P) (sym (split_at entries i e below)) (at_one_behind Step (take i entries) (get_or entries i e ∷ drop (i + 1) entries) start mid P w (inl (subst (λ (x : Entry). P x mid) here p)))
-
--- the same of the files that pass a test
+-- one step more, of the files that pass a test
 pub passing_walk_more : {S : Type 0} (Step : Entry → S → S → Type 0) (p : Entry → Bool) (entries : List Entry) (i : ℕ) (e : Entry) (start mid end : S) → i < length entries → e ≡ get_or entries i e → WalksBy Step (filter p (take i entries)) start mid → WalksBy Step (filter p (e ∷ [])) mid end → WalksBy Step (filter p (take (i + 1) entries)) start end
 passing_walk_more Step p entries i e start mid end below here w v =
     let parts : filter p (take (i + 1) entries) ≡ filter p (take i entries) ++ filter p (e ∷ []) = ap (filter p) (take_more entries i e below) ∙ filter-append p (take i entries) (get_or entries i e ∷ []) ∙ ap (λ (x : Entry). filter p (take i entries) ++ filter p (x ∷ [])) (sym here) in
@@ -47,6 +37,17 @@ passing_at_one Step p entries i e start mid P below here w h =
     let whole : entries ≡ take i entries ++ e ∷ behind = split_at entries i e below ∙ ap (λ (x : Entry). take i entries ++ x ∷ behind) (sym here) in
     let parts : filter p entries ≡ filter p (take i entries) ++ (filter p (e ∷ []) ++ filter p behind) = ap (filter p) whole ∙ filter-append p (take i entries) (e ∷ behind) ∙ ap (λ (xs : List Entry). filter p (take i entries) ++ xs) (filter-append p (e ∷ []) behind) in
     subst (λ xs. AtOneBy Step xs start P) (sym parts) (at_one_behind Step (filter p (take i entries)) (filter p (e ∷ []) ++ filter p behind) start mid P w (at_one_before Step (filter p (e ∷ [])) (filter p behind) mid P h))
+
+-- ---- What a state stands for
+
+pub walks_as : {S T : Type 0} (f : S → T) (Step : Entry → S → S → Type 0) (Other : Entry → T → T → Type 0) → ((e : Entry) (a b : S) → Step e a b → Other e (f a) (f b)) → (entries : List Entry) (a b : S) → WalksBy Step entries a b → WalksBy Other entries (f a) (f b)
+walks_as f Step Other k [] a b w = ap f w
+walks_as f Step Other k (e ∷ rest) a b (n, s, w) = (f n, k e a n s, walks_as f Step Other k rest n b w)
+
+pub one_as : {S T : Type 0} (f : S → T) (Step : Entry → S → S → Type 0) (Other : Entry → T → T → Type 0) (P : Entry → S → Type 0) (Q : Entry → T → Type 0) → ((e : Entry) (a b : S) → Step e a b → Other e (f a) (f b)) → ((e : Entry) (a : S) → P e a → Q e (f a)) → (entries : List Entry) (a : S) → AtOneBy Step entries a P → AtOneBy Other entries (f a) Q
+one_as f Step Other P Q k l [] a h = absurd h
+one_as f Step Other P Q k l (e ∷ rest) a (inl p) = inl (l e a p)
+one_as f Step Other P Q k l (e ∷ rest) a (inr (n, s, h)) = inr (f n, k e a n s, one_as f Step Other P Q k l rest n h)
 
 -- ---- One outcome of a walk
 

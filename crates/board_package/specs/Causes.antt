@@ -51,12 +51,5 @@ KeepsFaults count lost count' lost' why = IsFaultless count lost count' lost'
 
 -- the common box of the board is too large
 abbrev pub IsFrameFault : PlainBoard → BuildFault → Type 0
-IsFrameFault board fault.NotJson = ⊥
-IsFrameFault board fault.BadManifest = ⊥
-IsFrameFault board (fault.Longer name) = ⊥
-IsFrameFault board (fault.CannotRead name) = ⊥
-IsFrameFault board (fault.Layer name kind command at) = ⊥
-IsFrameFault board (fault.Drill name kind line at) = ⊥
-IsFrameFault board (fault.Netlist name kind line) = ⊥
 IsFrameFault board (fault.FrameTooLarge box) = StopsAtFrame board (frame_too_large box)
-IsFrameFault board fault.NoMemory = ⊥
+IsFrameFault board other = ⊥

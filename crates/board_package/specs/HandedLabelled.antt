@@ -7,6 +7,8 @@ use Rattle.board_package.specs.HandedBoard.{ComesNext, Course, GoesHanded, IsMan
 use Rattle.board_package.specs.LabelledBoard.{Labelled, LabelledStop, Lists, Mislabels, OfBuild, labelled_board_of, labelled_order, mislabelled, nothing_labelled, unbuilt}
 use Rattle.board_package.specs.PackageBoard.{AtOneBy, StopsAtFrame, WalksBy}
 use Rattle.board_package.specs.declared.entry.Entry.{Entry}
+use Rattle.board_package.specs.declared.entry.Naming.{Naming}
+use Rattle.board_package.specs.declared.entry.Naming.TheVariants.{ByLabels}
 use Rattle.board_package.specs.declared.manifest.Manifest.{Manifest}
 
 -- what was handed over so far, and the board so far with the labels of its copper files
@@ -22,33 +24,33 @@ abbrev pub unlabelled : LabelledCourse → Course
 unlabelled c = course c.handed c.so_far.board
 
 -- the file of an entry was handed over next, and is read, and so are its labels
-pub record GoesLabelledHanded (e : Entry) (before after : LabelledCourse) : Type 0 where
+pub record GoesLabelledHanded (naming : Naming) (e : Entry) (before after : LabelledCourse) : Type 0 where
   pub goes : GoesHanded e (unlabelled before) (unlabelled after)
-  pub lists : Lists e.role goes.bytes before.so_far.tables after.so_far.tables
+  pub lists : Lists naming e.role goes.bytes before.so_far.tables after.so_far.tables
 
 -- the file was handed over next and is read, and then a label is amiss
-pub record IsMislabelledHanded (e : Entry) (before : Course) (after : List Handed) (command at : ℕ) : Type 0 where
+pub record IsMislabelledHanded (naming : Naming) (e : Entry) (before : Course) (after : List Handed) (command at : ℕ) : Type 0 where
   pub board : PlainBoard
   pub goes : GoesHanded e before (course after board)
-  pub amiss : Mislabels e.role goes.bytes command at
+  pub amiss : Mislabels naming e.role goes.bytes command at
 
 -- the file of an entry stops the package
-abbrev pub StopsLabelledAtHanded : Entry → LabelledCourse → List Handed → LabelledStop → Type 0
-StopsLabelledAtHanded e before after (unbuilt stop) = StopsAtHanded e (unlabelled before) after stop
-StopsLabelledAtHanded e before after (mislabelled name command at) = (name ≡ e.name) × IsMislabelledHanded e (unlabelled before) after command at
+abbrev pub StopsLabelledAtHanded : Naming → Entry → LabelledCourse → List Handed → LabelledStop → Type 0
+StopsLabelledAtHanded naming e before after (unbuilt stop) = StopsAtHanded e (unlabelled before) after stop
+StopsLabelledAtHanded naming e before after (mislabelled name command at) = (name ≡ e.name) × IsMislabelledHanded naming e (unlabelled before) after command at
 
 -- one of the files stops the package, and all before it were handed over and read
-abbrev pub StopsLabelledAmongHanded : List Entry → LabelledCourse → List Handed → LabelledStop → Type 0
-StopsLabelledAmongHanded entries before after stop = AtOneBy GoesLabelledHanded entries before (λ e c. StopsLabelledAtHanded e c after stop)
+abbrev pub StopsLabelledAmongHanded : Naming → List Entry → LabelledCourse → List Handed → LabelledStop → Type 0
+StopsLabelledAmongHanded naming entries before after stop = AtOneBy (GoesLabelledHanded naming) entries before (λ e c. StopsLabelledAtHanded naming e c after stop)
 
 -- one of the files comes next, and all before it were handed over and read
-abbrev pub LabelledComesAmongHanded : List Entry → LabelledCourse → List Handed → List ℕ → Type 0
-LabelledComesAmongHanded entries before after name = AtOneBy GoesLabelledHanded entries before (λ e c. ComesNext c.handed after e.name name)
+abbrev pub LabelledComesAmongHanded : Naming → List Entry → LabelledCourse → List Handed → List ℕ → Type 0
+LabelledComesAmongHanded naming entries before after name = AtOneBy (GoesLabelledHanded naming) entries before (λ e c. ComesNext c.handed after e.name name)
 
 -- all files were handed over and read, and then the frame is too large
 pub record IsLabelledFrameStopHanded (before after : List Handed) (m : Manifest) (stop : LabelledStop) : Type 0 where
   pub end : Labelled
-  pub walked : WalksBy GoesLabelledHanded (labelled_order m) (labelled_course before (nothing_labelled m.layers)) (labelled_course after end)
+  pub walked : WalksBy (GoesLabelledHanded ByLabels) (labelled_order m) (labelled_course before (nothing_labelled m.layers)) (labelled_course after end)
   pub frame : OfBuild (StopsAtFrame end.board) stop
 
 -- behind the manifest, which was handed over and read, a copper or drill file, a name or the frame stops it
@@ -56,7 +58,7 @@ pub record IsLaterLabelledStopHanded (before after : List Handed) (name : List �
   pub listed : Manifest
   pub first : List Handed
   pub manifest : IsManifestHanded before first name listed
-  pub stops : StopsLabelledAmongHanded (labelled_order listed) (labelled_course first (nothing_labelled listed.layers)) after stop ⊎ IsLabelledFrameStopHanded first after listed stop
+  pub stops : StopsLabelledAmongHanded ByLabels (labelled_order listed) (labelled_course first (nothing_labelled listed.layers)) after stop ⊎ IsLabelledFrameStopHanded first after listed stop
 
 -- the first stop of what was handed over under the name of a manifest
 abbrev pub IsFirstLabelledStopHanded : List Handed → List Handed → List ℕ → LabelledStop → Type 0
@@ -69,7 +71,7 @@ pub record IsLabelledBoardHanded (before after : List Handed) (name : List ℕ) 
   pub first : List Handed
   pub manifest : IsManifestHanded before first name listed
   pub end : Labelled
-  pub walked : WalksBy GoesLabelledHanded (labelled_order listed) (labelled_course first (nothing_labelled listed.layers)) (labelled_course after end)
+  pub walked : WalksBy (GoesLabelledHanded ByLabels) (labelled_order listed) (labelled_course first (nothing_labelled listed.layers)) (labelled_course after end)
   pub frame : Fits (common_box end.board.pieces)
   pub is : board ≡ labelled_board_of end.tables end.board
 
@@ -78,7 +80,7 @@ pub record LabelledComesLaterHanded (before after : List Handed) (manifest name 
   pub listed : Manifest
   pub first : List Handed
   pub manifest_file : IsManifestHanded before first manifest listed
-  pub comes : LabelledComesAmongHanded (labelled_order listed) (labelled_course first (nothing_labelled listed.layers)) after name
+  pub comes : LabelledComesAmongHanded ByLabels (labelled_order listed) (labelled_course first (nothing_labelled listed.layers)) after name
 
 -- the name is that of the manifest or of a file of its order but the netlist, which comes next
 abbrev pub LabelledComesHanded : List Handed → List Handed → List ℕ → List ℕ → Type 0

@@ -14,8 +14,10 @@ use Rattle.x2_nets.specs.declared.table.Label.{Label}
 use Rattle.board_package.specs.PackageBoard.{AtOneBy, Goes, IsManifestFile, Stop, StopsAt, StopsAtFrame, StopsAtManifest, WalksBy, order_of}
 use Rattle.board_package.specs.Parts.{empty_board}
 use Rattle.board_package.specs.declared.entry.Entry.{Entry}
+use Rattle.board_package.specs.declared.entry.Naming.{Naming}
+use Rattle.board_package.specs.declared.entry.Naming.TheVariants.{ByLabels}
 use Rattle.board_package.specs.declared.entry.Role.{Role}
-use Rattle.board_package.specs.declared.entry.Role.TheVariants.{Copper, Drill, Netlist}
+use Rattle.board_package.specs.declared.entry.Role.TheVariants.{Copper, Netlist}
 use Rattle.board_package.specs.declared.manifest.Manifest.{Manifest}
 
 -- ---- Probes of labelled pieces
@@ -54,15 +56,14 @@ labelled_board_of tables b = with_netlist b (named_by tables (reverse b.pieces))
 
 -- ---- One file
 
--- a copper file or a drill file
-abbrev pub is_board_file : Role → Bool
-is_board_file (Copper layer) = true
-is_board_file (Drill from to) = true
-is_board_file Netlist = false
+-- each file is taken, but the netlist where labels name the nets
+abbrev pub is_taken : Naming → Role → Bool
+is_taken ByLabels Netlist = false
+is_taken naming role = true
 
 -- the order of a package without its netlist
 abbrev pub labelled_order : Manifest → List Entry
-labelled_order m = filter (λ e. is_board_file e.role) (order_of m)
+labelled_order m = filter (λ e. is_taken ByLabels e.role) (order_of m)
 
 -- the board so far, and the labels of each copper file so far: those of file number c are the c-th, from 0
 pub record Labelled : Type 0 where
@@ -73,28 +74,26 @@ pub record Labelled : Type 0 where
 abbrev pub nothing_labelled : ℕ → Labelled
 nothing_labelled layers = record { board = empty_board layers; tables = [] }
 
--- a copper file's labels are listed
-abbrev pub Lists : Role → List ℕ → List (List Label) → List (List Label) → Type 0
-Lists (Copper layer) bytes before after = (labels : List Label) × IsRead bytes labels × (after ≡ before ++ labels ∷ [])
-Lists (Drill from to) bytes before after = after ≡ before
-Lists Netlist bytes before after = after ≡ before
+-- where labels name the nets, those of a copper file are listed
+abbrev pub Lists : Naming → Role → List ℕ → List (List Label) → List (List Label) → Type 0
+Lists ByLabels (Copper layer) bytes before after = (labels : List Label) × IsRead bytes labels × (after ≡ before ++ labels ∷ [])
+Lists naming role bytes before after = after ≡ before
 
 -- the first label of a copper file that is amiss
-abbrev pub Mislabels : Role → List ℕ → ℕ → ℕ → Type 0
-Mislabels (Copper layer) bytes command at = IsBad bytes command at
-Mislabels (Drill from to) bytes command at = ⊥
-Mislabels Netlist bytes command at = ⊥
+abbrev pub Mislabels : Naming → Role → List ℕ → ℕ → ℕ → Type 0
+Mislabels ByLabels (Copper layer) bytes command at = IsBad bytes command at
+Mislabels naming role bytes command at = ⊥
 
 -- the file is read, and so are its labels
-pub record GoesLabelled (files : Files) (e : Entry) (before after : Labelled) : Type 0 where
+pub record GoesLabelled (naming : Naming) (files : Files) (e : Entry) (before after : Labelled) : Type 0 where
   pub goes : Goes files e before.board after.board
-  pub lists : Lists e.role goes.bytes before.tables after.tables
+  pub lists : Lists naming e.role goes.bytes before.tables after.tables
 
 -- the file is read, and then a label is amiss
-pub record IsMislabelled (files : Files) (e : Entry) (before : PlainBoard) (command at : ℕ) : Type 0 where
+pub record IsMislabelled (naming : Naming) (files : Files) (e : Entry) (before : PlainBoard) (command at : ℕ) : Type 0 where
   pub after : PlainBoard
   pub goes : Goes files e before after
-  pub amiss : Mislabels e.role goes.bytes command at
+  pub amiss : Mislabels naming e.role goes.bytes command at
 
 -- ---- The package
 
@@ -109,29 +108,29 @@ OfBuild P (unbuilt stop) = P stop
 OfBuild P (mislabelled name command at) = ⊥
 
 -- the file stops the package
-abbrev pub StopsLabelledAt : Files → Entry → Labelled → LabelledStop → Type 0
-StopsLabelledAt files e before (unbuilt stop) = StopsAt files e before.board stop
-StopsLabelledAt files e before (mislabelled name command at) = (name ≡ e.name) × IsMislabelled files e before.board command at
+abbrev pub StopsLabelledAt : Naming → Files → Entry → Labelled → LabelledStop → Type 0
+StopsLabelledAt naming files e before (unbuilt stop) = StopsAt files e before.board stop
+StopsLabelledAt naming files e before (mislabelled name command at) = (name ≡ e.name) × IsMislabelled naming files e before.board command at
 
 -- all files are read, and then the frame is too large
 pub record IsLabelledFrameStop (files : Files) (m : Manifest) (stop : LabelledStop) : Type 0 where
   pub end : Labelled
-  pub walked : WalksBy (GoesLabelled files) (labelled_order m) (nothing_labelled m.layers) end
+  pub walked : WalksBy (GoesLabelled ByLabels files) (labelled_order m) (nothing_labelled m.layers) end
   pub frame : OfBuild (StopsAtFrame end.board) stop
 
 -- one of the files stops the package, and all before it are read
-abbrev pub StopsLabelledAmong : Files → List Entry → Labelled → LabelledStop → Type 0
-StopsLabelledAmong files entries before stop = AtOneBy (GoesLabelled files) entries before (λ e b. StopsLabelledAt files e b stop)
+abbrev pub StopsLabelledAmong : Naming → Files → List Entry → Labelled → LabelledStop → Type 0
+StopsLabelledAmong naming files entries before stop = AtOneBy (GoesLabelled naming files) entries before (λ e b. StopsLabelledAt naming files e b stop)
 
 -- one of the files has this name, and all before it are read
-abbrev pub LabelledComesAmong : Files → List Entry → Labelled → List ℕ → Type 0
-LabelledComesAmong files entries before name = AtOneBy (GoesLabelled files) entries before (λ e b. e.name ≡ name)
+abbrev pub LabelledComesAmong : Naming → Files → List Entry → Labelled → List ℕ → Type 0
+LabelledComesAmong naming files entries before name = AtOneBy (GoesLabelled naming files) entries before (λ e b. e.name ≡ name)
 
 -- behind the manifest, which is read, a copper or drill file, a name or the frame stops it
 pub record IsLaterLabelledStop (files : Files) (name : List ℕ) (stop : LabelledStop) : Type 0 where
   pub listed : Manifest
   pub manifest : IsManifestFile files name listed
-  pub stops : StopsLabelledAmong files (labelled_order listed) (nothing_labelled listed.layers) stop ⊎ IsLabelledFrameStop files listed stop
+  pub stops : StopsLabelledAmong ByLabels files (labelled_order listed) (nothing_labelled listed.layers) stop ⊎ IsLabelledFrameStop files listed stop
 
 -- the first stop of the package under the name of a manifest: the manifest's, or that of the first file with one, or that of
 -- the frame
@@ -143,7 +142,7 @@ pub record IsLabelledBoardOf (files : Files) (name : List ℕ) (board : PlainBoa
   pub listed : Manifest
   pub manifest : IsManifestFile files name listed
   pub end : Labelled
-  pub walked : WalksBy (GoesLabelled files) (labelled_order listed) (nothing_labelled listed.layers) end
+  pub walked : WalksBy (GoesLabelled ByLabels files) (labelled_order listed) (nothing_labelled listed.layers) end
   pub frame : Fits (common_box end.board.pieces)
   pub is : board ≡ labelled_board_of end.tables end.board
 
@@ -151,7 +150,7 @@ pub record IsLabelledBoardOf (files : Files) (name : List ℕ) (board : PlainBoa
 pub record LabelledComesLater (files : Files) (manifest name : List ℕ) : Type 0 where
   pub listed : Manifest
   pub manifest_file : IsManifestFile files manifest listed
-  pub comes : LabelledComesAmong files (labelled_order listed) (nothing_labelled listed.layers) name
+  pub comes : LabelledComesAmong ByLabels files (labelled_order listed) (nothing_labelled listed.layers) name
 
 -- the name is that of the manifest or of a file of its order but the netlist, and every file before it is held and has no
 -- refusal

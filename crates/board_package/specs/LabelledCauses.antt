@@ -4,6 +4,7 @@ use Rattle.board_io.specs.Package.{Files, IsFaultless}
 use Rattle.board_package.specs.Causes.{HasCause, KeepsFaults}
 use Rattle.board_package.specs.LabelledBoard.{Labelled, LabelledStop, Mislabels, mislabelled, unbuilt}
 use Rattle.board_package.specs.Parts.{board_so_far}
+use Rattle.board_package.specs.declared.entry.Naming.{Naming}
 use Rattle.board_package.specs.declared.entry.Role.{Role}
 use Rattle.board_package.specs.declared.fault.BuildFault.TheVariants as build
 use Rattle.board_package.specs.declared.fault.LabelledFault.{LabelledFault}
@@ -26,9 +27,9 @@ KeepsLabelledFaults count lost count' lost' (fault.Build why) = KeepsFaults coun
 KeepsLabelledFaults count lost count' lost' (fault.Label name command at) = IsFaultless count lost count' lost'
 
 -- why the labels of a file are not listed
-abbrev pub IsMislabelling : Role → List ℕ → List ℕ → LabelledFault → Type 0
-IsMislabelling role name bytes (fault.Build why) = why ≡ build.NoMemory
-IsMislabelling role name bytes (fault.Label file command at) = (file ≡ name) × Mislabels role bytes command at
+abbrev pub IsMislabelling : Naming → Role → List ℕ → List ℕ → LabelledFault → Type 0
+IsMislabelling naming role name bytes (fault.Build why) = why ≡ build.NoMemory
+IsMislabelling naming role name bytes (fault.Label file command at) = (file ≡ name) × Mislabels naming role bytes command at
 
 -- what the files so far give, with the labels of each copper file
 abbrev pub labelled_so_far : Parts → List (List Label) → Labelled

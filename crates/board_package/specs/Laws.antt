@@ -10,7 +10,7 @@ use Rattle.gerber_layer.specs.Table.{Place as LayerPlace}
 use Rattle.ipc356_records.specs.NetlistFile as netlist_file
 use Rattle.xnc.specs.DrillFile as drill_file
 use Rattle.xnc.specs.Place.{Place as DrillPlace}
-use Rattle.board_package.specs.LabelledBoard.{IsFirstLabelledStop, IsLabelledBoardOf, LabelledStop, labelled_board_of}
+use Rattle.board_package.specs.LabelledBoard.{IsFirstLabelledStop, IsLabelledBoardOf, LabelledStop, labelled_board_of, unbuilt}
 use Rattle.texts.specs.Words.{is}
 use Rattle.x2_nets.specs.declared.table.Label.{Label}
 use Rattle.board_package.specs.PackageBoard.{Stop, absent, longer, not_json, bad_manifest, refused, frame_too_large, IsBoardOf, IsFirstStop}
@@ -55,3 +55,9 @@ abbrev pub CutIsRefusedOrTheSame : Files → List ℕ → Type 0
 CutIsRefusedOrTheSame files manifest =
     (board : PlainBoard) → IsBoardOf files manifest board → (name : List ℕ) (n : ℕ) →
     ((stop : Stop) × IsRefusing stop × IsFirstStop (cut_off files name n) manifest stop) ⊎ IsBoardOf (cut_off files name n) manifest board
+
+-- And of a package with a labelled board.
+abbrev pub LabelledCutIsRefusedOrTheSame : Files → List ℕ → Type 0
+LabelledCutIsRefusedOrTheSame files manifest =
+    (board : PlainBoard) → IsLabelledBoardOf files manifest board → (name : List ℕ) (n : ℕ) →
+    ((stop : Stop) × IsRefusing stop × IsFirstLabelledStop (cut_off files name n) manifest (unbuilt stop)) ⊎ IsLabelledBoardOf (cut_off files name n) manifest board

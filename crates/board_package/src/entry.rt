@@ -1,4 +1,5 @@
 //! The files that a manifest lists.
+ghost use Rattle.std.specs.Prelude.{◌≡◌};
 
 use lengths::Text;
 
@@ -11,6 +12,29 @@ pub enum Role {
     Drill { from: u8, to: u8 },
     /// The test points and the names of their nets.
     Netlist,
+}
+
+/// Where the names of the nets come from.
+#[derive(Clone, Copy, Debug, PartialEq, Eq)]
+pub enum Naming {
+    /// The netlist, which is taken last.
+    ByNetlist,
+    /// The labels in the copper files, so that the netlist is not taken.
+    ByLabels,
+}
+
+impl Naming {
+    ghost use Rattle.board_package.specs.LabelledBoard.{is_taken};
+
+    /// Whether a file of this role is taken.
+    pub fn takes(self, role: Role) -> bool
+        ensures { result ≡ is_taken self role }
+    {
+        match self {
+            Naming::ByNetlist => true,
+            Naming::ByLabels => !matches!(role, Role::Netlist),
+        }
+    }
 }
 
 /// A file of a package.

@@ -1,23 +1,27 @@
-//! The probes of pieces whose file names their nets.
-ghost use Rattle.std.specs.Prelude.{◌≡◌, ◌≤◌, ◌+◌, ◌<◌, ◌^◌, length, reverse, All, IfOk, OnOk};
+//! The labels of copper files, and the probes of pieces whose file names their nets.
+ghost use Rattle.std.specs.Prelude.{◌≡◌, ◌≤◌, ◌+◌, ◌<◌, ◌^◌, ℕ, length, reverse, All, IfErr, IfOk, OnOk};
 ghost use Rattle.std.specs.Option.{option_copied};
 ghost use Rattle.board_shapes.specs.Figures.{figure_of};
 ghost use Rattle.board_shapes.specs.Pieces.{plain_piece, plain_pieces};
 ghost use Rattle.board_package.specs.LabelledBoard as spec;
-ghost use Rattle.board_package.specs.LabelledBoard.{labelled_board_of, named_by, with_label};
+ghost use Rattle.board_package.specs.LabelledBoard.{Lists, labelled_board_of, named_by, with_label};
+ghost use Rattle.board_package.specs.LabelledCauses.{IsMislabelling};
 ghost use Rattle.board_package.specs.Labelling.{named_as};
 ghost use Rattle.board_package.specs.Parts.{board_so_far, IsLawfulParts};
 ghost use Rattle.ipc356_records.specs.NameTable.{names_in};
 ghost use Rattle.lengths.specs.Text.{IsText};
-ghost use Rattle.x2_nets.specs.Labels.{Rise};
+ghost use Rattle.x2_nets.specs.Labels.{IsRead, Rise};
 
+use crate::entry::{Entry, Naming, Role};
+use crate::fault::{BuildFault, LabelledFault};
 use crate::parts::Parts;
 use board_shapes::{MOST_PIECES, Origin, Piece, Probe, Shape};
 use ipc356_records::NameTable;
 use lengths::{NoMemory, Rows, Text};
 use planar::Spot;
 use std::alloc::Global;
-use x2_nets::{Label, label_among};
+use texts::MOST_BYTES;
+use x2_nets::{Label, LabelFault, label_among, labels};
 
 // The first end of a capsule, or the first corner of an area.
 fn first_spot(shape: &Shape) -> Spot
@@ -98,4 +102,49 @@ pub fn name_pieces(alloc: Global, tables: &[Rows<Label>], parts: &mut Parts) -> 
     parts.probes = probes;
     parts.names = names;
     Ok(())
+}
+
+/// Lists the labels of a file of the order, if they name the nets.
+pub fn list_labels(
+    alloc: Global,
+    naming: Naming,
+    entry: &Entry,
+    file: &[u8],
+    tables: &mut Rows<Rows<Label>>,
+) -> Result<(), LabelledFault>
+    requires short { length file.now ≤ MOST_BYTES }
+    requires rise { All Rise tables.old }
+    ensures listed { OnOk result (Lists naming entry.now.role file.now tables.old tables.new) }
+    ensures rise { OnOk result (All Rise tables.new) }
+    ensures fault { IfErr result (IsMislabelling naming entry.now.role entry.now.name file.now) }
+{
+    match naming {
+        Naming::ByNetlist => Ok(()),
+        Naming::ByLabels => match entry.role {
+            Role::Copper { .. } => {
+                let listed = labels_in(alloc, &entry.name, file)?;
+                tables.push(listed)?;
+                Ok(())
+            }
+            Role::Drill { .. } | Role::Netlist => Ok(()),
+        },
+    }
+}
+
+// The labels of a copper file of this name.
+fn labels_in(alloc: Global, name: &Text, file: &[u8]) -> Result<Rows<Label>, LabelledFault>
+    requires short { length file.now ≤ MOST_BYTES }
+    ensures ok { IfOk result (λ listed. IsRead file.now listed) }
+    ensures rise { IfOk result (λ listed. Rise listed) }
+    ensures fault { (layer : ℕ) → IfErr result (IsMislabelling Naming.ByLabels (Role.Copper layer) name.now file.now) }
+{
+    match labels(alloc, file) {
+        Ok(listed) => Ok(listed),
+        Err(LabelFault::Bad { command, at }) => Err(LabelledFault::Label {
+            file: name.clone()?,
+            command,
+            at,
+        }),
+        Err(LabelFault::NoMemory) => Err(LabelledFault::Build(BuildFault::NoMemory)),
+    }
 }

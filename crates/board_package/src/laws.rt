@@ -2,7 +2,7 @@
 ghost use Rattle.std.specs.Prelude.{ℕ, List};
 ghost use Rattle.board_io.specs.Package.{Files};
 ghost use Rattle.board_package.specs.HandedLaw.{HandedIsHeld};
-ghost use Rattle.board_package.specs.Laws.{CutIsRefusedOrTheSame, FilesHaveOneAnswer, HasOneLabelledOutcome, HasOneOutcome, LabelledPiecesAreUnder};
+ghost use Rattle.board_package.specs.Laws.{CutIsRefusedOrTheSame, FilesHaveOneAnswer, HasOneLabelledOutcome, HasOneOutcome, LabelledCutIsRefusedOrTheSame, LabelledPiecesAreUnder};
 
 /// A package has at most one board or one first stop, and not both.
 pub fn one_outcome()
@@ -33,6 +33,19 @@ pub fn cut_is_refused_or_the_same()
     gerber_layer::laws::prefix_makes_the_same();
     xnc::laws::prefix_makes_the_same();
     ipc356_records::laws::prefix_makes_the_same();
+}
+
+/// Of a package with a labelled board: where one of its files, the manifest or another, is cut off at
+/// any place, the package is refused or has the same labelled board.
+pub fn labelled_cut_is_refused_or_the_same()
+    ensures { (files : Files) (manifest : List ℕ) → LabelledCutIsRefusedOrTheSame files manifest }
+{
+    files_have_one_answer();
+    gerber_layer::laws::prefix_makes_the_same();
+    xnc::laws::prefix_makes_the_same();
+    ipc356_records::laws::prefix_makes_the_same();
+    gerber_words::laws::words_lie_ahead();
+    gerber_words::laws::prefix_has_first_words();
 }
 
 /// What is said of what was handed over holds of all files that agree with it.

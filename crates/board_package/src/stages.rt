@@ -1,23 +1,31 @@
 //! The board of a package.
-ghost use Rattle.std.specs.Prelude.{◌≡◌, ◌≤◌, List, ℕ, length, All, IfSome, IfOk, IfErr, OnOk};
+ghost use Rattle.std.specs.Prelude.{◌≡◌, ◌≤◌, List, ℕ, [], ◌∷◌, length, All, IfSome, IfOk, IfErr, OnOk};
+ghost use Rattle.std.specs.List.{filter};
 ghost use Rattle.board_shapes.specs.Plain.{plain_board, common_box, Fits};
+ghost use Rattle.board_io.specs.Handed.{AgreeWith, Grows};
 ghost use Rattle.board_io.specs.Package.{IsFaultless};
 ghost use Rattle.board_package.specs.Causes.{HandedCause, HasCause, IsFrameFault, KeepsFaults};
-ghost use Rattle.board_package.specs.HandedBoard.{ComesAmongHanded, ComesHanded, ComesNext, GoesHanded, IsBoardHanded, IsFirstStopHanded, IsHanded, IsManifestHanded, StopsAmongHanded, StopsAtHanded, StopsAtManifestHanded, StopsHanding, course};
+ghost use Rattle.board_package.specs.HandedBoard.{ComesHanded, ComesNext, GoesHanded, IsBoardHanded, IsFirstStopHanded, IsHanded, IsManifestHanded, StopsAtHanded, StopsAtManifestHanded, StopsHanding, course};
+ghost use Rattle.board_package.specs.HandedLabelled.{GoesLabelledHanded, LabelledComesAmongHanded, StopsLabelledAmongHanded, labelled_course};
+ghost use Rattle.board_package.specs.LabelledBoard.{GoesLabelled, LabelledComesAmong, StopsLabelledAmong, is_taken};
+ghost use Rattle.board_package.specs.LabelledCauses.{HandedLabelledCause, HasLabelledCause, KeepsLabelledFaults, labelled_so_far};
 ghost use Rattle.board_package.specs.Manifest.{IsLawful, IsOnBoard};
-ghost use Rattle.board_package.specs.PackageBoard.{IsBoardOf, IsFirstStop, IsWithinLimits, Comes, IsHeld, IsManifestFile, StopsTaking, StopsAtManifest, StopsAt, StopsAtFrame, StopsAmong, ComesAmong, Goes, Walks, WalksBy};
+ghost use Rattle.board_package.specs.PackageBoard.{IsBoardOf, IsFirstStop, IsWithinLimits, Comes, IsHeld, IsManifestFile, StopsTaking, StopsAtManifest, StopsAt, StopsAtFrame, Goes, WalksBy};
 ghost use Rattle.board_package.specs.Parts.{board_so_far, IsLawfulParts};
+ghost use Rattle.x2_nets.specs.Labels.{Rise};
 
-use crate::entry::Entry;
-use crate::fault::BuildFault;
+use crate::entry::{Entry, Naming};
+use crate::fault::{BuildFault, LabelledFault};
+use crate::labelling::list_labels;
 use crate::manifest::{Manifest, ManifestFault, read_manifest};
 use crate::parts::Parts;
 use crate::reading::read_file;
 use board_io::{Package, Take};
 use board_shapes::{Board, BoardFault, laws};
-use lengths::Text;
+use lengths::{Rows, Text};
 use std::alloc::Global;
 pub use texts::MOST_BYTES;
+use x2_nets::Label;
 
 /// The board of a package under the name of its manifest: its copper files' pieces and then its drill files', the probes
 /// and names of its netlist, and as many layers as copper files.
@@ -30,6 +38,8 @@ pub fn build<P: Package>(
     package: &mut P,
 ) -> Result<Board, BuildFault>
     ensures held { P.held «package».new ≡ P.held «package».old }
+    ensures grows { Grows (P.handed «package».old) (P.handed «package».new) }
+    ensures consistent { IfSome (P.held «package».old) (λ files. AgreeWith files (P.handed «package».old) (P.handed «package».new)) }
     ensures later { P.faults «package».old ≤ P.faults «package».new }
     ensures faultless { OnOk result (IsFaultless (P.faults «package».old) (P.lost «package».old) (P.faults «package».new) (P.lost «package».new)) }
     ensures kept { IfErr result (KeepsFaults (P.faults «package».old) (P.lost «package».old) (P.faults «package».new) (P.lost «package».new)) }
@@ -39,27 +49,27 @@ pub fn build<P: Package>(
     ensures limits { IfOk result (λ board. IsWithinLimits (plain_board board)) }
     ensures fault { IfErr result (HasCause (P.held «package».old) (λ files stop. IsFirstStop files manifest.now stop) (λ files name. Comes files manifest.now name) (P.faults «package».old) (P.faults «package».new) (P.lost «package».new)) }
 {
-    let mut file = Vec::new(alloc);
-    let listed = take_manifest(alloc, manifest, package, &mut file)?;
+    let listed = take_manifest(alloc, manifest, package)?;
     let mut parts = Parts::new(alloc, listed.layers);
-    take_files(
-        alloc,
-        package,
-        listed.files.as_slice(),
-        &mut parts,
-        &mut file,
-    )?;
-    framed(parts)
+    let mut tables = Rows::new(alloc);
+    let entries = listed.files.as_slice();
+    let naming = Naming::ByNetlist;
+    match take_files(alloc, package, naming, entries, &mut parts, &mut tables) {
+        Ok(()) => framed(parts),
+        Err(LabelledFault::Build(why)) => Err(why),
+        Err(LabelledFault::Label { .. }) => unreachable!(),
+    }
 }
 
-/// Takes the manifest of this name into `file`, and reads it.
+/// Takes the manifest of this name, and reads it.
 pub fn take_manifest<P: Package>(
     alloc: Global,
     manifest: &Text,
     package: &mut P,
-    file: &mut Vec<u8>,
 ) -> Result<Manifest, BuildFault>
     ensures held { P.held «package».new ≡ P.held «package».old }
+    ensures grows { Grows (P.handed «package».old) (P.handed «package».new) }
+    ensures consistent { IfSome (P.held «package».old) (λ files. AgreeWith files (P.handed «package».old) (P.handed «package».new)) }
     ensures later { P.faults «package».old ≤ P.faults «package».new }
     ensures faultless { OnOk result (IsFaultless (P.faults «package».old) (P.lost «package».old) (P.faults «package».new) (P.lost «package».new)) }
     ensures kept { IfErr result (KeepsFaults (P.faults «package».old) (P.lost «package».old) (P.faults «package».new) (P.lost «package».new)) }
@@ -69,7 +79,8 @@ pub fn take_manifest<P: Package>(
     ensures lawful { IfOk result (λ m. IsLawful m) }
     ensures cause { IfErr result (HasCause (P.held «package».old) (λ files stop. StopsAtManifest files manifest.now stop) (λ files name. name ≡ manifest.now) (P.faults «package».old) (P.faults «package».new) (P.lost «package».new)) }
 {
-    take_file(alloc, manifest, package, file)?;
+    let mut file = Vec::new(alloc);
+    take_file(alloc, manifest, package, &mut file)?;
     match read_manifest(alloc, file.as_slice()) {
         Ok(listed) => Ok(listed),
         Err(ManifestFault::NotJson) => Err(BuildFault::NotJson),
@@ -78,34 +89,74 @@ pub fn take_manifest<P: Package>(
     }
 }
 
-// Takes the files of the order, and adds what they give.
-fn take_files<P: Package>(
+/// Takes the files of the order, adds what they give, and lists the labels that name the nets.
+pub fn take_files<P: Package>(
     alloc: Global,
     package: &mut P,
+    naming: Naming,
     entries: &[Entry],
     parts: &mut Parts,
-    file: &mut Vec<u8>,
-) -> Result<(), BuildFault>
+    tables: &mut Rows<Rows<Label>>,
+) -> Result<(), LabelledFault>
     requires lawful { IsLawfulParts parts.old }
     requires roles { All (λ e. IsOnBoard parts.old.layers e.role) entries.now }
+    requires rise { All Rise tables.old }
     ensures held { P.held «package».new ≡ P.held «package».old }
+    ensures grows { Grows (P.handed «package».old) (P.handed «package».new) }
+    ensures consistent { IfSome (P.held «package».old) (λ files. AgreeWith files (P.handed «package».old) (P.handed «package».new)) }
     ensures later { P.faults «package».old ≤ P.faults «package».new }
     ensures faultless { OnOk result (IsFaultless (P.faults «package».old) (P.lost «package».old) (P.faults «package».new) (P.lost «package».new)) }
-    ensures kept { IfErr result (KeepsFaults (P.faults «package».old) (P.lost «package».old) (P.faults «package».new) (P.lost «package».new)) }
-    ensures found { OnOk result (IfSome (P.held «package».old) (λ files. Walks files entries.now (board_so_far parts.old) (board_so_far parts.new))) }
-    ensures handed { OnOk result (WalksBy GoesHanded entries.now (course (P.handed «package».old) (board_so_far parts.old)) (course (P.handed «package».new) (board_so_far parts.new))) }
-    ensures handed_cause { IfErr result (HandedCause (λ stop. StopsAmongHanded entries.now (course (P.handed «package».old) (board_so_far parts.old)) (P.handed «package».new) stop) (λ name. ComesAmongHanded entries.now (course (P.handed «package».old) (board_so_far parts.old)) (P.handed «package».new) name) (P.faults «package».old) (P.faults «package».new) (P.lost «package».new)) }
+    ensures kept { IfErr result (KeepsLabelledFaults (P.faults «package».old) (P.lost «package».old) (P.faults «package».new) (P.lost «package».new)) }
+    ensures found { OnOk result (IfSome (P.held «package».old) (λ files. WalksBy (GoesLabelled naming files) (filter (λ e. is_taken naming e.role) entries.now) (labelled_so_far parts.old tables.old) (labelled_so_far parts.new tables.new))) }
+    ensures handed { OnOk result (WalksBy (GoesLabelledHanded naming) (filter (λ e. is_taken naming e.role) entries.now) (labelled_course (P.handed «package».old) (labelled_so_far parts.old tables.old)) (labelled_course (P.handed «package».new) (labelled_so_far parts.new tables.new))) }
+    ensures handed_cause { IfErr result (HandedLabelledCause (λ stop. StopsLabelledAmongHanded naming (filter (λ e. is_taken naming e.role) entries.now) (labelled_course (P.handed «package».old) (labelled_so_far parts.old tables.old)) (P.handed «package».new) stop) (λ name. LabelledComesAmongHanded naming (filter (λ e. is_taken naming e.role) entries.now) (labelled_course (P.handed «package».old) (labelled_so_far parts.old tables.old)) (P.handed «package».new) name) (P.faults «package».old) (P.faults «package».new) (P.lost «package».new)) }
     ensures parts { OnOk result (IsLawfulParts parts.new) }
-    ensures cause { IfErr result (HasCause (P.held «package».old) (λ files stop. StopsAmong files entries.now (board_so_far parts.old) stop) (λ files name. ComesAmong files entries.now (board_so_far parts.old) name) (P.faults «package».old) (P.faults «package».new) (P.lost «package».new)) }
+    ensures rise { OnOk result (All Rise tables.new) }
+    ensures cause { IfErr result (HasLabelledCause (P.held «package».old) (λ files stop. StopsLabelledAmong naming files (filter (λ e. is_taken naming e.role) entries.now) (labelled_so_far parts.old tables.old) stop) (λ files name. LabelledComesAmong naming files (filter (λ e. is_taken naming e.role) entries.now) (labelled_so_far parts.old tables.old) name) (P.faults «package».old) (P.faults «package».new) (P.lost «package».new)) }
 {
+    let mut file = Vec::new(alloc);
     for entry in entries {
-        take_entry(alloc, package, entry, parts, file)?;
+        take_needed(alloc, package, naming, entry, parts, &mut file, tables)?;
     }
     Ok(())
 }
 
-/// Takes one file of the order into `file`, and adds what it gives.
-pub fn take_entry<P: Package>(
+// Takes one file of the order, if it is needed, adds what it gives, and lists its labels, if they are.
+fn take_needed<P: Package>(
+    alloc: Global,
+    package: &mut P,
+    naming: Naming,
+    entry: &Entry,
+    parts: &mut Parts,
+    file: &mut Vec<u8>,
+    tables: &mut Rows<Rows<Label>>,
+) -> Result<(), LabelledFault>
+    requires lawful { IsLawfulParts parts.old }
+    requires role { IsOnBoard parts.old.layers entry.now.role }
+    requires rise { All Rise tables.old }
+    ensures held { P.held «package».new ≡ P.held «package».old }
+    ensures grows { Grows (P.handed «package».old) (P.handed «package».new) }
+    ensures consistent { IfSome (P.held «package».old) (λ files. AgreeWith files (P.handed «package».old) (P.handed «package».new)) }
+    ensures later { P.faults «package».old ≤ P.faults «package».new }
+    ensures faultless { OnOk result (IsFaultless (P.faults «package».old) (P.lost «package».old) (P.faults «package».new) (P.lost «package».new)) }
+    ensures kept { IfErr result (KeepsLabelledFaults (P.faults «package».old) (P.lost «package».old) (P.faults «package».new) (P.lost «package».new)) }
+    ensures found { OnOk result (IfSome (P.held «package».old) (λ files. WalksBy (GoesLabelled naming files) (filter (λ e. is_taken naming e.role) (entry.now ∷ [])) (labelled_so_far parts.old tables.old) (labelled_so_far parts.new tables.new))) }
+    ensures handed { OnOk result (WalksBy (GoesLabelledHanded naming) (filter (λ e. is_taken naming e.role) (entry.now ∷ [])) (labelled_course (P.handed «package».old) (labelled_so_far parts.old tables.old)) (labelled_course (P.handed «package».new) (labelled_so_far parts.new tables.new))) }
+    ensures handed_cause { IfErr result (HandedLabelledCause (λ stop. StopsLabelledAmongHanded naming (filter (λ e. is_taken naming e.role) (entry.now ∷ [])) (labelled_course (P.handed «package».old) (labelled_so_far parts.old tables.old)) (P.handed «package».new) stop) (λ name. LabelledComesAmongHanded naming (filter (λ e. is_taken naming e.role) (entry.now ∷ [])) (labelled_course (P.handed «package».old) (labelled_so_far parts.old tables.old)) (P.handed «package».new) name) (P.faults «package».old) (P.faults «package».new) (P.lost «package».new)) }
+    ensures parts { OnOk result (IsLawfulParts parts.new) }
+    ensures layers { OnOk result (parts.new.layers ≡ parts.old.layers) }
+    ensures rise { OnOk result (All Rise tables.new) }
+    ensures cause { IfErr result (HasLabelledCause (P.held «package».old) (λ files stop. StopsLabelledAmong naming files (filter (λ e. is_taken naming e.role) (entry.now ∷ [])) (labelled_so_far parts.old tables.old) stop) (λ files name. LabelledComesAmong naming files (filter (λ e. is_taken naming e.role) (entry.now ∷ [])) (labelled_so_far parts.old tables.old) name) (P.faults «package».old) (P.faults «package».new) (P.lost «package».new)) }
+{
+    if !naming.takes(entry.role) {
+        return Ok(());
+    }
+    take_entry(alloc, package, entry, parts, file)?;
+    list_labels(alloc, naming, entry, file.as_slice(), tables)
+}
+
+// Takes one file of the order into `file`, and adds what it gives.
+fn take_entry<P: Package>(
     alloc: Global,
     package: &mut P,
     entry: &Entry,
@@ -115,6 +166,8 @@ pub fn take_entry<P: Package>(
     requires lawful { IsLawfulParts parts.old }
     requires role { IsOnBoard parts.old.layers entry.now.role }
     ensures held { P.held «package».new ≡ P.held «package».old }
+    ensures grows { Grows (P.handed «package».old) (P.handed «package».new) }
+    ensures consistent { IfSome (P.held «package».old) (λ files. AgreeWith files (P.handed «package».old) (P.handed «package».new)) }
     ensures later { P.faults «package».old ≤ P.faults «package».new }
     ensures faultless { OnOk result (IsFaultless (P.faults «package».old) (P.lost «package».old) (P.faults «package».new) (P.lost «package».new)) }
     ensures kept { IfErr result (KeepsFaults (P.faults «package».old) (P.lost «package».old) (P.faults «package».new) (P.lost «package».new)) }
@@ -142,6 +195,8 @@ pub fn take_file<P: Package>(
     file: &mut Vec<u8>,
 ) -> Result<(), BuildFault>
     ensures held { P.held «package».new ≡ P.held «package».old }
+    ensures grows { Grows (P.handed «package».old) (P.handed «package».new) }
+    ensures consistent { IfSome (P.held «package».old) (λ files. AgreeWith files (P.handed «package».old) (P.handed «package».new)) }
     ensures later { P.faults «package».old ≤ P.faults «package».new }
     ensures faultless { OnOk result (IsFaultless (P.faults «package».old) (P.lost «package».old) (P.faults «package».new) (P.lost «package».new)) }
     ensures kept { IfErr result (KeepsFaults (P.faults «package».old) (P.lost «package».old) (P.faults «package».new) (P.lost «package».new)) }

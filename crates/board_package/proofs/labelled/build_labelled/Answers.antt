@@ -1,5 +1,6 @@
 use Rattle.std.proofs.Common.{List, IfSome, subst, ap, ◌∙◌}
 use Rattle.std.specs.List.{filter}
+use Rattle.board_io.proofs.Agreeing.{grows_on}
 use Rattle.board_io.specs.Package.{IsFaultless}
 use Rattle.board_package.proofs.LabelStaging.{files_labelled_handed, frame_labelled_handed, labelled_board_handed, manifest_labelled_handed}
 use Rattle.board_package.specs.HandedLabelled.{GoesLabelledHanded, LabelledComesAmongHanded, StopsLabelledAmongHanded, labelled_course}
@@ -7,11 +8,12 @@ use Rattle.board_package.specs.LabelledBoard.{GoesLabelled, LabelledComesAmong, 
 use Rattle.board_package.specs.LabelledCauses.{HandedLabelledCause, HasLabelledCause, labelled_so_far}
 use Rattle.board_package.specs.PackageBoard.{WalksBy}
 use Rattle.board_package.specs.Parts.{board_so_far}
+use Rattle.board_package.specs.declared.entry.Naming.TheVariants.{ByLabels}
 use Rattle.board_package.specs.declared.fault.BuildFault.TheVariants as build
 use Rattle.board_package.specs.declared.fault.LabelledFault.TheVariants as fault
 use Rattle.x2_nets.specs.declared.table.Label.{Label}
-use Rattle.board_package.proofs.LabelCauses.{files_labelled_cause, frame_labelled_cause, kept_labelled, kept_labelled_after, labelled_board_is, manifest_labelled_cause, nothing_yet, with_board}
-use Rattle.board_package.proofs.Lift.{climbs, faultless_both}
+use Rattle.board_package.proofs.LabelCauses.{files_labelled_cause, frame_labelled_cause, kept_labelled, kept_labelled_after, labelled_board_is, manifest_labelled_cause, needed, nothing_yet}
+use Rattle.board_package.proofs.Lift.{agrees_on, climbs, faultless_both}
 use Rattle.board_package.proofs.labelled.build_labelled.Goals as goal
 
 -- ---- The manifest
@@ -31,7 +33,7 @@ returns-in_err-take_files-clause-fault g c =
     let held = g.P.Package.held c.take_manifest.new.package in
     let start = labelled_so_far c.new-parts.result c.new-tables.result in
     let why = c.in_err-take_files.field-0.0 in
-    let cause = subst (λ entries. HasLabelledCause held (λ files stop. StopsLabelledAmong files (filter with_board entries) start stop) (λ files name. LabelledComesAmong files (filter with_board entries) start name)
+    let cause = subst (λ entries. HasLabelledCause held (λ files stop. StopsLabelledAmong ByLabels files (filter (needed ByLabels) entries) start stop) (λ files name. LabelledComesAmong ByLabels files (filter (needed ByLabels) entries) start name)
     (g.P.Package.faults c.take_manifest.new.package) (g.P.Package.faults c.take_files.new.package) (g.P.Package.lost c.take_files.new.package) why) c.as_slice-entries.ensures c.in_err-take_files.ensures.cause in
     climbs _ c.from_residual-in_err-take_files.result why c.from_residual-in_err-take_files.ensures.1
     (files_labelled_cause (g.P.Package.held c.args.package.now) held c.args.manifest.now c.in_ok-listed.listed start
@@ -58,7 +60,7 @@ returns-in_err-board-clause-fault g c =
     let held = g.P.Package.held c.take_manifest.new.package in
     let start = labelled_so_far c.new-parts.result c.new-tables.result in
     let end = labelled_so_far c.take_files.new.parts c.take_files.new.tables in
-    let walked = subst (λ entries. IfSome held (λ files. WalksBy (GoesLabelled files) (filter with_board entries) start end)) c.as_slice-entries.ensures c.in_ok-take_files.ensures.found in
+    let walked = subst (λ entries. IfSome held (λ files. WalksBy (GoesLabelled ByLabels files) (filter (needed ByLabels) entries) start end)) c.as_slice-entries.ensures c.in_ok-take_files.ensures.found in
     let named = c.in_ok-name_pieces.ensures.ok ∙ ap (λ (t : List (List Label)). labelled_board_of t (board_so_far c.take_files.new.parts)) c.as_slice.ensures in
     climbs _ c.from_residual-in_err-board.result (fault.Build c.in_err-board.field-0.0) c.from_residual-in_err-board.ensures.1
     (frame_labelled_cause (g.P.Package.held c.args.package.now) held c.args.manifest.now c.in_ok-listed.listed start end (board_so_far c.name_pieces.new.parts)
@@ -80,7 +82,7 @@ returns-clause-ok g c =
     let held = g.P.Package.held c.take_manifest.new.package in
     let start = labelled_so_far c.new-parts.result c.new-tables.result in
     let end = labelled_so_far c.take_files.new.parts c.take_files.new.tables in
-    let walked = subst (λ entries. IfSome held (λ files. WalksBy (GoesLabelled files) (filter with_board entries) start end)) c.as_slice-entries.ensures c.in_ok-take_files.ensures.found in
+    let walked = subst (λ entries. IfSome held (λ files. WalksBy (GoesLabelled ByLabels files) (filter (needed ByLabels) entries) start end)) c.as_slice-entries.ensures c.in_ok-take_files.ensures.found in
     let named = c.in_ok-name_pieces.ensures.ok ∙ ap (λ (t : List (List Label)). labelled_board_of t (board_so_far c.take_files.new.parts)) c.as_slice.ensures in
     labelled_board_is (g.P.Package.held c.args.package.now) held c.args.manifest.now c.in_ok-listed.listed start end (board_so_far c.name_pieces.new.parts) _
     c.take_manifest.ensures.held (nothing_yet _ _ _ c.new-parts.ensures.empty c.new-tables.ensures) named c.in_ok-listed.ensures.found walked c.in_ok-board.ensures.fits c.in_ok-board.ensures.ok
@@ -98,7 +100,7 @@ returns-in_err-take_files-clause-handed_cause g c =
     let mid = g.P.Package.handed c.take_manifest.new.package in
     let after = g.P.Package.handed c.take_files.new.package in
     let why = c.in_err-take_files.field-0.0 in
-    let cause = subst (λ entries. HandedLabelledCause (λ stop. StopsLabelledAmongHanded (filter with_board entries) (labelled_course mid start) after stop) (λ name. LabelledComesAmongHanded (filter with_board entries) (labelled_course mid start) after name)
+    let cause = subst (λ entries. HandedLabelledCause (λ stop. StopsLabelledAmongHanded ByLabels (filter (needed ByLabels) entries) (labelled_course mid start) after stop) (λ name. LabelledComesAmongHanded ByLabels (filter (needed ByLabels) entries) (labelled_course mid start) after name)
     (g.P.Package.faults c.take_manifest.new.package) (g.P.Package.faults c.take_files.new.package) (g.P.Package.lost c.take_files.new.package) why) c.as_slice-entries.ensures c.in_err-take_files.ensures.handed_cause in
     climbs _ c.from_residual-in_err-take_files.result why c.from_residual-in_err-take_files.ensures.1
     (files_labelled_handed (g.P.Package.handed c.args.package.now) mid after c.args.manifest.now c.in_ok-listed.listed start
@@ -114,7 +116,7 @@ returns-in_err-board-clause-handed_cause g c =
     let end = labelled_so_far c.take_files.new.parts c.take_files.new.tables in
     let mid = g.P.Package.handed c.take_manifest.new.package in
     let after = g.P.Package.handed c.take_files.new.package in
-    let walked = subst (λ entries. WalksBy GoesLabelledHanded (filter with_board entries) (labelled_course mid start) (labelled_course after end)) c.as_slice-entries.ensures c.in_ok-take_files.ensures.handed in
+    let walked = subst (λ entries. WalksBy (GoesLabelledHanded ByLabels) (filter (needed ByLabels) entries) (labelled_course mid start) (labelled_course after end)) c.as_slice-entries.ensures c.in_ok-take_files.ensures.handed in
     let named = c.in_ok-name_pieces.ensures.ok ∙ ap (λ (t : List (List Label)). labelled_board_of t (board_so_far c.take_files.new.parts)) c.as_slice.ensures in
     climbs _ c.from_residual-in_err-board.result (fault.Build c.in_err-board.field-0.0) c.from_residual-in_err-board.ensures.1
     (frame_labelled_handed (g.P.Package.handed c.args.package.now) mid after c.args.manifest.now c.in_ok-listed.listed start end (board_so_far c.name_pieces.new.parts)
@@ -127,7 +129,37 @@ returns-clause-handed g c =
     let end = labelled_so_far c.take_files.new.parts c.take_files.new.tables in
     let mid = g.P.Package.handed c.take_manifest.new.package in
     let after = g.P.Package.handed c.take_files.new.package in
-    let walked = subst (λ entries. WalksBy GoesLabelledHanded (filter with_board entries) (labelled_course mid start) (labelled_course after end)) c.as_slice-entries.ensures c.in_ok-take_files.ensures.handed in
+    let walked = subst (λ entries. WalksBy (GoesLabelledHanded ByLabels) (filter (needed ByLabels) entries) (labelled_course mid start) (labelled_course after end)) c.as_slice-entries.ensures c.in_ok-take_files.ensures.handed in
     let named = c.in_ok-name_pieces.ensures.ok ∙ ap (λ (t : List (List Label)). labelled_board_of t (board_so_far c.take_files.new.parts)) c.as_slice.ensures in
     labelled_board_handed (g.P.Package.handed c.args.package.now) mid after c.args.manifest.now c.in_ok-listed.listed start end (board_so_far c.name_pieces.new.parts) _
     (nothing_yet _ _ _ c.new-parts.ensures.empty c.new-tables.ensures) named c.in_ok-listed.ensures.handed walked c.in_ok-board.ensures.fits c.in_ok-board.ensures.ok
+
+-- ---- What was handed over agrees with what is held
+
+pub returns-in_err-take_files-clause-grows : goal.returns-in_err-take_files-clause-grows
+returns-in_err-take_files-clause-grows g c = grows_on _ _ _ c.take_manifest.ensures.grows c.take_files.ensures.grows
+
+pub returns-in_err-take_files-clause-consistent : goal.returns-in_err-take_files-clause-consistent
+returns-in_err-take_files-clause-consistent g c =
+    agrees_on _ _ _ _ _ c.take_manifest.ensures.held c.take_manifest.ensures.grows c.take_files.ensures.grows c.take_manifest.ensures.consistent c.take_files.ensures.consistent
+
+pub returns-in_err-name_pieces-clause-grows : goal.returns-in_err-name_pieces-clause-grows
+returns-in_err-name_pieces-clause-grows g c = grows_on _ _ _ c.take_manifest.ensures.grows c.take_files.ensures.grows
+
+pub returns-in_err-name_pieces-clause-consistent : goal.returns-in_err-name_pieces-clause-consistent
+returns-in_err-name_pieces-clause-consistent g c =
+    agrees_on _ _ _ _ _ c.take_manifest.ensures.held c.take_manifest.ensures.grows c.take_files.ensures.grows c.take_manifest.ensures.consistent c.take_files.ensures.consistent
+
+pub returns-in_err-board-clause-grows : goal.returns-in_err-board-clause-grows
+returns-in_err-board-clause-grows g c = grows_on _ _ _ c.take_manifest.ensures.grows c.take_files.ensures.grows
+
+pub returns-in_err-board-clause-consistent : goal.returns-in_err-board-clause-consistent
+returns-in_err-board-clause-consistent g c =
+    agrees_on _ _ _ _ _ c.take_manifest.ensures.held c.take_manifest.ensures.grows c.take_files.ensures.grows c.take_manifest.ensures.consistent c.take_files.ensures.consistent
+
+pub returns-clause-grows : goal.returns-clause-grows
+returns-clause-grows g c = grows_on _ _ _ c.take_manifest.ensures.grows c.take_files.ensures.grows
+
+pub returns-clause-consistent : goal.returns-clause-consistent
+returns-clause-consistent g c =
+    agrees_on _ _ _ _ _ c.take_manifest.ensures.held c.take_manifest.ensures.grows c.take_files.ensures.grows c.take_manifest.ensures.consistent c.take_files.ensures.consistent

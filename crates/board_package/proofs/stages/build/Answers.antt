@@ -1,66 +1,109 @@
-use Rattle.std.proofs.Common.{◌≡◌, rules, subst}
-use Rattle.board_io.specs.Package.{IsFaultless}
-use Rattle.board_package.specs.Causes.{HandedCause, HasCause, IsFrameFault, KeepsFaults}
-use Rattle.board_package.specs.HandedBoard.{ComesAmongHanded, ComesHanded, GoesHanded, IsFirstStopHanded, StopsAmongHanded, course}
-use Rattle.board_package.specs.PackageBoard.{IsFirstStop, Comes, StopsAmong, ComesAmong, WalksBy}
+use Rattle.board_io.proofs.Agreeing.{grows_on}
+use Rattle.board_shapes.specs.Plain.{plain_board}
+use Rattle.board_package.specs.Causes.{HandedCause, HasCause, IsFrameFault}
+use Rattle.board_package.specs.HandedBoard.{ComesHanded, IsFirstStopHanded}
+use Rattle.board_package.specs.HandedLabelled.{labelled_course}
+use Rattle.board_package.specs.LabelledCauses.{labelled_so_far}
+use Rattle.board_package.specs.PackageBoard.{Comes, IsFirstStop}
 use Rattle.board_package.specs.Parts.{board_so_far}
-use Rattle.board_package.proofs.Lift.{climbs, if_err, faultless_both, faultless_ok, kept_after, kept_err}
-use Rattle.board_package.proofs.Staging.{files_handed, framed_handed, manifest_handed}
-use Rattle.board_package.proofs.Taking.{files_cause}
+use Rattle.board_package.proofs.ByNetlist.{handed_plainly, no_labels, plain_cause, plain_handed, told_plainly}
+use Rattle.board_package.proofs.Lift.{agrees_on, climbs, if_err, if_ok}
+use Rattle.board_package.proofs.Staging.{board_handed, files_handed, framed_handed, manifest_handed}
+use Rattle.board_package.proofs.Taking.{board_is, files_cause, framed_cause}
 use Rattle.board_package.proofs.stages.build.Goals as goal
 
-pub returns-in_err-take_files-clause-fault : goal.returns-in_err-take_files-clause-fault
-returns-in_err-take_files-clause-fault g c =
-    let fact : HasCause (g.P.Package.held c.args.package.now) (λ files stop. IsFirstStop files c.args.manifest.now stop) (λ files name. Comes files c.args.manifest.now name)
-    (g.P.Package.faults c.args.package.now) (g.P.Package.faults c.take_files.new.package) (g.P.Package.lost c.take_files.new.package) c.in_err-take_files.field-0.0 =
-    files_cause (g.P.Package.held c.args.package.now) (g.P.Package.held c.take_manifest.new.package) c.args.manifest.now c.in_ok-listed.listed (board_so_far c.new-parts.result)
-    (g.P.Package.faults c.args.package.now) (g.P.Package.faults c.take_manifest.new.package) (g.P.Package.faults c.take_files.new.package) (g.P.Package.lost c.take_files.new.package) c.in_err-take_files.field-0.0
-    c.take_manifest.ensures.held c.new-parts.ensures.empty c.take_manifest.ensures.later c.in_ok-listed.ensures.found
-    (subst (λ entries. HasCause (g.P.Package.held c.take_manifest.new.package) (λ files stop. StopsAmong files entries (board_so_far c.new-parts.result) stop) (λ files name. ComesAmong files entries (board_so_far c.new-parts.result) name)
-    (g.P.Package.faults c.take_manifest.new.package) (g.P.Package.faults c.take_files.new.package) (g.P.Package.lost c.take_files.new.package) c.in_err-take_files.field-0.0) c.as_slice.ensures c.in_err-take_files.ensures.cause) in
-    search (rules, fact)
-
-pub returns-in_err-take_files-clause-kept : goal.returns-in_err-take_files-clause-kept
-returns-in_err-take_files-clause-kept g c =
-    let fact : KeepsFaults (g.P.Package.faults c.args.package.now) (g.P.Package.lost c.args.package.now) (g.P.Package.faults c.take_files.new.package) (g.P.Package.lost c.take_files.new.package) c.in_err-take_files.field-0.0 =
-    kept_after _ _ _ _ _ _ c.in_err-take_files.field-0.0 c.in_ok-listed.ensures.faultless c.in_err-take_files.ensures.kept in
-    search (rules, fact)
-
-pub returns-clause-faultless : goal.returns-clause-faultless
-returns-clause-faultless g c =
-    let whole : IsFaultless (g.P.Package.faults c.args.package.now) (g.P.Package.lost c.args.package.now) (g.P.Package.faults c.take_files.new.package) (g.P.Package.lost c.take_files.new.package) = faultless_both _ _ _ _ _ _ c.in_ok-listed.ensures.faultless c.in_ok-take_files.ensures.faultless in
-    faultless_ok c.framed.result _ _ _ _ whole
-
-pub returns-clause-kept : goal.returns-clause-kept
-returns-clause-kept g c =
-    let whole : IsFaultless (g.P.Package.faults c.args.package.now) (g.P.Package.lost c.args.package.now) (g.P.Package.faults c.take_files.new.package) (g.P.Package.lost c.take_files.new.package) = faultless_both _ _ _ _ _ _ c.in_ok-listed.ensures.faultless c.in_ok-take_files.ensures.faultless in
-    kept_err c.framed.result _ _ _ _ whole
+-- ---- The manifest
 
 pub returns-in_err-listed-clause-handed_cause : goal.returns-in_err-listed-clause-handed_cause
 returns-in_err-listed-clause-handed_cause g c =
     climbs _ c.from_residual.result c.in_err-listed.field-0.0 c.from_residual.ensures.1
     (manifest_handed (g.P.Package.handed c.args.package.now) (g.P.Package.handed c.take_manifest.new.package) c.args.manifest.now (g.P.Package.faults c.args.package.now) (g.P.Package.faults c.take_manifest.new.package) (g.P.Package.lost c.take_manifest.new.package) c.in_err-listed.field-0.0 c.in_err-listed.ensures.handed_cause)
 
-pub returns-in_err-take_files-clause-handed_cause : goal.returns-in_err-take_files-clause-handed_cause
-returns-in_err-take_files-clause-handed_cause g c =
-    let start = board_so_far c.new-parts.result in
+-- ---- The files
+
+pub returns-in-Err-Build-clause-fault : goal.returns-in-Err-Build-clause-fault
+returns-in-Err-Build-clause-fault g c =
+    let held = g.P.Package.held c.take_manifest.new.package in
+    let start = labelled_so_far c.new-parts.result c.new-tables.result in
+    let why = c.in-Err-Build.why in
+    files_cause (g.P.Package.held c.args.package.now) held c.args.manifest.now c.in_ok-listed.listed start.board
+    (g.P.Package.faults c.args.package.now) (g.P.Package.faults c.take_manifest.new.package) (g.P.Package.faults c.take_files.new.package) (g.P.Package.lost c.take_files.new.package) why
+    c.take_manifest.ensures.held c.new-parts.ensures.empty c.take_manifest.ensures.later c.in_ok-listed.ensures.found
+    (plain_cause held c.as_slice-entries.result.now c.in_ok-listed.listed.files start (g.P.Package.faults c.take_manifest.new.package) (g.P.Package.faults c.take_files.new.package) (g.P.Package.lost c.take_files.new.package) why c.in-Err-Build.field-0 c.as_slice-entries.ensures c.in-Err-Build.field-0-is c.in-Err-Build.ensures.cause)
+
+pub returns-in-Err-Build-clause-handed_cause : goal.returns-in-Err-Build-clause-handed_cause
+returns-in-Err-Build-clause-handed_cause g c =
     let mid = g.P.Package.handed c.take_manifest.new.package in
     let after = g.P.Package.handed c.take_files.new.package in
-    let why = c.in_err-take_files.field-0.0 in
-    climbs _ c.from_residual-in_err-take_files.result why c.from_residual-in_err-take_files.ensures.1
-    (files_handed (g.P.Package.handed c.args.package.now) mid after c.args.manifest.now c.in_ok-listed.listed start
+    let start = labelled_course mid (labelled_so_far c.new-parts.result c.new-tables.result) in
+    let why = c.in-Err-Build.why in
+    files_handed (g.P.Package.handed c.args.package.now) mid after c.args.manifest.now c.in_ok-listed.listed (board_so_far c.new-parts.result)
     (g.P.Package.faults c.args.package.now) (g.P.Package.faults c.take_manifest.new.package) (g.P.Package.faults c.take_files.new.package) (g.P.Package.lost c.take_files.new.package) why
     c.new-parts.ensures.empty c.take_manifest.ensures.later c.in_ok-listed.ensures.handed
-    (subst (λ entries. HandedCause (λ stop. StopsAmongHanded entries (course mid start) after stop) (λ name. ComesAmongHanded entries (course mid start) after name)
-    (g.P.Package.faults c.take_manifest.new.package) (g.P.Package.faults c.take_files.new.package) (g.P.Package.lost c.take_files.new.package) why) c.as_slice.ensures c.in_err-take_files.ensures.handed_cause))
+    (plain_handed c.as_slice-entries.result.now c.in_ok-listed.listed.files start after (g.P.Package.faults c.take_manifest.new.package) (g.P.Package.faults c.take_files.new.package) (g.P.Package.lost c.take_files.new.package) why c.in-Err-Build.field-0 c.as_slice-entries.ensures c.in-Err-Build.field-0-is c.in-Err-Build.ensures.handed_cause)
 
-pub returns-clause-handed_cause : goal.returns-clause-handed_cause
-returns-clause-handed_cause g c =
-    let start = board_so_far c.new-parts.result in
-    let end = board_so_far c.take_files.new.parts in
-    let mid = g.P.Package.handed c.take_manifest.new.package in
-    let after = g.P.Package.handed c.take_files.new.package in
-    if_err c.framed.result (IsFrameFault end) (HandedCause (λ stop. IsFirstStopHanded (g.P.Package.handed c.args.package.now) after c.args.manifest.now stop) (λ name. ComesHanded (g.P.Package.handed c.args.package.now) after c.args.manifest.now name) (g.P.Package.faults c.args.package.now) (g.P.Package.faults c.take_files.new.package) (g.P.Package.lost c.take_files.new.package))
-    (λ why fault. framed_handed (g.P.Package.handed c.args.package.now) mid after c.args.manifest.now c.in_ok-listed.listed start end (g.P.Package.faults c.args.package.now) (g.P.Package.faults c.take_files.new.package) (g.P.Package.lost c.take_files.new.package) why
-    c.new-parts.ensures.empty c.in_ok-listed.ensures.handed (subst (λ entries. WalksBy GoesHanded entries (course mid start) (course after end)) c.as_slice.ensures c.in_ok-take_files.ensures.handed) fault)
+pub unreachable-requires : goal.unreachable-requires
+unreachable-requires g c =
+    no_labels c.as_slice-entries.result.now (labelled_course (g.P.Package.handed c.take_manifest.new.package) (labelled_so_far c.new-parts.result c.new-tables.result)) (g.P.Package.handed c.take_files.new.package)
+    (g.P.Package.faults c.take_manifest.new.package) (g.P.Package.faults c.take_files.new.package) (g.P.Package.lost c.take_files.new.package) c.in-Err-Label.field-0 _ _ _ c.in-Err-Label.field-0-is c.in-Err-Label.ensures.handed_cause
+
+-- ---- The board
+
+pub returns-in-Ok-clause-ok : goal.returns-in-Ok-clause-ok
+returns-in-Ok-clause-ok g c =
+    let held = g.P.Package.held c.take_manifest.new.package in
+    let start = labelled_so_far c.new-parts.result c.new-tables.result in
+    let end = labelled_so_far c.take_files.new.parts c.take_files.new.tables in
+    let walked = told_plainly held c.as_slice-entries.result.now c.in_ok-listed.listed.files start end c.as_slice-entries.ensures c.in-Ok.ensures.found in
+    if_ok c.framed.result _ _ _
+    (λ board made fits. board_is (g.P.Package.held c.args.package.now) held c.args.manifest.now c.in_ok-listed.listed start.board end.board (plain_board board) c.take_manifest.ensures.held c.new-parts.ensures.empty c.in_ok-listed.ensures.found walked fits made)
+    c.framed.ensures.ok c.framed.ensures.fits
+
+pub returns-in-Ok-clause-handed : goal.returns-in-Ok-clause-handed
+returns-in-Ok-clause-handed g c =
+    let start = labelled_course (g.P.Package.handed c.take_manifest.new.package) (labelled_so_far c.new-parts.result c.new-tables.result) in
+    let end = labelled_course (g.P.Package.handed c.take_files.new.package) (labelled_so_far c.take_files.new.parts c.take_files.new.tables) in
+    let walked = handed_plainly c.as_slice-entries.result.now c.in_ok-listed.listed.files start end c.as_slice-entries.ensures c.in-Ok.ensures.handed in
+    if_ok c.framed.result _ _ _
+    (λ board made fits. board_handed (g.P.Package.handed c.args.package.now) start.handed end.handed c.args.manifest.now c.in_ok-listed.listed start.so_far.board end.so_far.board (plain_board board) c.new-parts.ensures.empty c.in_ok-listed.ensures.handed walked fits made)
+    c.framed.ensures.ok c.framed.ensures.fits
+
+-- ---- The frame
+
+pub returns-in-Ok-clause-fault : goal.returns-in-Ok-clause-fault
+returns-in-Ok-clause-fault g c =
+    let held = g.P.Package.held c.take_manifest.new.package in
+    let start = labelled_so_far c.new-parts.result c.new-tables.result in
+    let end = labelled_so_far c.take_files.new.parts c.take_files.new.tables in
+    let walked = told_plainly held c.as_slice-entries.result.now c.in_ok-listed.listed.files start end c.as_slice-entries.ensures c.in-Ok.ensures.found in
+    if_err c.framed.result (IsFrameFault end.board) (HasCause (g.P.Package.held c.args.package.now) (λ files stop. IsFirstStop files c.args.manifest.now stop) (λ files name. Comes files c.args.manifest.now name) (g.P.Package.faults c.args.package.now) (g.P.Package.faults c.take_files.new.package) (g.P.Package.lost c.take_files.new.package))
+    (λ why h. framed_cause (g.P.Package.held c.args.package.now) held c.args.manifest.now c.in_ok-listed.listed start.board end.board (g.P.Package.faults c.args.package.now) (g.P.Package.faults c.take_files.new.package) (g.P.Package.lost c.take_files.new.package) why
+    c.take_manifest.ensures.held c.new-parts.ensures.empty c.in_ok-listed.ensures.found walked h)
     c.framed.ensures.fault
+
+pub returns-in-Ok-clause-handed_cause : goal.returns-in-Ok-clause-handed_cause
+returns-in-Ok-clause-handed_cause g c =
+    let a = g.P.Package.handed c.args.package.now in
+    let start = labelled_course (g.P.Package.handed c.take_manifest.new.package) (labelled_so_far c.new-parts.result c.new-tables.result) in
+    let end = labelled_course (g.P.Package.handed c.take_files.new.package) (labelled_so_far c.take_files.new.parts c.take_files.new.tables) in
+    let walked = handed_plainly c.as_slice-entries.result.now c.in_ok-listed.listed.files start end c.as_slice-entries.ensures c.in-Ok.ensures.handed in
+    if_err c.framed.result (IsFrameFault end.so_far.board) (HandedCause (λ stop. IsFirstStopHanded a end.handed c.args.manifest.now stop) (λ name. ComesHanded a end.handed c.args.manifest.now name) (g.P.Package.faults c.args.package.now) (g.P.Package.faults c.take_files.new.package) (g.P.Package.lost c.take_files.new.package))
+    (λ why h. framed_handed a start.handed end.handed c.args.manifest.now c.in_ok-listed.listed start.so_far.board end.so_far.board (g.P.Package.faults c.args.package.now) (g.P.Package.faults c.take_files.new.package) (g.P.Package.lost c.take_files.new.package) why
+    c.new-parts.ensures.empty c.in_ok-listed.ensures.handed walked h)
+    c.framed.ensures.fault
+
+-- ---- What was handed over agrees with what is held
+
+pub returns-in-Err-Build-clause-grows : goal.returns-in-Err-Build-clause-grows
+returns-in-Err-Build-clause-grows g c = grows_on _ _ _ c.take_manifest.ensures.grows c.take_files.ensures.grows
+
+pub returns-in-Err-Build-clause-consistent : goal.returns-in-Err-Build-clause-consistent
+returns-in-Err-Build-clause-consistent g c =
+    agrees_on _ _ _ _ _ c.take_manifest.ensures.held c.take_manifest.ensures.grows c.take_files.ensures.grows c.take_manifest.ensures.consistent c.take_files.ensures.consistent
+
+pub returns-in-Ok-clause-grows : goal.returns-in-Ok-clause-grows
+returns-in-Ok-clause-grows g c = grows_on _ _ _ c.take_manifest.ensures.grows c.take_files.ensures.grows
+
+pub returns-in-Ok-clause-consistent : goal.returns-in-Ok-clause-consistent
+returns-in-Ok-clause-consistent g c =
+    agrees_on _ _ _ _ _ c.take_manifest.ensures.held c.take_manifest.ensures.grows c.take_files.ensures.grows c.take_manifest.ensures.consistent c.take_files.ensures.consistent

@@ -1,17 +1,25 @@
-use Rattle.std.proofs.Common.{◌≡◌, ◌≤◌, IfSome, take}
+use Rattle.std.proofs.Common.{◌≡◌, ◌≤◌, IfSome, take, All}
+use Rattle.std.specs.List.{filter}
+use Rattle.board_io.specs.Handed.{AgreeWith, Grows}
 use Rattle.board_io.specs.Package.{IsFaultless}
-use Rattle.board_package.specs.HandedBoard.{GoesHanded, course}
-use Rattle.board_package.specs.PackageBoard.{Walks, WalksBy}
-use Rattle.board_package.specs.Parts.{board_so_far, IsLawfulParts}
+use Rattle.board_package.specs.HandedLabelled.{GoesLabelledHanded, labelled_course}
+use Rattle.board_package.specs.LabelledBoard.{GoesLabelled, is_taken}
+use Rattle.board_package.specs.LabelledCauses.{labelled_so_far}
+use Rattle.board_package.specs.PackageBoard.{WalksBy}
+use Rattle.board_package.specs.Parts.{IsLawfulParts}
+use Rattle.x2_nets.specs.Labels.{Rise}
 use Rattle.board_package.proofs.stages.take_files.Given as goal
 
 abbrev pub invariant-loop-entry : goal.invariant-loop-entry
 invariant-loop-entry g l = record {
   held : g.P.Package.held l.package ≡ g.P.Package.held l.initial.package;
+  grows : Grows (g.P.Package.handed l.initial.package) (g.P.Package.handed l.package);
+  consistent : IfSome (g.P.Package.held l.initial.package) (λ files. AgreeWith files (g.P.Package.handed l.initial.package) (g.P.Package.handed l.package));
   later : g.P.Package.faults l.initial.package ≤ g.P.Package.faults l.package;
   faultless : IsFaultless (g.P.Package.faults l.initial.package) (g.P.Package.lost l.initial.package) (g.P.Package.faults l.package) (g.P.Package.lost l.package);
-  walked : IfSome (g.P.Package.held l.initial.package) (λ files. Walks files (take l.entry-index l.entries) (board_so_far l.initial.parts) (board_so_far l.parts));
-  handed : WalksBy GoesHanded (take l.entry-index l.entries) (course (g.P.Package.handed l.initial.package) (board_so_far l.initial.parts)) (course (g.P.Package.handed l.package) (board_so_far l.parts));
+  walked : IfSome (g.P.Package.held l.initial.package) (λ files. WalksBy (GoesLabelled l.naming files) (filter (λ e. is_taken l.naming e.role) (take l.entry-index l.entries)) (labelled_so_far l.initial.parts l.initial.tables) (labelled_so_far l.parts l.tables));
+  handed : WalksBy (GoesLabelledHanded l.naming) (filter (λ e. is_taken l.naming e.role) (take l.entry-index l.entries)) (labelled_course (g.P.Package.handed l.initial.package) (labelled_so_far l.initial.parts l.initial.tables)) (labelled_course (g.P.Package.handed l.package) (labelled_so_far l.parts l.tables));
   parts : IsLawfulParts l.parts;
   layers : l.parts.layers ≡ l.initial.parts.layers;
+  rise : All Rise l.tables;
 }

@@ -1,4 +1,4 @@
-use Rattle.std.proofs.Common.{◌≡◌, subst}
+use Rattle.std.proofs.Common.{subst}
 use Rattle.board_package.specs.Manifest.{IsManifestFault, IsNotJson}
 use Rattle.board_package.proofs.Lift.{climbs}
 use Rattle.board_package.proofs.Staging.{handed_with, taking_manifest}
