@@ -1,9 +1,10 @@
 -- How much a right verdict lists, by the pieces and the points of its board.
-use Rattle.std.proofs.Common.{◌≡◌, ℕ, zero, suc, ◌+◌, ◌<◌, ◌≤◌, Bool, true, false, cond, ◌==◌, ◌&&◌, if◌then◌else◌, List, [], ◌∷◌, ◌++◌, length, map, Option, Some, None, refl, sym, ap, ◌∙◌, arith, length-append}
-use Rattle.std.proofs.lemmas.Bool.{eqb-true}
+use Rattle.std.proofs.Common.{◌≡◌, ◌≢◌, ◌⊎◌, inl, inr, ℕ, zero, suc, ◌+◌, ◌<◌, ◌≤◌, AllPairs, Contains, Bool, true, false, cond, ◌==◌, ◌&&◌, if◌then◌else◌, List, [], ◌∷◌, ◌++◌, length, map, Option, Some, None, refl, sym, ap, ◌∙◌, arith, length-append}
+use Rattle.std.proofs.lemmas.Bool.{cases_eq, eqb-true, true≢false}
 use Rattle.std.proofs.lemmas.List.{length-map}
+use Rattle.std.proofs.lemmas.List.Elements.{recursion_from_All}
 use Rattle.std.proofs.lemmas.List.Sums.{sum_by-append, sum_by-cons}
-use Rattle.std.specs.List.{list_any, sum_by}
+use Rattle.std.specs.List.{AllByRecursion, list_any, sum_by}
 use Rattle.tables.specs.Tables.{Stands, TestPoint}
 use Rattle.verdict.specs.declared.verdict.Branch.{Branch}
 use Rattle.verdict.specs.declared.verdict.Open.{Open}
@@ -12,8 +13,10 @@ use Rattle.verdict.specs.declared.verdict.Seat.{Seat}
 use Rattle.verdict.specs.declared.verdict.Short.{Short}
 use Rattle.verdict.specs.declared.verdict.Twig.{Twig}
 use Rattle.verdict.specs.Laws.{RightVerdictsAreFew}
-use Rattle.verdict.specs.Limits.{branch_count}
-use Rattle.verdict.specs.Right.{Trees, Points, Opens, Shorts, Bare, Counts, AreLines, Outline, all_opens, all_shorts, bare_from, first_from, fresh, is_on, is_unconnected, marks, names_on, opens_against, opens_of, outline, seat, seats_from, short_of, where_some}
+use Rattle.verdict.specs.Forest.{AreTrees, Holds, StandOnce, piece_of, pieces_of}
+use Rattle.verdict.specs.Limits.{branch_count, net_length}
+use Rattle.verdict.specs.Right.{Trees, Covers, Points, Opens, Shorts, Bare, Counts, AreLines, Outline, all_opens, all_shorts, bare_from, first_from, fresh, is_on, is_unconnected, marks, names_on, opens_against, opens_of, outline, seat, seats_from, short_of, where_some}
+use Rattle.verdict.proofs.Marking.{same_test}
 use Rattle.verdict.proofs.Trees.{nets_few}
 
 -- ---- Sums over numbers
@@ -224,6 +227,110 @@ branches_few nets names lines =
     let three = marks_total lines 0 0 (length names) 0 (length nets) in
     omega (arith, one, two, three)
 
+-- ---- Twigs
+
+-- how often a number stands in a list, and in the pieces of nets
+abbrev times : ℕ → List ℕ → ℕ
+times p [] = 0
+times p (x ∷ xs) = hit (x == p) + times p xs
+
+abbrev times_in : ℕ → List (List Twig) → ℕ
+times_in p [] = 0
+times_in p (net ∷ nets) = times p (pieces_of net) + times_in p nets
+
+-- what stands somewhere is there
+stands : (p : ℕ) (xs : List ℕ) → 1 ≤ times p xs → Contains xs p
+stands p [] some = absurd (omega (arith, some))
+stands p (x ∷ xs) some = by (x == p) refl (stands p xs) some
+  where
+    by : (b : Bool) → (x == p) ≡ b → (1 ≤ times p xs → Contains xs p) → 1 ≤ hit b + times p xs → Contains (x ∷ xs) p
+    by true e more h = (0, omega arith, eqb-true x p e)
+    by false e more h = let rest = more (omega (arith, h)) in (suc rest.0, (let below = rest.1 in omega (arith, below)), rest.2)
+
+stands_in : (p : ℕ) (nets : List (List Twig)) → 1 ≤ times_in p nets → (i : ℕ) × Holds nets i p
+stands_in p [] some = absurd (omega (arith, some))
+stands_in p (net ∷ nets) some = by (times p (pieces_of net)) refl (stands_in p nets)
+  where
+    by : (n : ℕ) → times p (pieces_of net) ≡ n → (1 ≤ times_in p nets → (i : ℕ) × Holds nets i p) → (i : ℕ) × Holds (net ∷ nets) i p
+    by zero none more = let rest = more (omega (arith, none, some)) in (suc rest.0, rest.1)
+    by (suc n) found more = (0, stands p (pieces_of net) (omega (arith, found)))
+
+none_or_some : (n : ℕ) → (n ≤ 0) ⊎ (1 ≤ n)
+none_or_some zero = inl (omega arith)
+none_or_some (suc n) = inr (omega arith)
+
+-- in a list without repeats a number stands once at most
+once_in : (p : ℕ) (xs : List ℕ) → AllPairs (λ x y. x ≢ y) xs → times p xs ≤ 1
+once_in p [] apart = omega arith
+once_in p (x ∷ xs) apart = by (x == p) refl (once_in p xs (λ i j d less below. apart (suc i) (suc j) d (omega (arith, less)) (omega (arith, below))))
+  where
+    by : (b : Bool) → (x == p) ≡ b → times p xs ≤ 1 → hit b + times p xs ≤ 1
+    by false e more = omega (arith, more)
+    by true e more = elim (none_or_some (times p xs)) [
+      | inl none ↦ omega (arith, none)
+      | inr some ↦ (
+          let (k, below, same) = stands p xs some in
+          absurd (apart 0 (suc k) p (omega arith) (omega (arith, below)) (eqb-true x p e ∙ sym same)))
+    ]
+
+once_of : (p : ℕ) (nets : List (List Twig)) → ((i j : ℕ) → Holds nets i p → Holds nets j p → i ≡ j) → AllByRecursion (λ net. AllPairs (λ x y. x ≢ y) (pieces_of net)) nets → times_in p nets ≤ 1
+once_of p [] one apart = omega arith
+once_of p (net ∷ nets) one apart = by (none_or_some (times p (pieces_of net))) (none_or_some (times_in p nets)) (once_in p (pieces_of net) apart.0) (once_of p nets (λ i j h k. (let same = one (suc i) (suc j) h k in omega (arith, same))) apart.1)
+  where
+    by : (times p (pieces_of net) ≤ 0) ⊎ (1 ≤ times p (pieces_of net)) → (times_in p nets ≤ 0) ⊎ (1 ≤ times_in p nets) → times p (pieces_of net) ≤ 1 → times_in p nets ≤ 1 → times p (pieces_of net) + times_in p nets ≤ 1
+    by (inl none) other a b = omega (arith, none, b)
+    by (inr some) (inl none) a b = omega (arith, none, a)
+    by (inr some) (inr more) a b = let rest = stands_in p nets more in let same : 0 ≡ suc rest.0 = one 0 (suc rest.0) (stands p (pieces_of net) some) rest.1 in absurd (omega (arith, same))
+
+same_number : (x n : ℕ) → x ≡ n → 1 ≤ hit (x == n)
+same_number x n same = by (x == n) refl
+  where
+    by : (b : Bool) → (x == n) ≡ b → 1 ≤ hit b
+    by true e = omega arith
+    by false e = absurd (true≢false (sym (same_test x n same) ∙ e))
+
+-- a number within the range is one of it
+total_has : (x n m : ℕ) → n ≤ x → x < n + m → 1 ≤ total (λ i. hit (x == i)) n m
+total_has x n zero low high = absurd (omega (arith, low, high))
+total_has x n (suc m) low high = elim (cases_eq x n) [
+  | inl same ↦ (let one = same_number x n same in omega (arith, one))
+  | inr other ↦ (let more = total_has x (n + 1) m (omega (arith, low, other)) (omega (arith, high)) in omega (arith, more))
+]
+
+total_both : (f g h : ℕ → ℕ) (n m : ℕ) → ((i : ℕ) → f i + g i ≤ h i) → total f n m + total g n m ≤ total h n m
+total_both f g h n zero each = omega arith
+total_both f g h n (suc m) each = let one = each n in let more = total_both f g h (n + 1) m each in omega (arith, one, more)
+
+-- numbers below m, counted one by one
+list_total : (m : ℕ) (xs : List ℕ) → ((p : ℕ) → Contains xs p → p < m) → length xs ≤ total (λ p. times p xs) 0 m
+list_total m [] known = omega arith
+list_total m (x ∷ xs) known =
+    let one = total_has x 0 m (omega arith) (let low = known x (0, omega arith, refl) in omega (arith, low)) in
+    let more = list_total m xs (λ p inside. known p (let (k, below, same) = inside in (suc k, omega (arith, below), same))) in
+    let both = total_both (λ p. hit (x == p)) (λ p. times p xs) (λ p. times p (x ∷ xs)) 0 m (λ p. omega arith) in
+    omega (arith, one, more, both)
+
+nets_total : (m : ℕ) (nets : List (List Twig)) → ((i p : ℕ) → Holds nets i p → p < m) → sum_by net_length nets ≤ total (λ p. times_in p nets) 0 m
+nets_total m [] known = omega arith
+nets_total m (net ∷ nets) known =
+    let one = list_total m (pieces_of net) (known 0) in
+    let long = length-map net piece_of in
+    let more = nets_total m nets (λ i p h. known (suc i) p h) in
+    let both = total_both (λ p. times p (pieces_of net)) (λ p. times_in p nets) (λ p. times_in p (net ∷ nets)) 0 m (λ p. omega arith) in
+    let sum = sum_by-cons net_length net nets in
+    omega (arith, one, long, more, both, sum)
+
+total_ones : (n m : ℕ) → total (λ p. 1) n m ≤ m
+total_ones n zero = omega arith
+total_ones n (suc m) = let more = total_ones (n + 1) m in omega (arith, more)
+
+twigs_few : (count : ℕ) (near : ℕ → ℕ → Type 0) (nets : List (List Twig)) → AreTrees count near nets → StandOnce count nets → sum_by net_length nets ≤ count
+twigs_few count near nets trees once =
+    let sum = nets_total count nets trees.known in
+    let each = total_le (λ p. times_in p nets) (λ p. 1) 0 count (λ p. once_of p nets (λ i j. once.one_net i j p) (recursion_from_All (λ net. AllPairs (λ x y. x ≢ y) (pieces_of net)) nets once.one_place)) in
+    let ones = total_ones 0 count in
+    omega (arith, sum, each, ones)
+
 -- ---- The whole
 
 pub right_verdicts_are_few : RightVerdictsAreFew
@@ -239,6 +346,7 @@ right_verdicts_are_few board v right =
     let bare_are = ap length (right Bare) in
     let bare_most = bare_few 0 v.points in
     record {
+      twigs = twigs_few (length board.near) (Stands board.near) v.nets (right Trees) (right Covers);
       nets = nets_few (length board.near) (Stands board.near) v.nets (right Trees) (length v.nets) refl;
       names = ap length (right Counts).1;
       points = points;

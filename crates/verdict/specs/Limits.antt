@@ -78,9 +78,10 @@ pub record HasFewParts (v : Verdict) : Type 0 where
   pub paths : sum_by branches_length v.shorts ≤ 600_000
   pub bare : length v.bare ≤ 400_000
 
--- What a right verdict lists, by the pieces and the points of its board: no more nets than pieces, a line for each point, no more
+-- What a right verdict lists, by the pieces and the points of its board: no more twigs and nets than pieces, a line for each point, no more
 -- opens, branches and points without copper than points, and no more shorts than nets.
 pub record HasCountsOf (board : Tables) (v : Verdict) : Type 0 where
+  pub twigs : sum_by net_length v.nets ≤ length board.near
   pub nets : length v.nets ≤ length board.near
   pub names : length v.names ≡ length board.names
   pub points : length v.points ≡ length board.points

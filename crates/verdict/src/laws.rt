@@ -18,7 +18,7 @@ pub fn reports_are_short()
     ensures { ReportsAreShort }
 {}
 
-/// A right verdict has no more nets than the board has pieces, one line for each point, and no more opens, branches and points
+/// A right verdict has no more twigs and nets than the board has pieces, one line for each point, and no more opens, branches and points
 /// without copper than points.
 pub fn right_verdicts_are_few()
     ensures { RightVerdictsAreFew }
