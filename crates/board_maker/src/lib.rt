@@ -6,6 +6,7 @@
 
 mod cell;
 mod files;
+pub mod laws;
 mod made;
 
 pub use made::{MakeFault, make};

@@ -4,6 +4,7 @@ pub mod Bridge
 pub mod Fills
 pub mod Frames
 pub mod Leasts
+pub mod OneBoard
 pub mod OneList
 pub mod Sorting
 pub mod Told

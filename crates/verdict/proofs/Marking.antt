@@ -15,7 +15,7 @@ use Rattle.verdict.proofs.Seating.{fresh_new, fresh_old, seats_none, seats_other
 
 -- ---- One mark more
 
-same_test : (a b : ℕ) → a ≡ b → (a == b) ≡ true
+pub same_test : (a b : ℕ) → a ≡ b → (a == b) ≡ true
 same_test a b e = grind (arith, nat_tests)
 
 other_test : (a b : ℕ) → (a ≡ b → ⊥) → (a == b) ≡ false

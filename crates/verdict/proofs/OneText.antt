@@ -1,9 +1,11 @@
--- Two verdicts with the same text are equal. The titles tell where each list ends, so that no count is needed.
+-- Of two texts of verdicts with something behind them that are the same bytes, the verdicts are equal, and so is what follows.
+-- The titles tell where each list ends, so that no count is needed, and the last line where the text does.
 use Rattle.std.proofs.Common.{◌≡◌, ℕ, zero, suc, ◌+◌, ◌/◌, ◌%◌, ◌<◌, Bool, true, false, not, cond, eqb, ltb, List, [], ◌∷◌, ◌++◌, length, get_or, Option, Some, None, codes, refl, sym, ap, ◌∙◌, append_assoc, arith}
 use Rattle.std.specs.Prelude.{decimal, IfSome}
 use Rattle.std.specs.Fmt.{digits, digits_onto, digit_glyph}
 use Rattle.std.specs.List.{AllByRecursion, list_all, after_first}
 use Rattle.std.proofs.lemmas.Bool.{eqb-true}
+use Rattle.std.proofs.lemmas.List.{append-nil}
 use Rattle.texts.specs.Digits.{is_decimal_digit}
 use Rattle.lengths.specs.Text.{IsText}
 use Rattle.verdict.specs.declared.verdict.Short.{Short}
@@ -18,7 +20,7 @@ use Rattle.verdict.specs.ReportText.{word, end, count_line, numbered, line_of, s
 use Rattle.verdict.proofs.Steps.{some_is, starts, word_again, after_feed}
 use Rattle.verdict.proofs.ReadLines.{net_again, name_again, point_again, open_again, branch_again, titled_again}
 use Rattle.verdict.proofs.ReadSupplement.{spot_again, source_again}
-use Rattle.verdict.proofs.ReadReport.{is_there, short_parts, section_parts, last_of, from_more, from_bare, from_shorts, from_opens, from_points, from_names, from_nets, from_pieces, report_parts}
+use Rattle.verdict.proofs.ReadReport.{is_there, short_parts, section_parts, last_of, from_more, from_bare, from_shorts, from_opens, from_points, from_names, from_nets, from_pieces, parts_before}
 
 -- ---- What stands in front of equal texts
 
@@ -216,31 +218,31 @@ first_one (Some m) None r s e = let digits : 50 ≡ 49 = ap (λ (t : List ℕ). 
 supplement_is : (m k : Supplement) → m.spots ≡ k.spots → m.sources ≡ k.sources → m ≡ k
 supplement_is m k p q = ap (λ (x : List SpotLine). record { spots = x; sources = m.sources }) p ∙ ap (λ (x : List SourceLine). record { spots = k.spots; sources = x }) q
 
-more_one : (m k : Option Supplement) (r s : List ℕ) → is_there m ≡ is_there k → IfSome m IsSupplement → IfSome k IsSupplement → has_at 0 115 r ≡ false → has_at 0 115 s ≡ false → more_text m ++ r ≡ more_text k ++ s → m ≡ k
-more_one None None r s t h l f g e = refl
+more_one : (m k : Option Supplement) (r s : List ℕ) → is_there m ≡ is_there k → IfSome m IsSupplement → IfSome k IsSupplement → has_at 0 115 r ≡ false → has_at 0 115 s ≡ false → more_text m ++ r ≡ more_text k ++ s → (m ≡ k) × (r ≡ s)
+more_one None None r s t h l f g e = (refl, e)
 more_one (Some m) (Some k) r s t h l f g e =
     let parts : section_text (codes "spots") spot_line m.spots ++ (section_text (codes "sources") source_line m.sources ++ r) ≡ section_text (codes "spots") spot_line k.spots ++ (section_text (codes "sources") source_line k.sources ++ s) =
     sym (append_assoc (section_text (codes "spots") spot_line m.spots) (section_text (codes "sources") source_line m.sources) r) ∙ (e ∙ append_assoc (section_text (codes "spots") spot_line k.spots) (section_text (codes "sources") source_line k.sources) s) in
     let spots = section_one IsSpotLine spot_line (has_at 1 112) any spot_one (codes "spots") m.spots k.spots _ _ h.spots l.spots refl refl refl refl parts in
     let sources = section_one IsSourceLine source_line (has_at 0 115) any source_one (codes "sources") m.sources k.sources r s h.sources l.sources f g refl refl spots.1 in
-    ap (λ (x : Supplement). Some x) (supplement_is m k spots.0 sources.0)
+    (ap (λ (x : Supplement). Some x) (supplement_is m k spots.0 sources.0), sources.1)
 more_one None (Some k) r s t h l f g e = absurd cc
 more_one (Some m) None r s t h l f g e = absurd cc
 
 -- ---- The whole
 
 -- the last line begins with neither of the two bytes
-last_begins : {A B C : Type 0} (opens : List A) (shorts : List B) (bare : List C) → (has_at 0 98 (last_line opens shorts bare) ≡ false) × (has_at 0 115 (last_line opens shorts bare) ≡ false)
-last_begins [] [] [] = (refl, refl)
-last_begins [] [] (b ∷ bare) = (refl, refl)
-last_begins [] (s ∷ shorts) bare = (refl, refl)
-last_begins (o ∷ opens) shorts bare = (refl, refl)
+last_begins : {A B C : Type 0} (opens : List A) (shorts : List B) (bare : List C) (rest : List ℕ) → (has_at 0 98 (last_line opens shorts bare ++ rest) ≡ false) × (has_at 0 115 (last_line opens shorts bare ++ rest) ≡ false)
+last_begins [] [] [] rest = (refl, refl)
+last_begins [] [] (b ∷ bare) rest = (refl, refl)
+last_begins [] (s ∷ shorts) bare rest = (refl, refl)
+last_begins (o ∷ opens) shorts bare rest = (refl, refl)
 
-more_is_no_bare : (v : Verdict) → has_at 0 98 (from_more v) ≡ false
-more_is_no_bare v = by v.more
+more_is_no_bare : (v : Verdict) (rest : List ℕ) → has_at 0 98 (from_more v (last_of v ++ rest)) ≡ false
+more_is_no_bare v rest = by v.more
   where
-    by : (more : Option Supplement) → has_at 0 98 (more_text more ++ last_of v) ≡ false
-    by None = (last_begins v.opens v.shorts v.bare).0
+    by : (more : Option Supplement) → has_at 0 98 (more_text more ++ (last_of v ++ rest)) ≡ false
+    by None = (last_begins v.opens v.shorts v.bare rest).0
     by (Some more) = refl
 
 verdict_is : (v w : Verdict) → v.pieces ≡ w.pieces → v.names ≡ w.names → v.nets ≡ w.nets → v.points ≡ w.points → v.opens ≡ w.opens → v.shorts ≡ w.shorts → v.bare ≡ w.bare → v.more ≡ w.more → v ≡ w
@@ -254,19 +256,28 @@ verdict_is v w p1 p2 p3 p4 p5 p6 p7 p8 =
     ∙ (ap (λ (x : _). record { pieces = w.pieces; names = w.names; nets = w.nets; points = w.points; opens = w.opens; shorts = w.shorts; bare = x; more = v.more }) p7
     ∙ ap (λ (x : _). record { pieces = w.pieces; names = w.names; nets = w.nets; points = w.points; opens = w.opens; shorts = w.shorts; bare = w.bare; more = x }) p8))))))
 
-pub one_text : (v w : Verdict) → IsVerdict v → IsVerdict w → report_text v ≡ report_text w → v ≡ w
-one_text v w h k e =
-    let first = first_one v.more w.more (from_pieces v) (from_pieces w) (sym (report_parts v) ∙ (e ∙ report_parts w)) in
-    let counted : codes "pieces" ++ (word v.pieces ++ (end ++ from_nets v)) ≡ codes "pieces" ++ (word w.pieces ++ (end ++ from_nets w)) = sym (pieces_parts v.pieces (from_nets v)) ∙ (first.1 ∙ pieces_parts w.pieces (from_nets w)) in
-    let pieces = word_one v.pieces w.pieces (end ++ from_nets v) (end ++ from_nets w) h.pieces k.pieces refl refl (cancel (codes "pieces") (word v.pieces ++ (end ++ from_nets v)) (word w.pieces ++ (end ++ from_nets w)) counted) in
-    let nets = section_one (AllByRecursion IsTwig) net_line (has_at 1 101) any net_one (codes "nets") v.nets w.nets (from_names v) (from_names w) h.nets k.nets refl refl refl refl (cancel end (from_nets v) (from_nets w) pieces.1) in
-    let names = section_one IsText name_line (has_at 0 110) any name_one (codes "names") v.names w.names (from_points v) (from_points w) h.names k.names refl refl refl refl nets.1 in
-    let points = section_one IsPointLine point_line (has_at 0 112) any point_one (codes "points") v.points w.points (from_opens v) (from_opens w) h.points k.points refl refl refl refl names.1 in
-    let opens = section_one IsOpen (line_of open_line) (has_at 0 111) any open_one (codes "opens") v.opens w.opens (from_shorts v) (from_shorts w) h.opens k.opens refl refl refl refl points.1 in
-    let shorts = section_one IsShort (line_of short_lines) (has_at 0 115) lacks_branch short_one (codes "shorts") v.shorts w.shorts (from_bare v) (from_bare w) h.shorts k.shorts refl refl refl refl opens.1 in
-    let bare = section_one IsNumber (line_of bare_line) (has_at 0 98) any bare_one (codes "missing") v.bare w.bare (from_more v) (from_more w) h.bare k.bare (more_is_no_bare v) (more_is_no_bare w) refl refl shorts.1 in
-    let more = more_one v.more w.more (last_of v) (last_of w) first.0 h.more k.more (last_begins v.opens v.shorts v.bare).1 (last_begins w.opens w.shorts w.bare).1 bare.1 in
-    verdict_is v w pieces.0 names.0 nets.0 points.0 opens.0 shorts.0 bare.0 more
+pub one_report : (v w : Verdict) (r s : List ℕ) → IsVerdict v → IsVerdict w → report_text v ++ r ≡ report_text w ++ s → (v ≡ w) × (r ≡ s)
+one_report v w r s h k e =
+    let tail = last_of v ++ r in
+    let other = last_of w ++ s in
+    let first = first_one v.more w.more (from_pieces v tail) (from_pieces w other) (sym (parts_before v r) ∙ (e ∙ parts_before w s)) in
+    let counted : codes "pieces" ++ (word v.pieces ++ (end ++ from_nets v tail)) ≡ codes "pieces" ++ (word w.pieces ++ (end ++ from_nets w other)) = sym (pieces_parts v.pieces (from_nets v tail)) ∙ (first.1 ∙ pieces_parts w.pieces (from_nets w other)) in
+    let pieces = word_one v.pieces w.pieces (end ++ from_nets v tail) (end ++ from_nets w other) h.pieces k.pieces refl refl (cancel (codes "pieces") (word v.pieces ++ (end ++ from_nets v tail)) (word w.pieces ++ (end ++ from_nets w other)) counted) in
+    let nets = section_one (AllByRecursion IsTwig) net_line (has_at 1 101) any net_one (codes "nets") v.nets w.nets (from_names v tail) (from_names w other) h.nets k.nets refl refl refl refl (cancel end (from_nets v tail) (from_nets w other) pieces.1) in
+    let names = section_one IsText name_line (has_at 0 110) any name_one (codes "names") v.names w.names (from_points v tail) (from_points w other) h.names k.names refl refl refl refl nets.1 in
+    let points = section_one IsPointLine point_line (has_at 0 112) any point_one (codes "points") v.points w.points (from_opens v tail) (from_opens w other) h.points k.points refl refl refl refl names.1 in
+    let opens = section_one IsOpen (line_of open_line) (has_at 0 111) any open_one (codes "opens") v.opens w.opens (from_shorts v tail) (from_shorts w other) h.opens k.opens refl refl refl refl points.1 in
+    let shorts = section_one IsShort (line_of short_lines) (has_at 0 115) lacks_branch short_one (codes "shorts") v.shorts w.shorts (from_bare v tail) (from_bare w other) h.shorts k.shorts refl refl refl refl opens.1 in
+    let bare = section_one IsNumber (line_of bare_line) (has_at 0 98) any bare_one (codes "missing") v.bare w.bare (from_more v tail) (from_more w other) h.bare k.bare (more_is_no_bare v r) (more_is_no_bare w s) refl refl shorts.1 in
+    let more = more_one v.more w.more tail other first.0 h.more k.more (last_begins v.opens v.shorts v.bare r).1 (last_begins w.opens w.shorts w.bare s).1 bare.1 in
+    let same = verdict_is v w pieces.0 names.0 nets.0 points.0 opens.0 shorts.0 bare.0 more.0 in
+    (same, cancel (last_of v) r s (more.1 ∙ ap (λ (x : Verdict). last_of x ++ s) (sym same)))
   where
     pieces_parts : (n : ℕ) (rest : List ℕ) → count_line (codes "pieces") n ++ rest ≡ codes "pieces" ++ (word n ++ (end ++ rest))
     pieces_parts n rest = simp append_assoc
+
+pub one_text : (v w : Verdict) → IsVerdict v → IsVerdict w → report_text v ≡ report_text w → v ≡ w
+one_text v w h k e = (one_report v w [] [] h k (ap (λ (text : List ℕ). text ++ []) e)).0
+
+pub no_front : (v w : Verdict) (rest : List ℕ) → IsVerdict v → IsVerdict w → report_text v ++ rest ≡ report_text w → rest ≡ []
+no_front v w rest h k e = (one_report v w rest [] h k (e ∙ sym (append-nil (report_text w)))).1

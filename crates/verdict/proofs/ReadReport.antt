@@ -176,40 +176,51 @@ more_again (Some more) rest h small =
 
 -- ---- The whole
 
--- the text of a verdict part by part, as it is read
+-- the last line of a verdict
 abbrev pub last_of : Verdict → List ℕ
 last_of v = last_line v.opens v.shorts v.bare
 
-abbrev pub from_more : Verdict → List ℕ
-from_more v = more_text v.more ++ last_of v
+-- the text of a verdict from each of its parts on, as it is read, with what stands from the last line on
+abbrev pub from_more : Verdict → List ℕ → List ℕ
+from_more v tail = more_text v.more ++ tail
 
-abbrev pub from_bare : Verdict → List ℕ
-from_bare v = section_text (codes "missing") (line_of bare_line) v.bare ++ from_more v
+abbrev pub from_bare : Verdict → List ℕ → List ℕ
+from_bare v tail = section_text (codes "missing") (line_of bare_line) v.bare ++ from_more v tail
 
-abbrev pub from_shorts : Verdict → List ℕ
-from_shorts v = section_text (codes "shorts") (line_of short_lines) v.shorts ++ from_bare v
+abbrev pub from_shorts : Verdict → List ℕ → List ℕ
+from_shorts v tail = section_text (codes "shorts") (line_of short_lines) v.shorts ++ from_bare v tail
 
-abbrev pub from_opens : Verdict → List ℕ
-from_opens v = section_text (codes "opens") (line_of open_line) v.opens ++ from_shorts v
+abbrev pub from_opens : Verdict → List ℕ → List ℕ
+from_opens v tail = section_text (codes "opens") (line_of open_line) v.opens ++ from_shorts v tail
 
-abbrev pub from_points : Verdict → List ℕ
-from_points v = section_text (codes "points") point_line v.points ++ from_opens v
+abbrev pub from_points : Verdict → List ℕ → List ℕ
+from_points v tail = section_text (codes "points") point_line v.points ++ from_opens v tail
 
-abbrev pub from_names : Verdict → List ℕ
-from_names v = section_text (codes "names") name_line v.names ++ from_points v
+abbrev pub from_names : Verdict → List ℕ → List ℕ
+from_names v tail = section_text (codes "names") name_line v.names ++ from_points v tail
 
-abbrev pub from_nets : Verdict → List ℕ
-from_nets v = section_text (codes "nets") net_line v.nets ++ from_names v
+abbrev pub from_nets : Verdict → List ℕ → List ℕ
+from_nets v tail = section_text (codes "nets") net_line v.nets ++ from_names v tail
 
-abbrev pub from_pieces : Verdict → List ℕ
-from_pieces v = count_line (codes "pieces") v.pieces ++ from_nets v
+abbrev pub from_pieces : Verdict → List ℕ → List ℕ
+from_pieces v tail = count_line (codes "pieces") v.pieces ++ from_nets v tail
 
-pub report_parts : (v : Verdict) → report_text v ≡ first_line v.more ++ from_pieces v
+report_parts : (v : Verdict) → report_text v ≡ first_line v.more ++ from_pieces v (last_of v)
 report_parts v = joined (first_line v.more) (count_line (codes "pieces") v.pieces) (nets_text v.nets) (names_text v.names) (points_text v.points) (opens_text v.opens) (shorts_text v.shorts) (bare_text v.bare) (more_text v.more) (last_of v)
   where
     joined : (head pieces nets names points opens shorts bare more last : List ℕ)
         → (((head ++ (((pieces ++ nets) ++ names) ++ points)) ++ ((opens ++ shorts) ++ bare)) ++ more) ++ last ≡ head ++ (pieces ++ (nets ++ (names ++ (points ++ (opens ++ (shorts ++ (bare ++ (more ++ last))))))))
     joined head pieces nets names points opens shorts bare more last = simp append_assoc
+
+-- the same with something behind it
+pub parts_before : (v : Verdict) (rest : List ℕ) → report_text v ++ rest ≡ first_line v.more ++ from_pieces v (last_of v ++ rest)
+parts_before v rest =
+    ap (λ (text : List ℕ). text ++ rest) (report_parts v)
+    ∙ joined (first_line v.more) (count_line (codes "pieces") v.pieces) (nets_text v.nets) (names_text v.names) (points_text v.points) (opens_text v.opens) (shorts_text v.shorts) (bare_text v.bare) (more_text v.more) (last_of v) rest
+  where
+    joined : (head pieces nets names points opens shorts bare more last rest : List ℕ)
+        → (head ++ (pieces ++ (nets ++ (names ++ (points ++ (opens ++ (shorts ++ (bare ++ (more ++ last))))))))) ++ rest ≡ head ++ (pieces ++ (nets ++ (names ++ (points ++ (opens ++ (shorts ++ (bare ++ (more ++ (last ++ rest)))))))))
+    joined head pieces nets names points opens shorts bare more last rest = simp append_assoc
 
 ended_takes : (v : Verdict) (rest : List ℕ) (w : Verdict) → ended v rest ≡ Some w → (rest ≡ last_of v) × (v ≡ w)
 ended_takes v rest w e =
@@ -237,41 +248,41 @@ report_takes text v e = bind_then (first_line_at text) _ v e (λ a ha e1. bind_t
     let t8 = more_takes a.0 k.1 m.0 m.1 hm in
     let last = ended_takes made m.1 v e9 in
     let lawful : IsVerdict made = record { pieces = t1.1; nets = t2.1; names = t3.1; points = t4.1; opens = t5.1; shorts = t6.1; bare = t7.1; more = t8.1 } in
-    let u8 : k.1 ≡ from_more made = front_then k.1 (more_text m.0) m.1 (last_of made) t8.0 last.0 in
-    let u7 : h.1 ≡ from_bare made = front_then h.1 (section_text (codes "missing") (line_of bare_line) k.0) k.1 (from_more made) t7.0 u8 in
-    let u6 : g.1 ≡ from_shorts made = front_then g.1 (section_text (codes "shorts") (line_of short_lines) h.0) h.1 (from_bare made) t6.0 u7 in
-    let u5 : f.1 ≡ from_opens made = front_then f.1 (section_text (codes "opens") (line_of open_line) g.0) g.1 (from_shorts made) t5.0 u6 in
-    let u4 : d.1 ≡ from_points made = front_then d.1 (section_text (codes "points") point_line f.0) f.1 (from_opens made) t4.0 u5 in
-    let u3 : c.1 ≡ from_names made = front_then c.1 (section_text (codes "names") name_line d.0) d.1 (from_points made) t3.0 u4 in
-    let u2 : b.1 ≡ from_nets made = front_then b.1 (section_text (codes "nets") net_line c.0) c.1 (from_names made) t2.0 u3 in
-    let u1 : a.1 ≡ from_pieces made = front_then a.1 (count_line (codes "pieces") b.0) b.1 (from_nets made) t1.0 u2 in
+    let u8 : k.1 ≡ from_more made (last_of made) = front_then k.1 (more_text m.0) m.1 (last_of made) t8.0 last.0 in
+    let u7 : h.1 ≡ from_bare made (last_of made) = front_then h.1 (section_text (codes "missing") (line_of bare_line) k.0) k.1 (from_more made (last_of made)) t7.0 u8 in
+    let u6 : g.1 ≡ from_shorts made (last_of made) = front_then g.1 (section_text (codes "shorts") (line_of short_lines) h.0) h.1 (from_bare made (last_of made)) t6.0 u7 in
+    let u5 : f.1 ≡ from_opens made (last_of made) = front_then f.1 (section_text (codes "opens") (line_of open_line) g.0) g.1 (from_shorts made (last_of made)) t5.0 u6 in
+    let u4 : d.1 ≡ from_points made (last_of made) = front_then d.1 (section_text (codes "points") point_line f.0) f.1 (from_opens made (last_of made)) t4.0 u5 in
+    let u3 : c.1 ≡ from_names made (last_of made) = front_then c.1 (section_text (codes "names") name_line d.0) d.1 (from_points made (last_of made)) t3.0 u4 in
+    let u2 : b.1 ≡ from_nets made (last_of made) = front_then b.1 (section_text (codes "nets") net_line c.0) c.1 (from_names made (last_of made)) t2.0 u3 in
+    let u1 : a.1 ≡ from_pieces made (last_of made) = front_then a.1 (count_line (codes "pieces") b.0) b.1 (from_nets made (last_of made)) t1.0 u2 in
     let first : headed a.0 ≡ first_line m.0 = ap headed (sym t8.2) ∙ sym (first_is m.0) in
-    let whole : text ≡ report_text made = front_then text (headed a.0) a.1 (from_pieces made) (first_takes text a.0 a.1 ha) u1 ∙ (ap (λ (t : List ℕ). t ++ from_pieces made) first ∙ sym (report_parts made)) in
+    let whole : text ≡ report_text made = front_then text (headed a.0) a.1 (from_pieces made (last_of made)) (first_takes text a.0 a.1 ha) u1 ∙ (ap (λ (t : List ℕ). t ++ from_pieces made (last_of made)) first ∙ sym (report_parts made)) in
     subst (λ (w : Verdict). IsVerdict w × (text ≡ report_text w)) last.1 (lawful, whole))))))))))
 
 pub report_again : (v : Verdict) → IsVerdict v → length (report_text v) < 2 ^ 64 → report_at (report_text v) ≡ Some v
 unfolding report_at
 report_again v is small =
     let m = 2 ^ 64 in
-    let s0 : length (first_line v.more ++ from_pieces v) < 2 ^ 64 = subst (λ (t : List ℕ). length t < 2 ^ 64) (report_parts v) small in
-    let s1 : length (from_pieces v) < 2 ^ 64 = rest_short (2 ^ 64) (first_line v.more) (from_pieces v) s0 in
-    let s2 : length (from_nets v) < 2 ^ 64 = rest_short (2 ^ 64) (count_line (codes "pieces") v.pieces) (from_nets v) s1 in
-    let s3 : length (from_names v) < 2 ^ 64 = rest_short (2 ^ 64) (section_text (codes "nets") net_line v.nets) (from_names v) s2 in
-    let s4 : length (from_points v) < 2 ^ 64 = rest_short (2 ^ 64) (section_text (codes "names") name_line v.names) (from_points v) s3 in
-    let s5 : length (from_opens v) < 2 ^ 64 = rest_short (2 ^ 64) (section_text (codes "points") point_line v.points) (from_opens v) s4 in
-    let s6 : length (from_shorts v) < 2 ^ 64 = rest_short (2 ^ 64) (section_text (codes "opens") (line_of open_line) v.opens) (from_shorts v) s5 in
-    let s7 : length (from_bare v) < 2 ^ 64 = rest_short (2 ^ 64) (section_text (codes "shorts") (line_of short_lines) v.shorts) (from_bare v) s6 in
-    let s8 : length (from_more v) < 2 ^ 64 = rest_short (2 ^ 64) (section_text (codes "missing") (line_of bare_line) v.bare) (from_more v) s7 in
+    let s0 : length (first_line v.more ++ from_pieces v (last_of v)) < 2 ^ 64 = subst (λ (t : List ℕ). length t < 2 ^ 64) (report_parts v) small in
+    let s1 : length (from_pieces v (last_of v)) < 2 ^ 64 = rest_short (2 ^ 64) (first_line v.more) (from_pieces v (last_of v)) s0 in
+    let s2 : length (from_nets v (last_of v)) < 2 ^ 64 = rest_short (2 ^ 64) (count_line (codes "pieces") v.pieces) (from_nets v (last_of v)) s1 in
+    let s3 : length (from_names v (last_of v)) < 2 ^ 64 = rest_short (2 ^ 64) (section_text (codes "nets") net_line v.nets) (from_names v (last_of v)) s2 in
+    let s4 : length (from_points v (last_of v)) < 2 ^ 64 = rest_short (2 ^ 64) (section_text (codes "names") name_line v.names) (from_points v (last_of v)) s3 in
+    let s5 : length (from_opens v (last_of v)) < 2 ^ 64 = rest_short (2 ^ 64) (section_text (codes "points") point_line v.points) (from_opens v (last_of v)) s4 in
+    let s6 : length (from_shorts v (last_of v)) < 2 ^ 64 = rest_short (2 ^ 64) (section_text (codes "opens") (line_of open_line) v.opens) (from_shorts v (last_of v)) s5 in
+    let s7 : length (from_bare v (last_of v)) < 2 ^ 64 = rest_short (2 ^ 64) (section_text (codes "shorts") (line_of short_lines) v.shorts) (from_bare v (last_of v)) s6 in
+    let s8 : length (from_more v (last_of v)) < 2 ^ 64 = rest_short (2 ^ 64) (section_text (codes "missing") (line_of bare_line) v.bare) (from_more v (last_of v)) s7 in
     ap report_at (report_parts v)
-    ∙ step (first_line_at (first_line v.more ++ from_pieces v)) _ (is_there v.more, from_pieces v) (Some v) (first_again v.more (from_pieces v))
-    (step (titled_at (codes "pieces") (from_pieces v)) _ (v.pieces, from_nets v) (Some v) (titled_again (codes "pieces") v.pieces (from_nets v) is.pieces)
-    (step (section_at net_at (codes "nets") (from_nets v)) _ (v.nets, from_names v) (Some v) (section_again (AllByRecursion IsTwig) net_line net_at net_is (codes "nets") v.nets (from_names v) is.nets s2)
-    (step (section_at name_at (codes "names") (from_names v)) _ (v.names, from_points v) (Some v) (section_again IsText name_line name_at name_is (codes "names") v.names (from_points v) is.names s3)
-    (step (section_at point_at (codes "points") (from_points v)) _ (v.points, from_opens v) (Some v) (section_again IsPointLine point_line point_at point_is (codes "points") v.points (from_opens v) is.points s4)
-    (step (section_at open_at (codes "opens") (from_opens v)) _ (v.opens, from_shorts v) (Some v) (section_again IsOpen (line_of open_line) open_at open_is (codes "opens") v.opens (from_shorts v) is.opens s5)
-    (step (section_at short_at (codes "shorts") (from_shorts v)) _ (v.shorts, from_bare v) (Some v) (section_again IsShort (line_of short_lines) short_at short_is (codes "shorts") v.shorts (from_bare v) is.shorts s6)
-    (step (section_at bare_at (codes "missing") (from_bare v)) _ (v.bare, from_more v) (Some v) (section_again IsNumber (line_of bare_line) bare_at bare_is (codes "missing") v.bare (from_more v) is.bare s7)
-    (step (more_at (is_there v.more) (from_more v)) _ (v.more, last_of v) (Some v) (more_again v.more (last_of v) is.more s8)
+    ∙ step (first_line_at (first_line v.more ++ from_pieces v (last_of v))) _ (is_there v.more, from_pieces v (last_of v)) (Some v) (first_again v.more (from_pieces v (last_of v)))
+    (step (titled_at (codes "pieces") (from_pieces v (last_of v))) _ (v.pieces, from_nets v (last_of v)) (Some v) (titled_again (codes "pieces") v.pieces (from_nets v (last_of v)) is.pieces)
+    (step (section_at net_at (codes "nets") (from_nets v (last_of v))) _ (v.nets, from_names v (last_of v)) (Some v) (section_again (AllByRecursion IsTwig) net_line net_at net_is (codes "nets") v.nets (from_names v (last_of v)) is.nets s2)
+    (step (section_at name_at (codes "names") (from_names v (last_of v))) _ (v.names, from_points v (last_of v)) (Some v) (section_again IsText name_line name_at name_is (codes "names") v.names (from_points v (last_of v)) is.names s3)
+    (step (section_at point_at (codes "points") (from_points v (last_of v))) _ (v.points, from_opens v (last_of v)) (Some v) (section_again IsPointLine point_line point_at point_is (codes "points") v.points (from_opens v (last_of v)) is.points s4)
+    (step (section_at open_at (codes "opens") (from_opens v (last_of v))) _ (v.opens, from_shorts v (last_of v)) (Some v) (section_again IsOpen (line_of open_line) open_at open_is (codes "opens") v.opens (from_shorts v (last_of v)) is.opens s5)
+    (step (section_at short_at (codes "shorts") (from_shorts v (last_of v))) _ (v.shorts, from_bare v (last_of v)) (Some v) (section_again IsShort (line_of short_lines) short_at short_is (codes "shorts") v.shorts (from_bare v (last_of v)) is.shorts s6)
+    (step (section_at bare_at (codes "missing") (from_bare v (last_of v))) _ (v.bare, from_more v (last_of v)) (Some v) (section_again IsNumber (line_of bare_line) bare_at bare_is (codes "missing") v.bare (from_more v (last_of v)) is.bare s7)
+    (step (more_at (is_there v.more) (from_more v (last_of v))) _ (v.more, last_of v) (Some v) (more_again v.more (last_of v) is.more s8)
     (ended_again v)))))))))
 
 -- ---- The answers of the reader

@@ -4,5 +4,6 @@ pub mod Forest
 pub mod Places
 pub mod Seats
 pub mod Lawful
+pub mod Limits
 pub mod Laws
 pub mod Reading

@@ -1,17 +1,15 @@
 -- Two right verdicts of one board differ in witnesses only.
-use Rattle.std.proofs.Common.{◌≡◌, inl, inr, ℕ, zero, suc, ◌+◌, ◌<◌, ◌≤◌, List, [], ◌∷◌, ◌++◌, length, map, get_or, All, AllPairs, Contains, Option, Some, None, MatchOption, IfSome, refl, sym, ap, subst, ◌∙◌, arith}
+use Rattle.std.proofs.Common.{◌≡◌, inl, inr, ℕ, suc, ◌+◌, ◌<◌, List, [], ◌∷◌, ◌++◌, length, map, All, Contains, Option, Some, None, MatchOption, IfSome, refl, sym, ap, subst, ◌∙◌, arith}
 use Rattle.std.proofs.lemmas.Bool.{cases_lt}
-use Rattle.std.proofs.lemmas.List.{get_or-map, get_or_past, length-map}
+use Rattle.std.proofs.lemmas.List.{get_or_past, length-map}
 use Rattle.std.proofs.lemmas.List.Elements.{All-get_or, All-head, All-tail}
 use Rattle.std.proofs.lemmas.List.Sorted.{IsPermutation-refl}
 use Rattle.std.proofs.lemmas.Option.{same_Some}
-use Rattle.std.specs.List.Sorted.{IsStrictlyIncreasing}
-use Rattle.tables.proofs.Listing.{same_members}
 use Rattle.tables.specs.Consistent.{AreConsistent}
 use Rattle.tables.specs.Tables.{Tables, TestPoint, Stands, row_at}
-use Rattle.verdict.specs.Forest.{Holds, IsTree, first_piece, net_at, pieces_of}
+use Rattle.verdict.specs.Forest.{Holds, first_piece, net_at, pieces_of}
 use Rattle.verdict.specs.ReportText.{Agrees}
-use Rattle.verdict.specs.Right.{IsRight, Trees, Covers, Apart, Points, Opens, Shorts, Branches, Bare, Counts, Spots, Sources, AreBranches, AreLines, BeginsBeneath, HasBranches, Outline, all_opens, all_shorts, bare_from, first_on, names_on, outline, short_of, source_of, spot_of}
+use Rattle.verdict.specs.Right.{IsRight, Covers, Apart, Points, Opens, Shorts, Branches, Bare, Counts, Spots, Sources, AreBranches, AreLines, BeginsBeneath, HasBranches, Outline, all_opens, all_shorts, bare_from, first_on, names_on, outline, short_of, source_of, spot_of}
 use Rattle.verdict.specs.declared.verdict.Branch.{Branch}
 use Rattle.verdict.specs.declared.verdict.PointLine.{PointLine}
 use Rattle.verdict.specs.declared.verdict.Short.{Short}
@@ -21,85 +19,21 @@ use Rattle.verdict.specs.declared.verdict.Supplement.{Supplement}
 use Rattle.verdict.specs.declared.verdict.Twig.{Twig}
 use Rattle.verdict.specs.declared.verdict.Verdict.{Verdict}
 use Rattle.witness_check.specs.Laws.{AreOneNet, BranchPoint, DifferInWitnessesOnly, ShortPoints, branch_point, short_points}
-use Rattle.witness_check.proofs.Chains.{AreJoined-back, from_first, stays}
 use Rattle.witness_check.proofs.Joins.{right_nets}
 use Rattle.witness_check.proofs.Members.{AreDistinct, rearranged}
-use Rattle.verdict.proofs.Holding.{held_within, none_inside}
-use Rattle.verdict.proofs.Trees.{first_inside}
-
--- ---- First pieces
-
-abbrev firsts_of : List (List Twig) → List ℕ
-firsts_of nets = map first_piece nets
-
-tree_at : (board : Tables) (v : Verdict) → IsRight board v → (i : ℕ) → i < length v.nets → IsTree (Stands board.near) (net_at v.nets i)
-tree_at board v right i below = All-get_or (IsTree (Stands board.near)) v.nets i [] below (right Trees).trees
-
--- the first piece of a tree is its least
-first_least : (near : ℕ → ℕ → Type 0) (net : List Twig) → IsTree near net → (p : ℕ) → Contains (pieces_of net) p → first_piece net ≤ p
-first_least near [] tree p inside = absurd tree
-first_least near (t ∷ rest) (root, least, hang) p (zero, below, same) = omega arith
-first_least near (t ∷ rest) (root, least, hang) p (suc k, below, same) =
-    let long = length-map rest (λ (s : Twig). s.piece) in
-    let here : k < length rest = omega arith in
-    let low : t.piece ≤ (get_or rest k t).piece = least k t here in
-    let piece : get_or (pieces_of rest) k p ≡ (get_or rest k t).piece = get_or-map (λ (s : Twig). s.piece) rest k t p here in
-    omega arith
-
-rises : (nets : List (List Twig)) → AllPairs (λ net later. first_piece net < first_piece later) nets → IsStrictlyIncreasing (firsts_of nets)
-rises nets rising k below =
-    let long = length-map nets first_piece in
-    let here : get_or (firsts_of nets) k 0 ≡ first_piece (net_at nets k) = get_or-map first_piece nets k [] 0 (omega arith) in
-    let next : get_or (firsts_of nets) (k + 1) 0 ≡ first_piece (net_at nets (k + 1)) = get_or-map first_piece nets (k + 1) [] 0 (omega arith) in
-    let fact : first_piece (net_at nets k) < first_piece (net_at nets (k + 1)) = rising k (k + 1) [] (omega arith) (omega arith) in
-    omega arith
-
--- The first piece of a net of the one verdict is the first piece of the net that holds it in the other.
-first_in : (board : Tables) (v w : Verdict) → AreConsistent board → IsRight board v → IsRight board w → (p : ℕ) → Contains (firsts_of v.nets) p → Contains (firsts_of w.nets) p
-first_in board v w tables right other p (i, below, same) =
-    let near : ℕ → ℕ → Type 0 = Stands board.near in
-    let long = length-map v.nets first_piece in
-    let within : i < length v.nets = omega arith in
-    let tree = tree_at board v right i within in
-    let is_first : first_piece (net_at v.nets i) ≡ p = sym (get_or-map first_piece v.nets i [] p within) ∙ same in
-    let held : Holds v.nets i p = subst (λ (x : ℕ). Holds v.nets i x) is_first (first_inside near (net_at v.nets i) tree) in
-    let home = (other Covers).held p ((right Trees).known i p held) in
-    let there : home.0 < length w.nets = held_within w.nets home.0 p home.1 in
-    let their = tree_at board w other home.0 there in
-    let q : ℕ = first_piece (net_at w.nets home.0) in
-    let low : q ≤ p = first_least near (net_at w.nets home.0) their p home.1 in
-    let chain = from_first near (net_at w.nets home.0) their p home.1 in
-    let path = AreJoined-back near tables.both q p chain.0 chain.1 in
-    let back : Holds v.nets i q = stays (length board.near) near v.nets (right_nets board v right) tables.known i p q path.0 held path.1 in
-    let high : first_piece (net_at v.nets i) ≤ q = first_least near (net_at v.nets i) tree q back in
-    let both : q ≡ p = omega arith in
-    let size = length-map w.nets first_piece in
-    (home.0, omega arith, get_or-map first_piece w.nets home.0 [] p there ∙ both)
-
-firsts_same : (board : Tables) (v w : Verdict) → AreConsistent board → IsRight board v → IsRight board w → firsts_of v.nets ≡ firsts_of w.nets
-firsts_same board v w tables right other =
-    same_members (firsts_of v.nets) (firsts_of w.nets) (rises v.nets (right Trees).rising) (rises w.nets (other Trees).rising) (first_in board v w tables right other) (first_in board w v tables other right)
-
-pub nets_as_many : (board : Tables) (v w : Verdict) → AreConsistent board → IsRight board v → IsRight board w → length v.nets ≡ length w.nets
-nets_as_many board v w tables right other = sym (length-map v.nets first_piece) ∙ (ap length (firsts_same board v w tables right other) ∙ length-map w.nets first_piece)
+use Rattle.verdict.proofs.Holding.{none_inside}
+use Rattle.verdict.proofs.OneForest.{first_alike, forests_as_long, held_alike}
 
 -- ---- Nets
 
+pub nets_as_many : (board : Tables) (v w : Verdict) → AreConsistent board → IsRight board v → IsRight board w → length v.nets ≡ length w.nets
+nets_as_many board v w tables right other = forests_as_long (length board.near) (Stands board.near) tables.known tables.both v.nets w.nets (right_nets board v right) (right_nets board w other)
+
 first_same : (board : Tables) (v w : Verdict) → AreConsistent board → IsRight board v → IsRight board w → (i : ℕ) → i < length v.nets → first_piece (net_at v.nets i) ≡ first_piece (net_at w.nets i)
-first_same board v w tables right other i below =
-    let many = nets_as_many board v w tables right other in
-    sym (get_or-map first_piece v.nets i [] 0 below) ∙ (ap (λ (xs : List ℕ). get_or xs i 0) (firsts_same board v w tables right other) ∙ get_or-map first_piece w.nets i [] 0 (omega arith))
+first_same board v w tables right other = first_alike (length board.near) (Stands board.near) tables.known tables.both v.nets w.nets (right_nets board v right) (right_nets board w other)
 
 pub held_too : (board : Tables) (v w : Verdict) → AreConsistent board → IsRight board v → IsRight board w → (i p : ℕ) → Holds v.nets i p → Holds w.nets i p
-held_too board v w tables right other i p held =
-    let near : ℕ → ℕ → Type 0 = Stands board.near in
-    let below = held_within v.nets i p held in
-    let many = nets_as_many board v w tables right other in
-    let there : i < length w.nets = omega arith in
-    let q : ℕ = first_piece (net_at v.nets i) in
-    let chain = from_first near (net_at v.nets i) (tree_at board v right i below) p held in
-    let start : Holds w.nets i q = subst (λ (x : ℕ). Holds w.nets i x) (sym (first_same board v w tables right other i below)) (first_inside near (net_at w.nets i) (tree_at board w other i there)) in
-    stays (length board.near) near w.nets (right_nets board w other) tables.known i q p chain.0 start chain.1
+held_too board v w tables right other = held_alike (length board.near) (Stands board.near) tables.known tables.both v.nets w.nets (right_nets board v right) (right_nets board w other)
 
 distinct_net : (board : Tables) (v : Verdict) → IsRight board v → (i : ℕ) → i < length v.nets → AreDistinct (pieces_of (net_at v.nets i))
 distinct_net board v right i below = All-get_or (λ net. AreDistinct (pieces_of net)) v.nets i [] below (right Covers).one_place
