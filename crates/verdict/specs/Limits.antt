@@ -2,6 +2,7 @@
 use Rattle.std.specs.Prelude.{◌≡◌, ℕ, ◌<◌, ◌≤◌, List, length, IfSome}
 use Rattle.std.specs.List.{AllByRecursion, sum_by}
 use Rattle.tables.specs.Tables.{Tables}
+use Rattle.texts.specs.declared.TheConstants.{MOST_BYTES}
 use Rattle.verdict.specs.declared.verdict.Twig.{Twig}
 use Rattle.verdict.specs.declared.verdict.PointLine.{PointLine}
 use Rattle.verdict.specs.declared.verdict.Open.{Open}
@@ -92,4 +93,4 @@ pub record HasCountsOf (board : Tables) (v : Verdict) : Type 0 where
 
 -- the length over which a file is refused
 abbrev pub most_bytes : ℕ
-most_bytes = 67_108_864
+most_bytes = MOST_BYTES
