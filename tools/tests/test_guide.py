@@ -4,7 +4,7 @@ import re
 
 import common
 
-GUIDE = os.path.join(common.TOP, "docs", "USING.md")
+GUIDE = os.path.join(common.TOP, "docs", "using", "refusals.md")
 M = '{"copper":["F_Cu.gbr"],"drills":[],"netlist":"n.ipc"}'
 DRILLED = M.replace("[]", '[{"file":"PTH.drl","from":1,"to":1}]')
 NET = "P  UNITS CUST 1\n327A                                  A01X+000000Y+000000\n999\n"
@@ -43,7 +43,7 @@ ELSEWHERE = ("F_Cu.gbr: longer than 67108864 bytes", "the program is not built")
 def printed():
     """The messages of the table, in order."""
     with open(GUIDE, encoding="utf-8") as file:
-        part = file.read().split("### Messages and ways out")[1].split("\n## ")[0]
+        part = file.read().split("## Messages and ways out")[1].split("\n## ")[0]
     return re.findall(r"^\| `boardnet: ([^`]*)` \|", part, re.M)
 
 

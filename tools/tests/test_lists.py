@@ -34,7 +34,7 @@ def kinds(enum, rows):
     return f"pub enum {enum} {{\n" + "".join(f"    /// {n}.\n    {name} = {n},\n" for n, name in rows) + "}\n"
 
 
-def using(ways):
+def refusals(ways):
     """A page with the three tables, of which the first has these rows."""
     text = ""
     for _, _, enum in lists.KINDS:
@@ -51,7 +51,7 @@ class Lists(unittest.TestCase):
             self.put(name, text)
         for _, source, enum in lists.KINDS:
             self.put(source, kinds(enum, [(1, "Bad")] if enum == "GerberKind" else []))
-        self.put("docs/USING.md", using("| 1 | `Bad` | Mend it. |\n"))
+        self.put("docs/using/refusals.md", refusals("| 1 | `Bad` | Mend it. |\n"))
 
     def put(self, name, text):
         path = self.top / name
@@ -86,9 +86,9 @@ class Lists(unittest.TestCase):
         self.run_lists()
         self.put(lists.KINDS[0][1], kinds("GerberKind", [(1, "Bad"), (2, "Worse")]))
         self.assertEqual(self.run_lists("--check")[0], 1)
-        self.assertEqual(self.run_lists(), (0, "USING.md: written\n"))
-        self.assertIn("| 1 | `Bad` | Mend it. |\n| 2 | `Worse` |  |\n", (self.top / "docs/USING.md").read_text())
-        self.assertEqual(self.run_lists("--check"), (1, "USING.md: the way out of Worse is still to be written\n"))
+        self.assertEqual(self.run_lists(), (0, "refusals.md: written\n"))
+        self.assertIn("| 1 | `Bad` | Mend it. |\n| 2 | `Worse` |  |\n", (self.top / "docs/using/refusals.md").read_text())
+        self.assertEqual(self.run_lists("--check"), (1, "refusals.md: the way out of Worse is still to be written\n"))
 
     def test_kinds_that_a_call_numbers(self):
         source = "pub enum Kind {\n    Other(Low),\n    Bad,\n}\nmatch self {\n    Kind::Other(it) => it.number(),\n    Kind::Bad => 31,\n}\nKind::Bad => \"Bad\",\n"
