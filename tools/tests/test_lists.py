@@ -78,8 +78,8 @@ class Lists(unittest.TestCase):
     def test_table_of_crates(self):
         self.assertEqual(self.run_lists()[0], 0)
         rows = (self.top / "docs/ARCHITECTURE.md").read_text().splitlines()
-        self.assertEqual(rows[4], "| [`low`](../crates/low/README.md) | Numbers of boards |")
-        self.assertEqual(rows[5:], ["| [`high`](../crates/high/README.md) | high: what is it |", "<!-- crates end -->", "behind"])
+        self.assertEqual(rows[4], "| `low` | Numbers of boards |")
+        self.assertEqual(rows[5:], ["| `high` | high: what is it |", "<!-- crates end -->", "behind"])
         self.assertEqual(self.run_lists("--check"), (0, "lists: current\n"))
 
     def test_a_new_kind_wants_its_way_out(self):
