@@ -22,6 +22,8 @@ ELSEWHERE = {
     "rt ": "the toolchain",
     "tools/test": "this very command",
 }
+# The statuses of lines that do not end with 0 on the example: the names of its copper are not those of its netlist.
+STATUSES = {"boardnet x2": 1}
 COMMAND = re.compile(r"(?:boardnet(?!:)|\./boardnet|tools/\w+|benches/\w+|bash|find|rt|kicad-cli)(?: |$)")
 INLINE = re.compile(r"`([^`\n]+)`")
 # Options of other tools, which our pages name.
@@ -129,14 +131,6 @@ class Docs(common.Case):
 class Lines(common.Case):
     """Each command line of a page runs as it stands, in the order of the page, in a folder of an example's files."""
 
-    def setUp(self):
-        super().setUp()
-        self.example("two_layer", "here")
-        self.example("two_layer", "here/FOLDER")
-        os.remove(self.path("here", "FOLDER", "m.json"))
-        self.write("here/ties.txt", "")
-        os.remove(self.path("here", "ties.txt"))
-
     def put_command(self, program):
         """A `boardnet` as an installed one is: the front over the program that is there."""
         front = f"home={shlex.quote(common.TOOLS)} program={shlex.quote(program)}\nversion() {{ :; }}\nready() {{ :; }}\nexport BOARDNET={shlex.quote(program)}\n"
@@ -152,16 +146,18 @@ class Lines(common.Case):
 
     def test_run(self):
         command = self.put_command(common.program())
-        shutil.copytree(common.EXAMPLES, self.path("here", "examples"))
-        shutil.copy(command, self.path("here", "boardnet"))
         path = os.pathsep.join([os.path.dirname(command), os.environ["PATH"]])
-        for name in pages(["README.md", "docs/*.md", "docs/using/*.md"]):
+        for number, name in enumerate(pages(["README.md", "docs/*.md", "docs/using/*.md"])):
+            here = self.example("two_layer", f"here{number}")
+            self.example("two_layer", f"here{number}/FOLDER")
+            shutil.copytree(common.EXAMPLES, os.path.join(here, "examples"))
+            shutil.copy(command, os.path.join(here, "boardnet"))
             for line in command_lines(read(name)):
                 if any(line.startswith(head) for head in ELSEWHERE):
                     continue
                 with self.subTest(page=name, line=line):
-                    status, _, notes = self.run_words(["sh", "-c", line], self.path("here"), environment={"PATH": path})
-                    self.assertEqual(status, 0, notes)
+                    status, _, notes = self.run_words(["sh", "-c", line], here, environment={"PATH": path})
+                    self.assertEqual(status, next((it for head, it in STATUSES.items() if line.startswith(head)), 0), notes)
 
     def test_toolchain_has_its_commands(self):
         if not shutil.which("rt"):
