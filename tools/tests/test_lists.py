@@ -107,10 +107,10 @@ class Lists(unittest.TestCase):
 
 
 def answers():
-    """The rows of the table of answers in docs/ARCHITECTURE.md: crate, calls, clauses."""
+    """The rows of the table of answers in docs/ARCHITECTURE.md: crate, calls, causes, clauses."""
     text = (lists.TOP / "docs/ARCHITECTURE.md").read_text().split("<!-- answers: tried by tools/tests/test_lists -->")[1].split("<!-- answers end -->")[0]
     for line in text.splitlines()[3:]:
-        crate, calls, _, causes, clauses = (cell.strip() for cell in line.strip("|").split(" | "))
+        crate, calls, causes, clauses = (cell.strip() for cell in line.strip("|").split(" | "))
         yield crate.strip("`"), names(calls), causes, names(clauses)
 
 
