@@ -1,4 +1,4 @@
-"""The table of mends: what each sees, what it writes, and why nothing of the board changes. docs/USING.md has the same rows."""
+"""The table of mends: what each sees, what it writes, and why nothing of the board changes. docs/using/mends.md has the same rows."""
 from typing import NamedTuple
 
 from . import Mended
@@ -55,7 +55,7 @@ TOLD = {row.kind: row.told for row in ROWS}
 
 
 def rows_of_guide():
-    """The rows as docs/USING.md has them."""
+    """The rows as docs/using/mends.md has them."""
     return [f"| {row.sees} | {row.writes} | {row.why} |" for row in ROWS]
 
 

@@ -1,4 +1,4 @@
-"""The findings as JSON (docs/USING.md, "The JSON form"). Lengths are millimetres, exact."""
+"""The findings as JSON (docs/using/forms.md, "The JSON form"). Lengths are millimetres, exact."""
 import json
 
 from . import ties

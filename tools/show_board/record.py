@@ -1,6 +1,6 @@
 """A record to keep with an order: which files were judged and how, by which program, and the reports whole; and its verification.
 
-docs/USING.md, "The record", has the form. What a record says is never trusted: its files are compared with those that are there,
+docs/using/testhouse.md has the form. What a record says is never trusted: its files are compared with those that are there,
 its reports are audited again, and its answer is compared with today's.
 """
 import datetime

@@ -1,10 +1,10 @@
-"""The guide's table of messages: each is what the program prints for an input of its kind, and each has a row here."""
+"""The guide's tables of kinds and messages: each message is what the program prints for an input of its kind, and each has a row here."""
 import os
 import re
 
 import common
 
-GUIDE = os.path.join(common.TOP, "docs", "USING.md")
+GUIDE = os.path.join(common.TOP, "docs", "using", "refusals.md")
 M = '{"copper":["F_Cu.gbr"],"drills":[],"netlist":"n.ipc"}'
 DRILLED = M.replace("[]", '[{"file":"PTH.drl","from":1,"to":1}]')
 NET = "P  UNITS CUST 1\n327A                                  A01X+000000Y+000000\n999\n"
@@ -40,11 +40,20 @@ ROWS = {
 ELSEWHERE = ("F_Cu.gbr: longer than 67108864 bytes", "the program is not built")
 
 
+def guide():
+    with open(GUIDE, encoding="utf-8") as file:
+        return file.read()
+
+
 def printed():
     """The messages of the table, in order."""
-    with open(GUIDE, encoding="utf-8") as file:
-        part = file.read().split("### Messages and ways out")[1].split("\n## ")[0]
-    return re.findall(r"^\| `boardnet: ([^`]*)` \|", part, re.M)
+    return re.findall(r"^\| `boardnet: ([^`]*)` \|", guide().split("## Messages and ways out")[1], re.M)
+
+
+def kind_of(head):
+    """The table, number and name of a refusal's kind, or nothing where the message is none."""
+    found = re.fullmatch(r"\S+: (Gerber|drill|netlist|flatten) (\d+) (\w+)", head)
+    return found and found.groups()
 
 
 def words_for(head, files):
@@ -58,11 +67,17 @@ def words_for(head, files):
 
 class Guide(common.Case):
     def test_each_message_has_a_row(self):
-        heads = [*ROWS, *ELSEWHERE]
+        heads = [head for head in (*ROWS, *ELSEWHERE) if not kind_of(head)]
         for message in printed():
             self.assertEqual(len([head for head in heads if message.startswith(head)]), 1, message)
         for head in heads:
             self.assertEqual(len([message for message in printed() if message.startswith(head)]), 1, head)
+
+    def test_each_kind_is_in_its_table(self):
+        tables = re.split(r"(?m)^\| (Gerber|Drill|Netlist|`flatten` alone) \| Kind \|", guide())
+        found = {name.split()[0].strip("`").lower(): text for name, text in zip(tables[1::2], tables[2::2])}
+        for table, number, name in filter(None, map(kind_of, ROWS)):
+            self.assertIn(f"| {number} | `{name}` |", found[table.lower()])
 
     def test_each_message_is_printed(self):
         program = common.program()
@@ -74,9 +89,11 @@ class Guide(common.Case):
             for name, text in whole.items():
                 self.write(f"{folder}/{name}", text)
             _, _, notes = self.run_words([program, *words_for(head, files)], self.path(folder))
-            message = next(it for it in printed() if it.startswith(head))
             with self.subTest(head=head):
-                self.assertEqual(notes, f"boardnet: {message}\n")
+                if kind_of(head):
+                    self.assertRegex(notes, rf"boardnet: {re.escape(head)} at (?:command \d+, byte|line) \d+(?:, byte \d+)?\n")
+                else:
+                    self.assertEqual(notes, f"boardnet: {next(it for it in printed() if it.startswith(head))}\n")
 
     def test_toolchain_is_the_readmes(self):
         with open(os.path.join(common.TOOLS, "toolchain")) as file:

@@ -116,7 +116,7 @@ class Package(Installed):
         self.assertRegex(told, r"Depends: libc6 \(>= 2\.\d+\)\nRecommends: python3 \(>= 3.8\)\n")
         self.assertEqual(self.run_words(["dpkg-deb", "--ctrl-tarfile", package])[0], 0)
         # The guide says how the sum is made.
-        with open(os.path.join(common.TOP, "docs", "USING.md"), encoding="utf-8") as file:
+        with open(os.path.join(common.TOP, "docs", "using", "commands.md"), encoding="utf-8") as file:
             sums = next(line.strip() for line in file if line.startswith("    find crates.txt"))
         sums = self.run_words(["sh", "-c", sums], self.top)[1]
         shutil.rmtree(self.top)

@@ -215,7 +215,7 @@ class Mends(common.Case):
 
 class Words(common.Case):
     def test_guide_has_the_table(self):
-        with open(os.path.join(common.TOP, "docs", "USING.md"), encoding="utf-8") as file:
+        with open(os.path.join(common.TOP, "docs", "using", "mends.md"), encoding="utf-8") as file:
             guide = file.read()
         self.assertIn("\n".join(table.rows_of_guide()) + "\n", guide)
 
