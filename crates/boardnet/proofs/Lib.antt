@@ -1,10 +1,12 @@
 pub mod Accounts
 pub mod Agreeable
+pub mod Alike
 pub mod Ending
 pub mod OnBoard
+pub mod OneOutcome
 pub mod Says
 pub mod Sound
-pub mod Tasks
+pub mod Soundness
 pub mod Audits
 pub mod ByLabels
 pub mod Asking

@@ -3,9 +3,9 @@ use Rattle.std.proofs.Common.{◌≡◌, ◌≤◌, ℕ, List, Option, Ok, Err}
 use Rattle.board_io.specs.Package.{Files, IsFaultless}
 use Rattle.board_package.specs.Causes.{KeepsFaults}
 use Rattle.board_package.specs.declared.fault.BuildFault.{BuildFault}
-use Rattle.boardnet.specs.Answers.{line_of, status_of}
+use Rattle.boardnet.specs.Answers.{IsAnswerTo}
 use Rattle.boardnet.specs.Ends.{HasReason, Works}
-use Rattle.boardnet.specs.Outcome.{OfFilesRead, OutcomeOf, Told}
+use Rattle.boardnet.specs.Outcome.{Held, OfFilesRead}
 use Rattle.boardnet.specs.Words.{Command}
 use Rattle.boardnet.specs.declared.answer.Answer.{Answer}
 use Rattle.boardnet.specs.declared.answer.Unanswered.TheVariants.{Stopped}
@@ -19,6 +19,6 @@ stopped files faults lost command old new why held later left reason = record { 
 -- the work has an answer
 pub answered : {P : Type 0} (files : P → Option Files) (faults : P → ℕ) (lost : P → List ℕ) (command : Command) (old new : P) (answer : Answer)
     → files new ≡ files old → faults old ≤ faults new → IsFaultless (faults old) (lost old) (faults new) (lost new)
-    → OfFilesRead command (files old) (λ f. OutcomeOf f command (Told answer.text.items (status_of answer.note) (line_of answer.note)))
+    → OfFilesRead command (files old) (λ f. IsAnswerTo (Held f) command answer)
     → Works files faults lost command old new (Ok answer)
 answered files faults lost command old new answer held later calm ok = record { held = held; later = later; calm = calm; left = tt; ok = ok; reason = tt }

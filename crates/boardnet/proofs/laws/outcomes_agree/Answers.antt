@@ -1,4 +1,4 @@
-use Rattle.boardnet.proofs.Tasks.{sound}
+use Rattle.boardnet.proofs.Soundness.{sound}
 use Rattle.boardnet.proofs.laws.outcomes_agree.Goals as goal
 
 pub returns : goal.returns
