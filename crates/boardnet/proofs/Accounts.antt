@@ -1,22 +1,21 @@
 -- From what a command says of what was handed over to it to what it comes to, and to all files that agree.
 use Rattle.std.proofs.Common.{◌≡◌, ◌≤◌, ℕ, List, [], ◌∷◌, ◌++◌, Option, Some, None, Result, Ok, Err, IfErr, IfOk, MatchResult, refl, sym, subst, arith}
 use Rattle.board_io.specs.Handed.{Handed}
-use Rattle.board_io.specs.Package.{Files, IsFaultless}
+use Rattle.board_io.specs.Package.{Files}
 use Rattle.board_package.proofs.Lift.{retold}
 use Rattle.board_package.specs.PackageBoard.{Stop, longer, not_json, bad_manifest, refused, frame_too_large}
 use Rattle.board_package.specs.declared.fault.BuildFault.{BuildFault}
 use Rattle.board_package.specs.declared.fault.BuildFault.TheVariants as fault
 use Rattle.board_package.specs.declared.reading.Refusal.TheVariants as refusal
-use Rattle.boardnet.proofs.Ending.{small_status}
+use Rattle.boardnet.proofs.Ending.{HasReason, Works, small_status}
 use Rattle.boardnet.proofs.Sound.{HoldsHanded}
 use Rattle.boardnet.proofs.Soundness.{sound}
 use Rattle.boardnet.specs.Answers.{IsAnswerTo, Refuses, RefusesFor, line_of, status_of, subject_of}
-use Rattle.boardnet.specs.Ends.{HasReason, Puts, StopsFor, Works, cut, whole}
+use Rattle.boardnet.specs.Ends.{Leaves, Puts, StopsFor, cut, whole}
 use Rattle.boardnet.specs.HandedOutcome.{EndsHanded, HasHandedReason}
-use Rattle.boardnet.specs.Kept.{LeftBy}
 use Rattle.boardnet.specs.Lines.{Says}
 use Rattle.boardnet.specs.Outcome.{ComesFor, HandedOver, Held, IsLineOf, OutcomeOf, Refused, Source, Told, read_by}
-use Rattle.boardnet.specs.Words.{Command, Trial, task_of}
+use Rattle.boardnet.specs.Words.{Command}
 use Rattle.boardnet.specs.declared.answer.Answer.{Answer}
 use Rattle.boardnet.specs.declared.answer.Unanswered.{Unanswered}
 use Rattle.boardnet.specs.declared.answer.Unanswered.TheVariants.{Stopped}
@@ -95,29 +94,21 @@ ends_handed source c before now lost handed got broken noted failed o o' n n' st
 ends_handed source c before now lost handed got broken noted failed o o' n n' status (Err why) ok reason piece put =
     ends_without source c lost handed got noted failed o o' n n' status (reason_of source c before now lost status (Says noted failed n n') why put.0 reason)
 
--- ---- All files that agree
+-- ---- The files that the package tells, or all that agree
 
-reason_held : (c : Command) (f : Files) (a b : List Handed) (before now : ℕ) (lost : List ℕ) (why : Unanswered) → HoldsHanded c f a b → HasHandedReason (HandedOver a b) c before now lost why → HasReason c (Some f) before now lost why
-reason_held c f a b before now lost (Stopped why) h r =
-    retold (Some (λ name. None)) (read_by c (Some f)) (λ files stop. StopsFor (HandedOver a b) c stop) (λ files stop. StopsFor (Held files) c stop) (λ files name. ComesFor (HandedOver a b) c name) (λ files name. ComesFor (Held files) c name) before now lost why
+reason_held : (c : Command) (held : Option Files) (a b : List Handed) (before now : ℕ) (lost : List ℕ) (why : Unanswered) → HoldsHanded c held a b → HasHandedReason (HandedOver a b) c before now lost why → HasReason c held before now lost why
+reason_held c held a b before now lost (Stopped why) h r =
+    retold (Some (λ name. None)) (read_by c held) (λ files stop. StopsFor (HandedOver a b) c stop) (λ files stop. StopsFor (Held files) c stop) (λ files name. ComesFor (HandedOver a b) c name) (λ files name. ComesFor (Held files) c name) before now lost why
     (λ stop s. h.stops stop s) (λ name s. h.comes name s) r
-reason_held c f a b before now lost other h r = h.refuses other r
+reason_held c held a b before now lost other h r = h.refuses other r
 
--- the work on what was handed over is work on all files that agree with it
-pub agreed_works : {P : Type 0} (c : Command) (f : Files) (a b : List Handed) (faults : P → ℕ) (lost : P → List ℕ) (old new : P) (result : Result Answer Unanswered) → HoldsHanded c f a b
-    → faults old ≤ faults new → IfOk result (λ answer. IsFaultless (faults old) (lost old) (faults new) (lost new)) → IfErr result (LeftBy (faults old) (lost old) (faults new) (lost new))
-    → IfOk result (λ answer. IsAnswerTo (HandedOver a b) c answer) → IfErr result (HasHandedReason (HandedOver a b) c (faults old) (faults new) (lost new))
-    → Works (λ p. Some f) faults lost c old new result
-agreed_works c f a b faults lost old new (Ok answer) h later calm left ok reason = record { held = refl; later = later; calm = calm; left = tt; ok = h.outcome (Told answer.text.items (status_of answer.note) (line_of answer.note)) ok; reason = tt }
-agreed_works c f a b faults lost old new (Err why) h later calm left ok reason = record { held = refl; later = later; calm = tt; left = left; ok = tt; reason = reason_held c f a b (faults old) (faults new) (lost new) why h reason }
+-- the work on what was handed over is work on the files that agree with it
+pub held_works : {P : Type 0} (c : Command) (files : P → Option Files) (a b : List Handed) (faults : P → ℕ) (lost : P → List ℕ) (old new : P) (result : Result Answer Unanswered) → HoldsHanded c (files old) a b → Leaves files faults lost old new result
+    → IfOk result (IsAnswerTo (HandedOver a b) c) → IfErr result (HasHandedReason (HandedOver a b) c (faults old) (faults new) (lost new))
+    → Works files faults lost c old new result
+held_works c files a b faults lost old new (Ok answer) h leaves ok reason = record { held = leaves.held; later = leaves.later; calm = leaves.calm; left = tt; ok = h.outcome (Told answer.text.items (status_of answer.note) (line_of answer.note)) ok; reason = tt }
+held_works c files a b faults lost old new (Err why) h leaves ok reason = record { held = leaves.held; later = leaves.later; calm = tt; left = leaves.left; ok = tt; reason = reason_held c (files old) a b (faults old) (faults new) (lost new) why h reason }
 
--- the reason why a made board has no summary is one of what was handed over, which is nothing
-pub trial_reason : (seed size : ℕ) (source : Source) (before now : ℕ) (lost : List ℕ) (why : Unanswered) → ((held : Option Files) (before now : ℕ) (lost : List ℕ) → HasReason (Trial seed size) held before now lost why) → HasHandedReason source (Trial seed size) before now lost why
-trial_reason seed size source before now lost (Stopped why) h =
-    retold (read_by (Trial seed size) None) (Some (λ name. None)) (λ files stop. StopsFor (Held files) (Trial seed size) stop) (λ files stop. StopsFor source (Trial seed size) stop) (λ files name. ComesFor (Held files) (Trial seed size) name) (λ files name. ComesFor source (Trial seed size) name) before now lost why
-    (λ stop s. s) (λ name s. s) (h None before now lost)
-trial_reason seed size source before now lost other h = h None before now lost
-
-pub trial_reasons : (seed size : ℕ) (source : Source) (before now : ℕ) (lost : List ℕ) (result : Result Answer Unanswered) → IfErr result (λ why. (held : Option Files) (before now : ℕ) (lost : List ℕ) → HasReason (Trial seed size) held before now lost why) → IfErr result (HasHandedReason source (Trial seed size) before now lost)
-trial_reasons seed size source before now lost (Ok answer) h = tt
-trial_reasons seed size source before now lost (Err why) h = trial_reason seed size source before now lost why h
+-- whatever the package tells, nothing else is left of it
+pub told_leaves : {P : Type 0} (files : P → Option Files) (f : Files) (faults : P → ℕ) (lost : P → List ℕ) (old new : P) (result : Result Answer Unanswered) → Leaves files faults lost old new result → Leaves (λ p. Some f) faults lost old new result
+told_leaves files f faults lost old new result leaves = record { held = refl; later = leaves.later; calm = leaves.calm; left = leaves.left }

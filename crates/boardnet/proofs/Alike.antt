@@ -1,5 +1,5 @@
 -- What is the same in two outcomes: of right verdicts of one board, of lines of refusals, of lists of gaps.
-use Rattle.std.proofs.Common.{◌≡◌, ◌<◌, ◌*◌, inl, inr, ℕ, ℤ, pos, List, length, Some, codes, ap, refl, subst, sym, ◌∙◌, arith}
+use Rattle.std.proofs.Common.{◌≡◌, ◌*◌, inl, inr, ℕ, pos, List, length, Some, codes, ap, refl, subst, sym, ◌∙◌, arith}
 use Rattle.board_io.specs.Package.{Files}
 use Rattle.board_package.specs.LabelledBoard.{LabelledStop, mislabelled, unbuilt}
 use Rattle.board_package.specs.PackageBoard.{Stop, absent, longer, not_json, bad_manifest, refused, frame_too_large, StopsTaking}

@@ -1,21 +1,20 @@
 -- From what the parts of an audit give to its outcome.
-use Rattle.std.proofs.Common.{◌≡◌, ◌<◌, ◌≤◌, inl, inr, ℕ, List, length, Option, Some, None, IfSome, IsSomeAnd, Err, codes, ap, subst, sym, ◌∙◌, arith}
+use Rattle.std.proofs.Common.{◌≡◌, ◌<◌, ◌≤◌, inl, inr, ℕ, List, length, Option, Some, None, IsSomeAnd, codes, ap, subst, sym, ◌∙◌, arith}
 use Rattle.board_io.specs.Handed.{Handed}
 use Rattle.board_io.specs.Package.{Files, IsFaultless}
-use Rattle.board_package.proofs.Lift.{Carries, lift, told_of}
 use Rattle.board_package.proofs.Staging.{carry}
-use Rattle.board_package.specs.Causes.{HandedCause, HasCause}
+use Rattle.board_package.specs.Causes.{HandedCause}
 use Rattle.board_package.specs.HandedBoard.{ComesHanded, ComesNext, IsBoardHanded, IsFirstStopHanded, StopsHanding}
 use Rattle.board_package.specs.Laws.{HasOneOutcome}
-use Rattle.board_package.specs.PackageBoard.{Comes, IsBoardOf, IsFirstStop, IsHeld, StopsTaking, Stop, absent, longer, not_json, bad_manifest, refused, frame_too_large}
+use Rattle.board_package.specs.PackageBoard.{IsHeld, StopsTaking, Stop, absent, longer, not_json, bad_manifest, refused, frame_too_large}
 use Rattle.board_package.specs.declared.fault.BuildFault.{BuildFault}
 use Rattle.board_shapes.proofs.BoardTables.{tables_are_one}
 use Rattle.board_shapes.specs.Laws.{HasOneTables}
 use Rattle.board_shapes.specs.Plain.{PlainBoard}
 use Rattle.board_shapes.specs.Tables.{IsTables}
 use Rattle.boardnet.specs.Answers.{Answers, IsAnswerTo, IsRuledOn, IsUnruled, line_of, status_of}
-use Rattle.boardnet.specs.Ends.{Works}
 use Rattle.boardnet.specs.HandedOutcome.{HasHandedReason}
+use Rattle.boardnet.specs.Kept.{LeftBy}
 use Rattle.boardnet.specs.Lines.{counted_line}
 use Rattle.boardnet.specs.Outcome.{ComesFor, HandedOver, HasRuling, Held, IsAnswer, IsAuditStop, IsNoReport, IsTextOf, Source}
 use Rattle.boardnet.specs.Source.{FitsBefore, IsFileBy, IsFileWith}
@@ -120,70 +119,11 @@ misread source manifest report board bytes text is e none = record {
   behind = behind source manifest board (λ rest. IsFileBy rest report bytes) (λ rest. IsFileWith rest report IsNoReport) (λ rest h. record { bytes = bytes; file = h; good = subst (λ (z : List ℕ). IsNoReport z) e none }) is;
 }
 
--- ---- By what is held
-
-pub answered_by : (held : Option Files) (manifest report : List ℕ) (board : PlainBoard) (bytes text : List ℕ) (ruling : Ruling) (answer : Answer)
-    → IfSome held (λ files. IsBoardOf files manifest board × IsHeld files report bytes) → HasOneTables board → text ≡ bytes → IsRuledOn board text ruling → Answers ruling answer
-    → IfSome held (λ files. IsAnswerTo (Held files) (Audit manifest report) answer)
-answered_by held manifest report board bytes text ruling answer is one e r said =
-    told_of held (λ files. IsBoardOf files manifest board × IsHeld files report bytes) (λ files. IsAnswerTo (Held files) (Audit manifest report) answer)
-    (λ files h. ruled (Held files) manifest report board bytes text ruling answer h one e r said) is
-
--- a report that is not ruled on has no answer
-pub unruled_works : {P : Type 0} (files : P → Option Files) (faults : P → ℕ) (lost : P → List ℕ) (manifest report : List ℕ) (old new : P) (board : PlainBoard) (bytes text : List ℕ) (why : Unanswered)
-    → files new ≡ files old → faults old ≤ faults new → IsFaultless (faults old) (lost old) (faults new) (lost new)
-    → IfSome (files old) (λ f. IsBoardOf f manifest board × IsHeld f report bytes) → text ≡ bytes → IsUnruled text why
-    → Works files faults lost (Audit manifest report) old new (Err why)
-unruled_works files faults lost manifest report old new board bytes text NotAReport held later calm is e unruled = record {
-  held = held;
-  later = later;
-  calm = tt;
-  left = calm;
-  ok = tt;
-  reason = told_of (files old) (λ f. IsBoardOf f manifest board × IsHeld f report bytes) (λ f. IsNoText (Held f) manifest report) (λ f h. misread (Held f) manifest report board bytes text h e unruled) is;
-}
-unruled_works files faults lost manifest report old new board bytes text (Stopped why) held later calm is e unruled =
-    subst (λ (w : BuildFault). Works files faults lost (Audit manifest report) old new (Err (Stopped w))) (sym unruled) (record { held = held; later = later; calm = tt; left = tt; ok = tt; reason = tt })
-unruled_works files faults lost manifest report old new board bytes text other held later calm is e unruled = absurd unruled
-
--- the causes of an audit
-abbrev pub StopsFor : List ℕ → List ℕ → Files → Stop → Type 0
-StopsFor manifest report files stop = IsAuditStop (Held files) manifest report stop
-
-abbrev pub NameFor : List ℕ → List ℕ → Files → List ℕ → Type 0
-NameFor manifest report files name = ComesFor (Held files) (Audit manifest report) name
-
--- the package's stops and names are the audit's, and so are those of taking the report
-package_carries : (held : Option Files) (manifest report : List ℕ)
-    → IfSome held (λ files. Carries (λ stop. IsFirstStop files manifest stop) (λ stop. StopsFor manifest report files stop) (λ name. Comes files manifest name) (λ name. NameFor manifest report files name))
-package_carries None manifest report = tt
-package_carries (Some files) manifest report = record { stops = λ stop s. inl s; comes = λ name c. inl c }
-
-report_carries : (held : Option Files) (manifest report : List ℕ) (board : PlainBoard) → IfSome held (λ files. IsBoardOf files manifest board)
-    → IfSome held (λ files. Carries (λ stop. StopsTaking files report stop) (λ stop. StopsFor manifest report files stop) (λ name. name ≡ report) (λ name. NameFor manifest report files name))
-report_carries None manifest report board is = tt
-report_carries (Some files) manifest report board is = record {
-  stops = λ stop s. inr (record { board = board; behind = (is, s) });
-  comes = λ name c. inr (record { board = board; behind = (is, c) });
-}
-
--- the causes of the parts are causes of the audit
-pub package_cause : (held : Option Files) (manifest report : List ℕ) (before now : ℕ) (lost : List ℕ) (why : BuildFault)
-    → HasCause held (λ files stop. IsFirstStop files manifest stop) (λ files other. Comes files manifest other) before now lost why
-    → HasCause held (StopsFor manifest report) (NameFor manifest report) before now lost why
-package_cause held manifest report before now lost why h =
-    lift held (λ files stop. IsFirstStop files manifest stop) (StopsFor manifest report) (λ files other. Comes files manifest other) (NameFor manifest report) before before now lost why
-    (package_carries held manifest report) (omega arith) h
-
-pub report_cause : (held other : Option Files) (manifest report second : List ℕ) (board : PlainBoard) (before mid now : ℕ) (lost : List ℕ) (why : BuildFault) → other ≡ held → second ≡ report → before ≤ mid
-    → IfSome held (λ files. IsBoardOf files manifest board)
-    → HasCause other (λ files stop. StopsTaking files second stop) (λ files name. name ≡ second) mid now lost why
-    → HasCause held (StopsFor manifest report) (NameFor manifest report) before now lost why
-report_cause held other manifest report second board before mid now lost why same two le is h =
-    lift held (λ files stop. StopsTaking files report stop) (StopsFor manifest report) (λ files name. name ≡ report) (NameFor manifest report) before mid now lost why
-    (report_carries held manifest report board is) le
-    (subst (λ (z : List ℕ). HasCause held (λ files stop. StopsTaking files z stop) (λ files name. name ≡ z) mid now lost why) two
-    (subst (λ (z : Option Files). HasCause z (λ files stop. StopsTaking files second stop) (λ files name. name ≡ second) mid now lost why) same h))
+-- a report that is not ruled on leaves the package as its board left it
+pub unruled_left : (count : ℕ) (lost : List ℕ) (count' : ℕ) (lost' : List ℕ) (text : List ℕ) (why : Unanswered) → IsFaultless count lost count' lost' → IsUnruled text why → LeftBy count lost count' lost' why
+unruled_left count lost count' lost' text NotAReport calm unruled = calm
+unruled_left count lost count' lost' text (Stopped why) calm unruled = subst (λ (w : BuildFault). LeftBy count lost count' lost' (Stopped w)) (sym unruled) tt
+unruled_left count lost count' lost' text other calm unruled = absurd unruled
 
 -- ---- By what was handed over
 

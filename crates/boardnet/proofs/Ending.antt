@@ -1,19 +1,19 @@
 -- From the work of a command and what was put for it to what the command comes to.
-use Rattle.std.proofs.Common.{◌≡◌, ◌⊎◌, ◌≤◌, inl, inr, ℕ, Bool, true, false, List, Option, Result, Ok, Err, IfOk, MatchResult, codes, refl, sym, subst, arith}
+use Rattle.std.proofs.Common.{◌≡◌, ◌⊎◌, ◌≤◌, inl, inr, ℕ, Bool, true, false, List, Option, Result, Ok, Err, IfErr, IfOk, MatchResult, codes, refl, sym, subst, arith}
 use Rattle.std.specs.Prelude.{if◌then◌else◌}
 use Rattle.board_io.specs.Causes.{Rose}
 use Rattle.board_io.specs.Package.{Files, IsFaultless}
 use Rattle.board_io.specs.Sink.{Gains, GainsFrontOf}
 use Rattle.board_package.proofs.Lift.{told_all, told_of}
-use Rattle.board_package.specs.Causes.{IsUnread, KeepsFaults}
+use Rattle.board_package.specs.Causes.{HasCause, IsUnread, KeepsFaults}
 use Rattle.board_package.specs.PackageBoard.{Stop, longer, not_json, bad_manifest, refused, frame_too_large}
 use Rattle.board_package.specs.declared.fault.BuildFault.{BuildFault}
 use Rattle.board_package.specs.declared.fault.BuildFault.TheVariants as fault
 use Rattle.board_package.specs.declared.reading.Refusal.TheVariants as refusal
 use Rattle.boardnet.proofs.Sound.{OneOutcome}
 use Rattle.boardnet.proofs.Soundness.{sound}
-use Rattle.boardnet.specs.Answers.{Refuses, RefusesFor, line_of, is_good, reason_line, subject_of, report_of, status_of}
-use Rattle.boardnet.specs.Ends.{Ends, HasReason, HasText, Puts, StopsFor, TakesFiles, Works, cut, whole}
+use Rattle.boardnet.specs.Answers.{IsAnswerTo, Refuses, RefusesFor, line_of, is_good, reason_line, subject_of, report_of, status_of}
+use Rattle.boardnet.specs.Ends.{Ends, HasText, Puts, StopsFor, TakesFiles, cut, whole}
 use Rattle.boardnet.specs.Kept.{LeftBy}
 use Rattle.boardnet.specs.Lines.{Says, file_line, plain_line}
 use Rattle.boardnet.specs.Outcome.{ComesFor, Held, IsLineOf, OfFilesRead, OutcomeOf, Refused, Told, read_by}
@@ -22,6 +22,25 @@ use Rattle.boardnet.specs.declared.answer.Answer.{Answer}
 use Rattle.boardnet.specs.declared.answer.Note.{Note}
 use Rattle.boardnet.specs.declared.answer.Unanswered.{Unanswered}
 use Rattle.boardnet.specs.declared.answer.Unanswered.TheVariants.{Stopped}
+
+-- ---- The work, by the files that the package tells
+
+-- why a command has no answer
+abbrev pub HasReason : Command → Option Files → ℕ → ℕ → List ℕ → Unanswered → Type 0
+HasReason command held before now lost (Stopped why) = HasCause (read_by command held) (λ files stop. StopsFor (Held files) command stop) (λ files name. ComesFor (Held files) command name) before now lost why
+HasReason command held before now lost other = OfFilesRead command held (λ files. (task_of command).refuses (Held files) other)
+
+-- The answer is the command's outcome, or there is a reason why there is
+-- none.
+pub record Works {P : Type 0} (files : P → Option Files) (faults : P → ℕ) (lost : P → List ℕ) (command : Command) (old new : P) (result : Result Answer Unanswered) : Type 0 where
+  pub held : files new ≡ files old
+  pub later : faults old ≤ faults new
+  -- an answer leaves the count of faults and the lost name as they were
+  pub calm : IfOk result (λ answer. IsFaultless (faults old) (lost old) (faults new) (lost new))
+  -- and where there is none they change only by a fault of reading or want of memory
+  pub left : IfErr result (LeftBy (faults old) (lost old) (faults new) (lost new))
+  pub ok : IfOk result (λ answer. OfFilesRead command (files old) (λ f. IsAnswerTo (Held f) command answer))
+  pub reason : IfErr result (HasReason command (files old) (faults old) (faults new) (lost new))
 
 -- ---- Why there is no answer
 

@@ -14,6 +14,5 @@ pub mod Named
 pub mod Netlists
 pub mod Passes
 pub mod TwoCalls
-pub mod Working
 pub mod Trials
 pub mod Supplements

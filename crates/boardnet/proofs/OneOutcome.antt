@@ -1,5 +1,5 @@
 -- A command has one outcome but for its text, over the same files and by the same that was handed over.
-use Rattle.std.proofs.Common.{List, ◌++◌, subst, sym}
+use Rattle.std.proofs.Common.{List, Some, ◌++◌, subst, sym}
 use Rattle.std.proofs.Math.Seq.{drop-append_seam}
 use Rattle.std.specs.List.{AllByRecursion}
 use Rattle.board_io.specs.Handed.{AgreeWith, Agrees, Handed}
@@ -26,5 +26,5 @@ one_handed_outcome one law first second gained c o p names x y =
     let found = files_agree first gained names in
     let files : Files = found.0 in
     let w : AgreeWith files first (first ++ gained) = found.1 in
-    one files c o p (((sound c).agrees law files first (first ++ gained) w).outcome o x)
-    (((sound c).agrees law files second (second ++ gained) (agree_behind files first second gained w)).outcome p y)
+    one files c o p (((sound c).agrees law (Some files) first (first ++ gained) w).outcome o x)
+    (((sound c).agrees law (Some files) second (second ++ gained) (agree_behind files first second gained w)).outcome p y)

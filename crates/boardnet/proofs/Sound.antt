@@ -1,5 +1,5 @@
 -- What holds of what is told of a command, whatever it is.
-use Rattle.std.proofs.Common.{◌≡◌, ◌<◌, ◌^◌, ℕ, List, Some, decimal, String}
+use Rattle.std.proofs.Common.{◌≡◌, ◌<◌, ◌^◌, ℕ, List, Option, Some, IfSome, decimal, String}
 use Rattle.std.proofs.lemmas.Fmt.{decimal_is_IsNumeral}
 use Rattle.std.specs.Prelude.{map, string_bytes}
 use Rattle.std.specs.Str.Parse.{digits_value}
@@ -40,12 +40,12 @@ pub record Laws : Type 0 where
   pub texts : ReportTextIsInjective
   pub gaps : GapsAreOne
 
--- what is said of what was handed over holds of files
-pub record HoldsHanded (c : Command) (f : Files) (a b : List Handed) : Type 0 where
-  pub outcome : (o : Outcome) → OutcomeOf (HandedOver a b) c o → OfFilesRead c (Some f) (λ g. OutcomeOf (Held g) c o)
-  pub stops : (stop : Stop) → (task_of c).stops (HandedOver a b) stop → OfFilesRead c (Some f) (λ g. (task_of c).stops (Held g) stop)
-  pub comes : (name : List ℕ) → ComesFor (HandedOver a b) c name → OfFilesRead c (Some f) (λ g. ComesFor (Held g) c name)
-  pub refuses : (why : Unanswered) → (task_of c).refuses (HandedOver a b) why → OfFilesRead c (Some f) (λ g. (task_of c).refuses (Held g) why)
+-- what is said of what was handed over holds of the files, where they are told
+pub record HoldsHanded (c : Command) (held : Option Files) (a b : List Handed) : Type 0 where
+  pub outcome : (o : Outcome) → OutcomeOf (HandedOver a b) c o → OfFilesRead c held (λ g. OutcomeOf (Held g) c o)
+  pub stops : (stop : Stop) → (task_of c).stops (HandedOver a b) stop → OfFilesRead c held (λ g. (task_of c).stops (Held g) stop)
+  pub comes : (name : List ℕ) → ComesFor (HandedOver a b) c name → OfFilesRead c held (λ g. ComesFor (Held g) c name)
+  pub refuses : (why : Unanswered) → (task_of c).refuses (HandedOver a b) why → OfFilesRead c held (λ g. (task_of c).refuses (Held g) why)
 
 -- what holds of a command
 pub record Sound (c : Command) : Type 0 where
@@ -66,7 +66,7 @@ pub record Sound (c : Command) : Type 0 where
   -- over the same files it has one status and one line
   pub alike : Laws → (f : Files) (o p : Outcome) → OfFilesRead c (Some f) (λ g. OutcomeOf (Held g) c o) → OfFilesRead c (Some f) (λ g. OutcomeOf (Held g) c p) → AreAlike o p
   -- what it comes to by what was handed over it comes to by all files that agree with that
-  pub agrees : HandedIsHeld → (f : Files) (a b : List Handed) → AgreeWith f a b → HoldsHanded c f a b
+  pub agrees : HandedIsHeld → (held : Option Files) (a b : List Handed) → IfSome held (λ f. AgreeWith f a b) → HoldsHanded c held a b
 
 -- the number that a decimal spells
 pub value : (n : ℕ) → n < 2 ^ 64 → digits_value 10 (decimal n) ≡ n

@@ -3,16 +3,14 @@ use Rattle.std.specs.Prelude.{◌≡◌, ◌≤◌, ◌⊎◌, ℕ, List, Option
 use Rattle.board_io.specs.Causes.{Rose}
 use Rattle.board_io.specs.Package.{Files, IsFaultless}
 use Rattle.board_io.specs.Sink.{Gains, GainsFrontOf}
-use Rattle.board_package.specs.Causes.{HasCause}
-use Rattle.board_package.specs.PackageBoard.{Stop, refused}
-use Rattle.boardnet.specs.Answers.{IsAnswerTo, line_of, status_of}
+use Rattle.board_package.specs.PackageBoard.{Stop}
+use Rattle.boardnet.specs.Answers.{line_of, status_of}
 use Rattle.boardnet.specs.Kept.{Keeps, LeftBy}
 use Rattle.boardnet.specs.Lines.{plain_line, file_line, Says}
-use Rattle.boardnet.specs.Outcome.{Held, Told, Refused, ComesFor, OfFilesRead, OutcomeOf, Source, read_by}
+use Rattle.boardnet.specs.Outcome.{Held, Told, Refused, ComesFor, OfFilesRead, OutcomeOf, Source}
 use Rattle.boardnet.specs.Words.{Command, task_of}
 use Rattle.boardnet.specs.declared.answer.Answer.{Answer}
 use Rattle.boardnet.specs.declared.answer.Unanswered.{Unanswered}
-use Rattle.boardnet.specs.declared.answer.Unanswered.TheVariants.{Stopped}
 
 -- the names of files in a command are texts, and its numbers are in range
 abbrev pub HasNames : Command → Type 0
@@ -22,22 +20,14 @@ HasNames command = (task_of command).in_range
 abbrev pub StopsFor : Source → Command → Stop → Type 0
 StopsFor source command stop = (task_of command).stops source stop
 
--- why a command has no answer
-abbrev pub HasReason : Command → Option Files → ℕ → ℕ → List ℕ → Unanswered → Type 0
-HasReason command held before now lost (Stopped why) = HasCause (read_by command held) (λ files stop. StopsFor (Held files) command stop) (λ files name. ComesFor (Held files) command name) before now lost why
-HasReason command held before now lost other = OfFilesRead command held (λ files. (task_of command).refuses (Held files) other)
-
--- The work of a command on a package that it was lent: the answer is the command's outcome, or there is a reason why there is
--- none.
-pub record Works {P : Type 0} (files : P → Option Files) (faults : P → ℕ) (lost : P → List ℕ) (command : Command) (old new : P) (result : Result Answer Unanswered) : Type 0 where
+-- What a command leaves of the package that it was lent, by its answer.
+pub record Leaves {P : Type 0} (files : P → Option Files) (faults : P → ℕ) (lost : P → List ℕ) (old new : P) (result : Result Answer Unanswered) : Type 0 where
   pub held : files new ≡ files old
   pub later : faults old ≤ faults new
   -- an answer leaves the count of faults and the lost name as they were
   pub calm : IfOk result (λ answer. IsFaultless (faults old) (lost old) (faults new) (lost new))
   -- and where there is none they change only by a fault of reading or want of memory
   pub left : IfErr result (LeftBy (faults old) (lost old) (faults new) (lost new))
-  pub ok : IfOk result (λ answer. OfFilesRead command (files old) (λ f. IsAnswerTo (Held f) command answer))
-  pub reason : IfErr result (HasReason command (files old) (faults old) (faults new) (lost new))
 
 -- An answer that was put: whole, or cut at a fault of the output, which is status 5.
 pub data Puts {S N : Type 0} (got : S → Option (List ℕ)) (broken : S → ℕ) (noted : N → Option (List ℕ)) (failed : N → ℕ) (answer : Answer) (o o' : S) (n n' : N) (status : ℕ) : Type 0 where

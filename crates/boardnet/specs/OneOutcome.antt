@@ -1,5 +1,5 @@
 -- That what a command comes to is one: by the files that a package holds, and by those that it handed over.
-use Rattle.std.specs.Prelude.{◌≡◌, ℕ, List, ◌++◌, Some}
+use Rattle.std.specs.Prelude.{◌≡◌, List, ◌++◌, Some}
 use Rattle.board_io.specs.Handed.{Handed}
 use Rattle.board_io.specs.Package.{Files}
 use Rattle.boardnet.specs.FilesAgree.{NamesAgree}

@@ -3,7 +3,7 @@
 ghost use Rattle.board_io.specs.Handed.{AgreeWith};
 ghost use Rattle.boardnet.specs.Answers.{IsAnswerTo, status_of};
 ghost use Rattle.boardnet.specs.Command.{asked};
-ghost use Rattle.boardnet.specs.Ends.{HasNames, Works};
+ghost use Rattle.boardnet.specs.Ends.{HasNames, Leaves};
 ghost use Rattle.boardnet.specs.HandedOutcome.{HasHandedReason};
 ghost use Rattle.boardnet.specs.Outcome.{HandedOver};
 ghost use Rattle.boardnet.specs.Words.{CanAsk, Command as Asked, Flatten, SpelledAsk, Trial, Write};
@@ -120,7 +120,7 @@ pub fn answer_to<P: Package>(alloc: Global, command: Command, package: &mut P) -
     ensures handed { IfOk result (IsAnswerTo (HandedOver (P.handed «package».old) (P.handed «package».new)) (asked command.entry)) }
     ensures handed_reason { IfErr result (HasHandedReason (HandedOver (P.handed «package».old) (P.handed «package».new)) (asked command.entry) (P.faults «package».old) (P.faults «package».new) (P.lost «package».new)) }
     ensures consistent { IfSome (P.held «package».old) (λ files. AgreeWith files (P.handed «package».old) (P.handed «package».new)) }
-    ensures works { Works P.held P.faults P.lost (asked command.entry) «package».old «package».new result }
+    ensures leaves { Leaves P.held P.faults P.lost «package».old «package».new result }
     ensures untouched { (seed size : ℕ) → asked command.entry ≡ Trial seed size → «package».new ≡ «package».old }
     ensures unjudged { IfOk result (λ answer. (name : List ℕ) → (asked command.entry ≡ Write name) ⊎ (asked command.entry ≡ Flatten name) → status_of answer.note ≡ 0) }
 {

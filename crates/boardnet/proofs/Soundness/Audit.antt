@@ -76,8 +76,9 @@ held_next law f a b manifest report name w (inl c) = inl ((law.holds f a b manif
 held_next law f a b manifest report name w (inr x) =
     inr (record { board = x.board; behind = held_before law f a b manifest report x.board (λ rest. NextBy rest report name) w (λ built y. grows_none built b y.1) (λ built h y. y.0) x.behind })
 
-agreed_audit : HandedIsHeld → (manifest report : List ℕ) (f : Files) (a b : List Handed) → AgreeWith f a b → HoldsHanded (Audit manifest report) f a b
-agreed_audit law manifest report f a b w = record {
+agreed_audit : HandedIsHeld → (manifest report : List ℕ) (held : Option Files) (a b : List Handed) → IfSome held (λ f. AgreeWith f a b) → HoldsHanded (Audit manifest report) held a b
+agreed_audit law manifest report None a b w = record { outcome = λ o x. tt; stops = λ stop s. tt; comes = λ name s. tt; refuses = λ why x. tt }
+agreed_audit law manifest report (Some f) a b w = record {
   outcome = λ o x. held_audit law f a b manifest report w o x;
   stops = λ stop s. held_stop law f a b manifest report w stop s;
   comes = λ name s. held_next law f a b manifest report name w s;
@@ -119,7 +120,7 @@ sound_audit manifest report = record {
   no_refused_text = λ law f why m t. no_ruling f manifest report why m t.0 t.1 t.2 t.3;
   alike = λ law f o p x y. one_audit law f manifest report o p x y;
   takes_what_comes = λ f name comes. tt;
-  agrees = λ law f a b w. agreed_audit law manifest report f a b w;
+  agrees = λ law held a b w. agreed_audit law manifest report held a b w;
 }
 
 -- What `run` says of it, by its words. An audit that has an answer answers its status.

@@ -25,8 +25,9 @@ held_check : (f : Files) (a b : List Handed) (version : Version) (manifest : Lis
 held_check f a b version manifest h (Told text status line) x = held_fit h x
 held_check f a b version manifest h (Refused line) x = held_refusal h x
 
-agreed_check : HandedIsHeld → (version : Version) (manifest : List ℕ) (f : Files) (a b : List Handed) → AgreeWith f a b → HoldsHanded (Check version manifest) f a b
-agreed_check law version manifest f a b w = let h = law.holds f a b manifest w in record {
+agreed_check : HandedIsHeld → (version : Version) (manifest : List ℕ) (held : Option Files) (a b : List Handed) → IfSome held (λ f. AgreeWith f a b) → HoldsHanded (Check version manifest) held a b
+agreed_check law version manifest None a b w = record { outcome = λ o x. tt; stops = λ stop s. tt; comes = λ name s. tt; refuses = λ why x. tt }
+agreed_check law version manifest (Some f) a b w = let h = law.holds f a b manifest w in record {
   outcome = λ o x. held_check f a b version manifest h o x;
   stops = λ stop s. h.stop stop s;
   comes = λ name s. h.comes name s;
@@ -53,7 +54,7 @@ sound_check version manifest = record {
   no_refused_text = λ law f why m t. absurd m;
   alike = λ law f o p x y. one_check law f version manifest o p x y;
   takes_what_comes = λ f name comes. tt;
-  agrees = λ law f a b w. agreed_check law version manifest f a b w;
+  agrees = λ law held a b w. agreed_check law version manifest held a b w;
 }
 
 -- What `run` says of it, by its words.

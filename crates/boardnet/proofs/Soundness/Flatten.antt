@@ -43,8 +43,9 @@ held_refusal : (f : Files) (a b : List Handed) (file : List ℕ) → HoldsWhatWa
 held_refusal f a b file h (Unflat kind number byte) x = held_unflat f a b file kind number byte h x
 held_refusal f a b file h other x = absurd x
 
-agreed_flatten : HandedIsHeld → (file : List ℕ) (f : Files) (a b : List Handed) → AgreeWith f a b → HoldsHanded (Flatten file) f a b
-agreed_flatten law file f a b w = let h = law.holds f a b file w in record {
+agreed_flatten : HandedIsHeld → (file : List ℕ) (held : Option Files) (a b : List Handed) → IfSome held (λ f. AgreeWith f a b) → HoldsHanded (Flatten file) held a b
+agreed_flatten law file None a b w = record { outcome = λ o x. tt; stops = λ stop s. tt; comes = λ name s. tt; refuses = λ why x. tt }
+agreed_flatten law file (Some f) a b w = let h = law.holds f a b file w in record {
   outcome = λ o x. held_flatten f a b file h o x;
   stops = λ stop s. h.untaken stop s;
   comes = λ name s. s.0;
@@ -86,7 +87,7 @@ sound_flatten file = record {
   no_refused_text = λ law f why m t. no_flat_text law f file why m t.0 t.1 t.2 t.3;
   alike = λ law f o p x y. one_flatten law f file o p x y;
   takes_what_comes = λ f name comes. tt;
-  agrees = λ law f a b w. agreed_flatten law file f a b w;
+  agrees = λ law held a b w. agreed_flatten law file held a b w;
 }
 
 -- What `run` says of it, by its words.

@@ -42,8 +42,9 @@ held_grown : (f : Files) (a b : List Handed) (manifest : List ℕ) (nanometres :
 held_grown f a b manifest nanometres h (GrownTooLarge box) x = held_fit h x
 held_grown f a b manifest nanometres h other x = absurd x
 
-agreed_gaps : HandedIsHeld → (manifest : List ℕ) (nanometres : ℕ) (f : Files) (a b : List Handed) → AgreeWith f a b → HoldsHanded (Gaps manifest nanometres) f a b
-agreed_gaps law manifest nanometres f a b w = let h = law.holds f a b manifest w in record {
+agreed_gaps : HandedIsHeld → (manifest : List ℕ) (nanometres : ℕ) (held : Option Files) (a b : List Handed) → IfSome held (λ f. AgreeWith f a b) → HoldsHanded (Gaps manifest nanometres) held a b
+agreed_gaps law manifest nanometres None a b w = record { outcome = λ o x. tt; stops = λ stop s. tt; comes = λ name s. tt; refuses = λ why x. tt }
+agreed_gaps law manifest nanometres (Some f) a b w = let h = law.holds f a b manifest w in record {
   outcome = λ o x. held_gaps f a b manifest nanometres h o x;
   stops = λ stop s. h.stop stop s;
   comes = λ name s. h.comes name s;
@@ -77,7 +78,7 @@ sound_gaps manifest nanometres = record {
   no_refused_text = λ law f why m t. no_list law f manifest nanometres why m t.0 t.1 t.2;
   alike = λ law f o p x y. one_gaps law f manifest nanometres o p x y;
   takes_what_comes = λ f name comes. tt;
-  agrees = λ law f a b w. agreed_gaps law manifest nanometres f a b w;
+  agrees = λ law held a b w. agreed_gaps law manifest nanometres held a b w;
 }
 
 -- What `run` says of it, by its words.

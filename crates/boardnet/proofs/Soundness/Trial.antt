@@ -1,5 +1,5 @@
 -- That what is told of the command `trial` is sound.
-use Rattle.std.proofs.Common.{ℕ, ◌≤◌, List, [], refl, arith, inl, inr, sym, ◌∙◌}
+use Rattle.std.proofs.Common.{ℕ, ◌≤◌, List, Option, [], refl, arith, inl, inr, sym, ◌∙◌}
 use Rattle.board_io.specs.Handed.{Handed}
 use Rattle.board_io.specs.Package.{Files}
 use Rattle.boardnet.proofs.Alike.{line_of_one, same_summary, same_verdicts}
@@ -21,8 +21,8 @@ no_summary : (size : ℕ) (why : Unanswered) → TrialRefuses size why → size 
 no_summary size SizeTooLarge m small = omega (arith, m, small)
 no_summary size other m small = absurd m
 
-agreed_trial : (seed size : ℕ) (f : Files) (a b : List Handed) → HoldsHanded (Trial seed size) f a b
-agreed_trial seed size f a b = record { outcome = λ o x. x; stops = λ stop s. s; comes = λ name s. s; refuses = λ why x. x }
+agreed_trial : (seed size : ℕ) (held : Option Files) (a b : List Handed) → HoldsHanded (Trial seed size) held a b
+agreed_trial seed size held a b = record { outcome = λ o x. x; stops = λ stop s. s; comes = λ name s. s; refuses = λ why x. x }
 
 -- ---- Two outcomes over the same files
 
@@ -52,5 +52,5 @@ sound_trial seed size = record {
   no_refused_text = λ law f why m t. no_summary size why m t.0;
   alike = λ law f o p x y. one_trial law seed size o p x y;
   takes_what_comes = λ f name comes. absurd comes;
-  agrees = λ law f a b w. agreed_trial seed size f a b;
+  agrees = λ law held a b w. agreed_trial seed size held a b;
 }

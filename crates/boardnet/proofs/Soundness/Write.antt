@@ -18,8 +18,9 @@ held_write : (f : Files) (a b : List Handed) (manifest : List ℕ) → HoldsWhat
 held_write f a b manifest h (Told text status line) x = record { board = x.board; board_is = h.board x.board x.board_is; limits = x.limits; netlist = x.netlist; status_is = x.status_is; line_is = x.line_is }
 held_write f a b manifest h (Refused line) x = held_refusal h x
 
-agreed_write : HandedIsHeld → (manifest : List ℕ) (f : Files) (a b : List Handed) → AgreeWith f a b → HoldsHanded (Write manifest) f a b
-agreed_write law manifest f a b w = let h = law.holds f a b manifest w in record {
+agreed_write : HandedIsHeld → (manifest : List ℕ) (held : Option Files) (a b : List Handed) → IfSome held (λ f. AgreeWith f a b) → HoldsHanded (Write manifest) held a b
+agreed_write law manifest None a b w = record { outcome = λ o x. tt; stops = λ stop s. tt; comes = λ name s. tt; refuses = λ why x. tt }
+agreed_write law manifest (Some f) a b w = let h = law.holds f a b manifest w in record {
   outcome = λ o x. held_write f a b manifest h o x;
   stops = λ stop s. h.stop stop s;
   comes = λ name s. h.comes name s;
@@ -46,7 +47,7 @@ sound_write manifest = record {
   no_refused_text = λ law f why m t. absurd m;
   alike = λ law f o p x y. one_write law f manifest o p x y;
   takes_what_comes = λ f name comes. tt;
-  agrees = λ law f a b w. agreed_write law manifest f a b w;
+  agrees = λ law held a b w. agreed_write law manifest held a b w;
 }
 
 -- What `run` says of it, by its words.

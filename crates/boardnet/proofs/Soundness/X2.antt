@@ -33,8 +33,9 @@ held_amiss : (f : Files) (a b : List Handed) (manifest : List ℕ) → HoldsWhat
 held_amiss f a b manifest h (Mislabelled name number byte) x = h.labelled_stop (mislabelled name number byte) x
 held_amiss f a b manifest h other x = absurd x
 
-agreed_x2 : HandedIsHeld → (manifest : List ℕ) (f : Files) (a b : List Handed) → AgreeWith f a b → HoldsHanded (X2 manifest) f a b
-agreed_x2 law manifest f a b w = let h = law.holds f a b manifest w in record {
+agreed_x2 : HandedIsHeld → (manifest : List ℕ) (held : Option Files) (a b : List Handed) → IfSome held (λ f. AgreeWith f a b) → HoldsHanded (X2 manifest) held a b
+agreed_x2 law manifest None a b w = record { outcome = λ o x. tt; stops = λ stop s. tt; comes = λ name s. tt; refuses = λ why x. tt }
+agreed_x2 law manifest (Some f) a b w = let h = law.holds f a b manifest w in record {
   outcome = λ o x. held_x2 f a b manifest h o x;
   stops = λ stop s. h.labelled_stop (unbuilt stop) s;
   comes = λ name s. h.labelled_comes name s;
@@ -64,7 +65,7 @@ sound_x2 manifest = record {
   no_refused_text = λ law f why m t. no_report law f manifest why m t.0 t.1;
   alike = λ law f o p x y. one_x2 law f manifest o p x y;
   takes_what_comes = λ f name comes. tt;
-  agrees = λ law f a b w. agreed_x2 law manifest f a b w;
+  agrees = λ law held a b w. agreed_x2 law manifest held a b w;
 }
 
 -- What `run` says of it, by its words.

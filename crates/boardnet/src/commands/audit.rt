@@ -1,14 +1,14 @@
 //! The command `audit`.
 ghost use Rattle.board_io.specs.Handed.{AgreeWith};
 ghost use Rattle.board_io.specs.Package.{IsFaultless};
-ghost use Rattle.board_package.specs.Causes.{HandedCause, HasCause, KeepsFaults};
+ghost use Rattle.board_package.specs.Causes.{HandedCause, KeepsFaults};
 ghost use Rattle.board_shapes.specs.Laws.{HasOneTables};
 ghost use Rattle.board_shapes.specs.Plain.{plain_board};
 ghost use Rattle.boardnet.specs.Command.{asked};
 ghost use Rattle.boardnet.specs.Answers.{Answers, IsAnswerTo, IsRuledOn, IsUnruled};
-ghost use Rattle.boardnet.specs.Ends.{Works};
+ghost use Rattle.boardnet.specs.Ends.{Leaves};
 ghost use Rattle.boardnet.specs.HandedOutcome.{HasHandedReason};
-ghost use Rattle.boardnet.specs.Outcome.{ComesFor, HandedOver, Held, IsAuditStop};
+ghost use Rattle.boardnet.specs.Outcome.{ComesFor, HandedOver, IsAuditStop};
 ghost use Rattle.boardnet.specs.Source.{FitsBefore, IsFileBy};
 ghost use Rattle.boardnet.specs.Words.{Audit, IsText};
 ghost use Rattle.std.specs.Prelude.{IfErr, IfNone, IfOk, IfSome, ◌≡◌, ◌≤◌};
@@ -46,7 +46,7 @@ pub fn ruling<P: Package>(alloc: Global, manifest: &str, report: &str, package: 
     ensures handed { IfOk result (IsAnswerTo (HandedOver (P.handed «package».old) (P.handed «package».new)) (Audit manifest.now report.now)) }
     ensures handed_reason { IfErr result (HasHandedReason (HandedOver (P.handed «package».old) (P.handed «package».new)) (Audit manifest.now report.now) (P.faults «package».old) (P.faults «package».new) (P.lost «package».new)) }
     ensures consistent { IfSome (P.held «package».old) (λ files. AgreeWith files (P.handed «package».old) (P.handed «package».new)) }
-    ensures works { Works P.held P.faults P.lost (Audit manifest.now report.now) «package».old «package».new result }
+    ensures leaves { Leaves P.held P.faults P.lost «package».old «package».new result }
 {
     let mut file = Vec::new(alloc);
     let board = taken(alloc, manifest, report, package, &mut file)?;
@@ -100,8 +100,6 @@ fn taken<P: Package>(
     ensures left { IfErr result (KeepsFaults (P.faults «package».old) (P.lost «package».old) (P.faults «package».new) (P.lost «package».new)) }
     ensures handed { IfOk result (λ board. FitsBefore (HandedOver (P.handed «package».old) (P.handed «package».new)) manifest.now (plain_board board) (λ rest. IsFileBy rest report.now file.new.items)) }
     ensures handed_cause { IfErr result (HandedCause (λ stop. IsAuditStop (HandedOver (P.handed «package».old) (P.handed «package».new)) manifest.now report.now stop) (λ name. ComesFor (HandedOver (P.handed «package».old) (P.handed «package».new)) (Audit manifest.now report.now) name) (P.faults «package».old) (P.faults «package».new) (P.lost «package».new)) }
-    ensures ok { IfOk result (λ board. IfSome (P.held «package».old) (λ files. FitsBefore (Held files) manifest.now (plain_board board) (λ rest. IsFileBy rest report.now file.new.items))) }
-    ensures fault { IfErr result (HasCause (P.held «package».old) (λ files stop. IsAuditStop (Held files) manifest.now report.now stop) (λ files name. ComesFor (Held files) (Audit manifest.now report.now) name) (P.faults «package».old) (P.faults «package».new) (P.lost «package».new)) }
 {
     let report = name_of(alloc, report)?;
     let board = board_of(alloc, manifest, package)?;

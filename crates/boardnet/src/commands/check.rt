@@ -1,7 +1,7 @@
 //! The command `check`.
 ghost use Rattle.board_io.specs.Handed.{AgreeWith};
 ghost use Rattle.boardnet.specs.Answers.{IsAnswerTo};
-ghost use Rattle.boardnet.specs.Ends.{Works};
+ghost use Rattle.boardnet.specs.Ends.{Leaves};
 ghost use Rattle.boardnet.specs.HandedOutcome.{HasHandedReason};
 ghost use Rattle.boardnet.specs.Command.{asked};
 ghost use Rattle.boardnet.specs.Outcome.{HandedOver};
@@ -43,7 +43,7 @@ pub fn report<P: Package>(
     ensures handed { IfOk result (IsAnswerTo (HandedOver (P.handed «package».old) (P.handed «package».new)) (Check version manifest.now)) }
     ensures handed_reason { IfErr result (HasHandedReason (HandedOver (P.handed «package».old) (P.handed «package».new)) (Check version manifest.now) (P.faults «package».old) (P.faults «package».new) (P.lost «package».new)) }
     ensures consistent { IfSome (P.held «package».old) (λ files. AgreeWith files (P.handed «package».old) (P.handed «package».new)) }
-    ensures works { Works P.held P.faults P.lost (Check version manifest.now) «package».old «package».new result }
+    ensures leaves { Leaves P.held P.faults P.lost «package».old «package».new result }
 {
     let board = board_of(alloc, manifest, package)?;
     let answer = report_on(alloc, version, &board)?;

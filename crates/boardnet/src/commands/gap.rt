@@ -3,7 +3,7 @@ ghost use Rattle.board_io.specs.Handed.{AgreeWith};
 ghost use Rattle.board_shapes.specs.Plain.{plain_board};
 ghost use Rattle.boardnet.specs.Command.{asked};
 ghost use Rattle.boardnet.specs.Answers.{IsAnswerTo, IsUngapped, line_of, status_of};
-ghost use Rattle.boardnet.specs.Ends.{Works};
+ghost use Rattle.boardnet.specs.Ends.{Leaves};
 ghost use Rattle.boardnet.specs.Gapped.{IsGapListOn};
 ghost use Rattle.boardnet.specs.HandedOutcome.{HasHandedReason};
 ghost use Rattle.boardnet.specs.Outcome.{HandedOver};
@@ -53,7 +53,7 @@ pub fn gap_list<P: Package>(
     ensures handed { IfOk result (IsAnswerTo (HandedOver (P.handed «package».old) (P.handed «package».new)) (Gaps manifest.now nanometres)) }
     ensures handed_reason { IfErr result (HasHandedReason (HandedOver (P.handed «package».old) (P.handed «package».new)) (Gaps manifest.now nanometres) (P.faults «package».old) (P.faults «package».new) (P.lost «package».new)) }
     ensures consistent { IfSome (P.held «package».old) (λ files. AgreeWith files (P.handed «package».old) (P.handed «package».new)) }
-    ensures works { Works P.held P.faults P.lost (Gaps manifest.now nanometres) «package».old «package».new result }
+    ensures leaves { Leaves P.held P.faults P.lost «package».old «package».new result }
 {
     let board = board_of(alloc, manifest, package)?;
     let answer = gap_list_on(alloc, &board, nanometres)?;

@@ -1,12 +1,12 @@
 //! The command `trial`.
 ghost use Rattle.boardnet.specs.Command.{asked};
 ghost use Rattle.boardnet.specs.Answers.{line_of, status_of};
-ghost use Rattle.boardnet.specs.Ends.{HasReason};
-ghost use Rattle.boardnet.specs.Outcome.{Files, IsBoardOf, IsTrialReport, PlainBoard, made_files, made_manifest, summary_text};
+ghost use Rattle.boardnet.specs.HandedOutcome.{HasHandedReason};
+ghost use Rattle.boardnet.specs.Outcome.{IsBoardOf, IsTrialReport, PlainBoard, Source, made_files, made_manifest, summary_text};
 ghost use Rattle.boardnet.specs.Right.{IsRightOn};
 ghost use Rattle.boardnet.specs.Trials.{IsUnlost};
 ghost use Rattle.boardnet.specs.Words.{Trial};
-ghost use Rattle.std.specs.Prelude.{IfErr, IfNone, IfOk, IfSome, List, Option, decimal, ℕ, ◌<◌, ◌≡◌, ◌≤◌, ◌^◌};
+ghost use Rattle.std.specs.Prelude.{IfErr, IfNone, IfOk, IfSome, List, decimal, ℕ, ◌<◌, ◌≡◌, ◌≤◌, ◌^◌};
 
 use crate::answer::{Answer, Answered, Note, Unanswered};
 use crate::commands::Command;
@@ -33,7 +33,7 @@ pub fn of_words(seed: &str, size: &str) -> Option<Command<'static>>
 /// The summary of a check of the made board of a seed and a size; `SizeTooLarge` where the size is over 10,000 cells.
 pub fn summary(alloc: Global, seed: u64, size: u32) -> Answered
     ensures ok { IfOk result (λ answer. IsTrialReport seed size answer.text.items (status_of answer.note) (line_of answer.note)) }
-    ensures reason { IfErr result (λ why. (held : Option Files) (before now : ℕ) (lost : List ℕ) → HasReason (Trial seed size) held before now lost why) }
+    ensures reason { IfErr result (λ why. (source : Source) (before now : ℕ) (lost : List ℕ) → HasHandedReason source (Trial seed size) before now lost why) }
 {
     let verdict = verdict_on_made(alloc, seed, size)?;
     let text = summary_of(alloc, seed, size, &verdict)?;
@@ -46,7 +46,7 @@ pub fn summary(alloc: Global, seed: u64, size: u32) -> Answered
 // The verdict on a made board.
 fn verdict_on_made(alloc: Global, seed: u64, size: u32) -> Result<Verdict, Unanswered>
     ensures ok { IfOk result (λ verdict. (size ≤ 10000) × (board : PlainBoard) × IsBoardOf (made_files seed size) made_manifest board × IsRightOn board verdict) }
-    ensures reason { IfErr result (λ why. (held : Option Files) (before now : ℕ) (lost : List ℕ) → HasReason (Trial seed size) held before now lost why) }
+    ensures reason { IfErr result (λ why. (source : Source) (before now : ℕ) (lost : List ℕ) → HasHandedReason source (Trial seed size) before now lost why) }
 {
     let mut made = make(alloc, seed, size)?;
     match board_of(alloc, MADE_MANIFEST, &mut made) {

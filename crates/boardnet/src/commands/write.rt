@@ -2,7 +2,7 @@
 ghost use Rattle.board_io.specs.Handed.{AgreeWith};
 ghost use Rattle.board_shapes.specs.Plain.{plain_board};
 ghost use Rattle.boardnet.specs.Answers.{IsAnswerTo, status_of};
-ghost use Rattle.boardnet.specs.Ends.{Works};
+ghost use Rattle.boardnet.specs.Ends.{Leaves};
 ghost use Rattle.boardnet.specs.HandedOutcome.{HasHandedReason};
 ghost use Rattle.boardnet.specs.Outcome.{HandedOver};
 ghost use Rattle.boardnet.specs.Words.{IsText, Write};
@@ -23,7 +23,7 @@ pub fn netlist<P: Package>(alloc: Global, manifest: &str, package: &mut P) -> An
     ensures handed { IfOk result (IsAnswerTo (HandedOver (P.handed «package».old) (P.handed «package».new)) (Write manifest.now)) }
     ensures handed_reason { IfErr result (HasHandedReason (HandedOver (P.handed «package».old) (P.handed «package».new)) (Write manifest.now) (P.faults «package».old) (P.faults «package».new) (P.lost «package».new)) }
     ensures consistent { IfSome (P.held «package».old) (λ files. AgreeWith files (P.handed «package».old) (P.handed «package».new)) }
-    ensures works { Works P.held P.faults P.lost (Write manifest.now) «package».old «package».new result }
+    ensures leaves { Leaves P.held P.faults P.lost «package».old «package».new result }
     ensures unjudged { IfOk result (λ answer. status_of answer.note ≡ 0) }
 {
     let board = board_of(alloc, manifest, package)?;

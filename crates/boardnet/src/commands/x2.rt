@@ -1,7 +1,7 @@
 //! The command `x2`.
 ghost use Rattle.board_io.specs.Handed.{AgreeWith};
 ghost use Rattle.boardnet.specs.Answers.{IsAnswerTo};
-ghost use Rattle.boardnet.specs.Ends.{Works};
+ghost use Rattle.boardnet.specs.Ends.{Leaves};
 ghost use Rattle.boardnet.specs.HandedOutcome.{HasHandedReason};
 ghost use Rattle.boardnet.specs.Outcome.{HandedOver};
 ghost use Rattle.boardnet.specs.Words.{IsText, X2};
@@ -21,7 +21,7 @@ pub fn labelled_report<P: Package>(alloc: Global, manifest: &str, package: &mut 
     ensures handed { IfOk result (IsAnswerTo (HandedOver (P.handed «package».old) (P.handed «package».new)) (X2 manifest.now)) }
     ensures handed_reason { IfErr result (HasHandedReason (HandedOver (P.handed «package».old) (P.handed «package».new)) (X2 manifest.now) (P.faults «package».old) (P.faults «package».new) (P.lost «package».new)) }
     ensures consistent { IfSome (P.held «package».old) (λ files. AgreeWith files (P.handed «package».old) (P.handed «package».new)) }
-    ensures works { Works P.held P.faults P.lost (X2 manifest.now) «package».old «package».new result }
+    ensures leaves { Leaves P.held P.faults P.lost «package».old «package».new result }
 {
     packages::labelled_pieces_are_under();
     let name = name_of(alloc, manifest)?;

@@ -1,5 +1,5 @@
 use Rattle.std.proofs.Common.{sym, subst, IfErr}
-use Rattle.boardnet.proofs.Accounts.{trial_reasons}
+use Rattle.boardnet.proofs.Trials.{trial_reasons}
 use Rattle.boardnet.specs.Command.{asked}
 use Rattle.boardnet.specs.HandedOutcome.{HasHandedReason}
 use Rattle.boardnet.specs.Outcome.{HandedOver}

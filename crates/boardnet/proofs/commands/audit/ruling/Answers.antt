@@ -2,26 +2,21 @@ use Rattle.std.proofs.Common.{◌∙◌, ap, subst, sym, Err}
 use Rattle.std.proofs.lemmas.Result.{err_from_is_err_and}
 use Rattle.board_package.proofs.Lift.{climbs}
 use Rattle.board_shapes.specs.Plain.{plain_board}
-use Rattle.boardnet.proofs.Audits.{answered_by, ruled, unruled_handed, unruled_works}
-use Rattle.boardnet.proofs.Working.{answered}
-use Rattle.boardnet.specs.Ends.{Works}
+use Rattle.boardnet.proofs.Audits.{ruled, unruled_handed, unruled_left}
+use Rattle.boardnet.specs.Ends.{Leaves}
 use Rattle.boardnet.specs.Outcome.{HandedOver}
-use Rattle.boardnet.specs.Words.{Audit}
 use Rattle.boardnet.proofs.commands.audit.ruling.Goals as goal
 
-pub returns-in_err-ruling-clause-works : goal.returns-in_err-ruling-clause-works
-returns-in_err-ruling-clause-works g c =
+pub returns-in_err-ruling-clause-leaves : goal.returns-in_err-ruling-clause-leaves
+returns-in_err-ruling-clause-leaves g c =
     let p = err_from_is_err_and c.from_residual-in_err-ruling.result c.from_residual-in_err-ruling.ensures.1 in
-    subst (Works g.P.Package.held g.P.Package.faults g.P.Package.lost (Audit c.args.manifest.now c.args.report.now) c.args.package.now c.taken.new.package) (sym (p.1 ∙ ap Err p.2))
-    (unruled_works g.P.Package.held g.P.Package.faults g.P.Package.lost c.args.manifest.now c.args.report.now c.args.package.now c.taken.new.package (plain_board c.in_ok-board.board) c.taken.new.file.items c.as_slice.result.now c.in_err-ruling.field-0.0
-    c.taken.ensures.held c.taken.ensures.later c.in_ok-board.ensures.calm c.in_ok-board.ensures.ok c.as_slice.ensures.value c.in_err-ruling.ensures.fault)
-
-pub returns-clause-works : goal.returns-clause-works
-returns-clause-works g c =
-    answered g.P.Package.held g.P.Package.faults g.P.Package.lost (Audit c.args.manifest.now c.args.report.now) c.args.package.now c.taken.new.package c.in_ok-answer_of.field-0
-    c.taken.ensures.held c.taken.ensures.later c.in_ok-board.ensures.calm
-    (answered_by (g.P.Package.held c.args.package.now) c.args.manifest.now c.args.report.now (plain_board c.in_ok-board.board) c.taken.new.file.items c.as_slice.result.now c.in_ok-ruling.ruling c.in_ok-answer_of.field-0
-    c.in_ok-board.ensures.ok c.in_ok-ruling.ensures.one c.as_slice.ensures.value c.in_ok-ruling.ensures.ok c.in_ok-answer_of.ensures)
+    subst (Leaves g.P.Package.held g.P.Package.faults g.P.Package.lost c.args.package.now c.taken.new.package) (sym (p.1 ∙ ap Err p.2)) (record {
+      held = c.taken.ensures.held;
+      later = c.taken.ensures.later;
+      calm = tt;
+      left = unruled_left (g.P.Package.faults c.args.package.now) (g.P.Package.lost c.args.package.now) (g.P.Package.faults c.taken.new.package) (g.P.Package.lost c.taken.new.package) c.as_slice.result.now c.in_err-ruling.field-0.0
+          c.in_ok-board.ensures.calm c.in_err-ruling.ensures.fault;
+    })
 
 pub returns-in_err-ruling-clause-handed_reason : goal.returns-in_err-ruling-clause-handed_reason
 returns-in_err-ruling-clause-handed_reason g c =
