@@ -1,136 +1,114 @@
 -- From what a command says of what was handed over to it to what it comes to, and to all files that agree.
 use Rattle.std.proofs.Common.{◌≡◌, ◌≤◌, ℕ, List, [], ◌∷◌, ◌++◌, Option, Some, None, Result, Ok, Err, IfErr, IfOk, MatchResult, refl, sym, subst, arith}
 use Rattle.board_io.specs.Handed.{Handed}
-use Rattle.board_io.specs.Package.{Files, IsFaultless}
+use Rattle.board_io.specs.Package.{Files}
 use Rattle.board_package.proofs.Lift.{retold}
 use Rattle.board_package.specs.PackageBoard.{Stop, longer, not_json, bad_manifest, refused, frame_too_large}
 use Rattle.board_package.specs.declared.fault.BuildFault.{BuildFault}
 use Rattle.board_package.specs.declared.fault.BuildFault.TheVariants as fault
 use Rattle.board_package.specs.declared.reading.Refusal.TheVariants as refusal
-use Rattle.boardnet.proofs.Ending.{small_status}
-use Rattle.boardnet.proofs.Sound.{HoldsAccount}
-use Rattle.boardnet.proofs.Tasks.{sound}
-use Rattle.boardnet.specs.Answers.{Refuses, RefusesFor, line_of, status_of, subject_of}
-use Rattle.boardnet.specs.Ends.{HasReason, Puts, Works, cut, whole}
-use Rattle.boardnet.specs.HandedOutcome.{EndsHanded, HasHandedReason, IsAccount, account_of}
-use Rattle.boardnet.specs.Kept.{LeftBy}
+use Rattle.boardnet.proofs.Ending.{HasReason, Works, small_status}
+use Rattle.boardnet.proofs.Sound.{HoldsHanded}
+use Rattle.boardnet.proofs.Soundness.{sound}
+use Rattle.boardnet.specs.Answers.{IsAnswerTo, Refuses, RefusesFor, line_of, status_of, subject_of}
+use Rattle.boardnet.specs.Ends.{Leaves, Puts, StopsFor, cut, whole}
+use Rattle.boardnet.specs.HandedOutcome.{EndsHanded, HasHandedReason}
 use Rattle.boardnet.specs.Lines.{Says}
-use Rattle.boardnet.specs.Outcome.{ComesFor, IsLineOf, Refused, Told, read_by}
-use Rattle.boardnet.specs.Task.{Account}
-use Rattle.boardnet.specs.Words.{Command, Trial, task_of}
+use Rattle.boardnet.specs.Outcome.{ComesFor, HandedOver, Held, IsLineOf, OutcomeOf, Refused, Source, Told, read_by}
+use Rattle.boardnet.specs.Words.{Command}
 use Rattle.boardnet.specs.declared.answer.Answer.{Answer}
 use Rattle.boardnet.specs.declared.answer.Unanswered.{Unanswered}
-use Rattle.boardnet.specs.declared.answer.Unanswered.TheVariants.{Stopped, NotAReport, SizeTooLarge, GrownTooLarge, Mislabelled, Unflat}
+use Rattle.boardnet.specs.declared.answer.Unanswered.TheVariants.{Stopped}
 
 -- ---- Why there is no answer
 
 -- The three ways to have none: the command is refused; a file cannot be read; memory is wanted.
-data Reason (account : Account) (lost : List ℕ) (status : ℕ) (Line : List ℕ → Type 0) : Type 0 where
-  refusal_of : (line : List ℕ) → status ≡ 3 → account.outcome (Refused line) → Line line → Reason account lost status Line
-  unread_of : status ≡ 4 → account.comes lost → Reason account lost status Line
-  wanting : status ≡ 6 → Reason account lost status Line
+data Reason (source : Source) (c : Command) (lost : List ℕ) (status : ℕ) (Line : List ℕ → Type 0) : Type 0 where
+  refusal_of : (line : List ℕ) → status ≡ 3 → OutcomeOf source c (Refused line) → Line line → Reason source c lost status Line
+  unread_of : status ≡ 4 → ComesFor source c lost → Reason source c lost status Line
+  wanting : status ≡ 6 → Reason source c lost status Line
 
-stopped_by : (c : Command) (a b : List Handed) (lost : List ℕ) (status : ℕ) (Line : List ℕ → Type 0) (stop : Stop) (line : List ℕ)
-    → status ≡ 3 → Line line → IsLineOf (subject_of c) stop line → (account_of c a b).stops stop → Reason (account_of c a b) lost status Line
-stopped_by c a b lost status Line stop line three said is s = refusal_of line three ((sound c).handed_stop a b stop line s is) said
+stopped_by : (source : Source) (c : Command) (lost : List ℕ) (status : ℕ) (Line : List ℕ → Type 0) (stop : Stop) (line : List ℕ)
+    → status ≡ 3 → Line line → IsLineOf (subject_of c) stop line → StopsFor source c stop → Reason source c lost status Line
+stopped_by source c lost status Line stop line three said is s = refusal_of line three ((sound c).stop_outcome source stop line s is) said
 
-stopped_reason : (c : Command) (a b : List Handed) (before now : ℕ) (lost : List ℕ) (status : ℕ) (Line : List ℕ → Type 0) (why : BuildFault)
-    → Refuses (subject_of c) why status Line → HasHandedReason (account_of c a b) before now lost (Stopped why) → Reason (account_of c a b) lost status Line
-stopped_reason c a b before now lost status Line fault.NotJson said h = stopped_by c a b lost status Line not_json _ said.0 said.1 refl h
-stopped_reason c a b before now lost status Line fault.BadManifest said h = stopped_by c a b lost status Line bad_manifest _ said.0 said.1 refl h
-stopped_reason c a b before now lost status Line (fault.Longer name) said h = stopped_by c a b lost status Line (longer name) _ said.0 said.1 refl h
-stopped_reason c a b before now lost status Line (fault.CannotRead name) said h = unread_of said.0 (subst (λ (z : List ℕ). (account_of c a b).comes z) (sym h.lost_is) h.comes)
-stopped_reason c a b before now lost status Line (fault.Layer name kind command at) said h = stopped_by c a b lost status Line (refused name (refusal.Layer kind command at)) _ said.0 said.1 refl h
-stopped_reason c a b before now lost status Line (fault.Drill name kind line at) said h = stopped_by c a b lost status Line (refused name (refusal.Drill kind line at)) _ said.0 said.1 refl h
-stopped_reason c a b before now lost status Line (fault.Netlist name kind line) said h = stopped_by c a b lost status Line (refused name (refusal.Netlist kind line)) _ said.0 said.1 refl h
-stopped_reason c a b before now lost status Line (fault.FrameTooLarge box) said h = stopped_by c a b lost status Line (frame_too_large box) _ said.0 said.1 refl h
-stopped_reason c a b before now lost status Line fault.NoMemory said h = wanting said.0
+stopped_reason : (source : Source) (c : Command) (before now : ℕ) (lost : List ℕ) (status : ℕ) (Line : List ℕ → Type 0) (why : BuildFault)
+    → Refuses (subject_of c) why status Line → HasHandedReason source c before now lost (Stopped why) → Reason source c lost status Line
+stopped_reason source c before now lost status Line fault.NotJson said h = stopped_by source c lost status Line not_json _ said.0 said.1 refl h
+stopped_reason source c before now lost status Line fault.BadManifest said h = stopped_by source c lost status Line bad_manifest _ said.0 said.1 refl h
+stopped_reason source c before now lost status Line (fault.Longer name) said h = stopped_by source c lost status Line (longer name) _ said.0 said.1 refl h
+stopped_reason source c before now lost status Line (fault.CannotRead name) said h = unread_of said.0 (subst (λ (z : List ℕ). ComesFor source c z) (sym h.lost_is) h.comes)
+stopped_reason source c before now lost status Line (fault.Layer name kind command at) said h = stopped_by source c lost status Line (refused name (refusal.Layer kind command at)) _ said.0 said.1 refl h
+stopped_reason source c before now lost status Line (fault.Drill name kind line at) said h = stopped_by source c lost status Line (refused name (refusal.Drill kind line at)) _ said.0 said.1 refl h
+stopped_reason source c before now lost status Line (fault.Netlist name kind line) said h = stopped_by source c lost status Line (refused name (refusal.Netlist kind line)) _ said.0 said.1 refl h
+stopped_reason source c before now lost status Line (fault.FrameTooLarge box) said h = stopped_by source c lost status Line (frame_too_large box) _ said.0 said.1 refl h
+stopped_reason source c before now lost status Line fault.NoMemory said h = wanting said.0
 
-reason_of : (c : Command) (a b : List Handed) (before now : ℕ) (lost : List ℕ) (status : ℕ) (Line : List ℕ → Type 0) (why : Unanswered)
-    → RefusesFor c why status Line → HasHandedReason (account_of c a b) before now lost why → Reason (account_of c a b) lost status Line
-reason_of c a b before now lost status Line (Stopped why) said h = stopped_reason c a b before now lost status Line why said h
-reason_of c a b before now lost status Line NotAReport said h = refusal_of _ said.0 ((sound c).handed_refusal a b NotAReport h) said.1
-reason_of c a b before now lost status Line SizeTooLarge said h = refusal_of _ said.0 ((sound c).handed_refusal a b SizeTooLarge h) said.1
-reason_of c a b before now lost status Line (GrownTooLarge box) said h = refusal_of _ said.0 ((sound c).handed_refusal a b (GrownTooLarge box) h) said.1
-reason_of c a b before now lost status Line (Mislabelled name number byte) said h = refusal_of _ said.0 ((sound c).handed_refusal a b (Mislabelled name number byte) h) said.1
-reason_of c a b before now lost status Line (Unflat kind number byte) said h = refusal_of _ said.0 ((sound c).handed_refusal a b (Unflat kind number byte) h) said.1
+reason_of : (source : Source) (c : Command) (before now : ℕ) (lost : List ℕ) (status : ℕ) (Line : List ℕ → Type 0) (why : Unanswered)
+    → RefusesFor c why status Line → HasHandedReason source c before now lost why → Reason source c lost status Line
+reason_of source c before now lost status Line (Stopped why) said h = stopped_reason source c before now lost status Line why said h
+reason_of source c before now lost status Line other said h = refusal_of _ said.0 ((sound c).refusal source other h) said.1
 
 -- ---- What a command comes to
 
 -- no answer
-ends_without : {S N : Type 0} (account : Account) (lost : List ℕ) (handed : S → List (List ℕ)) (got : S → Option (List ℕ)) (noted : N → Option (List ℕ)) (failed : N → ℕ) (o o' : S) (n n' : N) (status : ℕ)
-    → Reason account lost status (Says noted failed n n') → EndsHanded account lost handed got noted failed o o' n n' status
-ends_without account lost handed got noted failed o o' n n' status (refusal_of line is outcome said) = record {
+ends_without : {S N : Type 0} (source : Source) (c : Command) (lost : List ℕ) (handed : S → List (List ℕ)) (got : S → Option (List ℕ)) (noted : N → Option (List ℕ)) (failed : N → ℕ) (o o' : S) (n n' : N) (status : ℕ)
+    → Reason source c lost status (Says noted failed n n') → EndsHanded source c lost handed got noted failed o o' n n' status
+ends_without source c lost handed got noted failed o o' n n' status (refusal_of line is outcome said) = record {
   told = λ le. absurd (omega (arith, is, le));
   refused = λ three. (line, outcome, said);
   unread = λ four. absurd (omega (arith, is, four));
   front = λ five. absurd (omega (arith, is, five));
 }
-ends_without account lost handed got noted failed o o' n n' status (unread_of is comes) = record {
+ends_without source c lost handed got noted failed o o' n n' status (unread_of is comes) = record {
   told = λ le. absurd (omega (arith, is, le));
   refused = λ three. absurd (omega (arith, is, three));
   unread = λ four. comes;
   front = λ five. absurd (omega (arith, is, five));
 }
-ends_without account lost handed got noted failed o o' n n' status (wanting is) = record {
+ends_without source c lost handed got noted failed o o' n n' status (wanting is) = record {
   told = λ le. absurd (omega (arith, is, le));
   refused = λ three. absurd (omega (arith, is, three));
   unread = λ four. absurd (omega (arith, is, four));
   front = λ five. absurd (omega (arith, is, five));
 }
 
-pub ends_handed : {S N : Type 0} (c : Command) (a b : List Handed) (before now : ℕ) (lost : List ℕ) (handed : S → List (List ℕ)) (got : S → Option (List ℕ)) (broken : S → ℕ) (noted : N → Option (List ℕ)) (failed : N → ℕ) (o o' : S) (n n' : N) (status : ℕ) (given : Result Answer Unanswered)
-    → IfOk given (λ answer. IsAccount (account_of c a b) answer) → IfErr given (HasHandedReason (account_of c a b) before now lost) → IfOk given (λ answer. handed o' ≡ handed o ++ answer.text.items ∷ [])
+pub ends_handed : {S N : Type 0} (source : Source) (c : Command) (before now : ℕ) (lost : List ℕ) (handed : S → List (List ℕ)) (got : S → Option (List ℕ)) (broken : S → ℕ) (noted : N → Option (List ℕ)) (failed : N → ℕ) (o o' : S) (n n' : N) (status : ℕ) (given : Result Answer Unanswered)
+    → IfOk given (λ answer. IsAnswerTo source c answer) → IfErr given (HasHandedReason source c before now lost) → IfOk given (λ answer. handed o' ≡ handed o ++ answer.text.items ∷ [])
     → MatchResult given (λ answer. Puts got broken noted failed answer o o' n n' status) (λ why. RefusesFor c why status (Says noted failed n n') × (o' ≡ o))
-    → EndsHanded (account_of c a b) lost handed got noted failed o o' n n' status
-ends_handed c a b before now lost handed got broken noted failed o o' n n' status (Ok answer) ok reason piece (whole is gains said) =
+    → EndsHanded source c lost handed got noted failed o o' n n' status
+ends_handed source c before now lost handed got broken noted failed o o' n n' status (Ok answer) ok reason piece (whole is gains said) =
     let small : status ≤ 1 = subst (λ (s : ℕ). s ≤ 1) (sym is) (small_status answer.note) in
     record {
-      told = λ le. (answer.text.items, line_of answer.note, subst (λ (s : ℕ). (account_of c a b).outcome (Told answer.text.items s (line_of answer.note))) (sym is) ok, piece, gains, said);
+      told = λ le. (answer.text.items, line_of answer.note, subst (λ (s : ℕ). OutcomeOf source c (Told answer.text.items s (line_of answer.note))) (sym is) ok, piece, gains, said);
       refused = λ three. absurd (omega (arith, small, three));
       unread = λ four. absurd (omega (arith, small, four));
       front = λ five. absurd (omega (arith, small, five));
     }
-ends_handed c a b before now lost handed got broken noted failed o o' n n' status (Ok answer) ok reason piece (cut is rose gains said) = record {
+ends_handed source c before now lost handed got broken noted failed o o' n n' status (Ok answer) ok reason piece (cut is rose gains said) = record {
   told = λ le. absurd (omega (arith, is, le));
   refused = λ three. absurd (omega (arith, is, three));
   unread = λ four. absurd (omega (arith, is, four));
   front = λ five. (answer.text.items, line_of answer.note, status_of answer.note, ok, piece, gains);
 }
-ends_handed c a b before now lost handed got broken noted failed o o' n n' status (Err why) ok reason piece put =
-    ends_without (account_of c a b) lost handed got noted failed o o' n n' status (reason_of c a b before now lost status (Says noted failed n n') why put.0 reason)
+ends_handed source c before now lost handed got broken noted failed o o' n n' status (Err why) ok reason piece put =
+    ends_without source c lost handed got noted failed o o' n n' status (reason_of source c before now lost status (Says noted failed n n') why put.0 reason)
 
--- ---- All files that agree
+-- ---- The files that the package tells, or all that agree
 
-reason_held : (c : Command) (f : Files) (account : Account) (before now : ℕ) (lost : List ℕ) (why : Unanswered) → HoldsAccount c f account → HasHandedReason account before now lost why → HasReason c (Some f) before now lost why
-reason_held c f account before now lost (Stopped why) h r =
-    retold (Some (λ name. None)) (read_by c (Some f)) (λ files stop. account.stops stop) (λ files stop. (task_of c).stops files stop) (λ files name. account.comes name) (λ files name. ComesFor files c name) before now lost why
+reason_held : (c : Command) (held : Option Files) (a b : List Handed) (before now : ℕ) (lost : List ℕ) (why : Unanswered) → HoldsHanded c held a b → HasHandedReason (HandedOver a b) c before now lost why → HasReason c held before now lost why
+reason_held c held a b before now lost (Stopped why) h r =
+    retold (Some (λ name. None)) (read_by c held) (λ files stop. StopsFor (HandedOver a b) c stop) (λ files stop. StopsFor (Held files) c stop) (λ files name. ComesFor (HandedOver a b) c name) (λ files name. ComesFor (Held files) c name) before now lost why
     (λ stop s. h.stops stop s) (λ name s. h.comes name s) r
-reason_held c f account before now lost NotAReport h r = h.refuses NotAReport r
-reason_held c f account before now lost SizeTooLarge h r = h.refuses SizeTooLarge r
-reason_held c f account before now lost (GrownTooLarge box) h r = h.refuses (GrownTooLarge box) r
-reason_held c f account before now lost (Mislabelled name number byte) h r = h.refuses (Mislabelled name number byte) r
-reason_held c f account before now lost (Unflat kind number byte) h r = h.refuses (Unflat kind number byte) r
+reason_held c held a b before now lost other h r = h.refuses other r
 
--- the work on what was handed over is work on all files that agree with it
-pub agreed_works : {P : Type 0} (c : Command) (f : Files) (account : Account) (faults : P → ℕ) (lost : P → List ℕ) (old new : P) (result : Result Answer Unanswered) → HoldsAccount c f account
-    → faults old ≤ faults new → IfOk result (λ answer. IsFaultless (faults old) (lost old) (faults new) (lost new)) → IfErr result (LeftBy (faults old) (lost old) (faults new) (lost new))
-    → IfOk result (λ answer. IsAccount account answer) → IfErr result (HasHandedReason account (faults old) (faults new) (lost new))
-    → Works (λ p. Some f) faults lost c old new result
-agreed_works c f account faults lost old new (Ok answer) h later calm left ok reason = record { held = refl; later = later; calm = calm; left = tt; ok = h.outcome (Told answer.text.items (status_of answer.note) (line_of answer.note)) ok; reason = tt }
-agreed_works c f account faults lost old new (Err why) h later calm left ok reason = record { held = refl; later = later; calm = tt; left = left; ok = tt; reason = reason_held c f account (faults old) (faults new) (lost new) why h reason }
+-- the work on what was handed over is work on the files that agree with it
+pub held_works : {P : Type 0} (c : Command) (files : P → Option Files) (a b : List Handed) (faults : P → ℕ) (lost : P → List ℕ) (old new : P) (result : Result Answer Unanswered) → HoldsHanded c (files old) a b → Leaves files faults lost old new result
+    → IfOk result (IsAnswerTo (HandedOver a b) c) → IfErr result (HasHandedReason (HandedOver a b) c (faults old) (faults new) (lost new))
+    → Works files faults lost c old new result
+held_works c files a b faults lost old new (Ok answer) h leaves ok reason = record { held = leaves.held; later = leaves.later; calm = leaves.calm; left = tt; ok = h.outcome (Told answer.text.items (status_of answer.note) (line_of answer.note)) ok; reason = tt }
+held_works c files a b faults lost old new (Err why) h leaves ok reason = record { held = leaves.held; later = leaves.later; calm = tt; left = leaves.left; ok = tt; reason = reason_held c (files old) a b (faults old) (faults new) (lost new) why h reason }
 
--- the reason why a made board has no summary is one of what was handed over, which is nothing
-pub trial_reason : (seed size : ℕ) (a b : List Handed) (before now : ℕ) (lost : List ℕ) (why : Unanswered) → ((held : Option Files) (before now : ℕ) (lost : List ℕ) → HasReason (Trial seed size) held before now lost why) → HasHandedReason (account_of (Trial seed size) a b) before now lost why
-trial_reason seed size a b before now lost (Stopped why) h =
-    retold (read_by (Trial seed size) None) (Some (λ name. None)) (λ files stop. (task_of (Trial seed size)).stops files stop) (λ files stop. (account_of (Trial seed size) a b).stops stop) (λ files name. ComesFor files (Trial seed size) name) (λ files name. (account_of (Trial seed size) a b).comes name) before now lost why
-    (λ stop s. s) (λ name s. s) (h None before now lost)
-trial_reason seed size a b before now lost NotAReport h = h None before now lost
-trial_reason seed size a b before now lost SizeTooLarge h = h None before now lost
-trial_reason seed size a b before now lost (GrownTooLarge box) h = h None before now lost
-trial_reason seed size a b before now lost (Mislabelled name number byte) h = h None before now lost
-trial_reason seed size a b before now lost (Unflat kind number byte) h = h None before now lost
-
-pub trial_reasons : (seed size : ℕ) (a b : List Handed) (before now : ℕ) (lost : List ℕ) (result : Result Answer Unanswered) → IfErr result (λ why. (held : Option Files) (before now : ℕ) (lost : List ℕ) → HasReason (Trial seed size) held before now lost why) → IfErr result (HasHandedReason (account_of (Trial seed size) a b) before now lost)
-trial_reasons seed size a b before now lost (Ok answer) h = tt
-trial_reasons seed size a b before now lost (Err why) h = trial_reason seed size a b before now lost why h
+-- whatever the package tells, nothing else is left of it
+pub told_leaves : {P : Type 0} (files : P → Option Files) (f : Files) (faults : P → ℕ) (lost : P → List ℕ) (old new : P) (result : Result Answer Unanswered) → Leaves files faults lost old new result → Leaves (λ p. Some f) faults lost old new result
+told_leaves files f faults lost old new result leaves = record { held = refl; later = leaves.later; calm = leaves.calm; left = leaves.left }

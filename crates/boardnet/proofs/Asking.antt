@@ -3,7 +3,7 @@ use Rattle.std.proofs.Common.{◌≡◌, ◌<◌, ◌≤◌, ℕ, List, [], ◌�
 use Rattle.std.specs.Prelude.{map, string_bytes}
 use Rattle.std.specs.declared.alloc.Global.{Global}
 use Rattle.board_io.specs.Package.{Files}
-use Rattle.boardnet.proofs.Tasks.{sound}
+use Rattle.boardnet.proofs.Soundness.{sound}
 use Rattle.boardnet.specs.Outcome.{OfFilesRead}
 use Rattle.boardnet.specs.commands.{command_of_words}
 use Rattle.boardnet.specs.Words.{Asks, CanAsk, Command}

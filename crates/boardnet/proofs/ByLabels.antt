@@ -1,35 +1,32 @@
 -- Verdicts on labelled boards: no probe is bare, and net numbers tell what joins the labelled pieces.
-use Rattle.std.proofs.Common.{◌≡◌, ℕ, ◌+◌, ◌-◌, ◌<◌, suc, List, [], ◌∷◌, ◌++◌, length, get_or, Contains, pos, Option, Some, None, IfSome, MatchOption, Result, Ok, Err, ◌≤◌, refl, sym, subst, ◌∙◌, arith}
+use Rattle.std.proofs.Common.{◌≡◌, ℕ, ◌+◌, ◌-◌, ◌<◌, suc, List, [], ◌∷◌, ◌++◌, length, get_or, Contains, pos, Option, Some, None, MatchOption, Result, Ok, Err, ◌≤◌, refl, sym, subst, ◌∙◌, arith}
 use Rattle.std.specs.Prelude.{slice_get}
 use Rattle.std.specs.List.{AllByRecursion}
 use Rattle.std.proofs.lemmas.Option.{slice_get-get_or}
 use Rattle.std.specs.Result.{IsErrAnd}
 use Rattle.board_io.specs.Handed.{Handed}
-use Rattle.board_io.specs.Package.{Files, IsFaultless}
-use Rattle.board_package.proofs.Lift.{told_of}
-use Rattle.board_package.specs.HandedLabelled.{IsFirstLabelledStopHanded, IsLabelledBoardHanded, LabelledComesHanded}
-use Rattle.board_package.specs.LabelledBoard.{IsFirstLabelledStop, IsLabelledBoardOf, LabelledComes, labelled_board_of}
-use Rattle.board_package.specs.LabelledCauses.{HandedLabelledCause, HasLabelledCause, KeepsLabelledFaults}
+use Rattle.board_io.specs.Package.{Files}
+use Rattle.board_package.specs.HandedLabelled.{IsFirstLabelledStopHanded, LabelledComesHanded}
+use Rattle.board_package.specs.LabelledCauses.{HandedLabelledCause, KeepsLabelledFaults}
 use Rattle.board_package.specs.Laws.{LabelledPiecesAreUnder}
 use Rattle.board_shapes.proofs.BoardTables.{under_one}
 use Rattle.board_shapes.specs.LawfulBoard.{IsLawfulBoard}
 use Rattle.board_shapes.specs.Plain.{PlainBoard}
 use Rattle.board_shapes.specs.Touching.{TouchAt, UnderAt}
 use Rattle.board_shapes.specs.declared.probe.Probe.{Probe}
-use Rattle.board_package.specs.declared.fault.BuildFault.TheVariants as build
 use Rattle.board_package.specs.declared.fault.LabelledFault.{LabelledFault}
 use Rattle.board_package.specs.declared.fault.LabelledFault.TheVariants as labelled
-use Rattle.boardnet.specs.Answers.{line_of, status_of, unlabelled_of}
-use Rattle.boardnet.specs.Ends.{HasReason, Works}
-use Rattle.boardnet.specs.HandedOutcome.{HasHandedReason, IsHandedLabelledReport, account_of}
+use Rattle.boardnet.specs.Answers.{IsAnswerTo, line_of, status_of, unlabelled_of}
+use Rattle.boardnet.specs.Ends.{Leaves}
+use Rattle.boardnet.specs.HandedOutcome.{HasHandedReason}
 use Rattle.boardnet.specs.Kept.{LeftBy}
-use Rattle.boardnet.specs.Labelled.{IsReportOn}
-use Rattle.boardnet.specs.Outcome.{IsLabelledReport, JoinsPieces, OutcomeOf, Told}
-use Rattle.boardnet.specs.Right.{IsRightOn}
+use Rattle.boardnet.specs.Outcome.{HandedOver, Held, JoinsPieces, Source}
+use Rattle.boardnet.specs.Right.{IsReportOn, IsRightOn}
+use Rattle.boardnet.specs.Source.{IsLabelledBoardBy}
 use Rattle.boardnet.specs.Words.{X2}
 use Rattle.boardnet.specs.declared.answer.Answer.{Answer}
 use Rattle.boardnet.specs.declared.answer.Unanswered.{Unanswered}
-use Rattle.boardnet.specs.declared.answer.Unanswered.TheVariants.{Stopped}
+use Rattle.boardnet.specs.declared.words.Version.TheVariants.{Two}
 use Rattle.tables.specs.Chains.{IsChain}
 use Rattle.tables.specs.Tables.{TestPoint}
 use Rattle.verdict.specs.Forest.{Holds}
@@ -97,86 +94,30 @@ joins_pieces b v r all k l p q is is' = (
 
 -- ---- The report
 
-pub labelled_report_is : LabelledPiecesAreUnder → (files : Files) (manifest : List ℕ) (b : PlainBoard) (text : List ℕ) (status : ℕ) (line : List ℕ) → IsLabelledBoardOf files manifest b → IsLawfulBoard b → IsReportOn b text status line → IsLabelledReport files manifest text status line
-labelled_report_is law files manifest b text status line is lawful r =
-    let whole : IsLawfulBoard (labelled_board_of is.end.tables is.end.board) = subst IsLawfulBoard is.is lawful in
-    let all : AllUnder b = subst AllUnder (sym is.is) (law is.end.tables is.end.board whole) in
-    record {
-      board = b;
-      board_is = is;
-      verdict = r.verdict;
-      lawful = r.lawful;
-      right = r.right;
-      version_is = r.version_is;
-      none_bare = none_bare b r.verdict r.right all;
-      joins = joins_pieces b r.verdict r.right all;
-      text_is = r.text_is;
-      status_is = r.status_is;
-    }
+all_under : LabelledPiecesAreUnder → (source : Source) (manifest : List ℕ) (b : PlainBoard) → IsLabelledBoardBy source manifest b → IsLawfulBoard b → AllUnder b
+all_under law (Held files) manifest b is lawful = subst AllUnder (sym is.is) (law is.end.tables is.end.board (subst IsLawfulBoard is.is lawful))
+all_under law (HandedOver before after) manifest b is lawful = subst AllUnder (sym is.is) (law is.end.tables is.end.board (subst IsLawfulBoard is.is lawful))
 
--- ---- The work
+pub labelled_report_is : LabelledPiecesAreUnder → (source : Source) (manifest : List ℕ) (b : PlainBoard) (answer : Answer) → IsLabelledBoardBy source manifest b → IsLawfulBoard b
+    → IsReportOn b Two answer.text.items (status_of answer.note) (line_of answer.note) → IsAnswerTo source (X2 manifest) answer
+labelled_report_is law source manifest b answer is lawful r =
+    let all = all_under law source manifest b is lawful in
+    record { board = b; board_is = is; report = r; none_bare = none_bare b r.verdict r.right all; joins = joins_pieces b r.verdict r.right all }
 
-reason_of : (manifest : List ℕ) (held : Option Files) (before now : ℕ) (lost : List ℕ) (why : LabelledFault)
-    → HasLabelledCause held (λ files stop. IsFirstLabelledStop files manifest stop) (λ files name. LabelledComes files manifest name) before now lost why → HasReason (X2 manifest) held before now lost (unlabelled_of why)
-reason_of manifest held before now lost (labelled.Build why) h = h
-reason_of manifest held before now lost (labelled.Label name number byte) h = h
+-- ---- Where there is no board
 
 left_of : (before : ℕ) (was : List ℕ) (now : ℕ) (lost : List ℕ) (why : LabelledFault) → KeepsLabelledFaults before was now lost why → LeftBy before was now lost (unlabelled_of why)
 left_of before was now lost (labelled.Build why) h = h
 left_of before was now lost (labelled.Label name number byte) h = h
 
 -- a fault of the labelled board stops the work
-pub stopped_by : {P : Type 0} (files : P → Option Files) (faults : P → ℕ) (lost : P → List ℕ) (manifest : List ℕ) (old new : P) (why : LabelledFault) (result : Result Answer Unanswered)
-    → IsErrAnd result (λ u. u ≡ unlabelled_of why) → files new ≡ files old → faults old ≤ faults new → KeepsLabelledFaults (faults old) (lost old) (faults new) (lost new) why
-    → HasLabelledCause (files old) (λ f stop. IsFirstLabelledStop f manifest stop) (λ f name. LabelledComes f manifest name) (faults old) (faults new) (lost new) why
-    → Works files faults lost (X2 manifest) old new result
-stopped_by files faults lost manifest old new why (Ok answer) e held later left cause = absurd e
-stopped_by files faults lost manifest old new why (Err u) e held later left cause =
-    subst (λ (x : Unanswered). Works files faults lost (X2 manifest) old new (Err x)) (sym e)
-    (record { held = held; later = later; calm = tt; left = left_of (faults old) (lost old) (faults new) (lost new) why left; ok = tt; reason = reason_of manifest (files old) (faults old) (faults new) (lost new) why cause })
-
--- and so does want of memory
-pub wanting_by : {P : Type 0} (files : P → Option Files) (faults : P → ℕ) (lost : P → List ℕ) (manifest : List ℕ) (old new : P) (result : Result Answer Unanswered)
-    → IsErrAnd result (λ u. u ≡ Stopped build.NoMemory) → files new ≡ files old → faults old ≤ faults new → Works files faults lost (X2 manifest) old new result
-wanting_by files faults lost manifest old new (Ok answer) e held later = absurd e
-wanting_by files faults lost manifest old new (Err u) e held later =
-    subst (λ (x : Unanswered). Works files faults lost (X2 manifest) old new (Err x)) (sym e) (record { held = held; later = later; calm = tt; left = tt; ok = tt; reason = tt })
-
--- the report is its outcome
-pub reported_by : {P : Type 0} (files : P → Option Files) (faults : P → ℕ) (lost : P → List ℕ) (manifest : List ℕ) (old new : P) (b : PlainBoard) (answer : Answer) → LabelledPiecesAreUnder
-    → files new ≡ files old → faults old ≤ faults new → IsFaultless (faults old) (lost old) (faults new) (lost new)
-    → IfSome (files old) (λ f. IsLabelledBoardOf f manifest b) → IsLawfulBoard b → IsReportOn b answer.text.items (status_of answer.note) (line_of answer.note)
-    → Works files faults lost (X2 manifest) old new (Ok answer)
-reported_by files faults lost manifest old new b answer law held later calm is lawful report = record {
-  held = held;
-  later = later;
-  calm = calm;
-  left = tt;
-  ok = told_of (files old) (λ f. IsLabelledBoardOf f manifest b) (λ f. OutcomeOf f (X2 manifest) (Told answer.text.items (status_of answer.note) (line_of answer.note)))
-      (λ f i. labelled_report_is law f manifest b answer.text.items (status_of answer.note) (line_of answer.note) i lawful report) is;
-  reason = tt;
-}
-
--- ---- By what was handed over
+pub stopped_by : {P : Type 0} (files : P → Option Files) (faults : P → ℕ) (lost : P → List ℕ) (old new : P) (why : LabelledFault) (result : Result Answer Unanswered)
+    → IsErrAnd result (λ u. u ≡ unlabelled_of why) → files new ≡ files old → faults old ≤ faults new → KeepsLabelledFaults (faults old) (lost old) (faults new) (lost new) why → Leaves files faults lost old new result
+stopped_by files faults lost old new why (Ok answer) e held later left = absurd e
+stopped_by files faults lost old new why (Err u) e held later left =
+    subst (λ (x : Unanswered). Leaves files faults lost old new (Err x)) (sym e) (record { held = held; later = later; calm = tt; left = left_of (faults old) (lost old) (faults new) (lost new) why left })
 
 pub handed_reason : (manifest : List ℕ) (a b : List Handed) (before now : ℕ) (lost : List ℕ) (why : LabelledFault)
-    → HandedLabelledCause (λ stop. IsFirstLabelledStopHanded a b manifest stop) (λ name. LabelledComesHanded a b manifest name) before now lost why → HasHandedReason (account_of (X2 manifest) a b) before now lost (unlabelled_of why)
+    → HandedLabelledCause (λ stop. IsFirstLabelledStopHanded a b manifest stop) (λ name. LabelledComesHanded a b manifest name) before now lost why → HasHandedReason (HandedOver a b) (X2 manifest) before now lost (unlabelled_of why)
 handed_reason manifest a b before now lost (labelled.Build why) h = h
 handed_reason manifest a b before now lost (labelled.Label name number byte) h = h
-
-pub handed_report_is : LabelledPiecesAreUnder → (before after : List Handed) (manifest : List ℕ) (b : PlainBoard) (text : List ℕ) (status : ℕ) (line : List ℕ) → IsLabelledBoardHanded before after manifest b → IsLawfulBoard b → IsReportOn b text status line → IsHandedLabelledReport before after manifest text status line
-handed_report_is law before after manifest b text status line is lawful r =
-    let whole : IsLawfulBoard (labelled_board_of is.end.tables is.end.board) = subst IsLawfulBoard is.is lawful in
-    let all : AllUnder b = subst AllUnder (sym is.is) (law is.end.tables is.end.board whole) in
-    record {
-      board = b;
-      board_is = is;
-      verdict = r.verdict;
-      lawful = r.lawful;
-      right = r.right;
-      version_is = r.version_is;
-      none_bare = none_bare b r.verdict r.right all;
-      joins = joins_pieces b r.verdict r.right all;
-      text_is = r.text_is;
-      status_is = r.status_is;
-    }

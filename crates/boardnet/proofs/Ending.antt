@@ -1,40 +1,59 @@
 -- From the work of a command and what was put for it to what the command comes to.
-use Rattle.std.proofs.Common.{◌≡◌, ◌⊎◌, ◌≤◌, inl, inr, ℕ, true, false, List, Option, Result, Ok, Err, IfOk, MatchResult, codes, refl, sym, subst, arith}
+use Rattle.std.proofs.Common.{◌≡◌, ◌⊎◌, ◌≤◌, inl, inr, ℕ, Bool, true, false, List, Option, Result, Ok, Err, IfErr, IfOk, MatchResult, codes, refl, sym, subst, arith}
+use Rattle.std.specs.Prelude.{if◌then◌else◌}
 use Rattle.board_io.specs.Causes.{Rose}
 use Rattle.board_io.specs.Package.{Files, IsFaultless}
 use Rattle.board_io.specs.Sink.{Gains, GainsFrontOf}
 use Rattle.board_package.proofs.Lift.{told_all, told_of}
-use Rattle.board_package.specs.Causes.{IsUnread, KeepsFaults}
+use Rattle.board_package.specs.Causes.{HasCause, IsUnread, KeepsFaults}
 use Rattle.board_package.specs.PackageBoard.{Stop, longer, not_json, bad_manifest, refused, frame_too_large}
 use Rattle.board_package.specs.declared.fault.BuildFault.{BuildFault}
 use Rattle.board_package.specs.declared.fault.BuildFault.TheVariants as fault
 use Rattle.board_package.specs.declared.reading.Refusal.TheVariants as refusal
-use Rattle.boardnet.proofs.Sound.{OneOutcome, reason_line}
-use Rattle.boardnet.proofs.Tasks.{sound}
-use Rattle.boardnet.specs.Answers.{Refuses, RefusesFor, line_of, subject_of, report_of, status_of}
-use Rattle.boardnet.specs.Ends.{Ends, HasReason, HasText, Puts, StopsFor, TakesFiles, Works, cut, whole}
+use Rattle.boardnet.proofs.Sound.{OneOutcome}
+use Rattle.boardnet.proofs.Soundness.{sound}
+use Rattle.boardnet.specs.Answers.{IsAnswerTo, Refuses, RefusesFor, line_of, is_good, reason_line, subject_of, report_of, status_of}
+use Rattle.boardnet.specs.Ends.{Ends, HasText, Puts, StopsFor, TakesFiles, cut, whole}
 use Rattle.boardnet.specs.Kept.{LeftBy}
 use Rattle.boardnet.specs.Lines.{Says, file_line, plain_line}
-use Rattle.boardnet.specs.Outcome.{ComesFor, IsLineOf, OfFilesRead, OutcomeOf, Refused, Told, read_by}
+use Rattle.boardnet.specs.Outcome.{ComesFor, Held, IsLineOf, OfFilesRead, OutcomeOf, Refused, Told, read_by}
 use Rattle.boardnet.specs.Words.{Command, task_of, Flatten, Write}
 use Rattle.boardnet.specs.declared.answer.Answer.{Answer}
 use Rattle.boardnet.specs.declared.answer.Note.{Note}
-use Rattle.boardnet.specs.declared.answer.Note.TheVariants as note
 use Rattle.boardnet.specs.declared.answer.Unanswered.{Unanswered}
-use Rattle.boardnet.specs.declared.answer.Unanswered.TheVariants.{Stopped, NotAReport, SizeTooLarge, GrownTooLarge, Mislabelled, Unflat}
+use Rattle.boardnet.specs.declared.answer.Unanswered.TheVariants.{Stopped}
+
+-- ---- The work, by the files that the package tells
+
+-- why a command has no answer
+abbrev pub HasReason : Command → Option Files → ℕ → ℕ → List ℕ → Unanswered → Type 0
+HasReason command held before now lost (Stopped why) = HasCause (read_by command held) (λ files stop. StopsFor (Held files) command stop) (λ files name. ComesFor (Held files) command name) before now lost why
+HasReason command held before now lost other = OfFilesRead command held (λ files. (task_of command).refuses (Held files) other)
+
+-- The answer is the command's outcome, or there is a reason why there is
+-- none.
+pub record Works {P : Type 0} (files : P → Option Files) (faults : P → ℕ) (lost : P → List ℕ) (command : Command) (old new : P) (result : Result Answer Unanswered) : Type 0 where
+  pub held : files new ≡ files old
+  pub later : faults old ≤ faults new
+  -- an answer leaves the count of faults and the lost name as they were
+  pub calm : IfOk result (λ answer. IsFaultless (faults old) (lost old) (faults new) (lost new))
+  -- and where there is none they change only by a fault of reading or want of memory
+  pub left : IfErr result (LeftBy (faults old) (lost old) (faults new) (lost new))
+  pub ok : IfOk result (λ answer. OfFilesRead command (files old) (λ f. IsAnswerTo (Held f) command answer))
+  pub reason : IfErr result (HasReason command (files old) (faults old) (faults new) (lost new))
 
 -- ---- Why there is no answer
 
 -- The three ways to have none: the command is refused; a file cannot be read; memory is wanted.
 data Reason (c : Command) (held : Option Files) (before : ℕ) (was : List ℕ) (now : ℕ) (lost : List ℕ) (status : ℕ) (Line : List ℕ → Type 0) : Type 0 where
-  refusal_of : (line : List ℕ) → status ≡ 3 → OfFilesRead c held (λ f. OutcomeOf f c (Refused line) × (HasText f c → ⊥)) → Line line → IsFaultless before was now lost → Reason c held before was now lost status Line
-  unread_of : (name : List ℕ) → status ≡ 4 → IsUnread (read_by c held) (λ f name. ComesFor f c name) before now lost name → Line (file_line name (codes "cannot be read")) → Reason c held before was now lost status Line
+  refusal_of : (line : List ℕ) → status ≡ 3 → OfFilesRead c held (λ f. OutcomeOf (Held f) c (Refused line) × (HasText (Held f) c → ⊥)) → Line line → IsFaultless before was now lost → Reason c held before was now lost status Line
+  unread_of : (name : List ℕ) → status ≡ 4 → IsUnread (read_by c held) (λ f name. ComesFor (Held f) c name) before now lost name → Line (file_line name (codes "cannot be read")) → Reason c held before was now lost status Line
   wanting : status ≡ 6 → Line (plain_line (codes "out of memory")) → Reason c held before was now lost status Line
 
 stopped_by : OneOutcome → (c : Command) (held : Option Files) (before : ℕ) (was : List ℕ) (now : ℕ) (lost : List ℕ) (status : ℕ) (Line : List ℕ → Type 0) (stop : Stop) (line : List ℕ)
-    → status ≡ 3 → Line line → IsLineOf (subject_of c) stop line → OfFilesRead c held (λ f. StopsFor f c stop) → IsFaultless before was now lost → Reason c held before was now lost status Line
+    → status ≡ 3 → Line line → IsLineOf (subject_of c) stop line → OfFilesRead c held (λ f. StopsFor (Held f) c stop) → IsFaultless before was now lost → Reason c held before was now lost status Line
 stopped_by law c held before was now lost status Line stop line three said is s left =
-    refusal_of line three (told_of (read_by c held) (λ f. StopsFor f c stop) (λ f. OutcomeOf f c (Refused line) × (HasText f c → ⊥)) (λ f h. ((sound c).stop_outcome f stop line h is, (sound c).no_text law f stop h)) s) said left
+    refusal_of line three (told_of (read_by c held) (λ f. StopsFor (Held f) c stop) (λ f. OutcomeOf (Held f) c (Refused line) × (HasText (Held f) c → ⊥)) (λ f h. ((sound c).stop_outcome (Held f) stop line h is, (sound c).no_text law f stop h)) s) said left
 
 stopped_reason : OneOutcome → (c : Command) (held : Option Files) (before : ℕ) (was : List ℕ) (now : ℕ) (lost : List ℕ) (status : ℕ) (Line : List ℕ → Type 0) (why : BuildFault)
     → Refuses (subject_of c) why status Line → HasReason c held before now lost (Stopped why) → KeepsFaults before was now lost why → Reason c held before was now lost status Line
@@ -51,32 +70,20 @@ stopped_reason law c held before was now lost status Line (fault.Netlist name ki
 stopped_reason law c held before was now lost status Line (fault.FrameTooLarge box) said h left = stopped_by law c held before was now lost status Line (frame_too_large box) _ said.0 said.1 refl h left
 stopped_reason law c held before was now lost status Line fault.NoMemory said h left = wanting said.0 said.1
 
-refused_reason : OneOutcome → (c : Command) (held : Option Files) (before : ℕ) (was : List ℕ) (now : ℕ) (lost : List ℕ) (status : ℕ) (Line : List ℕ → Type 0) (why : Unanswered)
-    → (status ≡ 3) × Line (reason_line (subject_of c) (report_of c) why) → (task_of c).refuses held why → IsFaultless before was now lost → Reason c held before was now lost status Line
-refused_reason law c held before was now lost status Line why said h left = refusal_of _ said.0 ((sound c).refusal law held why h) said.1 left
-
 reason_of : OneOutcome → (c : Command) (held : Option Files) (before : ℕ) (was : List ℕ) (now : ℕ) (lost : List ℕ) (status : ℕ) (Line : List ℕ → Type 0) (why : Unanswered)
     → RefusesFor c why status Line → HasReason c held before now lost why → LeftBy before was now lost why → Reason c held before was now lost status Line
 reason_of law c held before was now lost status Line (Stopped why) said h left = stopped_reason law c held before was now lost status Line why said h left
-reason_of law c held before was now lost status Line NotAReport said h left = refused_reason law c held before was now lost status Line NotAReport said h left
-reason_of law c held before was now lost status Line SizeTooLarge said h left = refused_reason law c held before was now lost status Line SizeTooLarge said h left
-reason_of law c held before was now lost status Line (GrownTooLarge box) said h left = refused_reason law c held before was now lost status Line (GrownTooLarge box) said h left
-reason_of law c held before was now lost status Line (Mislabelled name number byte) said h left = refused_reason law c held before was now lost status Line (Mislabelled name number byte) said h left
-reason_of law c held before was now lost status Line (Unflat kind number byte) said h left = refused_reason law c held before was now lost status Line (Unflat kind number byte) said h left
+reason_of law c held before was now lost status Line other said h left =
+    refusal_of _ said.0 (told_of (read_by c held) (λ f. (task_of c).refuses (Held f) other) (λ f. OutcomeOf (Held f) c (Refused (reason_line (subject_of c) (report_of c) other)) × (HasText (Held f) c → ⊥)) (λ f r. ((sound c).refusal (Held f) other r, (sound c).no_refused_text law f other r)) h) said.1 left
 
 -- ---- What a command comes to
 
+at_most_one : (good : Bool) → (if good then 0 else 1) ≤ 1
+at_most_one true = omega arith
+at_most_one false = omega arith
+
 pub small_status : (n : Note) → status_of n ≤ 1
-small_status note.Agrees = omega arith
-small_status (note.Differs opens shorts missing) = omega arith
-small_status note.AuditTrue = omega arith
-small_status (note.AuditUntrue clause) = omega arith
-small_status (note.TrialDone true) = omega arith
-small_status (note.TrialDone false) = omega arith
-small_status note.NetlistWritten = omega arith
-small_status note.NoGaps = omega arith
-small_status (note.Gaps count) = omega arith
-small_status note.Flattened = omega arith
+small_status n = at_most_one (is_good n)
 
 -- an answer that was put whole
 ends_whole : {P S N : Type 0} (files : P → Option Files) (faults : P → ℕ) (lost : P → List ℕ) (got : S → Option (List ℕ)) (broken : S → ℕ) (noted : N → Option (List ℕ)) (failed : N → ℕ)
@@ -86,13 +93,13 @@ ends_whole : {P S N : Type 0} (files : P → Option Files) (faults : P → ℕ) 
     → Ends files faults lost got broken noted failed c p p' o o' n n' status
 ends_whole files faults lost got broken noted failed c p p' o o' n n' status answer w later is gains said =
     let small : status ≤ 1 = subst (λ (s : ℕ). s ≤ 1) (sym is) (small_status answer.note) in
-    let outcome : OfFilesRead c (files p) (λ f. OutcomeOf f c (Told answer.text.items status (line_of answer.note))) =
-    subst (λ (s : ℕ). OfFilesRead c (files p) (λ f. OutcomeOf f c (Told answer.text.items s (line_of answer.note)))) (sym is) w.ok in
+    let outcome : OfFilesRead c (files p) (λ f. OutcomeOf (Held f) c (Told answer.text.items status (line_of answer.note))) =
+    subst (λ (s : ℕ). OfFilesRead c (files p) (λ f. OutcomeOf (Held f) c (Told answer.text.items s (line_of answer.note)))) (sym is) w.ok in
     record {
       few = omega (arith, small);
       understood = λ two. omega (arith, small, two);
-      told = λ le. told_of (read_by c (files p)) (λ f. OutcomeOf f c (Told answer.text.items status (line_of answer.note)))
-          (λ f. (text line : List ℕ) × OutcomeOf f c (Told text status line) × Gains (got o) text (got o') × Says noted failed n n' line) (λ f h. (answer.text.items, line_of answer.note, h, gains, said)) outcome;
+      told = λ le. told_of (read_by c (files p)) (λ f. OutcomeOf (Held f) c (Told answer.text.items status (line_of answer.note)))
+          (λ f. (text line : List ℕ) × OutcomeOf (Held f) c (Told text status line) × Gains (got o) text (got o') × Says noted failed n n' line) (λ f h. (answer.text.items, line_of answer.note, h, gains, said)) outcome;
       refused = λ three. absurd (omega (arith, small, three));
       unreadable = λ four. absurd (omega (arith, small, four));
       unread = λ four. absurd (omega (arith, small, four));
@@ -102,7 +109,7 @@ ends_whole files faults lost got broken noted failed c p p' o o' n n' status ans
       silent = λ two other. absurd (omega (arith, small, two));
       kept = record { held = w.held; later = w.later; calm = λ four six. w.calm };
       later = later;
-      complete = told_all (read_by c (files p)) (λ f. HasText f c → (TakesFiles c → Rose (faults p) (faults p') → ⊥) → (Rose (broken o) (broken o') → ⊥) → (status ≤ 1) ⊎ (status ≡ 6)) (λ f text calm quiet. inl small);
+      complete = told_all (read_by c (files p)) (λ f. HasText (Held f) c → (TakesFiles c → Rose (faults p) (faults p') → ⊥) → (Rose (broken o) (broken o') → ⊥) → (status ≤ 1) ⊎ (status ≡ 6)) (λ f text calm quiet. inl small);
     }
 
 -- an answer that was put in part
@@ -119,20 +126,20 @@ ends_cut files faults lost got broken noted failed c p p' o o' n n' status answe
   unreadable = λ four. absurd (omega (arith, is, four));
   unread = λ four. absurd (omega (arith, is, four));
   unwritable = λ five. (rose, said);
-  front = λ five. told_of (read_by c (files p)) (λ f. OutcomeOf f c (Told answer.text.items (status_of answer.note) (line_of answer.note)))
-      (λ f. (text line : List ℕ) × (s : ℕ) × OutcomeOf f c (Told text s line) × GainsFrontOf (got o) text (got o')) (λ f h. (answer.text.items, line_of answer.note, status_of answer.note, h, gains)) w.ok;
+  front = λ five. told_of (read_by c (files p)) (λ f. OutcomeOf (Held f) c (Told answer.text.items (status_of answer.note) (line_of answer.note)))
+      (λ f. (text line : List ℕ) × (s : ℕ) × OutcomeOf (Held f) c (Told text s line) × GainsFrontOf (got o) text (got o')) (λ f h. (answer.text.items, line_of answer.note, status_of answer.note, h, gains)) w.ok;
   memory = λ six. absurd (omega (arith, is, six));
   silent = λ two other. absurd (other is);
   kept = record { held = w.held; later = w.later; calm = λ four six. w.calm };
   later = later;
-  complete = told_all (read_by c (files p)) (λ f. HasText f c → (TakesFiles c → Rose (faults p) (faults p') → ⊥) → (Rose (broken o) (broken o') → ⊥) → (status ≤ 1) ⊎ (status ≡ 6)) (λ f text calm quiet. absurd (quiet rose));
+  complete = told_all (read_by c (files p)) (λ f. HasText (Held f) c → (TakesFiles c → Rose (faults p) (faults p') → ⊥) → (Rose (broken o) (broken o') → ⊥) → (status ≤ 1) ⊎ (status ≡ 6)) (λ f text calm quiet. absurd (quiet rose));
 }
 
 -- a file that cannot be read is one that the command takes
-never_unread : (c : Command) (held : Option Files) (A B : Type 0) (status : ℕ) (name : List ℕ) → OfFilesRead c held (λ f. ComesFor f c name) → A
-    → OfFilesRead c held (λ f. HasText f c → (TakesFiles c → A → ⊥) → (B → ⊥) → (status ≤ 1) ⊎ (status ≡ 6))
+never_unread : (c : Command) (held : Option Files) (A B : Type 0) (status : ℕ) (name : List ℕ) → OfFilesRead c held (λ f. ComesFor (Held f) c name) → A
+    → OfFilesRead c held (λ f. HasText (Held f) c → (TakesFiles c → A → ⊥) → (B → ⊥) → (status ≤ 1) ⊎ (status ≡ 6))
 never_unread c held A B status name comes rose =
-    told_of (read_by c held) (λ f. ComesFor f c name) (λ f. HasText f c → (TakesFiles c → A → ⊥) → (B → ⊥) → (status ≤ 1) ⊎ (status ≡ 6)) (λ f h text calm quiet. absurd (calm ((sound c).takes_what_comes f name h) rose)) comes
+    told_of (read_by c held) (λ f. ComesFor (Held f) c name) (λ f. HasText (Held f) c → (TakesFiles c → A → ⊥) → (B → ⊥) → (status ≤ 1) ⊎ (status ≡ 6)) (λ f h text calm quiet. absurd (calm ((sound c).takes_what_comes f name h) rose)) comes
 
 -- no answer
 ends_without : {P S N : Type 0} (files : P → Option Files) (faults : P → ℕ) (lost : P → List ℕ) (got : S → Option (List ℕ)) (broken : S → ℕ) (noted : N → Option (List ℕ)) (failed : N → ℕ)
@@ -144,7 +151,7 @@ ends_without files faults lost got broken noted failed c p p' o o' n n' status h
   few = omega (arith, is);
   understood = λ two. omega (arith, is, two);
   told = λ le. absurd (omega (arith, is, le));
-  refused = λ three. told_of (read_by c (files p)) (λ f. OutcomeOf f c (Refused line) × (HasText f c → ⊥)) (λ f. (line : List ℕ) × OutcomeOf f c (Refused line) × Says noted failed n n' line) (λ f h. (line, h.0, said)) outcome;
+  refused = λ three. told_of (read_by c (files p)) (λ f. OutcomeOf (Held f) c (Refused line) × (HasText (Held f) c → ⊥)) (λ f. (line : List ℕ) × OutcomeOf (Held f) c (Refused line) × Says noted failed n n' line) (λ f h. (line, h.0, said)) outcome;
   unreadable = λ four. absurd (omega (arith, is, four));
   unread = λ four. absurd (omega (arith, is, four));
   unwritable = λ five. absurd (omega (arith, is, five));
@@ -153,7 +160,7 @@ ends_without files faults lost got broken noted failed c p p' o o' n n' status h
   silent = λ two other. same;
   kept = record { held = held; later = rises; calm = λ four six. left };
   later = later;
-  complete = told_of (read_by c (files p)) (λ f. OutcomeOf f c (Refused line) × (HasText f c → ⊥)) (λ f. HasText f c → (TakesFiles c → Rose (faults p) (faults p') → ⊥) → (Rose (broken o) (broken o') → ⊥) → (status ≤ 1) ⊎ (status ≡ 6))
+  complete = told_of (read_by c (files p)) (λ f. OutcomeOf (Held f) c (Refused line) × (HasText (Held f) c → ⊥)) (λ f. HasText (Held f) c → (TakesFiles c → Rose (faults p) (faults p') → ⊥) → (Rose (broken o) (broken o') → ⊥) → (status ≤ 1) ⊎ (status ≡ 6))
       (λ f h text calm quiet. absurd (h.1 text)) outcome;
 }
 ends_without files faults lost got broken noted failed c p p' o o' n n' status held rises later same (unread_of name is u said) = record {
@@ -162,7 +169,7 @@ ends_without files faults lost got broken noted failed c p p' o o' n n' status h
   told = λ le. absurd (omega (arith, is, le));
   refused = λ three. absurd (omega (arith, is, three));
   unreadable = λ four. (u.rose, subst (λ (z : List ℕ). Says noted failed n n' (file_line z (codes "cannot be read"))) (sym u.lost_is) said);
-  unread = λ four. subst (λ (z : List ℕ). OfFilesRead c (files p) (λ f. ComesFor f c z)) (sym u.lost_is) u.comes;
+  unread = λ four. subst (λ (z : List ℕ). OfFilesRead c (files p) (λ f. ComesFor (Held f) c z)) (sym u.lost_is) u.comes;
   unwritable = λ five. absurd (omega (arith, is, five));
   front = λ five. absurd (omega (arith, is, five));
   memory = λ six. absurd (omega (arith, is, six));
@@ -184,7 +191,7 @@ ends_without files faults lost got broken noted failed c p p' o o' n n' status h
   silent = λ two other. same;
   kept = record { held = held; later = rises; calm = λ four six. absurd (six is) };
   later = later;
-  complete = told_all (read_by c (files p)) (λ f. HasText f c → (TakesFiles c → Rose (faults p) (faults p') → ⊥) → (Rose (broken o) (broken o') → ⊥) → (status ≤ 1) ⊎ (status ≡ 6)) (λ f text calm quiet. inr is);
+  complete = told_all (read_by c (files p)) (λ f. HasText (Held f) c → (TakesFiles c → Rose (faults p) (faults p') → ⊥) → (Rose (broken o) (broken o') → ⊥) → (status ≤ 1) ⊎ (status ≡ 6)) (λ f text calm quiet. inr is);
 }
 
 pub ends : {P S N : Type 0} (files : P → Option Files) (faults : P → ℕ) (lost : P → List ℕ) (got : S → Option (List ℕ)) (broken : S → ℕ) (noted : N → Option (List ℕ)) (failed : N → ℕ)
@@ -212,11 +219,7 @@ not_one c (Stopped (fault.Drill name kind number byte)) status Line (is, said) o
 not_one c (Stopped (fault.Netlist name kind number)) status Line (is, said) one = absurd (omega (arith, is, one))
 not_one c (Stopped (fault.FrameTooLarge box)) status Line (is, said) one = absurd (omega (arith, is, one))
 not_one c (Stopped fault.NoMemory) status Line (is, said) one = absurd (omega (arith, is, one))
-not_one c NotAReport status Line (is, said) one = absurd (omega (arith, is, one))
-not_one c SizeTooLarge status Line (is, said) one = absurd (omega (arith, is, one))
-not_one c (GrownTooLarge box) status Line (is, said) one = absurd (omega (arith, is, one))
-not_one c (Mislabelled name number byte) status Line (is, said) one = absurd (omega (arith, is, one))
-not_one c (Unflat kind number byte) status Line (is, said) one = absurd (omega (arith, is, one))
+not_one c other status Line (is, said) one = absurd (omega (arith, is, one))
 
 pub unjudged : {S N : Type 0} (got : S → Option (List ℕ)) (broken : S → ℕ) (noted : N → Option (List ℕ)) (failed : N → ℕ) (c : Command) (o o' : S) (n n' : N) (status : ℕ) (given : Result Answer Unanswered)
     → IfOk given (λ answer. (name : List ℕ) → (c ≡ Write name) ⊎ (c ≡ Flatten name) → status_of answer.note ≡ 0)

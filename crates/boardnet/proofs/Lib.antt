@@ -1,10 +1,12 @@
 pub mod Accounts
 pub mod Agreeable
+pub mod Alike
 pub mod Ending
 pub mod OnBoard
+pub mod OneOutcome
 pub mod Says
 pub mod Sound
-pub mod Tasks
+pub mod Soundness
 pub mod Audits
 pub mod ByLabels
 pub mod Asking
@@ -12,6 +14,5 @@ pub mod Named
 pub mod Netlists
 pub mod Passes
 pub mod TwoCalls
-pub mod Working
 pub mod Trials
 pub mod Supplements

@@ -69,19 +69,19 @@ status_of v status line agrees (inr (differs, is, said)) = absurd (differs agree
 pub written_netlists_pass : ((files : Files) (name : List ℕ) → HasOneOutcome files name) → BoardsAreWritable → WrittenNetlistReads → WrittenNetlistsAreShort → WrittenNetlistAgrees → WrittenNetlistsPass
 written_netlists_pass one writable reads short agrees before after manifest text line status w h =
     let b : PlainBoard = w.board in
-    let forest = forest_on b w.verdict w.right in
-    let can : IsWritable b.layers w.verdict.nets b.pieces = writable b w.verdict.nets w.limits.lawful w.limits.few_pieces w.limits.few_layers forest.trees in
-    let probes : List Probe = probes_written b.layers w.verdict.nets b.pieces in
-    let names : List (List ℕ) = names_written b.layers w.verdict.nets b.pieces in
-    let own : IsRead (written_netlist_of b.layers w.verdict.nets b.pieces) b.layers probes names = (reads b.layers w.verdict.nets b.pieces can).read in
-    let read : IsRead text b.layers probes names = subst (λ (t : List ℕ). IsRead t b.layers probes names) (sym w.text_is) own in
-    let few : length text ≤ most_bytes = subst (λ (t : List ℕ). length t ≤ most_bytes) (sym w.text_is) (short b.layers w.verdict.nets b.pieces can) in
+    let forest = forest_on b w.netlist.verdict w.netlist.right in
+    let can : IsWritable b.layers w.netlist.verdict.nets b.pieces = writable b w.netlist.verdict.nets w.limits.lawful w.limits.few_pieces w.limits.few_layers forest.trees in
+    let probes : List Probe = probes_written b.layers w.netlist.verdict.nets b.pieces in
+    let names : List (List ℕ) = names_written b.layers w.netlist.verdict.nets b.pieces in
+    let own : IsRead (written_netlist_of b.layers w.netlist.verdict.nets b.pieces) b.layers probes names = (reads b.layers w.netlist.verdict.nets b.pieces can).read in
+    let read : IsRead text b.layers probes names = subst (λ (t : List ℕ). IsRead t b.layers probes names) (sym w.netlist.text_is) own in
+    let few : length text ≤ most_bytes = subst (λ (t : List ℕ). length t ≤ most_bytes) (sym w.netlist.text_is) (short b.layers w.netlist.verdict.nets b.pieces can) in
     let is : IsBoardOf after manifest (with_netlist b probes names) = board_after before after manifest text b probes names w.board_is h few read in
     record {
       fits = (with_netlist b probes names, is);
       agrees = λ version report said told c. (
           let same : c.board ≡ with_netlist b probes names = (one after manifest).one_board c.board (with_netlist b probes names) c.board_is is in
-          status_of c.verdict told said
-          (agrees b w.verdict.nets probes names can forest own c.right.tables c.verdict (subst (λ (z : PlainBoard). IsTables z c.right.tables) same c.right.tables_are) c.right.right)
-          c.status_is);
+          status_of c.good.verdict told said
+          (agrees b w.netlist.verdict.nets probes names can forest own c.good.right.tables c.good.verdict (subst (λ (z : PlainBoard). IsTables z c.good.right.tables) same c.good.right.tables_are) c.good.right.right)
+          c.good.status_is);
     }

@@ -26,10 +26,12 @@ still_board before after report text manifest board h b = record {
 pub reports_pass : ReportsPass
 reports_pass before after version manifest report text line status r h = record {
   board = r.board;
-  board_is = still_board before after report text manifest r.board h r.board_is;
-  tables = r.right.tables;
-  tables_are = r.right.tables_are;
-  verdict = r.verdict;
-  read = record { bytes = text; held = record { held = h.held; short = h.short }; good = record { lawful = r.lawful; text_is = r.text_is } };
-  ruling = inl (r.right.right, refl, refl, refl);
+  tables = r.good.right.tables;
+  tables_are = r.good.right.tables_are;
+  verdict = r.good.verdict;
+  read = (
+    still_board before after report text manifest r.board h r.board_is,
+    record { bytes = text; file = record { held = h.held; short = h.short }; good = record { lawful = r.good.lawful; text_is = r.good.text_is } },
+  );
+  ruling = inl (r.good.right.right, refl, refl, refl);
 }

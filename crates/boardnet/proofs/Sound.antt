@@ -1,24 +1,31 @@
 -- What holds of what is told of a command, whatever it is.
-use Rattle.std.proofs.Common.{◌≡◌, ◌<◌, ◌^◌, ℕ, List, Option, Some, codes, decimal, String}
+use Rattle.std.proofs.Common.{◌≡◌, ◌<◌, ◌^◌, ℕ, List, Option, Some, IfSome, decimal, String}
 use Rattle.std.proofs.lemmas.Fmt.{decimal_is_IsNumeral}
 use Rattle.std.specs.Prelude.{map, string_bytes}
 use Rattle.std.specs.Str.Parse.{digits_value}
 use Rattle.std.specs.declared.alloc.Global.{Global}
 use Rattle.board_io.specs.Handed.{AgreeWith, Handed}
 use Rattle.board_io.specs.Package.{Files}
-use Rattle.board_package.specs.HandedLaw.{HandedIsHeld}
+use Rattle.board_package.specs.HandedLaw.{HandedIsHeld, HoldsWhatWasHanded}
 use Rattle.board_package.specs.Laws.{HasOneLabelledOutcome, HasOneOutcome}
 use Rattle.board_package.specs.PackageBoard.{Stop}
+use Rattle.board_shapes.specs.Plain.{PlainBoard}
+use Rattle.gaps.specs.Laws.{GapsAreOne}
 use Rattle.gerber_layer.specs.MacroLayer.{HasOneMacroAnswer}
-use Rattle.boardnet.specs.Answers.{fault_line}
-use Rattle.boardnet.specs.Lines.{file_line, frame_line, label_line, plain_line}
-use Rattle.boardnet.specs.HandedOutcome.{account_of}
-use Rattle.boardnet.specs.Outcome.{ComesFor, IsLineOf, OfFilesRead, Outcome, OutcomeOf, Refused, flatten_line}
-use Rattle.boardnet.specs.Task.{Account}
+use Rattle.boardnet.specs.Answers.{reason_line}
+use Rattle.boardnet.specs.Common.{IsRefusal}
+use Rattle.boardnet.specs.OneOutcome.{AreAlike}
+use Rattle.boardnet.specs.Outcome.{ComesFor, HandedOver, Held, IsLineOf, OfFilesRead, Outcome, OutcomeOf, Refused, Source}
+use Rattle.boardnet.specs.Source.{FitsWith}
 use Rattle.boardnet.specs.commands.{command_of_words, task_of}
 use Rattle.boardnet.specs.Words.{Asks, Command}
 use Rattle.boardnet.specs.declared.answer.Unanswered.{Unanswered}
-use Rattle.boardnet.specs.declared.answer.Unanswered.TheVariants.{Stopped, NotAReport, SizeTooLarge, GrownTooLarge, Mislabelled, Unflat}
+use Rattle.tables.specs.Consistent.{AreConsistent}
+use Rattle.tables.specs.Tables.{Tables}
+use Rattle.verdict.specs.Laws.{ReportTextIsInjective}
+use Rattle.verdict.specs.Right.{IsRight}
+use Rattle.verdict.specs.declared.verdict.Verdict.{Verdict}
+use Rattle.witness_check.specs.Laws.{DifferInWitnessesOnly}
 
 -- each package has one outcome, with its netlist and by its labels, and each copper file that may have macros one answer
 pub record OneOutcome : Type 0 where
@@ -26,25 +33,19 @@ pub record OneOutcome : Type 0 where
   pub labelled : (files : Files) (manifest : List ℕ) → HasOneLabelledOutcome files manifest
   pub flat : (file : List ℕ) → HasOneMacroAnswer file
 
--- the line that says why a command has no answer
-abbrev pub reason_line : (subject report : List ℕ) → Unanswered → List ℕ
-reason_line subject report (Stopped why) = fault_line subject why
-reason_line subject report NotAReport = file_line report (codes "not a report")
-reason_line subject report SizeTooLarge = plain_line (codes "trial size too large")
-reason_line subject report (GrownTooLarge box) = frame_line box
-reason_line subject report (Mislabelled name number byte) = label_line name number byte
-reason_line subject report (Unflat kind number byte) = flatten_line subject kind number byte
+-- what lower laws say: that outcomes of packages and files are one, and what is the same in all right verdicts of one board
+pub record Laws : Type 0 where
+  pub one : OneOutcome
+  pub witnesses : (board : Tables) (v w : Verdict) → AreConsistent board → IsRight board v → IsRight board w → DifferInWitnessesOnly v w
+  pub texts : ReportTextIsInjective
+  pub gaps : GapsAreOne
 
--- the reason is a refusal of the command, and it has no text then
-abbrev pub IsRefusedFor : Command → Unanswered → Files → Type 0
-IsRefusedFor c why f = (task_of c).outcome f (Refused (reason_line (task_of c).subject (task_of c).report why)) × ((task_of c).has_text f → ⊥)
-
--- what is said of what was handed over holds of files
-pub record HoldsAccount (c : Command) (f : Files) (account : Account) : Type 0 where
-  pub outcome : (o : Outcome) → account.outcome o → OfFilesRead c (Some f) (λ g. OutcomeOf g c o)
-  pub stops : (stop : Stop) → account.stops stop → OfFilesRead c (Some f) (λ g. (task_of c).stops g stop)
-  pub comes : (name : List ℕ) → account.comes name → OfFilesRead c (Some f) (λ g. ComesFor g c name)
-  pub refuses : (why : Unanswered) → account.refuses why → (task_of c).refuses (Some f) why
+-- what is said of what was handed over holds of the files, where they are told
+pub record HoldsHanded (c : Command) (held : Option Files) (a b : List Handed) : Type 0 where
+  pub outcome : (o : Outcome) → OutcomeOf (HandedOver a b) c o → OfFilesRead c held (λ g. OutcomeOf (Held g) c o)
+  pub stops : (stop : Stop) → (task_of c).stops (HandedOver a b) stop → OfFilesRead c held (λ g. (task_of c).stops (Held g) stop)
+  pub comes : (name : List ℕ) → ComesFor (HandedOver a b) c name → OfFilesRead c held (λ g. ComesFor (Held g) c name)
+  pub refuses : (why : Unanswered) → (task_of c).refuses (HandedOver a b) why → OfFilesRead c held (λ g. (task_of c).refuses (Held g) why)
 
 -- what holds of a command
 pub record Sound (c : Command) : Type 0 where
@@ -54,19 +55,27 @@ pub record Sound (c : Command) : Type 0 where
   pub asks : (words : List (String Global)) → map string_bytes words ≡ (task_of c).spelled → (task_of c).in_range → Asks words c
   -- of words that are spelled so it is the command
   pub read : (task_of c).in_range → command_of_words (task_of c).spelled ≡ Some c
-  -- a stop with its line is a refusal of it
-  pub stop_outcome : (f : Files) (stop : Stop) (line : List ℕ) → (task_of c).stops f stop → IsLineOf (task_of c).subject stop line → (task_of c).outcome f (Refused line)
-  -- with a stop it has no text
-  pub no_text : OneOutcome → (f : Files) (stop : Stop) → (task_of c).stops f stop → (task_of c).has_text f → ⊥
-  -- what else it refuses is a refusal of it
-  pub refusal : OneOutcome → (held : Option Files) (why : Unanswered) → (task_of c).refuses held why → OfFilesRead c held (λ f. IsRefusedFor c why f)
+  -- a stop with its line is a refusal of it, and so is what else it refuses
+  pub stop_outcome : (source : Source) (stop : Stop) (line : List ℕ) → (task_of c).stops source stop → IsLineOf (task_of c).subject stop line → OutcomeOf source c (Refused line)
+  pub refusal : (source : Source) (why : Unanswered) → (task_of c).refuses source why → OutcomeOf source c (Refused (reason_line (task_of c).subject (task_of c).report why))
+  -- it has no text then
+  pub no_text : OneOutcome → (f : Files) (stop : Stop) → (task_of c).stops (Held f) stop → (task_of c).has_text (Held f) → ⊥
+  pub no_refused_text : OneOutcome → (f : Files) (why : Unanswered) → (task_of c).refuses (Held f) why → (task_of c).has_text (Held f) → ⊥
   -- a file that cannot be read is one that it takes
-  pub takes_what_comes : (f : Files) (name : List ℕ) → (task_of c).comes f name → (task_of c).takes
-  -- the same by what was handed over, of which all files that agree with it hold the same
-  pub handed_stop : (a b : List Handed) (stop : Stop) (line : List ℕ) → (account_of c a b).stops stop → IsLineOf (task_of c).subject stop line → (account_of c a b).outcome (Refused line)
-  pub handed_refusal : (a b : List Handed) (why : Unanswered) → (account_of c a b).refuses why → (account_of c a b).outcome (Refused (reason_line (task_of c).subject (task_of c).report why))
-  pub agrees : HandedIsHeld → (f : Files) (a b : List Handed) → AgreeWith f a b → HoldsAccount c f (account_of c a b)
+  pub takes_what_comes : (f : Files) (name : List ℕ) → ComesFor (Held f) c name → (task_of c).takes
+  -- over the same files it has one status and one line
+  pub alike : Laws → (f : Files) (o p : Outcome) → OfFilesRead c (Some f) (λ g. OutcomeOf (Held g) c o) → OfFilesRead c (Some f) (λ g. OutcomeOf (Held g) c p) → AreAlike o p
+  -- what it comes to by what was handed over it comes to by all files that agree with that
+  pub agrees : HandedIsHeld → (held : Option Files) (a b : List Handed) → IfSome held (λ f. AgreeWith f a b) → HoldsHanded c held a b
 
 -- the number that a decimal spells
 pub value : (n : ℕ) → n < 2 ^ 64 → digits_value 10 (decimal n) ≡ n
 value n small = (decimal_is_IsNumeral n small).1
+
+-- ---- Of files that agree with what was handed over
+
+pub held_fit : {f : Files} {a b : List Handed} {manifest : List ℕ} {P : PlainBoard → Type 0} → HoldsWhatWasHanded f a b manifest → FitsWith (HandedOver a b) manifest P → FitsWith (Held f) manifest P
+held_fit h x = record { board = x.board; board_is = h.board x.board x.board_is; good = x.good }
+
+pub held_refusal : {f : Files} {a b : List Handed} {manifest line : List ℕ} → HoldsWhatWasHanded f a b manifest → IsRefusal (HandedOver a b) manifest line → IsRefusal (Held f) manifest line
+held_refusal h x = record { stop = x.stop; first = h.stop x.stop x.first; line_is = x.line_is }

@@ -9,7 +9,7 @@ use Rattle.board_io.specs.Package.{Files}
 use Rattle.board_io.specs.Sink.{Gains}
 use Rattle.board_package.specs.PackageBoard.{most_bytes}
 use Rattle.boardnet.specs.Laws.{HoldsReport, ReportsPass}
-use Rattle.boardnet.specs.Outcome.{IsAnswer, IsReport}
+use Rattle.boardnet.specs.Outcome.{Held, IsAnswer, IsReport}
 use Rattle.boardnet.specs.Words.{IsAudit, IsCheck}
 use Rattle.boardnet.specs.declared.words.Version.{Version}
 
@@ -38,10 +38,10 @@ rose_from start mid now le rose = omega arith
 
 -- a report is written, and an answer is answered
 abbrev pub Wrote : Files → List (String Global) → ℕ → List ℕ → Type 0
-Wrote files words status got = (version : Version) (name : List ℕ) → IsCheck words version name → (text line : List ℕ) × IsReport files version name text status line × (got ≡ text)
+Wrote files words status got = (version : Version) (name : List ℕ) → IsCheck words version name → (text line : List ℕ) × IsReport (Held files) version name text status line × (got ≡ text)
 
 abbrev pub Rules : Files → List (String Global) → ℕ → Type 0 → Type 0 → Type 0
-Rules files words status A B = (manifest report : List ℕ) → IsAudit words manifest report → (text line : List ℕ) (s : ℕ) → IsAnswer files manifest report text s line → (A → ⊥) → (B → ⊥) → (status ≡ s) ⊎ (status ≡ 6)
+Rules files words status A B = (manifest report : List ℕ) → IsAudit words manifest report → (text line : List ℕ) (s : ℕ) → IsAnswer (Held files) manifest report text s line → (A → ⊥) → (B → ⊥) → (status ≡ s) ⊎ (status ≡ 6)
 
 pub passes : (before mid after : Files) (checking auditing : List (String Global)) (report got bytes : List ℕ) (checked status : ℕ) (A B : Type 0) → ReportsPass
     → (version : Version) (manifest : List ℕ) → IsCheck checking version manifest → IsAudit auditing manifest report → before report ≡ None → mid ≡ before
@@ -51,4 +51,4 @@ passes before mid after checking auditing report got bytes checked status A B la
     let (text, line, is, all) = wrote version manifest check in
     let is_text : text ≡ bytes = sym (same ∙ all) in
     let holds : HoldsReport before after report bytes = holds_report before mid after report bytes m free also short in
-    rules manifest report audit _ _ 0 (law before after version manifest report bytes line checked (subst (λ (z : List ℕ). IsReport before version manifest z checked line) is_text is) holds) calm quiet
+    rules manifest report audit _ _ 0 (law before after version manifest report bytes line checked (subst (λ (z : List ℕ). IsReport (Held before) version manifest z checked line) is_text is) holds) calm quiet

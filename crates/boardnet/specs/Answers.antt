@@ -1,13 +1,10 @@
 -- What the parts of the top call answer.
-use Rattle.std.specs.Prelude.{◌≡◌, ℕ, List, ◌++◌, if◌then◌else◌, codes, decimal}
-use Rattle.board_io.specs.Package.{Files}
-use Rattle.board_package.specs.PackageBoard.{IsBoardOf, IsHeldWith}
+use Rattle.std.specs.Prelude.{◌≡◌, ℕ, Bool, true, false, List, ◌++◌, if◌then◌else◌, codes, decimal}
 use Rattle.board_package.specs.declared.fault.BuildFault.{BuildFault}
 use Rattle.board_package.specs.declared.fault.BuildFault.TheVariants as fault
 use Rattle.board_package.specs.declared.fault.LabelledFault.{LabelledFault}
 use Rattle.board_package.specs.declared.fault.LabelledFault.TheVariants as labelled
 use Rattle.board_package.specs.declared.reading.Refusal.TheVariants.{Layer, Drill, Netlist}
-use Rattle.board_shapes.specs.Laws.{HasOneTables}
 use Rattle.board_shapes.specs.Plain.{PlainBoard}
 use Rattle.board_shapes.specs.Tables.{IsTables}
 use Rattle.board_maker.specs.declared.made.MakeFault.{MakeFault}
@@ -18,8 +15,7 @@ use Rattle.gerber_layer.specs.declared.macro_kind.FlattenFault.TheVariants as fl
 use Rattle.gaps.specs.declared.listing.GapFault.{GapFault}
 use Rattle.gaps.specs.declared.listing.GapFault.TheVariants as gap
 use Rattle.boardnet.specs.Lines.{counted_line, plain_line, file_line, differs_line, frame_line, label_line, end}
-use Rattle.boardnet.specs.Outcome.{flatten_line, refusal_line, IsNoReport, IsTextOf}
-pub use Rattle.boardnet.specs.commands.Audit.{IsNoText}
+use Rattle.boardnet.specs.Outcome.{OutcomeOf, Source, Told, flatten_line, refusal_line, IsNoReport, IsTextOf}
 use Rattle.boardnet.specs.Words.{Command, task_of}
 use Rattle.boardnet.specs.declared.answer.Answer.{Answer}
 use Rattle.boardnet.specs.declared.answer.Note.{Note}
@@ -32,17 +28,21 @@ use Rattle.witness_check.specs.Ruled.{Rules}
 use Rattle.witness_check.specs.declared.auditing.Ruling.{Ruling}
 use Rattle.witness_check.specs.declared.auditing.Ruling.TheVariants.{True, Untrue}
 
+-- the answer is one that finds no fault
+abbrev pub is_good : Note → Bool
+is_good note.Agrees = true
+is_good (note.Differs opens shorts missing) = false
+is_good note.AuditTrue = true
+is_good (note.AuditUntrue clause) = false
+is_good (note.TrialDone agrees) = agrees
+is_good note.NetlistWritten = true
+is_good note.NoGaps = true
+is_good (note.Gaps count) = false
+is_good note.Flattened = true
+
 -- the status of an answer
 abbrev pub status_of : Note → ℕ
-status_of note.Agrees = 0
-status_of (note.Differs opens shorts missing) = 1
-status_of note.AuditTrue = 0
-status_of (note.AuditUntrue clause) = 1
-status_of (note.TrialDone agrees) = if agrees then 0 else 1
-status_of note.NetlistWritten = 0
-status_of note.NoGaps = 0
-status_of (note.Gaps count) = 1
-status_of note.Flattened = 0
+status_of n = if is_good n then 0 else 1
 
 -- the line about an answer
 abbrev pub line_of : Note → List ℕ
@@ -55,6 +55,10 @@ line_of note.NetlistWritten = plain_line (codes "netlist written")
 line_of note.NoGaps = plain_line (codes "no gaps")
 line_of (note.Gaps count) = counted_line (codes "gaps ") count
 line_of note.Flattened = plain_line (codes "flattened")
+
+-- an answer is the outcome of a command
+abbrev pub IsAnswerTo : Source → Command → Answer → Type 0
+IsAnswerTo source command answer = OutcomeOf source command (Told answer.text.items (status_of answer.note) (line_of answer.note))
 
 -- why a report is not ruled on: it is the text of no verdict, or memory is wanted
 abbrev pub IsUnruled : List ℕ → Unanswered → Type 0
@@ -117,14 +121,23 @@ subject_of command = (task_of command).subject
 abbrev pub report_of : Command → List ℕ
 report_of command = (task_of command).report
 
--- the status where a command has no answer, and its line
+-- the status where a command has no answer
+abbrev pub reason_status : Unanswered → ℕ
+reason_status (Stopped why) = fault_status why
+reason_status other = 3
+
+-- the line then, by the names of what the command is about and of its report
+abbrev pub reason_line : (subject report : List ℕ) → Unanswered → List ℕ
+reason_line subject report (Stopped why) = fault_line subject why
+reason_line subject report NotAReport = file_line report (codes "not a report")
+reason_line subject report SizeTooLarge = plain_line (codes "trial size too large")
+reason_line subject report (GrownTooLarge box) = frame_line box
+reason_line subject report (Mislabelled name number byte) = label_line name number byte
+reason_line subject report (Unflat kind number byte) = flatten_line subject kind number byte
+
+-- the status is the reason's, and `Line` holds of its line
 abbrev pub RefusesFor : Command → Unanswered → ℕ → (List ℕ → Type 0) → Type 0
-RefusesFor command (Stopped why) status Line = Refuses (subject_of command) why status Line
-RefusesFor command NotAReport status Line = (status ≡ 3) × Line (file_line (report_of command) (codes "not a report"))
-RefusesFor command SizeTooLarge status Line = (status ≡ 3) × Line (plain_line (codes "trial size too large"))
-RefusesFor command (GrownTooLarge box) status Line = (status ≡ 3) × Line (frame_line box)
-RefusesFor command (Mislabelled name number byte) status Line = (status ≡ 3) × Line (label_line name number byte)
-RefusesFor command (Unflat kind number byte) status Line = (status ≡ 3) × Line (flatten_line (subject_of command) kind number byte)
+RefusesFor command why status Line = (status ≡ reason_status why) × Line (reason_line (subject_of command) (report_of command) why)
 
 -- ---- Audits
 
@@ -132,15 +145,6 @@ RefusesFor command (Unflat kind number byte) status Line = (status ≡ 3) × Lin
 pub record IsRuledOn (board : PlainBoard) (bytes : List ℕ) (ruling : Ruling) : Type 0 where
   pub verdict : Verdict
   pub text : IsTextOf bytes verdict
-  pub rules : (t : Tables) → IsTables board t → Rules t verdict ruling
-
--- The package fits, the report is the text of a verdict, and this is the ruling on it.
-pub record IsRuled (files : Files) (manifest report : List ℕ) (ruling : Ruling) : Type 0 where
-  pub board : PlainBoard
-  pub board_is : IsBoardOf files manifest board
-  pub one : HasOneTables board
-  pub verdict : Verdict
-  pub read : IsHeldWith files report (λ bytes. IsTextOf bytes verdict)
   pub rules : (t : Tables) → IsTables board t → Rules t verdict ruling
 
 -- the answer says the ruling

@@ -1,5 +1,7 @@
--- The commands.
+-- The commands, and the one that a value of the program stands for.
 use Rattle.std.specs.Prelude.{ℕ, List}
+use Rattle.boardnet.specs.declared.commands.Command.{Command as Given}
+use Rattle.boardnet.specs.declared.commands.Command.TheVariants as given
 use Rattle.boardnet.specs.declared.words.Version.{Version}
 
 -- What is asked for: to check the package of a manifest with a report of a version, to audit a report on it, to check the
@@ -13,3 +15,13 @@ pub data Command : Type 0 where
   Gaps : List ℕ → ℕ → Command
   X2 : List ℕ → Command
   Flatten : List ℕ → Command
+
+-- the command that a value stands for, its names as the bytes that they hold
+abbrev pub asked : Given → Command
+asked (given.Check version manifest) = Check version manifest.now
+asked (given.Audit manifest report) = Audit manifest.now report.now
+asked (given.Trial seed size) = Trial seed size
+asked (given.Write manifest) = Write manifest.now
+asked (given.Gaps manifest nanometres) = Gaps manifest.now nanometres
+asked (given.X2 manifest) = X2 manifest.now
+asked (given.Flatten file) = Flatten file.now

@@ -1,13 +1,11 @@
 -- What the commands share: the status of a verdict, the lines of refusals, and what an outcome is.
 use Rattle.std.specs.Prelude.{◌≡◌, ◌⊎◌, ℕ, List, length, codes}
-use Rattle.board_io.specs.Handed.{Handed}
-use Rattle.board_io.specs.Package.{Files}
-use Rattle.board_package.specs.HandedBoard.{IsFirstStopHanded}
-use Rattle.board_package.specs.PackageBoard.{Stop, absent, longer, not_json, bad_manifest, refused, frame_too_large, IsFirstStop}
+use Rattle.board_package.specs.PackageBoard.{Stop, absent, longer, not_json, bad_manifest, refused, frame_too_large}
 use Rattle.board_package.specs.Refusals.{refusal_number, refusal_name}
 use Rattle.board_package.specs.declared.reading.Refusal.{Refusal}
 use Rattle.board_package.specs.declared.reading.Refusal.TheVariants.{Layer, Drill, Netlist}
 use Rattle.boardnet.specs.Lines.{at_byte, at_item, plain_line, file_line, frame_line, kind_line, differs_line}
+use Rattle.boardnet.specs.Source.{Source, IsFirstStopBy}
 use Rattle.verdict.specs.ReportText.{Agrees}
 use Rattle.verdict.specs.declared.verdict.Verdict.{Verdict}
 
@@ -43,15 +41,9 @@ IsLineOf manifest (refused name why) line = line ≡ refusal_line name why
 IsLineOf manifest (frame_too_large box) line = line ≡ frame_line box
 
 -- The package's first stop is a refusal, and this is its line.
-pub record IsRefusal (files : Files) (manifest line : List ℕ) : Type 0 where
+pub record IsRefusal (source : Source) (manifest line : List ℕ) : Type 0 where
   pub stop : Stop
-  pub first : IsFirstStop files manifest stop
-  pub line_is : IsLineOf manifest stop line
-
--- The first stop of what was handed over is a refusal, and this is its line.
-pub record IsRefusalHanded (before after : List Handed) (manifest line : List ℕ) : Type 0 where
-  pub stop : Stop
-  pub first : IsFirstStopHanded before after manifest stop
+  pub first : IsFirstStopBy source manifest stop
   pub line_is : IsLineOf manifest stop line
 
 -- What a command comes to: a text with its status and its line, or the line of a refusal.

@@ -3,41 +3,31 @@ use Rattle.std.specs.Prelude.{◌≡◌, ◌≤◌, ◌⊎◌, ℕ, List, Option
 use Rattle.board_io.specs.Causes.{Rose}
 use Rattle.board_io.specs.Package.{Files, IsFaultless}
 use Rattle.board_io.specs.Sink.{Gains, GainsFrontOf}
-use Rattle.board_package.specs.Causes.{HasCause}
-use Rattle.board_package.specs.PackageBoard.{Stop, refused}
+use Rattle.board_package.specs.PackageBoard.{Stop}
 use Rattle.boardnet.specs.Answers.{line_of, status_of}
 use Rattle.boardnet.specs.Kept.{Keeps, LeftBy}
 use Rattle.boardnet.specs.Lines.{plain_line, file_line, Says}
-use Rattle.boardnet.specs.Outcome.{Told, Refused, ComesFor, OfFilesRead, OutcomeOf, read_by}
+use Rattle.boardnet.specs.Outcome.{Held, Told, Refused, ComesFor, OfFilesRead, OutcomeOf, Source}
 use Rattle.boardnet.specs.Words.{Command, task_of}
 use Rattle.boardnet.specs.declared.answer.Answer.{Answer}
 use Rattle.boardnet.specs.declared.answer.Unanswered.{Unanswered}
-use Rattle.boardnet.specs.declared.answer.Unanswered.TheVariants.{Stopped}
 
 -- the names of files in a command are texts, and its numbers are in range
 abbrev pub HasNames : Command → Type 0
 HasNames command = (task_of command).in_range
 
 -- the stops of a command
-abbrev pub StopsFor : Files → Command → Stop → Type 0
-StopsFor files command stop = (task_of command).stops files stop
+abbrev pub StopsFor : Source → Command → Stop → Type 0
+StopsFor source command stop = (task_of command).stops source stop
 
--- why a command has no answer
-abbrev pub HasReason : Command → Option Files → ℕ → ℕ → List ℕ → Unanswered → Type 0
-HasReason command held before now lost (Stopped why) = HasCause (read_by command held) (λ files stop. StopsFor files command stop) (λ files name. ComesFor files command name) before now lost why
-HasReason command held before now lost other = (task_of command).refuses held other
-
--- The work of a command on a package that it was lent: the answer is the command's outcome, or there is a reason why there is
--- none.
-pub record Works {P : Type 0} (files : P → Option Files) (faults : P → ℕ) (lost : P → List ℕ) (command : Command) (old new : P) (result : Result Answer Unanswered) : Type 0 where
+-- What a command leaves of the package that it was lent, by its answer.
+pub record Leaves {P : Type 0} (files : P → Option Files) (faults : P → ℕ) (lost : P → List ℕ) (old new : P) (result : Result Answer Unanswered) : Type 0 where
   pub held : files new ≡ files old
   pub later : faults old ≤ faults new
   -- an answer leaves the count of faults and the lost name as they were
   pub calm : IfOk result (λ answer. IsFaultless (faults old) (lost old) (faults new) (lost new))
   -- and where there is none they change only by a fault of reading or want of memory
   pub left : IfErr result (LeftBy (faults old) (lost old) (faults new) (lost new))
-  pub ok : IfOk result (λ answer. OfFilesRead command (files old) (λ f. OutcomeOf f command (Told answer.text.items (status_of answer.note) (line_of answer.note))))
-  pub reason : IfErr result (HasReason command (files old) (faults old) (faults new) (lost new))
 
 -- An answer that was put: whole, or cut at a fault of the output, which is status 5.
 pub data Puts {S N : Type 0} (got : S → Option (List ℕ)) (broken : S → ℕ) (noted : N → Option (List ℕ)) (failed : N → ℕ) (answer : Answer) (o o' : S) (n n' : N) (status : ℕ) : Type 0 where
@@ -45,8 +35,8 @@ pub data Puts {S N : Type 0} (got : S → Option (List ℕ)) (broken : S → ℕ
   cut : status ≡ 5 → Rose (broken o) (broken o') → GainsFrontOf (got o) answer.text.items (got o') → Says noted failed n n' (plain_line (codes "output cannot be written")) → Puts got broken noted failed answer o o' n n' status
 
 -- the outcome of a command is a text
-abbrev pub HasText : Files → Command → Type 0
-HasText files command = (task_of command).has_text files
+abbrev pub HasText : Source → Command → Type 0
+HasText source command = (task_of command).has_text source
 
 -- a command takes files of the package; a trial takes none
 abbrev pub TakesFiles : Command → Type 0
@@ -59,15 +49,15 @@ pub record Ends {P S N : Type 0} (files : P → Option Files) (faults : P → �
   pub few : status ≤ 6
   pub understood : status ≢ 2
   -- 0 and 1: the output got the command's text
-  pub told : status ≤ 1 → OfFilesRead command (files p) (λ f. (text line : List ℕ) × OutcomeOf f command (Told text status line) × Gains (got o) text (got o') × Says noted failed n n' line)
+  pub told : status ≤ 1 → OfFilesRead command (files p) (λ f. (text line : List ℕ) × OutcomeOf (Held f) command (Told text status line) × Gains (got o) text (got o') × Says noted failed n n' line)
   -- 3: the outcome is a refusal
-  pub refused : status ≡ 3 → OfFilesRead command (files p) (λ f. (line : List ℕ) × OutcomeOf f command (Refused line) × Says noted failed n n' line)
+  pub refused : status ≡ 3 → OfFilesRead command (files p) (λ f. (line : List ℕ) × OutcomeOf (Held f) command (Refused line) × Says noted failed n n' line)
   -- 4: a fault of reading a file, which comes next in the command's order
   pub unreadable : status ≡ 4 → Rose (faults p) (faults p') × Says noted failed n n' (file_line (lost p') (codes "cannot be read"))
-  pub unread : status ≡ 4 → OfFilesRead command (files p) (λ f. ComesFor f command (lost p'))
+  pub unread : status ≡ 4 → OfFilesRead command (files p) (λ f. ComesFor (Held f) command (lost p'))
   -- 5: a fault of writing, behind a front of the command's text
   pub unwritable : status ≡ 5 → Rose (broken o) (broken o') × Says noted failed n n' (plain_line (codes "output cannot be written"))
-  pub front : status ≡ 5 → OfFilesRead command (files p) (λ f. (text line : List ℕ) × (s : ℕ) × OutcomeOf f command (Told text s line) × GainsFrontOf (got o) text (got o'))
+  pub front : status ≡ 5 → OfFilesRead command (files p) (λ f. (text line : List ℕ) × (s : ℕ) × OutcomeOf (Held f) command (Told text s line) × GainsFrontOf (got o) text (got o'))
   -- 6: want of memory
   pub memory : status ≡ 6 → Says noted failed n n' (plain_line (codes "out of memory"))
   -- what is left of the three
@@ -75,4 +65,4 @@ pub record Ends {P S N : Type 0} (files : P → Option Files) (faults : P → �
   pub kept : Keeps files faults lost p p' status
   pub later : (broken o ≤ broken o') × (failed n ≤ failed n')
   -- a text is put, unless reading or writing fails or memory is wanted
-  pub complete : OfFilesRead command (files p) (λ f. HasText f command → (TakesFiles command → Rose (faults p) (faults p') → ⊥) → (Rose (broken o) (broken o') → ⊥) → (status ≤ 1) ⊎ (status ≡ 6))
+  pub complete : OfFilesRead command (files p) (λ f. HasText (Held f) command → (TakesFiles command → Rose (faults p) (faults p') → ⊥) → (Rose (broken o) (broken o') → ⊥) → (status ≤ 1) ⊎ (status ≡ 6))

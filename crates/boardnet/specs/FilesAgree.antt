@@ -4,8 +4,7 @@ use Rattle.std.specs.Prelude.{◌≡◌, ℕ, List, [], ◌∷◌, ◌++◌, Som
 use Rattle.std.specs.List.{AllByRecursion}
 use Rattle.board_io.specs.Handed.{AgreeWith, File, Handed, Long}
 use Rattle.board_io.specs.Package.{Files}
-use Rattle.boardnet.specs.HandedOutcome.{account_of}
-use Rattle.boardnet.specs.Outcome.{OfFilesRead, Outcome, OutcomeOf}
+use Rattle.boardnet.specs.Outcome.{HandedOver, Held, OfFilesRead, Outcome, OutcomeOf}
 use Rattle.boardnet.specs.Words.{Command}
 
 -- the name that was asked for
@@ -23,5 +22,5 @@ FilesAgree = (before gained : List Handed) → NamesAgree gained → (files : Fi
 
 -- What a command comes to by what was handed over it comes to by all files that agree.
 abbrev pub OutcomesAgree : Type 0
-OutcomesAgree = (files : Files) (before after : List Handed) (command : Command) (outcome : Outcome) → AgreeWith files before after → (account_of command before after).outcome outcome
-    → OfFilesRead command (Some files) (λ f. OutcomeOf f command outcome)
+OutcomesAgree = (files : Files) (before after : List Handed) (command : Command) (outcome : Outcome) → AgreeWith files before after → OutcomeOf (HandedOver before after) command outcome
+    → OfFilesRead command (Some files) (λ f. OutcomeOf (Held f) command outcome)

@@ -3,7 +3,7 @@ use Rattle.std.specs.Prelude.{◌≡◌, ◌≢◌, ◌≤◌, ℕ, List, Option
 use Rattle.board_io.specs.Package.{Files, IsFaultless}
 use Rattle.board_package.specs.Causes.{KeepsFaults}
 use Rattle.boardnet.specs.declared.answer.Unanswered.{Unanswered}
-use Rattle.boardnet.specs.declared.answer.Unanswered.TheVariants.{Stopped, NotAReport, SizeTooLarge, GrownTooLarge, Mislabelled, Unflat}
+use Rattle.boardnet.specs.declared.answer.Unanswered.TheVariants.{Stopped}
 
 -- A package that was lent, by the status that is answered: it holds what it held, and its count of faults never falls.
 -- Only a file that cannot be read, or want of memory, changes the count or the lost name.
@@ -15,8 +15,4 @@ pub record Keeps {P : Type 0} (files : P → Option Files) (faults : P → ℕ) 
 -- what is left of the count and the lost name where there is no answer
 abbrev pub LeftBy : ℕ → List ℕ → ℕ → List ℕ → Unanswered → Type 0
 LeftBy count lost count' lost' (Stopped why) = KeepsFaults count lost count' lost' why
-LeftBy count lost count' lost' NotAReport = IsFaultless count lost count' lost'
-LeftBy count lost count' lost' SizeTooLarge = IsFaultless count lost count' lost'
-LeftBy count lost count' lost' (GrownTooLarge box) = IsFaultless count lost count' lost'
-LeftBy count lost count' lost' (Mislabelled name number byte) = IsFaultless count lost count' lost'
-LeftBy count lost count' lost' (Unflat kind number byte) = IsFaultless count lost count' lost'
+LeftBy count lost count' lost' other = IsFaultless count lost count' lost'

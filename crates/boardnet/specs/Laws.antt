@@ -7,7 +7,7 @@ use Rattle.board_package.specs.declared.entry.Role.TheVariants.{Netlist}
 use Rattle.board_package.specs.declared.manifest.Manifest.{Manifest}
 use Rattle.board_shapes.specs.Plain.{PlainBoard}
 use Rattle.boardnet.specs.Lines.{end, plain_line}
-use Rattle.boardnet.specs.Outcome.{AuditOutcome, CheckOutcome, IsWritten, Told}
+use Rattle.boardnet.specs.Outcome.{AuditOutcome, CheckOutcome, Held, IsWritten, Told}
 use Rattle.boardnet.specs.declared.words.Version.{Version}
 
 -- A package holds what it held before, and this text, which is not too long, under the name of a report.
@@ -19,8 +19,8 @@ pub record HoldsReport (before after : Files) (report text : List ℕ) : Type 0 
 -- The report that `check` writes, of either version, passes the audit: where the package also holds it, the outcome of the
 -- audit is `audit true`.
 abbrev pub ReportsPass : Type 0
-ReportsPass = (before after : Files) (version : Version) (manifest report text line : List ℕ) (status : ℕ) → CheckOutcome before version manifest (Told text status line) → HoldsReport before after report text
-    → AuditOutcome after manifest report (Told (codes "audit true" ++ end) 0 (plain_line (codes "audit true")))
+ReportsPass = (before after : Files) (version : Version) (manifest report text line : List ℕ) (status : ℕ) → CheckOutcome (Held before) version manifest (Told text status line) → HoldsReport before after report text
+    → AuditOutcome (Held after) manifest report (Told (codes "audit true" ++ end) 0 (plain_line (codes "audit true")))
 
 -- One package has the netlist of another replaced by a text: it holds the same manifest, which lists these files, the netlist
 -- last, and the same files but that.
@@ -36,9 +36,9 @@ pub record HasNetlist (before after : Files) (manifest : List ℕ) (listed : Man
 -- The package fits, and where `check` puts a report its status is 0.
 pub record Passes (files : Files) (manifest : List ℕ) : Type 0 where
   pub fits : (board : PlainBoard) × IsBoardOf files manifest board
-  pub agrees : (version : Version) (report line : List ℕ) (status : ℕ) → CheckOutcome files version manifest (Told report status line) → status ≡ 0
+  pub agrees : (version : Version) (report line : List ℕ) (status : ℕ) → CheckOutcome (Held files) version manifest (Told report status line) → status ≡ 0
 
 -- What `write` puts for a package, taken as its netlist, is read and agrees with the copper.
 abbrev pub WrittenNetlistsPass : Type 0
-WrittenNetlistsPass = (before after : Files) (manifest text line : List ℕ) (status : ℕ) → (w : IsWritten before manifest text status line)
+WrittenNetlistsPass = (before after : Files) (manifest text line : List ℕ) (status : ℕ) → (w : IsWritten (Held before) manifest text status line)
     → HasNetlist before after manifest w.board_is.listed text → Passes after manifest

@@ -1,5 +1,4 @@
 pub mod Answers
-pub mod Asked
 pub mod Command
 pub mod Common
 pub mod Ends
@@ -7,9 +6,10 @@ pub mod FilesAgree
 pub mod Gapped
 pub mod HandedOutcome
 pub mod Kept
-pub mod Labelled
+pub mod Source
 pub mod Laws
 pub mod Lines
+pub mod OneOutcome
 pub mod Outcome
 pub mod Right
 pub mod Task

@@ -8,18 +8,19 @@ pub use Rattle.board_shapes.specs.Plain.{Fits, PlainBoard, PlainPiece}
 pub use Rattle.gaps.specs.GrownBox.{grown_common}
 pub use Rattle.gerber_layer.specs.MacroLayer.{IsReadWithMacros}
 pub use Rattle.boardnet.specs.Common.{HasStatus, form_of, place_of, refusal_line, IsLineOf, IsRefusal, Outcome, Told, Refused}
+pub use Rattle.boardnet.specs.Source.{Source, Held, HandedOver}
 pub use Rattle.boardnet.specs.commands.Check.{IsReport, CheckOutcome}
-pub use Rattle.boardnet.specs.commands.Audit.{IsTextOf, IsNoReport, HasRuling, IsAnswer, StopsAtReport, IsAuditStop, IsAuditRefusal, IsMisread, AuditOutcome}
-pub use Rattle.boardnet.specs.commands.Trial.{made_manifest, summary_text, IsStatusOf, IsTrialReport, IsTooLarge, IsMadeRefusal, TrialOutcome}
-pub use Rattle.boardnet.specs.commands.Write.{IsWritten, WriteOutcome}
-pub use Rattle.boardnet.specs.commands.Gaps.{IsGapped, IsGrownStop, IsGrownRefusal, GapsOutcome}
-pub use Rattle.boardnet.specs.commands.X2.{JoinsPieces, IsLabelledReport, IsLabelledLine, IsLabelledRefusal, X2Outcome}
-pub use Rattle.boardnet.specs.commands.Flatten.{IsFlatText, IsUntaken, IsUnflat, flatten_line, IsFlatRefusal, FlattenOutcome}
+pub use Rattle.boardnet.specs.commands.Audit.{IsTextOf, IsNoReport, HasRuling, IsAnswer, IsAuditStop, AuditOutcome}
+pub use Rattle.boardnet.specs.commands.Trial.{made_manifest, summary_text, IsTrialReport}
+pub use Rattle.boardnet.specs.commands.Write.{IsWritten}
+pub use Rattle.boardnet.specs.commands.Gaps.{IsGapped}
+pub use Rattle.boardnet.specs.commands.X2.{JoinsPieces, IsLabelledReport}
+pub use Rattle.boardnet.specs.commands.Flatten.{IsFlatText, flatten_line}
 use Rattle.boardnet.specs.Words.{Command, task_of}
 
--- Each command has its own outcome.
-abbrev pub OutcomeOf : Files → Command → Outcome → Type 0
-OutcomeOf files command outcome = (task_of command).outcome files outcome
+-- Each command has its own outcome, by the files that a package holds or by what it handed over.
+abbrev pub OutcomeOf : Source → Command → Outcome → Type 0
+OutcomeOf source command outcome = (task_of command).outcome source outcome
 
 -- The files that a command reads: those of the package, where it tells them, and for a trial those that it makes.
 abbrev pub read_by : Command → Option Files → Option Files
@@ -29,6 +30,6 @@ read_by command held = (task_of command).reads held
 abbrev pub OfFilesRead : Command → Option Files → (Files → Type 0) → Type 0
 OfFilesRead command held P = IfSome (read_by command held) P
 
--- The name is that of a file of the command's order, and every file before it is held and has no refusal.
-abbrev pub ComesFor : Files → Command → List ℕ → Type 0
-ComesFor files command name = (task_of command).comes files name
+-- The name is that of a file of the command's order, and every file before it was read and has no refusal.
+abbrev pub ComesFor : Source → Command → List ℕ → Type 0
+ComesFor source command name = (task_of command).comes source name

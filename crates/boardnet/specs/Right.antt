@@ -1,11 +1,14 @@
--- Verdicts that are right for a board, and the versions of their reports.
-use Rattle.std.specs.Prelude.{◌↔◌, ◌≡◌, ℕ, None, Some}
+-- Verdicts that are right for a board, and their reports.
+use Rattle.std.specs.Prelude.{◌↔◌, ◌≡◌, ℕ, List, None, Some}
 use Rattle.board_shapes.specs.Plain.{PlainBoard}
 use Rattle.board_shapes.specs.Tables.{IsTables}
 use Rattle.board_shapes.specs.Touching.{ProbesJoined}
+use Rattle.boardnet.specs.Common.{HasStatus}
 use Rattle.boardnet.specs.declared.words.Version.{Version}
 use Rattle.boardnet.specs.declared.words.Version.TheVariants.{One, Two}
 use Rattle.tables.specs.Tables.{Tables}
+use Rattle.verdict.specs.Lawful.{IsVerdict}
+use Rattle.verdict.specs.ReportText.{report_text}
 use Rattle.verdict.specs.Right.{IsRight, HaveOneNet}
 use Rattle.verdict.specs.declared.verdict.Supplement.{Supplement}
 use Rattle.verdict.specs.declared.verdict.Verdict.{Verdict}
@@ -22,3 +25,12 @@ pub record IsRightOn (board : PlainBoard) (verdict : Verdict) : Type 0 where
 abbrev pub IsOfVersion : Version → Verdict → Type 0
 IsOfVersion One v = v.more ≡ None
 IsOfVersion Two v = (more : Supplement) × (v.more ≡ Some more)
+
+-- The text of a right verdict on a board, as the version asks, with its status and its line.
+pub record IsReportOn (board : PlainBoard) (version : Version) (text : List ℕ) (status : ℕ) (line : List ℕ) : Type 0 where
+  pub verdict : Verdict
+  pub lawful : IsVerdict verdict
+  pub right : IsRightOn board verdict
+  pub version_is : IsOfVersion version verdict
+  pub text_is : text ≡ report_text verdict
+  pub status_is : HasStatus verdict status line

@@ -1,20 +1,11 @@
 -- What is told of a command, whatever it is.
 use Rattle.std.specs.Prelude.{ℕ, List, Option, String}
 use Rattle.std.specs.declared.alloc.Global.{Global}
-use Rattle.board_io.specs.Handed.{Handed}
 use Rattle.board_io.specs.Package.{Files}
 use Rattle.board_package.specs.PackageBoard.{Stop}
 use Rattle.boardnet.specs.Common.{Outcome}
+use Rattle.boardnet.specs.Source.{Source}
 use Rattle.boardnet.specs.declared.answer.Unanswered.{Unanswered}
-
--- What a command comes to by what was handed over to it, whether the package tells what it holds or not.
-pub record Account : Type 1 where
-  -- what stops it, the file that comes next, and what else it refuses
-  pub stops : Stop → Type 0
-  pub comes : List ℕ → Type 0
-  pub refuses : Unanswered → Type 0
-  -- what it comes to
-  pub outcome : Outcome → Type 0
 
 pub record Task : Type 1 where
   -- the words that ask for it, how they are spelled
@@ -29,13 +20,11 @@ pub record Task : Type 1 where
   pub takes : Type 0
   -- the files that it reads: mostly those of the package, where it tells them
   pub reads : Option Files → Option Files
-  -- the name is that of a file of its order, and every file before it is held and has no refusal
-  pub comes : Files → List ℕ → Type 0
-  -- its stops, and what else it refuses, where the package tells its files and where it does not
-  pub stops : Files → Stop → Type 0
-  pub refuses : Option Files → Unanswered → Type 0
+  -- By what was read. The name is that of a file of its order, and every file before it has no refusal.
+  pub comes : Source → List ℕ → Type 0
+  -- its stops, and what else it refuses
+  pub stops : Source → Stop → Type 0
+  pub refuses : Source → Unanswered → Type 0
   -- what it comes to, and when that is a text
-  pub outcome : Files → Outcome → Type 0
-  pub has_text : Files → Type 0
-  -- the same by what was handed over between two points of the call
-  pub handed : List Handed → List Handed → Account
+  pub outcome : Source → Outcome → Type 0
+  pub has_text : Source → Type 0

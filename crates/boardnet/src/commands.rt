@@ -1,29 +1,126 @@
-//! The work of each command.
-ghost use Rattle.boardnet.specs.Answers.{status_of};
-ghost use Rattle.boardnet.specs.Asked.{asked};
-ghost use Rattle.boardnet.specs.Ends.{HasNames, Works};
-ghost use Rattle.boardnet.specs.HandedOutcome.{HasHandedReason, IsAccount, account_of};
-ghost use Rattle.boardnet.specs.Words.{Flatten, Trial, Write};
-ghost use Rattle.std.specs.Prelude.{IfErr, IfOk, List, ℕ, ◌≡◌, ◌⊎◌};
+//! The commands: the words that ask for each, and its work, which has a file of its own (`gap`
+//! for `gaps`, since no module may be named as a library is).
+ghost use Rattle.board_io.specs.Handed.{AgreeWith};
+ghost use Rattle.boardnet.specs.Answers.{IsAnswerTo, status_of};
+ghost use Rattle.boardnet.specs.Command.{asked};
+ghost use Rattle.boardnet.specs.Ends.{HasNames, Leaves};
+ghost use Rattle.boardnet.specs.HandedOutcome.{HasHandedReason};
+ghost use Rattle.boardnet.specs.Outcome.{HandedOver};
+ghost use Rattle.boardnet.specs.Words.{CanAsk, Command as Asked, Flatten, SpelledAsk, Trial, Write};
+ghost use Rattle.std.specs.Prelude.{IfErr, IfNone, IfOk, IfSome, List, [], ℕ, ◌∷◌, ◌≡◌, ◌⊎◌};
 
+pub mod audit;
+pub mod check;
+pub mod flatten;
+pub mod gap;
+pub mod trial;
+pub mod write;
+pub mod x2;
+
+use self::audit::ruling;
+use self::check::report;
+use self::flatten::flat_text;
+use self::gap::gap_list;
+use self::trial::summary;
+use self::write::netlist;
+use self::x2::labelled_report;
 use crate::answer::Answered;
-use crate::auditing::ruling;
-use crate::checking::report;
-use crate::flattening::flat_text;
-use crate::gapping::gap_list;
-use crate::labelling::labelled_report;
-use crate::trial::summary;
-use crate::words::Command;
-use crate::writing::netlist;
+use crate::words::{MADE_MANIFEST, Version};
 use board_io::Package;
+use lengths::is_text;
 use std::alloc::Global;
+
+/// What the words ask for. Names of files are texts of 1 to 200 printable bytes.
+#[derive(Clone, Copy)]
+pub enum Command<'a> {
+    /// `check MANIFEST`: check the package of the manifest, with a report of version 2; `check MANIFEST 1`: of version 1.
+    Check { version: Version, manifest: &'a str },
+    /// `audit MANIFEST REPORT`: audit the report on the package of the manifest.
+    Audit { manifest: &'a str, report: &'a str },
+    /// `trial SEED SIZE`: check the made board of so many cells.
+    Trial { seed: u64, size: u32 },
+    /// `write MANIFEST`: write a netlist of the package of the manifest.
+    Write { manifest: &'a str },
+    /// `gaps MANIFEST NANOMETRES`: list the nets of the package that come that close.
+    Gaps { manifest: &'a str, nanometres: u32 },
+    /// `x2 MANIFEST`: check the package of the manifest by the net names in its copper files.
+    X2 { manifest: &'a str },
+    /// `flatten FILE`: rewrite the copper file without macros.
+    Flatten { file: &'a str },
+}
+
+impl<'a> Command<'a> {
+    ghost use Rattle.boardnet.specs.Answers.{subject_of, report_of};
+
+    /// The name of the manifest, or of the copper file, that it is about.
+    pub fn subject(self) -> &'a str
+        ensures { result.now ≡ subject_of (asked self.entry) }
+    {
+        match self {
+            Command::Check { manifest, .. } => manifest,
+            Command::Audit { manifest, .. } => manifest,
+            Command::Trial { .. } => MADE_MANIFEST,
+            Command::Write { manifest } => manifest,
+            Command::Gaps { manifest, .. } => manifest,
+            Command::X2 { manifest } => manifest,
+            Command::Flatten { file } => file,
+        }
+    }
+
+    /// The name of its report; empty where it has none.
+    pub fn report(self) -> &'a str
+        ensures { result.now ≡ report_of (asked self.entry) }
+    {
+        match self {
+            Command::Audit { report, .. } => report,
+            _ => "",
+        }
+    }
+}
+
+/// The command of a word and a name.
+pub fn of_name<'a>(command: &str, name: &'a str) -> Option<Command<'a>>
+    ensures some { IfSome result (λ given. SpelledAsk (command.now ∷ name.now ∷ []) (asked given)) }
+    ensures none { IfNone result ((given : Asked) → CanAsk (command.now ∷ name.now ∷ []) given → ⊥) }
+{
+    if !is_text(name.as_bytes()) {
+        return None;
+    }
+    match command {
+        "check" => {
+            Some(Command::Check {
+                version: Version::Two,
+                manifest: name,
+            })
+        }
+        "write" => Some(Command::Write { manifest: name }),
+        "x2" => Some(Command::X2 { manifest: name }),
+        "flatten" => Some(Command::Flatten { file: name }),
+        _ => None,
+    }
+}
+
+/// The command of a word and two more.
+pub fn of_two<'a>(command: &str, first: &'a str, second: &'a str) -> Option<Command<'a>>
+    ensures some { IfSome result (λ given. SpelledAsk (command.now ∷ first.now ∷ second.now ∷ []) (asked given)) }
+    ensures none { IfNone result ((given : Asked) → CanAsk (command.now ∷ first.now ∷ second.now ∷ []) given → ⊥) }
+{
+    match command {
+        "check" => check::of_words(first, second),
+        "audit" => audit::of_words(first, second),
+        "trial" => trial::of_words(first, second),
+        "gaps" => gap::of_words(first, second),
+        _ => None,
+    }
+}
 
 /// The answer to a command, or why it has none.
 pub fn answer_to<P: Package>(alloc: Global, command: Command, package: &mut P) -> Answered
     requires { HasNames (asked command) }
-    ensures handed { IfOk result (λ answer. IsAccount (account_of (asked command.entry) (P.handed «package».old) (P.handed «package».new)) answer) }
-    ensures handed_reason { IfErr result (HasHandedReason (account_of (asked command.entry) (P.handed «package».old) (P.handed «package».new)) (P.faults «package».old) (P.faults «package».new) (P.lost «package».new)) }
-    ensures works { Works P.held P.faults P.lost (asked command.entry) «package».old «package».new result }
+    ensures handed { IfOk result (IsAnswerTo (HandedOver (P.handed «package».old) (P.handed «package».new)) (asked command.entry)) }
+    ensures handed_reason { IfErr result (HasHandedReason (HandedOver (P.handed «package».old) (P.handed «package».new)) (asked command.entry) (P.faults «package».old) (P.faults «package».new) (P.lost «package».new)) }
+    ensures consistent { IfSome (P.held «package».old) (λ files. AgreeWith files (P.handed «package».old) (P.handed «package».new)) }
+    ensures leaves { Leaves P.held P.faults P.lost «package».old «package».new result }
     ensures untouched { (seed size : ℕ) → asked command.entry ≡ Trial seed size → «package».new ≡ «package».old }
     ensures unjudged { IfOk result (λ answer. (name : List ℕ) → (asked command.entry ≡ Write name) ⊎ (asked command.entry ≡ Flatten name) → status_of answer.note ≡ 0) }
 {

@@ -1,14 +1,17 @@
-//! The board of a package, and the work on it: its nets and its verdict.
+//! The board of a package, and the work on it: its nets, its verdict and the report on it.
+ghost use Rattle.board_io.specs.Handed.{AgreeWith, Grows};
 ghost use Rattle.board_io.specs.Package.{IsFaultless};
 ghost use Rattle.board_package.specs.Causes.{HandedCause, HasCause, KeepsFaults};
 ghost use Rattle.board_package.specs.HandedBoard.{ComesHanded, IsBoardHanded, IsFirstStopHanded};
 ghost use Rattle.board_package.specs.PackageBoard.{Comes, IsBoardOf, IsFirstStop, IsWithinLimits};
 ghost use Rattle.board_shapes.specs.Plain.{plain_board};
-ghost use Rattle.boardnet.specs.Right.{IsOfVersion, IsRightOn};
+ghost use Rattle.boardnet.specs.Answers.{line_of, status_of};
+ghost use Rattle.boardnet.specs.Right.{IsOfVersion, IsReportOn, IsRightOn};
 ghost use Rattle.boardnet.specs.declared.words.Version.TheVariants.{One, Two};
 ghost use Rattle.lengths.specs.Text.{IsText};
 ghost use Rattle.std.specs.Prelude.{IfErr, IfOk, IfSome, ◌<◌, ◌≡◌, ◌≤◌};
 
+use crate::answer::{Answer, Note};
 use crate::refusing::name_of;
 use crate::words::Version;
 use board_io::Package;
@@ -22,7 +25,7 @@ use std::alloc::Global;
 use std::marker::Brand;
 use std::sync::ledger::{Blank, Ledger};
 use steps::Steps;
-use verdict::Verdict;
+use verdict::{Verdict, write_report};
 use witness_check::laws as verdicts;
 
 /// The board of the package of a manifest.
@@ -33,6 +36,8 @@ pub fn board_of<P: Package>(
 ) -> Result<Board, BuildFault>
     requires { IsText manifest.now }
     ensures held { P.held «package».new ≡ P.held «package».old }
+    ensures grows { Grows (P.handed «package».old) (P.handed «package».new) }
+    ensures consistent { IfSome (P.held «package».old) (λ files. AgreeWith files (P.handed «package».old) (P.handed «package».new)) }
     ensures later { P.faults «package».old ≤ P.faults «package».new }
     ensures calm { IfOk result (λ _. IsFaultless (P.faults «package».old) (P.lost «package».old) (P.faults «package».new) (P.lost «package».new)) }
     ensures left { IfErr result (KeepsFaults (P.faults «package».old) (P.lost «package».old) (P.faults «package».new) (P.lost «package».new)) }
@@ -46,8 +51,18 @@ pub fn board_of<P: Package>(
     build(alloc, &name, package)
 }
 
-/// The right verdict on a board for a report of a version.
-pub fn verdict_in(alloc: Global, version: Version, board: &Board) -> Result<Verdict, NoMemory>
+/// The report of a version on a board.
+pub fn report_on(alloc: Global, version: Version, board: &Board) -> Result<Answer, NoMemory>
+    ensures { IfOk result (λ answer. IsReportOn (plain_board board.now) version answer.text.items (status_of answer.note) (line_of answer.note)) }
+{
+    let verdict = verdict_in(alloc, version, board)?;
+    let text = write_report(alloc, &verdict)?;
+    let note = Note::of(&verdict);
+    Ok(Answer { text, note })
+}
+
+// The right verdict on a board for a report of a version.
+fn verdict_in(alloc: Global, version: Version, board: &Board) -> Result<Verdict, NoMemory>
     ensures right { IfOk result (IsRightOn (plain_board board.now)) }
     ensures version { IfOk result (IsOfVersion version) }
 {

@@ -1,9 +1,14 @@
 //! Laws over the outcomes. Their calls do nothing.
 ghost use Rattle.boardnet.specs.FilesAgree.{FilesAgree, OutcomesAgree};
 ghost use Rattle.boardnet.specs.Laws.{ReportsPass, WrittenNetlistsPass};
+ghost use Rattle.boardnet.specs.OneOutcome.{OneHandedOutcome, OneOutcome};
 
 use board_package::laws as packages;
+use gaps::laws as lists;
+use gerber_layer::laws as layers;
 use netlist_writer::laws as netlists;
+use verdict::laws as reports;
+use witness_check::laws as verdicts;
 
 /// Unless a name was handed over twice with other bytes, there are files that agree with all that was handed over: so what is said of all such
 /// files is said of some.
@@ -15,6 +20,27 @@ pub fn files_agree()
 pub fn outcomes_agree()
     ensures { OutcomesAgree }
 {
+    packages::handed_is_held();
+}
+
+/// What a command comes to over the same files has one status and one line, or is one refusal: texts differ in their trees
+/// alone.
+pub fn one_outcome()
+    ensures { OneOutcome }
+{
+    packages::one_outcome();
+    packages::one_labelled_outcome();
+    layers::one_macro_answer();
+    lists::gaps_are_one();
+    reports::report_text_is_injective();
+    verdicts::verdicts_differ_in_witnesses_only();
+}
+
+/// So has what it comes to in two calls that were handed over the same, unless a name was handed over twice with other bytes.
+pub fn one_handed_outcome()
+    ensures { OneHandedOutcome }
+{
+    one_outcome();
     packages::handed_is_held();
 }
 

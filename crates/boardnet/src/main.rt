@@ -1,23 +1,17 @@
 //! boardnet: does the copper of a bare board join exactly the points that its netlist joins?
 //!
-//! `run` is the top call. The words of the command line are judged (`words`). Each command does its work on the package
-//! (`commands`) and has an answer, or a reason why there is none (`answer`): for `check` the package's board is built and
-//! judged (`checking`, `judged`); for `audit` a report on it is read and audited (`auditing`); for `trial` a made package is
-//! checked (`trial`); for `write` a netlist of its nets is made (`writing`); for `gaps` the nets that come close are listed
-//! (`gapping`); for `x2` the board is judged by the net names in its copper files (`labelling`); for `flatten` a copper file
-//! is rewritten without aperture macros (`flattening`). The text goes to the output, and a line to the notes (`putting`,
-//! `lines`, `refusing`). `certified` is a check with the audit of its report. The laws stand in `laws`.
+//! `run` is the top call. The words of the command line are judged (`words`). Each command does its work on the package in a
+//! file of its own (`commands`) and has an answer, or a reason why there is none (`answer`): `check` builds and judges the
+//! package's board (`judged`), `audit` reads a report on it and rules on that, `trial` checks a made package, `write` makes a
+//! netlist of the nets, `gaps` lists the nets that come close, `x2` judges the board by the net names in its copper files,
+//! `flatten` rewrites a copper file without aperture macros. The text goes to the output, and a line to the notes
+//! (`putting`, `lines`, `refusing`). `certified` is a check with the audit of its report. The laws stand in `laws`.
 #![tactic(auto)]
 
 mod answer;
-mod auditing;
 mod certified;
-mod checking;
 mod commands;
-mod flattening;
-mod gapping;
 mod judged;
-mod labelling;
 pub mod laws;
 mod lines;
 mod putting;
@@ -25,9 +19,7 @@ mod refusing;
 pub mod run;
 #[cfg(test)]
 mod tests;
-mod trial;
 mod words;
-mod writing;
 
 use board_io::{FolderPackage, StreamSink};
 use run::run;

@@ -1,15 +1,15 @@
 //! What is put for a command: its text to the output in one piece, and a line to the notes.
 ghost use Rattle.boardnet.specs.Answers.{RefusesFor};
-ghost use Rattle.boardnet.specs.Asked.{asked};
+ghost use Rattle.boardnet.specs.Command.{asked};
 ghost use Rattle.boardnet.specs.Ends.{Puts};
 ghost use Rattle.boardnet.specs.Lines.{Gains, GainsFrontOf, Rose, Says, plain_line};
 ghost use Rattle.std.specs.List.{flat_map};
 ghost use Rattle.std.specs.Prelude.{IfOk, MatchResult, [], codes, false, true, ◌++◌, ◌∷◌, ◌≡◌, ◌≤◌};
 
 use crate::answer::Answered;
+use crate::commands::Command;
 use crate::lines;
 use crate::refusing::refuse;
-use crate::words::Command;
 use board_io::{Put, Sink};
 use lengths::NoMemory;
 use std::alloc::Global;

@@ -1,14 +1,14 @@
 //! Refusals: the line of each, and its status.
 ghost use Rattle.boardnet.specs.Answers.{Refuses, RefusesFor, fault_line};
-ghost use Rattle.boardnet.specs.Asked.{asked};
+ghost use Rattle.boardnet.specs.Command.{asked};
 ghost use Rattle.boardnet.specs.Lines.{Says};
 ghost use Rattle.boardnet.specs.Outcome.{form_of, refusal_line};
 ghost use Rattle.lengths.specs.Text.{IsText};
 ghost use Rattle.std.specs.Prelude.{IfErr, IfOk, ◌≡◌, ◌≤◌};
 
 use crate::answer::Unanswered;
+use crate::commands::Command;
 use crate::lines::{self, Kind};
-use crate::words::Command;
 use board_io::Sink;
 use board_package::{BuildFault, Refusal};
 use lengths::Text;

@@ -1,18 +1,18 @@
 //! The top call.
-ghost use Rattle.board_io.specs.Handed.{IfAgreed};
-ghost use Rattle.boardnet.specs.Asked.{asked};
+ghost use Rattle.board_io.specs.Handed.{AgreeWith, IfAgreed};
+ghost use Rattle.boardnet.specs.Command.{asked};
 ghost use Rattle.boardnet.specs.Ends.{Ends, HasNames};
-ghost use Rattle.boardnet.specs.HandedOutcome.{EndsHanded, IsHandedAnswer, IsHandedFlatText, IsHandedGaps, IsHandedLabelledReport, IsHandedNetlist, IsHandedReport, account_of};
+ghost use Rattle.boardnet.specs.HandedOutcome.{EndsHanded};
 ghost use Rattle.boardnet.specs.Kept.{Keeps};
 ghost use Rattle.boardnet.specs.Lines.{Gains, GainsFrontOf, Rose, Says, file_line, plain_line};
-ghost use Rattle.boardnet.specs.Outcome.{ComesFor, Fits, IsAnswer, IsBoardOf, IsFlatText, IsGapped, IsHeld, IsLabelledBoardOf, IsLabelledReport, IsReadWithMacros, IsReport, IsTrialReport, IsWritten, OfFilesRead, OutcomeOf, PlainBoard, PlainPiece, Refused, Told, grown_common, made_files, made_manifest};
+ghost use Rattle.boardnet.specs.Outcome.{ComesFor, Fits, HandedOver, Held, IsAnswer, IsBoardOf, IsFlatText, IsGapped, IsHeld, IsLabelledBoardOf, IsLabelledReport, IsReadWithMacros, IsReport, IsTrialReport, IsWritten, OfFilesRead, OutcomeOf, PlainBoard, PlainPiece, Refused, Told, grown_common, made_files, made_manifest};
 ghost use Rattle.boardnet.specs.Words.{Asks, Command as Asked, IsAudit, IsCheck, IsFlatten, IsGaps, IsTrial, IsUnderstood, IsWrite, IsX2, Trial, Version, Write, Flatten};
 ghost use Rattle.std.specs.Prelude.{IfSome, List, Some, [], codes, ◌++◌, ◌∷◌, pos, ℕ, ◌*◌, ◌↔◌, ◌≡◌, ◌≢◌, ◌≤◌, ◌⊎◌};
 
-use crate::commands::answer_to;
+use crate::commands::{Command, answer_to};
 use crate::lines;
 use crate::putting::conclude;
-use crate::words::{Command, command_of};
+use crate::words::command_of;
 use board_io::{Package, Sink};
 use board_package::laws as packages;
 use gerber_layer::laws as layers;
@@ -53,7 +53,7 @@ pub fn run<P: Package, S: Sink, N: Sink>(
 
     // 0 and 1 on `check`: the package fits, and `out` got the text of a right verdict on its board.
     ensures right { result ≤ 1 → IfSome (P.held «package».old) (λ files. (version : Version) (name : List ℕ) → IsCheck words.now version name
-        → (text line : List ℕ) × IsReport files version name text result line
+        → (text line : List ℕ) × IsReport (Held files) version name text result line
         × Gains (S.got out.old) text (S.got out.new) × Says N.got N.faults notes.old notes.new line) }
 
     // Of whatever package and sinks, also those that tell nothing: what is said of 0, 1, 3, 4 and 5 of the files that the
@@ -61,42 +61,46 @@ pub fn run<P: Package, S: Sink, N: Sink>(
     // the files of the command's order were handed over, one by one, and nothing else; `out` was handed exactly one text, in one
     // piece, and it is the command's text for these very bytes. 3: the refusal is the first of these very bytes. 4: the file
     // comes next behind them.
-    ensures handed { (command : Asked) → Asks words.now command → EndsHanded (account_of command (P.handed «package».old) (P.handed «package».new)) (P.lost «package».new) S.handed S.got N.got N.faults out.old out.new notes.old notes.new result }
+    ensures handed { (command : Asked) → Asks words.now command → EndsHanded (HandedOver (P.handed «package».old) (P.handed «package».new)) command (P.lost «package».new) S.handed S.got N.got N.faults out.old out.new notes.old notes.new result }
 
     // The same at 0 and 1, command by command: the report on the board that these bytes make; the ruling on the report behind
     // them; the written netlist; the list of gaps; the report by the net names in them; the flattened file.
     ensures handed_right { result ≤ 1 → (version : Version) (name : List ℕ) → IsCheck words.now version name
-        → (text line : List ℕ) × IsHandedReport (P.handed «package».old) (P.handed «package».new) version name text result line
+        → (text line : List ℕ) × IsReport (HandedOver (P.handed «package».old) (P.handed «package».new)) version name text result line
         × (S.handed out.new ≡ S.handed out.old ++ text ∷ []) × Gains (S.got out.old) text (S.got out.new) × Says N.got N.faults notes.old notes.new line }
     ensures handed_ruling { result ≤ 1 → (manifest report : List ℕ) → IsAudit words.now manifest report
-        → (text line : List ℕ) × IsHandedAnswer (P.handed «package».old) (P.handed «package».new) manifest report text result line
+        → (text line : List ℕ) × IsAnswer (HandedOver (P.handed «package».old) (P.handed «package».new)) manifest report text result line
         × (S.handed out.new ≡ S.handed out.old ++ text ∷ []) × Gains (S.got out.old) text (S.got out.new) × Says N.got N.faults notes.old notes.new line }
     ensures handed_netlist { result ≤ 1 → (name : List ℕ) → IsWrite words.now name
-        → (text line : List ℕ) × IsHandedNetlist (P.handed «package».old) (P.handed «package».new) name text result line
+        → (text line : List ℕ) × IsWritten (HandedOver (P.handed «package».old) (P.handed «package».new)) name text result line
         × (S.handed out.new ≡ S.handed out.old ++ text ∷ []) × Gains (S.got out.old) text (S.got out.new) × Says N.got N.faults notes.old notes.new line }
     ensures handed_gaps { result ≤ 1 → (name : List ℕ) (nanometres : ℕ) → IsGaps words.now name nanometres
-        → (text line : List ℕ) × IsHandedGaps (P.handed «package».old) (P.handed «package».new) name nanometres text result line
+        → (text line : List ℕ) × IsGapped (HandedOver (P.handed «package».old) (P.handed «package».new)) name nanometres text result line
         × (S.handed out.new ≡ S.handed out.old ++ text ∷ []) × Gains (S.got out.old) text (S.got out.new) × Says N.got N.faults notes.old notes.new line }
     ensures handed_labels { result ≤ 1 → (name : List ℕ) → IsX2 words.now name
-        → (text line : List ℕ) × IsHandedLabelledReport (P.handed «package».old) (P.handed «package».new) name text result line
+        → (text line : List ℕ) × IsLabelledReport (HandedOver (P.handed «package».old) (P.handed «package».new)) name text result line
         × (S.handed out.new ≡ S.handed out.old ++ text ∷ []) × Gains (S.got out.old) text (S.got out.new) × Says N.got N.faults notes.old notes.new line }
     ensures handed_image { result ≤ 1 → (name : List ℕ) → IsFlatten words.now name
-        → (text line : List ℕ) × IsHandedFlatText (P.handed «package».old) (P.handed «package».new) name text result line
+        → (text line : List ℕ) × IsFlatText (HandedOver (P.handed «package».old) (P.handed «package».new)) name text result line
         × (S.handed out.new ≡ S.handed out.old ++ text ∷ []) × Gains (S.got out.old) text (S.got out.new) × Says N.got N.faults notes.old notes.new line }
 
     // It follows that what is said above and below of the files that the package tells holds of all files that agree with what it
     // handed over in this call. On `check`, and of each command by its outcome.
     ensures agreed_right { result ≤ 1 → IfAgreed (P.handed «package».old) (P.handed «package».new) (λ files. (version : Version) (name : List ℕ) → IsCheck words.now version name
-        → (text line : List ℕ) × IsReport files version name text result line
+        → (text line : List ℕ) × IsReport (Held files) version name text result line
         × Gains (S.got out.old) text (S.got out.new) × Says N.got N.faults notes.old notes.new line) }
     ensures agreed { IfAgreed (P.handed «package».old) (P.handed «package».new) (λ files. (command : Asked) → Asks words.now command → Ends (λ p. Some files) P.faults P.lost S.got S.faults N.got N.faults command «package».old «package».new out.old out.new notes.old notes.new result) }
+
+    // What a package tells that it holds agrees with what it handed over in this call, under every status: so what is said of the
+    // one and of the other is said of the same bytes.
+    ensures consistent { IfSome (P.held «package».old) (λ files. AgreeWith files (P.handed «package».old) (P.handed «package».new)) }
 
     // 0 and 1: the output had no fault.
     ensures delivered { result ≤ 1 → S.faults out.new ≡ S.faults out.old }
 
     // 0 and 1 on `audit`: the package fits, and `out` got the ruling on the verdict whose text the report is.
     ensures audited { result ≤ 1 → IfSome (P.held «package».old) (λ files. (manifest report : List ℕ) → IsAudit words.now manifest report
-        → (text line : List ℕ) × IsAnswer files manifest report text result line
+        → (text line : List ℕ) × IsAnswer (Held files) manifest report text result line
         × Gains (S.got out.old) text (S.got out.new) × Says N.got N.faults notes.old notes.new line) }
 
     // 0 and 1 on `trial`: `out` got the summary of a right verdict on the made board.
@@ -106,22 +110,22 @@ pub fn run<P: Package, S: Sink, N: Sink>(
 
     // 0 and 1 on `write`, which is 0: the package fits, and `out` got the written netlist of a right verdict on its board.
     ensures written { result ≤ 1 → IfSome (P.held «package».old) (λ files. (name : List ℕ) → IsWrite words.now name
-        → (text line : List ℕ) × IsWritten files name text result line
+        → (text line : List ℕ) × IsWritten (Held files) name text result line
         × Gains (S.got out.old) text (S.got out.new) × Says N.got N.faults notes.old notes.new line) }
 
     // 0 and 1 on `gaps`: the package fits, and `out` got the list of its gaps between the nets of a right verdict.
     ensures gapped { result ≤ 1 → IfSome (P.held «package».old) (λ files. (name : List ℕ) (nanometres : ℕ) → IsGaps words.now name nanometres
-        → (text line : List ℕ) × IsGapped files name nanometres text result line
+        → (text line : List ℕ) × IsGapped (Held files) name nanometres text result line
         × Gains (S.got out.old) text (S.got out.new) × Says N.got N.faults notes.old notes.new line) }
 
     // 0 and 1 on `x2`: the package fits without its netlist, and `out` got the text of a right verdict on its labelled board.
     ensures labelled { result ≤ 1 → IfSome (P.held «package».old) (λ files. (name : List ℕ) → IsX2 words.now name
-        → (text line : List ℕ) × IsLabelledReport files name text result line
+        → (text line : List ℕ) × IsLabelledReport (Held files) name text result line
         × Gains (S.got out.old) text (S.got out.new) × Says N.got N.faults notes.old notes.new line) }
 
     // 0 and 1 on `flatten`, which is 0: `out` got the text of the file's image, which every layer reads as the same copper.
     ensures flattened { result ≤ 1 → IfSome (P.held «package».old) (λ files. (name : List ℕ) → IsFlatten words.now name
-        → (text line : List ℕ) × IsFlatText files name text result line
+        → (text line : List ℕ) × IsFlatText (Held files) name text result line
         × Gains (S.got out.old) text (S.got out.new) × Says N.got N.faults notes.old notes.new line) }
 
     // `write` and `flatten` judge nothing: 1 never comes.
@@ -129,18 +133,18 @@ pub fn run<P: Package, S: Sink, N: Sink>(
 
     // 3: the outcome is a refusal.
     ensures refused { result ≡ 3 → (command : Asked) → Asks words.now command → OfFilesRead command (P.held «package».old) (λ files.
-        (line : List ℕ) × OutcomeOf files command (Refused line) × Says N.got N.faults notes.old notes.new line) }
+        (line : List ℕ) × OutcomeOf (Held files) command (Refused line) × Says N.got N.faults notes.old notes.new line) }
 
     // 4: a fault of reading the file in the line, which is one of the command's order; each before it is held and read.
     ensures unreadable { result ≡ 4 → Rose (P.faults «package».old) (P.faults «package».new)
         × Says N.got N.faults notes.old notes.new (file_line (P.lost «package».new) (codes "cannot be read")) }
-    ensures unread { result ≡ 4 → (command : Asked) → Asks words.now command → OfFilesRead command (P.held «package».old) (λ files. ComesFor files command (P.lost «package».new)) }
+    ensures unread { result ≡ 4 → (command : Asked) → Asks words.now command → OfFilesRead command (P.held «package».old) (λ files. ComesFor (Held files) command (P.lost «package».new)) }
 
     // 5: a fault of writing, behind a front of the text.
     ensures unwritable { result ≡ 5 → Rose (S.faults out.old) (S.faults out.new)
         × Says N.got N.faults notes.old notes.new (plain_line (codes "output cannot be written")) }
     ensures front { result ≡ 5 → (command : Asked) → Asks words.now command → OfFilesRead command (P.held «package».old) (λ files.
-        (text line : List ℕ) × (status : ℕ) × OutcomeOf files command (Told text status line) × GainsFrontOf (S.got out.old) text (S.got out.new)) }
+        (text line : List ℕ) × (status : ℕ) × OutcomeOf (Held files) command (Told text status line) × GainsFrontOf (S.got out.old) text (S.got out.new)) }
 
     // What is left: the package holds what it held, no count of faults falls, and nothing was asked that failed but under
     // 4 and 6.
@@ -179,7 +183,7 @@ pub fn run<P: Package, S: Sink, N: Sink>(
 
     // A report that is the text of a verdict has its ruling, unless reading or writing fails or memory is wanted.
     ensures answered { IfSome (P.held «package».old) (λ files. (manifest report : List ℕ) → IsAudit words.now manifest report
-        → (text line : List ℕ) (status : ℕ) → IsAnswer files manifest report text status line
+        → (text line : List ℕ) (status : ℕ) → IsAnswer (Held files) manifest report text status line
         → (Rose (P.faults «package».old) (P.faults «package».new) → ⊥) → (Rose (S.faults out.old) (S.faults out.new) → ⊥) → (result ≡ status) ⊎ (result ≡ 6)) }
 {
     verdicts::report_text_is_injective();
@@ -204,7 +208,8 @@ fn perform<P: Package, S: Sink, N: Sink>(
     requires { HasNames (asked command) }
     ensures agreed { IfAgreed (P.handed «package».old) (P.handed «package».new) (λ files. Ends (λ p. Some files) P.faults P.lost S.got S.faults N.got N.faults (asked command.entry) «package».old «package».new out.old out.new notes.old notes.new result) }
     ensures ends { Ends P.held P.faults P.lost S.got S.faults N.got N.faults (asked command.entry) «package».old «package».new out.old out.new notes.old notes.new result }
-    ensures handed { EndsHanded (account_of (asked command.entry) (P.handed «package».old) (P.handed «package».new)) (P.lost «package».new) S.handed S.got N.got N.faults out.old out.new notes.old notes.new result }
+    ensures handed { EndsHanded (HandedOver (P.handed «package».old) (P.handed «package».new)) (asked command.entry) (P.lost «package».new) S.handed S.got N.got N.faults out.old out.new notes.old notes.new result }
+    ensures consistent { IfSome (P.held «package».old) (λ files. AgreeWith files (P.handed «package».old) (P.handed «package».new)) }
     ensures delivered { result ≤ 1 → S.faults out.new ≡ S.faults out.old }
     ensures untouched { (seed size : ℕ) → asked command.entry ≡ Trial seed size → «package».new ≡ «package».old }
     ensures unjudged { (name : List ℕ) → (asked command.entry ≡ Write name) ⊎ (asked command.entry ≡ Flatten name) → result ≢ 1 }

@@ -1,18 +1,11 @@
 // Calls of `run` over memory: worked boards and packages, audits of their reports, made boards, and words and faults.
-mod audits;
-mod boards;
 mod certificates;
+mod commands;
 mod cut;
 mod failing;
 mod faults;
-mod flat_texts;
-mod gap_lists;
-mod labels;
 mod made;
-mod netlists;
 mod packages;
-mod supplements;
-mod trials;
 
 use crate::run::run;
 use board_io::{MemoryPackage, MemorySink};

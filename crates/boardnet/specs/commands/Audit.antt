@@ -1,15 +1,13 @@
 -- The command `audit MANIFEST REPORT`: a report on the package is audited.
-use Rattle.std.specs.Prelude.{◌≡◌, ◌⊎◌, ℕ, List, [], ◌∷◌, ◌++◌, codes, decimal, map, string_bytes, String, Option, Some, None, IfSome}
+use Rattle.std.specs.Prelude.{◌≡◌, ◌⊎◌, ℕ, List, [], ◌∷◌, ◌++◌, codes, decimal, map, string_bytes, String, Option, Some, None}
 use Rattle.std.specs.declared.alloc.Global.{Global}
-use Rattle.board_io.specs.Handed.{Handed}
-use Rattle.board_io.specs.Package.{Files}
-use Rattle.board_package.specs.HandedBoard.{ComesHanded, ComesNext, IsBoardHanded, IsFirstStopHanded, IsHandedWith, StopsHanding}
-use Rattle.board_package.specs.PackageBoard.{IsBoardOf, Stop, Comes, IsFirstStop, IsHeldWith, StopsTaking}
+use Rattle.board_package.specs.PackageBoard.{Stop}
 use Rattle.board_shapes.specs.Plain.{PlainBoard}
 use Rattle.board_shapes.specs.Tables.{IsTables}
 use Rattle.boardnet.specs.Command.{Command, Audit}
 use Rattle.boardnet.specs.Common.{IsLineOf, Outcome, Told, Refused}
 use Rattle.boardnet.specs.Lines.{counted_line, plain_line, file_line, end}
+use Rattle.boardnet.specs.Source.{Source, ComesBy, FitsBefore, FitsThen, IsFileWith, IsFirstStopBy, NextBy, StopsFileBy}
 use Rattle.boardnet.specs.Task.{Task}
 use Rattle.boardnet.specs.declared.answer.Unanswered.{Unanswered}
 use Rattle.boardnet.specs.declared.answer.Unanswered.TheVariants.{NotAReport}
@@ -41,112 +39,46 @@ HasRuling tables v text status line =
     (IsRight tables v × (text ≡ codes "audit true" ++ end) × (status ≡ 0) × (line ≡ plain_line (codes "audit true")))
     ⊎ ((n : ℕ) × FailsFirst tables v n × (text ≡ codes "audit untrue " ++ decimal n ++ end) × (status ≡ 1) × (line ≡ counted_line (codes "audit untrue ") n))
 
--- The package fits, the report is held and is the text of a verdict, and this is what its audit answers.
-pub record IsAnswer (files : Files) (manifest report text : List ℕ) (status : ℕ) (line : List ℕ) : Type 0 where
+-- The package fits, the report behind it is the text of a verdict, and this is what its audit answers.
+pub record IsAnswer (source : Source) (manifest report text : List ℕ) (status : ℕ) (line : List ℕ) : Type 0 where
   pub board : PlainBoard
-  pub board_is : IsBoardOf files manifest board
   pub tables : Tables
   pub tables_are : IsTables board tables
   pub verdict : Verdict
-  pub read : IsHeldWith files report (λ bytes. IsTextOf bytes verdict)
+  pub read : FitsBefore source manifest board (λ rest. IsFileWith rest report (λ bytes. IsTextOf bytes verdict))
   pub ruling : HasRuling tables verdict text status line
 
 -- The package fits, and the report, which comes next, is not there to be read.
-pub record StopsAtReport (files : Files) (manifest report : List ℕ) (stop : Stop) : Type 0 where
-  pub board : PlainBoard
-  pub board_is : IsBoardOf files manifest board
-  pub stops : StopsTaking files report stop
+abbrev pub StopsAtReport : Source → List ℕ → List ℕ → Stop → Type 0
+StopsAtReport source manifest report stop = FitsThen source manifest (λ rest. StopsFileBy rest report stop)
 
 -- The first stop of an audit: the package's, or the report's.
-abbrev pub IsAuditStop : Files → List ℕ → List ℕ → Stop → Type 0
-IsAuditStop files manifest report stop = IsFirstStop files manifest stop ⊎ StopsAtReport files manifest report stop
+abbrev pub IsAuditStop : Source → List ℕ → List ℕ → Stop → Type 0
+IsAuditStop source manifest report stop = IsFirstStopBy source manifest stop ⊎ StopsAtReport source manifest report stop
 
 -- An audit stops at a refusal, and this is its line.
-pub record IsAuditRefusal (files : Files) (manifest report line : List ℕ) : Type 0 where
+pub record IsAuditRefusal (source : Source) (manifest report line : List ℕ) : Type 0 where
   pub stop : Stop
-  pub first : IsAuditStop files manifest report stop
+  pub first : IsAuditStop source manifest report stop
   pub line_is : IsLineOf manifest stop line
 
--- The package fits, and the report is the text of no verdict.
-pub record IsMisread (files : Files) (manifest report line : List ℕ) : Type 0 where
-  pub board : PlainBoard
-  pub board_is : IsBoardOf files manifest board
-  pub held : IsHeldWith files report IsNoReport
-  pub line_is : line ≡ file_line report (codes "not a report")
+-- The package fits, and the report behind it is the text of no verdict.
+abbrev pub IsNoText : Source → List ℕ → List ℕ → Type 0
+IsNoText source manifest report = FitsThen source manifest (λ rest. IsFileWith rest report IsNoReport)
 
--- The package fits, and the report is the text of no verdict.
-pub record IsNoText (files : Files) (manifest report : List ℕ) : Type 0 where
-  pub board : PlainBoard
-  pub board_is : IsBoardOf files manifest board
-  pub held : IsHeldWith files report IsNoReport
-
--- `audit` over the files comes to its ruling on the report, or to the refusal of the package or of the report
-abbrev pub AuditOutcome : Files → List ℕ → List ℕ → Outcome → Type 0
-AuditOutcome files manifest report (Told text status line) = IsAnswer files manifest report text status line
-AuditOutcome files manifest report (Refused line) = IsAuditRefusal files manifest report line ⊎ IsMisread files manifest report line
+-- `audit` comes to its ruling on the report, or to the refusal of the package or of the report
+abbrev pub AuditOutcome : Source → List ℕ → List ℕ → Outcome → Type 0
+AuditOutcome source manifest report (Told text status line) = IsAnswer source manifest report text status line
+AuditOutcome source manifest report (Refused line) = IsAuditRefusal source manifest report line ⊎ (IsNoText source manifest report × (line ≡ file_line report (codes "not a report")))
 
 -- The package fits, and the name is that of the report, which comes next.
-pub record IsReportNext (files : Files) (manifest report name : List ℕ) : Type 0 where
-  pub board : PlainBoard
-  pub board_is : IsBoardOf files manifest board
-  pub name_is : name ≡ report
+abbrev pub IsReportNext : Source → List ℕ → List ℕ → List ℕ → Type 0
+IsReportNext source manifest report name = FitsThen source manifest (λ rest. NextBy rest report name)
 
 -- beside a stop: the report is the text of no verdict
-abbrev pub AuditRefuses : Option Files → List ℕ → List ℕ → Unanswered → Type 0
-AuditRefuses held manifest report NotAReport = IfSome held (λ files. IsNoText files manifest report)
-AuditRefuses held manifest report other = ⊥
-
--- ---- By what was handed over
-
--- The package was handed over and fits, then the report, which is the text of a verdict, and nothing else; and this is what its
--- audit answers.
-pub record IsHandedAnswer (before after : List Handed) (manifest report text : List ℕ) (status : ℕ) (line : List ℕ) : Type 0 where
-  pub board : PlainBoard
-  pub built : List Handed
-  pub board_is : IsBoardHanded before built manifest board
-  pub tables : Tables
-  pub tables_are : IsTables board tables
-  pub verdict : Verdict
-  pub read : IsHandedWith built after report (λ bytes. IsTextOf bytes verdict)
-  pub ruling : HasRuling tables verdict text status line
-
--- the package was handed over and fits, and the report, which came next, is too long
-pub record StopsAtReportHanded (before after : List Handed) (manifest report : List ℕ) (stop : Stop) : Type 0 where
-  pub board : PlainBoard
-  pub built : List Handed
-  pub board_is : IsBoardHanded before built manifest board
-  pub stops : StopsHanding built after report stop
-
-abbrev pub IsAuditStopHanded : List Handed → List Handed → List ℕ → List ℕ → Stop → Type 0
-IsAuditStopHanded before after manifest report stop = IsFirstStopHanded before after manifest stop ⊎ StopsAtReportHanded before after manifest report stop
-
--- An audit stops at a refusal, and this is its line.
-pub record IsAuditRefusalHanded (before after : List Handed) (manifest report line : List ℕ) : Type 0 where
-  pub stop : Stop
-  pub first : IsAuditStopHanded before after manifest report stop
-  pub line_is : IsLineOf manifest stop line
-
--- The package was handed over and fits, and the report behind it is the text of no verdict.
-pub record IsNoTextHanded (before after : List Handed) (manifest report : List ℕ) : Type 0 where
-  pub board : PlainBoard
-  pub built : List Handed
-  pub board_is : IsBoardHanded before built manifest board
-  pub read : IsHandedWith built after report IsNoReport
-
--- the package was handed over and fits, and the name is that of the report, which comes next
-pub record IsReportNextHanded (before after : List Handed) (manifest report name : List ℕ) : Type 0 where
-  pub board : PlainBoard
-  pub built : List Handed
-  pub board_is : IsBoardHanded before built manifest board
-  pub next : ComesNext built after report name
-
-abbrev pub AuditHanded : List Handed → List Handed → List ℕ → List ℕ → Outcome → Type 0
-AuditHanded before after manifest report (Told text status line) = IsHandedAnswer before after manifest report text status line
-AuditHanded before after manifest report (Refused line) = IsAuditRefusalHanded before after manifest report line ⊎ (IsNoTextHanded before after manifest report × (line ≡ file_line report (codes "not a report")))
-
-abbrev pub AuditRefusesHanded : List Handed → List Handed → List ℕ → List ℕ → Unanswered → Type 0
-AuditRefusesHanded before after manifest report NotAReport = IsNoTextHanded before after manifest report
-AuditRefusesHanded before after manifest report other = ⊥
+abbrev pub AuditRefuses : Source → List ℕ → List ℕ → Unanswered → Type 0
+AuditRefuses source manifest report NotAReport = IsNoText source manifest report
+AuditRefuses source manifest report other = ⊥
 
 abbrev pub audit : List ℕ → List ℕ → Task
 audit manifest report = record {
@@ -157,17 +89,11 @@ audit manifest report = record {
   report = report;
   takes = Unit {0};
   reads = λ held. held;
-  comes = λ files name. Comes files manifest name ⊎ IsReportNext files manifest report name;
-  stops = λ files stop. IsAuditStop files manifest report stop;
-  refuses = λ held why. AuditRefuses held manifest report why;
-  outcome = λ files outcome. AuditOutcome files manifest report outcome;
-  has_text = λ files. (text line : List ℕ) × (status : ℕ) × IsAnswer files manifest report text status line;
-  handed = λ before after. record {
-    stops = λ stop. IsAuditStopHanded before after manifest report stop;
-    comes = λ name. ComesHanded before after manifest name ⊎ IsReportNextHanded before after manifest report name;
-    refuses = λ why. AuditRefusesHanded before after manifest report why;
-    outcome = λ outcome. AuditHanded before after manifest report outcome;
-  };
+  comes = λ source name. ComesBy source manifest name ⊎ IsReportNext source manifest report name;
+  stops = λ source stop. IsAuditStop source manifest report stop;
+  refuses = λ source why. AuditRefuses source manifest report why;
+  outcome = λ source outcome. AuditOutcome source manifest report outcome;
+  has_text = λ source. (text line : List ℕ) × (status : ℕ) × IsAnswer source manifest report text status line;
 }
 
 -- the command that words behind its name can ask for; whether they are texts, and in range, is for `IsAudit` to say

@@ -10,6 +10,7 @@ use Rattle.boardnet.specs.Command.{Command, Trial}
 use Rattle.boardnet.specs.Common.{IsRefusal, Outcome, Told, Refused}
 use Rattle.boardnet.specs.Lines.{plain_line, end}
 use Rattle.boardnet.specs.Right.{IsRightOn}
+use Rattle.boardnet.specs.Source.{Held}
 use Rattle.boardnet.specs.Task.{Task}
 use Rattle.boardnet.specs.declared.answer.Unanswered.{Unanswered}
 use Rattle.boardnet.specs.declared.answer.Unanswered.TheVariants.{SizeTooLarge}
@@ -55,7 +56,7 @@ pub record IsTooLarge (size : ℕ) (line : List ℕ) : Type 0 where
 -- The made package's first stop is a refusal, and this is its line.
 pub record IsMadeRefusal (seed size : ℕ) (line : List ℕ) : Type 0 where
   pub small : size ≤ 10000
-  pub refusal : IsRefusal (made_files seed size) made_manifest line
+  pub refusal : IsRefusal (Held (made_files seed size)) made_manifest line
 
 -- `trial` comes to the summary of a made board, or to the refusal of its size or of the made package
 abbrev pub TrialOutcome : ℕ → ℕ → Outcome → Type 0
@@ -77,17 +78,11 @@ trial seed size = record {
   report = [];
   takes = ⊥;
   reads = λ held. Some (made_files seed size);
-  comes = λ files name. ⊥;
-  stops = λ files stop. (size ≤ 10000) × IsFirstStop (made_files seed size) made_manifest stop;
-  refuses = λ held why. TrialRefuses size why;
-  outcome = λ files outcome. TrialOutcome seed size outcome;
-  has_text = λ files. (size ≤ 10000) × (board : PlainBoard) × IsBoardOf (made_files seed size) made_manifest board;
-  handed = λ before after. record {
-    stops = λ stop. (size ≤ 10000) × IsFirstStop (made_files seed size) made_manifest stop;
-    comes = λ name. ⊥;
-    refuses = λ why. TrialRefuses size why;
-    outcome = λ outcome. TrialOutcome seed size outcome;
-  };
+  comes = λ source name. ⊥;
+  stops = λ source stop. (size ≤ 10000) × IsFirstStop (made_files seed size) made_manifest stop;
+  refuses = λ source why. TrialRefuses size why;
+  outcome = λ source outcome. TrialOutcome seed size outcome;
+  has_text = λ source. (size ≤ 10000) × (board : PlainBoard) × IsBoardOf (made_files seed size) made_manifest board;
 }
 
 -- the command that words behind its name can ask for; whether they are texts, and in range, is for `IsTrial` to say

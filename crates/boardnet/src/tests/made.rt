@@ -1,6 +1,6 @@
 // A hundred made boards. `audit` takes the report that `check` puts on each, in both versions, also with its nets listed in
 // another lawful order, and one change of each kind is untrue at the clause that it breaks.
-use crate::tests::labels::TWO_LAYERS;
+use crate::tests::commands::x2::TWO_LAYERS;
 use crate::tests::packages::BARREL;
 use crate::tests::{AUDIT, MANIFEST, TIE, answer, gerber, has, shown, text};
 use board_io::MemoryPackage;

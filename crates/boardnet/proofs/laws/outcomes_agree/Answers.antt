@@ -1,5 +1,6 @@
-use Rattle.boardnet.proofs.Tasks.{sound}
+use Rattle.std.proofs.Common.{Some}
+use Rattle.boardnet.proofs.Soundness.{sound}
 use Rattle.boardnet.proofs.laws.outcomes_agree.Goals as goal
 
 pub returns : goal.returns
-returns c = λ files before after command outcome w is. ((sound command).agrees c.handed_is_held.ensures files before after w).outcome outcome is
+returns c = λ files before after command outcome w is. ((sound command).agrees c.handed_is_held.ensures (Some files) before after w).outcome outcome is

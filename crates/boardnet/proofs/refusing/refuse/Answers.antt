@@ -1,6 +1,6 @@
 use Rattle.std.proofs.Common.{List, ℕ, codes, refl, subst, sym, ◌∙◌}
 use Rattle.boardnet.specs.Answers.{RefusesFor}
-use Rattle.boardnet.specs.Asked.{asked}
+use Rattle.boardnet.specs.Command.{asked}
 use Rattle.boardnet.specs.Lines.{Says, file_line}
 use Rattle.boardnet.specs.Outcome.{flatten_line}
 use Rattle.boardnet.proofs.refusing.refuse.Goals as goal

@@ -2,18 +2,18 @@ use Rattle.std.proofs.Common.{◌≡◌, ◌≤◌, ◌⊎◌, inl, inr, ℕ, Li
 use Rattle.board_io.specs.Causes.{Rose}
 use Rattle.board_io.specs.Sink.{Gains, GainsFrontOf}
 use Rattle.boardnet.proofs.Asking.{one_command, under_asked, under_command}
-use Rattle.boardnet.proofs.Tasks.{sound}
-use Rattle.boardnet.proofs.Tasks.Audit.{answered_named, of_audit}
-use Rattle.boardnet.proofs.Tasks.Check.{checked_named, of_check}
-use Rattle.boardnet.proofs.Tasks.Flatten.{of_flatten, rewritten_named}
-use Rattle.boardnet.proofs.Tasks.Gaps.{listed_named, of_gaps}
-use Rattle.boardnet.proofs.Tasks.Write.{netlisted_named}
-use Rattle.boardnet.proofs.Tasks.X2.{labelled_named, of_x2}
-use Rattle.boardnet.specs.Asked.{asked}
+use Rattle.boardnet.proofs.Soundness.{sound}
+use Rattle.boardnet.proofs.Soundness.Audit.{answered_named, of_audit}
+use Rattle.boardnet.proofs.Soundness.Check.{checked_named, of_check}
+use Rattle.boardnet.proofs.Soundness.Flatten.{of_flatten, rewritten_named}
+use Rattle.boardnet.proofs.Soundness.Gaps.{listed_named, of_gaps}
+use Rattle.boardnet.proofs.Soundness.Write.{netlisted_named, of_write}
+use Rattle.boardnet.proofs.Soundness.X2.{labelled_named, of_x2}
+use Rattle.boardnet.specs.Command.{asked}
 use Rattle.boardnet.specs.Ends.{Ends, HasText, TakesFiles}
 use Rattle.boardnet.specs.Lines.{Says}
-use Rattle.boardnet.specs.Outcome.{OutcomeOf, Refused, Told}
-use Rattle.boardnet.specs.HandedOutcome.{EndsHanded, account_of}
+use Rattle.boardnet.specs.Outcome.{HandedOver, Held, OutcomeOf, Refused, Told}
+use Rattle.boardnet.specs.HandedOutcome.{EndsHanded}
 use Rattle.boardnet.specs.Words.{Audit, Check, Flatten, Gaps, Trial, Write, X2}
 use Rattle.boardnet.proofs.run.run.Goals as goal
 
@@ -48,63 +48,71 @@ returns-in-Some-clause-untouched g c = λ h. elim h [
 pub returns-in-Some-clause-tried : goal.returns-in-Some-clause-tried
 returns-in-Some-clause-tried g c = λ few seed size is.
     under_command (g.P.Package.held c.args.package.now) c.args.words.now (asked c.in-Some.command)
-    (λ files command. (text line : List ℕ) × OutcomeOf files command (Told text c.perform.result line) × Gains (g.S.Sink.got c.args.out.now) text (g.S.Sink.got c.perform.new.out) × Says g.N.Sink.got g.N.Sink.faults c.args.notes.now c.perform.new.notes line)
+    (λ files command. (text line : List ℕ) × OutcomeOf (Held files) command (Told text c.perform.result line) × Gains (g.S.Sink.got c.args.out.now) text (g.S.Sink.got c.perform.new.out) × Says g.N.Sink.got g.N.Sink.faults c.args.notes.now c.perform.new.notes line)
     c.in-Some.ensures.some (c.perform.ensures.ends.told few) (Trial seed size) is
 
 pub returns-in-Some-clause-gapped : goal.returns-in-Some-clause-gapped
 returns-in-Some-clause-gapped g c = λ few.
     of_gaps (g.P.Package.held c.args.package.now) c.args.words.now
-    (λ files command. (text line : List ℕ) × OutcomeOf files command (Told text c.perform.result line) × Gains (g.S.Sink.got c.args.out.now) text (g.S.Sink.got c.perform.new.out) × Says g.N.Sink.got g.N.Sink.faults c.args.notes.now c.perform.new.notes line)
+    (λ files command. (text line : List ℕ) × OutcomeOf (Held files) command (Told text c.perform.result line) × Gains (g.S.Sink.got c.args.out.now) text (g.S.Sink.got c.perform.new.out) × Says g.N.Sink.got g.N.Sink.faults c.args.notes.now c.perform.new.notes line)
     (under_command (g.P.Package.held c.args.package.now) c.args.words.now (asked c.in-Some.command)
-    (λ files command. (text line : List ℕ) × OutcomeOf files command (Told text c.perform.result line) × Gains (g.S.Sink.got c.args.out.now) text (g.S.Sink.got c.perform.new.out) × Says g.N.Sink.got g.N.Sink.faults c.args.notes.now c.perform.new.notes line)
+    (λ files command. (text line : List ℕ) × OutcomeOf (Held files) command (Told text c.perform.result line) × Gains (g.S.Sink.got c.args.out.now) text (g.S.Sink.got c.perform.new.out) × Says g.N.Sink.got g.N.Sink.faults c.args.notes.now c.perform.new.notes line)
+    c.in-Some.ensures.some (c.perform.ensures.ends.told few))
+
+pub returns-in-Some-clause-written : goal.returns-in-Some-clause-written
+returns-in-Some-clause-written g c = λ few.
+    of_write (g.P.Package.held c.args.package.now) c.args.words.now
+    (λ files command. (text line : List ℕ) × OutcomeOf (Held files) command (Told text c.perform.result line) × Gains (g.S.Sink.got c.args.out.now) text (g.S.Sink.got c.perform.new.out) × Says g.N.Sink.got g.N.Sink.faults c.args.notes.now c.perform.new.notes line)
+    (under_command (g.P.Package.held c.args.package.now) c.args.words.now (asked c.in-Some.command)
+    (λ files command. (text line : List ℕ) × OutcomeOf (Held files) command (Told text c.perform.result line) × Gains (g.S.Sink.got c.args.out.now) text (g.S.Sink.got c.perform.new.out) × Says g.N.Sink.got g.N.Sink.faults c.args.notes.now c.perform.new.notes line)
     c.in-Some.ensures.some (c.perform.ensures.ends.told few))
 
 pub returns-in-Some-clause-audited : goal.returns-in-Some-clause-audited
 returns-in-Some-clause-audited g c = λ few.
     of_audit (g.P.Package.held c.args.package.now) c.args.words.now
-    (λ files command. (text line : List ℕ) × OutcomeOf files command (Told text c.perform.result line) × Gains (g.S.Sink.got c.args.out.now) text (g.S.Sink.got c.perform.new.out) × Says g.N.Sink.got g.N.Sink.faults c.args.notes.now c.perform.new.notes line)
+    (λ files command. (text line : List ℕ) × OutcomeOf (Held files) command (Told text c.perform.result line) × Gains (g.S.Sink.got c.args.out.now) text (g.S.Sink.got c.perform.new.out) × Says g.N.Sink.got g.N.Sink.faults c.args.notes.now c.perform.new.notes line)
     (under_command (g.P.Package.held c.args.package.now) c.args.words.now (asked c.in-Some.command)
-    (λ files command. (text line : List ℕ) × OutcomeOf files command (Told text c.perform.result line) × Gains (g.S.Sink.got c.args.out.now) text (g.S.Sink.got c.perform.new.out) × Says g.N.Sink.got g.N.Sink.faults c.args.notes.now c.perform.new.notes line)
+    (λ files command. (text line : List ℕ) × OutcomeOf (Held files) command (Told text c.perform.result line) × Gains (g.S.Sink.got c.args.out.now) text (g.S.Sink.got c.perform.new.out) × Says g.N.Sink.got g.N.Sink.faults c.args.notes.now c.perform.new.notes line)
     c.in-Some.ensures.some (c.perform.ensures.ends.told few))
 
 pub returns-in-Some-clause-labelled : goal.returns-in-Some-clause-labelled
 returns-in-Some-clause-labelled g c = λ few.
     of_x2 (g.P.Package.held c.args.package.now) c.args.words.now
-    (λ files command. (text line : List ℕ) × OutcomeOf files command (Told text c.perform.result line) × Gains (g.S.Sink.got c.args.out.now) text (g.S.Sink.got c.perform.new.out) × Says g.N.Sink.got g.N.Sink.faults c.args.notes.now c.perform.new.notes line)
+    (λ files command. (text line : List ℕ) × OutcomeOf (Held files) command (Told text c.perform.result line) × Gains (g.S.Sink.got c.args.out.now) text (g.S.Sink.got c.perform.new.out) × Says g.N.Sink.got g.N.Sink.faults c.args.notes.now c.perform.new.notes line)
     (under_command (g.P.Package.held c.args.package.now) c.args.words.now (asked c.in-Some.command)
-    (λ files command. (text line : List ℕ) × OutcomeOf files command (Told text c.perform.result line) × Gains (g.S.Sink.got c.args.out.now) text (g.S.Sink.got c.perform.new.out) × Says g.N.Sink.got g.N.Sink.faults c.args.notes.now c.perform.new.notes line)
+    (λ files command. (text line : List ℕ) × OutcomeOf (Held files) command (Told text c.perform.result line) × Gains (g.S.Sink.got c.args.out.now) text (g.S.Sink.got c.perform.new.out) × Says g.N.Sink.got g.N.Sink.faults c.args.notes.now c.perform.new.notes line)
     c.in-Some.ensures.some (c.perform.ensures.ends.told few))
 
 pub returns-in-Some-clause-refused : goal.returns-in-Some-clause-refused
 returns-in-Some-clause-refused g c = λ three.
     under_command (g.P.Package.held c.args.package.now) c.args.words.now (asked c.in-Some.command)
-    (λ files command. (line : List ℕ) × OutcomeOf files command (Refused line) × Says g.N.Sink.got g.N.Sink.faults c.args.notes.now c.perform.new.notes line)
+    (λ files command. (line : List ℕ) × OutcomeOf (Held files) command (Refused line) × Says g.N.Sink.got g.N.Sink.faults c.args.notes.now c.perform.new.notes line)
     c.in-Some.ensures.some (c.perform.ensures.ends.refused three)
 
 pub returns-in-Some-clause-front : goal.returns-in-Some-clause-front
 returns-in-Some-clause-front g c = λ five.
     under_command (g.P.Package.held c.args.package.now) c.args.words.now (asked c.in-Some.command)
-    (λ files command. (text line : List ℕ) × (status : ℕ) × OutcomeOf files command (Told text status line) × GainsFrontOf (g.S.Sink.got c.args.out.now) text (g.S.Sink.got c.perform.new.out))
+    (λ files command. (text line : List ℕ) × (status : ℕ) × OutcomeOf (Held files) command (Told text status line) × GainsFrontOf (g.S.Sink.got c.args.out.now) text (g.S.Sink.got c.perform.new.out))
     c.in-Some.ensures.some (c.perform.ensures.ends.front five)
 
 pub returns-in-Some-clause-listed : goal.returns-in-Some-clause-listed
 returns-in-Some-clause-listed g c =
     listed_named (g.P.Package.held c.args.package.now) c.args.words.now (Rose (g.P.Package.faults c.args.package.now) (g.P.Package.faults c.perform.new.package)) (Rose (g.S.Sink.faults c.args.out.now) (g.S.Sink.faults c.perform.new.out)) c.perform.result
     (under_command (g.P.Package.held c.args.package.now) c.args.words.now (asked c.in-Some.command)
-    (λ files command. HasText files command → (TakesFiles command → Rose (g.P.Package.faults c.args.package.now) (g.P.Package.faults c.perform.new.package) → ⊥) → (Rose (g.S.Sink.faults c.args.out.now) (g.S.Sink.faults c.perform.new.out) → ⊥) → (c.perform.result ≤ 1) ⊎ (c.perform.result ≡ 6))
+    (λ files command. HasText (Held files) command → (TakesFiles command → Rose (g.P.Package.faults c.args.package.now) (g.P.Package.faults c.perform.new.package) → ⊥) → (Rose (g.S.Sink.faults c.args.out.now) (g.S.Sink.faults c.perform.new.out) → ⊥) → (c.perform.result ≤ 1) ⊎ (c.perform.result ≡ 6))
     c.in-Some.ensures.some c.perform.ensures.ends.complete)
 
 pub returns-in-Some-clause-named : goal.returns-in-Some-clause-named
 returns-in-Some-clause-named g c =
     labelled_named (g.P.Package.held c.args.package.now) c.args.words.now (Rose (g.P.Package.faults c.args.package.now) (g.P.Package.faults c.perform.new.package)) (Rose (g.S.Sink.faults c.args.out.now) (g.S.Sink.faults c.perform.new.out)) c.perform.result
     (under_command (g.P.Package.held c.args.package.now) c.args.words.now (asked c.in-Some.command)
-    (λ files command. HasText files command → (TakesFiles command → Rose (g.P.Package.faults c.args.package.now) (g.P.Package.faults c.perform.new.package) → ⊥) → (Rose (g.S.Sink.faults c.args.out.now) (g.S.Sink.faults c.perform.new.out) → ⊥) → (c.perform.result ≤ 1) ⊎ (c.perform.result ≡ 6))
+    (λ files command. HasText (Held files) command → (TakesFiles command → Rose (g.P.Package.faults c.args.package.now) (g.P.Package.faults c.perform.new.package) → ⊥) → (Rose (g.S.Sink.faults c.args.out.now) (g.S.Sink.faults c.perform.new.out) → ⊥) → (c.perform.result ≤ 1) ⊎ (c.perform.result ≡ 6))
     c.in-Some.ensures.some c.perform.ensures.ends.complete)
 
 pub returns-in-Some-clause-summarized : goal.returns-in-Some-clause-summarized
 returns-in-Some-clause-summarized g c = λ seed size is small board fits quiet.
     under_command (g.P.Package.held c.args.package.now) c.args.words.now (asked c.in-Some.command)
-    (λ files command. HasText files command → (TakesFiles command → Rose (g.P.Package.faults c.args.package.now) (g.P.Package.faults c.perform.new.package) → ⊥) → (Rose (g.S.Sink.faults c.args.out.now) (g.S.Sink.faults c.perform.new.out) → ⊥) → (c.perform.result ≤ 1) ⊎ (c.perform.result ≡ 6))
+    (λ files command. HasText (Held files) command → (TakesFiles command → Rose (g.P.Package.faults c.args.package.now) (g.P.Package.faults c.perform.new.package) → ⊥) → (Rose (g.S.Sink.faults c.args.out.now) (g.S.Sink.faults c.perform.new.out) → ⊥) → (c.perform.result ≤ 1) ⊎ (c.perform.result ≡ 6))
     c.in-Some.ensures.some c.perform.ensures.ends.complete (Trial seed size) is (small, board, fits)
     (λ takes. absurd takes) quiet
 
@@ -114,10 +122,10 @@ returns-in-Some-clause-answered g c =
     (λ text. Gains (g.S.Sink.got c.args.out.now) text (g.S.Sink.got c.perform.new.out)) (λ line. Says g.N.Sink.got g.N.Sink.faults c.args.notes.now c.perform.new.notes line)
     c.one_outcome.ensures c.report_text_is_injective.ensures
     (λ few. under_command (g.P.Package.held c.args.package.now) c.args.words.now (asked c.in-Some.command)
-    (λ files command. (text line : List ℕ) × OutcomeOf files command (Told text c.perform.result line) × Gains (g.S.Sink.got c.args.out.now) text (g.S.Sink.got c.perform.new.out) × Says g.N.Sink.got g.N.Sink.faults c.args.notes.now c.perform.new.notes line)
+    (λ files command. (text line : List ℕ) × OutcomeOf (Held files) command (Told text c.perform.result line) × Gains (g.S.Sink.got c.args.out.now) text (g.S.Sink.got c.perform.new.out) × Says g.N.Sink.got g.N.Sink.faults c.args.notes.now c.perform.new.notes line)
     c.in-Some.ensures.some (c.perform.ensures.ends.told few))
     (under_command (g.P.Package.held c.args.package.now) c.args.words.now (asked c.in-Some.command)
-    (λ files command. HasText files command → (TakesFiles command → Rose (g.P.Package.faults c.args.package.now) (g.P.Package.faults c.perform.new.package) → ⊥) → (Rose (g.S.Sink.faults c.args.out.now) (g.S.Sink.faults c.perform.new.out) → ⊥) → (c.perform.result ≤ 1) ⊎ (c.perform.result ≡ 6))
+    (λ files command. HasText (Held files) command → (TakesFiles command → Rose (g.P.Package.faults c.args.package.now) (g.P.Package.faults c.perform.new.package) → ⊥) → (Rose (g.S.Sink.faults c.args.out.now) (g.S.Sink.faults c.perform.new.out) → ⊥) → (c.perform.result ≤ 1) ⊎ (c.perform.result ≡ 6))
     c.in-Some.ensures.some c.perform.ensures.ends.complete)
 
 pub returns-in-None-clause-rewritten : goal.returns-in-None-clause-rewritten
@@ -126,16 +134,16 @@ returns-in-None-clause-rewritten g c = rewritten_named _ _ _ _ _ (λ command is.
 pub returns-in-Some-clause-flattened : goal.returns-in-Some-clause-flattened
 returns-in-Some-clause-flattened g c = λ few.
     of_flatten (g.P.Package.held c.args.package.now) c.args.words.now
-    (λ files command. (text line : List ℕ) × OutcomeOf files command (Told text c.perform.result line) × Gains (g.S.Sink.got c.args.out.now) text (g.S.Sink.got c.perform.new.out) × Says g.N.Sink.got g.N.Sink.faults c.args.notes.now c.perform.new.notes line)
+    (λ files command. (text line : List ℕ) × OutcomeOf (Held files) command (Told text c.perform.result line) × Gains (g.S.Sink.got c.args.out.now) text (g.S.Sink.got c.perform.new.out) × Says g.N.Sink.got g.N.Sink.faults c.args.notes.now c.perform.new.notes line)
     (under_command (g.P.Package.held c.args.package.now) c.args.words.now (asked c.in-Some.command)
-    (λ files command. (text line : List ℕ) × OutcomeOf files command (Told text c.perform.result line) × Gains (g.S.Sink.got c.args.out.now) text (g.S.Sink.got c.perform.new.out) × Says g.N.Sink.got g.N.Sink.faults c.args.notes.now c.perform.new.notes line)
+    (λ files command. (text line : List ℕ) × OutcomeOf (Held files) command (Told text c.perform.result line) × Gains (g.S.Sink.got c.args.out.now) text (g.S.Sink.got c.perform.new.out) × Says g.N.Sink.got g.N.Sink.faults c.args.notes.now c.perform.new.notes line)
     c.in-Some.ensures.some (c.perform.ensures.ends.told few))
 
 pub returns-in-Some-clause-rewritten : goal.returns-in-Some-clause-rewritten
 returns-in-Some-clause-rewritten g c =
     rewritten_named (g.P.Package.held c.args.package.now) c.args.words.now (Rose (g.P.Package.faults c.args.package.now) (g.P.Package.faults c.perform.new.package)) (Rose (g.S.Sink.faults c.args.out.now) (g.S.Sink.faults c.perform.new.out)) c.perform.result
     (under_command (g.P.Package.held c.args.package.now) c.args.words.now (asked c.in-Some.command)
-    (λ files command. HasText files command → (TakesFiles command → Rose (g.P.Package.faults c.args.package.now) (g.P.Package.faults c.perform.new.package) → ⊥) → (Rose (g.S.Sink.faults c.args.out.now) (g.S.Sink.faults c.perform.new.out) → ⊥) → (c.perform.result ≤ 1) ⊎ (c.perform.result ≡ 6))
+    (λ files command. HasText (Held files) command → (TakesFiles command → Rose (g.P.Package.faults c.args.package.now) (g.P.Package.faults c.perform.new.package) → ⊥) → (Rose (g.S.Sink.faults c.args.out.now) (g.S.Sink.faults c.perform.new.out) → ⊥) → (c.perform.result ≤ 1) ⊎ (c.perform.result ≡ 6))
     c.in-Some.ensures.some c.perform.ensures.ends.complete)
 
 pub returns-in-None-clause-unjudged : goal.returns-in-None-clause-unjudged
@@ -153,9 +161,9 @@ returns-in-Some-clause-unjudged g c = λ name h. c.perform.ensures.unjudged name
 pub returns-in-Some-clause-right : goal.returns-in-Some-clause-right
 returns-in-Some-clause-right g c = λ few.
     of_check (g.P.Package.held c.args.package.now) c.args.words.now
-    (λ files command. (text line : List ℕ) × OutcomeOf files command (Told text c.perform.result line) × Gains (g.S.Sink.got c.args.out.now) text (g.S.Sink.got c.perform.new.out) × Says g.N.Sink.got g.N.Sink.faults c.args.notes.now c.perform.new.notes line)
+    (λ files command. (text line : List ℕ) × OutcomeOf (Held files) command (Told text c.perform.result line) × Gains (g.S.Sink.got c.args.out.now) text (g.S.Sink.got c.perform.new.out) × Says g.N.Sink.got g.N.Sink.faults c.args.notes.now c.perform.new.notes line)
     (under_command (g.P.Package.held c.args.package.now) c.args.words.now (asked c.in-Some.command)
-    (λ files command. (text line : List ℕ) × OutcomeOf files command (Told text c.perform.result line) × Gains (g.S.Sink.got c.args.out.now) text (g.S.Sink.got c.perform.new.out) × Says g.N.Sink.got g.N.Sink.faults c.args.notes.now c.perform.new.notes line)
+    (λ files command. (text line : List ℕ) × OutcomeOf (Held files) command (Told text c.perform.result line) × Gains (g.S.Sink.got c.args.out.now) text (g.S.Sink.got c.perform.new.out) × Says g.N.Sink.got g.N.Sink.faults c.args.notes.now c.perform.new.notes line)
     c.in-Some.ensures.some (c.perform.ensures.ends.told few))
 
 pub returns-in-None-clause-handed : goal.returns-in-None-clause-handed
@@ -164,48 +172,48 @@ returns-in-None-clause-handed g c = λ command is. absurd (c.in-None.ensures.non
 pub returns-in-Some-clause-handed : goal.returns-in-Some-clause-handed
 returns-in-Some-clause-handed g c =
     under_asked c.args.words.now (asked c.in-Some.command)
-    (λ command. EndsHanded (account_of command (g.P.Package.handed c.args.package.now) (g.P.Package.handed c.perform.new.package)) (g.P.Package.lost c.perform.new.package) g.S.Sink.handed g.S.Sink.got g.N.Sink.got g.N.Sink.faults c.args.out.now c.perform.new.out c.args.notes.now c.perform.new.notes c.perform.result)
+    (λ command. EndsHanded (HandedOver (g.P.Package.handed c.args.package.now) (g.P.Package.handed c.perform.new.package)) command (g.P.Package.lost c.perform.new.package) g.S.Sink.handed g.S.Sink.got g.N.Sink.got g.N.Sink.faults c.args.out.now c.perform.new.out c.args.notes.now c.perform.new.notes c.perform.result)
     c.in-Some.ensures.some c.perform.ensures.handed
 
 pub returns-in-Some-clause-handed_right : goal.returns-in-Some-clause-handed_right
 returns-in-Some-clause-handed_right g c = λ few version name is.
     let ends = under_asked c.args.words.now (asked c.in-Some.command)
-    (λ command. EndsHanded (account_of command (g.P.Package.handed c.args.package.now) (g.P.Package.handed c.perform.new.package)) (g.P.Package.lost c.perform.new.package) g.S.Sink.handed g.S.Sink.got g.N.Sink.got g.N.Sink.faults c.args.out.now c.perform.new.out c.args.notes.now c.perform.new.notes c.perform.result)
+    (λ command. EndsHanded (HandedOver (g.P.Package.handed c.args.package.now) (g.P.Package.handed c.perform.new.package)) command (g.P.Package.lost c.perform.new.package) g.S.Sink.handed g.S.Sink.got g.N.Sink.got g.N.Sink.faults c.args.out.now c.perform.new.out c.args.notes.now c.perform.new.notes c.perform.result)
     c.in-Some.ensures.some c.perform.ensures.handed (Check version name) is in
     ends.told few
 
 pub returns-in-Some-clause-handed_ruling : goal.returns-in-Some-clause-handed_ruling
 returns-in-Some-clause-handed_ruling g c = λ few manifest report is.
     let ends = under_asked c.args.words.now (asked c.in-Some.command)
-    (λ command. EndsHanded (account_of command (g.P.Package.handed c.args.package.now) (g.P.Package.handed c.perform.new.package)) (g.P.Package.lost c.perform.new.package) g.S.Sink.handed g.S.Sink.got g.N.Sink.got g.N.Sink.faults c.args.out.now c.perform.new.out c.args.notes.now c.perform.new.notes c.perform.result)
+    (λ command. EndsHanded (HandedOver (g.P.Package.handed c.args.package.now) (g.P.Package.handed c.perform.new.package)) command (g.P.Package.lost c.perform.new.package) g.S.Sink.handed g.S.Sink.got g.N.Sink.got g.N.Sink.faults c.args.out.now c.perform.new.out c.args.notes.now c.perform.new.notes c.perform.result)
     c.in-Some.ensures.some c.perform.ensures.handed (Audit manifest report) is in
     ends.told few
 
 pub returns-in-Some-clause-handed_netlist : goal.returns-in-Some-clause-handed_netlist
 returns-in-Some-clause-handed_netlist g c = λ few name is.
     let ends = under_asked c.args.words.now (asked c.in-Some.command)
-    (λ command. EndsHanded (account_of command (g.P.Package.handed c.args.package.now) (g.P.Package.handed c.perform.new.package)) (g.P.Package.lost c.perform.new.package) g.S.Sink.handed g.S.Sink.got g.N.Sink.got g.N.Sink.faults c.args.out.now c.perform.new.out c.args.notes.now c.perform.new.notes c.perform.result)
+    (λ command. EndsHanded (HandedOver (g.P.Package.handed c.args.package.now) (g.P.Package.handed c.perform.new.package)) command (g.P.Package.lost c.perform.new.package) g.S.Sink.handed g.S.Sink.got g.N.Sink.got g.N.Sink.faults c.args.out.now c.perform.new.out c.args.notes.now c.perform.new.notes c.perform.result)
     c.in-Some.ensures.some c.perform.ensures.handed (Write name) is in
     ends.told few
 
 pub returns-in-Some-clause-handed_gaps : goal.returns-in-Some-clause-handed_gaps
 returns-in-Some-clause-handed_gaps g c = λ few name nanometres is.
     let ends = under_asked c.args.words.now (asked c.in-Some.command)
-    (λ command. EndsHanded (account_of command (g.P.Package.handed c.args.package.now) (g.P.Package.handed c.perform.new.package)) (g.P.Package.lost c.perform.new.package) g.S.Sink.handed g.S.Sink.got g.N.Sink.got g.N.Sink.faults c.args.out.now c.perform.new.out c.args.notes.now c.perform.new.notes c.perform.result)
+    (λ command. EndsHanded (HandedOver (g.P.Package.handed c.args.package.now) (g.P.Package.handed c.perform.new.package)) command (g.P.Package.lost c.perform.new.package) g.S.Sink.handed g.S.Sink.got g.N.Sink.got g.N.Sink.faults c.args.out.now c.perform.new.out c.args.notes.now c.perform.new.notes c.perform.result)
     c.in-Some.ensures.some c.perform.ensures.handed (Gaps name nanometres) is in
     ends.told few
 
 pub returns-in-Some-clause-handed_labels : goal.returns-in-Some-clause-handed_labels
 returns-in-Some-clause-handed_labels g c = λ few name is.
     let ends = under_asked c.args.words.now (asked c.in-Some.command)
-    (λ command. EndsHanded (account_of command (g.P.Package.handed c.args.package.now) (g.P.Package.handed c.perform.new.package)) (g.P.Package.lost c.perform.new.package) g.S.Sink.handed g.S.Sink.got g.N.Sink.got g.N.Sink.faults c.args.out.now c.perform.new.out c.args.notes.now c.perform.new.notes c.perform.result)
+    (λ command. EndsHanded (HandedOver (g.P.Package.handed c.args.package.now) (g.P.Package.handed c.perform.new.package)) command (g.P.Package.lost c.perform.new.package) g.S.Sink.handed g.S.Sink.got g.N.Sink.got g.N.Sink.faults c.args.out.now c.perform.new.out c.args.notes.now c.perform.new.notes c.perform.result)
     c.in-Some.ensures.some c.perform.ensures.handed (X2 name) is in
     ends.told few
 
 pub returns-in-Some-clause-handed_image : goal.returns-in-Some-clause-handed_image
 returns-in-Some-clause-handed_image g c = λ few name is.
     let ends = under_asked c.args.words.now (asked c.in-Some.command)
-    (λ command. EndsHanded (account_of command (g.P.Package.handed c.args.package.now) (g.P.Package.handed c.perform.new.package)) (g.P.Package.lost c.perform.new.package) g.S.Sink.handed g.S.Sink.got g.N.Sink.got g.N.Sink.faults c.args.out.now c.perform.new.out c.args.notes.now c.perform.new.notes c.perform.result)
+    (λ command. EndsHanded (HandedOver (g.P.Package.handed c.args.package.now) (g.P.Package.handed c.perform.new.package)) command (g.P.Package.lost c.perform.new.package) g.S.Sink.handed g.S.Sink.got g.N.Sink.got g.N.Sink.faults c.args.out.now c.perform.new.out c.args.notes.now c.perform.new.notes c.perform.result)
     c.in-Some.ensures.some c.perform.ensures.handed (Flatten name) is in
     ends.told few
 

@@ -1,0 +1,144 @@
+-- That what is told of the command `audit` is sound.
+use Rattle.std.proofs.Common.{◌≡◌, ◌≤◌, ℕ, List, Option, Some, None, IfSome, String, ◌⊎◌, inl, inr, refl, sym, ◌∙◌}
+use Rattle.std.specs.declared.alloc.Global.{Global}
+use Rattle.board_io.proofs.Agreeing.{agree_back, agree_front, grows_file, grows_long, grows_none}
+use Rattle.board_io.specs.Handed.{AgreeWith, Grows, Handed}
+use Rattle.board_io.specs.Package.{Files}
+use Rattle.board_package.specs.HandedLaw.{HandedIsHeld, HoldsWhatWasHanded}
+use Rattle.board_package.specs.HandedBoard.{StopsHanding}
+use Rattle.board_package.specs.Laws.{HasOneOutcome}
+use Rattle.board_package.specs.PackageBoard.{Stop, longer}
+use Rattle.board_shapes.specs.Plain.{PlainBoard}
+use Rattle.boardnet.proofs.Audits.{one_answer, no_misread, no_stop, no_stop_taking}
+use Rattle.boardnet.proofs.Named.{Completes}
+use Rattle.boardnet.proofs.Alike.{line_of_one, same_taking}
+use Rattle.boardnet.specs.OneOutcome.{AreAlike}
+use Rattle.boardnet.proofs.Sound.{Sound, HoldsHanded, Laws}
+use Rattle.boardnet.specs.Answers.{reason_line}
+use Rattle.boardnet.specs.Outcome.{AuditOutcome, ComesFor, HandedOver, Held, IsAnswer, IsAuditStop, IsTextOf, OfFilesRead, Outcome, OutcomeOf, Refused, Source, Told, IsLineOf}
+use Rattle.boardnet.specs.Source.{FitsBefore, IsFileWith, NextBy, StopsFileBy}
+use Rattle.boardnet.specs.commands.Audit.{AuditRefuses, IsNoReport, IsNoText}
+use Rattle.boardnet.specs.Words.{Asks, Command, Audit, IsAudit}
+use Rattle.boardnet.specs.declared.answer.Unanswered.{Unanswered}
+use Rattle.boardnet.specs.declared.answer.Unanswered.TheVariants.{NotAReport}
+use Rattle.verdict.specs.Laws.{ReportTextIsInjective}
+
+misread : (source : Source) (manifest report : List ℕ) (why : Unanswered) → AuditRefuses source manifest report why → AuditOutcome source manifest report (Refused (reason_line manifest report why))
+misread source manifest report NotAReport m = inr (m, refl)
+misread source manifest report other m = absurd m
+
+no_ruling : (f : Files) (manifest report : List ℕ) (why : Unanswered) → AuditRefuses (Held f) manifest report why → (text line : List ℕ) (status : ℕ) → IsAnswer (Held f) manifest report text status line → ⊥
+no_ruling f manifest report NotAReport m text line status a = no_misread f manifest report text line status m a
+no_ruling f manifest report other m text line status a = absurd m
+
+-- ---- Of files that agree with what was handed over: the package, and the report behind it
+
+held_before : HandedIsHeld → (f : Files) (a b : List Handed) (manifest report : List ℕ) (board : PlainBoard) (Then : Source → Type 0) → AgreeWith f a b
+    → ((built : List Handed) → Then (HandedOver built b) → Grows built b) → ((built : List Handed) → HoldsWhatWasHanded f built b report → Then (HandedOver built b) → Then (Held f))
+    → FitsBefore (HandedOver a b) manifest board Then → FitsBefore (Held f) manifest board Then
+held_before law f a b manifest report board Then w grows holds (built, is, x) =
+    let first = law.grows a built manifest board is in
+    let g = grows built x in
+    ((law.holds f a built manifest (agree_front f a built b first g w)).board board is, holds built (law.holds f built b report (agree_back f a built b first g w)) x)
+
+held_file : HandedIsHeld → (f : Files) (a b : List Handed) (manifest report : List ℕ) (board : PlainBoard) (P : List ℕ → Type 0) → AgreeWith f a b
+    → FitsBefore (HandedOver a b) manifest board (λ rest. IsFileWith rest report P) → FitsBefore (Held f) manifest board (λ rest. IsFileWith rest report P)
+held_file law f a b manifest report board P w x =
+    held_before law f a b manifest report board (λ rest. IsFileWith rest report P) w
+    (λ built y. grows_file built b report y.bytes y.file.next) (λ built h y. record { bytes = y.bytes; file = h.held y.bytes y.file; good = y.good }) x
+
+grows_stop : (built b : List Handed) (report : List ℕ) (stop : Stop) → StopsHanding built b report stop → Grows built b
+grows_stop built b report (longer name) s = grows_long built b report _ s.1
+grows_stop built b report other s = absurd s
+
+held_stop : HandedIsHeld → (f : Files) (a b : List Handed) (manifest report : List ℕ) → AgreeWith f a b → (stop : Stop) → IsAuditStop (HandedOver a b) manifest report stop → IsAuditStop (Held f) manifest report stop
+held_stop law f a b manifest report w stop (inl s) = inl ((law.holds f a b manifest w).stop stop s)
+held_stop law f a b manifest report w stop (inr s) = inr (record {
+  board = s.board;
+  behind = held_before law f a b manifest report s.board (λ rest. StopsFileBy rest report stop) w (λ built y. grows_stop built b report stop y) (λ built h y. h.untaken stop y) s.behind;
+})
+
+held_no_text : HandedIsHeld → (f : Files) (a b : List Handed) (manifest report : List ℕ) → AgreeWith f a b → IsNoText (HandedOver a b) manifest report → IsNoText (Held f) manifest report
+held_no_text law f a b manifest report w x = record { board = x.board; behind = held_file law f a b manifest report x.board IsNoReport w x.behind }
+
+held_audit : HandedIsHeld → (f : Files) (a b : List Handed) (manifest report : List ℕ) → AgreeWith f a b → (o : Outcome) → AuditOutcome (HandedOver a b) manifest report o → AuditOutcome (Held f) manifest report o
+held_audit law f a b manifest report w (Told text status line) x =
+    record { board = x.board; tables = x.tables; tables_are = x.tables_are; verdict = x.verdict; read = held_file law f a b manifest report x.board (λ bytes. IsTextOf bytes x.verdict) w x.read; ruling = x.ruling }
+held_audit law f a b manifest report w (Refused line) (inl x) = inl (record { stop = x.stop; first = held_stop law f a b manifest report w x.stop x.first; line_is = x.line_is })
+held_audit law f a b manifest report w (Refused line) (inr (x, is)) = inr (held_no_text law f a b manifest report w x, is)
+
+held_refusal : HandedIsHeld → (f : Files) (a b : List Handed) (manifest report : List ℕ) → AgreeWith f a b → (why : Unanswered) → AuditRefuses (HandedOver a b) manifest report why → AuditRefuses (Held f) manifest report why
+held_refusal law f a b manifest report w NotAReport x = held_no_text law f a b manifest report w x
+held_refusal law f a b manifest report w other x = absurd x
+
+held_next : HandedIsHeld → (f : Files) (a b : List Handed) (manifest report name : List ℕ) → AgreeWith f a b → ComesFor (HandedOver a b) (Audit manifest report) name → ComesFor (Held f) (Audit manifest report) name
+held_next law f a b manifest report name w (inl c) = inl ((law.holds f a b manifest w).comes name c)
+held_next law f a b manifest report name w (inr x) =
+    inr (record { board = x.board; behind = held_before law f a b manifest report x.board (λ rest. NextBy rest report name) w (λ built y. grows_none built b y.1) (λ built h y. y.0) x.behind })
+
+agreed_audit : HandedIsHeld → (manifest report : List ℕ) (held : Option Files) (a b : List Handed) → IfSome held (λ f. AgreeWith f a b) → HoldsHanded (Audit manifest report) held a b
+agreed_audit law manifest report None a b w = record { outcome = λ o x. tt; stops = λ stop s. tt; comes = λ name s. tt; refuses = λ why x. tt }
+agreed_audit law manifest report (Some f) a b w = record {
+  outcome = λ o x. held_audit law f a b manifest report w o x;
+  stops = λ stop s. held_stop law f a b manifest report w stop s;
+  comes = λ name s. held_next law f a b manifest report name w s;
+  refuses = λ why x. held_refusal law f a b manifest report w why x;
+}
+
+-- ---- Two outcomes over the same files
+
+stop_or_text : Laws → (f : Files) (manifest report : List ℕ) (stop : Stop) → IsAuditStop (Held f) manifest report stop → IsNoText (Held f) manifest report → ⊥
+stop_or_text law f manifest report stop (inl first) n = (law.one.listed f manifest).not_both n.board stop n.behind.0 first
+stop_or_text law f manifest report stop (inr s) n = no_stop_taking f report n.behind.1.bytes stop n.behind.1.file s.behind.1
+
+same_audit_stop : Laws → (f : Files) (manifest report : List ℕ) (stop other : Stop) (l k : List ℕ) → IsAuditStop (Held f) manifest report stop → IsAuditStop (Held f) manifest report other → IsLineOf manifest stop l → IsLineOf manifest other k → l ≡ k
+same_audit_stop law f manifest report stop other l k (inl s) (inl t) p q = line_of_one manifest stop other l k ((law.one.listed f manifest).one_stop stop other s t) p q
+same_audit_stop law f manifest report stop other l k (inl s) (inr t) p q = absurd ((law.one.listed f manifest).not_both t.board stop t.behind.0 s)
+same_audit_stop law f manifest report stop other l k (inr s) (inl t) p q = absurd ((law.one.listed f manifest).not_both s.board other s.behind.0 t)
+same_audit_stop law f manifest report stop other l k (inr s) (inr t) p q = same_taking f report manifest stop other l k s.behind.1 t.behind.1 p q
+
+one_audit : Laws → (f : Files) (manifest report : List ℕ) (o p : Outcome) → AuditOutcome (Held f) manifest report o → AuditOutcome (Held f) manifest report p → AreAlike o p
+one_audit law f manifest report (Told text s l) (Told said t k) x y = one_answer f manifest report text l said k s t (law.one.listed f manifest) law.texts x y
+one_audit law f manifest report (Told text s l) (Refused k) x (inl y) = no_stop f manifest report text l s y.stop (law.one.listed f manifest) x y.first
+one_audit law f manifest report (Told text s l) (Refused k) x (inr (y, is)) = no_misread f manifest report text l s y x
+one_audit law f manifest report (Refused l) (Told said t k) (inl x) y = no_stop f manifest report said k t x.stop (law.one.listed f manifest) y x.first
+one_audit law f manifest report (Refused l) (Told said t k) (inr (x, is)) y = no_misread f manifest report said k t x y
+one_audit law f manifest report (Refused l) (Refused k) (inl x) (inl y) = same_audit_stop law f manifest report x.stop y.stop l k x.first y.first x.line_is y.line_is
+one_audit law f manifest report (Refused l) (Refused k) (inl x) (inr (y, is)) = absurd (stop_or_text law f manifest report x.stop x.first y)
+one_audit law f manifest report (Refused l) (Refused k) (inr (x, is)) (inl y) = absurd (stop_or_text law f manifest report y.stop y.first x)
+one_audit law f manifest report (Refused l) (Refused k) (inr (x, is)) (inr (y, is')) = is ∙ sym is'
+
+pub sound_audit : (manifest report : List ℕ) → Sound (Audit manifest report)
+sound_audit manifest report = record {
+  spelled = λ words is. is.spelled;
+  names = λ words is. (is.manifest_text, is.report_text);
+  asks = λ words e fits. record { spelled = e; manifest_text = fits.0; report_text = fits.1 };
+  read = λ fits. refl;
+  stop_outcome = λ source stop line s l. inl (record { stop = stop; first = s; line_is = l });
+  refusal = λ source why m. misread source manifest report why m;
+  no_text = λ law f stop s t. no_stop f manifest report t.0 t.1 t.2 stop (law.listed f manifest) t.3 s;
+  no_refused_text = λ law f why m t. no_ruling f manifest report why m t.0 t.1 t.2 t.3;
+  alike = λ law f o p x y. one_audit law f manifest report o p x y;
+  takes_what_comes = λ f name comes. tt;
+  agrees = λ law held a b w. agreed_audit law manifest report held a b w;
+}
+
+-- What `run` says of it, by its words. An audit that has an answer answers its status.
+pub of_audit : (held : Option Files) (words : List (String Global)) (P : Files → Command → Type 0) → ((c : Command) → Asks words c → OfFilesRead c held (λ files. P files c))
+    → IfSome held (λ files. (manifest report : List ℕ) → IsAudit words manifest report → P files (Audit manifest report))
+of_audit None words P h = tt
+of_audit (Some files) words P h = λ manifest report is. h (Audit manifest report) is
+
+pub answered_named : (held : Option Files) (words : List (String Global)) (A B : Type 0) (status : ℕ) (G L : List ℕ → Type 0)
+    → ((files : Files) (manifest : List ℕ) → HasOneOutcome files manifest) → ReportTextIsInjective
+    → (status ≤ 1 → (c : Command) → Asks words c → OfFilesRead c held (λ f. (text line : List ℕ) × OutcomeOf (Held f) c (Told text status line) × G text × L line)) → Completes held words A B status
+    → IfSome held (λ files. (manifest report : List ℕ) → IsAudit words manifest report → (text line : List ℕ) (s : ℕ) → IsAnswer (Held files) manifest report text s line → (A → ⊥) → (B → ⊥) → (status ≡ s) ⊎ (status ≡ 6))
+answered_named None words A B status G L law one told h = tt
+answered_named (Some files) words A B status G L law one told h = λ manifest report is text line s answer calm quiet.
+    by_status manifest report is text line s answer (h (Audit manifest report) is (text, line, s, answer) (λ takes. calm) quiet)
+  where
+    by_status : (manifest report : List ℕ) → IsAudit words manifest report → (text line : List ℕ) (s : ℕ) → IsAnswer (Held files) manifest report text s line → (status ≤ 1) ⊎ (status ≡ 6) → (status ≡ s) ⊎ (status ≡ 6)
+    by_status manifest report is text line s answer (inr six) = inr six
+    by_status manifest report is text line s answer (inl few) =
+        let mine = told few (Audit manifest report) is in
+        inl (one_answer files manifest report mine.0 mine.1 text line status s (law files manifest) one mine.2 answer).0

@@ -1,0 +1,5 @@
+use Rattle.boardnet.proofs.OneOutcome.{one_handed_outcome}
+use Rattle.boardnet.proofs.laws.one_handed_outcome.Goals as goal
+
+pub returns : goal.returns
+returns c = one_handed_outcome c.one_outcome.ensures c.handed_is_held.ensures

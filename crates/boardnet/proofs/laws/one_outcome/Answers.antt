@@ -1,0 +1,10 @@
+use Rattle.boardnet.proofs.OneOutcome.{one_outcome}
+use Rattle.boardnet.proofs.laws.one_outcome.Goals as goal
+
+pub returns : goal.returns
+returns c = one_outcome (record {
+  one = record { listed = c.one_outcome.ensures; labelled = c.one_labelled_outcome.ensures; flat = c.one_macro_answer.ensures };
+  witnesses = c.verdicts_differ_in_witnesses_only.ensures;
+  texts = c.report_text_is_injective.ensures;
+  gaps = c.gaps_are_one.ensures;
+})

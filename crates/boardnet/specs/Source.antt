@@ -1,0 +1,83 @@
+-- What a command read: the files that a package holds, or those that it handed over between two points of the call, whether it
+-- tells what it holds or not. Each relation here is one of `board_package`, by the one or by the other.
+use Rattle.std.specs.Prelude.{◌≡◌, ℕ, List}
+use Rattle.board_io.specs.Handed.{Handed}
+use Rattle.board_io.specs.Package.{Files}
+use Rattle.board_package.specs.HandedBoard.{ComesHanded, ComesNext, IsBoardHanded, IsFirstStopHanded, IsHanded, StopsHanding}
+use Rattle.board_package.specs.HandedLabelled.{IsFirstLabelledStopHanded, IsLabelledBoardHanded, LabelledComesHanded}
+use Rattle.board_package.specs.LabelledBoard.{IsFirstLabelledStop, IsLabelledBoardOf, LabelledComes, LabelledStop}
+use Rattle.board_package.specs.PackageBoard.{Comes, IsBoardOf, IsFirstStop, IsHeld, Stop, StopsTaking}
+use Rattle.board_shapes.specs.Plain.{PlainBoard}
+
+pub data Source : Type 0 where
+  Held : Files → Source
+  HandedOver : List Handed → List Handed → Source
+
+-- ---- A package
+
+-- the files of the order of this manifest were read, and nothing else; they fit, and this is their board
+abbrev pub IsBoardBy : Source → List ℕ → PlainBoard → Type 0
+IsBoardBy (Held files) manifest board = IsBoardOf files manifest board
+IsBoardBy (HandedOver before after) manifest board = IsBoardHanded before after manifest board
+
+-- their first stop
+abbrev pub IsFirstStopBy : Source → List ℕ → Stop → Type 0
+IsFirstStopBy (Held files) manifest stop = IsFirstStop files manifest stop
+IsFirstStopBy (HandedOver before after) manifest stop = IsFirstStopHanded before after manifest stop
+
+-- the name is that of a file of the order, which comes next
+abbrev pub ComesBy : Source → List ℕ → List ℕ → Type 0
+ComesBy (Held files) manifest name = Comes files manifest name
+ComesBy (HandedOver before after) manifest name = ComesHanded before after manifest name
+
+-- the package fits, and P holds of its board
+pub record FitsWith (source : Source) (manifest : List ℕ) (P : PlainBoard → Type 0) : Type 0 where
+  pub board : PlainBoard
+  pub board_is : IsBoardBy source manifest board
+  pub good : P board
+
+-- the package fits, with this board, and Then holds of what was read behind it
+abbrev pub FitsBefore : Source → List ℕ → PlainBoard → (Source → Type 0) → Type 0
+FitsBefore (Held files) manifest board Then = IsBoardOf files manifest board × Then (Held files)
+FitsBefore (HandedOver before after) manifest board Then = (built : List Handed) × IsBoardHanded before built manifest board × Then (HandedOver built after)
+
+pub record FitsThen (source : Source) (manifest : List ℕ) (Then : Source → Type 0) : Type 0 where
+  pub board : PlainBoard
+  pub behind : FitsBefore source manifest board Then
+
+-- ---- A package without its netlist, by the net names in its copper files
+
+abbrev pub IsLabelledBoardBy : Source → List ℕ → PlainBoard → Type 0
+IsLabelledBoardBy (Held files) manifest board = IsLabelledBoardOf files manifest board
+IsLabelledBoardBy (HandedOver before after) manifest board = IsLabelledBoardHanded before after manifest board
+
+abbrev pub IsFirstLabelledStopBy : Source → List ℕ → LabelledStop → Type 0
+IsFirstLabelledStopBy (Held files) manifest stop = IsFirstLabelledStop files manifest stop
+IsFirstLabelledStopBy (HandedOver before after) manifest stop = IsFirstLabelledStopHanded before after manifest stop
+
+abbrev pub LabelledComesBy : Source → List ℕ → List ℕ → Type 0
+LabelledComesBy (Held files) manifest name = LabelledComes files manifest name
+LabelledComesBy (HandedOver before after) manifest name = LabelledComesHanded before after manifest name
+
+-- ---- One file
+
+-- these are its bytes
+abbrev pub IsFileBy : Source → List ℕ → List ℕ → Type 0
+IsFileBy (Held files) name bytes = IsHeld files name bytes
+IsFileBy (HandedOver before after) name bytes = IsHanded before after name bytes
+
+-- why it is not there to be read
+abbrev pub StopsFileBy : Source → List ℕ → Stop → Type 0
+StopsFileBy (Held files) name stop = StopsTaking files name stop
+StopsFileBy (HandedOver before after) name stop = StopsHanding before after name stop
+
+-- it comes next
+abbrev pub NextBy : Source → List ℕ → List ℕ → Type 0
+NextBy (Held files) name other = other ≡ name
+NextBy (HandedOver before after) name other = ComesNext before after name other
+
+-- P holds of its bytes
+pub record IsFileWith (source : Source) (name : List ℕ) (P : List ℕ → Type 0) : Type 0 where
+  pub bytes : List ℕ
+  pub file : IsFileBy source name bytes
+  pub good : P bytes

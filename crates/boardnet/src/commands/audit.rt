@@ -1,0 +1,123 @@
+//! The command `audit`.
+ghost use Rattle.board_io.specs.Handed.{AgreeWith};
+ghost use Rattle.board_io.specs.Package.{IsFaultless};
+ghost use Rattle.board_package.specs.Causes.{HandedCause, KeepsFaults};
+ghost use Rattle.board_shapes.specs.Laws.{HasOneTables};
+ghost use Rattle.board_shapes.specs.Plain.{plain_board};
+ghost use Rattle.boardnet.specs.Command.{asked};
+ghost use Rattle.boardnet.specs.Answers.{Answers, IsAnswerTo, IsRuledOn, IsUnruled};
+ghost use Rattle.boardnet.specs.Ends.{Leaves};
+ghost use Rattle.boardnet.specs.HandedOutcome.{HasHandedReason};
+ghost use Rattle.boardnet.specs.Outcome.{ComesFor, HandedOver, IsAuditStop};
+ghost use Rattle.boardnet.specs.Source.{FitsBefore, IsFileBy};
+ghost use Rattle.boardnet.specs.Words.{Audit, IsText};
+ghost use Rattle.std.specs.Prelude.{IfErr, IfNone, IfOk, IfSome, ◌≡◌, ◌≤◌};
+
+use crate::answer::{Answer, Answered, Note, Unanswered};
+use crate::commands::Command;
+use crate::judged::board_of;
+use crate::putting::joined;
+use crate::refusing::name_of;
+use board_io::Package;
+use board_package::{BuildFault, take_file};
+use board_shapes::{Board, laws as shapes};
+use lengths::{NoMemory, is_text};
+use std::alloc::Global;
+use texts::Numeral;
+use verdict::{ReadFault, read_report};
+use witness_check::{Ruling, audit};
+
+/// `audit MANIFEST REPORT`: an audit of the report.
+pub fn of_words<'a>(manifest: &'a str, report: &'a str) -> Option<Command<'a>>
+    ensures some { IfSome result (λ given. (asked given ≡ Audit manifest.now report.now) × IsText manifest.now × IsText report.now) }
+    ensures none { IfNone result (IsText manifest.now → IsText report.now → ⊥) }
+{
+    if is_text(manifest.as_bytes()) && is_text(report.as_bytes()) {
+        Some(Command::Audit { manifest, report })
+    } else {
+        None
+    }
+}
+
+/// The ruling on a report on the package of a manifest.
+pub fn ruling<P: Package>(alloc: Global, manifest: &str, report: &str, package: &mut P) -> Answered
+    requires manifest { IsText manifest.now }
+    requires report { IsText report.now }
+    ensures handed { IfOk result (IsAnswerTo (HandedOver (P.handed «package».old) (P.handed «package».new)) (Audit manifest.now report.now)) }
+    ensures handed_reason { IfErr result (HasHandedReason (HandedOver (P.handed «package».old) (P.handed «package».new)) (Audit manifest.now report.now) (P.faults «package».old) (P.faults «package».new) (P.lost «package».new)) }
+    ensures consistent { IfSome (P.held «package».old) (λ files. AgreeWith files (P.handed «package».old) (P.handed «package».new)) }
+    ensures leaves { Leaves P.held P.faults P.lost «package».old «package».new result }
+{
+    let mut file = Vec::new(alloc);
+    let board = taken(alloc, manifest, report, package, &mut file)?;
+    let ruling = ruling_on(alloc, &board, file.as_slice())?;
+    Ok(answer_of(alloc, ruling)?)
+}
+
+// The answer that says a ruling.
+fn answer_of(alloc: Global, ruling: Ruling) -> Result<Answer, NoMemory>
+    ensures { IfOk result (Answers ruling) }
+{
+    match ruling {
+        Ruling::True => {
+            let text = joined(alloc, &[b"audit true\n"])?;
+            Ok(Answer {
+                text,
+                note: Note::AuditTrue,
+            })
+        }
+        Ruling::Untrue(clause) => {
+            let text = joined(
+                alloc,
+                &[
+                    b"audit untrue ",
+                    Numeral::of(u64::from(clause)).as_bytes(),
+                    b"\n",
+                ],
+            )?;
+            Ok(Answer {
+                text,
+                note: Note::AuditUntrue { clause },
+            })
+        }
+    }
+}
+
+// Builds the board, and then takes the report.
+fn taken<P: Package>(
+    alloc: Global,
+    manifest: &str,
+    report: &str,
+    package: &mut P,
+    file: &mut Vec<u8>,
+) -> Result<Board, BuildFault>
+    requires manifest { IsText manifest.now }
+    requires report { IsText report.now }
+    ensures held { P.held «package».new ≡ P.held «package».old }
+    ensures consistent { IfSome (P.held «package».old) (λ files. AgreeWith files (P.handed «package».old) (P.handed «package».new)) }
+    ensures later { P.faults «package».old ≤ P.faults «package».new }
+    ensures calm { IfOk result (λ _. IsFaultless (P.faults «package».old) (P.lost «package».old) (P.faults «package».new) (P.lost «package».new)) }
+    ensures left { IfErr result (KeepsFaults (P.faults «package».old) (P.lost «package».old) (P.faults «package».new) (P.lost «package».new)) }
+    ensures handed { IfOk result (λ board. FitsBefore (HandedOver (P.handed «package».old) (P.handed «package».new)) manifest.now (plain_board board) (λ rest. IsFileBy rest report.now file.new.items)) }
+    ensures handed_cause { IfErr result (HandedCause (λ stop. IsAuditStop (HandedOver (P.handed «package».old) (P.handed «package».new)) manifest.now report.now stop) (λ name. ComesFor (HandedOver (P.handed «package».old) (P.handed «package».new)) (Audit manifest.now report.now) name) (P.faults «package».old) (P.faults «package».new) (P.lost «package».new)) }
+{
+    let report = name_of(alloc, report)?;
+    let board = board_of(alloc, manifest, package)?;
+    take_file(alloc, &report, package, file)?;
+    Ok(board)
+}
+
+// The ruling on the verdict whose text this is. The calls of laws do nothing when the program runs.
+fn ruling_on(alloc: Global, board: &Board, text: &[u8]) -> Result<Ruling, Unanswered>
+    ensures one { HasOneTables (plain_board board.now) }
+    ensures ok { IfOk result (λ ruling. IsRuledOn (plain_board board.now) text.now ruling) }
+    ensures fault { IfErr result (IsUnruled text.now) }
+{
+    shapes::boards_are_lawful();
+    shapes::tables_are_unique();
+    match read_report(alloc, text) {
+        Ok(verdict) => Ok(audit(alloc, board, &verdict)?),
+        Err(ReadFault::NotAReport) => Err(Unanswered::NotAReport),
+        Err(ReadFault::NoMemory) => Err(Unanswered::Stopped(BuildFault::NoMemory)),
+    }
+}

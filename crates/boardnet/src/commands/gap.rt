@@ -1,0 +1,74 @@
+//! The command `gaps`.
+ghost use Rattle.board_io.specs.Handed.{AgreeWith};
+ghost use Rattle.board_shapes.specs.Plain.{plain_board};
+ghost use Rattle.boardnet.specs.Command.{asked};
+ghost use Rattle.boardnet.specs.Answers.{IsAnswerTo, IsUngapped, line_of, status_of};
+ghost use Rattle.boardnet.specs.Ends.{Leaves};
+ghost use Rattle.boardnet.specs.Gapped.{IsGapListOn};
+ghost use Rattle.boardnet.specs.HandedOutcome.{HasHandedReason};
+ghost use Rattle.boardnet.specs.Outcome.{HandedOver};
+ghost use Rattle.boardnet.specs.Words.{Gaps, IsText};
+ghost use Rattle.std.specs.Prelude.{IfErr, IfNone, IfOk, IfSome, decimal, ℕ, ◌≡◌, ◌≤◌};
+
+use crate::answer::{Answer, Answered, Note};
+use crate::commands::Command;
+use crate::judged::{board_of, verdict_on};
+use crate::words::count_of;
+use board_io::Package;
+use board_shapes::Board;
+use gaps::{GapFault, gaps, write_gaps};
+use lengths::is_text;
+use std::alloc::Global;
+
+// The widest distance of gaps, in nanometres.
+const MOST_NANOMETRES: u32 = 10_000_000;
+
+/// `gaps MANIFEST NANOMETRES`: a list of the gaps at that distance.
+pub fn of_words<'a>(manifest: &'a str, nanometres: &str) -> Option<Command<'a>>
+    ensures some { IfSome result (λ given. (n : ℕ) × (asked given ≡ Gaps manifest.now n) × IsText manifest.now × (nanometres.now ≡ decimal n) × (n ≤ 10_000_000)) }
+    ensures none { IfNone result (IsText manifest.now → (n : ℕ) → nanometres.now ≡ decimal n → n ≤ 10_000_000 → ⊥) }
+{
+    if !is_text(manifest.as_bytes()) {
+        return None;
+    }
+    let nanometres = count_of(nanometres)?;
+    if nanometres > MOST_NANOMETRES {
+        return None;
+    }
+    Some(Command::Gaps {
+        manifest,
+        nanometres,
+    })
+}
+
+/// The gaps of the package of a manifest at a distance of at most 10,000,000 nm.
+pub fn gap_list<P: Package>(
+    alloc: Global,
+    manifest: &str,
+    nanometres: u32,
+    package: &mut P,
+) -> Answered
+    requires text { IsText manifest.now }
+    requires most { nanometres ≤ 10_000_000 }
+    ensures handed { IfOk result (IsAnswerTo (HandedOver (P.handed «package».old) (P.handed «package».new)) (Gaps manifest.now nanometres)) }
+    ensures handed_reason { IfErr result (HasHandedReason (HandedOver (P.handed «package».old) (P.handed «package».new)) (Gaps manifest.now nanometres) (P.faults «package».old) (P.faults «package».new) (P.lost «package».new)) }
+    ensures consistent { IfSome (P.held «package».old) (λ files. AgreeWith files (P.handed «package».old) (P.handed «package».new)) }
+    ensures leaves { Leaves P.held P.faults P.lost «package».old «package».new result }
+{
+    let board = board_of(alloc, manifest, package)?;
+    let answer = gap_list_on(alloc, &board, nanometres)?;
+    Ok(answer)
+}
+
+// The gaps of a board, between the nets of the right verdict on it.
+fn gap_list_on(alloc: Global, board: &Board, nanometres: u32) -> Result<Answer, GapFault>
+    requires { nanometres ≤ 10_000_000 }
+    ensures ok { IfOk result (λ answer. IsGapListOn (plain_board board.now) nanometres answer.text.items (status_of answer.note) (line_of answer.note)) }
+    ensures fault { IfErr result (IsUngapped (plain_board board.now) nanometres) }
+{
+    let verdict = verdict_on(alloc, board)?;
+    let list = gaps(alloc, board, &verdict.nets, nanometres)?;
+    let text = write_gaps(alloc, nanometres, list.as_slice())?;
+    let note = Note::gaps(list.as_slice().len());
+    Ok(Answer { text, note })
+}

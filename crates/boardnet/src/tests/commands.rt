@@ -1,0 +1,8 @@
+// One file of tests for each command.
+mod audit;
+pub mod check;
+mod flatten;
+mod gap;
+mod trial;
+mod write;
+pub mod x2;
