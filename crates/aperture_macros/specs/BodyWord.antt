@@ -2,7 +2,7 @@
 use Rattle.std.specs.Prelude.{ℕ, zero, suc, ◌+◌, ◌*◌, ◌/◌, ◌-◌, ◌^◌, Bool, true, false, ◌&&◌, ◌||◌, not, ◌==◌, nat_le, if◌then◌else◌, List, codes, Option, Some, None, Result, Ok, Err}
 use Rattle.std.specs.List.{after_first, before_first, count_by}
 use Rattle.std.specs.Option.{option_and_then}
-use Rattle.texts.specs.Words.{begins, is}
+use Rattle.texts.specs.Words.{begins, is_word}
 use Rattle.lengths.specs.Decimal.{Fraction, is_decimal, fraction}
 use Rattle.aperture_macros.specs.declared.primitive.Form.{Form}
 use Rattle.aperture_macros.specs.declared.primitive.Form.TheVariants.{Circle, Outline, VectorLine, CentreLine}
@@ -76,10 +76,10 @@ outline_of word n =
 -- what a word with n commas is by its code; its points say how many edges an outline has
 unfoldable pub form_of : List ℕ → ℕ → Option Form
 form_of word n =
-    if is (part 0 word) (codes "1") then Some Circle
-    else (if is (part 0 word) (codes "4") then outline_of word ((n - 5) / 2)
-    else (if is (part 0 word) (codes "20") then Some VectorLine
-    else (if is (part 0 word) (codes "21") then Some CentreLine else None)))
+    if is_word (part 0 word) (codes "1") then Some Circle
+    else (if is_word (part 0 word) (codes "4") then outline_of word ((n - 5) / 2)
+    else (if is_word (part 0 word) (codes "20") then Some VectorLine
+    else (if is_word (part 0 word) (codes "21") then Some CentreLine else None)))
 
 -- that form, where a word with n commas has its parts
 abbrev pub form_at : List ℕ → ℕ → Option Form

@@ -2,7 +2,7 @@
 ghost use Rattle.std.specs.Prelude.{◌≡◌, ◌≤◌, IfSome, length};
 ghost use Rattle.aperture_macros.specs.Expression as spec;
 
-use lengths::{read_decimal, small_value, unsigned};
+use lengths::decimal::{read_decimal, small_value, unsigned};
 use texts::{ByteClass, all_digits, run_len};
 
 /// The most terms of an expression.

@@ -15,7 +15,7 @@ use crate::placing::Placing;
 use crate::primitive::{Form, Primitive};
 use board_shapes::{Shape, rectangle};
 use contact::Capsule;
-use lengths::{Decimal, Unit};
+use lengths::decimal::{Decimal, Unit};
 use planar::{Spot, are_placed, is_placed};
 use std::alloc::Global;
 

@@ -5,11 +5,11 @@ ghost use Rattle.planar.specs.declared.TheConstants.{METRE};
 ghost use Rattle.aperture_macros.specs.Images as spec;
 ghost use Rattle.aperture_macros.specs.Sketches.{IsNear, is_disc};
 
+use crate::body_word::{part, past};
 use crate::fault::MacroFault;
-use crate::reading::{part, past};
 use crate::values::{diameter, point, size};
 use board_shapes::corners_around;
-use lengths::{Decimal, Unit};
+use lengths::decimal::{Decimal, Unit};
 use planar::Spot;
 
 /// A figure about the origin: a disc by its centre and its diameter, or a rectangle by its lower left

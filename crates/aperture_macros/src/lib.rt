@@ -8,7 +8,7 @@
 //! - `primitive`: what a primitive is.
 //! - `fault`: what is refused.
 //! - `expression`: how lengths are written.
-//! - `reading`: how a body word is read.
+//! - `body_word`: how a body word is read.
 //! - `values`: what lengths are with parameters.
 //! - `images`: figures about the origin of the macro.
 //! - `placing`: where a figure is set down.
@@ -16,6 +16,7 @@
 //! - `figure`: figures where they are flashed.
 #![tactic(auto)]
 
+mod body_word;
 mod expression;
 mod fault;
 mod figure;
@@ -23,12 +24,11 @@ mod images;
 mod outline;
 mod placing;
 mod primitive;
-mod reading;
 mod values;
 
+pub use body_word::read_body;
 pub use fault::{FigureFault, MacroFault};
 pub use primitive::{Form, Primitive, Rotation};
-pub use reading::read_body;
 
 #[cfg(test)]
 mod tests;

@@ -10,13 +10,13 @@ ghost use Rattle.aperture_macros.specs.Seen.{IsRefusal, Makes};
 ghost use Rattle.aperture_macros.specs.Sized.{IsSized};
 ghost use Rattle.aperture_macros.specs.declared.primitive.Form.TheVariants as form;
 
+use crate::body_word::past;
 use crate::fault::{FigureFault, MacroFault};
 use crate::images::same;
 use crate::placing::Placing;
-use crate::reading::past;
 use crate::values::point;
 use board_shapes::Shape;
-use lengths::{Decimal, Unit};
+use lengths::decimal::{Decimal, Unit};
 use planar::{Spot, are_placed};
 use std::alloc::Global;
 

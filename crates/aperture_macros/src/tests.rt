@@ -1,7 +1,7 @@
 // Body words as they are read, and what primitives flash.
 use super::*;
 use board_shapes::Shape;
-use lengths::{Decimal, Unit, read_decimal};
+use lengths::decimal::{Decimal, Unit, read_decimal};
 use planar::{Spot, is_placed};
 use std::alloc::{AllocError, Global};
 use std::fmt::Write;

@@ -5,11 +5,11 @@ ghost use Rattle.contact.specs.declared.TheConstants.{MOST_DIAMETER};
 ghost use Rattle.lengths.specs.Grid.{position_of};
 ghost use Rattle.aperture_macros.specs.Values as spec;
 
+use crate::body_word::part;
 use crate::expression::{MOST_TERMS, first_term, further_terms, variable_number};
 use crate::fault::MacroFault;
-use crate::reading::part;
 use contact::MOST_DIAMETER;
-use lengths::{Decimal, Unit, has_minus, read_decimal, unsigned};
+use lengths::decimal::{Decimal, Unit, has_minus, read_decimal, unsigned};
 use planar::{METRE, Spot};
 
 // The position that a decimal is, which stands for itself or for a parameter.

@@ -12,7 +12,7 @@ use Rattle.apertures.specs.declared.aperture.Aperture.{Aperture}
 use Rattle.apertures.specs.declared.aperture.Aperture.TheVariants.{Circle, Rectangle, Obround}
 use Rattle.apertures.specs.declared.fault.FlashFault.{FlashFault}
 use Rattle.apertures.specs.declared.fault.FlashFault.TheVariants.{OutOfRange, NoMemory}
-use Rattle.apertures.specs.Reading.{is_zero}
+use Rattle.apertures.specs.Definition.{is_zero}
 
 -- a size: even, and from 0 to 1 m
 pub record IsSize (z : ℤ) : Type 0 where

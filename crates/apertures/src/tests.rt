@@ -1,7 +1,7 @@
 // Apertures as they are read, and what they flash.
 use super::*;
 use board_shapes::Shape;
-use lengths::Unit;
+use lengths::decimal::Unit;
 use planar::{Spot, is_placed};
 use std::alloc::{AllocError, Global};
 use std::fmt::Write;

@@ -4,12 +4,12 @@ ghost use Rattle.std.specs.List.{flat_map};
 ghost use Rattle.board_maker.specs.MadeBoard as spec;
 
 use crate::cell::{column, is_bridged, is_broken, row};
-use lengths::NoMemory;
+use lengths::rows::NoMemory;
 use std::alloc::Global;
 use texts::Numeral;
 
 // Appends the pieces of a text.
-fn push(out: &mut Vec<u8>, pieces: &[&[u8]]) -> Result<(), NoMemory>
+fn append(out: &mut Vec<u8>, pieces: &[&[u8]]) -> Result<(), NoMemory>
     ensures { OnOk result (out.new.items ≡ out.old.items ++ flat_map (λ piece. piece.now) pieces.now) }
 {
     for piece in pieces {
@@ -23,7 +23,7 @@ fn push(out: &mut Vec<u8>, pieces: &[&[u8]]) -> Result<(), NoMemory>
 fn push_operation(out: &mut Vec<u8>, x: u32, y: u32, code: &[u8]) -> Result<(), NoMemory>
     ensures { OnOk result (out.new.items ≡ out.old.items ++ spec.operation x y code.now) }
 {
-    push(
+    append(
         out,
         &[
             b"X",
@@ -39,14 +39,14 @@ fn push_operation(out: &mut Vec<u8>, x: u32, y: u32, code: &[u8]) -> Result<(), 
 fn push_flash(out: &mut Vec<u8>, aperture: &[u8], x: u32, y: u32) -> Result<(), NoMemory>
     ensures { OnOk result (out.new.items ≡ out.old.items ++ spec.flash aperture.now x y) }
 {
-    push(out, &[aperture, b"*\n"])?;
+    append(out, &[aperture, b"*\n"])?;
     push_operation(out, x, y, b"D03")
 }
 
 fn push_track(out: &mut Vec<u8>, aperture: &[u8], x: u32, y: u32, to_x: u32) -> Result<(), NoMemory>
     ensures { OnOk result (out.new.items ≡ out.old.items ++ spec.track aperture.now x y to_x) }
 {
-    push(out, &[aperture, b"*\n"])?;
+    append(out, &[aperture, b"*\n"])?;
     push_operation(out, x, y, b"D02")?;
     push_operation(out, to_x, y, b"D01")
 }
@@ -83,7 +83,7 @@ fn push_bottom_cell(out: &mut Vec<u8>, seed: u64, size: u32, i: u32) -> Result<(
 fn push_tenths(out: &mut Vec<u8>, n: u32) -> Result<(), NoMemory>
     ensures { OnOk result (out.new.items ≡ out.old.items ++ spec.tenths n) }
 {
-    push(
+    append(
         out,
         &[
             Numeral::of(u64::from(n / 10)).as_bytes(),
@@ -97,11 +97,11 @@ fn push_hit(out: &mut Vec<u8>, i: u32) -> Result<(), NoMemory>
     requires { i < 10000 }
     ensures { OnOk result (out.new.items ≡ out.old.items ++ spec.hit i) }
 {
-    push(out, &[b"X"])?;
+    append(out, &[b"X"])?;
     push_tenths(out, 25 * column(i))?;
-    push(out, &[b"Y"])?;
+    append(out, &[b"Y"])?;
     push_tenths(out, 25 * row(i))?;
-    push(out, &[b"\n"])
+    append(out, &[b"\n"])
 }
 
 // ---- Test points
@@ -123,7 +123,7 @@ fn push_six(out: &mut Vec<u8>, n: u32) -> Result<(), NoMemory>
 {
     let digits = Numeral::of(u64::from(n));
     let zeros = left_of(b"000000", digits.as_bytes().len());
-    push(out, &[zeros, digits.as_bytes()])
+    append(out, &[zeros, digits.as_bytes()])
 }
 
 #[tactic(auto, unfolding(crate::specs::MadeBoard::name))]
@@ -135,17 +135,17 @@ fn push_name(out: &mut Vec<u8>, i: u32) -> Result<(), NoMemory>
         b"                                  ",
         digits.as_bytes().len(),
     );
-    push(out, &[b"N", digits.as_bytes(), blanks])
+    append(out, &[b"N", digits.as_bytes(), blanks])
 }
 
 fn push_place(out: &mut Vec<u8>, x: u32, y: u32) -> Result<(), NoMemory>
     ensures { OnOk result (out.new.items ≡ out.old.items ++ spec.place x y) }
 {
-    push(out, &[b"X+"])?;
+    append(out, &[b"X+"])?;
     push_six(out, x)?;
-    push(out, &[b"Y+"])?;
+    append(out, &[b"Y+"])?;
     push_six(out, y)?;
-    push(out, &[b"\n"])
+    append(out, &[b"\n"])
 }
 
 fn push_record(
@@ -158,9 +158,9 @@ fn push_record(
 ) -> Result<(), NoMemory>
     ensures { OnOk result (out.new.items ≡ out.old.items ++ spec.test_record code.now i access.now x y) }
 {
-    push(out, &[code])?;
+    append(out, &[code])?;
     push_name(out, i)?;
-    push(out, &[access])?;
+    append(out, &[access])?;
     push_place(out, x, y)
 }
 
@@ -231,10 +231,10 @@ pub fn text(alloc: Global, part: Part, seed: u64, size: u32) -> Result<Vec<u8>, 
     ensures { IfOk result (λ text. text.items ≡ spec.part_text part seed size) }
 {
     let mut out = Vec::new(alloc);
-    push(&mut out, &[head_of(part)])?;
+    append(&mut out, &[head_of(part)])?;
     for i in 0..size {
         push_cell(&mut out, part, seed, size, i)?;
     }
-    push(&mut out, &[end_of(part)])?;
+    append(&mut out, &[end_of(part)])?;
     Ok(out)
 }

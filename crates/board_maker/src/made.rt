@@ -4,7 +4,7 @@ ghost use Rattle.board_maker.specs.MadePackage.{IsMade};
 
 use crate::files::{Part, text};
 use board_io::MemoryPackage;
-use lengths::NoMemory;
+use lengths::rows::NoMemory;
 use std::alloc::Global;
 use thiserror::Error;
 

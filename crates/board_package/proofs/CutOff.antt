@@ -6,30 +6,30 @@ use Rattle.std.proofs.lemmas.Str.{IsUtf8-from_is_utf8, is_utf8-from_IsUtf8}
 use Rattle.board_io.specs.Package.{Files}
 use Rattle.board_shapes.specs.Plain.{PlainBoard, PlainPiece, with_netlist}
 use Rattle.board_shapes.specs.declared.probe.Probe.{Probe}
-use Rattle.gerber_layer.specs.Table.{Place as LayerPlace}
+use Rattle.gerber_layer.specs.CommandEffects.{Place as LayerPlace}
 use Rattle.gerber_layer.specs.Layer as layer_file
-use Rattle.xnc.specs.Place.{Place as DrillPlace}
+use Rattle.xnc.specs.FaultPlace.{Place as DrillPlace}
 use Rattle.xnc.specs.DrillFile as drill_file
 use Rattle.ipc356_records.specs.NetlistFile as netlist_file
 use Rattle.serde_json.specs.Data as json
 use Rattle.serde_json.specs.Data.{Data}
 use Rattle.serde_json.specs.Read.{read}
-use Rattle.texts.specs.Words.{is}
+use Rattle.texts.specs.Words.{is_word}
 use Rattle.x2_nets.specs.Labels as labels_file
-use Rattle.x2_nets.specs.declared.table.Label.{Label}
+use Rattle.x2_nets.specs.declared.label_table.Label.{Label}
 use Rattle.board_package.specs.LabelledBoard.{GoesLabelled, Labelled, Lists, labelled_order, nothing_labelled}
 use Rattle.board_package.specs.Laws.{CutIsRefusedOrTheSame, IsRefusing, LabelledCutIsRefusedOrTheSame, cut_off, FilesHaveOneAnswer}
 use Rattle.board_package.specs.Manifest.{IsManifest, IsNotJson, manifest_of}
 use Rattle.board_package.specs.PackageBoard.{AtOneBy, Stop, not_json, refused, IsHeld, Goes, StopsAt, StopsAtManifest, IsManifestFile, WalksBy}
 use Rattle.board_package.specs.Parts.{empty_board, with_pieces}
-use Rattle.board_package.specs.Reading.{Reads, Refuses, layer_place, drill_place}
+use Rattle.board_package.specs.Contents.{Reads, Refuses, layer_place, drill_place}
 use Rattle.board_package.specs.declared.entry.Entry.{Entry}
 use Rattle.board_package.specs.declared.entry.Naming.TheVariants.{ByLabels}
 use Rattle.board_package.specs.declared.entry.Role.{Role}
 use Rattle.board_package.specs.declared.entry.Role.TheVariants as role
 use Rattle.board_package.specs.declared.manifest.Manifest.{Manifest}
-use Rattle.board_package.specs.declared.reading.Refusal.{Refusal}
-use Rattle.board_package.specs.declared.reading.Refusal.TheVariants as refusal
+use Rattle.board_package.specs.declared.contents.Refusal.{Refusal}
+use Rattle.board_package.specs.declared.contents.Refusal.TheVariants as refusal
 use Rattle.board_package.proofs.JsonPrefix.{one_value}
 
 -- a prefix of a file that is read, where it is read too, makes the same
@@ -42,9 +42,9 @@ pub record HavePrefixes : Type 0 where
 
 -- what the cut package holds under a name: the file, or its first n bytes
 held_cut : (files : Files) (name other bytes : List ℕ) (n : ℕ) → IsHeld files other bytes → IsHeld (cut_off files name n) other bytes ⊎ IsHeld (cut_off files name n) other (take n bytes)
-held_cut files name other bytes n h = by (is other name) refl
+held_cut files name other bytes n h = by (is_word other name) refl
   where
-    by : (b : Bool) → is other name ≡ b → IsHeld (cut_off files name n) other bytes ⊎ IsHeld (cut_off files name n) other (take n bytes)
+    by : (b : Bool) → is_word other name ≡ b → IsHeld (cut_off files name n) other bytes ⊎ IsHeld (cut_off files name n) other (take n bytes)
     by false e = inl (record { held = ap (λ (v : Bool). if v then option_map (take n) (files other) else files other) e ∙ h.held; short = h.short })
     by true e = inr (record { held = ap (λ (v : Bool). if v then option_map (take n) (files other) else files other) e ∙ ap (option_map (take n)) h.held; short = (let l = length-take n bytes in let s = h.short in omega (arith, l, s)) })
 

@@ -16,13 +16,13 @@ use Rattle.xnc.specs.declared.kind.DrillFault.TheVariants as drill_fault
 use Rattle.xnc.specs.declared.kind.DrillKind.{DrillKind}
 use Rattle.board_package.specs.Causes.{Halts, HasRefusal}
 use Rattle.board_package.specs.Parts.{room_left}
-use Rattle.board_package.specs.Reading.{Refuses}
+use Rattle.board_package.specs.Contents.{Refuses}
 use Rattle.board_package.specs.declared.entry.Entry.{Entry}
 use Rattle.board_package.specs.declared.entry.Role.{Role}
 use Rattle.board_package.specs.declared.entry.Role.TheVariants as role
 use Rattle.board_package.specs.declared.fault.BuildFault.{BuildFault}
-use Rattle.board_package.specs.declared.reading.Refusal.{Refusal}
-use Rattle.board_package.specs.declared.reading.Refusal.TheVariants as refusal
+use Rattle.board_package.specs.declared.contents.Refusal.{Refusal}
+use Rattle.board_package.specs.declared.contents.Refusal.TheVariants as refusal
 
 halts_as : (e : Entry) (r : Role) (bytes : List ℕ) (before : PlainBoard) (why : Refusal) (given : BuildFault) → e.role ≡ r → Refuses r e.number bytes before why → HasRefusal e.name why given → Halts e bytes before given
 halts_as e r bytes before why given is refuses has = inr (why, subst (λ (x : Role). Refuses x e.number bytes before why) (sym is) refuses, has)

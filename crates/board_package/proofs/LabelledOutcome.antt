@@ -4,7 +4,7 @@ use Rattle.board_io.specs.Package.{Files}
 use Rattle.board_shapes.specs.Plain.{PlainBoard, common_box, Fits}
 use Rattle.x2_nets.specs.Labels.{no_text}
 use Rattle.x2_nets.specs.Laws.{HasOneAnswer}
-use Rattle.x2_nets.specs.declared.table.Label.{Label}
+use Rattle.x2_nets.specs.declared.label_table.Label.{Label}
 use Rattle.board_package.specs.Laws.{HasOneLabelledOutcome, FilesHaveOneAnswer}
 use Rattle.board_package.specs.LabelledBoard.{GoesLabelled, IsFirstLabelledStop, IsLabelledBoardOf, IsLabelledFrameStop, IsMislabelled, Labelled, LabelledStop, Lists, Mislabels, OfBuild, StopsLabelledAmong, StopsLabelledAt, labelled_board_of, labelled_order, mislabelled, nothing_labelled, unbuilt}
 use Rattle.board_package.specs.PackageBoard.{IsManifestFile, StopsAtFrame, StopsAtManifest, WalksBy}

@@ -10,9 +10,9 @@ use Rattle.gerber_layer.specs.Command.{Command, refused}
 use Rattle.gerber_layer.specs.Image.{effect_before, known_before, pieces_of}
 use Rattle.gerber_layer.specs.Layer as layer_file
 use Rattle.gerber_layer.specs.Layer.{stop_command}
-use Rattle.gerber_layer.specs.Reading.{are_offsets, by_kind, code_in, coded, command_of, else_by, extended, format_of, format_word, from_i, from_x, is_arc, is_empty, is_idle, is_last, is_neutral, is_number_if, named, operation, operation_of, plain, said_by, selected, selection, selects_or}
+use Rattle.gerber_layer.specs.WordCommands.{are_offsets, by_kind, code_in, coded, command_of, else_by, extended, format_of, format_word, from_i, from_x, is_arc, is_empty, is_idle, is_last, is_neutral, is_number_if, named, operation, operation_of, plain, said_by, selected, selection, selects_or}
 use Rattle.gerber_layer.specs.Settings.{has_ended}
-use Rattle.gerber_layer.specs.Table.{Effect, Known, Place, effect, is_finish, kind_of_word, row, stays}
+use Rattle.gerber_layer.specs.CommandEffects.{Effect, Known, Place, effect, is_finish, kind_of_word, row, stays}
 use Rattle.gerber_layer.specs.declared.kind.GerberKind.{GerberKind}
 use Rattle.gerber_layer.specs.declared.kind.GerberKind.TheVariants as kind
 use Rattle.gerber_words.specs.Attributes.{PlainAttribute, attribute_of, field_of, is_field}
@@ -21,10 +21,10 @@ use Rattle.gerber_words.specs.Laws.{HasFirstWords, HasOneReadingAhead}
 use Rattle.gerber_words.specs.Words.{Ahead, Entry, HasWords, Stop, broken, ended, start}
 use Rattle.gerber_words.specs.declared.attribute.AttributeKind.{AttributeKind}
 use Rattle.gerber_words.specs.declared.attribute.AttributeKind.TheVariants.{File, Aperture, Object, Delete}
-use Rattle.texts.specs.Words.{begins, is}
+use Rattle.texts.specs.Words.{begins, is_word}
 use Rattle.x2_nets.specs.Labels as labels_file
 use Rattle.x2_nets.specs.Labels.{Said, judged_after, labels_of, said_of, stop_says}
-use Rattle.x2_nets.specs.declared.table.Label.{Label}
+use Rattle.x2_nets.specs.declared.label_table.Label.{Label}
 
 -- ---- No word is the file's end
 
@@ -55,8 +55,8 @@ of_coded text = or (selected (selection text)) (operation text) (of_operation _ 
 of_plain : (text : List ℕ) → NoEnd (plain text)
 unfolding plain
 of_plain text =
-    neither (is_idle text) _ _ (record { is = refl }) (neither (is_arc text) _ _ (refuses _) (neither (is text (codes "G91")) _ _ (refuses _) (neither (is text (codes "G70")) _ _ (record { is = refl }) (neither (is text (codes "G71")) _ _ (record { is = refl })
-    (neither (is text (codes "G36")) _ _ (record { is = refl }) (neither (is text (codes "G37")) _ _ (record { is = refl }) (neither (is_last text) _ _ (record { is = refl }) (of_coded text))))))))
+    neither (is_idle text) _ _ (record { is = refl }) (neither (is_arc text) _ _ (refuses _) (neither (is_word text (codes "G91")) _ _ (refuses _) (neither (is_word text (codes "G70")) _ _ (record { is = refl }) (neither (is_word text (codes "G71")) _ _ (record { is = refl })
+    (neither (is_word text (codes "G36")) _ _ (record { is = refl }) (neither (is_word text (codes "G37")) _ _ (record { is = refl }) (neither (is_last text) _ _ (record { is = refl }) (of_coded text))))))))
 
 of_format : (text : List ℕ) → NoEnd (format_of text)
 unfolding format_of
@@ -72,7 +72,7 @@ of_extended : (text : List ℕ) → NoEnd (extended text)
 unfolding extended format_word
 of_extended text =
     neither (begins text (codes "FS")) _ _ (neither (begins text (codes "FSLI") || begins text (codes "FSTI")) _ _ (refuses _) (neither (begins text (codes "FSLAX")) _ _ (of_format _) (refuses _)))
-    (neither (begins text (codes "AD")) _ _ (record { is = refl }) (neither (is text (codes "MOMM")) _ _ (record { is = refl }) (neither (is text (codes "MOIN")) _ _ (record { is = refl })
+    (neither (begins text (codes "AD")) _ _ (record { is = refl }) (neither (is_word text (codes "MOMM")) _ _ (record { is = refl }) (neither (is_word text (codes "MOIN")) _ _ (record { is = refl })
     (neither (begins text (codes "SR")) _ _ (record { is = refl }) (neither (is_neutral text) _ _ (record { is = refl }) (refuses _))))))
 
 -- what an attribute says, if it says something

@@ -2,7 +2,7 @@ pub mod Agreed
 pub mod ByNetlist
 pub mod CutOff
 pub mod Entries
-pub mod Form
+pub mod ManifestForm
 pub mod Halting
 pub mod JsonBrackets
 pub mod JsonPrefix

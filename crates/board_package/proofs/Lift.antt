@@ -10,8 +10,8 @@ use Rattle.board_package.specs.Causes.{HasCause, HasRefusal, IsFrameFault, Keeps
 use Rattle.board_package.specs.PackageBoard.{Stop, longer, not_json, bad_manifest, refused, frame_too_large, StopsAtFrame}
 use Rattle.board_package.specs.declared.fault.BuildFault.{BuildFault}
 use Rattle.board_package.specs.declared.fault.BuildFault.TheVariants as fault
-use Rattle.board_package.specs.declared.reading.Refusal.{Refusal}
-use Rattle.board_package.specs.declared.reading.Refusal.TheVariants as refusal
+use Rattle.board_package.specs.declared.contents.Refusal.{Refusal}
+use Rattle.board_package.specs.declared.contents.Refusal.TheVariants as refusal
 
 -- a fault that climbs
 pub climbs : {B E : Type 0} (P : E → Type 0) (result : Result B E) (why : E) → IsErrAnd result (λ f. f ≡ why) → P why → IfErr result P

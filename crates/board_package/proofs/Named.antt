@@ -19,7 +19,7 @@ use Rattle.lengths.specs.Text.{IsText}
 use Rattle.planar.specs.Plane.{IsPlaced}
 use Rattle.planar.specs.declared.Spot.{Spot}
 use Rattle.x2_nets.specs.Labels.{name_at}
-use Rattle.x2_nets.specs.declared.table.Label.{Label}
+use Rattle.x2_nets.specs.declared.label_table.Label.{Label}
 use Rattle.board_package.specs.LabelledBoard.{Named, first_spot, label_of, named_by, probe_of, with_label}
 use Rattle.board_package.specs.Labelling.{named_as}
 use Rattle.board_package.specs.Parts.{IsLawfulParts}

@@ -16,7 +16,7 @@ use Rattle.ipc356_records.specs.Names.{index_of}
 use Rattle.planar.proofs.Meet.{holds_start}
 use Rattle.planar.specs.Plane.{at}
 use Rattle.planar.specs.declared.Spot.{Spot}
-use Rattle.x2_nets.specs.declared.table.Label.{Label}
+use Rattle.x2_nets.specs.declared.label_table.Label.{Label}
 use Rattle.board_package.specs.LabelledBoard.{Named, first_spot, label_of, labelled_board_of, named_by, probe_of, with_label}
 
 -- ---- The first spot lies in its figure

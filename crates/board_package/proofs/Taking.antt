@@ -5,7 +5,7 @@ use Rattle.board_shapes.specs.Plain.{PlainBoard, common_box, Fits}
 use Rattle.board_package.specs.Causes.{Halts, HasCause, IsFrameFault}
 use Rattle.board_package.specs.PackageBoard.{Stop, refused, IsHeld, IsHeldWith, IsManifestFile, IsBoardOf, IsFirstStop, Comes, StopsAt, StopsAtFrame, StopsAmong, ComesAmong, Walks}
 use Rattle.board_package.specs.Parts.{empty_board}
-use Rattle.board_package.specs.Reading.{Refuses}
+use Rattle.board_package.specs.Contents.{Refuses}
 use Rattle.board_package.specs.declared.entry.Entry.{Entry}
 use Rattle.board_package.specs.declared.fault.BuildFault.{BuildFault}
 use Rattle.board_package.specs.declared.manifest.Manifest.{Manifest}

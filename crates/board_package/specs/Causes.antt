@@ -4,12 +4,12 @@ use Rattle.board_io.specs.Causes.{Rose}
 use Rattle.board_io.specs.Package.{Files, IsFaultless}
 use Rattle.board_shapes.specs.Plain.{PlainBoard}
 use Rattle.board_package.specs.PackageBoard.{StopsAtFrame, Stop, longer, not_json, bad_manifest, refused, frame_too_large}
-use Rattle.board_package.specs.Reading.{Refuses}
+use Rattle.board_package.specs.Contents.{Refuses}
 use Rattle.board_package.specs.declared.entry.Entry.{Entry}
 use Rattle.board_package.specs.declared.fault.BuildFault.{BuildFault}
 use Rattle.board_package.specs.declared.fault.BuildFault.TheVariants as fault
-use Rattle.board_package.specs.declared.reading.Refusal.{Refusal}
-use Rattle.board_package.specs.declared.reading.Refusal.TheVariants as refusal
+use Rattle.board_package.specs.declared.contents.Refusal.{Refusal}
+use Rattle.board_package.specs.declared.contents.Refusal.TheVariants as refusal
 
 -- a fault of reading: the count rose, and the name is the lost one and the one that came next
 pub record IsUnread (held : Option Files) (Comes : Files → List ℕ → Type 0) (before now : ℕ) (lost name : List ℕ) : Type 0 where

@@ -7,10 +7,10 @@ use Rattle.board_shapes.specs.Plain.{PlainBoard, common_box, Fits}
 use Rattle.board_package.specs.Manifest.{IsManifest, IsNotJson, IsOther}
 use Rattle.board_package.specs.PackageBoard.{AtOneBy, Stop, StopsAtFrame, WalksBy, longer, not_json, bad_manifest, refused, most_bytes, order_of}
 use Rattle.board_package.specs.Parts.{empty_board}
-use Rattle.board_package.specs.Reading.{Reads, Refuses}
+use Rattle.board_package.specs.Contents.{Reads, Refuses}
 use Rattle.board_package.specs.declared.entry.Entry.{Entry}
 use Rattle.board_package.specs.declared.manifest.Manifest.{Manifest}
-use Rattle.board_package.specs.declared.reading.Refusal.{Refusal}
+use Rattle.board_package.specs.declared.contents.Refusal.{Refusal}
 
 -- ---- One file
 

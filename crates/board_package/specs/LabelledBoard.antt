@@ -10,7 +10,7 @@ use Rattle.board_shapes.specs.declared.probe.Probe.{Probe}
 use Rattle.ipc356_records.specs.Names.{index_of, with_name}
 use Rattle.planar.specs.declared.Spot.{Spot}
 use Rattle.x2_nets.specs.Labels.{IsBad, IsRead, name_at}
-use Rattle.x2_nets.specs.declared.table.Label.{Label}
+use Rattle.x2_nets.specs.declared.label_table.Label.{Label}
 use Rattle.board_package.specs.PackageBoard.{AtOneBy, Goes, IsManifestFile, Stop, StopsAt, StopsAtFrame, StopsAtManifest, WalksBy, order_of}
 use Rattle.board_package.specs.Parts.{empty_board}
 use Rattle.board_package.specs.declared.entry.Entry.{Entry}

@@ -10,7 +10,7 @@ use Rattle.board_package.specs.declared.fault.BuildFault.TheVariants as build
 use Rattle.board_package.specs.declared.fault.LabelledFault.{LabelledFault}
 use Rattle.board_package.specs.declared.fault.LabelledFault.TheVariants as fault
 use Rattle.board_package.specs.declared.parts.Parts.{Parts}
-use Rattle.x2_nets.specs.declared.table.Label.{Label}
+use Rattle.x2_nets.specs.declared.label_table.Label.{Label}
 
 -- Why there is no labelled board: as without labels, or a label that is amiss, where the package tells.
 abbrev pub HasLabelledCause : Option Files → (Files → LabelledStop → Type 0) → (Files → List ℕ → Type 0) → ℕ → ℕ → List ℕ → LabelledFault → Type 0

@@ -6,13 +6,13 @@ use Rattle.board_shapes.specs.Plain.{PlainBoard}
 use Rattle.board_shapes.specs.Touching.{UnderAt}
 use Rattle.board_shapes.specs.declared.probe.Probe.{Probe}
 use Rattle.gerber_layer.specs.Layer as layer_file
-use Rattle.gerber_layer.specs.Table.{Place as LayerPlace}
+use Rattle.gerber_layer.specs.CommandEffects.{Place as LayerPlace}
 use Rattle.ipc356_records.specs.NetlistFile as netlist_file
 use Rattle.xnc.specs.DrillFile as drill_file
-use Rattle.xnc.specs.Place.{Place as DrillPlace}
+use Rattle.xnc.specs.FaultPlace.{Place as DrillPlace}
 use Rattle.board_package.specs.LabelledBoard.{IsFirstLabelledStop, IsLabelledBoardOf, LabelledStop, labelled_board_of, unbuilt}
-use Rattle.texts.specs.Words.{is}
-use Rattle.x2_nets.specs.declared.table.Label.{Label}
+use Rattle.texts.specs.Words.{is_word}
+use Rattle.x2_nets.specs.declared.label_table.Label.{Label}
 use Rattle.board_package.specs.PackageBoard.{Stop, absent, longer, not_json, bad_manifest, refused, frame_too_large, IsBoardOf, IsFirstStop}
 
 -- Each file has one answer: copper files, drill files and netlists.
@@ -39,7 +39,7 @@ LabelledPiecesAreUnder = (tables : List (List Label)) (b : PlainBoard) → IsLaw
 
 -- The package in which the file of this name, where it is held, has only its first n bytes.
 abbrev pub cut_off : Files → List ℕ → ℕ → Files
-cut_off files name n other = if is other name then option_map (take n) (files other) else files other
+cut_off files name n other = if is_word other name then option_map (take n) (files other) else files other
 
 -- the stop is a refusal, and no file that is not there
 abbrev pub IsRefusing : Stop → Type 0

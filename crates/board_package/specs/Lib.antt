@@ -9,5 +9,5 @@ pub mod Laws
 pub mod Manifest
 pub mod PackageBoard
 pub mod Parts
-pub mod Reading
+pub mod Contents
 pub mod Refusals

@@ -6,10 +6,10 @@ use Rattle.board_shapes.specs.Plain.{PlainBoard, common_box, FitsFrame, Fits}
 use Rattle.contact.specs.declared.Bounds.{Bounds}
 use Rattle.board_package.specs.Manifest.{IsManifest, IsNotJson, IsOther}
 use Rattle.board_package.specs.Parts.{empty_board}
-use Rattle.board_package.specs.Reading.{Reads, Refuses}
+use Rattle.board_package.specs.Contents.{Reads, Refuses}
 use Rattle.board_package.specs.declared.entry.Entry.{Entry}
 use Rattle.board_package.specs.declared.manifest.Manifest.{Manifest}
-use Rattle.board_package.specs.declared.reading.Refusal.{Refusal}
+use Rattle.board_package.specs.declared.contents.Refusal.{Refusal}
 use Rattle.board_shapes.specs.declared.TheConstants.{MOST_LAYERS, MOST_PIECES}
 use Rattle.texts.specs.declared.TheConstants.{MOST_BYTES}
 

@@ -3,8 +3,8 @@ use Rattle.std.specs.Prelude.{ℕ, List}
 use Rattle.gerber_layer.specs.Kinds.{kind_number, kind_name}
 use Rattle.ipc356_records.specs.Kind.{number_of_kind as record_number, name_of_kind as record_name}
 use Rattle.xnc.specs.Kind.{number_of_kind as drill_number, name_of_kind as drill_name}
-use Rattle.board_package.specs.declared.reading.Refusal.{Refusal}
-use Rattle.board_package.specs.declared.reading.Refusal.TheVariants.{Layer, Drill, Netlist}
+use Rattle.board_package.specs.declared.contents.Refusal.{Refusal}
+use Rattle.board_package.specs.declared.contents.Refusal.TheVariants.{Layer, Drill, Netlist}
 
 -- as the reader of that form of file numbers and names it
 abbrev pub refusal_number : Refusal → ℕ

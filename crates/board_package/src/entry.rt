@@ -1,7 +1,7 @@
 //! The files that a manifest lists.
 ghost use Rattle.std.specs.Prelude.{◌≡◌};
 
-use lengths::Text;
+use lengths::text::Text;
 
 /// What a file is read as.
 #[derive(Clone, Copy, Debug, PartialEq, Eq)]

@@ -4,11 +4,12 @@ ghost use Rattle.board_package.specs.Causes.{HasRefusal};
 ghost use Rattle.board_package.specs.declared.fault.BuildFault.TheVariants as build;
 ghost use Rattle.board_package.specs.declared.fault.LabelledFault.TheVariants as fault;
 
-use crate::reading::Refusal;
+use crate::contents::Refusal;
 use contact::Bounds;
 use gerber_layer::GerberKind;
 use ipc356_records::RecordKind;
-use lengths::{NoMemory, Text};
+use lengths::rows::NoMemory;
+use lengths::text::Text;
 use std::alloc::AllocError;
 use xnc::DrillKind;
 

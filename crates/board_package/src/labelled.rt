@@ -15,7 +15,8 @@ use crate::parts::Parts;
 use crate::stages::{framed, take_files, take_manifest};
 use board_io::Package;
 use board_shapes::Board;
-use lengths::{Rows, Text};
+use lengths::rows::Rows;
+use lengths::text::Text;
 use std::alloc::Global;
 
 /// The board of a package under the name of its manifest, by the net names in its copper files in place of its netlist.

@@ -1,12 +1,13 @@
 //! The board of a package of files.
 //!
 //! A package is a manifest, which lists the other files (`manifest`), copper files, drill files and a netlist. `build`
-//! takes and judges them in that order (`stages`), each with the room that earlier files left (`reading`, `parts`), and
+//! takes and judges them in that order (`stages`), each with the room that earlier files left (`contents`, `parts`), and
 //! gives the board of the package or says what stops it first (`fault`). `build_labelled` goes the same way without the
 //! netlist (`labelled`), and gives the board by the net names in the copper files (`labelling`). The laws over the
 //! definitions stand in `laws`.
 #![tactic(auto)]
 
+mod contents;
 mod entry;
 mod fault;
 mod labelled;
@@ -14,15 +15,14 @@ mod labelling;
 pub mod laws;
 mod manifest;
 mod parts;
-mod reading;
 mod stages;
 mod values;
 
+pub use contents::Refusal;
 pub use entry::{Entry, Role};
 pub use fault::{BuildFault, LabelledFault};
 pub use labelled::build_labelled;
 pub use manifest::{Manifest, ManifestFault, read_manifest};
-pub use reading::Refusal;
 pub use stages::{MOST_BYTES, build, take_file};
 
 #[cfg(test)]

@@ -8,7 +8,8 @@ ghost use Rattle.board_package.specs.declared.manifest.ManifestFault.TheVariants
 use crate::entry::{Entry, Role};
 use crate::values::{has_members, list_at, name_at, name_of, number_at};
 use board_shapes::MOST_LAYERS;
-use lengths::{NoMemory, Rows, Text};
+use lengths::rows::{NoMemory, Rows};
+use lengths::text::Text;
 use serde_json::Value;
 use std::alloc::Global;
 

@@ -6,7 +6,8 @@ ghost use Rattle.board_package.specs.Parts as spec;
 ghost use Rattle.board_package.specs.Parts.{board_so_far, empty_board, with_pieces, IsLawfulParts};
 
 use board_shapes::{MOST_LAYERS, MOST_PIECES, Piece, Probe, Room, edges_in};
-use lengths::{Rows, Text};
+use lengths::rows::Rows;
+use lengths::text::Text;
 use std::alloc::{AllocError, Global};
 
 /// The most edges of a board.

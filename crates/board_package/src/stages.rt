@@ -14,15 +14,16 @@ ghost use Rattle.board_package.specs.PackageBoard.{IsBoardOf, IsFirstStop, IsWit
 ghost use Rattle.board_package.specs.Parts.{board_so_far, IsLawfulParts};
 ghost use Rattle.x2_nets.specs.Labels.{Rise};
 
+use crate::contents::read_file;
 use crate::entry::{Entry, Naming};
 use crate::fault::{BuildFault, LabelledFault};
 use crate::labelling::list_labels;
 use crate::manifest::{Manifest, ManifestFault, read_manifest};
 use crate::parts::Parts;
-use crate::reading::read_file;
 use board_io::{Package, Take};
 use board_shapes::{Board, BoardFault, laws};
-use lengths::{Rows, Text};
+use lengths::rows::Rows;
+use lengths::text::Text;
 use std::alloc::Global;
 pub use texts::MOST_BYTES;
 use x2_nets::Label;

@@ -3,7 +3,7 @@ ghost use Rattle.std.specs.Prelude.{◌≤◌, length};
 
 use super::*;
 use board_io::MemoryPackage;
-use lengths::Text;
+use lengths::text::Text;
 use std::alloc::{AllocError, Global};
 use std::fmt::Write;
 use std::test::Fail;

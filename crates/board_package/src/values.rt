@@ -5,7 +5,7 @@ ghost use Rattle.board_package.specs.Manifest as spec;
 ghost use Rattle.board_package.specs.Manifest.{Misses};
 
 use crate::manifest::ManifestFault;
-use lengths::{Text, TextFault};
+use lengths::text::{Text, TextFault};
 use serde_json::Value;
 use std::alloc::Global;
 

@@ -10,7 +10,8 @@ mod calls;
 use crate::placed::Piece;
 use crate::probe::Probe;
 use contact::Bounds;
-use lengths::{Rows, Text};
+use lengths::rows::Rows;
+use lengths::text::Text;
 use planar::Frame;
 
 /// The pieces, probes and net names of a board. All boxes of the pieces are inside the board's

@@ -8,7 +8,7 @@ ghost use Rattle.std.specs.Prelude.{All, IfOk, length, ◌≡◌, ◌≤◌};
 
 use area_contact::{Area, AreaFault, MOST_CONTOUR_POINTS};
 use contact::{Bounds, Capsule, Closed, Meets};
-use lengths::NoMemory;
+use lengths::rows::NoMemory;
 use planar::{Frame, Spot};
 use std::alloc::Global;
 use std::sync::ledger::Ledger;

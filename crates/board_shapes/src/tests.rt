@@ -7,7 +7,7 @@ ghost use Rattle.std.specs.Prelude.{All, IfOk, length, ◌<◌, ◌≡◌, ◌�
 use crate::{Board, BoardFault, MoveFault, Origin, Piece, Placed, Shape};
 use area_contact::{Area, AreaFault};
 use contact::{Bounds, Capsule, Closed, Meets};
-use lengths::Rows;
+use lengths::rows::Rows;
 use planar::{Frame, Spot};
 use std::alloc::{AllocError, Global};
 use std::marker::Brand;

@@ -6,7 +6,7 @@ use Rattle.board_package.proofs.Lift.{retold}
 use Rattle.board_package.specs.PackageBoard.{Stop, longer, not_json, bad_manifest, refused, frame_too_large}
 use Rattle.board_package.specs.declared.fault.BuildFault.{BuildFault}
 use Rattle.board_package.specs.declared.fault.BuildFault.TheVariants as fault
-use Rattle.board_package.specs.declared.reading.Refusal.TheVariants as refusal
+use Rattle.board_package.specs.declared.contents.Refusal.TheVariants as refusal
 use Rattle.boardnet.proofs.Ending.{HasReason, Works, small_status}
 use Rattle.boardnet.proofs.Sound.{HoldsHanded}
 use Rattle.boardnet.proofs.Soundness.{sound}

@@ -9,7 +9,7 @@ use Rattle.board_package.specs.Causes.{HasCause, IsUnread, KeepsFaults}
 use Rattle.board_package.specs.PackageBoard.{Stop, longer, not_json, bad_manifest, refused, frame_too_large}
 use Rattle.board_package.specs.declared.fault.BuildFault.{BuildFault}
 use Rattle.board_package.specs.declared.fault.BuildFault.TheVariants as fault
-use Rattle.board_package.specs.declared.reading.Refusal.TheVariants as refusal
+use Rattle.board_package.specs.declared.contents.Refusal.TheVariants as refusal
 use Rattle.boardnet.proofs.Sound.{OneOutcome}
 use Rattle.boardnet.proofs.Soundness.{sound}
 use Rattle.boardnet.specs.Answers.{IsAnswerTo, Refuses, RefusesFor, line_of, is_good, reason_line, subject_of, report_of, status_of}

@@ -6,7 +6,7 @@ use Rattle.board_io.specs.Package.{Files}
 use Rattle.board_package.specs.Laws.{HasOneOutcome}
 use Rattle.board_package.specs.PackageBoard.{IsBoardOf, Walks, most_bytes}
 use Rattle.board_package.specs.Parts.{empty_board}
-use Rattle.board_package.specs.Reading.{Reads}
+use Rattle.board_package.specs.Contents.{Reads}
 use Rattle.board_package.specs.declared.entry.Entry.{Entry}
 use Rattle.board_package.specs.declared.entry.Role.{Role}
 use Rattle.board_package.specs.declared.entry.Role.TheVariants.{Netlist}

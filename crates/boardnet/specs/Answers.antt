@@ -4,7 +4,7 @@ use Rattle.board_package.specs.declared.fault.BuildFault.{BuildFault}
 use Rattle.board_package.specs.declared.fault.BuildFault.TheVariants as fault
 use Rattle.board_package.specs.declared.fault.LabelledFault.{LabelledFault}
 use Rattle.board_package.specs.declared.fault.LabelledFault.TheVariants as labelled
-use Rattle.board_package.specs.declared.reading.Refusal.TheVariants.{Layer, Drill, Netlist}
+use Rattle.board_package.specs.declared.contents.Refusal.TheVariants.{Layer, Drill, Netlist}
 use Rattle.board_shapes.specs.Plain.{PlainBoard}
 use Rattle.board_shapes.specs.Tables.{IsTables}
 use Rattle.board_maker.specs.declared.made.MakeFault.{MakeFault}

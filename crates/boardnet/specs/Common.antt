@@ -2,8 +2,8 @@
 use Rattle.std.specs.Prelude.{◌≡◌, ◌⊎◌, ℕ, List, length, codes}
 use Rattle.board_package.specs.PackageBoard.{Stop, absent, longer, not_json, bad_manifest, refused, frame_too_large}
 use Rattle.board_package.specs.Refusals.{refusal_number, refusal_name}
-use Rattle.board_package.specs.declared.reading.Refusal.{Refusal}
-use Rattle.board_package.specs.declared.reading.Refusal.TheVariants.{Layer, Drill, Netlist}
+use Rattle.board_package.specs.declared.contents.Refusal.{Refusal}
+use Rattle.board_package.specs.declared.contents.Refusal.TheVariants.{Layer, Drill, Netlist}
 use Rattle.boardnet.specs.Lines.{at_byte, at_item, plain_line, file_line, frame_line, kind_line, differs_line}
 use Rattle.boardnet.specs.Source.{Source, IsFirstStopBy}
 use Rattle.verdict.specs.ReportText.{Agrees}

@@ -14,7 +14,8 @@ use board_package::{BuildFault, LabelledFault};
 use contact::Bounds;
 use gaps::GapFault;
 use gerber_layer::{FlattenFault, FlattenKind};
-use lengths::{NoMemory, Text};
+use lengths::rows::NoMemory;
+use lengths::text::Text;
 use verdict::Verdict;
 
 /// What a command answers: the text for the output, and what the line about it says.

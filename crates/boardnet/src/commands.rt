@@ -27,7 +27,7 @@ use self::x2::labelled_report;
 use crate::answer::Answered;
 use crate::words::{MADE_MANIFEST, Version};
 use board_io::Package;
-use lengths::is_text;
+use lengths::text::is_text;
 use std::alloc::Global;
 
 /// What the words ask for. Names of files are texts of 1 to 200 printable bytes.

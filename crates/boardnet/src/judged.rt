@@ -20,7 +20,7 @@ use board_shapes::{Board, laws as shapes};
 use cell_index::Cells;
 use flood::{flood, homes, laws as nets};
 use judge::{judge, supplement};
-use lengths::NoMemory;
+use lengths::rows::NoMemory;
 use std::alloc::Global;
 use std::marker::Brand;
 use std::sync::ledger::{Blank, Ledger};

@@ -11,7 +11,7 @@ use crate::commands::Command;
 use crate::lines;
 use crate::refusing::refuse;
 use board_io::{Put, Sink};
-use lengths::NoMemory;
+use lengths::rows::NoMemory;
 use std::alloc::Global;
 
 /// Puts the answer to a command and the line about it, or the line that says why there is none, and answers the status.

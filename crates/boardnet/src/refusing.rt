@@ -11,7 +11,7 @@ use crate::commands::Command;
 use crate::lines::{self, Kind};
 use board_io::Sink;
 use board_package::{BuildFault, Refusal};
-use lengths::Text;
+use lengths::text::Text;
 use std::alloc::Global;
 
 /// Puts the line that says why a command has no answer, and answers its status.

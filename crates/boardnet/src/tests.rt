@@ -9,7 +9,7 @@ mod packages;
 
 use crate::run::run;
 use board_io::{MemoryPackage, MemorySink};
-use lengths::NoMemory;
+use lengths::rows::NoMemory;
 use std::alloc::Global;
 use std::test::Fail;
 

@@ -8,7 +8,7 @@ use crate::field::Field;
 use crate::pieces::{is_under, keep_near};
 use board_shapes::Placed;
 use contact::{Closed, Meets};
-use lengths::NoMemory;
+use lengths::rows::NoMemory;
 use planar::{Frame, Spot};
 use std::sync::ledger::Ledger;
 use steps::Steps;

@@ -16,7 +16,7 @@ use crate::pieces::{is_near, is_under, keep_near};
 use crate::wanted::{Every, Wanted};
 use board_shapes::Placed;
 use contact::{Closed, Meets};
-use lengths::NoMemory;
+use lengths::rows::NoMemory;
 use planar::Spot;
 use std::sync::ledger::Ledger;
 use steps::Steps;

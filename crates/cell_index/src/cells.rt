@@ -17,7 +17,7 @@ use crate::finer::Finer;
 use crate::patch::CELLS;
 use board_shapes::Placed;
 use contact::{Closed, Meets};
-use lengths::NoMemory;
+use lengths::rows::NoMemory;
 use planar::{Frame, Spot};
 use std::alloc::Global;
 

@@ -6,7 +6,7 @@ ghost use Rattle.planar.specs.declared.Spot.{Spot};
 ghost use Rattle.std.specs.Prelude.{◌≡◌, ℕ, ◌+◌, ◌<◌, ◌≤◌, ◌^◌, OnOk, IfSome};
 ghost use Rattle.tables.specs.Lists.{Lists, IsLeast};
 
-use lengths::NoMemory;
+use lengths::rows::NoMemory;
 use planar::Spot;
 use std::sync::ledger::Ledger;
 use steps::Steps;

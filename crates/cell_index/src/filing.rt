@@ -8,7 +8,7 @@ use crate::bins::{Bins, Filing};
 use crate::patch::{CELLS, Patch};
 use board_shapes::Placed;
 use contact::Closed;
-use lengths::NoMemory;
+use lengths::rows::NoMemory;
 use planar::Frame;
 use std::alloc::Global;
 

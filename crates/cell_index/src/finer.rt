@@ -19,7 +19,7 @@ use crate::stretch::Stretch;
 use crate::wanted::Wanted;
 use board_shapes::Placed;
 use contact::{Bounds, Closed};
-use lengths::NoMemory;
+use lengths::rows::NoMemory;
 use planar::{Frame, Spot};
 use std::alloc::Global;
 

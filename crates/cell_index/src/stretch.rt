@@ -29,7 +29,7 @@ impl Side {
     }
 
     // Where the place comes to stand.
-    fn place(&self, z: i64) -> i64
+    fn scaled(&self, z: i64) -> i64
         ensures { result ≡ place_of self.now z }
     {
         if z < self.from {
@@ -54,10 +54,10 @@ impl Stretch {
         ensures { result ≡ box_over self.now b }
     {
         Bounds {
-            left: self.across.place(b.left),
-            low: self.up.place(b.low),
-            right: self.across.place(b.right),
-            high: self.up.place(b.high),
+            left: self.across.scaled(b.left),
+            low: self.up.scaled(b.low),
+            right: self.across.scaled(b.right),
+            high: self.up.scaled(b.high),
         }
     }
 
@@ -66,8 +66,8 @@ impl Stretch {
         ensures { result ≡ spot_over self.now p }
     {
         Spot {
-            x: self.across.place(p.x),
-            y: self.up.place(p.y),
+            x: self.across.scaled(p.x),
+            y: self.up.scaled(p.y),
         }
     }
 }

@@ -8,7 +8,7 @@ ghost use Rattle.std.specs.Prelude.{◌≡◌, ◌<◌, ◌≤◌, ◌↔◌, Al
 use super::*;
 use board_shapes::{Origin, Placed};
 use contact::{Bounds, Capsule, Closed, MOST_RADIUS, Meets};
-use lengths::NoMemory;
+use lengths::rows::NoMemory;
 use planar::{Frame, Spot};
 use std::alloc::Global;
 use std::cell::Cell;

@@ -7,7 +7,7 @@ ghost use Rattle.flood.specs.Flood.{IsSeen, unseen, weight, IsGrown, IsWhole};
 
 use cell_index::Field;
 use cell_index::laws::rivals_are_twice_the_pairs;
-use lengths::{NoMemory, Rows};
+use lengths::rows::{NoMemory, Rows};
 use std::alloc::Global;
 use std::sync::ledger::Ledger;
 use steps::Steps;

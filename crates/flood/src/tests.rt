@@ -12,7 +12,7 @@ use super::*;
 use board_shapes::{Origin, Placed, Probe};
 use cell_index::{Cells, Field};
 use contact::{Capsule, Closed, Meets};
-use lengths::NoMemory;
+use lengths::rows::NoMemory;
 use planar::{Frame, Spot};
 use std::alloc::Global;
 use std::marker::Brand;

@@ -6,7 +6,7 @@ ghost use Rattle.std.specs.Prelude.{IfOk, map, pos, ◌≡◌, ◌≤◌};
 use super::Fat;
 use super::meetings::Span;
 use board_shapes::{Piece, Placed};
-use lengths::NoMemory;
+use lengths::rows::NoMemory;
 use std::alloc::Global;
 
 /// The piece, grown.

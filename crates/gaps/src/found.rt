@@ -5,7 +5,7 @@ ghost use Rattle.gaps.specs.declared.gap.Gap.{Gap};
 ghost use Rattle.std.specs.Prelude.{Contains, IfOk, IsTrue, OnOk, length, [], ◌+◌, ◌++◌, ◌<◌, ◌≡◌, ◌∷◌};
 
 use super::gap::{Gap, keep_firsts};
-use lengths::NoMemory;
+use lengths::rows::NoMemory;
 use std::alloc::Global;
 
 /// How many lines stand at least before they are thinned.

@@ -15,7 +15,7 @@ use super::meetings::meetings;
 use board_shapes::Board;
 use cell_index::Cells;
 use contact::Bounds;
-use lengths::{NoMemory, Rows};
+use lengths::rows::{NoMemory, Rows};
 use net_numbers::numbers_of;
 use planar::Frame;
 use std::alloc::Global;

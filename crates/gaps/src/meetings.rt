@@ -11,7 +11,7 @@ use super::gap::Gap;
 use super::over::Over;
 use cell_index::{Cells, Field};
 use contact::Meets;
-use lengths::NoMemory;
+use lengths::rows::NoMemory;
 use std::alloc::Global;
 use std::sync::ledger::Ledger;
 use steps::Steps;

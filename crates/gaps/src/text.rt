@@ -4,7 +4,7 @@ ghost use Rattle.std.specs.List.{flat_map};
 ghost use Rattle.std.specs.Prelude.{IfOk, OnOk, ◌++◌, ◌≡◌};
 
 use super::gap::Gap;
-use lengths::NoMemory;
+use lengths::rows::NoMemory;
 use std::alloc::{AllocError, Global};
 use texts::{put, put_blank_number};
 

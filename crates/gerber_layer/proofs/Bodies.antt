@@ -2,21 +2,21 @@
 use Rattle.std.proofs.Common.{◌≡◌, ℕ, ◌+◌, ◌-◌, ◌<◌, ◌≤◌, suc, Bool, true, false, ◌||◌, cond, List, [], ◌∷◌, ◌++◌, length, Option, Some, None, option_map, Result, Err, refl, sym, ap, ◌∙◌, append_assoc, arith}
 use Rattle.std.specs.Prelude.{nat_lt}
 use Rattle.std.specs.List.{after_first, before_first}
-use Rattle.texts.specs.Words.{is}
+use Rattle.texts.specs.Words.{is_word}
 use Rattle.lengths.specs.Decimal.{Fraction, decimal, fraction, is_decimal}
 use Rattle.lengths.specs.declared.decimal.Unit.{Unit as Measure}
 use Rattle.apertures.specs.declared.aperture.Aperture.{Aperture}
 use Rattle.apertures.specs.declared.fault.ApertureFault.{ApertureFault}
 use Rattle.apertures.specs.declared.fault.ApertureFault.TheVariants as aperture
-use Rattle.apertures.specs.Reading.{aperture_at, is_x, numbered_at}
+use Rattle.apertures.specs.Definition.{aperture_at, is_x, numbered_at}
 use Rattle.aperture_macros.specs.BodyWord.{PlainPrimitive}
 use Rattle.gerber_layer.specs.Tools.{Macro, decimals_in, latest_or, number_digits}
 use Rattle.gerber_layer.specs.MacroTable.{is_of_macro}
 
 -- the last macro goes to the others
-pub closed_is : {V M : Type 0} (f : V → List PlainPrimitive) (g : M → Macro) (latest : Option M) (m : M) (v : V) (new old : Option V) (name : List ℕ) → latest ≡ Some m → (g m).body ≡ f v → new ≡ cond (is (g m).name name) (Some v) old → option_map f new ≡ latest_or (option_map g latest) (option_map f old) name
+pub closed_is : {V M : Type 0} (f : V → List PlainPrimitive) (g : M → Macro) (latest : Option M) (m : M) (v : V) (new old : Option V) (name : List ℕ) → latest ≡ Some m → (g m).body ≡ f v → new ≡ cond (is_word (g m).name name) (Some v) old → option_map f new ≡ latest_or (option_map g latest) (option_map f old) name
 closed_is f g latest m v new old name had same h =
-    ap (option_map f) h ∙ by (is (g m).name name) ∙ sym (ap (λ (l : Option _). latest_or (option_map g l) (option_map f old) name) had)
+    ap (option_map f) h ∙ by (is_word (g m).name name) ∙ sym (ap (λ (l : Option _). latest_or (option_map g l) (option_map f old) name) had)
   where
     by : (b : Bool) → option_map f (cond b (Some v) old) ≡ cond b (Some (g m).body) (option_map f old)
     by true = ap Some (sym same)

@@ -14,7 +14,7 @@ use Rattle.gerber_layer.specs.declared.command.Code.TheVariants.{Draw, Move, Fla
 use Rattle.gerber_layer.specs.declared.settings.Settings.{Settings}
 use Rattle.gerber_layer.specs.declared.dictionary.Dictionary.{Dictionary}
 use Rattle.gerber_layer.specs.declared.reader.Reader.{Reader}
-use Rattle.gerber_layer.specs.Table.{Place, Known, Effect, Profile, stays, makes, begins_macro, fills_macro, steps, concludes, code_of, coordinate}
+use Rattle.gerber_layer.specs.CommandEffects.{Place, Known, Effect, Profile, stays, makes, begins_macro, fills_macro, steps, concludes, code_of, coordinate}
 use Rattle.gerber_layer.specs.Tools.{Macro, Macros, Tool, begun, filled_up, latest_or, longer}
 use Rattle.gerber_layer.specs.After.{after, contour_after, heads, opened}
 use Rattle.gerber_layer.specs.Settings.{value_or, value_in, settings_before, format_before, unit_before, x_before, y_before, point_before, region_open, drawn, contour_before, defined_before, definitions_before, macros_before, ok_block, with_body}

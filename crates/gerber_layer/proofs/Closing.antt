@@ -8,7 +8,7 @@ use Rattle.regions.specs.Contours.{close_of}
 use Rattle.file_reading.specs.declared.halt.Halt.{Halt}
 use Rattle.gerber_layer.specs.declared.kind.GerberKind.{GerberKind}
 use Rattle.gerber_layer.specs.declared.reader.Reader.{Reader}
-use Rattle.gerber_layer.specs.Table.{Place, Known, room_for, listed, closing, area_if}
+use Rattle.gerber_layer.specs.CommandEffects.{Place, Known, room_for, listed, closing, area_if}
 use Rattle.gerber_layer.specs.Image.{made}
 use Rattle.gerber_layer.specs.Reader.{Places, Closes, Stops, contour_of, known_of, place_of}
 

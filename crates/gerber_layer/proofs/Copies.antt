@@ -11,7 +11,7 @@ use Rattle.step_repeat.specs.declared.repeat.Repeat.{Repeat}
 use Rattle.step_repeat.specs.declared.fault.CopyFault.{CopyFault}
 use Rattle.step_repeat.specs.declared.fault.CopyFault.TheVariants as copy
 use Rattle.gerber_layer.specs.Reader.{Stops, halt_of_copy, halt_of_flash}
-use Rattle.gerber_layer.specs.Table.{Known, as_copies, ended_block, flash_by, left}
+use Rattle.gerber_layer.specs.CommandEffects.{Known, as_copies, ended_block, flash_by, left}
 
 -- what stops the copies stops the reader
 pub stops_copies : (before : List PlainPiece) (copies : Result (List PlainPiece) Refusal) (fault : CopyFault) → IsCopyFault copies fault → Stops (as_copies before copies) (halt_of_copy fault)

@@ -11,7 +11,7 @@ use Rattle.board_shapes.specs.Pieces.{PlainPiece, plain_piece, plain_pieces}
 use Rattle.board_shapes.specs.declared.shape.Shape.{Shape}
 use Rattle.board_shapes.specs.declared.shape.Shape.TheVariants.{Round, Filled}
 use Rattle.board_shapes.specs.declared.placed.Placed.{Placed}
-use Rattle.gerber_layer.specs.Table.{edges_of}
+use Rattle.gerber_layer.specs.CommandEffects.{edges_of}
 
 pub few_shape : (s : Shape) → figure_edges (figure_of s) ≤ MOST_CONTOUR_EDGES
 few_shape (Round c) = omega arith

@@ -19,7 +19,7 @@ use Rattle.aperture_macros.specs.declared.fault.FigureFault.TheVariants as figur
 use Rattle.gerber_layer.specs.MacroTable.{all_judged}
 use Rattle.gerber_layer.specs.Reader.{body_of, halt_of_figure, Stops}
 use Rattle.aperture_macros.specs.declared.fault.MacroFault.{MacroFault}
-use Rattle.gerber_layer.specs.Table.{Place, ◌>>=◌, all_flashed, edges_of, figures_of, listed}
+use Rattle.gerber_layer.specs.CommandEffects.{Place, ◌>>=◌, all_flashed, edges_of, figures_of, listed}
 
 -- the room is for as many pieces as there are figures, with as many edges
 pub edges_made : (p : Place) (n : ℕ) (figures : List Figure) → edges_of (made p n figures) ≡ sum_by figure_edges figures

@@ -8,7 +8,7 @@ use Rattle.lengths.specs.declared.decimal.Unit.{Unit as Measure}
 use Rattle.apertures.specs.declared.aperture.Aperture.{Aperture}
 use Rattle.apertures.specs.declared.fault.ApertureFault.{ApertureFault}
 use Rattle.apertures.specs.declared.fault.ApertureFault.TheVariants as aperture
-use Rattle.apertures.specs.Reading.{aperture_at, name_of}
+use Rattle.apertures.specs.Definition.{aperture_at, name_of}
 use Rattle.aperture_macros.specs.BodyWord.{PlainPrimitive, primitive_at}
 use Rattle.aperture_macros.specs.declared.fault.MacroFault.{MacroFault}
 use Rattle.gerber_layer.specs.Command.{Command, defines, functions, names_macro, body_word}
@@ -18,7 +18,7 @@ use Rattle.gerber_layer.specs.declared.kind.GerberKind.TheVariants as kind
 use Rattle.gerber_layer.specs.declared.macro_kind.FlattenKind.{FlattenKind}
 use Rattle.gerber_layer.specs.declared.macro_kind.FlattenKind.TheVariants.{Gerber, BadMacro, MacroTwice, NoMacro, TooManyRadii}
 use Rattle.gerber_layer.specs.Tools.{Tool, composed, composed_in, has_room, macro_named, name_text, number_digits, parameters_in, tool_by}
-use Rattle.gerber_layer.specs.Table.{Known, Effect, stays, makes, begins_macro, fills_macro, concludes, ◌>>=◌, unless, needed, define, is_finish, row}
+use Rattle.gerber_layer.specs.CommandEffects.{Known, Effect, stays, makes, begins_macro, fills_macro, concludes, ◌>>=◌, unless, needed, define, is_finish, row}
 use Rattle.gerber_layer.specs.MacroTable.{gerber, as_macro, all_judged, is_reserved, name_macro, fill_by, fill_macro, compose, compose_as, is_of_macro, define_any, few_radii, row_with_macros, effect_with_macros}
 use Rattle.gerber_layer.proofs.Outcome.{Defined, IsFilled, Outcome, bind_ok, past_test, got, ok_stays, define_did, row_outcome, end_outcome}
 

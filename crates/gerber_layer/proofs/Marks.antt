@@ -3,7 +3,7 @@ use Rattle.std.proofs.Common.{◌≡◌, ℕ, ◌<◌, ◌==◌, zero, suc, Bool
 use Rattle.std.proofs.lemmas.Bool.Decides.{Decides-eqb}
 use Rattle.std.proofs.lemmas.Option.{IfSome_then, slice_get-map, slice_get_read}
 use Rattle.std.proofs.lemmas.Slice.Eq.{slice_eq-Decides}
-use Rattle.texts.specs.Words.{is}
+use Rattle.texts.specs.Words.{is_word}
 use Rattle.lengths.specs.Decimal.{Fraction}
 use Rattle.lengths.specs.declared.decimal.Unit.{Unit as Measure}
 use Rattle.aperture_macros.specs.BodyWord.{PlainPrimitive}
@@ -59,7 +59,7 @@ grown (x ∷ body) p P (suc i) h = grown body p P i h
 
 filled_in : (latest : Option Macro) (other : Option (List PlainPrimitive)) (p : PlainPrimitive) (name : List ℕ) (parameters : List Fraction) (unit : Measure) (marks : List Bool) → AreBlankIn (latest_or latest other name) parameters unit marks → AreBlankIn (latest_or (option_map (longer p) latest) other name) parameters unit marks
 filled_in None other p name parameters unit marks h = h
-filled_in (Some m) other p name parameters unit marks h = by (is m.name name) h
+filled_in (Some m) other p name parameters unit marks h = by (is_word m.name name) h
   where
     by : (b : Bool) → AreBlankIn (cond b (Some m.body) other) parameters unit marks → AreBlankIn (cond b (Some (m.body ++ p ∷ [])) other) parameters unit marks
     by true h = λ i k. grown m.body p (λ q. IsBlank q parameters unit) i (h i k)
@@ -67,12 +67,12 @@ filled_in (Some m) other p name parameters unit marks h = by (is m.name name) h
 
 -- a macro that begins has a name of its own
 begun_in : (m : Macros) (new name : List ℕ) (parameters : List Fraction) (unit : Measure) (marks : List Bool) → macro_named m new ≡ None → AreBlankIn (macro_named m name) parameters unit marks → AreBlankIn (macro_named (begun m new) name) parameters unit marks
-begun_in m new name parameters unit marks free h = by (is new name) refl
+begun_in m new name parameters unit marks free h = by (is_word new name) refl
   where
-    by : (b : Bool) → is new name ≡ b → AreBlankIn (cond b (Some []) (macro_named m name)) parameters unit marks
+    by : (b : Bool) → is_word new name ≡ b → AreBlankIn (cond b (Some []) (macro_named m name)) parameters unit marks
     by false e = h
     by true e =
-        let same : new ≡ name = (slice_eq-Decides Decides-eqb new name (is new name) refl).0 e in
+        let same : new ≡ name = (slice_eq-Decides Decides-eqb new name (is_word new name) refl).0 e in
         let none : macro_named m name ≡ None = subst (λ (x : List ℕ). macro_named m x ≡ None) same free in
         absurd (subst (λ (o : Option (List PlainPrimitive)). AreBlankIn o parameters unit marks) none h)
 

@@ -4,10 +4,10 @@ use Rattle.file_reading.proofs.OneAnswer.{one_answer_of}
 use Rattle.gerber_words.specs.Words.{Ahead}
 use Rattle.gerber_words.specs.Laws.{HasOneReadingAhead}
 use Rattle.gerber_words.specs.ItemsLaws.{some_items, one_items}
-use Rattle.gerber_layer.specs.Reading.{command_of}
-use Rattle.gerber_layer.specs.Table.{Place}
+use Rattle.gerber_layer.specs.WordCommands.{command_of}
+use Rattle.gerber_layer.specs.CommandEffects.{Place}
 use Rattle.gerber_layer.specs.Image.{effect_before, effect_by, pieces_by, pieces_of}
-use Rattle.gerber_layer.specs.MacroReading.{command_with_macros}
+use Rattle.gerber_layer.specs.MacroCommands.{command_with_macros}
 use Rattle.gerber_layer.specs.MacroTable.{effect_with_macros}
 use Rattle.gerber_layer.specs.Dialect.{AreItemsBy}
 use Rattle.gerber_layer.specs.MacroLayer.{flat_place, HasOneMacroAnswer, with_macros}

@@ -9,10 +9,10 @@ use Rattle.gerber_words.specs.Items.{items_with, stop_item, word_item}
 use Rattle.gerber_words.specs.Laws.{HasFirstWords, HasOneReadingAhead, IsCutShort, star_of}
 use Rattle.gerber_words.specs.declared.fault.WordFault.TheVariants.{LineBreakInWord, NotEnded, PercentAmiss}
 use Rattle.gerber_layer.specs.Command.{Command, breaks, ends, finishes}
-use Rattle.gerber_layer.specs.Reading.{command_of}
+use Rattle.gerber_layer.specs.WordCommands.{command_of}
 use Rattle.gerber_layer.specs.declared.kind.GerberKind.{GerberKind}
 use Rattle.gerber_layer.specs.declared.kind.GerberKind.TheVariants as kind
-use Rattle.gerber_layer.specs.Table.{Place, Known, Effect, stays, effect, is_finish, kind_of_word, row}
+use Rattle.gerber_layer.specs.CommandEffects.{Place, Known, Effect, stays, effect, is_finish, kind_of_word, row}
 use Rattle.gerber_layer.specs.Settings.{has_ended, is_end}
 use Rattle.gerber_layer.specs.Image.{effect_before, image_by, image_of, known_before, pieces_of, with_effect}
 use Rattle.gerber_layer.specs.Layer.{IsRead, IsRefused, stop_command}

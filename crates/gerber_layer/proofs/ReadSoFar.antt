@@ -17,7 +17,7 @@ use Rattle.file_reading.specs.declared.halt.Halt.{Halt}
 use Rattle.file_reading.specs.declared.halt.Halt.TheVariants as halt
 use Rattle.gerber_layer.specs.declared.file.Stopped.{Stopped}
 use Rattle.gerber_layer.specs.declared.reader.Reader.{Reader}
-use Rattle.gerber_layer.specs.Table.{Place, Known, Effect, Profile}
+use Rattle.gerber_layer.specs.CommandEffects.{Place, Known, Effect, Profile}
 use Rattle.gerber_layer.specs.Settings.{settings_before, defined_before, macros_before}
 use Rattle.gerber_layer.specs.Image.{effect_by, image_by, pieces_by}
 use Rattle.gerber_layer.specs.Dialect.{Dialect, IsHaltBy, IsReadBy, IsRefusedBy, stop_command}

@@ -13,7 +13,7 @@ use Rattle.file_reading.specs.declared.halt.Halt.{Halt}
 use Rattle.file_reading.specs.declared.halt.Halt.TheVariants as halt
 use Rattle.gerber_layer.specs.declared.kind.GerberKind.{GerberKind}
 use Rattle.gerber_layer.specs.Tools.{composed, macro_named}
-use Rattle.gerber_layer.specs.Table.{Place, Known, all_flashed, edges_of, flash, flash_with, lacks_room, macro_figures, selected}
+use Rattle.gerber_layer.specs.CommandEffects.{Place, Known, all_flashed, edges_of, flash, flash_with, lacks_room, macro_figures, selected}
 use Rattle.gerber_layer.specs.Image.{made, piece_of}
 use Rattle.gerber_layer.specs.Reader.{FlashesAll, Lacks, Stops}
 use Rattle.gerber_layer.proofs.MacroFlash.{edges_made}

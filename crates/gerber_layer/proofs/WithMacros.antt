@@ -11,7 +11,7 @@ use Rattle.board_shapes.specs.declared.shape.Shape.TheVariants.{Round}
 use Rattle.board_shapes.specs.Figures.{figure_of}
 use Rattle.gerber_layer.specs.declared.effect.Effect.{Effect as Seen}
 use Rattle.gerber_layer.specs.declared.effect.Effect.TheVariants as seen
-use Rattle.gerber_layer.specs.Table.{Known, Effect, stays, makes, begins_macro, fills_macro, performs, extends, closes, opens, leaves, steps, room_for, ◌>>=◌}
+use Rattle.gerber_layer.specs.CommandEffects.{Known, Effect, stays, makes, begins_macro, fills_macro, performs, extends, closes, opens, leaves, steps, room_for, ◌>>=◌}
 use Rattle.gerber_layer.specs.Dialect.{IsHaltBy}
 use Rattle.gerber_layer.specs.MacroTable.{few_radii, gerber}
 use Rattle.gerber_layer.specs.MacroLayer.{flat_place, IsMacroFault, macro_fault_at, with_macros}

@@ -4,7 +4,7 @@ use Rattle.planar.specs.declared.Spot.{Spot}
 use Rattle.step_repeat.specs.declared.repeat.Repeat.{Repeat}
 use Rattle.gerber_layer.specs.Command.{Command, nothing, refused, formats, counts_in, defines, selects, repeats, functions, opens_region, closes_region, operates, ends, names_macro, body_word, breaks, finishes}
 use Rattle.gerber_layer.specs.declared.settings.Settings.{Settings}
-use Rattle.gerber_layer.specs.Table.{Effect, stays, makes, begins_macro, fills_macro, performs, extends, closes, opens, leaves, steps, concludes, code_of}
+use Rattle.gerber_layer.specs.CommandEffects.{Effect, stays, makes, begins_macro, fills_macro, performs, extends, closes, opens, leaves, steps, concludes, code_of}
 use Rattle.file_reading.specs.LookingBack.{keep_first}
 use Rattle.gerber_layer.specs.Settings.{lengthened}
 

@@ -9,7 +9,7 @@ use Rattle.gerber_words.specs.Words.{Entry, Stop, ended, broken}
 use Rattle.gerber_words.specs.Items as words
 use Rattle.gerber_layer.specs.Command.{Command, finishes, breaks}
 use Rattle.gerber_layer.specs.Image.{effect_by, pieces_by}
-use Rattle.gerber_layer.specs.Table.{Place, Profile}
+use Rattle.gerber_layer.specs.CommandEffects.{Place, Profile}
 
 -- A dialect: what a word says, and what a command does, or why it is refused.
 pub record Dialect (W : Type 0) : Type 0 where

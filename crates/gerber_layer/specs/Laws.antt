@@ -7,7 +7,7 @@ use Rattle.file_reading.specs.Reading.{Clean}
 use Rattle.gerber_words.specs.Words.{Entry, Stop, HasWords, start}
 use Rattle.gerber_words.specs.Laws.{star_of}
 use Rattle.gerber_layer.specs.Command.{Command, opens_region, operates, repeats, ends}
-use Rattle.gerber_layer.specs.Reading.{command_of}
+use Rattle.gerber_layer.specs.WordCommands.{command_of}
 use Rattle.gerber_layer.specs.declared.command.Code.{Code}
 use Rattle.gerber_layer.specs.declared.command.Code.TheVariants.{Draw, Move, Flash}
 use Rattle.gerber_layer.specs.declared.kind.GerberKind.{GerberKind}
@@ -15,7 +15,7 @@ use Rattle.gerber_layer.specs.declared.kind.GerberKind.TheVariants as kind
 use Rattle.gerber_layer.specs.declared.macro_kind.FlattenKind.{FlattenKind}
 use Rattle.gerber_layer.specs.Kinds.{kind_number}
 use Rattle.gerber_layer.specs.MacroKinds.{flatten_number}
-use Rattle.gerber_layer.specs.Table.{Place, code_of, is_drawing}
+use Rattle.gerber_layer.specs.CommandEffects.{Place, code_of, is_drawing}
 use Rattle.gerber_layer.specs.Settings.{code_in, contour_before, is_end, point_before, region_open}
 use Rattle.gerber_layer.specs.Image.{effect_before, image_of, pieces_of}
 use Rattle.gerber_layer.specs.Layer.{IsRefused}

@@ -10,9 +10,9 @@ use Rattle.gerber_layer.specs.Dialect.{Dialect, IsReadBy, IsRefusedBy}
 use Rattle.gerber_layer.specs.declared.macro_kind.FlattenKind.{FlattenKind}
 use Rattle.gerber_layer.specs.declared.macro_kind.FlattenFault.{FlattenFault}
 use Rattle.gerber_layer.specs.declared.macro_kind.FlattenFault.TheVariants as fault
-use Rattle.gerber_layer.specs.MacroReading.{command_with_macros}
+use Rattle.gerber_layer.specs.MacroCommands.{command_with_macros}
 use Rattle.gerber_layer.specs.MacroTable.{effect_with_macros}
-use Rattle.gerber_layer.specs.Table.{Place}
+use Rattle.gerber_layer.specs.CommandEffects.{Place}
 
 -- the dialect with macros
 abbrev pub with_macros : Dialect FlattenKind

@@ -8,7 +8,7 @@ use Rattle.gerber_layer.specs.declared.macro_kind.FlattenKind.TheVariants.{Gerbe
 use Rattle.gerber_layer.specs.declared.effect.Effect.{Effect as Seen}
 use Rattle.gerber_layer.specs.declared.effect.Effect.TheVariants as seen
 use Rattle.gerber_layer.specs.declared.radii.Radii.{Radii}
-use Rattle.gerber_layer.specs.Table.{Known, Effect}
+use Rattle.gerber_layer.specs.CommandEffects.{Known, Effect}
 use Rattle.gerber_layer.specs.MacroTable.{gerber}
 use Rattle.gerber_layer.specs.Reader.{shown}
 

@@ -2,13 +2,13 @@
 -- Specification, 4.5).
 use Rattle.std.specs.Prelude.{ℕ, Bool, true, false, ◌||◌, nat_le, nat_lt, if◌then◌else◌, List, [], ◌∷◌, length, codes, Option, Some, None, is_some, Result, Ok, Err}
 use Rattle.std.specs.Str.Parse.{digits_value}
-use Rattle.texts.specs.Words.{is}
+use Rattle.texts.specs.Words.{is_word}
 use Rattle.lengths.specs.Decimal.{Fraction}
 use Rattle.lengths.specs.declared.decimal.Unit.{Unit as Measure}
 use Rattle.apertures.specs.declared.aperture.Aperture.{Aperture}
 use Rattle.apertures.specs.declared.fault.ApertureFault.{ApertureFault}
 use Rattle.apertures.specs.declared.fault.ApertureFault.TheVariants as aperture
-use Rattle.apertures.specs.Reading.{aperture_at, name_of}
+use Rattle.apertures.specs.Definition.{aperture_at, name_of}
 use Rattle.aperture_macros.specs.BodyWord.{PlainPrimitive, primitive_at}
 use Rattle.aperture_macros.specs.Images.{judged}
 use Rattle.aperture_macros.specs.declared.fault.MacroFault.{MacroFault}
@@ -20,9 +20,9 @@ use Rattle.gerber_layer.specs.declared.kind.GerberKind.TheVariants as kind
 use Rattle.gerber_layer.specs.declared.macro_kind.FlattenKind.{FlattenKind}
 use Rattle.gerber_layer.specs.declared.macro_kind.FlattenKind.TheVariants.{Gerber, BadMacro, MacroTwice, NoMacro, ExposureOff, Turn, Slanted, TooManyRadii}
 use Rattle.gerber_layer.specs.Radii.{radii_of}
-use Rattle.gerber_layer.specs.Reading.{is_empty}
+use Rattle.gerber_layer.specs.WordCommands.{is_empty}
 use Rattle.gerber_layer.specs.Tools.{composed, has_room, macro_named, name_text, number_digits, parameters_in}
-use Rattle.gerber_layer.specs.Table.{Known, Effect, stays, makes, begins_macro, fills_macro, concludes, ◌>>=◌, unless, needed, define, is_finish, row}
+use Rattle.gerber_layer.specs.CommandEffects.{Known, Effect, stays, makes, begins_macro, fills_macro, concludes, ◌>>=◌, unless, needed, define, is_finish, row}
 
 -- how the rows of `Table` refuse
 abbrev pub gerber : {A : Type 0} → Result A GerberKind → Result A FlattenKind
@@ -45,7 +45,7 @@ as_macro (Err fault) = Err (kind_of_macro fault)
 
 -- a name that no macro may have: an empty one, or that of a standard aperture
 abbrev pub is_reserved : List ℕ → Bool
-is_reserved name = is_empty name || ((is name (codes "C") || is name (codes "R")) || (is name (codes "O") || is name (codes "P")))
+is_reserved name = is_empty name || ((is_word name (codes "C") || is_word name (codes "R")) || (is_word name (codes "O") || is_word name (codes "P")))
 
 -- the row of `AM`
 unfoldable pub name_macro : Known → List ℕ → Result Effect FlattenKind

@@ -12,7 +12,7 @@ use Rattle.gerber_layer.specs.declared.command.Code.{Code}
 use Rattle.gerber_layer.specs.declared.command.Code.TheVariants.{Draw, Move, Flash}
 use Rattle.gerber_layer.specs.declared.command.Format.{Format}
 use Rattle.gerber_layer.specs.Tools.{Tool, tool_in}
-use Rattle.gerber_layer.specs.Table.{Known, Effect, Profile, stays, makes, begins_macro, fills_macro, performs, extends, closes, opens, leaves, steps, concludes, code_of, coordinate, next_block}
+use Rattle.gerber_layer.specs.CommandEffects.{Known, Effect, Profile, stays, makes, begins_macro, fills_macro, performs, extends, closes, opens, leaves, steps, concludes, code_of, coordinate, next_block}
 
 -- a draw and a flash go to a spot
 pub record Goes (e : Effect) (to : Spot) : Type 0 where

@@ -1,7 +1,7 @@
 -- What the reader keeps, and how it goes on.
 use Rattle.std.specs.Prelude.{◌≡◌, ℕ, ◌+◌, ◌^◌, ◌<◌, ◌≤◌, ◌==◌, Bool, true, false, if◌then◌else◌, List, [], ◌++◌, get_or, length, map, nat_eq, slice_get, Option, Some, None, option_map, Result, Ok, Err, IfSome, IsSomeAnd}
 use Rattle.std.specs.HashMap.{get, get_by, hash_map_len}
-use Rattle.texts.specs.Words.{is}
+use Rattle.texts.specs.Words.{is_word}
 use Rattle.planar.specs.declared.Spot.{Spot}
 use Rattle.planar.specs.Plane.{IsPlaced}
 use Rattle.board_shapes.specs.declared.shape.Shape.TheVariants.{Round}
@@ -41,7 +41,7 @@ use Rattle.gerber_layer.specs.declared.tool.Tool.{Tool as Given}
 use Rattle.gerber_layer.specs.declared.tool.Tool.TheVariants as given
 use Rattle.gerber_layer.specs.Tools.{Macro, Macros, Tool, standard, composed, begun, filled_up, macro_named}
 use Rattle.gerber_layer.specs.declared.reader.Reader.{Reader}
-use Rattle.gerber_layer.specs.Table.{Place, Known, Effect, stays, makes, begins_macro, fills_macro, performs, extends, closes, opens, leaves, steps, concludes, closing, Profile, edges_of, ended_block, extend, flash, listed, room_for, ◌>>=◌}
+use Rattle.gerber_layer.specs.CommandEffects.{Place, Known, Effect, stays, makes, begins_macro, fills_macro, performs, extends, closes, opens, leaves, steps, concludes, closing, Profile, edges_of, ended_block, extend, flash, listed, room_for, ◌>>=◌}
 use Rattle.gerber_layer.specs.After.{after, contour_after, heads, opened}
 use Rattle.gerber_layer.specs.Image.{made, pieces_after, start_after}
 use Rattle.gerber_layer.specs.Lawful.{AreLawfulSettings}
@@ -71,7 +71,7 @@ size_of d = hash_map_len d.tools
 abbrev pub macros_in : Dictionary → Macros
 macros_in d = record {
   latest = option_map macro_of d.latest;
-  others = λ name. option_map (λ b. body_of b.items) (get_by (λ k. is name k.now) d.others);
+  others = λ name. option_map (λ b. body_of b.items) (get_by (λ k. is_word name k.now) d.others);
 }
 
 -- a standard aperture is lawful; of one of a macro nothing is asked

@@ -15,7 +15,7 @@ use Rattle.gerber_layer.specs.declared.command.Code.TheVariants.{Draw, Move, Fla
 use Rattle.gerber_layer.specs.declared.command.Format.{Format}
 use Rattle.gerber_layer.specs.declared.settings.Settings.{Settings}
 use Rattle.gerber_layer.specs.Tools.{Macros, Tool, begun, filled_up, tool_in}
-use Rattle.gerber_layer.specs.Table.{code_of, coordinate, next_block}
+use Rattle.gerber_layer.specs.CommandEffects.{code_of, coordinate, next_block}
 
 -- what a command says of a setting
 abbrev pub format_in : Command → Option Format

@@ -2,14 +2,14 @@
 use Rattle.std.specs.Prelude.{ℕ, ◌+◌, zero, suc, Bool, false, nat_lt, if◌then◌else◌, List, [], ◌∷◌, ◌++◌, length, take, drop, ℤ, Option, Some, None, option_map, Result, Ok, Err}
 use Rattle.std.specs.List.{after_first, before_first, count_by, list_any}
 use Rattle.std.specs.Str.Parse.{digits_value}
-use Rattle.texts.specs.Words.{is}
+use Rattle.texts.specs.Words.{is_word}
 use Rattle.lengths.specs.Decimal.{Fraction, is_decimal, fraction}
 use Rattle.lengths.specs.declared.decimal.Unit.{Unit as Measure}
 use Rattle.apertures.specs.declared.aperture.Aperture.{Aperture}
 use Rattle.apertures.specs.declared.fault.ApertureFault.{ApertureFault}
 use Rattle.apertures.specs.declared.fault.ApertureFault.TheVariants as aperture
 use Rattle.apertures.specs.Flash.{pen_of}
-use Rattle.apertures.specs.Reading.{aperture_at, digits_len, is_comma, is_x, name_of}
+use Rattle.apertures.specs.Definition.{aperture_at, digits_len, is_comma, is_x, name_of}
 use Rattle.aperture_macros.specs.BodyWord.{PlainPrimitive}
 
 -- An aperture: a standard one, or the macro of a name with its parameters and their unit.
@@ -35,7 +35,7 @@ pub record Macros : Type 0 where
 -- the body of the last macro, where that has the name, and else the other
 abbrev pub latest_or : Option Macro → Option (List PlainPrimitive) → List ℕ → Option (List PlainPrimitive)
 latest_or None other name = other
-latest_or (Some m) other name = if is m.name name then Some m.body else other
+latest_or (Some m) other name = if is_word m.name name then Some m.body else other
 
 -- the body of the macro of a name
 abbrev pub macro_named : Macros → List ℕ → Option (List PlainPrimitive)

@@ -12,7 +12,7 @@ use crate::command::Command;
 use crate::kind::GerberKind;
 use crate::macro_kind::FlattenKind;
 use crate::reader::Reader;
-use crate::reading::{read_command, read_macro_command};
+use crate::word_commands::{read_command, read_macro_command};
 use file_reading::Halt;
 use gerber_words::Word;
 use std::alloc::Global;

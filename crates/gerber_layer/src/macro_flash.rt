@@ -7,13 +7,13 @@ ghost use Rattle.board_shapes.specs.Pieces.{plain_pieces};
 ghost use Rattle.gerber_layer.specs.Image.{made};
 ghost use Rattle.planar.specs.Plane.{IsPlaced};
 ghost use Rattle.gerber_layer.specs.Reader.{AreBlank, FlashesAll, Stops, body_of, halt_of_figure, origin_place};
-ghost use Rattle.gerber_layer.specs.Table.{all_flashed, figures_of, listed};
+ghost use Rattle.gerber_layer.specs.CommandEffects.{all_flashed, figures_of, listed};
 
 use crate::kind::GerberKind;
 use aperture_macros::{FigureFault, Primitive};
 use board_shapes::{Origin, Piece, Placed, Shape};
 use file_reading::Halt;
-use lengths::{Decimal, Unit};
+use lengths::decimal::{Decimal, Unit};
 use planar::Spot;
 use std::alloc::Global;
 

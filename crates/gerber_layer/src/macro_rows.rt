@@ -4,29 +4,29 @@ ghost use Rattle.board_shapes.specs.Pieces.{plain_pieces};
 ghost use Rattle.gerber_layer.specs.Command.{view};
 ghost use Rattle.gerber_layer.specs.Lawful.{IsLawfulCommand};
 ghost use Rattle.gerber_layer.specs.MacroTable as spec;
-ghost use Rattle.apertures.specs.Reading.{aperture_at};
+ghost use Rattle.apertures.specs.Definition.{aperture_at};
 ghost use Rattle.gerber_layer.specs.MacroReader.{any_halt};
 ghost use Rattle.gerber_layer.specs.MacroTable.{as_macro, gerber};
 ghost use Rattle.gerber_layer.specs.Reader.{AreBlank, Stops, body_of};
 ghost use Rattle.gerber_layer.specs.Tools.{macro_named};
-ghost use Rattle.gerber_layer.specs.Table.{concludes, row};
+ghost use Rattle.gerber_layer.specs.CommandEffects.{concludes, row};
 
 use crate::MOST_APERTURES;
 use crate::command::Command;
+use crate::command_effects::is_finish;
 use crate::effect::Effect;
 use crate::kind::GerberKind;
 use crate::macro_kind::FlattenKind;
 use crate::parameters::{name_text, number, parameters};
 use crate::radii::Radii;
 use crate::reader::Reader;
-use crate::table::is_finish;
 use crate::tool::Tool;
 use aperture_macros::{Primitive, read_body};
 use apertures::{ApertureFault, read_aperture};
 use file_reading::Halt;
-use lengths::{Decimal, Unit};
+use lengths::decimal::{Decimal, Unit};
 use std::alloc::Global;
-use texts::{before, is};
+use texts::{before_byte, is_word};
 
 // A name that is none, or that of a standard aperture.
 fn is_reserved(name: &[u8]) -> bool
@@ -35,7 +35,7 @@ fn is_reserved(name: &[u8]) -> bool
     if name.is_empty() {
         return true;
     }
-    is(name, b"C") || is(name, b"R") || is(name, b"O") || is(name, b"P")
+    is_word(name, b"C") || is_word(name, b"R") || is_word(name, b"O") || is_word(name, b"P")
 }
 
 // Whether the name of an `AD` word is none of a standard aperture.
@@ -125,7 +125,7 @@ impl<'a> Reader<'a> {
         ensures halt { IfErr result (Stops (spec.compose (known_of self.now) text.now unit)) }
     {
         let word = name_text(text);
-        let name = before(word, b',');
+        let name = before_byte(word, b',');
         let Some(body) = self.dictionary.body(name) else {
             return Err(Halt::Fault(FlattenKind::NoMacro));
         };

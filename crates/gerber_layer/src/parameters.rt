@@ -2,12 +2,13 @@
 ghost use Rattle.std.specs.Prelude.{◌≡◌, ◌≤◌, drop, length, IfOk, option_map};
 ghost use Rattle.std.specs.List.{count_by};
 ghost use Rattle.std.specs.Str.Parse.{digits_value as value_of_digits};
-ghost use Rattle.apertures.specs.Reading.{is_x};
+ghost use Rattle.apertures.specs.Definition.{is_x};
 ghost use Rattle.gerber_layer.specs.Tools as spec;
 
-use lengths::{Decimal, NoMemory, read_decimal, small_value};
+use lengths::decimal::{Decimal, read_decimal, small_value};
+use lengths::rows::NoMemory;
 use std::alloc::Global;
-use texts::{after, before, digits_len, has};
+use texts::{after_byte, before_byte, digits_len, has};
 
 /// The name of an aperture with its parameters, which stand behind its number.
 pub fn name_text(word: &[u8]) -> &[u8]
@@ -51,13 +52,13 @@ fn decimals(alloc: Global, n: usize, text: &[u8]) -> Result<Option<Vec<Decimal>>
     let mut decimals = Vec::new(alloc);
     let mut rest = text;
     for _ in 0..n {
-        let Some(decimal) = read_decimal(before(rest, b'X')) else {
+        let Some(decimal) = read_decimal(before_byte(rest, b'X')) else {
             return Ok(None);
         };
         if let Err(_) = decimals.push(decimal) {
             return Err(NoMemory);
         }
-        rest = after(rest, b'X');
+        rest = after_byte(rest, b'X');
     }
     Ok(Some(decimals))
 }
@@ -70,6 +71,6 @@ pub fn parameters(alloc: Global, text: &[u8]) -> Result<Option<Vec<Decimal>>, No
     if !has(text, b',') {
         return Ok(Some(Vec::new(alloc)));
     }
-    let text = after(text, b',');
+    let text = after_byte(text, b',');
     decimals(alloc, count(text) + 1, text)
 }

@@ -1,7 +1,7 @@
 //! The radii of the capsules among pieces.
 use board_shapes::{Piece, Shape};
 use indexmap::IndexSet;
-use lengths::NoMemory;
+use lengths::rows::NoMemory;
 use std::alloc::Global;
 
 /// Radii in u, each once, in order of first use.

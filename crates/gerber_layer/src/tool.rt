@@ -1,6 +1,6 @@
 //! What stands in the aperture dictionary.
 use apertures::Aperture;
-use lengths::{Decimal, Unit};
+use lengths::decimal::{Decimal, Unit};
 
 /// An aperture: a standard one, or the macro of a name with its parameters and their unit, and with a
 /// mark for each of its primitives, in order, whether it has no image with these.

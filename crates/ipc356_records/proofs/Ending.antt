@@ -10,13 +10,13 @@ use Rattle.board_shapes.specs.declared.probe.Probe.{Probe}
 use Rattle.file_reading.specs.Reading.{Item, said}
 use Rattle.file_reading.proofs.Ending.{Ends, NoneEnd, none_before_end, refused_without_end, same_made}
 use Rattle.texts.specs.Lines.{PlainLine, lines_of}
-use Rattle.texts.specs.Words.{begins, is}
+use Rattle.texts.specs.Words.{begins, is_word}
 use Rattle.texts.proofs.Prefix.{AreCut, TellsEnd, NoneEnds, end_of_prefix, no_end_in_prefix, lines_of_prefix}
 use Rattle.ipc356_records.specs.declared.kind.RecordKind.{RecordKind}
-use Rattle.ipc356_records.specs.Line.{Form, blank, unread, units, ends, continues, tests, unknown, finishes}
-use Rattle.ipc356_records.specs.Reading.{form_of, coded, parameter, unit_of, fields_in, is_other}
+use Rattle.ipc356_records.specs.Line.{RecordLine, blank, unread, units, ends, continues, tests, unknown, finishes}
+use Rattle.ipc356_records.specs.RecordLines.{form_of, coded, parameter, unit_of, fields_in, is_other}
 use Rattle.ipc356_records.specs.Settings.{is_end, has_ended, known_at, name_in, names_of, with_name_if}
-use Rattle.ipc356_records.specs.Table.{Known, Effect, stays, effect, row, behind, probes_of_effect}
+use Rattle.ipc356_records.specs.RecordEffects.{Known, Effect, stays, effect, row, behind, probes_of_effect}
 use Rattle.ipc356_records.specs.NetlistFile.{Netlist, netlist_of, effect_at, item_of, items, probes_in, probes_of, IsRead, IsRefused}
 use Rattle.ipc356_records.specs.Laws.{IsEndLine, PrefixIsRefused}
 use Rattle.ipc356_records.proofs.OneAnswer.{one_answer}
@@ -38,7 +38,7 @@ needs_end k h ok = by k.ended h ok
     by true h ok = cc
     by false h ok = cc
 
-ends_of : (form : Form) → is_end form ≡ true → form ≡ ends
+ends_of : (form : RecordLine) → is_end form ≡ true → form ≡ ends
 ends_of blank h = cc
 ends_of unread h = cc
 ends_of (units unit) h = cc
@@ -58,12 +58,12 @@ table_ends layers = record {
   still = λ earlier form no left. rw (no, left) refl;
   ends = λ earlier form is. rw is refl;
   stays = λ earlier form ended ok. either (is_end form) (has_ended earlier) ended;
-  once = λ earlier form ended is ok. ended_ok (known_at layers earlier) ended (subst (λ (f : Form). IsOk (effect (known_at layers earlier) f)) (ends_of form is) ok);
+  once = λ earlier form ended is ok. ended_ok (known_at layers earlier) ended (subst (λ (f : RecordLine). IsOk (effect (known_at layers earlier) f)) (ends_of form is) ok);
   needed = λ earlier no ok. needs_end (known_at layers earlier) no ok;
 }
 
 -- behind the end a line without a fault makes nothing
-behind_stays : (form : Form) → IsOk (behind form) → (behind form ≡ Ok stays) × (name_in form ≡ None)
+behind_stays : (form : RecordLine) → IsOk (behind form) → (behind form ≡ Ok stays) × (name_in form ≡ None)
 behind_stays blank ok = (refl, refl)
 behind_stays unread ok = cc
 behind_stays (units unit) ok = cc
@@ -73,11 +73,11 @@ behind_stays (tests fields) ok = cc
 behind_stays unknown ok = cc
 behind_stays finishes ok = (refl, refl)
 
-ended_behind : (k : Known) (form : Form) → k.ended ≡ true → effect k form ≡ behind form
+ended_behind : (k : Known) (form : RecordLine) → k.ended ≡ true → effect k form ≡ behind form
 unfolding effect
 ended_behind k form h = rw h refl
 
-ended_idle : (layers : ℕ) (earlier : List Form) (form : Form) → has_ended earlier ≡ true → IsOk (effect_at layers earlier form) → netlist_of layers (form ∷ earlier) ≡ netlist_of layers earlier
+ended_idle : (layers : ℕ) (earlier : List RecordLine) (form : RecordLine) → has_ended earlier ≡ true → IsOk (effect_at layers earlier form) → netlist_of layers (form ∷ earlier) ≡ netlist_of layers earlier
 unfolding probes_of_effect
 ended_idle layers earlier form h ok =
     let judged = ended_behind (known_at layers earlier) form h in
@@ -103,24 +103,24 @@ told_ends : (text : List ℕ) → tells text ≡ true → form_of text ≡ ends
 told_ends text h = ap form_of (code_behind text h) ∙ ends_line (drop 3 text)
 
 -- and only they are read so
-past : (b : Bool) (x y : Form) → is_end x ≡ false → is_end (if b then x else y) ≡ true → is_end y ≡ true
+past : (b : Bool) (x y : RecordLine) → is_end x ≡ false → is_end (if b then x else y) ≡ true → is_end y ≡ true
 past true x y silent h = cc
 past false x y silent h = h
 
 no_parameter : (words : List (List ℕ)) → is_end (parameter words) ≡ false
 unfolding parameter
 no_parameter [] = refl
-no_parameter (word ∷ further) = by (is word (codes "UNITS"))
+no_parameter (word ∷ further) = by (is_word word (codes "UNITS"))
   where
     by : (b : Bool) → is_end (if b then units (unit_of further) else unread) ≡ false
     by true = refl
     by false = refl
 
-code_of_end : (b : Bool) (other : Form) → is_end other ≡ false → is_end (if b then ends else other) ≡ true → b ≡ true
+code_of_end : (b : Bool) (other : RecordLine) → is_end other ≡ false → is_end (if b then ends else other) ≡ true → b ≡ true
 code_of_end true other silent h = refl
 code_of_end false other silent h = cc
 
-neither : (b : Bool) (x y : Form) → is_end x ≡ false → is_end y ≡ false → is_end (if b then x else y) ≡ false
+neither : (b : Bool) (x y : RecordLine) → is_end x ≡ false → is_end y ≡ false → is_end (if b then x else y) ≡ false
 neither true x y first second = first
 neither false x y first second = second
 
@@ -163,12 +163,12 @@ code_tells_end = record {
 }
 
 -- forms of lines
-abbrev forms : List PlainLine → List Form
+abbrev forms : List PlainLine → List RecordLine
 forms lines = map (λ line. form_of line.text) lines
 
-said_lines : (lines : List PlainLine) (last : Item Form) → said (map item_of lines ++ last ∷ []) ≡ forms lines ++ last.says ∷ []
+said_lines : (lines : List PlainLine) (last : Item RecordLine) → said (map item_of lines ++ last ∷ []) ≡ forms lines ++ last.says ∷ []
 said_lines [] last = refl
-said_lines (line ∷ lines) last = ap (λ (fs : List Form). form_of line.text ∷ fs) (said_lines lines last)
+said_lines (line ∷ lines) last = ap (λ (fs : List RecordLine). form_of line.text ∷ fs) (said_lines lines last)
 
 said_items : (file : List ℕ) → said (items file) ≡ forms (lines_of file) ++ finishes ∷ []
 said_items file = said_lines (lines_of file) (record { says = finishes; at = length (lines_of file) + 1 })
@@ -176,8 +176,8 @@ said_items file = said_lines (lines_of file) (record { says = finishes; at = len
 -- the same, around a line of the end's
 said_at : (file : List ℕ) (before : List PlainLine) (line : PlainLine) (after : List PlainLine) → lines_of file ≡ before ++ line ∷ after → form_of line.text ≡ ends → said (items file) ≡ forms before ++ ends ∷ (forms after ++ finishes ∷ [])
 said_at file before line after among is =
-    said_items file ∙ ap (λ (ls : List PlainLine). forms ls ++ finishes ∷ []) among ∙ ap (λ (fs : List Form). fs ++ finishes ∷ []) (map-append (λ (l : PlainLine). form_of l.text) before (line ∷ after))
-    ∙ append_assoc (forms before) (form_of line.text ∷ forms after) (finishes ∷ []) ∙ ap (λ (f : Form). forms before ++ f ∷ (forms after ++ finishes ∷ [])) is
+    said_items file ∙ ap (λ (ls : List PlainLine). forms ls ++ finishes ∷ []) among ∙ ap (λ (fs : List RecordLine). fs ++ finishes ∷ []) (map-append (λ (l : PlainLine). form_of l.text) before (line ∷ after))
+    ∙ append_assoc (forms before) (form_of line.text ∷ forms after) (finishes ∷ []) ∙ ap (λ (f : RecordLine). forms before ++ f ∷ (forms after ++ finishes ∷ [])) is
 
 no_bytes : (lines : List PlainLine) → NoneEnd is_end (forms lines) → NoneEnds tells lines
 no_bytes [] none = tt

@@ -19,9 +19,9 @@ use Rattle.board_shapes.specs.declared.probe.Probe.{Probe}
 use Rattle.ipc356_records.specs.declared.line.Coordinate.{Coordinate}
 use Rattle.ipc356_records.specs.declared.kind.RecordKind.{RecordKind}
 use Rattle.ipc356_records.specs.declared.kind.RecordKind.TheVariants as kind
-use Rattle.ipc356_records.specs.Line.{Form, TestFields, blank, unread, units, ends, continues, tests, unknown, finishes}
+use Rattle.ipc356_records.specs.Line.{RecordLine, TestFields, blank, unread, units, ends, continues, tests, unknown, finishes}
 use Rattle.ipc356_records.specs.Names.{is_name, index_of, with_name}
-use Rattle.ipc356_records.specs.Table.{Known, Effect, stays, sets, closes, step_of, placed, effect, layers_of, probe_at, probes_of_effect}
+use Rattle.ipc356_records.specs.RecordEffects.{Known, Effect, stays, sets, closes, step_of, placed, effect, layers_of, probe_at, probes_of_effect}
 use Rattle.ipc356_records.specs.Settings.{known_at, records_before, names_of}
 use Rattle.ipc356_records.specs.NetlistFile.{probes_in, probes_of, effect_at, Netlist, IsRead, FitsBoard}
 use Rattle.ipc356_records.proofs.Outcome.{Tested, past_test}
@@ -101,14 +101,14 @@ layers_fit layers access some h = by (eqb access 0) refl
     by false e = let other : access ≢ 0 = eqb-false access 0 e in record { each = one layers access (record { top = omega arith; bottom = h }); few = omega arith }
 
 -- what a history without a fault has made
-pub record Fit (layers : ℕ) (earlier : List Form) : Type 0 where
+pub record Fit (layers : ℕ) (earlier : List RecordLine) : Type 0 where
   pub lawful : All (IsProbe (length (names_of earlier)) layers) (probes_of layers earlier)
   pub records : records_before earlier ≤ MOST_RECORDS
   pub names : length (names_of earlier) ≤ records_before earlier
   pub probes : length (probes_of layers earlier) ≤ 2 * records_before earlier
 
 -- a line that is no test record changes none of it
-stays_fit : (layers : ℕ) (earlier : List Form) (r : Result Effect RecordKind) (e : Effect) → Fit layers earlier → r ≡ Ok e → probes_of_effect (known_at layers earlier) e ≡ [] → All (IsProbe (length (names_of earlier)) layers) (probes_of layers earlier ++ probes_in (known_at layers earlier) r) × (length (probes_of layers earlier ++ probes_in (known_at layers earlier) r) ≤ 2 * records_before earlier)
+stays_fit : (layers : ℕ) (earlier : List RecordLine) (r : Result Effect RecordKind) (e : Effect) → Fit layers earlier → r ≡ Ok e → probes_of_effect (known_at layers earlier) e ≡ [] → All (IsProbe (length (names_of earlier)) layers) (probes_of layers earlier ++ probes_in (known_at layers earlier) r) × (length (probes_of layers earlier ++ probes_in (known_at layers earlier) r) ≤ 2 * records_before earlier)
 stays_fit layers earlier r e f ok none =
     let same : probes_of layers earlier ++ probes_in (known_at layers earlier) r ≡ probes_of layers earlier = rw (ok, none) (append-nil (probes_of layers earlier)) in
     (subst (All (IsProbe (length (names_of earlier)) layers)) (sym same) f.lawful, (let a = ap length same in let b = f.probes in omega arith))
@@ -116,7 +116,7 @@ stays_fit layers earlier r e f ok none =
 no_probes : (k : Known) (e f : Effect) → e ≡ f → probes_of_effect k f ≡ [] → probes_of_effect k e ≡ []
 no_probes k e f same none = rw same none
 
-tested_fit : (layers : ℕ) (earlier : List Form) (fields : TestFields) (e : Effect) → 1 ≤ layers → Fit layers earlier → effect (known_at layers earlier) (tests fields) ≡ Ok e → Tested (known_at layers earlier) fields e → Fit layers (tests fields ∷ earlier)
+tested_fit : (layers : ℕ) (earlier : List RecordLine) (fields : TestFields) (e : Effect) → 1 ≤ layers → Fit layers earlier → effect (known_at layers earlier) (tests fields) ≡ Ok e → Tested (known_at layers earlier) fields e → Fit layers (tests fields ∷ earlier)
 unfolding probes_of_effect
 tested_fit layers earlier fields e some f ok t =
     let names : List (List ℕ) = names_of earlier in
@@ -138,7 +138,7 @@ tested_fit layers earlier fields e some f ok t =
       probes = rw made_is (let a = reach.few in let b = f.probes in omega arith);
     }
 
-still : (layers : ℕ) (earlier : List Form) (form : Form) (e : Effect) → Fit layers earlier → effect (known_at layers earlier) form ≡ Ok e → probes_of_effect (known_at layers earlier) e ≡ [] → names_of (form ∷ earlier) ≡ names_of earlier → records_before (form ∷ earlier) ≡ records_before earlier → Fit layers (form ∷ earlier)
+still : (layers : ℕ) (earlier : List RecordLine) (form : RecordLine) (e : Effect) → Fit layers earlier → effect (known_at layers earlier) form ≡ Ok e → probes_of_effect (known_at layers earlier) e ≡ [] → names_of (form ∷ earlier) ≡ names_of earlier → records_before (form ∷ earlier) ≡ records_before earlier → Fit layers (form ∷ earlier)
 still layers earlier form e f ok none same_names same_records =
     let kept = stays_fit layers earlier (effect (known_at layers earlier) form) e f ok none in
     record {
@@ -148,7 +148,7 @@ still layers earlier form e f ok none same_names same_records =
       probes = rw same_records kept.1;
     }
 
-step : (layers : ℕ) (earlier : List Form) (form : Form) (e : Effect) → 1 ≤ layers → Fit layers earlier → effect (known_at layers earlier) form ≡ Ok e → Outcome (known_at layers earlier) form e → Fit layers (form ∷ earlier)
+step : (layers : ℕ) (earlier : List RecordLine) (form : RecordLine) (e : Effect) → 1 ≤ layers → Fit layers earlier → effect (known_at layers earlier) form ≡ Ok e → Outcome (known_at layers earlier) form e → Fit layers (form ∷ earlier)
 unfolding probes_of_effect
 step layers earlier blank e some f ok o = still layers earlier blank e f ok (no_probes (known_at layers earlier) e stays o refl) refl refl
 step layers earlier unread e some f ok o = still layers earlier unread e f ok (no_probes (known_at layers earlier) e stays o refl) refl refl
@@ -159,7 +159,7 @@ step layers earlier (tests fields) e some f ok o = tested_fit layers earlier fie
 step layers earlier unknown e some f ok o = absurd o
 step layers earlier finishes e some f ok o = still layers earlier finishes e f ok (no_probes (known_at layers earlier) e stays o refl) refl refl
 
-fit : (layers : ℕ) → 1 ≤ layers → (earlier : List Form) → Clean (effect_at layers) earlier → Fit layers earlier
+fit : (layers : ℕ) → 1 ≤ layers → (earlier : List RecordLine) → Clean (effect_at layers) earlier → Fit layers earlier
 fit layers some [] clean = record { lawful = λ i d below. absurd (omega arith); records = omega arith; names = omega arith; probes = omega arith }
 fit layers some (form ∷ earlier) clean = by (effect (known_at layers earlier) form) refl clean.0 (fit layers some earlier clean.1)
   where

@@ -6,7 +6,7 @@ use Rattle.texts.specs.Digits.{is_decimal_digit}
 use Rattle.texts.specs.Blanks.{is_blank, without_front}
 use Rattle.ipc356_records.proofs.Front.{front-blank, front-other}
 use Rattle.ipc356_records.specs.Columns.{filled}
-use Rattle.ipc356_records.specs.Reading.{digits_in, number_of}
+use Rattle.ipc356_records.specs.RecordLines.{digits_in, number_of}
 
 -- a text that fills its columns
 pub filled-full : (width : ℕ) (xs : List ℕ) → width ≤ length xs → filled width xs ≡ xs

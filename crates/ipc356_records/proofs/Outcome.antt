@@ -7,7 +7,7 @@ use Rattle.ipc356_records.specs.declared.line.Coordinate.{Coordinate}
 use Rattle.ipc356_records.specs.declared.kind.RecordKind.{RecordKind}
 use Rattle.ipc356_records.specs.declared.kind.RecordKind.TheVariants as kind
 use Rattle.ipc356_records.specs.Line.{TestFields}
-use Rattle.ipc356_records.specs.Table.{Known, Effect, adds, ◌>>=◌, needed, within, placed, test}
+use Rattle.ipc356_records.specs.RecordEffects.{Known, Effect, adds, ◌>>=◌, needed, within, placed, test}
 use Rattle.ipc356_records.specs.declared.TheConstants.{MOST_RECORDS}
 
 pub bind_ok : {A B : Type 0} (r : Result A RecordKind) (f : A → Result B RecordKind) (y : B) → (r >>= f) ≡ Ok y → (x : A) × (r ≡ Ok x) × (f x ≡ Ok y)

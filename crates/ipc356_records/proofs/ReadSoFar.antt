@@ -12,24 +12,24 @@ use Rattle.file_reading.specs.declared.halt.Halt.{Halt}
 use Rattle.file_reading.specs.declared.halt.Halt.TheVariants as halt
 use Rattle.ipc356_records.specs.declared.kind.RecordFault.{RecordFault}
 use Rattle.ipc356_records.specs.declared.reader.Reader.{Reader}
-use Rattle.ipc356_records.specs.Line.{Form, finishes}
-use Rattle.ipc356_records.specs.Reading.{form_of}
-use Rattle.ipc356_records.specs.Table.{Known, Effect, effect}
+use Rattle.ipc356_records.specs.Line.{RecordLine, finishes}
+use Rattle.ipc356_records.specs.RecordLines.{form_of}
+use Rattle.ipc356_records.specs.RecordEffects.{Known, Effect, effect}
 use Rattle.ipc356_records.specs.NetlistFile.{item_of, items, effect_at, IsRead, IsRefused, IsFault}
 use Rattle.ipc356_records.specs.Reader.{known_of, Obeys, IsNew, Halts, fault_at, Leaves, Faults}
 use Rattle.ipc356_records.proofs.Bridge.{State, state-push}
 
 -- the file's end
-abbrev pub end_of : List ℕ → Item Form
+abbrev pub end_of : List ℕ → Item RecordLine
 end_of file = record { says = finishes; at = length (lines_of file) + 1 }
 
 -- these lines, and the end
-abbrev items_with : List ℕ → List PlainLine → List (Item Form)
+abbrev items_with : List ℕ → List PlainLine → List (Item RecordLine)
 items_with file lines = map item_of lines ++ end_of file ∷ []
 
 -- the file is read to the lines ahead, and the reader knows what looking back finds
 pub record ReadSoFar (file : List ℕ) (layers : ℕ) (a : Ahead) (r : Reader) : Type 0 where
-  pub earlier : List (Item Form)
+  pub earlier : List (Item RecordLine)
   pub read : IsReadTo (effect_at layers) (items file) earlier (items_with file (lines_from a))
   pub number : a.number ≡ length earlier + 1
   pub state : State layers (said earlier) r
@@ -42,7 +42,7 @@ nothing-read file layers r n = record {
   state = record { known = n.known; probes = n.probes };
 }
 
-is_ok : (k k' : Known) (form : Form) (e : Effect) → k ≡ k' → effect k form ≡ Ok e → IsOk (effect k' form)
+is_ok : (k k' : Known) (form : RecordLine) (e : Effect) → k ≡ k' → effect k form ≡ Ok e → IsOk (effect k' form)
 is_ok k k' form e same h = let f : effect k' form ≡ Ok e = subst (λ (t : Known). effect t form ≡ Ok e) same h in rw f refl
 
 -- what lies ahead are these lines
@@ -50,7 +50,7 @@ ahead_is : (file : List ℕ) (layers : ℕ) (a : Ahead) (r : Reader) (lines : Li
 ahead_is file layers a r lines s is = subst (λ (ls : List PlainLine). IsReadTo (effect_at layers) (items file) s.earlier (items_with file ls)) is s.read
 
 -- an item that was obeyed
-item-read : (file : List ℕ) (layers : ℕ) (earlier rest : List (Item Form)) (item : Item Form) (r r' : Reader) → IsReadTo (effect_at layers) (items file) earlier (item ∷ rest) → State layers (said earlier) r → Obeys r item.says r' → IsReadTo (effect_at layers) (items file) (item ∷ earlier) rest
+item-read : (file : List ℕ) (layers : ℕ) (earlier rest : List (Item RecordLine)) (item : Item RecordLine) (r r' : Reader) → IsReadTo (effect_at layers) (items file) earlier (item ∷ rest) → State layers (said earlier) r → Obeys r item.says r' → IsReadTo (effect_at layers) (items file) (item ∷ earlier) rest
 item-read file layers earlier rest item r r' read state o = read-more (effect_at layers) (items file) earlier rest item read (is_ok (known_of r) _ item.says o.effect_is state.known o.clean)
 
 -- a line that was obeyed
@@ -63,7 +63,7 @@ line-read file layers old new line r r' s next counts o = record {
 }
 
 -- an item that has a fault
-refused : (file : List ℕ) (layers : ℕ) (earlier later : List (Item Form)) (item : Item Form) (r : Reader) (why : RecordKind) (number : ℕ) → IsReadTo (effect_at layers) (items file) earlier (item ∷ later) → State layers (said earlier) r → effect (known_of r) item.says ≡ Err why → number ≡ item.at → IsRefused file layers why number
+refused : (file : List ℕ) (layers : ℕ) (earlier later : List (Item RecordLine)) (item : Item RecordLine) (r : Reader) (why : RecordKind) (number : ℕ) → IsReadTo (effect_at layers) (items file) earlier (item ∷ later) → State layers (said earlier) r → effect (known_of r) item.says ≡ Err why → number ≡ item.at → IsRefused file layers why number
 refused file layers earlier later item r why number read state h at = (
   length earlier + 1,
   record {

@@ -5,7 +5,7 @@ use Rattle.texts.specs.Lines.{PlainLine, lines_of}
 use Rattle.ipc356_records.specs.Kind.{number_of_kind}
 use Rattle.ipc356_records.specs.declared.kind.RecordKind.{RecordKind}
 use Rattle.ipc356_records.specs.Line.{ends}
-use Rattle.ipc356_records.specs.Reading.{form_of}
+use Rattle.ipc356_records.specs.RecordLines.{form_of}
 use Rattle.ipc356_records.specs.NetlistFile.{IsRead, IsRefused}
 
 -- A line of the file is the end's: its code is `999`, in its first three columns.

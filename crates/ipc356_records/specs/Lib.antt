@@ -7,7 +7,7 @@ pub mod NameTable
 pub mod Names
 pub mod NetlistFile
 pub mod Reader
-pub mod Reading
+pub mod RecordLines
 pub mod Records
 pub mod Settings
-pub mod Table
+pub mod RecordEffects

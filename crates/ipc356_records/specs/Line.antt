@@ -4,8 +4,8 @@ use Rattle.std.specs.Option.{option_copied}
 use Rattle.lengths.specs.declared.decimal.Unit.{Unit as Measure}
 use Rattle.ipc356_records.specs.declared.line.Coordinate.{Coordinate}
 use Rattle.ipc356_records.specs.declared.line.TestFields.{TestFields as SeenFields}
-use Rattle.ipc356_records.specs.declared.line.Form.{Form as Seen}
-use Rattle.ipc356_records.specs.declared.line.Form.TheVariants as seen
+use Rattle.ipc356_records.specs.declared.line.RecordLine.{RecordLine as Seen}
+use Rattle.ipc356_records.specs.declared.line.RecordLine.TheVariants as seen
 
 -- the fields of a test record, each of them missing where it is amiss
 pub record TestFields : Type 0 where
@@ -15,21 +15,21 @@ pub record TestFields : Type 0 where
   pub y : Option Coordinate
 
 -- The end of a file is the last of its forms.
-pub data Form : Type 0 where
-  blank : Form
-  unread : Form
-  units : Option Measure → Form
-  ends : Form
-  continues : Form
-  tests : TestFields → Form
-  unknown : Form
-  finishes : Form
+pub data RecordLine : Type 0 where
+  blank : RecordLine
+  unread : RecordLine
+  units : Option Measure → RecordLine
+  ends : RecordLine
+  continues : RecordLine
+  tests : TestFields → RecordLine
+  unknown : RecordLine
+  finishes : RecordLine
 
 -- what was seen in a test record and in a line, the name as its bytes
 abbrev pub view_fields : SeenFields → TestFields
 view_fields f = record { name = option_copied f.name; access = f.access; x = f.x; y = f.y }
 
-abbrev pub view : Seen → Form
+abbrev pub view : Seen → RecordLine
 view seen.Blank = blank
 view seen.Unread = unread
 view (seen.Units unit) = units unit

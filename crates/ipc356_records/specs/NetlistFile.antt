@@ -8,10 +8,10 @@ use Rattle.texts.specs.Lines.{PlainLine, lines_of}
 use Rattle.ipc356_records.specs.declared.kind.RecordKind.{RecordKind}
 use Rattle.ipc356_records.specs.declared.kind.RecordFault.{RecordFault}
 use Rattle.ipc356_records.specs.declared.kind.RecordFault.TheVariants as fault
-use Rattle.ipc356_records.specs.Line.{Form, finishes}
-use Rattle.ipc356_records.specs.Reading.{form_of}
+use Rattle.ipc356_records.specs.Line.{RecordLine, finishes}
+use Rattle.ipc356_records.specs.RecordLines.{form_of}
 use Rattle.ipc356_records.specs.Settings.{known_at, names_of}
-use Rattle.ipc356_records.specs.Table.{Known, Effect, effect, probes_of_effect}
+use Rattle.ipc356_records.specs.RecordEffects.{Known, Effect, effect, probes_of_effect}
 use Rattle.ipc356_records.specs.declared.TheConstants.{MOST_RECORDS}
 
 -- the probes of a line, none where it has a fault
@@ -20,12 +20,12 @@ probes_in k (Ok e) = probes_of_effect k e
 probes_in k (Err why) = []
 
 -- the probes of each test record in order
-abbrev pub probes_of : ℕ → List Form → List Probe
+abbrev pub probes_of : ℕ → List RecordLine → List Probe
 probes_of layers [] = []
 probes_of layers (form ∷ earlier) = probes_of layers earlier ++ probes_in (known_at layers earlier) (effect (known_at layers earlier) form)
 
 -- what a line does, or its fault, behind these lines
-abbrev pub effect_at : ℕ → List Form → Form → Result Effect RecordKind
+abbrev pub effect_at : ℕ → List RecordLine → RecordLine → Result Effect RecordKind
 effect_at layers earlier form = effect (known_at layers earlier) form
 
 -- the probes of test records, and their distinct names
@@ -34,15 +34,15 @@ pub record Netlist : Type 0 where
   pub names : List (List ℕ)
 
 -- the netlist of lines on a board of so many layers
-abbrev pub netlist_of : ℕ → List Form → Netlist
+abbrev pub netlist_of : ℕ → List RecordLine → Netlist
 netlist_of layers earlier = record { probes = probes_of layers earlier; names = names_of earlier }
 
 -- a line's form with its number as its place
-abbrev pub item_of : PlainLine → Item Form
+abbrev pub item_of : PlainLine → Item RecordLine
 item_of l = record { says = form_of l.text; at = l.number }
 
 -- the lines of a file, and its end, which has the next number
-abbrev pub items : List ℕ → List (Item Form)
+abbrev pub items : List ℕ → List (Item RecordLine)
 items file = map item_of (lines_of file) ++ record { says = finishes; at = length (lines_of file) + 1 } ∷ []
 
 -- no line has a fault, and these are the probes of the test records and their distinct names

@@ -10,10 +10,10 @@ use Rattle.file_reading.specs.declared.halt.Halt.TheVariants as halt
 use Rattle.ipc356_records.specs.declared.effect.Effect.{Effect as Seen}
 use Rattle.ipc356_records.specs.declared.effect.Effect.TheVariants as seen
 use Rattle.ipc356_records.specs.declared.reader.Reader.{Reader}
-use Rattle.ipc356_records.specs.Line.{Form}
+use Rattle.ipc356_records.specs.Line.{RecordLine}
 use Rattle.ipc356_records.specs.Names.{with_name}
 use Rattle.ipc356_records.specs.NameTable.{names_in}
-use Rattle.ipc356_records.specs.Table.{Known, Effect, stays, sets, closes, adds, effect, probes_of_effect}
+use Rattle.ipc356_records.specs.RecordEffects.{Known, Effect, stays, sets, closes, adds, effect, probes_of_effect}
 use Rattle.ipc356_records.specs.declared.TheConstants.{MOST_RECORDS}
 
 -- the effect that was seen, the name as its bytes, or the fault of a line
@@ -50,7 +50,7 @@ pub record Applies (old : Reader) (e : Effect) (new : Reader) : Type 0 where
   pub probes : new.probes ≡ old.probes ++ probes_of_effect (known_of old) e
 
 -- the reader has obeyed a line that has no fault
-pub record Obeys (old : Reader) (form : Form) (new : Reader) : Type 0 where
+pub record Obeys (old : Reader) (form : RecordLine) (new : Reader) : Type 0 where
   pub effect_is : Effect
   pub clean : effect (known_of old) form ≡ Ok effect_is
   pub applied : Applies old effect_is new
@@ -75,7 +75,7 @@ IsFit r closes = Unit {0}
 IsFit r (adds name access at) = IsText name × (access ≤ r.layers) × (r.records < MOST_RECORDS)
 
 -- what stops the reader at a line
-abbrev pub Halts : Known → Form → Halt RecordKind → Type 0
+abbrev pub Halts : Known → RecordLine → Halt RecordKind → Type 0
 Halts k form (halt.Fault why) = effect k form ≡ Err why
 Halts k form halt.NoMemory = Unit {0}
 
@@ -90,14 +90,14 @@ fault_at (halt.Fault why) line = fault.Refused why line
 fault_at halt.NoMemory line = fault.NoMemory
 
 -- The reader obeys a last line, and these probes and names are left.
-pub record Leaves (r : Reader) (form : Form) (probes : List Probe) (names : List (List ℕ)) : Type 0 where
+pub record Leaves (r : Reader) (form : RecordLine) (probes : List Probe) (names : List (List ℕ)) : Type 0 where
   pub last : Reader
   pub obeys : Obeys r form last
   pub probes_are : probes ≡ last.probes
   pub names_are : names ≡ names_in last.names
 
 -- the fault of a line
-pub record Faults (r : Reader) (form : Form) (line : ℕ) (why : RecordFault) : Type 0 where
+pub record Faults (r : Reader) (form : RecordLine) (line : ℕ) (why : RecordFault) : Type 0 where
   pub halt : Halt RecordKind
   pub halts : Halts (known_of r) form halt
   pub is : why ≡ fault_at halt line

@@ -1,5 +1,5 @@
 //! What a line does.
-use lengths::Unit;
+use lengths::decimal::Unit;
 use planar::Spot;
 
 /// A line may set the unit, end the records, or test a net at a place by an access code.

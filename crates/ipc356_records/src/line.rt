@@ -1,5 +1,5 @@
 //! What a line says, as each is read by itself.
-use lengths::Unit;
+use lengths::decimal::Unit;
 
 /// A whole number of steps of the netlist's unit, with its sign apart.
 #[derive(Clone, Copy, Debug, PartialEq, Eq)]
@@ -19,7 +19,7 @@ pub struct TestFields<'a> {
 
 /// What a line says, apart from all others. The end of a file is its last.
 #[derive(Clone, Copy)]
-pub enum Form<'a> {
+pub enum RecordLine<'a> {
     /// Blank in columns 1 to 57.
     Blank,
     /// A comment, a parameter or a record that says nothing of test points.

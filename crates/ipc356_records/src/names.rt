@@ -1,6 +1,7 @@
 //! The distinct names of a netlist.
 use indexmap::IndexSet;
-use lengths::{NoMemory, Rows, Text, TextFault};
+use lengths::rows::{NoMemory, Rows};
+use lengths::text::{Text, TextFault};
 use std::alloc::Global;
 
 /// Names in first-seen order, each a slice of the file, numbered from 0.

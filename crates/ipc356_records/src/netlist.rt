@@ -5,13 +5,14 @@ ghost use Rattle.ipc356_records.specs.NetlistFile.{FitsBoard, IsFault, IsRead};
 ghost use Rattle.ipc356_records.specs.Reader.{Faults, IsLawfulReader, Leaves, fault_at};
 
 use crate::kind::{RecordFault, RecordKind};
-use crate::line::Form;
+use crate::line::RecordLine;
 use crate::reader::Reader;
-use crate::reading::read_form;
 use crate::record::Records;
+use crate::record_lines::read_form;
 use board_shapes::{MOST_LAYERS, Probe};
 use file_reading::Halt;
-use lengths::{Rows, Text};
+use lengths::rows::Rows;
+use lengths::text::Text;
 use std::alloc::Global;
 use texts::MOST_BYTES;
 
@@ -37,7 +38,7 @@ fn finished(alloc: Global, mut reader: Reader, line: u32) -> Result<Netlist, Rec
     ensures ok { IfOk result (λ n. Leaves reader.entry finishes n.probes n.names) }
     ensures fault { IfErr result (Faults reader.entry finishes line) }
 {
-    if let Err(halt) = reader.obey(&Form::Finish) {
+    if let Err(halt) = reader.obey(&RecordLine::Finish) {
         return Err(fault_at(halt, line));
     }
     match reader.into_netlist(alloc) {

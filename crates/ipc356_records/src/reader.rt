@@ -2,13 +2,14 @@
 use crate::MOST_RECORDS;
 use crate::effect::Effect;
 use crate::kind::RecordKind;
-use crate::line::{Form, TestFields};
+use crate::line::{RecordLine, TestFields};
 use crate::names::NameTable;
 use crate::netlist::Netlist;
-use crate::table::{behind, needed, placed, set_unit, within};
+use crate::record_effects::{behind, needed, placed, set_unit, within};
 use board_shapes::Probe;
 use file_reading::Halt;
-use lengths::{NoMemory, Rows, Unit};
+use lengths::decimal::Unit;
+use lengths::rows::{NoMemory, Rows};
 use planar::Spot;
 use std::alloc::Global;
 
@@ -31,8 +32,8 @@ impl<'a> Reader<'a> {
     ghost use Rattle.ipc356_records.specs.Line.{view, view_fields};
     ghost use Rattle.ipc356_records.specs.NameTable.{names_in};
     ghost use Rattle.ipc356_records.specs.Reader.{Applies, Halts, IsFit, IsLawfulReader, IsNew, Obeys, Pushes, known_of, showing, shown};
-    ghost use Rattle.ipc356_records.specs.Table as spec;
-    ghost use Rattle.ipc356_records.specs.Table.{adds, layers_of, probe_at};
+    ghost use Rattle.ipc356_records.specs.RecordEffects as spec;
+    ghost use Rattle.ipc356_records.specs.RecordEffects.{adds, layers_of, probe_at};
 
     /// Before the first line. There is at least one layer.
     pub fn new(alloc: Global, layers: u8) -> Reader<'a>
@@ -51,7 +52,7 @@ impl<'a> Reader<'a> {
     }
 
     // A test record, by its conditions in order.
-    #[tactic(auto, unfolding(crate::specs::Table::test))]
+    #[tactic(auto, unfolding(crate::specs::RecordEffects::test))]
     fn test(&self, fields: TestFields<'a>) -> Result<Effect<'a>, RecordKind>
         requires lawful { IsName (option_copied fields.name) }
         ensures value { showing result ≡ spec.test (known_of self.now) (view_fields fields.entry) }
@@ -70,27 +71,27 @@ impl<'a> Reader<'a> {
         Ok(Effect::Adds(name, access, Spot { x, y }))
     }
 
-    #[tactic(auto, unfolding(crate::specs::Table::row))]
-    fn row(&self, form: &Form<'a>) -> Result<Effect<'a>, RecordKind>
+    #[tactic(auto, unfolding(crate::specs::RecordEffects::row))]
+    fn row(&self, form: &RecordLine<'a>) -> Result<Effect<'a>, RecordKind>
         requires lawful { IsLawfulForm (view form.now) }
         ensures value { showing result ≡ spec.row (known_of self.now) (view form.now) }
         ensures fit { IfOk result (λ e. IsFit self.now (shown e)) }
     {
         match *form {
-            Form::Blank => Ok(Effect::Stays),
-            Form::Unread => Ok(Effect::Stays),
-            Form::Units(unit) => set_unit(self.unit, unit),
-            Form::End => Ok(Effect::Closes),
-            Form::Continuation => Err(RecordKind::Continuation),
-            Form::Test(fields) => self.test(fields),
-            Form::Unknown => Err(RecordKind::UnknownCode),
-            Form::Finish => Err(RecordKind::NotEnded),
+            RecordLine::Blank => Ok(Effect::Stays),
+            RecordLine::Unread => Ok(Effect::Stays),
+            RecordLine::Units(unit) => set_unit(self.unit, unit),
+            RecordLine::End => Ok(Effect::Closes),
+            RecordLine::Continuation => Err(RecordKind::Continuation),
+            RecordLine::Test(fields) => self.test(fields),
+            RecordLine::Unknown => Err(RecordKind::UnknownCode),
+            RecordLine::Finish => Err(RecordKind::NotEnded),
         }
     }
 
     // What a line does, or its fault.
-    #[tactic(auto, unfolding(crate::specs::Table::effect))]
-    fn effect(&self, form: &Form<'a>) -> Result<Effect<'a>, RecordKind>
+    #[tactic(auto, unfolding(crate::specs::RecordEffects::effect))]
+    fn effect(&self, form: &RecordLine<'a>) -> Result<Effect<'a>, RecordKind>
         requires lawful { IsLawfulForm (view form.now) }
         ensures value { showing result ≡ spec.effect (known_of self.now) (view form.now) }
         ensures fit { IfOk result (λ e. IsFit self.now (shown e)) }
@@ -103,7 +104,7 @@ impl<'a> Reader<'a> {
     }
 
     // Adds the probe of a test record on a layer.
-    fn push(&mut self, number: u32, at: Spot, layer: u8, name: u32) -> Result<(), NoMemory>
+    fn add_probe(&mut self, number: u32, at: Spot, layer: u8, name: u32) -> Result<(), NoMemory>
         ensures ok { OnOk result (Pushes self.old (probe_at number name at layer ∷ []) self.new) }
     {
         self.probes.push(Probe {
@@ -115,21 +116,21 @@ impl<'a> Reader<'a> {
     }
 
     // Adds the probes of a test record.
-    fn push_all(&mut self, number: u32, at: Spot, access: u8, name: u32) -> Result<(), NoMemory>
+    fn add_probes(&mut self, number: u32, at: Spot, access: u8, name: u32) -> Result<(), NoMemory>
         ensures ok { OnOk result (Pushes self.old (map (probe_at number name at) (layers_of self.old.layers access)) self.new) }
     {
         if access > 0 {
-            return self.push(number, at, access, name);
+            return self.add_probe(number, at, access, name);
         }
-        self.push(number, at, 1, name)?;
+        self.add_probe(number, at, 1, name)?;
         if self.layers == 1 {
             return Ok(());
         }
-        self.push(number, at, self.layers, name)
+        self.add_probe(number, at, self.layers, name)
     }
 
     // Adds a test record. An `Err` leaves a reader that is of no more use.
-    #[tactic(auto, unfolding(crate::specs::Table::probes_of_effect))]
+    #[tactic(auto, unfolding(crate::specs::RecordEffects::probes_of_effect))]
     fn add(&mut self, name: &'a [u8], access: u32, at: Spot) -> Result<(), NoMemory>
         requires lawful { IsLawfulReader self.old }
         requires fit { IsFit self.old (adds name.now access at) }
@@ -139,11 +140,11 @@ impl<'a> Reader<'a> {
         let name = self.names.number(name)?;
         let number = self.records + 1;
         self.records = number;
-        self.push_all(number, at, access as u8, name)
+        self.add_probes(number, at, access as u8, name)
     }
 
     // Takes an effect on. An `Err` leaves a reader that is of no more use.
-    #[tactic(auto, unfolding(crate::specs::Table::probes_of_effect))]
+    #[tactic(auto, unfolding(crate::specs::RecordEffects::probes_of_effect))]
     fn apply(&mut self, effect: Effect<'a>) -> Result<(), NoMemory>
         requires lawful { IsLawfulReader self.old }
         requires fit { IsFit self.old (shown effect) }
@@ -165,7 +166,7 @@ impl<'a> Reader<'a> {
     }
 
     /// Obeys a line. An `Err` leaves a reader that is of no more use.
-    pub fn obey(&mut self, form: &Form<'a>) -> Result<(), Halt<RecordKind>>
+    pub fn obey(&mut self, form: &RecordLine<'a>) -> Result<(), Halt<RecordKind>>
         requires lawful { IsLawfulReader self.old }
         requires form { IsLawfulForm (view form.now) }
         ensures ok { OnOk result (Obeys self.old (view form.now) self.new) }

@@ -2,7 +2,7 @@
 ghost use Rattle.verdict.specs.Seats.{marks_at, marks_from, marks_of_seats, seats_at};
 ghost use Rattle.std.specs.Prelude.{◌≡◌, ℕ, ◌<◌, ◌^◌, ◌++◌, length, All, IfOk, OnOk};
 
-use lengths::{NoMemory, Rows, empty_rows};
+use lengths::rows::{NoMemory, Rows, empty_rows};
 use std::alloc::Global;
 use verdict::{Mark, Seat};
 

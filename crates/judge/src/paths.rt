@@ -5,7 +5,7 @@ ghost use Rattle.verdict.specs.Right.{IsPath, BeginsAt};
 ghost use Rattle.judge.specs.Judged.{HangAbove, AreFlags};
 ghost use Rattle.verdict.specs.Places.{twig_at, HasPlaces};
 
-use lengths::{NoMemory, Rows};
+use lengths::rows::{NoMemory, Rows};
 use std::alloc::Global;
 use verdict::Twig;
 

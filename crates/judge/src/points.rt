@@ -4,7 +4,7 @@ ghost use Rattle.verdict.specs.Right.{bare_from};
 ghost use Rattle.judge.specs.Judged.{line_by, lines_by};
 
 use board_shapes::Probe;
-use lengths::{NoMemory, Rows};
+use lengths::rows::{NoMemory, Rows};
 use std::alloc::Global;
 use verdict::PointLine;
 

@@ -4,7 +4,7 @@ ghost use Rattle.verdict.specs.Seats.{AreFirstSeats, seats_at};
 ghost use Rattle.std.specs.Prelude.{◌≡◌, ◌≢◌, ℕ, ◌<◌, ◌^◌, [], length, All, IfOk, OnOk};
 
 use indexmap::IndexSet;
-use lengths::{NoMemory, Rows, empty_rows};
+use lengths::rows::{NoMemory, Rows, empty_rows};
 use std::alloc::Global;
 use verdict::{PointLine, Seat};
 

@@ -10,7 +10,7 @@ ghost use Rattle.verdict.specs.Seats.{AreFirst, AreNamed, IsFirst, mark_name, ma
 
 use crate::paths::{flag_path, path_of};
 use crate::places::place_net;
-use lengths::{NoMemory, Rows};
+use lengths::rows::{NoMemory, Rows};
 use std::alloc::Global;
 use verdict::{Branch, Mark, Short, Tree, Twig};
 

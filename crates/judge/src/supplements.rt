@@ -9,7 +9,7 @@ ghost use Rattle.verdict.specs.Right.{IsRight, source_of, spot_of};
 ghost use Rattle.verdict.specs.declared.verdict.Verdict.{Verdict};
 
 use board_shapes::{Board, Piece, Probe};
-use lengths::{NoMemory, Rows};
+use lengths::rows::{NoMemory, Rows};
 use std::alloc::Global;
 use verdict::{SourceLine, SpotLine, Supplement};
 

@@ -1,5 +1,7 @@
 // Lengths from worked rows, and each call once.
-use super::*;
+use crate::decimal::*;
+use crate::rows::*;
+use crate::text::*;
 use std::alloc::Global;
 use std::hash::{DefaultHasher, Hash, Hasher};
 use std::test::Fail;

@@ -14,11 +14,11 @@ use Rattle.lengths.specs.Grid.{size_of}
 use Rattle.lengths.specs.declared.decimal.Unit.TheVariants.{Mm}
 use Rattle.texts.specs.Digits.{is_decimal_digit}
 use Rattle.texts.specs.LastDigits.{last_digits}
-use Rattle.apertures.specs.Reading.{is_x, is_empty, size_at, last_behind, circle_at, diameter_at, solid_by, numbered_at, aperture_at}
+use Rattle.apertures.specs.Definition.{is_x, is_empty, size_at, last_behind, circle_at, diameter_at, solid_by, numbered_at, aperture_at}
 use Rattle.apertures.specs.declared.aperture.Aperture.TheVariants.{Circle}
 use Rattle.gerber_words.specs.Attributes.{attribute_kind}
 use Rattle.gerber_layer.specs.Command.{formats, counts_in, defines}
-use Rattle.gerber_layer.specs.Reading.{extended as row, format_word, format_of, command_of}
+use Rattle.gerber_layer.specs.WordCommands.{extended as row, format_word, format_of, command_of}
 use Rattle.macro_flatten.specs.FlatText.{millimetres}
 use Rattle.macro_flatten.proofs.Digits.{runs, wider, none, digit_is_not, written}
 use Rattle.texts.proofs.LastDigits.{last_are_digits, length-last_digits, last_value}

@@ -13,7 +13,7 @@ use Rattle.area_contact.specs.Contour.{end_from, IsClosed, IsContour}
 use Rattle.board_shapes.specs.Figures.{Figure, Stroke, round, filled}
 use Rattle.board_shapes.specs.Moved.{shifted, shifted_figure, corners as ends}
 use Rattle.board_shapes.specs.Rectangles.{lower, rectangle, upper}
-use Rattle.apertures.specs.Reading.{is_zero}
+use Rattle.apertures.specs.Definition.{is_zero}
 use Rattle.apertures.specs.Flash.{NoFlash, leaves, IsNarrow, IsSize, IsLawful, half, disc, rectangle_at, obround, placed, flash_of}
 use Rattle.apertures.specs.declared.aperture.Aperture.{Aperture}
 use Rattle.apertures.specs.declared.aperture.Aperture.TheVariants.{Circle, Rectangle, Obround}

@@ -9,14 +9,14 @@ use Rattle.planar.specs.declared.Spot.{Spot}
 use Rattle.area_contact.specs.Contour.{end_from, IsContour}
 use Rattle.board_shapes.specs.Figures.{round, filled}
 use Rattle.lengths.specs.declared.decimal.Unit.TheVariants.{Mm}
-use Rattle.apertures.specs.Reading.{aperture_at}
+use Rattle.apertures.specs.Definition.{aperture_at}
 use Rattle.apertures.specs.declared.aperture.Aperture.{Aperture}
 use Rattle.apertures.specs.declared.aperture.Aperture.TheVariants.{Circle}
 use Rattle.regions.specs.Contours.{close_of, same_number, same_spot}
 use Rattle.gerber_layer.specs.Command.{Command, formats, counts_in, defines, selects, operates, opens_region, closes_region, ends, finishes}
 use Rattle.gerber_layer.specs.declared.command.Code.{Code}
 use Rattle.gerber_layer.specs.declared.command.Code.TheVariants.{Draw, Move}
-use Rattle.gerber_layer.specs.Table.{Known, stays, makes, performs, extends, closes, opens, leaves, concludes, target, selected, room_for, edges_of, edges_in, draw, extend, closing, perform, perform_in_region, operate, leave, ended_block, define, row, effect}
+use Rattle.gerber_layer.specs.CommandEffects.{Known, stays, makes, performs, extends, closes, opens, leaves, concludes, target, selected, room_for, edges_of, edges_in, draw, extend, closing, perform, perform_in_region, operate, leave, ended_block, define, row, effect}
 use Rattle.gerber_layer.specs.Tools.{Tool, standard}
 use Rattle.macro_flatten.proofs.Operations.{seven, coordinate_is}
 use Rattle.area_contact.specs.declared.TheConstants.{MOST_CONTOUR_EDGES}

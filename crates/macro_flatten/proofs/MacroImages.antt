@@ -14,12 +14,12 @@ use Rattle.gerber_layer.specs.declared.kind.GerberKind.TheVariants as kind
 use Rattle.gerber_layer.specs.declared.macro_kind.FlattenKind.{FlattenKind}
 use Rattle.gerber_layer.specs.declared.macro_kind.FlattenKind.TheVariants.{Gerber}
 use Rattle.gerber_layer.specs.Radii.{radii_after, radii_of, with_radius, with_radius_of}
-use Rattle.gerber_layer.specs.Table.{Known, Effect, stays, ◌>>=◌, is_finish, kind_of_word, row}
+use Rattle.gerber_layer.specs.CommandEffects.{Known, Effect, stays, ◌>>=◌, is_finish, kind_of_word, row}
 use Rattle.gerber_layer.specs.Settings.{has_ended}
 use Rattle.gerber_layer.specs.Image.{effect_by, known_by, pieces_after, pieces_by}
 use Rattle.gerber_layer.specs.Layer.{stop_command}
 use Rattle.gerber_layer.specs.MacroLayer.{flat_place}
-use Rattle.gerber_layer.specs.MacroReading.{command_with_macros}
+use Rattle.gerber_layer.specs.MacroCommands.{command_with_macros}
 use Rattle.gerber_layer.specs.MacroTable.{effect_with_macros, few_radii, row_with_macros}
 use Rattle.gerber_layer.proofs.MacroOutcome.{outcome_with_macros}
 use Rattle.gerber_layer.proofs.Outcome.{not_ok}

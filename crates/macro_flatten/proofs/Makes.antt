@@ -14,7 +14,7 @@ use Rattle.board_shapes.specs.Figures.{Figure, round, figure_edges}
 use Rattle.board_shapes.specs.Pieces.{PlainPiece}
 use Rattle.apertures.specs.declared.aperture.Aperture.{Aperture}
 use Rattle.apertures.specs.declared.aperture.Aperture.TheVariants.{Circle, Rectangle, Obround}
-use Rattle.apertures.specs.Reading.{is_zero}
+use Rattle.apertures.specs.Definition.{is_zero}
 use Rattle.apertures.specs.Flash.{NoFlash, IsNarrow, IsSize, IsLawful, flash_of, half}
 use Rattle.aperture_macros.specs.BodyWord.{PlainPrimitive}
 use Rattle.aperture_macros.specs.Images.{figure_at}
@@ -25,13 +25,13 @@ use Rattle.step_repeat.specs.Copies.{Refusal, copies_at}
 use Rattle.step_repeat.specs.declared.repeat.Repeat.{Repeat}
 use Rattle.gerber_layer.specs.declared.kind.GerberKind.{GerberKind}
 use Rattle.gerber_layer.specs.declared.kind.GerberKind.TheVariants as kind
-use Rattle.gerber_layer.specs.Table.{Known, Place, Effect, performs, ◌>>=◌, needed, selected, lookup, room_for, edges_for, edges_of, edges_in, exceed, draw, figures_of, macro_figures, all_flashed, lacks_room, room_or, room_for_all, flash, flash_by, flash_with, flashed, closing, closed, area_if, ended_block, with_copies, as_copies, left, listed}
+use Rattle.gerber_layer.specs.CommandEffects.{Known, Place, Effect, performs, ◌>>=◌, needed, selected, lookup, room_for, edges_for, edges_of, edges_in, exceed, draw, figures_of, macro_figures, all_flashed, lacks_room, room_or, room_for_all, flash, flash_by, flash_with, flashed, closing, closed, area_if, ended_block, with_copies, as_copies, left, listed}
 use Rattle.gerber_layer.specs.Tools.{Tool, standard, composed, macro_named, pen_with}
 use Rattle.gerber_layer.specs.Image.{made, piece_of}
 use Rattle.gerber_layer.proofs.MacroFlash.{edges_made as edges_of_made}
 use Rattle.gerber_layer.proofs.Outcome.{bind_ok, got}
 use Rattle.macro_flatten.specs.Laws.{IsDrawn}
-use Rattle.macro_flatten.proofs.Before.{AreSized, HaveSizes, IsLawfulTool}
+use Rattle.macro_flatten.proofs.EarlierCommands.{AreSized, HaveSizes, IsLawfulTool}
 use Rattle.macro_flatten.proofs.Drawn.{pen_drawn, flash_drawn, contour_drawn}
 use Rattle.macro_flatten.proofs.Copies.{Drawn, all-append, are_copies}
 use Rattle.macro_flatten.proofs.Primitives.{primitive_drawn}

@@ -13,7 +13,7 @@ use Rattle.board_shapes.specs.Figures.{Figure, round, filled}
 use Rattle.board_shapes.specs.Rectangles.{halved, rectangle}
 use Rattle.lengths.specs.Decimal.{Fraction, is_decimal, fraction}
 use Rattle.lengths.specs.declared.decimal.Unit.{Unit as Measure}
-use Rattle.texts.specs.Words.{begins, is}
+use Rattle.texts.specs.Words.{begins, is_word}
 use Rattle.aperture_macros.specs.declared.fault.MacroFault.{MacroFault}
 use Rattle.aperture_macros.specs.declared.fault.MacroFault.TheVariants.{BadMacro, ExposureOff, OffGrid, OutOfRange, Slanted}
 use Rattle.aperture_macros.specs.declared.images.Sketch.{Sketch}
@@ -63,7 +63,7 @@ fitting_sized n (Some form) h = either_sized (fits form n) (Some form) None h tt
 form_sized : (word : List ℕ) (n : ℕ) → IfSome (form_of word n) IsSized
 unfolding form_of
 form_sized word n =
-    let code = λ (text : List ℕ). is (part 0 word) text in
+    let code = λ (text : List ℕ). is_word (part 0 word) text in
     let edges = outline_of word ((n - 5) / 2) in
     let centre : Option Form = cond (code (codes "21")) (Some CentreLine) None in
     let vector : Option Form = cond (code (codes "20")) (Some VectorLine) centre in

@@ -7,7 +7,7 @@ use Rattle.gerber_layer.specs.declared.kind.GerberKind.{GerberKind}
 use Rattle.gerber_layer.specs.declared.kind.GerberKind.TheVariants as kind
 use Rattle.gerber_layer.specs.declared.macro_kind.FlattenKind.TheVariants.{Gerber, TooManyRadii}
 use Rattle.gerber_layer.specs.Radii.{radii_of}
-use Rattle.gerber_layer.specs.Table.{Known, Effect, Profile, ◌>>=◌, concludes, row, effect}
+use Rattle.gerber_layer.specs.CommandEffects.{Known, Effect, Profile, ◌>>=◌, concludes, row, effect}
 use Rattle.gerber_layer.specs.MacroTable.{effect_with_macros, few_radii, gerber, row_with_macros}
 use Rattle.gerber_layer.proofs.Outcome.{Outcome, bind_ok, outcome, past_test}
 use Rattle.gerber_layer.proofs.MacroOutcome.{outcome_with_macros}

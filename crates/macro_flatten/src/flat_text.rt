@@ -10,7 +10,7 @@ use crate::lines::{push_circle, push_draw, push_extended, push_move, push_select
 use crate::pens::{Pens, pen_of};
 use board_shapes::{Piece, Shape};
 use contact::Capsule;
-use lengths::NoMemory;
+use lengths::rows::NoMemory;
 use planar::Spot;
 use std::alloc::{AllocError, Global};
 

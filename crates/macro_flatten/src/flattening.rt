@@ -6,7 +6,7 @@ ghost use Rattle.std.specs.Prelude.{IfErr, IfOk, length, ◌≤◌};
 use crate::flat_text::write_flat;
 use crate::laws::{flat_text_reads, flat_texts_are_short, macro_images_are_flat};
 use gerber_layer::{FlattenFault, read_flat};
-use lengths::NoMemory;
+use lengths::rows::NoMemory;
 use std::alloc::Global;
 use texts::MOST_BYTES;
 

@@ -4,7 +4,7 @@
 ghost use Rattle.std.specs.Prelude.{◌≡◌, ℕ, ◌<◌, ◌^◌, length, Contains, slice_index_or, IfOk};
 ghost use Rattle.verdict.specs.Forest.{Holds, pieces_of};
 
-use lengths::NoMemory;
+use lengths::rows::NoMemory;
 use std::alloc::Global;
 use verdict::{Tree, Twig};
 

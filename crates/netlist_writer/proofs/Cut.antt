@@ -7,9 +7,9 @@ use Rattle.std.specs.Cmp.Lexicographic.{pointwise}
 use Rattle.std.specs.List.{flat_map, list_all, slice_split, AllByRecursion}
 use Rattle.texts.specs.Lines.{is_feed, without_return, lines_in, lines_from, lines_of}
 use Rattle.file_reading.specs.Reading.{Item}
-use Rattle.ipc356_records.specs.Line.{Form}
+use Rattle.ipc356_records.specs.Line.{RecordLine}
 use Rattle.ipc356_records.specs.NetlistFile.{item_of}
-use Rattle.ipc356_records.specs.Reading.{form_of}
+use Rattle.ipc356_records.specs.RecordLines.{form_of}
 use Rattle.netlist_writer.specs.WrittenNetlist.{spelled}
 use Rattle.netlist_writer.proofs.TestLines.{each_is}
 
@@ -21,7 +21,7 @@ abbrev pub IsPlain : List ℕ → Type 0
 IsPlain text = list_all is_plain text ≡ true
 
 -- lines by their forms, with their numbers from n on
-abbrev pub items_from : ℕ → List (List ℕ) → List (Item Form)
+abbrev pub items_from : ℕ → List (List ℕ) → List (Item RecordLine)
 items_from n [] = []
 items_from n (l ∷ lines) = record { says = form_of l; at = n } ∷ items_from (n + 1) lines
 
@@ -73,7 +73,7 @@ lines_cut n at (l ∷ lines) plain =
     ap (λ (parts : List (List ℕ)). map item_of (lines_in n at parts)) split
     ∙ (part_then n at l (slice_split is_feed rest) some
     ∙ (ap (λ (text : List ℕ). record { says = form_of text; at = n } ∷ map item_of (lines_in (n + 1) (at + length l + 1) (slice_split is_feed rest))) (whole_line l plain.0)
-    ∙ ap (λ (items : List (Item Form)). record { says = form_of l; at = n } ∷ items) (lines_cut (n + 1) (at + length l + 1) lines plain.1)))
+    ∙ ap (λ (items : List (Item RecordLine)). record { says = form_of l; at = n } ∷ items) (lines_cut (n + 1) (at + length l + 1) lines plain.1)))
 
 -- a text of lines is read line by line
 pub text_cut : (lines : List (List ℕ)) → AllByRecursion IsPlain lines → map item_of (lines_of (flat_map spelled lines)) ≡ items_from 1 lines

@@ -10,13 +10,13 @@ use Rattle.lengths.specs.declared.decimal.Unit.TheVariants.{Mm}
 use Rattle.board_shapes.specs.declared.probe.Probe.{Probe}
 use Rattle.ipc356_records.specs.declared.kind.RecordKind.{RecordKind}
 use Rattle.ipc356_records.specs.Columns.{words}
-use Rattle.ipc356_records.specs.Line.{Form, unread, units, ends, tests, finishes}
+use Rattle.ipc356_records.specs.Line.{RecordLine, unread, units, ends, tests, finishes}
 use Rattle.ipc356_records.specs.Names.{index_of, with_name}
 use Rattle.file_reading.specs.Reading.{Clean}
 use Rattle.ipc356_records.specs.NetlistFile.{effect_at, probes_in, probes_of}
 use Rattle.ipc356_records.specs.Settings.{has_ended, known_at, names_of, records_before, unit_before}
-use Rattle.ipc356_records.specs.Reading.{form_of, coded, parameter, unit_of}
-use Rattle.ipc356_records.specs.Table.{Known, Effect, stays, sets, closes, adds, effect, row, test, placed, set_unit, layers_of, probe_at, probes_of_effect}
+use Rattle.ipc356_records.specs.RecordLines.{form_of, coded, parameter, unit_of}
+use Rattle.ipc356_records.specs.RecordEffects.{Known, Effect, stays, sets, closes, adds, effect, row, test, placed, set_unit, layers_of, probe_at, probes_of_effect}
 use Rattle.netlist_writer.specs.TestLine.{in_steps, net_name, sign_of, steps_of}
 use Rattle.netlist_writer.specs.WrittenNetlist.{TestPlace, netlist_lines, place_line, place_lines}
 use Rattle.netlist_writer.specs.Laws.{names_after, present, probes_after}
@@ -120,7 +120,7 @@ reads_end = refl
 -- ---- Histories
 
 -- No line has a fault, the units stand, the file goes on, and so many records gave these names and probes.
-record Stands (layers records : ℕ) (names : List (List ℕ)) (probes : List Probe) (h : List Form) : Type 0 where
+record Stands (layers records : ℕ) (names : List (List ℕ)) (probes : List Probe) (h : List RecordLine) : Type 0 where
   clean : Clean (effect_at layers) h
   unit : unit_before h ≡ Some Mm
   many : records_before h ≡ records
@@ -129,10 +129,10 @@ record Stands (layers records : ℕ) (names : List (List ℕ)) (probes : List Pr
   are : probes_of layers h ≡ probes
 
 -- the probes behind one more line
-probes_then : (layers : ℕ) (h : List Form) (f : Form) (e : Effect) → effect (known_at layers h) f ≡ Ok e → probes_of layers (f ∷ h) ≡ probes_of layers h ++ probes_of_effect (known_at layers h) e
+probes_then : (layers : ℕ) (h : List RecordLine) (f : RecordLine) (e : Effect) → effect (known_at layers h) f ≡ Ok e → probes_of layers (f ∷ h) ≡ probes_of layers h ++ probes_of_effect (known_at layers h) e
 probes_then layers h f e is = ap (λ (r : Result Effect RecordKind). probes_of layers h ++ probes_in (known_at layers h) r) is
 
-clean_then : (layers : ℕ) (h : List Form) (f : Form) (e : Effect) → Clean (effect_at layers) h → effect (known_at layers h) f ≡ Ok e → Clean (effect_at layers) (f ∷ h)
+clean_then : (layers : ℕ) (h : List RecordLine) (f : RecordLine) (e : Effect) → Clean (effect_at layers) h → effect (known_at layers h) f ≡ Ok e → Clean (effect_at layers) (f ∷ h)
 clean_then layers h f e clean is = ((rw is refl), clean)
 
 started : (layers : ℕ) → Stands layers 0 [] [] (units (Some Mm) ∷ unread ∷ [])
@@ -149,7 +149,7 @@ started layers =
       are = probes_then layers (unread ∷ []) (units (Some Mm)) (sets Mm) two ∙ (append-nil (probes_of layers (unread ∷ [])) ∙ probes_then layers [] unread stays one);
     }
 
-comment_then : (layers records : ℕ) (names : List (List ℕ)) (probes : List Probe) (h : List Form) → Stands layers records names probes h → Stands layers records names probes (unread ∷ h)
+comment_then : (layers records : ℕ) (names : List (List ℕ)) (probes : List Probe) (h : List RecordLine) → Stands layers records names probes h → Stands layers records names probes (unread ∷ h)
 unfolding probes_of_effect
 comment_then layers records names probes h s =
     let e = passes_over (known_at layers h) s.ongoing in
@@ -166,13 +166,13 @@ comment_then layers records names probes h s =
 abbrev pub probes_at : ℕ → ℕ → List (List ℕ) → TestPlace → List Probe
 probes_at layers records names t = map (probe_at (records + 1) (index_of (net_name t.net) names) t.at) (layers_of layers t.access)
 
-record_then : (layers records : ℕ) (names : List (List ℕ)) (probes : List Probe) (h : List Form) (t : TestPlace) → records < MOST_RECORDS → IsWritablePlace layers t → Stands layers records names probes h
+record_then : (layers records : ℕ) (names : List (List ℕ)) (probes : List Probe) (h : List RecordLine) (t : TestPlace) → records < MOST_RECORDS → IsWritablePlace layers t → Stands layers records names probes h
     → Stands layers (records + 1) (with_name (net_name t.net) names) (probes ++ probes_at layers records names t) (tests (fields_of (net_name t.net) t.access t.at) ∷ h)
 unfolding probes_of_effect
 record_then layers records names probes h t few fine s =
     let many = s.many in
     let e = adds_record (known_at layers h) (net_name t.net) t.access t.at s.ongoing s.unit (omega (arith, many, few)) fine.access fine.x fine.y in
-    let f : Form = tests (fields_of (net_name t.net) t.access t.at) in
+    let f : RecordLine = tests (fields_of (net_name t.net) t.access t.at) in
     record {
       clean = clean_then layers h f (adds (net_name t.net) t.access t.at) s.clean e;
       unit = s.unit;
@@ -186,18 +186,18 @@ record_then layers records names probes h t few fine s =
     }
 
 -- the history behind more lines; the last is first
-abbrev pub behind : List Form → List (List ℕ) → List Form
+abbrev pub behind : List RecordLine → List (List ℕ) → List RecordLine
 behind h [] = h
 behind h (l ∷ lines) = behind (form_of l ∷ h) lines
 
 -- the text has ended without a fault
-pub record Ended (layers : ℕ) (names : List (List ℕ)) (probes : List Probe) (h : List Form) : Type 0 where
+pub record Ended (layers : ℕ) (names : List (List ℕ)) (probes : List Probe) (h : List RecordLine) : Type 0 where
   pub clean : Clean (effect_at layers) h
   pub over : has_ended h ≡ true
   pub named : names_of h ≡ names
   pub are : probes_of layers h ≡ probes
 
-ended-end : (layers records : ℕ) (names : List (List ℕ)) (probes : List Probe) (h : List Form) → Stands layers records names probes h → Ended layers names probes (ends ∷ h)
+ended-end : (layers records : ℕ) (names : List (List ℕ)) (probes : List Probe) (h : List RecordLine) → Stands layers records names probes h → Ended layers names probes (ends ∷ h)
 unfolding probes_of_effect
 ended-end layers records names probes h s =
     let e = closes_all (known_at layers h) s.ongoing in
@@ -208,7 +208,7 @@ ended-end layers records names probes h s =
       are = probes_then layers h ends closes e ∙ (append-nil (probes_of layers h) ∙ s.are);
     }
 
-pub ended-finish : (layers : ℕ) (names : List (List ℕ)) (probes : List Probe) (h : List Form) → Ended layers names probes h → Ended layers names probes (finishes ∷ h)
+pub ended-finish : (layers : ℕ) (names : List (List ℕ)) (probes : List Probe) (h : List RecordLine) → Ended layers names probes h → Ended layers names probes (finishes ∷ h)
 unfolding probes_of_effect
 ended-finish layers names probes h s =
     let e = finishes_all (known_at layers h) s.over in
@@ -224,10 +224,10 @@ IsWritableIf layers None = Unit {0}
 IsWritableIf layers (Some t) = IsWritablePlace layers t
 
 -- what holds behind the form holds behind its line
-as_read : (P : List Form → Type 0) (h : List Form) (l : List ℕ) (f : Form) → form_of l ≡ f → P (f ∷ h) → P (form_of l ∷ h)
-as_read P h l f e k = subst (λ (d : Form). P (d ∷ h)) (sym e) k
+as_read : (P : List RecordLine → Type 0) (h : List RecordLine) (l : List ℕ) (f : RecordLine) → form_of l ≡ f → P (f ∷ h) → P (form_of l ∷ h)
+as_read P h l f e k = subst (λ (d : RecordLine). P (d ∷ h)) (sym e) k
 
-places_then : (layers records p : ℕ) (names : List (List ℕ)) (probes : List Probe) (h : List Form) (places : List (Option TestPlace)) → layers ≤ MOST_LAYERS → AllByRecursion (IsWritableIf layers) places → records + length places ≤ MOST_RECORDS → Stands layers records names probes h
+places_then : (layers records p : ℕ) (names : List (List ℕ)) (probes : List Probe) (h : List RecordLine) (places : List (Option TestPlace)) → layers ≤ MOST_LAYERS → AllByRecursion (IsWritableIf layers) places → records + length places ≤ MOST_RECORDS → Stands layers records names probes h
     → Ended layers (names_after names (present places)) (probes ++ probes_after layers records names (present places)) (behind h (place_lines p places))
 places_then layers records p names probes h [] fits fine few s =
     subst (λ (ps : List Probe). Ended layers names ps (form_of (codes "999") ∷ h)) (sym (append-nil probes)) (as_read (Ended layers names probes) h (codes "999") ends reads_end (ended-end layers records names probes h s))
@@ -246,5 +246,5 @@ places_then layers records p names probes h (Some t ∷ places) fits fine few s 
 pub netlist_then : (layers : ℕ) (places : List (Option TestPlace)) → layers ≤ MOST_LAYERS → AllByRecursion (IsWritableIf layers) places → length places ≤ MOST_RECORDS
     → Ended layers (names_after [] (present places)) (probes_after layers 0 [] (present places)) (behind [] (netlist_lines places))
 netlist_then layers places fits fine few =
-    let start : Stands layers 0 [] [] (form_of (codes "P  UNITS CUST 1") ∷ form_of (codes "C boardnet") ∷ []) = as_read (Stands layers 0 [] []) (form_of (codes "C boardnet") ∷ []) (codes "P  UNITS CUST 1") (units (Some Mm)) reads_units (as_read (λ (h : List Form). Stands layers 0 [] [] (units (Some Mm) ∷ h)) [] (codes "C boardnet") unread reads_heading (started layers)) in
+    let start : Stands layers 0 [] [] (form_of (codes "P  UNITS CUST 1") ∷ form_of (codes "C boardnet") ∷ []) = as_read (Stands layers 0 [] []) (form_of (codes "C boardnet") ∷ []) (codes "P  UNITS CUST 1") (units (Some Mm)) reads_units (as_read (λ (h : List RecordLine). Stands layers 0 [] [] (units (Some Mm) ∷ h)) [] (codes "C boardnet") unread reads_heading (started layers)) in
     places_then layers 0 0 [] [] (form_of (codes "P  UNITS CUST 1") ∷ form_of (codes "C boardnet") ∷ []) places fits fine (omega (arith, few)) start

@@ -17,7 +17,7 @@ use Rattle.texts.specs.Blanks.{is_blank, trimmed, without_front, without_back}
 use Rattle.ipc356_records.specs.declared.line.Coordinate.{Coordinate}
 use Rattle.ipc356_records.specs.Columns.{laid, filled, part, column, columns, name_from, name_to, access_at, x_at, y_at}
 use Rattle.ipc356_records.specs.Line.{TestFields, tests}
-use Rattle.ipc356_records.specs.Reading.{is_graphic, name_of, digits_in, number_of, access_in, signed_number, coordinate_in, fields_in, coded, form_of}
+use Rattle.ipc356_records.specs.RecordLines.{is_graphic, name_of, digits_in, number_of, access_in, signed_number, coordinate_in, fields_in, coded, form_of}
 use Rattle.netlist_writer.specs.TestLine.{steps_of, sign_of, coordinate, access_text, test_line, net_name}
 use Rattle.netlist_writer.proofs.Digits.{written, few_digits, two_value, six_value}
 use Rattle.texts.proofs.LastDigits.{last_are_digits, length-last_digits}

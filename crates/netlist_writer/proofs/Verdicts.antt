@@ -32,7 +32,7 @@ use Rattle.netlist_writer.specs.Laws.{BoardsAreWritable, IsWritable, WrittenNetl
 use Rattle.netlist_writer.proofs.Agreeing.{AreApart, AreTogether, HasNameOn, IsNetted, no_outlines, none_bare, none_open, none_shorts}
 use Rattle.netlist_writer.proofs.Names.{AreDistinct, none_once, once_after, one_number}
 use Rattle.netlist_writer.proofs.Nets.{few_nets, found_net, one_net_joins}
-use Rattle.netlist_writer.proofs.Reading.{netlist}
+use Rattle.netlist_writer.proofs.WrittenRead.{netlist}
 use Rattle.netlist_writer.proofs.Writable.{net_few, written_netlist_reads}
 use Rattle.netlist_writer.proofs.Under.{TellsNet, tells_all}
 

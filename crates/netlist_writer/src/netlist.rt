@@ -10,7 +10,7 @@ ghost use Rattle.netlist_writer.specs.WrittenNetlist.{place_lines, places_from, 
 use crate::places::push_place;
 use crate::record::push_line;
 use board_shapes::{Board, Piece, laws as shapes};
-use lengths::NoMemory;
+use lengths::rows::NoMemory;
 use net_numbers::numbers_of;
 use std::alloc::Global;
 use verdict::{Tree, Trees};

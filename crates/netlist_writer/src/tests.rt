@@ -6,7 +6,7 @@ ghost use Rattle.planar.specs.Plane.{IsPlaced};
 use crate::places::push_place;
 use board_shapes::{Origin, Piece, Placed, Shape};
 use contact::Capsule;
-use lengths::NoMemory;
+use lengths::rows::NoMemory;
 use planar::Spot;
 use std::alloc::Global;
 use std::test::Fail;

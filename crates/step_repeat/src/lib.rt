@@ -7,8 +7,8 @@
 
 mod copying;
 mod fault;
-mod reading;
 mod repeat;
+mod repeat_word;
 
 pub use fault::{CopyFault, RepeatFault};
 pub use repeat::Repeat;

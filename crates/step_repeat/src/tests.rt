@@ -6,7 +6,7 @@ use super::*;
 use area_contact::Area;
 use board_shapes::{Origin, Piece, Placed, Room, Shape};
 use contact::Capsule;
-use lengths::Unit;
+use lengths::decimal::Unit;
 use planar::Spot;
 use std::alloc::{AllocError, Global};
 use std::fmt::Write;

@@ -4,8 +4,8 @@ use Rattle.std.specs.List.{starts_with}
 use Rattle.std.specs.Cmp.Lexicographic.{pointwise}
 
 -- the text is this word, byte by byte
-abbrev pub is : List ℕ → List ℕ → Bool
-is text word = pointwise nat_eq text word
+abbrev pub is_word : List ℕ → List ℕ → Bool
+is_word text word = pointwise nat_eq text word
 
 -- these bytes stand in front of the text
 abbrev pub begins : List ℕ → List ℕ → Bool

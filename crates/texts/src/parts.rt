@@ -11,8 +11,8 @@ ghost use Rattle.texts.specs.Words as words;
 use crate::classes::{Blank, Digit, run_len};
 
 /// Whether the text is this word.
-pub fn is(text: &[u8], word: &[u8]) -> bool
-    ensures { result ≡ words.is text.now word.now }
+pub fn is_word(text: &[u8], word: &[u8]) -> bool
+    ensures { result ≡ words.is_word text.now word.now }
 {
     text == word
 }
@@ -38,14 +38,14 @@ pub fn place_of(text: &[u8], byte: u8) -> usize
 }
 
 /// What stands before a byte, or all where it does not stand there.
-pub fn before(text: &[u8], byte: u8) -> &[u8]
+pub fn before_byte(text: &[u8], byte: u8) -> &[u8]
     ensures { result.now ≡ before_first (λ b. b == byte) text.now }
 {
     &text[..place_of(text, byte)]
 }
 
 /// What stands after a byte, or nothing where it does not stand there.
-pub fn after(text: &[u8], byte: u8) -> &[u8]
+pub fn after_byte(text: &[u8], byte: u8) -> &[u8]
     ensures { result.now ≡ after_first (λ b. b == byte) text.now }
 {
     let at = place_of(text, byte);

@@ -3,9 +3,9 @@ use Rattle.std.proofs.Common.{◌≡◌, ℕ, zero, suc, ◌+◌, ◌-◌, ◌^�
 use Rattle.std.specs.List.{AllByRecursion, flat_map}
 use Rattle.std.proofs.lemmas.List.{length-append}
 use Rattle.std.proofs.lemmas.List.Concat.{flat_map-cons}
-use Rattle.verdict.specs.declared.reading.ReadFault.{ReadFault}
-use Rattle.verdict.specs.declared.reading.ReadFault.TheVariants.{NotAReport, NoMemory}
-use Rattle.verdict.specs.Reading.{◌>>=◌, Fails, begins_blank, with_first, words_at, items_at}
+use Rattle.verdict.specs.declared.report_reading.ReadFault.{ReadFault}
+use Rattle.verdict.specs.declared.report_reading.ReadFault.TheVariants.{NotAReport, NoMemory}
+use Rattle.verdict.specs.ReportReading.{◌>>=◌, Fails, begins_blank, with_first, words_at, items_at}
 use Rattle.verdict.specs.ReportText.{numbered}
 use Rattle.std.proofs.lemmas.Bool.{eqb-true}
 use Rattle.verdict.proofs.Steps.{bind_some, some_is, front_then, starts}

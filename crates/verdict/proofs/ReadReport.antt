@@ -6,13 +6,13 @@ use Rattle.std.specs.Cmp.Lexicographic.{pointwise}
 use Rattle.std.proofs.lemmas.List.{length-append}
 use Rattle.std.proofs.lemmas.Slice.Eq.{bytes_eq-Decides}
 use Rattle.lengths.specs.Text.{IsText}
-use Rattle.verdict.specs.declared.reading.ReadFault.{ReadFault}
-use Rattle.verdict.specs.declared.reading.ReadFault.TheVariants.{NotAReport, NoMemory}
+use Rattle.verdict.specs.declared.report_reading.ReadFault.{ReadFault}
+use Rattle.verdict.specs.declared.report_reading.ReadFault.TheVariants.{NotAReport, NoMemory}
 use Rattle.verdict.specs.declared.verdict.Short.{Short}
 use Rattle.verdict.specs.declared.verdict.Supplement.{Supplement}
 use Rattle.verdict.specs.declared.verdict.Verdict.{Verdict}
 use Rattle.verdict.specs.Lawful.{IsNumber, IsTwig, IsPointLine, IsOpen, IsBranchLine, IsShort, IsSpotLine, IsSourceLine, IsSupplement, IsVerdict}
-use Rattle.verdict.specs.Reading.{Gives, behind, word_at, count_at, net_at, name_at, point_at, open_at, branch_at, items_at, short_at, bare_at, spot_at, source_at, section_at, titled_at, first_behind, first_line_at, supplement_at, more_at, ended, report_at}
+use Rattle.verdict.specs.ReportReading.{Gives, behind, word_at, count_at, net_at, name_at, point_at, open_at, branch_at, items_at, short_at, bare_at, spot_at, source_at, section_at, titled_at, first_behind, first_line_at, supplement_at, more_at, ended, report_at}
 use Rattle.verdict.specs.ReportText.{word, end, count_line, numbered, line_of, section_text, net_line, name_line, point_line, open_line, branch_line, short_lines, bare_line, spot_line, source_line, last_line, nets_text, names_text, points_text, opens_text, shorts_text, bare_text, first_line, more_text, report_text}
 use Rattle.verdict.proofs.Steps.{step, some_is, guard_some, front_then, behind_takes, behind_again, word_takes, word_again, count_takes, count_again}
 use Rattle.verdict.proofs.ReadLists.{IsLine, items_take, items_again, items_few}

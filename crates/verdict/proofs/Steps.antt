@@ -15,7 +15,7 @@ use Rattle.std.proofs.lemmas.Str.Parse.{IsNumeralModel, numerals_by_value, parse
 use Rattle.lengths.specs.declared.TheConstants.{MOST_NAME_BYTES}
 use Rattle.texts.specs.Digits.{is_decimal_digit}
 use Rattle.lengths.specs.Text.{IsPrintable, IsText}
-use Rattle.verdict.specs.Reading.{◌>>=◌, behind, run_of, is_numeral, value_of, wide_at, number_at, word_at, layer_at, count_at, is_feed, is_name, text_at}
+use Rattle.verdict.specs.ReportReading.{◌>>=◌, behind, run_of, is_numeral, value_of, wide_at, number_at, word_at, layer_at, count_at, is_feed, is_name, text_at}
 use Rattle.verdict.specs.ReportText.{word, end}
 
 -- the value of a step that did not fail

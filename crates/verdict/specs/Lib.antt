@@ -6,4 +6,4 @@ pub mod Seats
 pub mod Lawful
 pub mod Limits
 pub mod Laws
-pub mod Reading
+pub mod ReportReading

@@ -3,15 +3,15 @@ ghost use Rattle.std.specs.Prelude.{◌≡◌, List, Option, true};
 ghost use Rattle.std.specs.List.{list_all};
 ghost use Rattle.std.specs.Option.{option_map};
 ghost use Rattle.texts.specs.Digits.{is_decimal_digit};
-ghost use Rattle.verdict.specs.Reading as spec;
+ghost use Rattle.verdict.specs.ReportReading as spec;
 
-use crate::reading::ReadFault;
-use lengths::small_value;
+use crate::report_reading::ReadFault;
+use lengths::decimal::small_value;
 use std::str;
 use texts::digits_len;
 
 /// The bytes behind a text, where it stands in front.
-#[tactic(auto, unfolding(crate::specs::Reading::behind))]
+#[tactic(auto, unfolding(crate::specs::ReportReading::behind))]
 pub fn behind<'a>(bytes: &'a [u8], front: &[u8]) -> Option<&'a [u8]>
     ensures { option_map (λ rest. rest.now) result ≡ spec.behind front.now bytes.now }
 {
@@ -39,7 +39,7 @@ fn is_numeral(digits: &[u8]) -> bool
     }
 }
 
-#[tactic(auto, unfolding(crate::specs::Reading::value_of))]
+#[tactic(auto, unfolding(crate::specs::ReportReading::value_of))]
 fn value_of(digits: &[u8]) -> Option<u64>
     requires digits { list_all is_decimal_digit digits.now ≡ true }
     requires some { spec.is_numeral digits.now ≡ true }
@@ -55,7 +55,7 @@ fn value_of(digits: &[u8]) -> Option<u64>
 }
 
 /// A number below 2^64.
-#[tactic(auto, unfolding(crate::specs::Reading::wide_at))]
+#[tactic(auto, unfolding(crate::specs::ReportReading::wide_at))]
 pub fn wide(bytes: &[u8]) -> Result<(u64, &[u8]), ReadFault>
     ensures { spec.Gives (λ x. (x.0, x.1.now)) result (spec.wide_at bytes.now) }
 {
@@ -70,7 +70,7 @@ pub fn wide(bytes: &[u8]) -> Result<(u64, &[u8]), ReadFault>
 }
 
 /// A number below 2^32.
-#[tactic(auto, unfolding(crate::specs::Reading::number_at))]
+#[tactic(auto, unfolding(crate::specs::ReportReading::number_at))]
 pub fn number(bytes: &[u8]) -> Result<(u32, &[u8]), ReadFault>
     ensures { spec.Gives (λ x. (x.0, x.1.now)) result (spec.number_at bytes.now) }
 {
@@ -82,7 +82,7 @@ pub fn number(bytes: &[u8]) -> Result<(u32, &[u8]), ReadFault>
 }
 
 /// A blank and a number below 2^32.
-#[tactic(auto, unfolding(crate::specs::Reading::word_at))]
+#[tactic(auto, unfolding(crate::specs::ReportReading::word_at))]
 pub fn word(bytes: &[u8]) -> Result<(u32, &[u8]), ReadFault>
     ensures { spec.Gives (λ x. (x.0, x.1.now)) result (spec.word_at bytes.now) }
 {
@@ -91,7 +91,7 @@ pub fn word(bytes: &[u8]) -> Result<(u32, &[u8]), ReadFault>
 }
 
 /// A title, a number below 2^32 and the end of the line.
-#[tactic(auto, unfolding(crate::specs::Reading::titled_at))]
+#[tactic(auto, unfolding(crate::specs::ReportReading::titled_at))]
 pub fn titled<'a>(bytes: &'a [u8], title: &[u8]) -> Result<(u32, &'a [u8]), ReadFault>
     ensures { spec.Gives (λ x. (x.0, x.1.now)) result (spec.titled_at title.now bytes.now) }
 {
@@ -113,7 +113,7 @@ fn negated(n: u64) -> Option<i64>
 }
 
 // A number below 2^63, or a minus and a number from 1 to 2^63.
-#[tactic(auto, unfolding(crate::specs::Reading::signed_at))]
+#[tactic(auto, unfolding(crate::specs::ReportReading::signed_at))]
 fn signed(bytes: &[u8]) -> Result<(i64, &[u8]), ReadFault>
     ensures { spec.Gives (λ x. (x.0, x.1.now)) result (spec.signed_at bytes.now) }
 {
@@ -136,7 +136,7 @@ fn signed(bytes: &[u8]) -> Result<(i64, &[u8]), ReadFault>
 }
 
 /// A blank and a signed number.
-#[tactic(auto, unfolding(crate::specs::Reading::signed_word_at))]
+#[tactic(auto, unfolding(crate::specs::ReportReading::signed_word_at))]
 pub fn signed_word(bytes: &[u8]) -> Result<(i64, &[u8]), ReadFault>
     ensures { spec.Gives (λ x. (x.0, x.1.now)) result (spec.signed_word_at bytes.now) }
 {
@@ -145,7 +145,7 @@ pub fn signed_word(bytes: &[u8]) -> Result<(i64, &[u8]), ReadFault>
 }
 
 /// A blank and a number below 2^8.
-#[tactic(auto, unfolding(crate::specs::Reading::layer_at))]
+#[tactic(auto, unfolding(crate::specs::ReportReading::layer_at))]
 pub fn layer(bytes: &[u8]) -> Result<(u8, &[u8]), ReadFault>
     ensures { spec.Gives (λ x. (x.0, x.1.now)) result (spec.layer_at bytes.now) }
 {
@@ -157,7 +157,7 @@ pub fn layer(bytes: &[u8]) -> Result<(u8, &[u8]), ReadFault>
 }
 
 /// A blank, a count and the end of the line.
-#[tactic(auto, unfolding(crate::specs::Reading::count_at))]
+#[tactic(auto, unfolding(crate::specs::ReportReading::count_at))]
 pub fn count(bytes: &[u8]) -> Result<(u64, &[u8]), ReadFault>
     ensures { spec.Gives (λ x. (x.0, x.1.now)) result (spec.count_at bytes.now) }
 {
@@ -168,7 +168,7 @@ pub fn count(bytes: &[u8]) -> Result<(u64, &[u8]), ReadFault>
 }
 
 /// The parent of a twig, where a colon follows its piece.
-#[tactic(auto, unfolding(crate::specs::Reading::parent_at))]
+#[tactic(auto, unfolding(crate::specs::ReportReading::parent_at))]
 pub fn parent(bytes: &[u8]) -> Result<(Option<u32>, &[u8]), ReadFault>
     ensures { spec.Gives (λ x. (x.0, x.1.now)) result (spec.parent_at bytes.now) }
 {
@@ -182,7 +182,7 @@ pub fn parent(bytes: &[u8]) -> Result<(Option<u32>, &[u8]), ReadFault>
 }
 
 /// The net of a point, or a minus for none.
-#[tactic(auto, unfolding(crate::specs::Reading::net_number_at))]
+#[tactic(auto, unfolding(crate::specs::ReportReading::net_number_at))]
 pub fn net_number(bytes: &[u8]) -> Result<(Option<u32>, &[u8]), ReadFault>
     ensures { spec.Gives (λ x. (x.0, x.1.now)) result (spec.net_number_at bytes.now) }
 {

@@ -3,17 +3,18 @@ ghost use Rattle.std.specs.Prelude.{◌≡◌, ◌++◌, ℕ, List, Option, OnOk
 ghost use Rattle.std.specs.List.{AllByRecursion, flat_map};
 ghost use Rattle.lengths.specs.Text.{IsText};
 ghost use Rattle.verdict.specs.Lawful.{IsBranchLine, IsNumber, IsOpen, IsPointLine, IsShort, IsSourceLine, IsSpotLine, IsTwig};
-ghost use Rattle.verdict.specs.Reading as spec;
+ghost use Rattle.verdict.specs.ReportReading as spec;
 ghost use Rattle.verdict.specs.ReportText as report;
 
 use crate::fields::{
     begins_blank, count, expect, layer, net_number, parent, signed_word, titled, word,
 };
-use crate::reading::ReadFault;
+use crate::report_reading::ReadFault;
 use crate::verdict::{Branch, Open, PointLine, Short, SourceLine, SpotLine, Tree, Twig};
-use lengths::{Rows, Text, TextFault};
+use lengths::rows::Rows;
+use lengths::text::{Text, TextFault};
 use std::alloc::{AllocError, Global};
-use texts::{Numeral, after, before, has, put, put_blank_number, put_number, put_signed};
+use texts::{Numeral, after_byte, before_byte, has, put, put_blank_number, put_number, put_signed};
 
 /// What stands behind a blank as often as there are some, up to the end of a line.
 pub trait Word: Drop {
@@ -64,7 +65,7 @@ impl Word for Twig {
 
     ghost is_lawful = { IsTwig };
 
-    #[tactic(auto, unfolding(crate::specs::Reading::twig_at))]
+    #[tactic(auto, unfolding(crate::specs::ReportReading::twig_at))]
     fn read(bytes: &[u8]) -> Result<(Twig, &[u8]), ReadFault> {
         let (piece, rest) = word(bytes)?;
         let (parent, rest) = parent(rest)?;
@@ -128,7 +129,7 @@ fn write_words<T: Word>(out: &mut Vec<u8>, words: &[T]) -> Result<(), AllocError
 }
 
 // A title and the number of a line.
-#[tactic(auto, unfolding(crate::specs::Reading::heading_at))]
+#[tactic(auto, unfolding(crate::specs::ReportReading::heading_at))]
 fn heading<'a>(bytes: &'a [u8], title: &[u8], number: u64) -> Result<&'a [u8], ReadFault>
     ensures { spec.Gives (λ rest. rest.now) result (spec.heading_at title.now number bytes.now) }
 {
@@ -165,15 +166,15 @@ fn write_net(out: &mut Vec<u8>, net: Option<u32>) -> Result<(), AllocError>
 }
 
 // A name and the end of its line.
-#[tactic(auto, unfolding(crate::specs::Reading::text_at))]
+#[tactic(auto, unfolding(crate::specs::ReportReading::text_at))]
 fn text(alloc: Global, bytes: &[u8]) -> Result<(Text, &[u8]), ReadFault>
     ensures { spec.Gives (λ x. (x.0, x.1.now)) result (spec.text_at bytes.now) }
 {
     if !has(bytes, b'\n') {
         return Err(ReadFault::NotAReport);
     }
-    match Text::new(alloc, before(bytes, b'\n')) {
-        Ok(name) => Ok((name, after(bytes, b'\n'))),
+    match Text::new(alloc, before_byte(bytes, b'\n')) {
+        Ok(name) => Ok((name, after_byte(bytes, b'\n'))),
         Err(TextFault::BadText) => Err(ReadFault::NotAReport),
         Err(TextFault::NoMemory) => Err(ReadFault::NoMemory),
     }
@@ -186,7 +187,7 @@ impl Line for Tree {
 
     ghost is_lawful = { AllByRecursion IsTwig };
 
-    #[tactic(auto, unfolding(crate::specs::Reading::net_at))]
+    #[tactic(auto, unfolding(crate::specs::ReportReading::net_at))]
     fn read(alloc: Global, number: u64, bytes: &[u8]) -> Result<(Tree, &[u8]), ReadFault> {
         let rest = heading(bytes, b"net", number)?;
         let (net, rest) = words(alloc, rest)?;
@@ -208,7 +209,7 @@ impl Line for Text {
 
     ghost is_lawful = { IsText };
 
-    #[tactic(auto, unfolding(crate::specs::Reading::name_at))]
+    #[tactic(auto, unfolding(crate::specs::ReportReading::name_at))]
     fn read(alloc: Global, number: u64, bytes: &[u8]) -> Result<(Text, &[u8]), ReadFault> {
         let rest = heading(bytes, b"name", number)?;
         let rest = expect(rest, b" ")?;
@@ -230,7 +231,7 @@ impl Line for PointLine {
 
     ghost is_lawful = { IsPointLine };
 
-    #[tactic(auto, unfolding(crate::specs::Reading::point_at))]
+    #[tactic(auto, unfolding(crate::specs::ReportReading::point_at))]
     fn read(_: Global, number: u64, bytes: &[u8]) -> Result<(PointLine, &[u8]), ReadFault> {
         let rest = heading(bytes, b"point", number)?;
         let (number, rest) = word(rest)?;
@@ -266,7 +267,7 @@ impl Line for Open {
 
     ghost is_lawful = { IsOpen };
 
-    #[tactic(auto, unfolding(crate::specs::Reading::open_at))]
+    #[tactic(auto, unfolding(crate::specs::ReportReading::open_at))]
     fn read(_: Global, _: u64, bytes: &[u8]) -> Result<(Open, &[u8]), ReadFault> {
         let rest = expect(bytes, b"open")?;
         let (name, rest) = word(rest)?;
@@ -299,7 +300,7 @@ impl Line for Branch {
 
     ghost is_lawful = { IsBranchLine };
 
-    #[tactic(auto, unfolding(crate::specs::Reading::branch_at))]
+    #[tactic(auto, unfolding(crate::specs::ReportReading::branch_at))]
     fn read(alloc: Global, _: u64, bytes: &[u8]) -> Result<(Branch, &[u8]), ReadFault> {
         let rest = expect(bytes, b"branch")?;
         let (name, rest) = word(rest)?;
@@ -331,7 +332,7 @@ impl Line for Short {
 
     ghost is_lawful = { IsShort };
 
-    #[tactic(auto, unfolding(crate::specs::Reading::short_at))]
+    #[tactic(auto, unfolding(crate::specs::ReportReading::short_at))]
     fn read(alloc: Global, _: u64, bytes: &[u8]) -> Result<(Short, &[u8]), ReadFault> {
         let rest = expect(bytes, b"short")?;
         let (net, rest) = word(rest)?;
@@ -384,7 +385,7 @@ impl Line for SpotLine {
 
     ghost is_lawful = { IsSpotLine };
 
-    #[tactic(auto, unfolding(crate::specs::Reading::spot_at))]
+    #[tactic(auto, unfolding(crate::specs::ReportReading::spot_at))]
     fn read(_: Global, number: u64, bytes: &[u8]) -> Result<(SpotLine, &[u8]), ReadFault> {
         let rest = heading(bytes, b"spot", number)?;
         let (x, rest) = signed_word(rest)?;
@@ -407,7 +408,7 @@ impl Line for SourceLine {
 
     ghost is_lawful = { IsSourceLine };
 
-    #[tactic(auto, unfolding(crate::specs::Reading::source_at))]
+    #[tactic(auto, unfolding(crate::specs::ReportReading::source_at))]
     fn read(_: Global, number: u64, bytes: &[u8]) -> Result<(SourceLine, &[u8]), ReadFault> {
         let rest = heading(bytes, b"source", number)?;
         let (file, rest) = word(rest)?;
@@ -452,7 +453,7 @@ fn items<T: Line>(alloc: Global, count: u64, bytes: &[u8]) -> Result<(Rows<T>, &
 }
 
 /// A title, a count and so many items.
-#[tactic(auto, unfolding(crate::specs::Reading::section_at))]
+#[tactic(auto, unfolding(crate::specs::ReportReading::section_at))]
 pub fn section<'a, T: Line>(
     alloc: Global,
     title: &[u8],

@@ -7,7 +7,7 @@ ghost use Rattle.verdict.specs.ReportText as spec;
 
 use crate::lines::{write_count, write_section};
 use crate::verdict::{Supplement, Verdict};
-use lengths::NoMemory;
+use lengths::rows::NoMemory;
 use std::alloc::{AllocError, Global};
 use texts::put;
 

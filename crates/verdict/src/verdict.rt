@@ -1,7 +1,8 @@
 //! A verdict on a board: its nets as trees, the nets of its points, and what is amiss.
 ghost use Rattle.std.specs.Prelude.{◌≡◌, [], ◌↔◌, IsTrue};
 
-use lengths::{Rows, Text};
+use lengths::rows::Rows;
+use lengths::text::Text;
 
 /// A piece of a net, and the piece through which it is joined to the first.
 #[derive(Clone, Copy, Debug, PartialEq, Eq)]

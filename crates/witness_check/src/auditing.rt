@@ -14,7 +14,7 @@ use crate::strips::strips_of;
 use crate::supplements::supplement_ruling;
 use crate::sweep::stand_apart;
 use board_shapes::{Board, laws as shapes};
-use lengths::NoMemory;
+use lengths::rows::NoMemory;
 use std::alloc::Global;
 use std::marker::Brand;
 use std::sync::ledger::{Blank, Ledger};

@@ -8,7 +8,7 @@ ghost use Rattle.verdict.specs.declared.verdict.PointLine.{PointLine};
 ghost use Rattle.witness_check.specs.Marked.{AreStamped, AreUpTo, HasMarks};
 
 use crate::nets::first_of;
-use lengths::{NoMemory, Rows};
+use lengths::rows::{NoMemory, Rows};
 use std::alloc::Global;
 use verdict::{Branch, Mark, Short, Tree, Twig};
 

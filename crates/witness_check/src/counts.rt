@@ -1,7 +1,7 @@
 //! The number of pieces and the names.
 ghost use Rattle.std.specs.Prelude.{◌≡◌, ◌↔◌, IsTrue};
 
-use lengths::Text;
+use lengths::text::Text;
 
 /// Whether the number of pieces and the names are those of the board.
 pub fn counts_hold(pieces: usize, names: &[Text], count: u32, texts: &[Text]) -> bool

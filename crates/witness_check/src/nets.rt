@@ -7,7 +7,7 @@ ghost use Rattle.witness_check.specs.Nets.{AreNew, HangsByStamp, HasStanding, Is
 
 use crate::contacts::are_near;
 use board_shapes::Board;
-use lengths::NoMemory;
+use lengths::rows::NoMemory;
 use std::alloc::Global;
 use std::sync::ledger::Ledger;
 use steps::Steps;

@@ -5,7 +5,8 @@ ghost use Rattle.verdict.specs.Seats.{AreFirstSeats};
 ghost use Rattle.verdict.specs.declared.verdict.PointLine.{PointLine};
 ghost use Rattle.witness_check.specs.Opened.{IsPast, open_by};
 
-use lengths::{Rows, Text};
+use lengths::rows::Rows;
+use lengths::text::Text;
 use verdict::{Open, Seat};
 
 /// Whether the opens are those of all names, from the first point of each name on each net. The list is gone through

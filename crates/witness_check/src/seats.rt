@@ -6,7 +6,7 @@ ghost use Rattle.verdict.specs.Seats.{AreFirstSeats, marks_at, marks_from, marks
 ghost use Rattle.witness_check.specs.Marked.{AreUpTo};
 ghost use Rattle.witness_check.specs.Seated.{AreAllSeats};
 
-use lengths::{NoMemory, Rows, empty_rows};
+use lengths::rows::{NoMemory, Rows, empty_rows};
 use std::alloc::Global;
 use verdict::{Mark, PointLine, Seat};
 

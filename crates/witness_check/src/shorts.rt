@@ -4,7 +4,7 @@ ghost use Rattle.verdict.specs.Right.{outline};
 ghost use Rattle.verdict.specs.Seats.{branch_name, mark_name};
 ghost use Rattle.witness_check.specs.Marked.{outline_of, outlines_from};
 
-use lengths::Rows;
+use lengths::rows::Rows;
 use verdict::{Branch, Mark, Short};
 
 /// Whether the shorts are those of the nets with two marks or more, in their order, with a branch for each mark.

@@ -8,7 +8,7 @@ use Rattle.std.proofs.Math.Seq.{drop-nil}
 use Rattle.std.proofs.lemmas.Bool.{le-ltb, lt-ltb, ltb-true, ltb-false}
 use Rattle.std.proofs.lemmas.List.{append-nil, get_or-drop, take-append-drop, take_more}
 use Rattle.x2_nets.specs.Labels.{Said, nothing, named, unnamed, before_command, label_before, labels_of, last_before, name_at}
-use Rattle.x2_nets.specs.declared.table.Label.{Label}
+use Rattle.x2_nets.specs.declared.label_table.Label.{Label}
 
 -- ---- Lists put end to end
 

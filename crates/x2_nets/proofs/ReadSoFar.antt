@@ -12,7 +12,7 @@ use Rattle.x2_nets.specs.Labels.{AreSaid, IsFault, IsRead, Rise, Said, nothing, 
 use Rattle.x2_nets.specs.Seen.{IsAmiss}
 use Rattle.x2_nets.specs.declared.listing.LabelFault.{LabelFault}
 use Rattle.x2_nets.specs.declared.listing.LabelFault.TheVariants as fault
-use Rattle.x2_nets.specs.declared.table.Label.{Label}
+use Rattle.x2_nets.specs.declared.label_table.Label.{Label}
 
 -- the file is read to these words
 pub record ReadToWords (file : List ℕ) (earlier : List (Item Said)) (words : List Entry) (stop : Stop) : Type 0 where

@@ -12,7 +12,7 @@ use Rattle.gerber_words.specs.declared.attribute.AttributeKind.{AttributeKind}
 use Rattle.gerber_words.specs.declared.attribute.AttributeKind.TheVariants.{File, Aperture, Object, Delete}
 use Rattle.x2_nets.specs.declared.listing.LabelFault.{LabelFault}
 use Rattle.x2_nets.specs.declared.listing.LabelFault.TheVariants as fault
-use Rattle.x2_nets.specs.declared.table.Label.{Label}
+use Rattle.x2_nets.specs.declared.label_table.Label.{Label}
 
 -- ---- What a word says (Gerber Layer Format Specification, 5.4 and 5.6)
 

@@ -3,11 +3,12 @@ ghost use Rattle.std.specs.Prelude.{◌≡◌, ◌+◌, ◌≤◌, ◌<◌, ◌+
 ghost use Rattle.x2_nets.specs.Labels.{IsFault, IsRead, Rise, judged, label_of, named};
 ghost use Rattle.x2_nets.specs.Seen.{IsAmiss, view};
 
+use crate::label_table::Label;
 use crate::said::{Said, said_by};
-use crate::table::Label;
 use gerber_words::laws::words_lie_ahead;
 use gerber_words::{Step, Words};
-use lengths::{Rows, Text, TextFault};
+use lengths::rows::Rows;
+use lengths::text::{Text, TextFault};
 use std::alloc::Global;
 use texts::MOST_BYTES;
 

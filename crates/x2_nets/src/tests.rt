@@ -1,6 +1,7 @@
 // Files with their labels, and the name in force at each command.
 use super::*;
-use lengths::{Rows, Text};
+use lengths::rows::Rows;
+use lengths::text::Text;
 use std::alloc::{AllocError, Global};
 use std::fmt::Write;
 use std::test::Fail;

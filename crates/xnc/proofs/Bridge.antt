@@ -8,13 +8,13 @@ use Rattle.lengths.specs.declared.decimal.Unit.{Unit as Measure}
 use Rattle.board_shapes.specs.Plain.{PlainPiece, plain_piece, plain_pieces}
 use Rattle.xnc.specs.declared.kind.DrillKind.{DrillKind}
 use Rattle.xnc.specs.declared.line.Coordinates.{Coordinates}
-use Rattle.xnc.specs.declared.line.Form.{Form}
-use Rattle.xnc.specs.declared.line.Form.TheVariants as form
+use Rattle.xnc.specs.declared.line.DrillLine.{DrillLine}
+use Rattle.xnc.specs.declared.line.DrillLine.TheVariants as form
 use Rattle.xnc.specs.declared.settings.Settings.{Settings}
 use Rattle.xnc.specs.declared.tools.Tools.{Tools}
 use Rattle.xnc.specs.declared.reader.Reader.{Reader}
-use Rattle.xnc.specs.Place.{Place}
-use Rattle.xnc.specs.Table.{Known, Effect, stays, makes, moves, drills, coordinate, effect, after}
+use Rattle.xnc.specs.FaultPlace.{Place}
+use Rattle.xnc.specs.DrillEffects.{Known, Effect, stays, makes, moves, drills, coordinate, effect, after}
 use Rattle.std.specs.Option.{option_or}
 use Rattle.xnc.specs.Settings.{value_or, value_in, settings_at, unit_at, x_at, y_at, defined_at, tools_at, piece_of, known_with, known_at, barrels_at}
 use Rattle.xnc.specs.Reader.{defined_in, count_of, Adds, Turns, known_of, place_of, Obeys}
@@ -31,13 +31,13 @@ value_then unit here first to c None h k = let e : first ≡ to = cc in value_is
 value_then unit here first to c (Some d) h k = ap (value_or here) k
 
 -- where a place led
-led : (earlier : List Form) (c : Coordinates) (to : Spot) → Leads (unit_at earlier) (record { x = x_at earlier; y = y_at earlier }) c to → ◌≡◌ {A = Spot} to (record { x = value_in (unit_at earlier) (x_at earlier) c.x; y = value_in (unit_at earlier) (y_at earlier) c.y })
+led : (earlier : List DrillLine) (c : Coordinates) (to : Spot) → Leads (unit_at earlier) (record { x = x_at earlier; y = y_at earlier }) c to → ◌≡◌ {A = Spot} to (record { x = value_in (unit_at earlier) (x_at earlier) c.x; y = value_in (unit_at earlier) (y_at earlier) c.y })
 led earlier c to l =
     let across : value_in (unit_at earlier) (x_at earlier) c.x ≡ to.x = rw l.unit_is (value_is l.measure (x_at earlier) to.x c.x l.x_is) in
     let up : value_in (unit_at earlier) (y_at earlier) c.y ≡ to.y = rw l.unit_is (value_is l.measure (y_at earlier) to.y c.y l.y_is) in
     rw (across, up) refl
 
-crossed : (p : Place) (earlier : List Form) (n : ℕ) (from to : Coordinates) (e : Effect) → (o : Crossed (known_with p earlier n) from to e) → ◌≡◌ {A = Spot} o.last (record { x = value_in (unit_at earlier) (x_at earlier) (option_or to.x from.x); y = value_in (unit_at earlier) (y_at earlier) (option_or to.y from.y) })
+crossed : (p : Place) (earlier : List DrillLine) (n : ℕ) (from to : Coordinates) (e : Effect) → (o : Crossed (known_with p earlier n) from to e) → ◌≡◌ {A = Spot} o.last (record { x = value_in (unit_at earlier) (x_at earlier) (option_or to.x from.x); y = value_in (unit_at earlier) (y_at earlier) (option_or to.y from.y) })
 crossed p earlier n from to e o =
     let same : o.starts.measure ≡ o.leads.measure = (let h : Some o.starts.measure ≡ Some o.leads.measure = sym o.starts.unit_is ∙ o.leads.unit_is in cc) in
     let first_x : coordinate o.leads.measure (x_at earlier) from.x ≡ Ok o.first.x = subst (λ (m : Measure). coordinate m (x_at earlier) from.x ≡ Ok o.first.x) same o.starts.x_is in
@@ -47,7 +47,7 @@ crossed p earlier n from to e o =
     rw (across, up) refl
 
 -- the settings behind a line are found by looking back from the next
-settings-push : (p : Place) (earlier : List Form) (n : ℕ) (f : Form) (e : Effect) → Outcome (known_with p earlier n) f e → after (settings_at earlier) f e ≡ settings_at (f ∷ earlier)
+settings-push : (p : Place) (earlier : List DrillLine) (n : ℕ) (f : DrillLine) (e : Effect) → Outcome (known_with p earlier n) f e → after (settings_at earlier) f e ≡ settings_at (f ∷ earlier)
 settings-push p earlier n (form.Rout to) e o = let at = o.goes.there (record { x = x_at earlier; y = y_at earlier }) ∙ led earlier to o.to o.leads in rw at refl
 settings-push p earlier n (form.Straight to) e o = let at = o.goes.there (record { x = x_at earlier; y = y_at earlier }) ∙ led earlier to o.to o.leads in rw at refl
 settings-push p earlier n (form.Hit to) e o = let at = o.goes.there (record { x = x_at earlier; y = y_at earlier }) ∙ led earlier to o.to o.leads in rw at refl
@@ -78,17 +78,17 @@ plain_turns old new (drills to figure) h t = t
 plain_turns old new (makes n d) h t = absurd h
 
 -- the tools of the reader are those that looking back finds
-pub record HasTools (t : Tools) (earlier : List Form) : Type 0 where
+pub record HasTools (t : Tools) (earlier : List DrillLine) : Type 0 where
   pub defined : (m : ℕ) → defined_in t m ≡ defined_at earlier m
   pub count : count_of t ≡ tools_at earlier
 
-kept : (old new : Tools) (earlier : List Form) (e : Effect) → HasTools old earlier → IsPlain e → Turns old e new → HasTools new earlier
+kept : (old new : Tools) (earlier : List DrillLine) (e : Effect) → HasTools old earlier → IsPlain e → Turns old e new → HasTools new earlier
 kept old new earlier e h plain t = subst (λ (s : Tools). HasTools s earlier) (sym (plain_turns old new e plain t)) h
 
 idle : (e : Effect) → e ≡ stays → IsPlain e
 idle e h = subst IsPlain (sym h) tt
 
-tools-push : (old new : Tools) (p : Place) (earlier : List Form) (n : ℕ) (f : Form) (e : Effect) → HasTools old earlier → Outcome (known_with p earlier n) f e → Turns old e new → HasTools new (f ∷ earlier)
+tools-push : (old new : Tools) (p : Place) (earlier : List DrillLine) (n : ℕ) (f : DrillLine) (e : Effect) → HasTools old earlier → Outcome (known_with p earlier n) f e → Turns old e new → HasTools new (f ∷ earlier)
 tools-push old new p earlier n (form.Tool k d) e h o t =
     let adds : Adds old new k o.size = subst (λ (g : Effect). Turns old g new) o.is t in
     record {
@@ -121,7 +121,7 @@ tools-push old new p earlier n form.Unknown e h o t = let k = kept old new earli
 tools-push old new p earlier n form.Finish e h o t = let k = kept old new earlier e h (idle e o) t in record { defined = k.defined; count = k.count }
 
 -- the reader has obeyed these lines
-pub record State (p : Place) (earlier : List Form) (r : Reader) : Type 0 where
+pub record State (p : Place) (earlier : List DrillLine) (r : Reader) : Type 0 where
   pub known : known_of r ≡ known_at p earlier
   pub pieces : plain_pieces r.pieces.items ≡ barrels_at p earlier
   pub counts : r.lines ≡ length earlier
@@ -134,7 +134,7 @@ same_pieces : (a b : List PlainPiece) (q p : Place) (m n : ℕ) (x y : Result Ef
 same_pieces a b q p m n x y e f g h = ap (λ (xs : List PlainPiece). xs ++ piece_of q m x) e ∙ ap (λ (t : Place). b ++ piece_of t m x) f ∙ ap (λ (t : ℕ). b ++ piece_of p t x) g ∙ ap (λ (t : Result Effect DrillKind). b ++ piece_of p n t) h
 
 -- one line more
-pub state-push : (p : Place) (earlier : List Form) (r : Reader) (f : Form) (new : Reader) → State p earlier r → Obeys r f new → State p (f ∷ earlier) new
+pub state-push : (p : Place) (earlier : List DrillLine) (r : Reader) (f : DrillLine) (new : Reader) → State p earlier r → Obeys r f new → State p (f ∷ earlier) new
 unfolding barrels_at
 state-push p earlier r f new s o =
     let n : ℕ = length (barrels_at p earlier) in

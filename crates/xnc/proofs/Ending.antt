@@ -10,31 +10,31 @@ use Rattle.file_reading.specs.Reading.{Item, said}
 use Rattle.file_reading.proofs.Ending.{CleanOn, Ends, NoneEnd, clean_behind, none_before_end, read_clean, refused_without_end, same_made}
 use Rattle.texts.specs.Blanks.{is_blank, trimmed, without_back, without_front}
 use Rattle.texts.specs.Lines.{PlainLine, lines_of}
-use Rattle.texts.specs.Words.{begins, is}
+use Rattle.texts.specs.Words.{begins, is_word}
 use Rattle.texts.proofs.Prefix.{AreCut, TellsEnd, NoneEnds, end_of_prefix, no_end_in_prefix, lines_of_prefix}
 use Rattle.xnc.specs.declared.kind.DrillKind.{DrillKind}
 use Rattle.xnc.specs.declared.kind.DrillKind.TheVariants as kind
 use Rattle.xnc.specs.declared.line.Coordinates.{Coordinates}
-use Rattle.xnc.specs.declared.line.Form.{Form}
-use Rattle.xnc.specs.declared.line.Form.TheVariants as form
+use Rattle.xnc.specs.declared.line.DrillLine.{DrillLine}
+use Rattle.xnc.specs.declared.line.DrillLine.TheVariants as form
 use Rattle.xnc.specs.declared.settings.Stage.{Stage}
 use Rattle.xnc.specs.declared.settings.Stage.TheVariants.{Opening, Header, Body, Ended}
-use Rattle.xnc.specs.Place.{Place}
-use Rattle.xnc.specs.Reading.{form_of, within_blanks, comment, file_function, command, body_line, place_line, tool_line, routs, straight, hits, slots, slot_end, defines, selects, coordinates_of, field, further, names_span, is_g, is_c, is_metric, is_inch}
-use Rattle.xnc.specs.Table.{Known, Effect, stays, unless, effect, staged, header, body, is_ended}
+use Rattle.xnc.specs.FaultPlace.{Place}
+use Rattle.xnc.specs.DrillLines.{form_of, within_blanks, comment, file_function, command, body_line, place_line, tool_line, routs, straight, hits, slots, slot_end, defines, selects, coordinates_of, field, further, names_span, is_g, is_c, is_metric, is_inch}
+use Rattle.xnc.specs.DrillEffects.{Known, Effect, stays, unless, effect, staged, header, body, is_ended}
 use Rattle.xnc.specs.Settings.{stage_at, known_at, effect_at, piece_of, barrels_at}
 use Rattle.xnc.specs.DrillFile.{item_of, items, IsRead, IsRefused}
 use Rattle.xnc.specs.Laws.{IsEndLine, PrefixIsRefused, end_of}
 use Rattle.xnc.proofs.OneAnswer.{one_answer}
 
-abbrev is_end : Form → Bool
+abbrev is_end : DrillLine → Bool
 is_end form.End = true
 is_end other = false
 
-abbrev has_ended : List Form → Bool
+abbrev has_ended : List DrillLine → Bool
 has_ended earlier = is_ended (stage_at earlier)
 
-ends_of : (f : Form) → is_end f ≡ true → f ≡ form.End
+ends_of : (f : DrillLine) → is_end f ≡ true → f ≡ form.End
 ends_of form.Blank h = cc
 ends_of (form.Misfit kind) h = cc
 ends_of form.Start h = cc
@@ -58,14 +58,14 @@ ends_of form.Unknown h = cc
 ends_of form.Finish h = cc
 
 -- what the table says of the end
-staged_ended : (s : Stage) (k : Known) (f : Form) → is_ended s ≡ true → IsOk (staged s k f) → ⊥
+staged_ended : (s : Stage) (k : Known) (f : DrillLine) → is_ended s ≡ true → IsOk (staged s k f) → ⊥
 unfolding staged
 staged_ended Opening k f h ok = cc
 staged_ended Header k f h ok = cc
 staged_ended Body k f h ok = cc
 staged_ended Ended k f h ok = cc
 
-still : (earlier : List Form) (f : Form) → is_end f ≡ false → has_ended earlier ≡ false → has_ended (f ∷ earlier) ≡ false
+still : (earlier : List DrillLine) (f : DrillLine) → is_end f ≡ false → has_ended earlier ≡ false → has_ended (f ∷ earlier) ≡ false
 still earlier form.Blank h not = not
 still earlier (form.Misfit kind) h not = not
 still earlier form.Start h not = refl
@@ -88,7 +88,7 @@ still earlier form.End h not = cc
 still earlier form.Unknown h not = not
 still earlier form.Finish h not = not
 
-keeps_ended : (p : Place) (earlier : List Form) (f : Form) → has_ended earlier ≡ true → IsOk (effect_at p earlier f) → has_ended (f ∷ earlier) ≡ true
+keeps_ended : (p : Place) (earlier : List DrillLine) (f : DrillLine) → has_ended earlier ≡ true → IsOk (effect_at p earlier f) → has_ended (f ∷ earlier) ≡ true
 unfolding effect
 keeps_ended p earlier form.Blank h ok = h
 keeps_ended p earlier (form.Misfit kind) h ok = h
@@ -112,11 +112,11 @@ keeps_ended p earlier form.End h ok = refl
 keeps_ended p earlier form.Unknown h ok = h
 keeps_ended p earlier form.Finish h ok = h
 
-once : (p : Place) (earlier : List Form) (f : Form) → has_ended earlier ≡ true → is_end f ≡ true → IsOk (effect_at p earlier f) → ⊥
+once : (p : Place) (earlier : List DrillLine) (f : DrillLine) → has_ended earlier ≡ true → is_end f ≡ true → IsOk (effect_at p earlier f) → ⊥
 unfolding effect
-once p earlier f h is ok = staged_ended (stage_at earlier) (known_at p earlier) form.End h (subst (λ (g : Form). IsOk (effect_at p earlier g)) (ends_of f is) ok)
+once p earlier f h is ok = staged_ended (stage_at earlier) (known_at p earlier) form.End h (subst (λ (g : DrillLine). IsOk (effect_at p earlier g)) (ends_of f is) ok)
 
-needed : (p : Place) (earlier : List Form) → has_ended earlier ≡ false → IsOk (effect_at p earlier form.Finish) → ⊥
+needed : (p : Place) (earlier : List DrillLine) → has_ended earlier ≡ false → IsOk (effect_at p earlier form.Finish) → ⊥
 unfolding effect
 needed p earlier before ok = unended (has_ended earlier) before ok
   where
@@ -125,7 +125,7 @@ needed p earlier before ok = unended (has_ended earlier) before ok
     unended false before ok = cc
 
 -- behind the end a line without a fault does nothing
-ended_stays : (p : Place) (earlier : List Form) (f : Form) → has_ended earlier ≡ true → IsOk (effect_at p earlier f) → effect_at p earlier f ≡ Ok stays
+ended_stays : (p : Place) (earlier : List DrillLine) (f : DrillLine) → has_ended earlier ≡ true → IsOk (effect_at p earlier f) → effect_at p earlier f ≡ Ok stays
 unfolding effect
 ended_stays p earlier form.Blank h ok = refl
 ended_stays p earlier (form.Misfit kind) h ok = cc
@@ -153,7 +153,7 @@ ended_stays p earlier form.Finish h ok = finished (has_ended earlier) h
     finished true h = refl
     finished false h = cc
 
-ended_idle : (p : Place) (earlier : List Form) (f : Form) → has_ended earlier ≡ true → IsOk (effect_at p earlier f) → barrels_at p (f ∷ earlier) ≡ barrels_at p earlier
+ended_idle : (p : Place) (earlier : List DrillLine) (f : DrillLine) → has_ended earlier ≡ true → IsOk (effect_at p earlier f) → barrels_at p (f ∷ earlier) ≡ barrels_at p earlier
 unfolding barrels_at
 ended_idle p earlier f h ok = ap (λ (r : Result Effect DrillKind). barrels_at p earlier ++ piece_of p (length earlier + 1) r) (ended_stays p earlier f h ok) ∙ append-nil (barrels_at p earlier)
 
@@ -161,7 +161,7 @@ table_ends : (p : Place) → Ends (effect_at p) is_end has_ended form.Finish
 table_ends p = record {
   new = refl;
   still = still;
-  ends = λ earlier f is. ap (λ (g : Form). has_ended (g ∷ earlier)) (ends_of f is);
+  ends = λ earlier f is. ap (λ (g : DrillLine). has_ended (g ∷ earlier)) (ends_of f is);
   stays = keeps_ended p;
   once = once p;
   needed = needed p;
@@ -175,7 +175,7 @@ unknown_fault Header k ok = cc
 unknown_fault Body k ok = cc
 unknown_fault Ended k ok = cc
 
-not_unknown : (p : Place) (earlier : List Form) → IsOk (effect_at p earlier form.Unknown) → ⊥
+not_unknown : (p : Place) (earlier : List DrillLine) → IsOk (effect_at p earlier form.Unknown) → ⊥
 unfolding effect
 not_unknown p earlier ok = unknown_fault (stage_at earlier) (known_at p earlier) ok
 
@@ -271,7 +271,7 @@ no_place rest = by (list_any is_g (77 ∷ rest))
     by true = rw (no_place_before rest) refl
     by false = refl
 
-abbrev IsEndOrUnknown : Form → Type 0
+abbrev IsEndOrUnknown : DrillLine → Type 0
 IsEndOrUnknown f = (f ≡ form.End) ⊎ (f ≡ form.Unknown)
 
 code_form : (from to : ℕ) (rest : List ℕ) → IsEndOrUnknown (within_blanks from to (77 ∷ 51 ∷ 48 ∷ rest))
@@ -287,15 +287,15 @@ told_form from to text h =
     subst (λ (t : List ℕ). IsEndOrUnknown (within_blanks from to t)) (sym parts) (code_form from to (take kept.0 (drop 3 (without_front text))))
 
 -- and only such a line is the end's
-past : (b : Bool) (x y : Form) → is_end x ≡ false → is_end (if b then x else y) ≡ true → is_end y ≡ true
+past : (b : Bool) (x y : DrillLine) → is_end x ≡ false → is_end (if b then x else y) ≡ true → is_end y ≡ true
 past true x y silent h = cc
 past false x y silent h = h
 
-neither : (b : Bool) (x y : Form) → is_end x ≡ false → is_end y ≡ false → is_end (if b then x else y) ≡ false
+neither : (b : Bool) (x y : DrillLine) → is_end x ≡ false → is_end y ≡ false → is_end (if b then x else y) ≡ false
 neither true x y first second = first
 neither false x y first second = second
 
-code_of_end : (b : Bool) (other : Form) → is_end other ≡ false → is_end (if b then form.End else other) ≡ true → b ≡ true
+code_of_end : (b : Bool) (other : DrillLine) → is_end other ≡ false → is_end (if b then form.End else other) ≡ true → b ≡ true
 code_of_end true other silent h = refl
 code_of_end false other silent h = cc
 
@@ -331,42 +331,42 @@ no_place_line text = neither (list_any is_g text) _ _ (no_slots _ _) (no_hits _)
 
 no_tool_line : (text : List ℕ) → is_end (tool_line text) ≡ false
 unfolding tool_line
-no_tool_line text = neither (list_any is_c text) _ _ (no_defines _ _) (neither (is text (codes "0") || is text (codes "00")) _ _ refl (no_selects _))
+no_tool_line text = neither (list_any is_c text) _ _ (no_defines _ _) (neither (is_word text (codes "0") || is_word text (codes "00")) _ _ refl (no_selects _))
 
 no_comment : (from to : ℕ) (text : List ℕ) → is_end (comment from to text) ≡ false
 unfolding comment file_function
 no_comment from to text =
     neither (begins text (codes "; #@! TF.FileFunction,")) _ _
-    (neither (is (field (drop 22 text)) (codes "MixedPlating")) _ _ refl
-    (neither (is (field (drop 22 text)) (codes "NonPlated")) _ _ refl
-    (neither (is (field (drop 22 text)) (codes "Plated")) _ _ (neither (names_span from to (further (drop 22 text))) _ _ refl refl) refl)))
+    (neither (is_word (field (drop 22 text)) (codes "MixedPlating")) _ _ refl
+    (neither (is_word (field (drop 22 text)) (codes "NonPlated")) _ _ refl
+    (neither (is_word (field (drop 22 text)) (codes "Plated")) _ _ (neither (names_span from to (further (drop 22 text))) _ _ refl refl) refl)))
     refl
 
 no_body_line : (text : List ℕ) → is_end (body_line text) ≡ false
 unfolding body_line
 no_body_line text =
     neither (begins text (codes "G02") || begins text (codes "G03")) _ _ refl
-    (neither (is text (codes "G05")) _ _ refl
+    (neither (is_word text (codes "G05")) _ _ refl
     (neither (begins text (codes "G00")) _ _ (no_routs _)
     (neither (begins text (codes "G01")) _ _ (no_straight _)
-    (neither (is text (codes "M15")) _ _ refl
-    (neither (is text (codes "M16")) _ _ refl (no_place_line text))))))
+    (neither (is_word text (codes "M15")) _ _ refl
+    (neither (is_word text (codes "M16")) _ _ refl (no_place_line text))))))
 
-ends_command : (text : List ℕ) → is_end (command text) ≡ true → is text (codes "M30") ≡ true
+ends_command : (text : List ℕ) → is_end (command text) ≡ true → is_word text (codes "M30") ≡ true
 unfolding command
 ends_command text h =
-    code_of_end (is text (codes "M30")) _ (neither (begins text (codes "T")) _ _ (no_tool_line (drop 1 text)) (no_body_line text))
-    (past (is text (codes "%")) _ _ refl
+    code_of_end (is_word text (codes "M30")) _ (neither (begins text (codes "T")) _ _ (no_tool_line (drop 1 text)) (no_body_line text))
+    (past (is_word text (codes "%")) _ _ refl
     (past (is_inch text) _ _ refl
     (past (is_metric text) _ _ refl
-    (past (is text (codes "G90")) _ _ refl
-    (past (is text (codes "FMAT,2")) _ _ refl
-    (past (is text (codes "M48")) _ _ refl h))))))
+    (past (is_word text (codes "G90")) _ _ refl
+    (past (is_word text (codes "FMAT,2")) _ _ refl
+    (past (is_word text (codes "M48")) _ _ refl h))))))
 
 ends_within : (from to : ℕ) (text : List ℕ) → is_end (within_blanks from to text) ≡ true → text ≡ codes "M30"
 unfolding within_blanks
 ends_within from to [] h = cc
-ends_within from to (c ∷ text) h = (slice_eq-Decides Decides-eqb (c ∷ text) (codes "M30") (is (c ∷ text) (codes "M30")) refl).0 (ends_command (c ∷ text) (past (c == 59) (comment from to (c ∷ text)) (command (c ∷ text)) (no_comment from to (c ∷ text)) h))
+ends_within from to (c ∷ text) h = (slice_eq-Decides Decides-eqb (c ∷ text) (codes "M30") (is_word (c ∷ text) (codes "M30")) refl).0 (ends_command (c ∷ text) (past (c == 59) (comment from to (c ∷ text)) (command (c ∷ text)) (no_comment from to (c ∷ text)) h))
 
 ends_told : (from to : ℕ) (text : List ℕ) → is_end (form_of from to text) ≡ true → tells text ≡ true
 unfolding form_of
@@ -377,12 +377,12 @@ ends_told from to text h =
     code_begins w (drop n w) (sym (take-append-drop n w) ∙ ap (λ (xs : List ℕ). xs ++ drop n w) code)
 
 -- forms of lines
-abbrev forms : Place → List PlainLine → List Form
+abbrev forms : Place → List PlainLine → List DrillLine
 forms p lines = map (λ line. form_of p.from p.to line.text) lines
 
-said_lines : (p : Place) (lines : List PlainLine) (last : Item Form) → said (map (item_of p) lines ++ last ∷ []) ≡ forms p lines ++ last.says ∷ []
+said_lines : (p : Place) (lines : List PlainLine) (last : Item DrillLine) → said (map (item_of p) lines ++ last ∷ []) ≡ forms p lines ++ last.says ∷ []
 said_lines p [] last = refl
-said_lines p (line ∷ lines) last = ap (λ (fs : List Form). form_of p.from p.to line.text ∷ fs) (said_lines p lines last)
+said_lines p (line ∷ lines) last = ap (λ (fs : List DrillLine). form_of p.from p.to line.text ∷ fs) (said_lines p lines last)
 
 said_items : (file : List ℕ) (p : Place) → said (items p file) ≡ forms p (lines_of file) ++ form.Finish ∷ []
 said_items file p = said_lines p (lines_of file) (record { says = form.Finish; at = length file })
@@ -390,20 +390,20 @@ said_items file p = said_lines p (lines_of file) (record { says = form.Finish; a
 -- the same, around a line, and around one of the end's
 said_around : (file : List ℕ) (p : Place) (before : List PlainLine) (line : PlainLine) (after : List PlainLine) → lines_of file ≡ before ++ line ∷ after → said (items p file) ≡ forms p before ++ form_of p.from p.to line.text ∷ (forms p after ++ form.Finish ∷ [])
 said_around file p before line after among =
-    said_items file p ∙ ap (λ (ls : List PlainLine). forms p ls ++ form.Finish ∷ []) among ∙ ap (λ (fs : List Form). fs ++ form.Finish ∷ []) (map-append (λ (l : PlainLine). form_of p.from p.to l.text) before (line ∷ after))
+    said_items file p ∙ ap (λ (ls : List PlainLine). forms p ls ++ form.Finish ∷ []) among ∙ ap (λ (fs : List DrillLine). fs ++ form.Finish ∷ []) (map-append (λ (l : PlainLine). form_of p.from p.to l.text) before (line ∷ after))
     ∙ append_assoc (forms p before) (form_of p.from p.to line.text ∷ forms p after) (form.Finish ∷ [])
 
 said_at : (file : List ℕ) (p : Place) (before : List PlainLine) (line : PlainLine) (after : List PlainLine) → lines_of file ≡ before ++ line ∷ after → form_of p.from p.to line.text ≡ form.End → said (items p file) ≡ forms p before ++ form.End ∷ (forms p after ++ form.Finish ∷ [])
-said_at file p before line after among is = said_around file p before line after among ∙ ap (λ (f : Form). forms p before ++ f ∷ (forms p after ++ form.Finish ∷ [])) is
+said_at file p before line after among is = said_around file p before line after among ∙ ap (λ (f : DrillLine). forms p before ++ f ∷ (forms p after ++ form.Finish ∷ [])) is
 
 -- lines before the end's do not begin so, since none of them has a fault
-no_bytes : (p : Place) (earlier : List Form) (lines : List PlainLine) (rest : List Form) → CleanOn (effect_at p) earlier (forms p lines ++ rest) → NoneEnd is_end (forms p lines) → NoneEnds tells lines
+no_bytes : (p : Place) (earlier : List DrillLine) (lines : List PlainLine) (rest : List DrillLine) → CleanOn (effect_at p) earlier (forms p lines ++ rest) → NoneEnd is_end (forms p lines) → NoneEnds tells lines
 no_bytes p earlier [] rest clean none = tt
 no_bytes p earlier (line ∷ lines) rest clean none = (by (tells line.text) refl, no_bytes p (form_of p.from p.to line.text ∷ earlier) lines rest clean.1 none.1)
   where
     never : IsEndOrUnknown (form_of p.from p.to line.text) → ⊥
     never (inl h) = let is : is_end (form_of p.from p.to line.text) ≡ true = ap is_end h in let other = none.0 in cc
-    never (inr h) = not_unknown p earlier (subst (λ (f : Form). IsOk (effect_at p earlier f)) h clean.0)
+    never (inr h) = not_unknown p earlier (subst (λ (f : DrillLine). IsOk (effect_at p earlier f)) h clean.0)
 
     by : (b : Bool) → tells line.text ≡ b → tells line.text ≡ false
     by false h = h
@@ -479,7 +479,7 @@ told_is_end file p pieces before line after read among told = by (told_form p.fr
     by (inl h) = h
     by (inr h) = absurd (
         let clean = clean_behind (effect_at p) [] (forms p before) (form_of p.from p.to line.text ∷ (forms p after ++ form.Finish ∷ [])) (subst (CleanOn (effect_at p) []) (said_around file p before line after among) (read_clean (effect_at p) (barrels_at p) (items p file) pieces read)) in
-        not_unknown p (reverse (forms p before) ++ []) (subst (λ (f : Form). IsOk (effect_at p (reverse (forms p before) ++ []) f)) h clean.0)
+        not_unknown p (reverse (forms p before) ++ []) (subst (λ (f : DrillLine). IsOk (effect_at p (reverse (forms p before) ++ []) f)) h clean.0)
         )
 
 same_within : (file : List ℕ) (p : Place) (pieces others : List PlainPiece) (n : ℕ) → IsRead file p pieces → IsRead (take n file) p others → n ≤ length file → others ≡ pieces

@@ -7,11 +7,11 @@ use Rattle.board_shapes.specs.Plain.{round}
 use Rattle.xnc.specs.declared.kind.DrillKind.{DrillKind}
 use Rattle.xnc.specs.declared.kind.DrillKind.TheVariants as kind
 use Rattle.xnc.specs.declared.line.Coordinates.{Coordinates}
-use Rattle.xnc.specs.declared.line.Form.{Form}
-use Rattle.xnc.specs.declared.line.Form.TheVariants as form
+use Rattle.xnc.specs.declared.line.DrillLine.{DrillLine}
+use Rattle.xnc.specs.declared.line.DrillLine.TheVariants as form
 use Rattle.xnc.specs.declared.settings.Stage.{Stage}
 use Rattle.xnc.specs.declared.settings.Stage.TheVariants.{Opening, Header, Body, Ended}
-use Rattle.xnc.specs.Table.{Known, Effect, stays, makes, moves, drills, ◌>>=◌, unless, needed, is_drilling, is_start, is_ended, diameter_of, define, coordinate, target, diameter, half, barrel, rout, straight, hit, slot, header, body, staged, effect, gone}
+use Rattle.xnc.specs.DrillEffects.{Known, Effect, stays, makes, moves, drills, ◌>>=◌, unless, needed, is_drilling, is_start, is_ended, diameter_of, define, coordinate, target, diameter, half, barrel, rout, straight, hit, slot, header, body, staged, effect, gone}
 
 pub bind_ok : {A B : Type 0} (r : Result A DrillKind) (f : A → Result B DrillKind) (y : B) → (r >>= f) ≡ Ok y → (x : A) × (r ≡ Ok x) × (f x ≡ Ok y)
 bind_ok (Ok x) f y h = (x, refl, h)
@@ -140,7 +140,7 @@ define_did k n d e h =
     record { size = s.0; size_is = s.1; is = sym same }
 
 -- what the effect of each line is
-abbrev pub Outcome : Known → Form → Effect → Type 0
+abbrev pub Outcome : Known → DrillLine → Effect → Type 0
 Outcome k (form.Tool n d) e = Defined k n d e
 Outcome k (form.Rout to) e = Went k to e
 Outcome k (form.Straight to) e = Went k to e
@@ -155,7 +155,7 @@ pub no_ok : {A : Type 0} (why : DrillKind) (y : A) → ◌≡◌ {A = Result A D
 no_ok why y h = cc
 
 -- by where the line stands: what follows from its row in the header, and from its row in the body
-pub placed : (P : Type 0) (s : Stage) (k : Known) (f : Form) (e : Effect) → (is_start f ≡ true → e ≡ stays → P) → (header k f ≡ Ok e → P) → (body k f ≡ Ok e → P) → staged s k f ≡ Ok e → P
+pub placed : (P : Type 0) (s : Stage) (k : Known) (f : DrillLine) (e : Effect) → (is_start f ≡ true → e ≡ stays → P) → (header k f ≡ Ok e → P) → (body k f ≡ Ok e → P) → staged s k f ≡ Ok e → P
 unfolding staged
 placed P Opening k f e start in_header in_body h = by (is_start f) refl h
   where
@@ -166,7 +166,7 @@ placed P Header k f e start in_header in_body h = in_header h
 placed P Body k f e start in_header in_body h = in_body h
 placed P Ended k f e start in_header in_body h = absurd (no_ok kind.AfterEnd e h)
 
-pub outcome : (k : Known) (f : Form) (e : Effect) → effect k f ≡ Ok e → Outcome k f e
+pub outcome : (k : Known) (f : DrillLine) (e : Effect) → effect k f ≡ Ok e → Outcome k f e
 unfolding effect header body
 outcome k form.Blank e h = ok_stays e h
 outcome k (form.Misfit why) e h = absurd (no_ok why e h)

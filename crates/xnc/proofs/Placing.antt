@@ -11,10 +11,10 @@ use Rattle.file_reading.specs.Reading.{Clean, said}
 use Rattle.xnc.specs.declared.kind.DrillKind.{DrillKind}
 use Rattle.xnc.specs.declared.kind.DrillKind.TheVariants as kind
 use Rattle.xnc.specs.declared.line.Coordinates.{Coordinates}
-use Rattle.xnc.specs.declared.line.Form.{Form}
-use Rattle.xnc.specs.declared.line.Form.TheVariants as form
-use Rattle.xnc.specs.Place.{Place}
-use Rattle.xnc.specs.Table.{Known, Effect, stays, makes, moves, drills, ◌>>=◌, unless, is_drilling, target, diameter, half, barrel, rout, straight, hit, slot, header, body, effect}
+use Rattle.xnc.specs.declared.line.DrillLine.{DrillLine}
+use Rattle.xnc.specs.declared.line.DrillLine.TheVariants as form
+use Rattle.xnc.specs.FaultPlace.{Place}
+use Rattle.xnc.specs.DrillEffects.{Known, Effect, stays, makes, moves, drills, ◌>>=◌, unless, is_drilling, target, diameter, half, barrel, rout, straight, hit, slot, header, body, effect}
 use Rattle.xnc.specs.Settings.{piece_of, barrels_at, known_at, effect_at}
 use Rattle.xnc.specs.DrillFile.{IsRead}
 use Rattle.xnc.proofs.Outcome.{bind_ok, past_test, no_ok, placed, outcome}
@@ -65,7 +65,7 @@ slot_room k from to e h =
     let t = bind_ok (target k.settings.unit f.0 to) (λ to. barrel k f.0 to) e f.2 in
     barrel_room k f.0 t.0 e t.2
 
-effect_room : (k : Known) (f : Form) (e : Effect) → effect k f ≡ Ok e → HasRoom k e
+effect_room : (k : Known) (f : DrillLine) (e : Effect) → effect k f ≡ Ok e → HasRoom k e
 unfolding effect header body
 effect_room k (form.Tool n d) e h = let made = outcome k (form.Tool n d) e h in subst (λ x. HasRoom k x) (sym made.is) tt
 effect_room k (form.Rout to) e h = placed (HasRoom k e) k.settings.stage k (form.Rout to) e (λ s t. cc) (λ t. absurd (no_ok kind.BadLine e t)) (λ t. rout_room k to e (past_test k.settings.down kind.WrongMode (rout k to) e t)) h
@@ -82,7 +82,7 @@ one_more p k n (Ok (moves to)) ok room few = omega arith
 one_more p k n (Ok (drills to figure)) ok room few = let more = room (drills to figure) refl in omega (arith, more)
 one_more p k n (Err why) ok room few = omega arith
 
-few_barrels : (p : Place) (earlier : List Form) → Clean (effect_at p) earlier → length (barrels_at p earlier) ≤ p.room
+few_barrels : (p : Place) (earlier : List DrillLine) → Clean (effect_at p) earlier → length (barrels_at p earlier) ≤ p.room
 unfolding barrels_at
 few_barrels p [] clean = omega arith
 few_barrels p (f ∷ earlier) clean =
@@ -101,7 +101,7 @@ piece_spans p n (Ok (moves to)) = All-nil (InSpan p)
 piece_spans p n (Ok (drills to figure)) = All-cons (InSpan p) _ [] (refl, refl) (All-nil (InSpan p))
 piece_spans p n (Err why) = All-nil (InSpan p)
 
-barrels_span : (p : Place) (earlier : List Form) → All (InSpan p) (barrels_at p earlier)
+barrels_span : (p : Place) (earlier : List DrillLine) → All (InSpan p) (barrels_at p earlier)
 unfolding barrels_at
 barrels_span p [] = All-nil (InSpan p)
 barrels_span p (f ∷ earlier) = All-append (InSpan p) (barrels_at p earlier) (piece_of p (length earlier + 1) (effect (known_at p earlier) f)) (barrels_span p earlier) (piece_spans p (length earlier + 1) (effect (known_at p earlier) f))

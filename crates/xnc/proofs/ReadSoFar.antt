@@ -9,15 +9,15 @@ use Rattle.board_shapes.specs.declared.shape.Shape.{Shape}
 use Rattle.file_reading.specs.Reading.{Item, IsReadTo, said}
 use Rattle.file_reading.proofs.Turning.{read-start, read-more}
 use Rattle.texts.specs.Lines.{Ahead, PlainLine, lines_from, start}
-use Rattle.xnc.specs.declared.line.Form.{Form}
-use Rattle.xnc.specs.declared.line.Form.TheVariants as form
+use Rattle.xnc.specs.declared.line.DrillLine.{DrillLine}
+use Rattle.xnc.specs.declared.line.DrillLine.TheVariants as form
 use Rattle.xnc.specs.declared.kind.DrillKind.{DrillKind}
 use Rattle.xnc.specs.declared.kind.DrillFault.{DrillFault}
 use Rattle.file_reading.specs.declared.halt.Halt.{Halt}
 use Rattle.file_reading.specs.declared.halt.Halt.TheVariants as halt
 use Rattle.xnc.specs.declared.reader.Reader.{Reader}
-use Rattle.xnc.specs.Place.{Place}
-use Rattle.xnc.specs.Table.{Known, Effect, effect}
+use Rattle.xnc.specs.FaultPlace.{Place}
+use Rattle.xnc.specs.DrillEffects.{Known, Effect, effect}
 use Rattle.xnc.specs.Settings.{settings_at, defined_at, effect_at, barrels_at}
 use Rattle.xnc.specs.DrillFile.{item_of, items, items_with, IsRead, IsFault}
 use Rattle.xnc.specs.Reader.{known_of, defined_in, count_of, Obeys, IsNew, Halts, fault_at, Leaves, Faults}
@@ -25,7 +25,7 @@ use Rattle.xnc.proofs.Bridge.{State, state-push, same_known}
 
 -- the file is read to the lines ahead, and the reader knows what looking back finds
 pub record ReadSoFar (file : List ℕ) (p : Place) (a : Ahead) (r : Reader) : Type 0 where
-  pub earlier : List (Item Form)
+  pub earlier : List (Item DrillLine)
   pub read : IsReadTo (effect_at p) (items p file) earlier (items_with p (length file) (lines_from a))
   pub state : State p (said earlier) r
 
@@ -42,7 +42,7 @@ nothing-read file p r n = record {
   };
 }
 
-is_ok : (k k' : Known) (f : Form) (e : Effect) → k ≡ k' → effect k f ≡ Ok e → IsOk (effect k' f)
+is_ok : (k k' : Known) (f : DrillLine) (e : Effect) → k ≡ k' → effect k f ≡ Ok e → IsOk (effect k' f)
 is_ok k k' f e same h = let g : effect k' f ≡ Ok e = subst (λ (t : Known). effect t f ≡ Ok e) same h in rw g refl
 
 -- what lies ahead are these lines
@@ -50,7 +50,7 @@ ahead_is : (file : List ℕ) (p : Place) (a : Ahead) (r : Reader) (lines : List 
 ahead_is file p a r lines s is = subst (λ (ls : List PlainLine). IsReadTo (effect_at p) (items p file) s.earlier (items_with p (length file) ls)) is s.read
 
 -- an item that was obeyed
-item-read : (file : List ℕ) (p : Place) (earlier rest : List (Item Form)) (item : Item Form) (r r' : Reader) → IsReadTo (effect_at p) (items p file) earlier (item ∷ rest) → State p (said earlier) r → Obeys r item.says r' → IsReadTo (effect_at p) (items p file) (item ∷ earlier) rest
+item-read : (file : List ℕ) (p : Place) (earlier rest : List (Item DrillLine)) (item : Item DrillLine) (r r' : Reader) → IsReadTo (effect_at p) (items p file) earlier (item ∷ rest) → State p (said earlier) r → Obeys r item.says r' → IsReadTo (effect_at p) (items p file) (item ∷ earlier) rest
 item-read file p earlier rest item r r' read state o = read-more (effect_at p) (items p file) earlier rest item read (is_ok (known_of r) _ item.says o.effect_is state.known o.clean)
 
 -- a line that was obeyed
@@ -61,11 +61,11 @@ line-read file p old new line r r' s next o = record {
   state = state-push p (said s.earlier) r (item_of p line).says r' s.state o;
 }
 
-number_is : (earlier : List (Item Form)) (r : Reader) (p : Place) (number : ℕ) → State p (said earlier) r → number ≡ r.lines + 1 → number ≡ length earlier + 1
+number_is : (earlier : List (Item DrillLine)) (r : Reader) (p : Place) (number : ℕ) → State p (said earlier) r → number ≡ r.lines + 1 → number ≡ length earlier + 1
 number_is earlier r p number s h = h ∙ ap (λ (k : ℕ). k + 1) (s.counts ∙ length-map earlier (λ i. i.says))
 
 -- what stops the reader at an item is that item's fault
-item-fault : (file : List ℕ) (p : Place) (earlier later : List (Item Form)) (item : Item Form) (r : Reader) (why : Halt DrillKind) (number : ℕ) → IsReadTo (effect_at p) (items p file) earlier (item ∷ later) → State p (said earlier) r → Halts (known_of r) item.says why → number ≡ r.lines + 1 → IsFault file p (fault_at why number item.at)
+item-fault : (file : List ℕ) (p : Place) (earlier later : List (Item DrillLine)) (item : Item DrillLine) (r : Reader) (why : Halt DrillKind) (number : ℕ) → IsReadTo (effect_at p) (items p file) earlier (item ∷ later) → State p (said earlier) r → Halts (known_of r) item.says why → number ≡ r.lines + 1 → IsFault file p (fault_at why number item.at)
 item-fault file p earlier later item r (halt.Fault kind) number read state h n = record {
   earlier = earlier;
   item = item;
@@ -85,7 +85,7 @@ pub line-refused : (file : List ℕ) (p : Place) (old new : Ahead) (line : Plain
 line-refused file p old new line r why s next h = rw h.is (line-fault file p old new line r h.halt (r.lines + 1) s next h.halts refl)
 
 -- the file's end
-abbrev last_item : List ℕ → Item Form
+abbrev last_item : List ℕ → Item DrillLine
 last_item file = record { says = form.Finish; at = length file }
 
 end-obeyed : (file : List ℕ) (p : Place) (a : Ahead) (r r' : Reader) → ReadSoFar file p a r → lines_from a ≡ [] → Obeys r form.Finish r' → IsRead file p (plain_pieces r'.pieces.items)

@@ -2,17 +2,17 @@
 use Rattle.std.proofs.Common.{◌≡◌, ℕ, Bool, true, false, ◌||◌, cond, List, [], ◌∷◌, Option, Some, None, is_some, is_none, Result, Ok, Err, IsOk, refl}
 use Rattle.xnc.specs.declared.kind.DrillKind.{DrillKind}
 use Rattle.xnc.specs.declared.kind.DrillKind.TheVariants as kind
-use Rattle.xnc.specs.declared.line.Form.{Form}
-use Rattle.xnc.specs.declared.line.Form.TheVariants as form
-use Rattle.xnc.specs.Place.{Place}
-use Rattle.xnc.specs.Table.{Known, Effect, stays, unless, is_drilling, diameter, lookup, header, body, effect}
+use Rattle.xnc.specs.declared.line.DrillLine.{DrillLine}
+use Rattle.xnc.specs.declared.line.DrillLine.TheVariants as form
+use Rattle.xnc.specs.FaultPlace.{Place}
+use Rattle.xnc.specs.DrillEffects.{Known, Effect, stays, unless, is_drilling, diameter, lookup, header, body, effect}
 use Rattle.std.specs.Option.{option_or}
 use Rattle.xnc.specs.Settings.{down_at, tool_at, defined_at, known_at}
 use Rattle.xnc.specs.Laws.{HasTool}
 use Rattle.xnc.proofs.Outcome.{no_ok, past_test, placed}
 
 -- the effect of a line without a fault
-done : (k : Known) (f : Form) → IsOk (effect k f) → (e : Effect) × (effect k f ≡ Ok e)
+done : (k : Known) (f : DrillLine) → IsOk (effect k f) → (e : Effect) × (effect k f ≡ Ok e)
 done k f h = by (effect k f) refl h
   where
     by : (r : Result Effect DrillKind) → effect k f ≡ r → IsOk r → (e : Effect) × (effect k f ≡ Ok e)
@@ -53,7 +53,7 @@ defined_more (Some n) here more h = by (more n) (here n) h
     by (Some d) o h = refl
     by None o h = h
 
-pub tool_down : (p : Place) (earlier : List Form) → HasTool p earlier
+pub tool_down : (p : Place) (earlier : List DrillLine) → HasTool p earlier
 tool_down p [] clean down = cc
 tool_down p (form.Lower ∷ earlier) clean down = let d = done (known_at p earlier) form.Lower clean.0 in lower_has (known_at p earlier) d.0 d.1
 tool_down p (form.Raise ∷ earlier) clean down = cc

@@ -4,25 +4,25 @@ use Rattle.board_shapes.specs.Plain.{PlainPiece}
 use Rattle.file_reading.specs.Reading as reading
 use Rattle.file_reading.specs.Reading.{Item}
 use Rattle.texts.specs.Lines.{PlainLine, lines_of}
-use Rattle.xnc.specs.declared.line.Form.{Form}
-use Rattle.xnc.specs.declared.line.Form.TheVariants as form
+use Rattle.xnc.specs.declared.line.DrillLine.{DrillLine}
+use Rattle.xnc.specs.declared.line.DrillLine.TheVariants as form
 use Rattle.xnc.specs.declared.kind.DrillKind.{DrillKind}
 use Rattle.xnc.specs.declared.kind.DrillFault.{DrillFault}
 use Rattle.xnc.specs.declared.kind.DrillFault.TheVariants as fault
-use Rattle.xnc.specs.Place.{Place}
-use Rattle.xnc.specs.Reading.{form_of}
+use Rattle.xnc.specs.FaultPlace.{Place}
+use Rattle.xnc.specs.DrillLines.{form_of}
 use Rattle.xnc.specs.Settings.{effect_at, barrels_at}
 
 -- a line's form with the place of its first byte
-abbrev pub item_of : Place → PlainLine → Item Form
+abbrev pub item_of : Place → PlainLine → Item DrillLine
 item_of p line = record { says = form_of p.from p.to line.text; at = line.at }
 
 -- The items of a file: its lines, and its end, which is the last.
-abbrev pub items_with : Place → ℕ → List PlainLine → List (Item Form)
+abbrev pub items_with : Place → ℕ → List PlainLine → List (Item DrillLine)
 items_with p size lines = map (item_of p) lines ++ record { says = form.Finish; at = size } ∷ []
 
 -- and those of its bytes
-abbrev pub items : Place → List ℕ → List (Item Form)
+abbrev pub items : Place → List ℕ → List (Item DrillLine)
 items p file = items_with p (length file) (lines_of file)
 
 -- no line has a fault, and these are the barrels that the lines make

@@ -7,16 +7,16 @@ use Rattle.texts.specs.Blanks.{is_blank}
 use Rattle.texts.specs.Lines.{PlainLine, lines_of}
 use Rattle.xnc.specs.Kind.{number_of_kind}
 use Rattle.xnc.specs.declared.kind.DrillKind.{DrillKind}
-use Rattle.xnc.specs.declared.line.Form.{Form}
-use Rattle.xnc.specs.declared.line.Form.TheVariants as form
-use Rattle.xnc.specs.Place.{Place}
-use Rattle.xnc.specs.Reading.{form_of}
-use Rattle.xnc.specs.Table.{diameter}
+use Rattle.xnc.specs.declared.line.DrillLine.{DrillLine}
+use Rattle.xnc.specs.declared.line.DrillLine.TheVariants as form
+use Rattle.xnc.specs.FaultPlace.{Place}
+use Rattle.xnc.specs.DrillLines.{form_of}
+use Rattle.xnc.specs.DrillEffects.{diameter}
 use Rattle.xnc.specs.Settings.{down_at, known_at, effect_at}
 use Rattle.xnc.specs.DrillFile.{IsRead, IsRefused}
 
 -- where the tool is down, a tool is selected and has a diameter
-abbrev pub HasTool : Place → List Form → Type 0
+abbrev pub HasTool : Place → List DrillLine → Type 0
 HasTool p earlier = Clean (effect_at p) earlier → down_at earlier ≡ true → is_some (diameter (known_at p earlier)) ≡ true
 
 -- A line of the file is the end's: but for blanks at its ends it is `M30`.

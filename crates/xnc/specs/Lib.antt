@@ -1,8 +1,8 @@
 pub mod DrillFile
 pub mod Kind
 pub mod Laws
-pub mod Place
+pub mod FaultPlace
 pub mod Reader
-pub mod Reading
+pub mod DrillLines
 pub mod Settings
-pub mod Table
+pub mod DrillEffects

@@ -12,14 +12,14 @@ use Rattle.xnc.specs.declared.kind.DrillFault.{DrillFault}
 use Rattle.xnc.specs.declared.kind.DrillFault.TheVariants as fault
 use Rattle.file_reading.specs.declared.halt.Halt.{Halt}
 use Rattle.file_reading.specs.declared.halt.Halt.TheVariants as halt
-use Rattle.xnc.specs.declared.line.Form.{Form}
-use Rattle.xnc.specs.declared.line.Form.TheVariants as form
+use Rattle.xnc.specs.declared.line.DrillLine.{DrillLine}
+use Rattle.xnc.specs.declared.line.DrillLine.TheVariants as form
 use Rattle.xnc.specs.declared.effect.Effect.{Effect as Seen}
 use Rattle.xnc.specs.declared.effect.Effect.TheVariants as seen
 use Rattle.xnc.specs.declared.tools.Tools.{Tools}
 use Rattle.xnc.specs.declared.reader.Reader.{Reader}
-use Rattle.xnc.specs.Place.{Place}
-use Rattle.xnc.specs.Table.{Known, Effect, stays, makes, moves, drills, rout, straight, hit, slot, effect, after}
+use Rattle.xnc.specs.FaultPlace.{Place}
+use Rattle.xnc.specs.DrillEffects.{Known, Effect, stays, makes, moves, drills, rout, straight, hit, slot, effect, after}
 use Rattle.xnc.specs.Settings.{piece_of, settings_at}
 
 -- the effect that was seen, its shape as its figure, or the fault of a line
@@ -34,7 +34,7 @@ showing (Ok e) = Ok (shown e)
 showing (Err kind) = Err kind
 
 -- the row of a line that names a place, behind its conditions on the mode and the tool
-unfoldable pub placed_row : Known → Form → Result Effect DrillKind
+unfoldable pub placed_row : Known → DrillLine → Result Effect DrillKind
 placed_row k (form.Rout to) = rout k to
 placed_row k (form.Straight to) = straight k to
 placed_row k (form.Hit at) = hit k at
@@ -78,7 +78,7 @@ Turns old (moves to) new = new ≡ old
 Turns old (drills to figure) new = new ≡ old
 
 -- The reader has obeyed a line that has no fault.
-pub record Obeys (old : Reader) (f : Form) (new : Reader) : Type 0 where
+pub record Obeys (old : Reader) (f : DrillLine) (new : Reader) : Type 0 where
   pub effect_is : Effect
   pub clean : effect (known_of old) f ≡ Ok effect_is
   pub settings : new.settings ≡ after old.settings f effect_is
@@ -116,7 +116,7 @@ pub record Places (old : Reader) (figure : Figure) (new : Reader) : Type 0 where
   pub place : place_of new ≡ place_of old
 
 -- why the reader stops at a line: its fault, or want of memory
-abbrev pub Halts : Known → Form → Halt DrillKind → Type 0
+abbrev pub Halts : Known → DrillLine → Halt DrillKind → Type 0
 Halts k f (halt.Fault kind) = effect k f ≡ Err kind
 Halts k f halt.NoMemory = Unit {0}
 
@@ -135,13 +135,13 @@ fault_at (halt.Fault kind) number at = fault.Refused kind number at
 fault_at halt.NoMemory number at = fault.NoMemory
 
 -- The reader obeys a last line, and these pieces are left.
-pub record Leaves (r : Reader) (f : Form) (pieces : List (Placed Shape)) : Type 0 where
+pub record Leaves (r : Reader) (f : DrillLine) (pieces : List (Placed Shape)) : Type 0 where
   pub last : Reader
   pub obeys : Obeys r f last
   pub are : pieces ≡ last.pieces.items
 
 -- the fault of a line that stands at a place
-pub record Faults (r : Reader) (f : Form) (at : ℕ) (why : DrillFault) : Type 0 where
+pub record Faults (r : Reader) (f : DrillLine) (at : ℕ) (why : DrillFault) : Type 0 where
   pub halt : Halt DrillKind
   pub halts : Halts (known_of r) f halt
   pub is : why ≡ fault_at halt (r.lines + 1) at

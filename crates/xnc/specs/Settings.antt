@@ -7,69 +7,69 @@ use Rattle.lengths.specs.declared.decimal.Unit.{Unit as Measure}
 use Rattle.board_shapes.specs.Plain.{PlainPiece}
 use Rattle.xnc.specs.declared.kind.DrillKind.{DrillKind}
 use Rattle.xnc.specs.declared.line.Coordinates.{Coordinates}
-use Rattle.xnc.specs.declared.line.Form.{Form}
-use Rattle.xnc.specs.declared.line.Form.TheVariants as form
+use Rattle.xnc.specs.declared.line.DrillLine.{DrillLine}
+use Rattle.xnc.specs.declared.line.DrillLine.TheVariants as form
 use Rattle.xnc.specs.declared.settings.Stage.{Stage}
 use Rattle.xnc.specs.declared.settings.Stage.TheVariants.{Opening, Header, Body, Ended}
 use Rattle.xnc.specs.declared.settings.Mode.{Mode}
 use Rattle.xnc.specs.declared.settings.Mode.TheVariants.{Drill, Rout}
 use Rattle.xnc.specs.declared.settings.Settings.{Settings}
-use Rattle.xnc.specs.Place.{Place}
-use Rattle.xnc.specs.Table.{Known, Effect, stays, makes, moves, drills, value_of, diameter_of, effect}
+use Rattle.xnc.specs.FaultPlace.{Place}
+use Rattle.xnc.specs.DrillEffects.{Known, Effect, stays, makes, moves, drills, value_of, diameter_of, effect}
 
 -- the stage that a line begins
-abbrev pub stage_in : Form → Option Stage
+abbrev pub stage_in : DrillLine → Option Stage
 stage_in form.Start = Some Header
 stage_in form.HeaderEnd = Some Body
 stage_in form.End = Some Ended
 stage_in other = None
 
 -- before `M48`, in the header, in the body, or behind the end
-abbrev pub stage_at : List Form → Stage
+abbrev pub stage_at : List DrillLine → Stage
 stage_at earlier = last_or Opening stage_in earlier
 
 -- the unit that a line says
-abbrev pub unit_in : Form → Option Measure
+abbrev pub unit_in : DrillLine → Option Measure
 unit_in (form.Unit unit) = Some unit
 unit_in other = None
 
 -- the unit of the last unit line
-abbrev pub unit_at : List Form → Option Measure
+abbrev pub unit_at : List DrillLine → Option Measure
 unit_at earlier = last_said unit_in earlier
 
 -- the tool that a line selects, which for `T0` is none
-abbrev pub tool_in : Form → Option (Option ℕ)
+abbrev pub tool_in : DrillLine → Option (Option ℕ)
 tool_in (form.Select n) = Some (Some n)
 tool_in form.NoTool = Some None
 tool_in other = None
 
 -- the tool that was selected last, and none behind `T0`
-abbrev pub tool_at : List Form → Option ℕ
+abbrev pub tool_at : List DrillLine → Option ℕ
 tool_at earlier = last_or None tool_in earlier
 
 -- the mode that a line asks for
-abbrev pub mode_in : Form → Option Mode
+abbrev pub mode_in : DrillLine → Option Mode
 mode_in form.Drill = Some Drill
 mode_in (form.Rout to) = Some Rout
 mode_in other = None
 
 -- drill mode at the start and behind `G05`, rout mode behind `G00`
-abbrev pub mode_at : List Form → Mode
+abbrev pub mode_at : List DrillLine → Mode
 mode_at earlier = last_or Drill mode_in earlier
 
 -- whether the tool is down behind a line that lowers or raises it
-abbrev pub down_in : Form → Option Bool
+abbrev pub down_in : DrillLine → Option Bool
 down_in form.Lower = Some true
 down_in form.Raise = Some false
 down_in (form.Rout to) = Some false
 down_in other = None
 
 -- down behind `M15`; up at the start, behind `M16` and behind `G00`
-abbrev pub down_at : List Form → Bool
+abbrev pub down_at : List DrillLine → Bool
 down_at earlier = last_or false down_in earlier
 
 -- the last X or Y that a line names, of the two the one that `part` takes
-abbrev pub named_in : (Coordinates → Option Fraction) → Form → Option Fraction
+abbrev pub named_in : (Coordinates → Option Fraction) → DrillLine → Option Fraction
 named_in part (form.Rout to) = part to
 named_in part (form.Straight to) = part to
 named_in part (form.Hit at) = part at
@@ -88,19 +88,19 @@ value_in None here (Some d) = here
 value_in (Some unit) here (Some d) = value_or here (value_of unit d)
 
 -- the value of the last X or Y that a line named, or 0
-abbrev pub named_at : (Coordinates → Option Fraction) → List Form → ℤ
+abbrev pub named_at : (Coordinates → Option Fraction) → List DrillLine → ℤ
 named_at part [] = pos 0
 named_at part (f ∷ earlier) = value_in (unit_at earlier) (named_at part earlier) (named_in part f)
 
 -- the current place
-abbrev pub x_at : List Form → ℤ
+abbrev pub x_at : List DrillLine → ℤ
 x_at earlier = named_at (λ c. c.x) earlier
 
-abbrev pub y_at : List Form → ℤ
+abbrev pub y_at : List DrillLine → ℤ
 y_at earlier = named_at (λ c. c.y) earlier
 
 -- all settings that the next line finds
-abbrev pub settings_at : List Form → Settings
+abbrev pub settings_at : List DrillLine → Settings
 settings_at earlier = record {
   stage = stage_at earlier;
   unit = unit_at earlier;
@@ -116,13 +116,13 @@ diameter_in n m (Ok d) = if m == n then Some d else None
 diameter_in n m (Err kind) = None
 
 -- the diameter that n is defined with
-abbrev pub defined_at : List Form → ℕ → Option ℕ
+abbrev pub defined_at : List DrillLine → ℕ → Option ℕ
 defined_at [] n = None
 defined_at (form.Tool m d ∷ earlier) n = option_or (diameter_in n m (diameter_of (unit_at earlier) d)) (defined_at earlier n)
 defined_at (other ∷ earlier) n = defined_at earlier n
 
 -- how many tools are defined
-abbrev pub tools_at : List Form → ℕ
+abbrev pub tools_at : List DrillLine → ℕ
 tools_at [] = 0
 tools_at (form.Tool m d ∷ earlier) = tools_at earlier + 1
 tools_at (other ∷ earlier) = tools_at earlier
@@ -137,7 +137,7 @@ piece_of p number (Ok (makes n d)) = []
 piece_of p number (Err kind) = []
 
 -- what is known before the next line, and the pieces so far
-abbrev pub known_with : Place → List Form → ℕ → Known
+abbrev pub known_with : Place → List DrillLine → ℕ → Known
 known_with p earlier pieces = record {
   settings = settings_at earlier;
   defined = defined_at earlier;
@@ -147,14 +147,14 @@ known_with p earlier pieces = record {
 }
 
 -- the barrels that the lines make, in order
-unfoldable pub barrels_at : Place → List Form → List PlainPiece
+unfoldable pub barrels_at : Place → List DrillLine → List PlainPiece
 barrels_at p [] = []
 barrels_at p (f ∷ earlier) = barrels_at p earlier ++ piece_of p (length earlier + 1) (effect (known_with p earlier (length (barrels_at p earlier))) f)
 
 -- what is known before the next line
-abbrev pub known_at : Place → List Form → Known
+abbrev pub known_at : Place → List DrillLine → Known
 known_at p earlier = known_with p earlier (length (barrels_at p earlier))
 
 -- what a line does, or its fault, behind these lines
-abbrev pub effect_at : Place → List Form → Form → Result Effect DrillKind
+abbrev pub effect_at : Place → List DrillLine → DrillLine → Result Effect DrillKind
 effect_at p earlier f = effect (known_at p earlier) f

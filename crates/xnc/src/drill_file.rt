@@ -2,13 +2,13 @@
 ghost use Rattle.std.specs.Prelude.{◌≡◌, ◌+◌, ◌^◌, ◌<◌, ◌≤◌, length, All, IfOk, IfErr, OnOk};
 ghost use Rattle.board_shapes.specs.Plain.{plain_pieces};
 ghost use Rattle.xnc.specs.DrillFile.{IsFault, IsRead};
-ghost use Rattle.xnc.specs.declared.line.Form.TheVariants as form;
+ghost use Rattle.xnc.specs.declared.line.DrillLine.TheVariants as form;
 ghost use Rattle.xnc.specs.Reader.{Faults, IsLawfulReader, Leaves, Obeys, fault_at};
 
+use crate::drill_lines::read_line;
 use crate::kind::{DrillFault, DrillKind};
-use crate::line::Form;
+use crate::line::DrillLine;
 use crate::reader::Reader;
-use crate::reading::read_line;
 use crate::span::Span;
 use board_shapes::{Piece, Room};
 use file_reading::Halt;
@@ -25,7 +25,7 @@ fn fault_at(halt: Halt<DrillKind>, line: u32, at: usize) -> DrillFault
 }
 
 // Obeys a line that stands at a place.
-fn obey_at(reader: &mut Reader, form: &Form, at: usize) -> Result<(), DrillFault>
+fn obey_at(reader: &mut Reader, form: &DrillLine, at: usize) -> Result<(), DrillFault>
     requires lawful { IsLawfulReader reader.old }
     requires few { reader.old.lines + 1 < 2 ^ 32 }
     ensures ok { OnOk result (Obeys reader.old form.now reader.new) }
@@ -43,7 +43,7 @@ fn finished(mut reader: Reader, at: usize) -> Result<Vec<Piece>, DrillFault>
     ensures ok { IfOk result (λ pieces. Leaves reader form.Finish pieces.items) }
     ensures fault { IfErr result (Faults reader form.Finish at) }
 {
-    obey_at(&mut reader, &Form::Finish, at)?;
+    obey_at(&mut reader, &DrillLine::Finish, at)?;
     Ok(reader.into_pieces())
 }
 

@@ -2,7 +2,7 @@
 ghost use Rattle.std.specs.Prelude.{◌≡◌};
 ghost use Rattle.xnc.specs.Kind.{name_of_kind, number_of_kind};
 
-use lengths::GridFault;
+use lengths::decimal::GridFault;
 use thiserror::Error;
 
 /// Why a drill file is refused. The forms of lines are this project's profile of the XNC Format
@@ -114,7 +114,7 @@ pub enum DrillFault {
 }
 
 impl From<GridFault> for DrillKind {
-    ghost use Rattle.xnc.specs.Table.{kind_of_grid};
+    ghost use Rattle.xnc.specs.DrillEffects.{kind_of_grid};
 
     ghost from_gives = { λ fault kind. kind ≡ kind_of_grid fault };
 

@@ -1,10 +1,10 @@
 //! Laws over the definitions alone.
 ghost use Rattle.std.specs.Prelude.{◌≡◌, ℕ, List, take};
 ghost use Rattle.board_shapes.specs.Plain.{PlainPiece};
-ghost use Rattle.xnc.specs.declared.line.Form.{Form};
+ghost use Rattle.xnc.specs.declared.line.DrillLine.{DrillLine};
 ghost use Rattle.xnc.specs.DrillFile.{HasOneAnswer, IsRead};
 ghost use Rattle.xnc.specs.Laws.{HasTool, KindsHaveOwnNumbers, PrefixIsRefused};
-ghost use Rattle.xnc.specs.Place.{Place};
+ghost use Rattle.xnc.specs.FaultPlace.{Place};
 
 /// Each file has one answer: its barrels, or its first fault.
 pub fn one_answer()
@@ -14,7 +14,7 @@ pub fn one_answer()
 /// Where lines without a fault leave the tool down, a tool is selected. So each straight rout has
 /// the half of a diameter as its radius.
 pub fn routs_have_tools()
-    ensures { (p : Place) (earlier : List Form) → HasTool p earlier }
+    ensures { (p : Place) (earlier : List DrillLine) → HasTool p earlier }
 {}
 
 /// A drill file that is read has a line `M30`, and each prefix of it without the three bytes of

@@ -1,22 +1,22 @@
 //! Reads the barrels of a drill file, by this project's profile of the XNC Format Specification.
 //!
-//! A file is its lines (`texts`). Each line is read by itself into a form (`reading`, `line`),
-//! and judged by one table, which has a part for the header and one for the body (`table`), with
+//! A file is its lines (`texts`). Each line is read by itself into a form (`drill_lines`, `line`),
+//! and judged by one table, which has a part for the header and one for the body (`drill_effects`), with
 //! what earlier lines have set (`settings`, `tools`, `reader`). `drill_file` has the call. The
 //! definition (specs/DrillFile.antt) keeps no state: it looks back in the list of lines, as
 //! `file_reading` says for all files.
 #![tactic(auto)]
 
+mod drill_effects;
 mod drill_file;
+mod drill_lines;
 mod effect;
 mod kind;
 pub mod laws;
 mod line;
 mod reader;
-mod reading;
 mod settings;
 mod span;
-mod table;
 mod tools;
 
 pub use drill_file::read_drill;

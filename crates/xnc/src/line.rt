@@ -1,6 +1,6 @@
 //! Lines, as each is read by itself.
 use crate::kind::DrillKind;
-use lengths::{Decimal, Unit};
+use lengths::decimal::{Decimal, Unit};
 
 /// The coordinates that a line names for a place. What it does not name stays as it was.
 #[derive(Clone, Copy)]
@@ -11,7 +11,7 @@ pub struct Coordinates {
 
 /// What a line says, apart from all others. The end of a file is a form of its own.
 #[derive(Clone, Copy)]
-pub enum Form {
+pub enum DrillLine {
     /// An empty line or a comment that has no fault.
     Blank,
     /// A comment on the file's function that has this fault.

@@ -2,17 +2,18 @@
 ghost use Rattle.std.specs.Prelude.{◌≤◌};
 ghost use Rattle.contact.specs.declared.TheConstants.{MOST_DIAMETER};
 
+use crate::drill_effects::{after, diameter, half, is_drilling, is_ended, is_start, target};
 use crate::effect::Effect;
 use crate::kind::DrillKind;
-use crate::line::Form;
+use crate::line::DrillLine;
 use crate::settings::{Mode, Settings, Stage};
 use crate::span::Span;
-use crate::table::{after, diameter, half, is_drilling, is_ended, is_start, target};
 use crate::tools::Tools;
 use board_shapes::{Origin, Piece, Placed, Shape};
 use contact::Capsule;
 use file_reading::Halt;
-use lengths::{Decimal, NoMemory, Unit, other_unit};
+use lengths::decimal::{Decimal, Unit, other_unit};
+use lengths::rows::NoMemory;
 use planar::Spot;
 use std::alloc::Global;
 
@@ -37,7 +38,7 @@ impl Reader {
     ghost use Rattle.planar.specs.Plane.{IsPlaced};
     ghost use Rattle.board_shapes.specs.Plain.{figure_of};
     ghost use Rattle.xnc.specs.Reader.{Applies, AreLawful, Halts, IsFit, IsLawfulReader, IsNew, Obeys, Places, known_of, placed_row, showing, shown};
-    ghost use Rattle.xnc.specs.Table as spec;
+    ghost use Rattle.xnc.specs.DrillEffects as spec;
 
     /// Before the first line.
     pub fn new(alloc: Global, span: Span, file: u32, room: u32) -> Reader
@@ -75,7 +76,7 @@ impl Reader {
         }
     }
 
-    #[tactic(auto, unfolding(crate::specs::Table::define))]
+    #[tactic(auto, unfolding(crate::specs::DrillEffects::define))]
     fn define(&self, n: u32, d: Decimal) -> Result<Effect, DrillKind>
         ensures value { showing result ≡ spec.define (known_of self.now) n d }
         ensures fit { IfOk result (IsFit self.now.tools) }
@@ -91,7 +92,7 @@ impl Reader {
     }
 
     // A barrel, if there is room for it.
-    #[tactic(auto, unfolding(crate::specs::Table::barrel))]
+    #[tactic(auto, unfolding(crate::specs::DrillEffects::barrel))]
     fn barrel(&self, from: Spot, to: Spot) -> Result<Effect, DrillKind>
         requires lawful { IsLawfulReader self.now }
         requires from { IsPlaced from }
@@ -107,8 +108,8 @@ impl Reader {
     }
 
     // What a line does that names a place, where the mode and the tool allow it.
-    #[tactic(auto, unfolding(crate::specs::Reader::placed_row, crate::specs::Table::rout, crate::specs::Table::straight, crate::specs::Table::hit, crate::specs::Table::slot))]
-    fn placed_row(&self, form: &Form) -> Result<Effect, DrillKind>
+    #[tactic(auto, unfolding(crate::specs::Reader::placed_row, crate::specs::DrillEffects::rout, crate::specs::DrillEffects::straight, crate::specs::DrillEffects::hit, crate::specs::DrillEffects::slot))]
+    fn placed_row(&self, form: &DrillLine) -> Result<Effect, DrillKind>
         requires lawful { IsLawfulReader self.now }
         ensures value { showing result ≡ placed_row (known_of self.now) form.now }
         ensures fit { IfOk result (IsFit self.now.tools) }
@@ -116,19 +117,19 @@ impl Reader {
         let unit = self.settings.unit;
         let here = self.settings.at;
         match *form {
-            Form::Rout(to) => {
+            DrillLine::Rout(to) => {
                 let to = target(unit, here, to)?;
                 Ok(Effect::Moves(to))
             },
-            Form::Straight(to) => {
+            DrillLine::Straight(to) => {
                 let to = target(unit, here, to)?;
                 self.barrel(here, to)
             },
-            Form::Hit(at) => {
+            DrillLine::Hit(at) => {
                 let at = target(unit, here, at)?;
                 self.barrel(at, at)
             },
-            Form::Slot(from, to) => {
+            DrillLine::Slot(from, to) => {
                 let from = target(unit, here, from)?;
                 let to = target(unit, from, to)?;
                 self.barrel(from, to)
@@ -138,26 +139,26 @@ impl Reader {
     }
 
     // The rows of the header.
-    #[tactic(auto, unfolding(crate::specs::Table::header))]
-    fn header(&self, form: &Form) -> Result<Effect, DrillKind>
+    #[tactic(auto, unfolding(crate::specs::DrillEffects::header))]
+    fn header(&self, form: &DrillLine) -> Result<Effect, DrillKind>
         ensures value { showing result ≡ spec.header (known_of self.now) form.now }
         ensures fit { IfOk result (IsFit self.now.tools) }
     {
         match *form {
-            Form::Unit(unit) => if other_unit(self.settings.unit, unit) {
+            DrillLine::Unit(unit) => if other_unit(self.settings.unit, unit) {
                 Err(DrillKind::BadLine)
             } else {
                 Ok(Effect::Stays)
             },
-            Form::Format | Form::Absolute | Form::HeaderEnd => Ok(Effect::Stays),
-            Form::Tool(n, d) => self.define(n, d),
+            DrillLine::Format | DrillLine::Absolute | DrillLine::HeaderEnd => Ok(Effect::Stays),
+            DrillLine::Tool(n, d) => self.define(n, d),
             _ => Err(DrillKind::BadLine),
         }
     }
 
     // The rows of the body.
-    #[tactic(auto, unfolding(crate::specs::Table::body, crate::specs::Reader::placed_row))]
-    fn body(&self, form: &Form) -> Result<Effect, DrillKind>
+    #[tactic(auto, unfolding(crate::specs::DrillEffects::body, crate::specs::Reader::placed_row))]
+    fn body(&self, form: &DrillLine) -> Result<Effect, DrillKind>
         requires lawful { IsLawfulReader self.now }
         ensures value { showing result ≡ spec.body (known_of self.now) form.now }
         ensures fit { IfOk result (IsFit self.now.tools) }
@@ -165,31 +166,37 @@ impl Reader {
         let down = self.settings.down;
         let drilling = is_drilling(self.settings.mode);
         match *form {
-            Form::Arc => Err(DrillKind::ArcRout),
-            Form::NoTool | Form::Drill | Form::End if down => Err(DrillKind::WrongMode),
-            Form::NoTool | Form::Drill | Form::End | Form::Absolute => Ok(Effect::Stays),
-            Form::Select(_) if down => Err(DrillKind::WrongMode),
-            Form::Select(n) if self.tools.find(n).is_none() => Err(DrillKind::NoTool),
-            Form::Select(_) => Ok(Effect::Stays),
-            Form::Rout(_) if down => Err(DrillKind::WrongMode),
-            Form::Rout(_) => self.placed_row(form),
-            Form::Lower if drilling || down => Err(DrillKind::WrongMode),
-            Form::Lower if self.diameter().is_none() => Err(DrillKind::NoTool),
-            Form::Lower => Ok(Effect::Stays),
-            Form::Raise if !down => Err(DrillKind::WrongMode),
-            Form::Raise => Ok(Effect::Stays),
-            Form::Straight(_) if !down => Err(DrillKind::WrongMode),
-            Form::Straight(_) => self.placed_row(form),
-            Form::Hit(_) | Form::Slot(_, _) if !drilling => Err(DrillKind::WrongMode),
-            Form::Hit(_) | Form::Slot(_, _) if self.diameter().is_none() => Err(DrillKind::NoTool),
-            Form::Hit(_) | Form::Slot(_, _) => self.placed_row(form),
+            DrillLine::Arc => Err(DrillKind::ArcRout),
+            DrillLine::NoTool | DrillLine::Drill | DrillLine::End if down => Err(
+                DrillKind::WrongMode,
+            ),
+            DrillLine::NoTool | DrillLine::Drill | DrillLine::End | DrillLine::Absolute => Ok(
+                Effect::Stays,
+            ),
+            DrillLine::Select(_) if down => Err(DrillKind::WrongMode),
+            DrillLine::Select(n) if self.tools.find(n).is_none() => Err(DrillKind::NoTool),
+            DrillLine::Select(_) => Ok(Effect::Stays),
+            DrillLine::Rout(_) if down => Err(DrillKind::WrongMode),
+            DrillLine::Rout(_) => self.placed_row(form),
+            DrillLine::Lower if drilling || down => Err(DrillKind::WrongMode),
+            DrillLine::Lower if self.diameter().is_none() => Err(DrillKind::NoTool),
+            DrillLine::Lower => Ok(Effect::Stays),
+            DrillLine::Raise if !down => Err(DrillKind::WrongMode),
+            DrillLine::Raise => Ok(Effect::Stays),
+            DrillLine::Straight(_) if !down => Err(DrillKind::WrongMode),
+            DrillLine::Straight(_) => self.placed_row(form),
+            DrillLine::Hit(_) | DrillLine::Slot(_, _) if !drilling => Err(DrillKind::WrongMode),
+            DrillLine::Hit(_) | DrillLine::Slot(_, _) if self.diameter().is_none() => Err(
+                DrillKind::NoTool,
+            ),
+            DrillLine::Hit(_) | DrillLine::Slot(_, _) => self.placed_row(form),
             _ => Err(DrillKind::BadLine),
         }
     }
 
     // By where the line stands.
-    #[tactic(auto, unfolding(crate::specs::Table::staged))]
-    fn staged(&self, form: &Form) -> Result<Effect, DrillKind>
+    #[tactic(auto, unfolding(crate::specs::DrillEffects::staged))]
+    fn staged(&self, form: &DrillLine) -> Result<Effect, DrillKind>
         requires lawful { IsLawfulReader self.now }
         ensures value { showing result ≡ spec.staged self.now.settings.stage (known_of self.now) form.now }
         ensures fit { IfOk result (IsFit self.now.tools) }
@@ -207,16 +214,16 @@ impl Reader {
     }
 
     // What a line does, or its fault.
-    #[tactic(auto, unfolding(crate::specs::Table::effect))]
-    fn effect(&self, form: &Form) -> Result<Effect, DrillKind>
+    #[tactic(auto, unfolding(crate::specs::DrillEffects::effect))]
+    fn effect(&self, form: &DrillLine) -> Result<Effect, DrillKind>
         requires lawful { IsLawfulReader self.now }
         ensures value { showing result ≡ spec.effect (known_of self.now) form.now }
         ensures fit { IfOk result (IsFit self.now.tools) }
     {
         match *form {
-            Form::Blank => Ok(Effect::Stays),
-            Form::Misfit(kind) => Err(kind),
-            Form::Finish => if is_ended(self.settings.stage) {
+            DrillLine::Blank => Ok(Effect::Stays),
+            DrillLine::Misfit(kind) => Err(kind),
+            DrillLine::Finish => if is_ended(self.settings.stage) {
                 Ok(Effect::Stays)
             } else {
                 Err(DrillKind::NotEnded)
@@ -236,11 +243,11 @@ impl Reader {
             Effect::Stays => Ok(()),
             Effect::Moves(_) => Ok(()),
             Effect::Makes(n, diameter) => self.tools.add(n, diameter),
-            Effect::Drills(_, shape) => self.place(shape),
+            Effect::Drills(_, shape) => self.add_hole(shape),
         }
     }
 
-    fn place(&mut self, shape: Shape) -> Result<(), NoMemory>
+    fn add_hole(&mut self, shape: Shape) -> Result<(), NoMemory>
         requires few { self.old.lines + 1 < 2 ^ 32 }
         ensures ok { OnOk result (Places self.old (figure_of shape) self.new) }
     {
@@ -259,7 +266,7 @@ impl Reader {
     }
 
     /// Obeys a line. An `Err` leaves a reader that is of no more use.
-    pub fn obey(&mut self, form: &Form) -> Result<(), Halt<DrillKind>>
+    pub fn obey(&mut self, form: &DrillLine) -> Result<(), Halt<DrillKind>>
         requires lawful { IsLawfulReader self.old }
         requires few { self.old.lines + 1 < 2 ^ 32 }
         ensures ok { OnOk result (Obeys self.old form.now self.new) }

@@ -1,7 +1,7 @@
 //! What earlier lines have set.
 ghost use Rattle.std.specs.Prelude.{◌≡◌};
 
-use lengths::Unit;
+use lengths::decimal::Unit;
 use planar::Spot;
 
 /// Before `M48`, from it to `%`, from there to `M30`, or behind it.

@@ -1,5 +1,5 @@
 //! The tools that a file has defined.
-use lengths::NoMemory;
+use lengths::rows::NoMemory;
 use std::alloc::Global;
 use std::collections::HashMap;
 

@@ -10,7 +10,8 @@ use crate::board::{Board, BoardFault};
 use crate::common_box::{box_of_all, corner, fits_frame};
 use crate::placed::Piece;
 use crate::probe::Probe;
-use lengths::{Rows, Text};
+use lengths::rows::Rows;
+use lengths::text::Text;
 use planar::Frame;
 
 impl Board {

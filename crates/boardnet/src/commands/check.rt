@@ -14,7 +14,7 @@ use crate::commands::Command;
 use crate::judged::{board_of, report_on};
 use crate::words::Version;
 use board_io::Package;
-use lengths::is_text;
+use lengths::text::is_text;
 use std::alloc::Global;
 
 /// `check MANIFEST 1`: a check of version 1.

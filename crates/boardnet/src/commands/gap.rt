@@ -17,7 +17,7 @@ use crate::words::count_of;
 use board_io::Package;
 use board_shapes::Board;
 use gaps::{GapFault, gaps, write_gaps};
-use lengths::is_text;
+use lengths::text::is_text;
 use std::alloc::Global;
 
 // The widest distance of gaps, in nanometres.

@@ -15,7 +15,7 @@ use crate::putting::joined;
 use crate::words::{MADE_MANIFEST, count_of, number_of};
 use board_maker::make;
 use board_package::BuildFault;
-use lengths::NoMemory;
+use lengths::rows::NoMemory;
 use std::alloc::Global;
 use texts::Numeral;
 use verdict::Verdict;

@@ -13,7 +13,7 @@ use crate::answer::{Answer, Answered, Note};
 use crate::judged::{board_of, verdict_on};
 use board_io::Package;
 use board_shapes::Board;
-use lengths::NoMemory;
+use lengths::rows::NoMemory;
 use netlist_writer::write_netlist;
 use std::alloc::Global;
 

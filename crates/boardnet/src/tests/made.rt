@@ -4,7 +4,8 @@ use crate::tests::commands::x2::TWO_LAYERS;
 use crate::tests::packages::BARREL;
 use crate::tests::{AUDIT, MANIFEST, TIE, answer, gerber, has, shown, text};
 use board_io::MemoryPackage;
-use lengths::{NoMemory, Rows, Text};
+use lengths::rows::{NoMemory, Rows};
+use lengths::text::Text;
 use std::alloc::Global;
 use std::test::Fail;
 use verdict::{

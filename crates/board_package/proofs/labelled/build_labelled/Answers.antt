@@ -11,7 +11,7 @@ use Rattle.board_package.specs.Parts.{board_so_far}
 use Rattle.board_package.specs.declared.entry.Naming.TheVariants.{ByLabels}
 use Rattle.board_package.specs.declared.fault.BuildFault.TheVariants as build
 use Rattle.board_package.specs.declared.fault.LabelledFault.TheVariants as fault
-use Rattle.x2_nets.specs.declared.table.Label.{Label}
+use Rattle.x2_nets.specs.declared.label_table.Label.{Label}
 use Rattle.board_package.proofs.LabelCauses.{files_labelled_cause, frame_labelled_cause, kept_labelled, kept_labelled_after, labelled_board_is, manifest_labelled_cause, needed, nothing_yet}
 use Rattle.board_package.proofs.Lift.{agrees_on, climbs, faultless_both}
 use Rattle.board_package.proofs.labelled.build_labelled.Goals as goal

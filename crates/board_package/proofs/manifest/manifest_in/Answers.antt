@@ -1,7 +1,7 @@
 use Rattle.std.proofs.Common.{◌≡◌, Some, IfOk, IfErr, map, rules, subst}
 use Rattle.serde_json.specs.View.{view}
 use Rattle.board_package.specs.Manifest.{Misses, manifest_of}
-use Rattle.board_package.proofs.Form.{no_members, no_copper, no_drills, netlist_missed, manifest_parts}
+use Rattle.board_package.proofs.ManifestForm.{no_members, no_copper, no_drills, netlist_missed, manifest_parts}
 use Rattle.board_package.proofs.manifest.manifest_in.Goals as goal
 
 pub returns-then-not-has_members-clause-fault : goal.returns-then-not-has_members-clause-fault

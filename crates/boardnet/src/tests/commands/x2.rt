@@ -1,7 +1,7 @@
 // The command `x2`: checks by the net names in the copper files.
 use crate::tests::packages::{BARREL, DISC, KICAD_BOTTOM, KICAD_DRILL, KICAD_MANIFEST, KICAD_TOP};
 use crate::tests::{MANIFEST, answer, files, gerber, has, package, shown};
-use lengths::NoMemory;
+use lengths::rows::NoMemory;
 use std::alloc::Global;
 use std::test::Fail;
 

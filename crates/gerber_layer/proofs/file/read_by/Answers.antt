@@ -2,7 +2,7 @@ use Rattle.std.proofs.Common.{◌≡◌, length, sym, ap, subst, arith}
 use Rattle.std.proofs.lemmas.Result.{err_from_is_err_and}
 use Rattle.gerber_words.specs.Words.{Ahead, start, ended, broken}
 use Rattle.gerber_words.specs.Stepping.{ahead, entry_of}
-use Rattle.gerber_layer.specs.Table.{Place}
+use Rattle.gerber_layer.specs.CommandEffects.{Place}
 use Rattle.gerber_layer.proofs.ReadSoFar.{ReadSoFar, nothing-read, word-read, stop-read, stopped-at-stop, stopped-at-word}
 use Rattle.gerber_layer.proofs.file.read_by.Goals as goal
 

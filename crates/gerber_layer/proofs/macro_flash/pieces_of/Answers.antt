@@ -2,7 +2,7 @@ use Rattle.std.proofs.Common.{◌++◌, ap, arith, sym, ◌∙◌}
 use Rattle.board_shapes.specs.Figures.{seen_shape}
 use Rattle.board_shapes.specs.Pieces.{plain_pieces}
 use Rattle.gerber_layer.specs.Reader.{origin_place}
-use Rattle.gerber_layer.specs.Table.{all_flashed, listed}
+use Rattle.gerber_layer.specs.CommandEffects.{all_flashed, listed}
 use Rattle.gerber_layer.proofs.MacroFlash.{all_figures, made_more, next_figure, no_figure}
 use Rattle.gerber_layer.proofs.Marks.{here_blank}
 use Rattle.gerber_layer.proofs.macro_flash.pieces_of.Goals as goal

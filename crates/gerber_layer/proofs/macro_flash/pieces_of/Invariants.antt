@@ -3,7 +3,7 @@ use Rattle.board_shapes.specs.Figures.{Figure}
 use Rattle.board_shapes.specs.Pieces.{plain_pieces}
 use Rattle.gerber_layer.specs.Image.{made}
 use Rattle.gerber_layer.specs.Reader.{body_of, origin_place}
-use Rattle.gerber_layer.specs.Table.{figures_of}
+use Rattle.gerber_layer.specs.CommandEffects.{figures_of}
 use Rattle.gerber_layer.proofs.MacroFlash.{ahead}
 use Rattle.gerber_layer.proofs.macro_flash.pieces_of.Given as goal
 

@@ -1,5 +1,5 @@
 use Rattle.std.proofs.lemmas.Result.{err_from_is_err_and}
-use Rattle.verdict.specs.Reading.{items_at}
+use Rattle.verdict.specs.ReportReading.{items_at}
 use Rattle.verdict.proofs.ReadLists.{items_go_on, items_end, items_done}
 use Rattle.verdict.proofs.lines.items.Goals as goal
 

@@ -1,5 +1,5 @@
 use Rattle.std.proofs.Common.{◌≡◌, ◌-◌}
-use Rattle.verdict.specs.Reading.{items_at}
+use Rattle.verdict.specs.ReportReading.{items_at}
 use Rattle.verdict.proofs.ReadLists.{with_front}
 use Rattle.verdict.proofs.lines.items.Given as goal
 

@@ -1,6 +1,6 @@
 use Rattle.std.proofs.Common.{◌≡◌, length, true, false, rules}
 use Rattle.std.proofs.lemmas.Result.{err_from_is_err_and}
-use Rattle.verdict.specs.Reading.{words_at, begins_blank}
+use Rattle.verdict.specs.ReportReading.{words_at, begins_blank}
 use Rattle.verdict.proofs.ReadLists.{words_go_on, words_end, words_stop, words_run_out}
 use Rattle.verdict.proofs.lines.words.Goals as goal
 

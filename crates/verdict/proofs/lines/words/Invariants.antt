@@ -1,5 +1,5 @@
 use Rattle.std.proofs.Common.{◌≡◌, ◌-◌, length}
-use Rattle.verdict.specs.Reading.{words_at}
+use Rattle.verdict.specs.ReportReading.{words_at}
 use Rattle.verdict.proofs.ReadLists.{with_front}
 use Rattle.verdict.proofs.lines.words.Given as goal
 

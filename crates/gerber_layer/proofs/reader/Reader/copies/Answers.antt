@@ -2,7 +2,7 @@ use Rattle.std.proofs.Common.{take, drop, arith}
 use Rattle.board_shapes.specs.Pieces.{plain_pieces}
 use Rattle.step_repeat.specs.Copies.{copies_at}
 use Rattle.gerber_layer.specs.Reader.{known_of}
-use Rattle.gerber_layer.specs.Table.{left}
+use Rattle.gerber_layer.specs.CommandEffects.{left}
 use Rattle.gerber_layer.proofs.Copies.{stops_copies}
 use Rattle.gerber_layer.proofs.reader.Reader.copies.Goals as goal
 

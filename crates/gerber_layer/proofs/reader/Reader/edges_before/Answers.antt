@@ -1,6 +1,6 @@
 use Rattle.std.proofs.Common.{ap, ◌∙◌, arith}
 use Rattle.board_shapes.specs.Pieces.{plain_pieces}
-use Rattle.gerber_layer.specs.Table.{edges_of}
+use Rattle.gerber_layer.specs.CommandEffects.{edges_of}
 use Rattle.gerber_layer.proofs.Edges.{edges_split}
 use Rattle.gerber_layer.proofs.reader.Reader.edges_before.Goals as goal
 

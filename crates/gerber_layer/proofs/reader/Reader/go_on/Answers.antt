@@ -3,7 +3,7 @@ use Rattle.planar.specs.declared.Spot.{Spot}
 use Rattle.gerber_layer.specs.Command.{view}
 use Rattle.gerber_layer.specs.declared.settings.Settings.{Settings}
 use Rattle.gerber_layer.specs.Reader.{known_of}
-use Rattle.gerber_layer.specs.Table.{Place}
+use Rattle.gerber_layer.specs.CommandEffects.{Place}
 use Rattle.gerber_layer.specs.After.{after, heads}
 use Rattle.gerber_layer.proofs.LawfulAfter.{after_lawful}
 use Rattle.gerber_layer.proofs.Shown.{heads_shown, opened_shown}

@@ -1,5 +1,0 @@
-use Rattle.aperture_macros.proofs.Numbers.{number_is}
-use Rattle.aperture_macros.proofs.reading.is_number.Goals as goal
-
-pub returns : goal.returns
-returns c = number_is c.args.decimal.now c.args.n c.equals.result c.equals.ensures

@@ -1,0 +1,22 @@
+use Rattle.std.proofs.Common.{◌∙◌, ap}
+use Rattle.board_shapes.specs.Pieces.{plain_pieces}
+use Rattle.board_package.specs.Parts.{board_so_far, room_left}
+use Rattle.board_package.proofs.Halting.{drill_halts, layer_halts, netlist_halts}
+use Rattle.board_package.proofs.contents.read_file.Goals as goal
+
+pub returns-in-Err-Refused-clause-fault : goal.returns-in-Err-Refused-clause-fault
+returns-in-Err-Refused-clause-fault c =
+    let room = c.room_left-room.ensures ∙ ap (λ l. room_left (plain_pieces l)) c.as_slice.ensures.value in
+    layer_halts c.args.entry.now c.in-Copper.layer c.args.file.now (board_so_far c.args.parts.now) c.room_left-room.result c.in-Err-Refused.field-0 c.in-Err-Refused.kind c.in-Err-Refused.command c.in-Err-Refused.at c.refused.result
+    c.in-Copper.is room c.in-Err-Refused.ensures.fault c.in-Err-Refused.field-0-is c.refused.ensures
+
+pub returns-in-Err-Refused-read_drill-clause-fault : goal.returns-in-Err-Refused-read_drill-clause-fault
+returns-in-Err-Refused-read_drill-clause-fault c =
+    let room = c.room_left-room.ensures ∙ ap (λ l. room_left (plain_pieces l)) c.as_slice.ensures.value in
+    drill_halts c.args.entry.now c.in-Drill.from c.in-Drill.to c.args.file.now (board_so_far c.args.parts.now) c.room_left-room.result c.in-Err-Refused-read_drill.field-0 c.in-Err-Refused-read_drill.kind c.in-Err-Refused-read_drill.line c.in-Err-Refused-read_drill.at c.refused-in-Err-Refused-read_drill.result
+    c.in-Drill.is room c.in-Err-Refused-read_drill.ensures.fault c.in-Err-Refused-read_drill.field-0-is c.refused-in-Err-Refused-read_drill.ensures
+
+pub returns-in-Err-Refused-read_netlist-clause-fault : goal.returns-in-Err-Refused-read_netlist-clause-fault
+returns-in-Err-Refused-read_netlist-clause-fault c =
+    netlist_halts c.args.entry.now c.args.file.now (board_so_far c.args.parts.now) c.in-Err-Refused-read_netlist.field-0 c.in-Err-Refused-read_netlist.kind c.in-Err-Refused-read_netlist.line c.refused-in-Err-Refused-read_netlist.result
+    c.in-Netlist.is c.in-Err-Refused-read_netlist.ensures.fault c.in-Err-Refused-read_netlist.field-0-is c.refused-in-Err-Refused-read_netlist.ensures

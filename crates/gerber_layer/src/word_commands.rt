@@ -1,0 +1,517 @@
+//! How a command is read from a word.
+ghost use Rattle.std.specs.Prelude.{◌≡◌, option_map, IfSome};
+ghost use Rattle.std.specs.List.{before_first, list_all, slice_split};
+ghost use Rattle.std.specs.Option.{option_copied};
+ghost use Rattle.lengths.specs.Decimal.{decimal};
+ghost use Rattle.gerber_layer.specs.Command.{operates, view};
+ghost use Rattle.gerber_layer.specs.Lawful.{IsLawfulCommand, IsWhole};
+ghost use Rattle.gerber_layer.specs.MacroCommands.{command_with_macros};
+ghost use Rattle.gerber_layer.specs.WordCommands as spec;
+ghost use Rattle.gerber_words.specs.Attributes.{plain_attribute, plain_attributes};
+ghost use Rattle.gerber_words.specs.Stepping.{entry_of};
+
+use crate::command::{Code, Command, Format};
+use crate::kind::GerberKind;
+use gerber_words::{Attribute, AttributeKind, Word, is_field};
+use lengths::decimal::{Unit, read_decimal, small_value, unsigned};
+use texts::{ByteClass, all_digits, begins, is_digit, is_word, run_len};
+
+#[tactic(auto, unfolding(crate::specs::WordCommands::code_in))]
+fn code_in(text: &[u8]) -> Option<Code>
+    ensures { result ≡ spec.code_in text.now }
+{
+    if is_word(text, b"D01") || is_word(text, b"D1") {
+        Some(Code::Draw)
+    } else if is_word(text, b"D02") || is_word(text, b"D2") {
+        Some(Code::Move)
+    } else if is_word(text, b"D03") || is_word(text, b"D3") {
+        Some(Code::Flash)
+    } else {
+        None
+    }
+}
+
+fn is_idle(text: &[u8]) -> bool
+    ensures { result ≡ spec.is_idle text.now }
+{
+    if text.is_empty() || begins(text, b"G04") || is_word(text, b"G01") {
+        return true;
+    }
+    is_word(text, b"G1") || is_word(text, b"G74") || is_word(text, b"G75") || is_word(text, b"G90")
+}
+
+fn behind_line_code(text: &[u8]) -> &[u8]
+    ensures { result.now ≡ spec.behind_line_code text.now }
+{
+    if begins(text, b"G01") {
+        &text[3..]
+    } else if begins(text, b"G1") {
+        &text[2..]
+    } else {
+        text
+    }
+}
+
+/// Digits and signs.
+struct Numeric;
+
+impl ByteClass for Numeric {
+    ghost member = { spec.is_numeric };
+
+    fn has(byte: u8) -> bool {
+        byte == b'+' || byte == b'-' || is_digit(byte)
+    }
+}
+
+/// The bytes of an arc's offsets.
+struct Offsets;
+
+impl ByteClass for Offsets {
+    ghost member = { spec.is_offset_byte };
+
+    fn has(byte: u8) -> bool {
+        is_offset_letter(byte) || Numeric::has(byte)
+    }
+}
+
+// The number behind a letter, if the text begins with it, and what stands behind.
+fn part(text: &[u8], letter: u8) -> (Option<&[u8]>, &[u8])
+    ensures number { option_copied result.0 ≡ spec.number_in letter text.now }
+    ensures behind { result.1.now ≡ spec.behind letter text.now }
+{
+    match text {
+        [] => (None, text),
+        [c, rest @ ..] => if *c == letter {
+            let len = run_len::<Numeric>(rest);
+            (Some(&rest[..len]), &rest[len..])
+        } else {
+            (None, text)
+        },
+    }
+}
+
+/// The command that a word is where the file has no macros.
+#[tactic(auto, unfolding(crate::specs::WordCommands::command_of))]
+pub fn read_command<'a>(word: Word<'a>) -> Command<'a>
+    ensures value { view result ≡ spec.command_of (entry_of word.entry) }
+    ensures lawful { IsLawfulCommand (view result) }
+{
+    if !word.extended {
+        return plain(word.text);
+    }
+    match said_by(word.attribute()) {
+        Some(command) => command,
+        None => extended(word.text),
+    }
+}
+
+/// The command that a word is where the file may have macros.
+#[tactic(auto, unfolding(crate::specs::MacroCommands::command_with_macros))]
+pub fn read_macro_command<'a>(word: Word<'a>) -> Command<'a>
+    ensures value { view result ≡ command_with_macros (entry_of word.entry) }
+    ensures lawful { IsLawfulCommand (view result) }
+{
+    if word.body {
+        return Command::Body(word.text);
+    }
+    if word.extended && begins(word.text, b"AM") {
+        return Command::Macro(&word.text[2..]);
+    }
+    read_command(word)
+}
+
+// What an attribute says of the layer, if it says something.
+fn said_by<'a>(attribute: Option<Attribute<'a>>) -> Option<Command<'a>>
+    ensures value { option_map view result ≡ spec.said_by (plain_attributes attribute.entry) }
+    ensures lawful { IfSome result (λ c. IsLawfulCommand (view c)) }
+{
+    let attribute = attribute?;
+    match attribute.kind() {
+        AttributeKind::File => named(attribute),
+        AttributeKind::Aperture => None,
+        AttributeKind::Object => None,
+        AttributeKind::Delete => None,
+    }
+}
+
+#[tactic(auto, unfolding(crate::specs::WordCommands::named))]
+fn named<'a>(attribute: Attribute<'a>) -> Option<Command<'a>>
+    ensures value { option_map view result ≡ spec.named (plain_attribute attribute.entry).text }
+    ensures lawful { IfSome result (λ c. IsLawfulCommand (view c)) }
+{
+    let name = attribute.field(0);
+    if is_field(name, b".FileFunction") {
+        return Some(Command::Function(attribute.field(1), attribute.field(2)));
+    }
+    if !is_field(name, b".FilePolarity") {
+        return None;
+    }
+    if is_field(attribute.field(1), b"Negative") {
+        Some(Command::Refused(GerberKind::NegativeFile))
+    } else {
+        Some(Command::Nothing)
+    }
+}
+
+#[tactic(auto, unfolding(crate::specs::WordCommands::extended))]
+fn extended(text: &[u8]) -> Command<'_>
+    ensures value { view result ≡ spec.extended text.now }
+    ensures lawful { IsLawfulCommand (view result) }
+{
+    if begins(text, b"FS") {
+        return format_word(text);
+    }
+    if begins(text, b"AD") {
+        return Command::Define(text);
+    }
+    if is_word(text, b"MOMM") {
+        return Command::Unit(Unit::Mm);
+    }
+    if is_word(text, b"MOIN") {
+        return Command::Unit(Unit::Inch);
+    }
+    if begins(text, b"SR") {
+        return Command::Repeat(text);
+    }
+    if is_neutral(text) {
+        return Command::Nothing;
+    }
+    Command::Refused(kind_of(text))
+}
+
+#[tactic(auto, unfolding(crate::specs::WordCommands::format_word))]
+fn format_word(text: &[u8]) -> Command<'_>
+    ensures value { view result ≡ spec.format_word text.now }
+    ensures lawful { IsLawfulCommand (view result) }
+{
+    if begins(text, b"FSLI") || begins(text, b"FSTI") {
+        return Command::Refused(GerberKind::Incremental);
+    }
+    if begins(text, b"FSLAX") {
+        return format_of(&text[5..]);
+    }
+    Command::Refused(GerberKind::BadFormat)
+}
+
+#[tactic(auto, unfolding(crate::specs::WordCommands::format_of))]
+fn format_of(text: &[u8]) -> Command<'_>
+    ensures value { view result ≡ spec.format_of text.now }
+    ensures lawful { IsLawfulCommand (view result) }
+{
+    match text {
+        [i, d, y, j, e] => digits_format(*i, *d, *y == b'Y' && (*i == *j && *d == *e)),
+        _ => Command::Refused(GerberKind::BadFormat),
+    }
+}
+
+fn digits_format<'a>(i: u8, d: u8, alike: bool) -> Command<'a>
+    ensures value { view result ≡ spec.digits_format i d alike }
+    ensures lawful { IsLawfulCommand (view result) }
+{
+    if !alike {
+        return Command::Refused(GerberKind::BadFormat);
+    }
+    if i < b'1' || i > b'6' || d < b'2' || d > b'7' {
+        return Command::Refused(GerberKind::BadFormat);
+    }
+    Command::Format(Format {
+        integers: i - b'0',
+        decimals: d - b'0',
+    })
+}
+
+#[tactic(auto, unfolding(crate::specs::WordCommands::kind_of))]
+fn kind_of(text: &[u8]) -> GerberKind
+    ensures { result ≡ spec.kind_of text.now }
+{
+    if begins(text, b"AM") {
+        GerberKind::Macro
+    } else if begins(text, b"AB") {
+        GerberKind::Block
+    } else if is_word(text, b"LPC") {
+        GerberKind::ClearPolarity
+    } else if is_word(text, b"IPNEG") {
+        GerberKind::NegativeFile
+    } else if is_transform_or_offset(text) || is_image_transform(text) {
+        GerberKind::Transform
+    } else {
+        GerberKind::BadWord
+    }
+}
+
+fn is_transform_or_offset(text: &[u8]) -> bool
+    ensures { result ≡ spec.is_transform_or_offset text.now }
+{
+    begins(text, b"LM") || begins(text, b"LR") || begins(text, b"LS") || begins(text, b"OF")
+}
+
+fn is_image_transform(text: &[u8]) -> bool
+    ensures { result ≡ spec.is_image_transform text.now }
+{
+    begins(text, b"AS") || begins(text, b"MI") || begins(text, b"SF") || begins(text, b"IR")
+}
+
+fn is_neutral_image(text: &[u8]) -> bool
+    ensures { result ≡ spec.is_neutral_image text.now }
+{
+    is_word(text, b"IPPOS")
+        || is_word(text, b"OFA0B0")
+        || is_word(text, b"ASAXBY")
+        || is_word(text, b"MIA0B0")
+}
+
+fn is_neutral_scale_or_rotation(text: &[u8]) -> bool
+    ensures { result ≡ spec.is_neutral_scale_or_rotation text.now }
+{
+    is_word(text, b"SFA1B1") || is_word(text, b"SFA1.0B1.0") || is_word(text, b"IR0")
+}
+
+fn is_name(text: &[u8]) -> bool
+    ensures { result ≡ spec.is_name text.now }
+{
+    begins(text, b"IN") || begins(text, b"LN")
+}
+
+fn is_attribute(text: &[u8]) -> bool
+    ensures { result ≡ spec.is_attribute text.now }
+{
+    begins(text, b"TF") || begins(text, b"TA") || begins(text, b"TO") || begins(text, b"TD")
+}
+
+fn is_decimal_of(text: &[u8], number: u32) -> bool
+    ensures { result ≡ spec.is_value (decimal text.now) number }
+{
+    match read_decimal(text) {
+        None => false,
+        Some(d) => d.equals(number),
+    }
+}
+
+fn is_unturned(text: &[u8]) -> bool
+    ensures { result ≡ spec.is_unturned text.now }
+{
+    begins(text, b"LR") && is_decimal_of(&text[2..], 0)
+}
+
+fn is_unscaled(text: &[u8]) -> bool
+    ensures { result ≡ spec.is_unscaled text.now }
+{
+    begins(text, b"LS") && is_decimal_of(&text[2..], 1)
+}
+
+fn is_neutral_load(text: &[u8]) -> bool
+    ensures { result ≡ spec.is_neutral_load text.now }
+{
+    is_word(text, b"LPD") || is_word(text, b"LMN") || is_unturned(text) || is_unscaled(text)
+}
+
+fn is_neutral(text: &[u8]) -> bool
+    ensures { result ≡ spec.is_neutral text.now }
+{
+    is_neutral_load(text)
+        || is_neutral_image(text)
+        || is_neutral_scale_or_rotation(text)
+        || is_name(text)
+        || is_attribute(text)
+}
+
+#[tactic(auto, unfolding(crate::specs::WordCommands::plain))]
+fn plain(text: &[u8]) -> Command<'_>
+    ensures value { view result ≡ spec.plain text.now }
+    ensures lawful { IsLawfulCommand (view result) }
+{
+    if is_idle(text) {
+        return Command::Nothing;
+    }
+    if is_arc(text) {
+        return Command::Refused(GerberKind::Arc);
+    }
+    if is_word(text, b"G91") {
+        return Command::Refused(GerberKind::Incremental);
+    }
+    if is_word(text, b"G70") {
+        return Command::Unit(Unit::Inch);
+    }
+    if is_word(text, b"G71") {
+        return Command::Unit(Unit::Mm);
+    }
+    if is_word(text, b"G36") {
+        return Command::OpenRegion;
+    }
+    if is_word(text, b"G37") {
+        return Command::CloseRegion;
+    }
+    if is_last(text) {
+        return Command::End;
+    }
+    coded(text)
+}
+
+fn is_last(text: &[u8]) -> bool
+    ensures { result ≡ spec.is_last text.now }
+{
+    is_word(text, b"M02") || is_word(text, b"M2")
+}
+
+fn is_arc(text: &[u8]) -> bool
+    ensures { result ≡ spec.is_arc text.now }
+{
+    if begins(text, b"G02") || begins(text, b"G03") {
+        return true;
+    }
+    if begins(text, b"G2") {
+        return goes_on(&text[2..]);
+    }
+    begins(text, b"G3") && goes_on(&text[2..])
+}
+
+// Whether the text is empty or begins with a letter of an operation.
+fn goes_on(text: &[u8]) -> bool
+    ensures { result ≡ spec.goes_on text.now }
+{
+    match text {
+        [] => true,
+        [b'X', ..] => true,
+        [b'Y', ..] => true,
+        [b'I', ..] => true,
+        [b'J', ..] => true,
+        [b'D', ..] => true,
+        _ => false,
+    }
+}
+
+#[tactic(auto, unfolding(crate::specs::WordCommands::coded))]
+fn coded(text: &[u8]) -> Command<'_>
+    ensures value { view result ≡ spec.coded text.now }
+    ensures lawful { IsLawfulCommand (view result) }
+{
+    match selected(selection(text)) {
+        Some(n) => Command::Select(n),
+        None => operation(text),
+    }
+}
+
+fn selection(text: &[u8]) -> &[u8]
+    ensures { result.now ≡ spec.selection text.now }
+{
+    if begins(text, b"G54D") {
+        &text[4..]
+    } else if begins(text, b"D") {
+        &text[1..]
+    } else {
+        &[]
+    }
+}
+
+// The number that a selection's digits spell.
+fn selected(digits: &[u8]) -> Option<u32>
+    ensures { result ≡ spec.selected digits.now }
+{
+    if digits.len() < 2 || digits.len() > 9 {
+        return None;
+    }
+    if !all_digits(digits) {
+        return None;
+    }
+    let n = small_value(digits);
+    if n < 10 {
+        return None;
+    }
+    Some(n)
+}
+
+#[tactic(auto, unfolding(crate::specs::WordCommands::operation))]
+fn operation(text: &[u8]) -> Command<'_>
+    ensures value { view result ≡ spec.operation text.now }
+    ensures lawful { IsLawfulCommand (view result) }
+{
+    from_x(behind_line_code(text))
+}
+
+#[tactic(auto, unfolding(crate::specs::WordCommands::from_x))]
+fn from_x(text: &[u8]) -> Command<'_>
+    ensures value { view result ≡ spec.from_x text.now }
+    ensures lawful { IsLawfulCommand (view result) }
+{
+    let (x, rest) = part(text, b'X');
+    let (y, rest) = part(rest, b'Y');
+    from_i(x, y, rest)
+}
+
+fn is_offset_letter(b: u8) -> bool
+    ensures { result ≡ spec.is_offset_letter b }
+{
+    b == b'I' || b == b'J'
+}
+
+fn are_offsets(text: &[u8]) -> bool
+    ensures { result ≡ spec.are_offsets text.now }
+{
+    match text {
+        [] => true,
+        [c, rest @ ..] => is_offset_letter(*c) && are_numbers(rest),
+    }
+}
+
+// Whether there are numbers between the letters.
+fn are_numbers(text: &[u8]) -> bool
+    ensures { result ≡ list_all spec.is_number (slice_split spec.is_offset_letter text.now) }
+{
+    text.split(|b| is_offset_letter(*b))
+        .all(|digits| is_number(digits))
+}
+
+#[tactic(auto, unfolding(crate::specs::WordCommands::from_i))]
+fn from_i<'a>(x: Option<&'a [u8]>, y: Option<&'a [u8]>, text: &'a [u8]) -> Command<'a>
+    ensures value { view result ≡ spec.from_i (option_copied x.entry) (option_copied y.entry) text.now }
+    ensures lawful { IsLawfulCommand (view result) }
+{
+    let len = run_len::<Offsets>(text);
+    operation_of(x, y, &text[..len], &text[len..])
+}
+
+// An operation by its parts, where behind them stands a text.
+#[tactic(auto, unfolding(crate::specs::WordCommands::operation_of))]
+fn operation_of<'a>(
+    x: Option<&'a [u8]>,
+    y: Option<&'a [u8]>,
+    offsets: &[u8],
+    text: &[u8],
+) -> Command<'a>
+    ensures value { view result ≡ spec.operation_of (option_copied x.entry) (option_copied y.entry) offsets.now text.now }
+    ensures lawful { IsLawfulCommand (view result) }
+{
+    if !(is_number_if(x) && is_number_if(y)) {
+        return Command::Refused(GerberKind::BadWord);
+    }
+    if !are_offsets(offsets) {
+        return Command::Refused(GerberKind::BadWord);
+    }
+    let code = code_in(text);
+    if !text.is_empty() && code.is_none() {
+        return Command::Refused(GerberKind::BadWord);
+    }
+    if text.is_empty() && x.is_none() && y.is_none() {
+        return Command::Refused(GerberKind::BadWord);
+    }
+    if !offsets.is_empty() {
+        return Command::Refused(GerberKind::Arc);
+    }
+    Command::Operate(x, y, code)
+}
+
+fn is_number_if(digits: Option<&[u8]>) -> bool
+    ensures { result ≡ spec.is_number_if (option_copied digits.entry) }
+{
+    match digits {
+        None => true,
+        Some(digits) => is_number(digits),
+    }
+}
+
+fn is_number(digits: &[u8]) -> bool
+    ensures { result ≡ spec.is_number digits.now }
+{
+    let body = unsigned(digits);
+    !body.is_empty() && body.len() <= 13 && all_digits(body)
+}

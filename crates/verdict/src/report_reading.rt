@@ -1,0 +1,117 @@
+//! Reading a report back.
+ghost use Rattle.std.specs.Prelude.{◌≡◌, IfErr, IfOk};
+ghost use Rattle.verdict.specs.Lawful.{IsVerdict};
+ghost use Rattle.verdict.specs.ReportReading as spec;
+ghost use Rattle.verdict.specs.ReportText.{last_line as last_line_of, report_text};
+ghost use Rattle.verdict.specs.declared.verdict.Verdict.{Verdict};
+
+use crate::fields::{behind, expect, titled};
+use crate::lines::section;
+use crate::verdict::{Supplement, Verdict};
+use lengths::rows::NoMemory as Wanting;
+use std::alloc::Global;
+
+/// Why bytes are no report.
+#[derive(Clone, Copy, Debug, PartialEq, Eq)]
+pub enum ReadFault {
+    /// They are the text of no verdict.
+    NotAReport,
+    /// Memory is wanted.
+    NoMemory,
+}
+
+impl From<Wanting> for ReadFault {
+    ghost use Rattle.std.specs.Prelude.{◌≡◌};
+    ghost use Rattle.verdict.specs.declared.report_reading.ReadFault.TheVariants.{NoMemory};
+
+    ghost from_gives = { λ _ e. e ≡ NoMemory };
+
+    fn from(_: Wanting) -> ReadFault {
+        ReadFault::NoMemory
+    }
+}
+
+// The last line of a verdict's text.
+fn last_line(v: &Verdict) -> &'static [u8]
+    ensures { result.now ≡ last_line_of v.now.opens v.now.shorts v.now.bare }
+{
+    if v.agrees() {
+        b"agrees\n"
+    } else {
+        b"differs\n"
+    }
+}
+
+// The first line, and whether it tells of a supplement.
+#[tactic(auto, unfolding(crate::specs::ReportReading::first_line_at))]
+fn first_line(text: &[u8]) -> Result<(bool, &[u8]), ReadFault>
+    ensures { spec.Gives (λ x. (x.0, x.1.now)) result (spec.first_line_at text.now) }
+{
+    match behind(text, b"boardnet 1\n") {
+        Some(rest) => Ok((false, rest)),
+        None => {
+            let rest = expect(text, b"boardnet 2\n")?;
+            Ok((true, rest))
+        }
+    }
+}
+
+#[tactic(auto, unfolding(crate::specs::ReportReading::supplement_at))]
+fn supplement(alloc: Global, bytes: &[u8]) -> Result<(Supplement, &[u8]), ReadFault>
+    ensures { spec.Gives (λ x. (x.0, x.1.now)) result (spec.supplement_at bytes.now) }
+{
+    let (spots, rest) = section(alloc, b"spots", bytes)?;
+    let (sources, rest) = section(alloc, b"sources", rest)?;
+    Ok((Supplement { spots, sources }, rest))
+}
+
+// The supplement, where the first line tells of one.
+#[tactic(auto, unfolding(crate::specs::ReportReading::more_at))]
+fn more(alloc: Global, told: bool, bytes: &[u8]) -> Result<(Option<Supplement>, &[u8]), ReadFault>
+    ensures { spec.Gives (λ x. (x.0, x.1.now)) result (spec.more_at told bytes.now) }
+{
+    if !told {
+        return Ok((None, bytes));
+    }
+    let (more, rest) = supplement(alloc, bytes)?;
+    Ok((Some(more), rest))
+}
+
+#[tactic(auto, unfolding(crate::specs::ReportReading::report_at))]
+fn report(alloc: Global, text: &[u8]) -> Result<Verdict, ReadFault>
+    ensures { spec.Gives (λ v. v) result (spec.report_at text.now) }
+{
+    let (told, rest) = first_line(text)?;
+    let (pieces, rest) = titled(rest, b"pieces")?;
+    let (nets, rest) = section(alloc, b"nets", rest)?;
+    let (names, rest) = section(alloc, b"names", rest)?;
+    let (points, rest) = section(alloc, b"points", rest)?;
+    let (opens, rest) = section(alloc, b"opens", rest)?;
+    let (shorts, rest) = section(alloc, b"shorts", rest)?;
+    let (bare, rest) = section(alloc, b"missing", rest)?;
+    let (more, rest) = more(alloc, told, rest)?;
+    let verdict = Verdict {
+        pieces,
+        names,
+        nets,
+        points,
+        opens,
+        shorts,
+        bare,
+        more,
+    };
+    if rest == last_line(&verdict) {
+        Ok(verdict)
+    } else {
+        Err(ReadFault::NotAReport)
+    }
+}
+
+/// The verdict whose text this is. `NotAReport` comes exactly where the bytes are the text of no verdict, and the
+/// memory that is taken grows with the lines that are there.
+pub fn read_report(alloc: Global, text: &[u8]) -> Result<Verdict, ReadFault>
+    ensures ok { IfOk result (λ v. IsVerdict v × (text.now ≡ report_text v)) }
+    ensures fault { IfErr result (λ fault. fault ≡ ReadFault.NotAReport → (v : Verdict) → IsVerdict v → text.now ≡ report_text v → ⊥) }
+{
+    report(alloc, text)
+}

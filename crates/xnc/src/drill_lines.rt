@@ -1,0 +1,316 @@
+//! How a line is read by itself.
+ghost use Rattle.std.specs.Prelude.{◌≡◌, ◌<◌, ◌≤◌, decimal as number_text, Option, Some, None};
+ghost use Rattle.texts.specs.Words as words;
+ghost use Rattle.xnc.specs.DrillLines as spec;
+
+use crate::kind::DrillKind;
+use crate::line::{Coordinates, DrillLine};
+use crate::span::Span;
+use lengths::decimal::{Decimal, Unit, read_decimal, small_value};
+use texts::{after_byte, all_digits, before_byte, begins, has, is_word, trimmed};
+
+// Whether a text is the decimal number.
+fn is_number(text: &[u8], number: u8) -> bool
+    requires short { number < 100 }
+    ensures { result ≡ words.is_word text.now (number_text number) }
+{
+    if number < 10 {
+        is_word(text, &[b'0' + number])
+    } else {
+        is_word(text, &[b'0' + number / 10, b'0' + number % 10])
+    }
+}
+
+fn names_span(span: Span, fields: &[u8]) -> bool
+    ensures { result ≡ spec.names_span span.from span.to fields.now }
+{
+    is_number(before_byte(fields, b','), span.from)
+        && is_number(before_byte(after_byte(fields, b','), b','), span.to)
+}
+
+#[tactic(auto, unfolding(crate::specs::DrillLines::file_function))]
+fn file_function(span: Span, fields: &[u8]) -> DrillLine
+    ensures { result ≡ spec.file_function span.from span.to fields.now }
+{
+    let plating = before_byte(fields, b',');
+    if is_word(plating, b"MixedPlating") {
+        return DrillLine::Misfit(DrillKind::MixedPlating);
+    }
+    if is_word(plating, b"NonPlated") {
+        return DrillLine::Misfit(DrillKind::NotPlated);
+    }
+    if !is_word(plating, b"Plated") {
+        return DrillLine::Misfit(DrillKind::BadLine);
+    }
+    if names_span(span, after_byte(fields, b',')) {
+        DrillLine::Blank
+    } else {
+        DrillLine::Misfit(DrillKind::WrongSpan)
+    }
+}
+
+#[tactic(auto, unfolding(crate::specs::DrillLines::comment))]
+fn comment(span: Span, text: &[u8]) -> DrillLine
+    ensures { result ≡ spec.comment span.from span.to text.now }
+{
+    if begins(text, b"; #@! TF.FileFunction,") {
+        file_function(span, &text[22..])
+    } else {
+        DrillLine::Blank
+    }
+}
+
+fn only_x(x: Option<Decimal>) -> Option<Coordinates>
+    ensures { result ≡ spec.only_x x }
+{
+    let x = x?;
+    Some(Coordinates {
+        x: Some(x),
+        y: None,
+    })
+}
+
+fn only_y(y: Option<Decimal>) -> Option<Coordinates>
+    ensures { result ≡ spec.only_y y }
+{
+    let y = y?;
+    Some(Coordinates {
+        x: None,
+        y: Some(y),
+    })
+}
+
+fn both(x: Option<Decimal>, y: Option<Decimal>) -> Option<Coordinates>
+    ensures { result ≡ spec.both x y }
+{
+    let x = x?;
+    let y = y?;
+    Some(Coordinates {
+        x: Some(x),
+        y: Some(y),
+    })
+}
+
+#[tactic(auto, unfolding(crate::specs::DrillLines::behind_x))]
+fn behind_x(text: &[u8]) -> Option<Coordinates>
+    ensures { result ≡ spec.behind_x text.now }
+{
+    if has(text, b'Y') {
+        both(
+            read_decimal(before_byte(text, b'Y')),
+            read_decimal(after_byte(text, b'Y')),
+        )
+    } else {
+        only_x(read_decimal(text))
+    }
+}
+
+// A place.
+#[tactic(auto, unfolding(crate::specs::DrillLines::coordinates_of))]
+fn coordinates(text: &[u8]) -> Option<Coordinates>
+    ensures { result ≡ spec.coordinates_of text.now }
+{
+    match text {
+        [b'X', rest @ ..] => behind_x(rest),
+        [b'Y', rest @ ..] => only_y(read_decimal(rest)),
+        _ => None,
+    }
+}
+
+#[tactic(auto, unfolding(crate::specs::DrillLines::slot_end))]
+fn slot_end(text: &[u8]) -> Option<Coordinates>
+    ensures { result ≡ spec.slot_end text.now }
+{
+    if begins(text, b"85") {
+        coordinates(&text[2..])
+    } else {
+        None
+    }
+}
+
+fn routs(to: Option<Coordinates>) -> DrillLine
+    ensures { result ≡ spec.routs to }
+{
+    match to {
+        None => DrillLine::Unknown,
+        Some(to) => DrillLine::Rout(to),
+    }
+}
+
+fn straight(to: Option<Coordinates>) -> DrillLine
+    ensures { result ≡ spec.straight to }
+{
+    match to {
+        None => DrillLine::Unknown,
+        Some(to) => DrillLine::Straight(to),
+    }
+}
+
+fn hits(at: Option<Coordinates>) -> DrillLine
+    ensures { result ≡ spec.hits at }
+{
+    match at {
+        None => DrillLine::Unknown,
+        Some(at) => DrillLine::Hit(at),
+    }
+}
+
+fn slots(from: Option<Coordinates>, to: Option<Coordinates>) -> DrillLine
+    ensures { result ≡ spec.slots from to }
+{
+    match (from, to) {
+        (Some(from), Some(to)) => DrillLine::Slot(from, to),
+        _ => DrillLine::Unknown,
+    }
+}
+
+#[tactic(auto, unfolding(crate::specs::DrillLines::place_line))]
+fn place_line(text: &[u8]) -> DrillLine
+    ensures { result ≡ spec.place_line text.now }
+{
+    if has(text, b'G') {
+        slots(
+            coordinates(before_byte(text, b'G')),
+            slot_end(after_byte(text, b'G')),
+        )
+    } else {
+        hits(coordinates(text))
+    }
+}
+
+// A tool's number.
+#[tactic(auto, unfolding(crate::specs::DrillLines::tool_number))]
+fn tool_number(digits: &[u8]) -> Option<u32>
+    ensures { result ≡ spec.tool_number digits.now }
+{
+    if digits.is_empty() || digits.len() > 4 || !all_digits(digits) {
+        return None;
+    }
+    let number = small_value(digits);
+    if number == 0 {
+        return None;
+    }
+    Some(number)
+}
+
+fn defines(number: Option<u32>, diameter: Option<Decimal>) -> DrillLine
+    ensures { result ≡ spec.defines number diameter }
+{
+    match (number, diameter) {
+        (Some(number), Some(diameter)) => DrillLine::Tool(number, diameter),
+        _ => DrillLine::Unknown,
+    }
+}
+
+fn selects(number: Option<u32>) -> DrillLine
+    ensures { result ≡ spec.selects number }
+{
+    match number {
+        None => DrillLine::Unknown,
+        Some(number) => DrillLine::Select(number),
+    }
+}
+
+#[tactic(auto, unfolding(crate::specs::DrillLines::tool_line))]
+fn tool_line(text: &[u8]) -> DrillLine
+    ensures { result ≡ spec.tool_line text.now }
+{
+    if has(text, b'C') {
+        defines(
+            tool_number(before_byte(text, b'C')),
+            read_decimal(after_byte(text, b'C')),
+        )
+    } else if is_word(text, b"0") || is_word(text, b"00") {
+        DrillLine::NoTool
+    } else {
+        selects(tool_number(text))
+    }
+}
+
+fn is_metric(text: &[u8]) -> bool
+    ensures { result ≡ spec.is_metric text.now }
+{
+    is_word(text, b"METRIC") || is_word(text, b"METRIC,TZ") || is_word(text, b"METRIC,LZ")
+}
+
+fn is_inch(text: &[u8]) -> bool
+    ensures { result ≡ spec.is_inch text.now }
+{
+    is_word(text, b"INCH") || is_word(text, b"INCH,TZ") || is_word(text, b"INCH,LZ")
+}
+
+#[tactic(auto, unfolding(crate::specs::DrillLines::body_line))]
+fn body_line(text: &[u8]) -> DrillLine
+    ensures { result ≡ spec.body_line text.now }
+{
+    if begins(text, b"G02") || begins(text, b"G03") {
+        return DrillLine::Arc;
+    }
+    if is_word(text, b"G05") {
+        return DrillLine::Drill;
+    }
+    if begins(text, b"G00") {
+        return routs(coordinates(&text[3..]));
+    }
+    if begins(text, b"G01") {
+        return straight(coordinates(&text[3..]));
+    }
+    if is_word(text, b"M15") {
+        return DrillLine::Lower;
+    }
+    if is_word(text, b"M16") {
+        return DrillLine::Raise;
+    }
+    place_line(text)
+}
+
+#[tactic(auto, unfolding(crate::specs::DrillLines::command))]
+fn command(text: &[u8]) -> DrillLine
+    ensures { result ≡ spec.command text.now }
+{
+    if is_word(text, b"M48") {
+        return DrillLine::Start;
+    }
+    if is_word(text, b"FMAT,2") {
+        return DrillLine::Format;
+    }
+    if is_word(text, b"G90") {
+        return DrillLine::Absolute;
+    }
+    if is_metric(text) {
+        return DrillLine::Unit(Unit::Mm);
+    }
+    if is_inch(text) {
+        return DrillLine::Unit(Unit::Inch);
+    }
+    if is_word(text, b"%") {
+        return DrillLine::HeaderEnd;
+    }
+    if is_word(text, b"M30") {
+        return DrillLine::End;
+    }
+    if begins(text, b"T") {
+        return tool_line(&text[1..]);
+    }
+    body_line(text)
+}
+
+#[tactic(auto, unfolding(crate::specs::DrillLines::within_blanks))]
+fn within_blanks(span: Span, text: &[u8]) -> DrillLine
+    ensures { result ≡ spec.within_blanks span.from span.to text.now }
+{
+    match text {
+        [] => DrillLine::Blank,
+        [b';', ..] => comment(span, text),
+        _ => command(text),
+    }
+}
+
+/// What a line says, without the blanks at either end. The span judges a comment on the file's
+/// function.
+#[tactic(auto, unfolding(crate::specs::DrillLines::form_of))]
+pub fn read_line(span: Span, line: &[u8]) -> DrillLine
+    ensures { result ≡ spec.form_of span.from span.to line.now }
+{
+    within_blanks(span, trimmed(line))
+}
