@@ -7,18 +7,20 @@ use Rattle.file_reading.specs.Reading.{Clean}
 use Rattle.gerber_words.specs.Words.{Entry, Stop, HasWords, start}
 use Rattle.gerber_words.specs.Laws.{star_of}
 use Rattle.gerber_layer.specs.Command.{Command, opens_region, operates, repeats, ends}
-use Rattle.gerber_layer.specs.WordCommands.{command_of}
 use Rattle.gerber_layer.specs.declared.command.Code.{Code}
 use Rattle.gerber_layer.specs.declared.command.Code.TheVariants.{Draw, Move, Flash}
 use Rattle.gerber_layer.specs.declared.kind.GerberKind.{GerberKind}
 use Rattle.gerber_layer.specs.declared.kind.GerberKind.TheVariants as kind
 use Rattle.gerber_layer.specs.declared.macro_kind.FlattenKind.{FlattenKind}
+use Rattle.gerber_layer.specs.declared.macro_kind.FlattenKind.TheVariants.{Gerber}
 use Rattle.gerber_layer.specs.Kinds.{kind_number}
 use Rattle.gerber_layer.specs.MacroKinds.{flatten_number}
 use Rattle.gerber_layer.specs.CommandEffects.{Place, code_of, is_drawing}
 use Rattle.gerber_layer.specs.Settings.{code_in, contour_before, is_end, point_before, region_open}
 use Rattle.gerber_layer.specs.Image.{effect_before, image_of, pieces_of}
-use Rattle.gerber_layer.specs.Layer.{IsRefused}
+use Rattle.gerber_layer.specs.Dialect.{Dialect, IsRefusedBy}
+use Rattle.gerber_layer.specs.Layer.{standard}
+use Rattle.gerber_layer.specs.MacroLayer.{flat_place, with_macros}
 
 -- ---- The contour by looking back (Gerber Layer Format Specification, 4.10)
 
@@ -81,21 +83,28 @@ LooksBackToItsBlock p earlier = Clean (effect_before p) earlier → AreBeforeBlo
 
 -- ---- A file that is cut off
 
--- the file has these words, and its end word, the first that ends it, has its star at this place
-pub record EndsAt (file : List ℕ) (star : ℕ) : Type 0 where
+-- by a dialect the file has these words, and its end word, the first that ends it, has its star at this place
+pub record EndsAtBy {W : Type 0} (d : Dialect W) (file : List ℕ) (star : ℕ) : Type 0 where
   pub front : List Entry
   pub last : Entry
   pub back : List Entry
   pub stop : Stop
   pub cut : HasWords (start file) (front ++ last ∷ back) stop
-  pub ends_file : command_of last ≡ ends
-  pub first : AllByRecursion (λ w. is_end (command_of w) ≡ false) front
+  pub ends_file : d.command last ≡ ends
+  pub first : AllByRecursion (λ w. is_end (d.command w) ≡ false) front
   pub star_is : star ≡ star_of last
 
--- The file has an end word, and every prefix without that word's star is refused as not ended.
-pub record PrefixesAreRefused (file : List ℕ) (p : Place) : Type 0 where
-  pub has_end : (star : ℕ) × EndsAt file star
-  pub refused : (star n : ℕ) → EndsAt file star → n ≤ star → (number : ℕ) × (place : ℕ) × IsRefused (take n file) p kind.NotEnded number place
+-- The file has an end word, and every prefix without that word's star is refused, as not ended.
+pub record PrefixesAreRefusedBy {W : Type 0} (d : Dialect W) (not_ended : W) (file : List ℕ) (p : Place) : Type 0 where
+  pub has_end : (star : ℕ) × EndsAtBy d file star
+  pub refused : (star n : ℕ) → EndsAtBy d file star → n ≤ star → (number : ℕ) × (place : ℕ) × IsRefusedBy d (take n file) p not_ended number place
+
+-- by the standard apertures alone, and with macros
+abbrev pub PrefixesAreRefused : List ℕ → Place → Type 0
+PrefixesAreRefused file p = PrefixesAreRefusedBy standard kind.NotEnded file p
+
+abbrev pub MacroPrefixesAreRefused : List ℕ → Type 0
+MacroPrefixesAreRefused file = PrefixesAreRefusedBy with_macros (Gerber kind.NotEnded) file flat_place
 
 -- ---- Kinds of refusal
 

@@ -1,5 +1,5 @@
 -- What the reader of copper files reads from a flattened text.
-use Rattle.std.specs.Prelude.{◌≡◌, ℕ, ◌≤◌, List, length, sum_by, pos, ◌<ℤ◌, ◌≤ℤ◌}
+use Rattle.std.specs.Prelude.{◌≡◌, ℕ, ◌≤◌, ◌⊎◌, List, length, sum_by, take, pos, ◌<ℤ◌, ◌≤ℤ◌}
 use Rattle.std.specs.List.{AllByRecursion}
 use Rattle.planar.specs.Plane.{IsPlaced}
 use Rattle.contact.specs.declared.TheConstants.{MOST_RADIUS}
@@ -8,9 +8,10 @@ use Rattle.board_shapes.specs.Figures.{Figure, round, filled, figure_edges}
 use Rattle.board_shapes.specs.Pieces.{PlainPiece}
 use Rattle.board_shapes.specs.declared.placed.Room.{Room}
 use Rattle.gerber_layer.specs.declared.kind.GerberKind.{GerberKind}
+use Rattle.gerber_layer.specs.declared.macro_kind.FlattenKind.{FlattenKind}
 use Rattle.gerber_layer.specs.CommandEffects.{Place}
 use Rattle.gerber_layer.specs.Layer.{IsRead, IsRefused}
-use Rattle.gerber_layer.specs.MacroLayer.{IsReadWithMacros}
+use Rattle.gerber_layer.specs.MacroLayer.{IsReadWithMacros, IsRefusedWithMacros}
 use Rattle.macro_flatten.specs.FlatText.{figures_in, flat_text_of, pens_of}
 use Rattle.board_shapes.specs.declared.TheConstants.{MOST_LAYERS, MOST_PIECES}
 use Rattle.gerber_layer.specs.declared.TheConstants.{MOST_APERTURES, MOST_FLAT_EDGES}
@@ -54,3 +55,8 @@ MacroImagesAreFlat = (file : List ℕ) (pieces : List PlainPiece) → IsReadWith
 -- a flattened text is no longer than a copper file may be
 abbrev pub FlatTextsAreShort : Type 0
 FlatTextsAreShort = (figures : List Figure) → IsFlat figures → length (flat_text_of figures) ≤ MOST_BYTES
+
+-- of a copper file that is read with macros: cutting it off at any place is a refusal, or leaves the same image
+abbrev pub CutIsRefusedOrTheSame : Type 0
+CutIsRefusedOrTheSame = (file : List ℕ) (pieces : List PlainPiece) (n : ℕ) → IsReadWithMacros file pieces →
+    ((why : FlattenKind) × (number : ℕ) × (place : ℕ) × IsRefusedWithMacros (take n file) why number place) ⊎ IsReadWithMacros (take n file) pieces

@@ -1,7 +1,7 @@
 //! Laws over the definitions alone.
-ghost use Rattle.macro_flatten.specs.Laws.{FlatTextReads, FlatTextsAreShort, ImagesAreFlat, MacroImagesAreFlat};
+ghost use Rattle.macro_flatten.specs.Laws.{CutIsRefusedOrTheSame, FlatTextReads, FlatTextsAreShort, ImagesAreFlat, MacroImagesAreFlat};
 
-use gerber_layer::laws::one_answer;
+use gerber_layer::laws::{macro_prefix_makes_the_same, one_answer, one_macro_answer};
 
 /// The reader of copper files reads a flattened text without a refusal, as pieces with exactly its figures, in order.
 pub fn flat_text_reads()
@@ -24,3 +24,11 @@ pub fn macro_images_are_flat()
 pub fn flat_texts_are_short()
     ensures { FlatTextsAreShort }
 {}
+
+/// A copper file with macros that is cut off anywhere is refused, or has the same image.
+pub fn cut_is_refused_or_the_same()
+    ensures { CutIsRefusedOrTheSame }
+{
+    one_macro_answer();
+    macro_prefix_makes_the_same();
+}
