@@ -2,7 +2,7 @@
 use Rattle.std.proofs.Common.{◌≡◌, ℕ, ◌+◌, List, [], ◌∷◌, length, Result, Ok, Err, IsOk, refl, sym, ap, ◌∙◌, subst}
 use mathlib.Core.Path.{fun_ext}
 use Rattle.std.proofs.lemmas.List.{length-map}
-use Rattle.board_shapes.specs.Pieces.{PlainPiece, plain_pieces}
+use Rattle.board_shapes.specs.Pieces.{plain_pieces}
 use Rattle.file_reading.specs.Reading.{Item, IsReadTo, said}
 use Rattle.file_reading.specs.Reading as reading
 use Rattle.file_reading.proofs.Turning.{read-start, read-more}
@@ -19,7 +19,7 @@ use Rattle.gerber_layer.specs.declared.file.Stopped.{Stopped}
 use Rattle.gerber_layer.specs.declared.reader.Reader.{Reader}
 use Rattle.gerber_layer.specs.CommandEffects.{Place, Known, Effect, Profile}
 use Rattle.gerber_layer.specs.Settings.{settings_before, defined_before, macros_before}
-use Rattle.gerber_layer.specs.Image.{effect_by, image_by, pieces_by}
+use Rattle.gerber_layer.specs.Image.{effect_by, image_by}
 use Rattle.gerber_layer.specs.Dialect.{Dialect, IsHaltBy, IsReadBy, IsRefusedBy, stop_command}
 use Rattle.gerber_layer.specs.Outcomes.{HasOutcomes}
 use Rattle.gerber_layer.specs.Reader.{known_of, contour_of, defined_in, macros_in, place_of, size_of, Obeys, IsNew, Stops, StopsAt, Leaves}
