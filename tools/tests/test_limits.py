@@ -33,6 +33,7 @@ LEFT = {
     ("boardnet/src/refusing.rt", "67108864"): "the words of a line, which the program prints",
     ("boardnet/specs/Common.antt", "67108864"): "the same words",
     ("boardnet/specs/Answers.antt", "67108864"): "the same words",
+    ("boardnet/proofs/Alike.antt", "67108864"): "the same words",
     ("gaps/src/found.rt", "65_536"): "no limit: lines are thinned first when they are so many",
     ("lengths/src/decimal.rt", "1_000_000"): "no limit: the units of a decimal's last place",
     ("lengths/src/decimal.rt", "100_000"): "the same",
