@@ -80,10 +80,10 @@ class Edits:
         for start in sorted(self.edits):
             end, text = self.edits[start]
             parts += [self.data[at:start], text]
-            lost = self.data.count(b"\n", start, end)
-            if lost:
+            lost = self.data.count(b"\n", start, end) - text.count(b"\n")
+            if lost > 0:
                 parts.append(b"*" + b"\n" * lost)
-            at = end + bool(lost)
+            at = end + (lost > 0)
         return b"".join([*parts, self.data[at:]])
 
     def mends(self):
