@@ -1,6 +1,7 @@
 """Contours of a copper file that have more edges than `check` takes, cut into several."""
 import re
 from itertools import accumulate
+from typing import NamedTuple
 
 from .chords import MOST_EDGES, cut
 from .copper_words import has
@@ -8,6 +9,8 @@ from .table import CONTOUR
 
 # A word in a region: an operation of straight lines, or another one; OPERATED are other operations.
 STEP = re.compile(rb"[%\t\n\r ]*(?:(?:G0?1)?(?:X([+-]?[0-9]{1,13}))?(?:Y([+-]?[0-9]{1,13}))?(?:D0?([12]))?|([^*%]*))\*")
+PLAIN = re.compile(rb"[\t\n\r ]*X[+-]?[0-9]{1,13}Y[+-]?[0-9]{1,13}D0?[12]\*")
+NUMBERS = bytes.maketrans(b"XYD*", b"    ")
 OPERATED = re.compile(rb"(?:G0?[0-3])?[XYIJ]|(?:G0?[0-3])?D0?[0-3]\Z|G0?[023]\Z")
 OF_OPERATIONS = b"GXYD+-0123456789"
 BETWEEN, SEPARATORS = b"%\t\n\r ", b"*%\t\n\r "
@@ -18,11 +21,11 @@ END = re.compile(rb"M0?2\*\s*\Z")
 NAMED = re.compile(rb"T(?:O\.N(,[^*]*)?|D(?:\.N)?(?:,[^*]*)?)\*")
 
 
-class Contour:
+class Contour(NamedTuple):
     """A contour's corners, and the numbers of the words by which they are reached, the last one by that which closes it."""
 
-    def __init__(self, spot):
-        self.corners, self.words = [spot], []
+    corners: list
+    words: list
 
     def is_closed(self):
         return self.corners[0] == self.corners[-1]
@@ -37,26 +40,34 @@ class Region:
 
     def contours(self):
         """The long contours, where the region begins at a whole place and has straight edges alone."""
-        if STEP.sub(b"", self.body).strip(BETWEEN):
-            return
-        x = y = contour = None
+        words, spots, moves = self.plain() or self.operations() or ((), (), ())
+        for first, past in zip(moves, [*moves[1:], len(spots)]):
+            if past - first - 1 > MOST_EDGES:
+                yield Contour(spots[first:past], words[first + 1:past])
+
+    def plain(self):
+        """The numbers of the operations' words, their places, and which of them move; nothing where a word does not say all."""
+        if PLAIN.sub(b"", self.body).strip(BETWEEN):
+            return None
+        values = [*map(int, self.body.translate(NUMBERS).split())]
+        moves = [k for k, code in enumerate(values[2::3]) if code == 2]
+        return (range(len(values) // 3), [*zip(values[::3], values[1::3])], moves) if moves[:1] == [0] else None
+
+    def operations(self):
+        """The same, where words leave out what they share with the one before; nothing where one is no straight edge."""
+        words, spots, moves, x, y = [], [], [], None, None
         for number, (new_x, new_y, code, other) in enumerate(STEP.findall(self.body)):
-            if not (new_x or new_y or code):
-                if other and OPERATED.match(other):
-                    return
-                continue
-            if contour is None and not (code == b"2" and new_x and new_y):
-                return
-            x, y = int(new_x) if new_x else x, int(new_y) if new_y else y
-            if code == b"2":
-                if contour and len(contour.words) > MOST_EDGES:
-                    yield contour
-                contour = Contour((x, y))
-            else:
-                contour.corners.append((x, y))
-                contour.words.append(number)
-        if contour and len(contour.words) > MOST_EDGES:
-            yield contour
+            if new_x or new_y or code:
+                if not spots and not (code == b"2" and new_x and new_y):
+                    return None
+                x, y = int(new_x) if new_x else x, int(new_y) if new_y else y
+                if code == b"2":
+                    moves.append(len(spots))
+                spots.append((x, y))
+                words.append(number)
+            elif other and OPERATED.match(other):
+                return None
+        return (words, spots, moves) if not STEP.sub(b"", self.body).strip(BETWEEN) else None
 
     def place(self, number):
         """A word's first byte and its star, in the file."""
