@@ -14,8 +14,13 @@ COMMENT = b"G04"
 
 
 def has(data, signs):
-    """Whether one of these stands in the data: faster than an expression over all of it."""
-    return any(sign in data for sign in signs)
+    """Whether one of these stands in the data: faster than an expression over all of it, since few letters but those of coordinates come."""
+    for letter in {sign[:1] for sign in signs}:
+        behind = tuple(sign[1:] for sign in signs if sign[:1] == letter)
+        most = max(map(len, behind))
+        if letter in data and any(head.startswith(behind) for head in {part[:most] for part in data.split(letter)[1:]}):
+            return True
+    return False
 
 
 class Broken(Exception):

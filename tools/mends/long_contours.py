@@ -17,7 +17,7 @@ BETWEEN, SEPARATORS = b"%\t\n\r ", b"*%\t\n\r "
 # What takes copper away, repeats it or bends an edge: then a part at the file's end could be another than in its place.
 ORDERED_SIGNS = (b"LPC", b"SR", b"AB", b"G02", b"G2", b"G03", b"G3")
 ORDERED = re.compile(rb"(?<![^*%\s])(?:LPC|SR[^*]|AB|G0?[23][XYIJD*])")
-END = re.compile(rb"M0?2\*\s*\Z")
+ENDS = (b"M02*", b"M2*")
 NAMED = re.compile(rb"T(?:O\.N(,[^*]*)?|D(?:\.N)?(?:,[^*]*)?)\*")
 
 
@@ -137,8 +137,9 @@ def name_before(data, at):
 def rewrite(edits):
     """Cuts long contours; how many words each needs more is at the file's end."""
     data = edits.data
-    ending = END.search(data)
-    if not ending or data.count(b"*") <= MOST_EDGES or has(data, ORDERED_SIGNS) and ORDERED.search(data):
+    whole = data.rstrip()
+    ending = next((len(whole) - len(end) for end in ENDS if whole.endswith(end)), None)
+    if ending is None or data.count(b"*") <= MOST_EDGES or has(data, ORDERED_SIGNS) and ORDERED.search(data):
         return
     for region in regions(data):
         for contour in region.contours():
@@ -147,7 +148,7 @@ def rewrite(edits):
             if not written:
                 continue
             write(edits, region, written)
-            edits.insert(ending.start(), name_before(data, region.end) + b"G01*\n" + b"".join(contour_of(part) for part in parts[1:]))
+            edits.insert(ending, name_before(data, region.end) + b"G01*\n" + b"".join(contour_of(part) for part in parts[1:]))
             what = (f"begins the first of {len(contour.words)} edges of a contour, which is cut into {len(parts)} of the same copper: "
                     "the first stays in its place, the others stand at the file's end")
             edits.note(*region.place(contour.words[0]), CONTOUR, what)
