@@ -187,9 +187,11 @@ class Sweep:
     def find(self, y, x):
         """The first strand that is not left of x."""
         status, low, high = self.status, 0, len(self.status)
+        floor, up, p, q = x.__floor__(), x.__ceil__(), x.numerator, x.denominator
         while low < high:
             middle = (low + high) // 2
-            if status[middle].side(x, y) < 0:
+            e = status[middle]
+            if e.high < floor or e.low <= up and e.dx * (y - e.y1) * q < (p - e.x1 * q) * e.dy:
                 low = middle + 1
             else:
                 high = middle
