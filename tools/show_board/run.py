@@ -5,7 +5,7 @@ import signal
 import sys
 import tempfile
 
-from . import Stop, fault_of, json_form, junit, lines, rdb, record, record_page, spacing, unbuilt, written
+from . import Stop, fault_of, json_form, junit, lines, rdb, record, record_page, seldom, spacing, unbuilt, written
 from .program import TOOLS, Program, found
 from .progress import Progress
 from .shown import show
@@ -128,6 +128,7 @@ def interrupted(number, _):
 
 def main(given):
     asked = words(given)
+    seldom.collected()
     for number in (signal.SIGINT, signal.SIGTERM, signal.SIGHUP):
         signal.signal(number, interrupted)
     try:

@@ -27,6 +27,10 @@ class Strand:
         else:
             self.low, self.high = x2, x1
 
+    def let_go(self):
+        """Forgets what it stood beside, so that nothing holds itself in memory by it."""
+        self.before = self.after = self.opens = self.ends = None
+
     def corners(self):
         """All that are ahead, from the first one on."""
         return [(self.x2, self.y2)] + self.rest[::-1]
