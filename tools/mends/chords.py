@@ -16,9 +16,9 @@ from collections import defaultdict
 from itertools import count
 from math import gcd
 
+from .copper_words import MOST_EDGES
 from .nets import WIDE, Net
 
-MOST_EDGES = 100_000        # of a contour, in the profile
 TRIED, TESTED = 500, 12     # chords for a size of cells that are tried, and chords of a contour that are tested whole
 RUNS, PICKED = 16, 5        # runs of a cell, and corners of a run, that are paired
 BESIDE = ((0, 0), (1, 0), (0, 1), (1, 1), (-1, 1))

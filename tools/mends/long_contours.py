@@ -3,8 +3,7 @@ import re
 from itertools import accumulate
 from typing import NamedTuple
 
-from .chords import MOST_EDGES, cut
-from .copper_words import has
+from .copper_words import MOST_EDGES, has
 from .table import CONTOUR
 
 # A word in a region: an operation of straight lines, or another one; OPERATED are other operations.
@@ -141,6 +140,7 @@ def rewrite(edits):
     ending = next((len(whole) - len(end) for end in ENDS if whole.endswith(end)), None)
     if ending is None or data.count(b"*") <= MOST_EDGES or has(data, ORDERED_SIGNS) and ORDERED.search(data):
         return
+    from .chords import cut         # few files have long contours
     for region in regions(data):
         for contour in region.contours():
             parts = cut(contour.corners[:-1]) if contour.is_closed() else None
