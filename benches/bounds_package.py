@@ -26,10 +26,10 @@ def layer(rng, edges):
     for k in range(4):
         lines += plane(rng, (20_000_000 + 60_000_000 * (k % 2), 20_000_000 + 60_000_000 * (k // 2)), edges // 4)
     lines.append("D10*")
-    for k in range(1500):
+    for k in range(2500):
         x, y = rng.randint(0, 10 ** 8), -rng.randint(5_000_000, 55_000_000)
         lines.append(f"X{x}Y{y}D02*\nG01X{x + 500_000}Y{y}D01*" + (f"\nG03X{x + 600_000}Y{y + 100_000}I0J100000D01*" if k % 3 == 0 else ""))
-    lines += ["D11*", *(f"X{k * 150_000}Y-60000000D03*" for k in range(500)), "M02*", ""]
+    lines += ["D11*", *(f"X{k * 150_000}Y-60000000D03*" for k in range(2_000)), "M02*", ""]
     return "\n".join(lines)
 
 

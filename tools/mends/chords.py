@@ -13,14 +13,15 @@ contour. Both together are the first one's copper where
 All is reckoned in whole numbers. What the tests do not allow is not cut along: the contour stays.
 """
 from collections import defaultdict
+from itertools import count
 from math import gcd
 
-from .nets import Net
+from .copper_words import MOST_EDGES
+from .nets import WIDE, Net
 
-MOST_EDGES = 100_000        # of a contour, in the profile
-FACTORS = (2, 4, 8, 16, 32, 64, 128)        # of the net's cells, in which corners are looked for that are near
 TRIED, TESTED = 500, 12     # chords for a size of cells that are tried, and chords of a contour that are tested whole
 RUNS, PICKED = 16, 5        # runs of a cell, and corners of a run, that are paired
+BESIDE = ((0, 0), (1, 0), (0, 1), (1, 1), (-1, 1))
 MOST_CONTACTS = 4_000       # places where the runs of a chord meet
 MOST_PARTS = 24
 FRESH = -1                  # the number of a place on an edge at which no chord ends yet
@@ -32,13 +33,18 @@ def refined(corners):
     xs, ys = [x for x, _ in corners], [y for _, y in corners]
     every = max(max(xs) - min(xs), max(ys) - min(ys)) // ON_A_SIDE + 1
     spots, numbers, done = [], [], 0
-    for k, (x, y, x2, y2) in enumerate(zip(xs, ys, [*xs[1:], xs[0]], [*ys[1:], ys[0]])):
-        if abs(x2 - x) > 2 * every or abs(y2 - y) > 2 * every:
-            new = between(x, y, x2 - x, y2 - y, every)
-            spots += [*corners[done:k + 1], *new]
-            numbers += [*range(done, k + 1), *[None] * len(new)]
-            done = k + 1
+    for k in sorted({k for values in (xs, ys) for k in far(values, 2 * every)}):
+        (x, y), (x2, y2) = corners[k], corners[(k + 1) % len(corners)]
+        new = between(x, y, x2 - x, y2 - y, every)
+        spots += [*corners[done:k + 1], *new]
+        numbers += [*range(done, k + 1), *[None] * len(new)]
+        done = k + 1
     return spots + corners[done:], numbers + [*range(done, len(corners))]
+
+
+def far(values, most):
+    """The numbers of values whose next one, round and round, is further away."""
+    return [k for k, value, after in zip(count(), values, values[1:] + values[:1]) if not -most <= after - value <= most]
 
 
 def between(x, y, dx, dy, every):
@@ -48,14 +54,12 @@ def between(x, y, dx, dy, every):
     return [(x + dx // steps * at, y + dy // steps * at) for at in range(stride, steps, stride)]
 
 
-def runs_of(at):
-    """Runs of corners that follow one another in a cell: the cell, the first and the last."""
-    runs, known, first = [], at[0], 0
-    for k, cell in enumerate(at):
-        if cell != known:
-            runs.append((known, first, k - 1))
-            known, first = cell, k
-    return [*runs, (known, first, len(at) - 1)]
+def runs_of(net):
+    """Runs of corners that follow one another in a cell: the cell's column and row, the first and the last."""
+    firsts = [0, *(k + 1 for k in net.leaving)]
+    for first, past in zip(firsts, [*firsts[1:], net.n]):
+        if first < net.n:
+            yield divmod(net.at[first], WIDE), first, min(past, net.n) - 1
 
 
 def coarser(runs, factor):
@@ -79,16 +83,19 @@ def picked(run):
 
 def candidates(net, least):
     """Pairs of corners that are near, scale by scale, the nearest first; each part has at least so many edges, one at most what a contour may have."""
-    n, corners = net.n, net.corners
-    base = runs_of(net.at[:n])
-    for factor in FACTORS:
+    n, corners, factor = net.n, net.corners, 1
+    base = [*runs_of(net)]
+    while factor < net.across:
         cells, found = coarser(base, factor), []
         for (i, j), here in cells.items():
-            near = here[:RUNS] + [run for d in ((1, 0), (0, 1), (1, 1), (-1, 1)) for run in cells.get((i + d[0], j + d[1]), ())[:RUNS]]
-            for one in here[:RUNS]:
-                found += nearest(corners, one, near, least, n)
+            beside = [runs for runs in (cells.get((i + a, j + b)) for a, b in BESIDE) if runs]
+            if max(runs[-1][0] for runs in beside) - min(runs[0][0] for runs in beside) >= least // 2:
+                near = [run for runs in beside for run in runs[:RUNS]]
+                for one in here[:RUNS]:
+                    found += nearest(corners, one, near, least, n)
         found.sort()
         yield from ((a, b) for _, a, b in found[:TRIED])
+        factor *= 2
 
 
 def nearest(corners, one, near, least, n):
@@ -96,7 +103,7 @@ def nearest(corners, one, near, least, n):
     most = MOST_EDGES - 1
     for other in near:
         apart = abs(other[0] - one[0])
-        if min(apart, n - apart) < least // 2:
+        if apart < least // 2 or n - apart < least // 2:
             continue
         best = None
         for a in picked(one):
@@ -129,31 +136,36 @@ def cut(corners):
     The first has corner 0. None where no chord is found."""
     waiting, done = [bare(corners)], []
     while waiting:
-        told = waiting.pop()
-        if len(told) <= MOST_EDGES:
-            done.append(told)
+        spots, numbers = waiting.pop()
+        if len(spots) <= MOST_EDGES:
+            done.append([*zip(spots, numbers)])
             continue
-        spots, numbers = refined([spot for spot, _ in told])
+        spots, known = refined(spots)
         ends = parted(Net(spots))
         if ends is None or len(waiting) + len(done) > MOST_PARTS:
             return None
-        told = [(spot, FRESH if at is None else told[at][1]) for spot, at in zip(spots, numbers)]
+        numbers = [FRESH if at is None else numbers[at] for at in known]
         for end in ends:
-            told[end] = told[end][0], None if told[end][1] == FRESH else told[end][1]
-        waiting += [[it for it in part if it[1] != FRESH] for part in halves(told, *ends)]
+            numbers[end] = None if numbers[end] == FRESH else numbers[end]
+        waiting += [known_corners(part, of) for part, of in zip(halves(spots, *ends), halves(numbers, *ends))]
     return in_order(done)
 
 
 def bare(corners):
     """The corners with their numbers, without those that are the same as the one before."""
-    told = [(spot, k) for k, spot in enumerate(corners) if k == 0 or spot != corners[k - 1]]
-    while len(told) > 1 and told[-1][0] == corners[0]:
-        told.pop()
-    return told
+    numbers = [k for k, spot, before in zip(count(), corners, [None, *corners]) if spot != before]
+    while len(numbers) > 1 and corners[numbers[-1]] == corners[0]:
+        numbers.pop()
+    return [corners[k] for k in numbers], numbers
 
 
 def halves(told, i, j):
     return told[i:j + 1], told[j:] + told[:i + 1]
+
+
+def known_corners(spots, numbers):
+    """A part without the places of edges at which no chord ends."""
+    return [spot for spot, number in zip(spots, numbers) if number != FRESH], [number for number in numbers if number != FRESH]
 
 
 def in_order(parts):

@@ -11,11 +11,17 @@ AXES = (b"X", b"Y", b"I", b"J")     # what an operation word may begin with
 SIZES = {b"C": 1, b"R": 2, b"O": 2}    # of a standard aperture
 NOTHING = b"TFleft_out"     # an attribute without a meaning, in a pair of percent signs
 COMMENT = b"G04"
+MOST_EDGES = 100_000        # of a contour, in the profile
 
 
 def has(data, signs):
-    """Whether one of these stands in the data: faster than an expression over all of it."""
-    return any(sign in data for sign in signs)
+    """Whether one of these stands in the data: faster than an expression over all of it, since few letters but those of coordinates come."""
+    for letter in {sign[:1] for sign in signs}:
+        behind = tuple(sign[1:] for sign in signs if sign[:1] == letter)
+        most = max(map(len, behind))
+        if letter in data and any(head.startswith(behind) for head in {part[:most] for part in data.split(letter)[1:]}):
+            return True
+    return False
 
 
 class Broken(Exception):
@@ -80,10 +86,10 @@ class Edits:
         for start in sorted(self.edits):
             end, text = self.edits[start]
             parts += [self.data[at:start], text]
-            lost = self.data.count(b"\n", start, end)
-            if lost:
+            lost = self.data.count(b"\n", start, end) - text.count(b"\n")
+            if lost > 0:
                 parts.append(b"*" + b"\n" * lost)
-            at = end + bool(lost)
+            at = end + (lost > 0)
         return b"".join([*parts, self.data[at:]])
 
     def mends(self):

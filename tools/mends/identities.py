@@ -15,7 +15,8 @@ HOLE = re.compile(rb"(AD[^,]*,)(.*)", re.S)
 NO_DRAWS = (b"D02", b"D03", b"D2", b"D3")
 # What a look at the words' states is for.
 FIRST_SIGNS = (b"I0", b"I+0", b"I-0", b"J0", b"J+0", b"J-0", b"G02*", b"G2*", b"G03*", b"G3*", b"G55", b"M00*", b"M0*", b"M01*", b"M1*")
-SIGNS = re.compile(rb"[IJ][+-]?0+[JD*]|G0?[23]\*|G55|M0?[01]\*")
+SIGNS = re.compile(rb"G0?[23]\*|G55|M0?[01]\*")
+CENTRE = re.compile(rb"[IJ][IJ0-9+-]*")
 
 
 def extended(edits):
@@ -112,6 +113,10 @@ class States:
         self.waiting = None
 
 
+def has_zero_centre(data):
+    return any(b"0" in centre and not centre.strip(b"IJ0+-") for centre in set(CENTRE.findall(data)))
+
+
 def plain(edits):
-    if has(edits.data, FIRST_SIGNS) and SIGNS.search(edits.data):
+    if has(edits.data, FIRST_SIGNS) and (SIGNS.search(edits.data) or has_zero_centre(edits.data)):
         States(edits)

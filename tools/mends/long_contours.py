@@ -1,105 +1,159 @@
 """Contours of a copper file that have more edges than `check` takes, cut into several."""
 import re
+from itertools import accumulate
+from typing import NamedTuple
 
-from .chords import MOST_EDGES, cut
-from .copper_words import has
+from .copper_words import MOST_EDGES, has
 from .table import CONTOUR
 
-REGION = re.compile(rb"(?<![^*%\s])G36\*")
-# A word: an operation of straight lines in a region, or another; OPERATED are other operations.
-STEP = re.compile(rb"[\t\n\r ]*(?:%|((?:G0?1)?(?:X([+-]?[0-9]{1,13}))?(?:Y([+-]?[0-9]{1,13}))?(?:D0?([12]))?)\*|([^*%]*)\*)")
+# A word in a region: an operation of straight lines, or another one; OPERATED are other operations.
+STEP = re.compile(rb"[%\t\n\r ]*(?:(?:G0?1)?(?:X([+-]?[0-9]{1,13}))?(?:Y([+-]?[0-9]{1,13}))?(?:D0?([12]))?|([^*%]*))\*")
+PLAIN = re.compile(rb"[\t\n\r ]*X[+-]?[0-9]{1,13}Y[+-]?[0-9]{1,13}D0?[12]\*")
+NUMBERS = bytes.maketrans(b"XYD*", b"    ")
 OPERATED = re.compile(rb"(?:G0?[0-3])?[XYIJ]|(?:G0?[0-3])?D0?[0-3]\Z|G0?[023]\Z")
+OF_OPERATIONS = b"GXYD+-0123456789"
+BETWEEN, SEPARATORS = b"%\t\n\r ", b"*%\t\n\r "
 # What takes copper away, repeats it or bends an edge: then a part at the file's end could be another than in its place.
 ORDERED_SIGNS = (b"LPC", b"SR", b"AB", b"G02", b"G2", b"G03", b"G3")
 ORDERED = re.compile(rb"(?<![^*%\s])(?:LPC|SR[^*]|AB|G0?[23][XYIJD*])")
-END = re.compile(rb"M0?2\*\s*\Z")
-NAMED = re.compile(rb"(?<![^*%\s])T(?:O\.N(,[^*]*)?|D(?:\.N)?(?:,[^*]*)?)\*")
+ENDS = (b"M02*", b"M2*")
+NAMED = re.compile(rb"T(?:O\.N(,[^*]*)?|D(?:\.N)?(?:,[^*]*)?)\*")
 
 
-class Contour:
-    """A contour's corners, and the words by which they are reached, the last one by that which closes it."""
+class Contour(NamedTuple):
+    """A contour's corners, and the numbers of the words by which they are reached, the last one by that which closes it."""
 
-    def __init__(self, spot):
-        self.corners, self.words = [spot], []
+    corners: list
+    words: list
 
     def is_closed(self):
         return self.corners[0] == self.corners[-1]
 
 
+class Region:
+    """A region's words with their places."""
+
+    def __init__(self, data, start, end):
+        self.start, self.end, self.body = start, end, data[start:end]
+        self.texts, self.stops = self.body.split(b"*"), None
+
+    def contours(self):
+        """The long contours, where the region begins at a whole place and has straight edges alone."""
+        words, spots, moves = self.plain() or self.operations() or ((), (), ())
+        for first, past in zip(moves, [*moves[1:], len(spots)]):
+            if past - first - 1 > MOST_EDGES:
+                yield Contour(spots[first:past], words[first + 1:past])
+
+    def plain(self):
+        """The numbers of the operations' words, their places, and which of them move; nothing where a word does not say all."""
+        if PLAIN.sub(b"", self.body).strip(BETWEEN):
+            return None
+        values = [*map(int, self.body.translate(NUMBERS).split())]
+        moves = [k for k, code in enumerate(values[2::3]) if code == 2]
+        return (range(len(values) // 3), [*zip(values[::3], values[1::3])], moves) if moves[:1] == [0] else None
+
+    def operations(self):
+        """The same, where words leave out what they share with the one before; nothing where one is no straight edge."""
+        words, spots, moves, x, y = [], [], [], None, None
+        for number, (new_x, new_y, code, other) in enumerate(STEP.findall(self.body)):
+            if new_x or new_y or code:
+                if not spots and not (code == b"2" and new_x and new_y):
+                    return None
+                x, y = int(new_x) if new_x else x, int(new_y) if new_y else y
+                if code == b"2":
+                    moves.append(len(spots))
+                spots.append((x, y))
+                words.append(number)
+            elif other and OPERATED.match(other):
+                return None
+        return (words, spots, moves) if not STEP.sub(b"", self.body).strip(BETWEEN) else None
+
+    def place(self, number):
+        """A word's first byte and its star, in the file."""
+        if self.stops is None:
+            self.stops = [*accumulate(len(text) + 1 for text in self.texts)]
+        star = self.start + self.stops[number] - 1
+        return star - len(self.texts[number].lstrip(BETWEEN)), star
+
+
 def regions(data):
-    """The places of regions of more words than a contour may have edges: behind `G36` and before `G37`."""
-    for match in REGION.finditer(data):
-        end = data.find(b"G37*", match.end())
-        if end - match.end() > MOST_EDGES and data.count(b"*", match.end(), end) > MOST_EDGES:
-            yield match.end(), end
+    """The regions of more words than a contour may have edges: from behind `G36` to before `G37`."""
+    at = data.find(b"G36*")
+    while at >= 0:
+        start = at + len(b"G36*")
+        end = data.find(b"G37*", start)
+        if end - start > MOST_EDGES and data[at - 1:at] in SEPARATORS and data.count(b"*", start, end) > MOST_EDGES:
+            yield Region(data, start, end)
+        at = data.find(b"G36*", start)
 
 
-def contours(data, start, end):
-    """The long contours of a region, where it begins at a whole place and has straight edges alone."""
-    spot, contour, at = None, None, start
-    for match in STEP.finditer(data, start, end):
-        word, x, y, code, other = match.groups()
-        if match.start() != at or other and OPERATED.match(other):
-            return
-        at = match.end()
-        if not (x or y or code):
+def in_place(contour, part):
+    """The words of corners that go leave empty ones, or say a place on an edge at which a chord ends; the next one says both coordinates.
+    Nothing where there are fewer words than such places."""
+    known, fresh, written = 0, [], {}
+    for spot, number in [*part[1:], (part[0][0], len(contour.words))]:
+        if number is None:
+            fresh.append(spot)
+        else:
+            going = contour.words[known:number - 1]
+            if len(fresh) > len(going):
+                return None
+            if going:
+                written.update(zip([*going[:len(fresh)], contour.words[number - 1]], [*fresh, spot]))
+                written.update(dict.fromkeys(going[len(fresh):]))
+            known, fresh = number, []
+    return written
+
+
+def write(edits, region, written):
+    """Words of a region with their places, none for one that goes; those that follow one another go at once."""
+    first = last = None
+    for word, spot in [*written.items(), (None, ())]:
+        if spot is None and last is not None and word == last + 1:
+            last = word
             continue
-        if spot is None and not (x and y):
-            return
-        spot = int(x) if x else spot[0], int(y) if y else spot[1]
-        if code == b"2":
-            if contour and len(contour.words) > MOST_EDGES:
-                yield contour
-            contour = Contour(spot)
-        elif contour is None:
-            return
-        else:
-            contour.corners.append(spot)
-            contour.words.append(match.span(1))
-    if contour and len(contour.words) > MOST_EDGES:
-        yield contour
-
-
-def in_place(edits, contour, part):
-    """The words of corners that go leave empty ones, or say a place on an edge at which a chord ends; the next one says both coordinates."""
-    at, is_next = 1, True
-    for number, (start, end) in enumerate(contour.words, 1):
-        spot, wanted = part[at] if at < len(part) else (part[0][0], len(contour.words))
-        if wanted == number:
-            if not is_next:
-                edits.edits[start] = end, b"X%dY%dD01" % spot
-            at, is_next = at + 1, True
-        else:
-            edits.edits[start] = end, b"X%dY%dD01" % spot if wanted is None else b""
-            at, is_next = at + (wanted is None), False
+        if last is not None:
+            (start, _), (_, end) = region.place(first), region.place(last)
+            edits.edits[start] = end, edits.data[start:end].translate(None, OF_OPERATIONS)
+        first = last = word if spot is None else None
+        if spot:
+            start, end = region.place(word)
+            edits.edits[start] = end, b"X%dY%dD01" % spot
 
 
 def name_before(data, at):
     """The word that gives the net name in force."""
-    named = b""
-    for match in NAMED.finditer(data, 0, at):
-        named = match[1] or b""
+    end, named = at, b""
+    while at >= 0:
+        at = data.rfind(b"T", 0, at)
+        match = at > 0 and data[:at].rstrip(b"\t\n\r ")[-1:] in b"*%" and NAMED.match(data, at, end)
+        if match:
+            named = match[1] or b""
+            break
     return b"%TD*%\n" + (b"%TO.N" + named + b"*%\n" if named else b"")
 
 
 def rewrite(edits):
     """Cuts long contours; how many words each needs more is at the file's end."""
     data = edits.data
-    ending = END.search(data)
-    if not ending or data.count(b"*") <= MOST_EDGES or has(data, ORDERED_SIGNS) and ORDERED.search(data):
+    whole = data.rstrip()
+    ending = next((len(whole) - len(end) for end in ENDS if whole.endswith(end)), None)
+    if ending is None or data.count(b"*") <= MOST_EDGES or has(data, ORDERED_SIGNS) and ORDERED.search(data):
         return
-    for start, end in regions(data):
-        for contour in contours(data, start, end):
+    from .chords import cut         # few files have long contours
+    for region in regions(data):
+        for contour in region.contours():
             parts = cut(contour.corners[:-1]) if contour.is_closed() else None
-            if not parts:
+            written = parts and in_place(contour, parts[0])
+            if not written:
                 continue
-            in_place(edits, contour, parts[0])
-            edits.insert(ending.start(), name_before(data, end) + b"G01*\n" + b"".join(region(part) for part in parts[1:]))
+            write(edits, region, written)
+            edits.insert(ending, name_before(data, region.end) + b"G01*\n" + b"".join(contour_of(part) for part in parts[1:]))
             what = (f"begins the first of {len(contour.words)} edges of a contour, which is cut into {len(parts)} of the same copper: "
                     "the first stays in its place, the others stand at the file's end")
-            edits.note(*contour.words[0], CONTOUR, what)
+            edits.note(*region.place(contour.words[0]), CONTOUR, what)
 
 
-def region(part):
+def contour_of(part):
     spots = [spot for spot, _ in part]
     return b"G36*\n" + b"".join(b"X%dY%dD0%d*\n" % (*spot, 1 if k else 2) for k, spot in enumerate([*spots, spots[0]])) + b"G37*\n"

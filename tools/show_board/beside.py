@@ -1,5 +1,8 @@
-"""What is made beside the findings, where it is asked for: gaps, the comparison with another board, a netlist for a tester, a record."""
-from . import UNJUDGED, gaps, like, record, tester
+"""What is made beside the findings, where it is asked for: gaps, the comparison with another board, a netlist for a tester, a record.
+
+Modules are loaded where they are wanted: most boards want none of them, and loading takes longer than a small board.
+"""
+from . import UNJUDGED
 
 
 def wants_copper(asked):
@@ -10,13 +13,18 @@ def add(program, told, shown, asked, scratch):
     """Adds all that is asked for to what is told of a board."""
     shown.verdict = shown.status, shown.line
     if asked.gaps:
+        from . import gaps
         gaps.add(program, told, shown, asked.gaps)
     if asked.like:
+        from . import like
         like.add(program, told, shown, asked, scratch)
     if asked.ipc:
+        from . import tester
         shown.tester = tester.made(program, told, shown.title, shown.board)
         if shown.tester.text is None:
             shown.status = shown.status or UNJUDGED
+    if asked.record or asked.verify:
+        from . import record
     if asked.record:
         shown.record = record.of(program, told, shown)
     if asked.verify:

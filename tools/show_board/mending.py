@@ -26,10 +26,11 @@ def mend(package, progress):
 def need_plated(package, drills):
     """Refuses a drill file with holes that it calls unplated and that `check` would take as plated."""
     for name in drills:
-        line = unplated_hole(bytes_of(package, name))
+        data = bytes_of(package, name)
+        line = unplated_hole(data)
         if line:
             raise Stop(REFUSED, f"{name}: line {line} makes a hole that the file itself calls unplated, and what it says of the others does not fit or is "
-                                f"missing, so that hole would join layers; to export: {ways.way('MixedPlating', '')}")
+                                f"missing, so that hole would join layers; to export: {ways.way('MixedPlating', ways.tool_of(data))}")
 
 
 def bytes_of(package, name):

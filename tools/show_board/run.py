@@ -5,7 +5,7 @@ import signal
 import sys
 import tempfile
 
-from . import Stop, fault_of, json_form, junit, lines, rdb, record, record_page, spacing, unbuilt, written
+from . import Stop, fault_of, lines, seldom, unbuilt, written
 from .program import TOOLS, Program, found
 from .progress import Progress
 from .shown import show
@@ -49,6 +49,7 @@ def words(given):
         if len(asked.paths) > 1 and getattr(asked, name):
             parser.error(f"--{name} is for one PATH")
     if asked.gaps is not None:
+        from . import spacing
         asked.gaps = spacing.asked_distance(asked.gaps) or parser.error("--gaps wants millimetres, over 0 and at most 10, with at most seven decimals")
     if asked.at and not asked.svg:
         parser.error("--at says which finding --svg draws")
@@ -73,14 +74,18 @@ def told(asked, all_shown):
 def write(asked, all_shown):
     """Writes what was asked for, and prints the rest; where a form goes to the standard output, nothing else does."""
     if asked.json:
+        from . import json_form
         written.write(asked.json, json_form.text(all_shown))
     if asked.junit:
+        from . import junit
         written.write(asked.junit, junit.text(all_shown))
     if asked.rdb:
+        from . import rdb
         written.write(asked.rdb, rdb.text(all_shown[0]))
     if asked.ipc and all_shown[0].tester and all_shown[0].tester.text:
         written.write(asked.ipc, all_shown[0].tester.text)
     if asked.record and all_shown[0].record:
+        from . import record
         written.write(asked.record, record.text(all_shown[0].record))
     if asked.page or asked.svg:
         pictures(asked, all_shown[0])
@@ -91,6 +96,7 @@ def write(asked, all_shown):
 def pictures(asked, shown):
     if not shown.board or shown.board.shapes is None:
         if asked.page and shown.record:
+            from . import record_page
             written.write(asked.page, record_page.page(shown))
         print(f"boardnet: no picture is drawn, since the copper of {shown.path} is not known", file=sys.stderr)
         return
@@ -128,6 +134,7 @@ def interrupted(number, _):
 
 def main(given):
     asked = words(given)
+    seldom.collected()
     for number in (signal.SIGINT, signal.SIGTERM, signal.SIGHUP):
         signal.signal(number, interrupted)
     try:

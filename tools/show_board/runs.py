@@ -4,7 +4,8 @@ A side is straight between two corners, and all lines are at whole y, so what is
 A corner on a straight side is left out where the run is so wide there that its sides cannot cross: a side stays within a unit of its
 strand. What is rounded past the other side is no part of LOWER.
 """
-from .spots import edges
+from operator import mul
+
 from .strands import slope
 
 LONGEST = 30_000        # corners of a side that is still added to
@@ -83,11 +84,10 @@ class Runs:
 
     def turn(self, piece, strand, x, y):
         """A side has a corner where it touches nothing."""
-        is_left, lefts = strand is piece.left, piece.lefts
-        apart = piece.right.low - strand.high if is_left else strand.low - piece.left.high
-        if lefts and max(len(lefts), len(piece.rights)) > LONGEST:
+        if piece.lefts and (len(piece.lefts) > LONGEST or len(piece.rights) > LONGEST):
             self.flush(piece)
-        if apart <= APART or piece.lefts is None or piece.tight:
+        is_left = strand is piece.left
+        if piece.lefts is None or piece.tight or (piece.right.low - strand.high if is_left else strand.low - piece.left.high) <= APART:
             self.settle(piece, y)
         if piece.lefts is not None:
             if is_left:
@@ -135,9 +135,16 @@ class Runs:
     def close(self, piece, low, high):
         around = piece.lefts + [(low, piece.since), (high, piece.since)] + piece.rights[::-1]
         piece.lefts = piece.rights = None
-        corners = [p for k, p in enumerate(around) if p != around[k - 1]]
-        if sum(a[0] * b[1] - a[1] * b[0] for a, b in edges(corners)):
+        corners = [p for p, before in zip(around, around[-1:] + around) if p != before]
+        if has_area(corners):
             self.out.append((corners, piece.item))
+
+
+def has_area(corners):
+    if not corners:
+        return False
+    xs, ys = zip(*corners)
+    return sum(map(mul, xs, ys[1:] + ys[:1])) != sum(map(mul, ys, xs[1:] + xs[:1]))
 
 
 def linked(below, above):

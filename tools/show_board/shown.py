@@ -1,8 +1,7 @@
 """One board, from its files to its findings."""
 import os
 
-from . import (FAULT, UNDECIDED, UNJUDGED, Stop, beside, between, bounds, copper, fault_of, findings, hints, judged, labels, mending, netlist, package, report,
-               same_pins, ties, unjudged)
+from . import FAULT, UNDECIDED, UNJUDGED, Stop, beside, copper, fault_of, findings, judged, labels, mending, netlist, package, report, same_pins, ties, unjudged
 from .board import Board
 
 NO_PLACES = "this program writes reports of version 1, which do not say where copper is from: what is told is the report and the netlist alone"
@@ -145,6 +144,9 @@ def show(path, asked, program, scratch):
 
 def outside(program, told, shown, asked):
     """What copies of the files say: bounds of copper outside the profile, and hints."""
+    if told.status != 3 and shown.status != 1:
+        return
+    from . import bounds, hints         # most boards want neither, and loading takes longer than a small board
     if told.status == 3:
         shown.bounds = bounds.bounded(program, told, shown.ties)
         if shown.bounds:
@@ -162,6 +164,7 @@ def outside(program, told, shown, asked):
 
 def look_between(program, answer, low, high, shown, asked):
     """Fills in the findings of a board between bounds, over the lower one."""
+    from . import between
     wants_picture = asked.page or asked.svg or asked.rdb
     shapes, why = shapes_of(program, low) if answer.findings or wants_picture or beside.wants_copper(asked) else (None, "")
     named = labels_of(program, low) if shown.ties.shorts(low.report) else None

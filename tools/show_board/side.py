@@ -82,7 +82,7 @@ class Side:
         """Pieces about a place."""
         for kind, *rest in pieces:
             if kind == "area":
-                self.region([(x + by[0], y + by[1]) for x, y in rest[0]], source)
+                self.region([(x + by[0], y + by[1]) for x, y in rest[0]] if any(by) else rest[0], source)
             else:
                 a, b, radius = rest
                 self.capsule((a[0] + by[0], a[1] + by[1]), (b[0] + by[0], b[1] + by[1]), radius, source)

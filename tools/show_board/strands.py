@@ -19,10 +19,17 @@ class Strand:
 
     def rise(self):
         """The next edge."""
-        x1, y1 = self.x1, self.y1 = self.x2, self.y2
-        x2, y2 = self.x2, self.y2 = self.rest.pop()
+        self.x1, self.y1 = x1, y1 = self.x2, self.y2
+        self.x2, self.y2 = x2, y2 = self.rest.pop()
         self.dx, self.dy = x2 - x1, y2 - y1
-        self.low, self.high = (x1, x2) if x1 < x2 else (x2, x1)
+        if x1 < x2:
+            self.low, self.high = x1, x2
+        else:
+            self.low, self.high = x2, x1
+
+    def let_go(self):
+        """Forgets what it stood beside, so that nothing holds itself in memory by it."""
+        self.before = self.after = self.opens = self.ends = None
 
     def corners(self):
         """All that are ahead, from the first one on."""
@@ -37,8 +44,10 @@ class Strand:
         return x - self.x2, y - self.y2
 
     def at(self, y):
-        rise = self.dx * (y - self.y1)
-        return self.x1 + (rise // self.dy if rise % self.dy == 0 else Q(rise, self.dy))
+        if y == self.y1:
+            return self.x1
+        rise, rest = divmod(self.dx * (y - self.y1), self.dy)
+        return self.x1 + rise if not rest else Q((self.x1 + rise) * self.dy + rest, self.dy)
 
     def down(self, y):
         return (self.x1 * self.dy + self.dx * (y - self.y1)) // self.dy

@@ -40,6 +40,8 @@ class Sweep:
                 self.levels.setdefault(y, []).append((low, high, k))
         events.sort()
         self.lines(events, strands)
+        for strand in strands:
+            strand.let_go()
         if self.status:
             raise Refused("a sweep that does not end")
 
@@ -64,22 +66,34 @@ class Sweep:
                     y, x, k = events[at]
                 self.line(line, here)
                 continue
-            line, here, last = y, [], at
-            while events[last][0] == line:
-                last += 1
-            self.marks = {it[1] for it in events[at:last]} if last > at + 1 and not self.upper else ()
+            line, here = y, []
+            self.marks = self.places(events, at) if not self.upper and events[at + 1][0] == line else ()
             while y == line:
-                group, place = [strands[k]], x
+                strand, place = strands[k], x
                 at += 1
                 y, x, k = events[at]
+                if x != place or y != line:
+                    if not self.turn(line, place, strand):
+                        here.append((place, strand))
+                    continue
+                group = [strand]
                 while x == place and y == line:
                     group.append(strands[k])
                     at += 1
                     y, x, k = events[at]
-                if not (self.turn(line, place, group[0]) if len(group) == 1 else self.pair(line, place, group)):
+                if not self.pair(line, place, group):
                     here += [(place, strand) for strand in group]
             if here or self.seeds:
                 self.line(line, here)
+
+    @staticmethod
+    def places(events, at):
+        """Where the events of a line are."""
+        line, found = events[at][0], set()
+        while events[at][0] == line:
+            found.add(events[at][1])
+            at += 1
+        return found
 
     def line(self, y, events):
         spans = {(x, x) for x in self.noted.pop(y, ())}
@@ -187,9 +201,11 @@ class Sweep:
     def find(self, y, x):
         """The first strand that is not left of x."""
         status, low, high = self.status, 0, len(self.status)
+        floor, up, p, q = x.__floor__(), x.__ceil__(), x.numerator, x.denominator
         while low < high:
             middle = (low + high) // 2
-            if status[middle].side(x, y) < 0:
+            e = status[middle]
+            if e.high < floor or e.low <= up and e.dx * (y - e.y1) * q < (p - e.x1 * q) * e.dy:
                 low = middle + 1
             else:
                 high = middle

@@ -237,6 +237,35 @@ class Words(common.Case):
         for line, data, wanted in rows:
             self.assertEqual(ways.way_out(line, lambda _: data), wanted)
 
+    def test_tools(self):
+        """The tool that a file names, and what its user is told; a tool without a word of its own gets that for all."""
+        rows = [
+            (b"; DRILL file {KiCad 9.0.2} date", "KiCad", "MixedPlating", "KiCad: Generate Drill Files, 'PTH and NPTH in single file' off"),
+            (b"; #@! TF.GenerationSoftware,LibrePCB,LibrePCB,1.2.0", "LibrePCB", "MixedPlating", "plated and unplated holes in files"),
+            (b"G04 horizon*\n%TF.GenerationSoftware,Horizon EDA,2.5*%", "Horizon EDA", "BadFormat", "RS-274X or X2"),
+            (b";Layer_Color=9474304\n;FILE_FORMAT=4:4", "Altium Designer", "MixedPlating", "Altium Designer: NC Drill Setup, 'Generate separate"),
+            (b"%TF.GenerationSoftware,Altium Limited,Altium Designer,23.1*%", "Altium Designer", "BadFormat", "Altium Designer: Gerber Setup, Advanced"),
+            (b"G04 File Origin:  Cadence Allegro 17.4*", "Allegro", "NegativeFile", "Allegro: Artwork Control Form, Film Control"),
+            (b"M48\n;CODE  : ASCII\n; Holesize 1. = 12.0 PLATED MILS", "Allegro", "BadLine", "Allegro: NC Parameters"),
+            (b"G04 EAGLE Gerber RS-274X export*", "EAGLE", "MissingFormat", "EAGLE: CAM Processor, device GERBER_RS274X"),
+            (b"%TF.GenerationSoftware,Autodesk,EAGLE,9.6.2*%", "EAGLE", "Block", "copper without aperture blocks"),
+            (b"%TF.GenerationSoftware,Autodesk,Fusion Electronics,1*%", "Fusion", "Block", "copper without aperture blocks"),
+            (b"%TF.GenerationSoftware,Novarm,DipTrace,4.3*%", "DipTrace", "Incremental", "absolute coordinates"),
+            (b"G04 PROTEUS GERBER X2 FILE*", "Proteus", "Incremental", "absolute coordinates"),
+            (b"G04 EasyEDA v6.5.1*", "EasyEDA", "Incremental", "absolute coordinates"),
+            (b"G04 Creator: pcb 20140316 *", "gEDA pcb", "Incremental", "absolute coordinates"),
+            (b"G04 gerbv version 2.9.6 *", "gerbv", "Incremental", "absolute coordinates"),
+            (b"G04 made by hand*", "", "Incremental", "absolute coordinates"),
+        ]
+        for data, tool, kind, words in rows:
+            self.assertEqual(ways.tool_of(data), tool, data)
+            self.assertTrue(ways.way(kind, tool).startswith(words), (data, ways.way(kind, tool)))
+
+    def test_tools_with_words_of_their_own(self):
+        """Each tool that has words of its own is one that files can name."""
+        known = {name for name, _ in ways.TOOLS} | {""}
+        self.assertEqual([tool for rows in ways.WAYS.values() for tool in rows if tool not in known], [])
+
 
 def is_in(contour, x, y):
     """Whether a place is on an edge of a contour or enclosed by even and odd."""

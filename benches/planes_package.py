@@ -1,0 +1,81 @@
+"""A made package of large planes with cut-ins along rows of holes, pads and draws: what `show` takes for it, and its mends alone."""
+import json
+import os
+import random
+import subprocess
+import sys
+import tempfile
+import time
+
+ROWS, VOID, STEP = 100, 350_000, 1_000_000          # rows, and holes of a row; nanometres
+SIDE = (ROWS + 1) * STEP
+AROUND = [(-14, 0), (-13, 5), (-10, 10), (-5, 13), (0, 14), (5, 13), (10, 10), (13, 5), (14, 0), (10, -10), (5, -13), (0, -14), (-5, -13), (-13, -5)]
+HEAD = ["%FSLAX46Y46*%", "%MOMM*%", "%ADD10C,0.3*%", "%ADD11C,0.1*%", "%LPD*%", "G01*"]
+TOOLS = os.path.join(os.path.dirname(os.path.dirname(os.path.abspath(__file__))), "tools")
+
+
+def plane(rng, noisy):
+    """A plane's corners: a row of voids hangs on one cut from the left side, and the right side is uneven."""
+    cut = []
+    for row in range(ROWS, 0, -1):
+        half = lambda xs, part, y=row * STEP: [(x + a * VOID // 14, y + b * VOID // 14) for x in xs for a, b in part]
+        xs = [k * STEP for k in range(1, ROWS + 1)]
+        cut += [(0, row * STEP), *half(xs, AROUND[:9]), *half(reversed(xs), AROUND[8:] + AROUND[:1]), (0, row * STEP)]
+    right = [(SIDE + rng.randint(0, 20_000), k * SIDE // noisy) for k in range(noisy)]
+    return [(0, 0), *right, (SIDE, SIDE), (0, SIDE), *cut]
+
+
+def layer(rng, noisy, draws):
+    spots = plane(rng, noisy)
+    lines = [*HEAD, "G36*", "X%dY%dD02*" % spots[0], *("X%dY%dD01*" % spot for spot in spots[1:] + spots[:1]), "G37*", "D10*"]
+    lines += [f"X{x * STEP}Y{y * STEP}D03*" for y in range(1, ROWS + 1) for x in range(1, ROWS + 1)]
+    lines.append("D11*")
+    for _ in range(draws):
+        x, y = rng.randrange(1, ROWS) * STEP + STEP // 2, rng.randrange(1, ROWS) * STEP
+        lines += [f"X{x}Y{y}D02*", f"X{x}Y{y + STEP // 4}D01*"]
+    return "\n".join([*lines, "M02*", ""]), len(spots)
+
+
+def write(folder, layers, noisy=1_902, draws=2_000):
+    """Writes the package; the edges of a plane."""
+    rng = random.Random(1)
+    names = [f"l{k}.gbr" for k in range(layers)]
+    for name in names:
+        text, edges = layer(rng, noisy, draws)
+        put(folder, name, text)
+    holes = [f"X{x}.0Y{y}.0" for y in range(1, ROWS + 1) for x in range(1, ROWS + 1)]
+    put(folder, "pth.drl", "\n".join(["M48", "METRIC", "T1C0.2", "%", "T1", *holes, "M30", ""]))
+    points = [f"317N{k:<5}           J{k:<5}-1    D0080PA00X+{k % ROWS * 1000 + 1000:06}Y+{k // ROWS * 1000 + 1000:06}X0120Y0000" for k in range(ROWS * ROWS)]
+    put(folder, "n.ipc", "\n".join(["P  UNITS CUST 1", *points, "999", ""]))
+    drills = [{"file": "pth.drl", "from": 1, "to": layers}]
+    put(folder, "m.json", json.dumps({"copper": names, "drills": drills, "netlist": "n.ipc"}))
+    return edges
+
+
+def put(folder, name, text):
+    with open(os.path.join(folder, name), "w", encoding="ascii") as file:
+        file.write(text)
+
+
+def used(words):
+    """The processor seconds of a command with all that it starts, by the system, the most memory of a process in MB, and what it printed."""
+    began = time.time()
+    process = subprocess.Popen(words, stdout=subprocess.PIPE)
+    out = process.stdout.read()
+    _, _, usage = os.wait4(process.pid, 0)
+    return usage.ru_utime + usage.ru_stime, usage.ru_maxrss // 1024, time.time() - began, out.decode()
+
+
+MENDS = "import sys; sys.path.insert(0, sys.argv[1]); from mends import copper_file; [copper_file.mended(open(name, 'rb').read()) for name in sys.argv[2:]]"
+
+
+def timed(layers):
+    with tempfile.TemporaryDirectory() as folder:
+        edges = write(folder, layers)
+        files = [os.path.join(folder, f"l{k}.gbr") for k in range(layers)]
+        seconds, memory, _, _ = used([sys.executable, "-c", MENDS, TOOLS, *files])
+        print(f"{layers} planes of {edges:,} edges, mends alone: {seconds:.1f} processor s, {memory} MB", flush=True)
+        for words in ([], ["--page", os.path.join(folder, "page.html")]):
+            seconds, memory, clock, out = used([sys.executable, os.path.join(TOOLS, "show"), folder, "-q", *words])
+            print(out.split("\n")[0].split(": ", 1)[-1])
+            print(f"show{' with a page' if words else ''}: {seconds:.1f} processor s, {clock:.1f} by the clock, {memory} MB in the process that had most", flush=True)

@@ -1,0 +1,8 @@
+"""Garbage is looked for seldom: nearly all that is made here is held until the end, and is in no cycle."""
+import gc
+
+THRESHOLDS = (500_000, 20, 100)
+
+
+def collected():
+    gc.set_threshold(*THRESHOLDS)
