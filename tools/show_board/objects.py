@@ -14,6 +14,7 @@ from .settings import SCALES
 from .side import DRAW, FLASH, MOVE, words_of
 from .two_sides import MODES
 
+PLACED = re.compile(r"X([+-]?\d{1,13})Y([+-]?\d{1,13})D0?([123])")
 PRIMITIVES = {1: (2,), 20: (2,), 21: (2, 3)}     # where a primitive has its sizes; without one it makes nothing
 
 
@@ -96,6 +97,10 @@ class Walk:
             self.clear = word == "LPC"
 
     def plain(self, word):
+        found = PLACED.fullmatch(word)
+        if found:       # most words
+            self.operation("", *found.groups()[:2], "", "", found[3])
+            return
         picked = re.fullmatch(r"(?:G54)?D(\d{2,9})", word)
         operation = OPERATION.fullmatch(word)
         if word in SCALES:

@@ -91,7 +91,7 @@ class Padlist:
 
     def __init__(self, board, objects):
         self.board, self.objects = board, objects
-        self.layers = board.manifest.layers
+        self.layers, self.forms = board.manifest.layers, {}
         self.holes, self.pads = self.all_holes(), self.all_pads()
         self.places = self.joined()
         self.name_by_records()
@@ -117,28 +117,36 @@ class Padlist:
         return [self.pad(file + 1, net, pieces) for (file, _, net), pieces in groups.items()]
 
     def pad(self, layer, net, pieces):
-        left, low, right, high = box = cover([self.board.touching.box(piece) for piece in pieces])
-        found, it = Place(pieces, net, (layer, layer), middle_of(box), (right - left, high - low)), self.objects[pieces[0]]
+        shapes, it = self.board.shapes, self.objects[pieces[0]]
+        x, y = shapes.first(pieces[0])
+        form = tuple((shapes.radius[piece], tuple((v - x, w - y) for v, w in shapes.places(piece))) for piece in pieces)
+        if form not in self.forms:
+            self.forms[form] = self.measured(pieces, x, y)
+        (left, low), size, (across, up) = self.forms[form]
+        found = Place(pieces, net, (layer, layer), (x + left, y + low), size)
         found.name(it.part, it.pin, it.function == "ViaPad")
-        shapes = self.board.shapes
-        found.aim = aim(self.board.touching, pieces, found.middle, found.size)
-        found.is_round = len(pieces) == 1 and not shapes.is_area(pieces[0]) and len(shapes.places(pieces[0])) == 1
+        found.aim, found.is_round = (x + across, y + up), len(form) == 1 and form[0][0] >= 0 and len(form[0][1]) == 1
         return found
+
+    def measured(self, pieces, x, y):
+        """The middle, size and aim of a pad, places beside (x, y): found once for each form of pads."""
+        left, low, right, high = box = cover([self.board.touching.box(piece) for piece in pieces])
+        middle, size = middle_of(box), (right - left, high - low)
+        spot = aim(self.board.touching, pieces, middle, size)
+        return (middle[0] - x, middle[1] - y), size, (spot[0] - x, spot[1] - y)
 
     def name_by_records(self):
         """Part and pin of places by the netlist's records that lie on them, the nearest to the middle first."""
         board, places = self.board, self.places
         told = [(point, board.record(point), board.spot(point)) for point in range(len(board.report.points))]
         told = [it for it in told if it[1] and it[1].component and it[2]]
-        boxes = [cover([board.touching.box(piece) for piece in it.pieces]) for it in places] + [spot * 2 for _, _, spot in told]
+        boxes = [cover([board.touching.box(piece) for piece in it.pieces]) for it in places] if told else []
         found = defaultdict(list)
-        for i, j in grid.pairs(boxes):
-            if i >= len(places) > j:
-                point, record, spot = told[i - len(places)]
-                place = places[j]
-                if place.layers[0] <= board.layer(point) <= place.layers[1] and any(board.touching.holds(piece, spot) for piece in place.pieces):
-                    away = (spot[0] - place.middle[0]) ** 2 + (spot[1] - place.middle[1]) ** 2
-                    found[j].append((place.hole is None and record.component == VIA, away, point, record))
+        for j, k in grid.holding(boxes, [spot for _, _, spot in told]):
+            (point, record, spot), place = told[k], places[j]
+            if place.layers[0] <= board.layer(point) <= place.layers[1] and any(board.touching.holds(piece, spot) for piece in place.pieces):
+                away = (spot[0] - place.middle[0]) ** 2 + (spot[1] - place.middle[1]) ** 2
+                found[j].append((place.hole is None and record.component == VIA, away, point, record))
         for j, its in found.items():
             *_, record = min(its)
             if record.component == VIA:
@@ -149,14 +157,13 @@ class Padlist:
     def joined(self):
         """The holes with the pads about them, and the other pads."""
         board, about = self.board, set()
-        boxes = [board.touching.box(it.hole) for it in self.holes] + [it.middle * 2 for it in self.pads]
-        for i, j in grid.pairs(boxes):
-            if i >= len(self.holes) > j:
-                hole, pad = self.holes[j], self.pads[i - len(self.holes)]
-                layer = pad.layers[0]
-                if hole.layers[0] <= layer <= hole.layers[1] and hole.net == pad.net and board.touching.holds(hole.hole, pad.middle):
-                    hole.take(pad, layer == front(hole, self.layers))
-                    about.add(i - len(self.holes))
+        boxes = [board.touching.box(it.hole) for it in self.holes]
+        for j, k in grid.holding(boxes, [it.middle for it in self.pads]):
+            hole, pad = self.holes[j], self.pads[k]
+            layer = pad.layers[0]
+            if hole.layers[0] <= layer <= hole.layers[1] and hole.net == pad.net and board.touching.holds(hole.hole, pad.middle):
+                hole.take(pad, layer == front(hole, self.layers))
+                about.add(k)
         return self.holes + [pad for k, pad in enumerate(self.pads) if k not in about]
 
 
