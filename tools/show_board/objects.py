@@ -19,7 +19,8 @@ PRIMITIVES = {1: (2,), 20: (2,), 21: (2, 3)}     # where a primitive has its siz
 
 
 class Object(NamedTuple):
-    """`count` pieces of a flash, draw or contour; `place` is that of a flash, `region` the number of a contour's region."""
+    """`count` pieces of a flash, draw or contour; `place` is that of a flash, `region` the number of a contour's region, `inner` that of
+    an object that the flash of a block makes."""
 
     kind: str
     command: int
@@ -31,6 +32,7 @@ class Object(NamedTuple):
     net: str
     part: str
     pin: str
+    inner: int = 0
 
 
 class Aperture(NamedTuple):

@@ -7,6 +7,7 @@ from collections import defaultdict
 
 from . import grid
 from .aims import aim
+from .blocks import objects_of_blocks
 from .copper import BadCopper
 from .objects import objects_of
 from .tree import cover
@@ -59,6 +60,13 @@ def by_command(package, name):
     return {(it.command, it.copy): it for it in its}
 
 
+def between(board, package, name, pieces):
+    """The objects of the pieces of a file that was written between bounds."""
+    objects, data, sources = by_command(package, name), package.read(name), board.report.sources
+    inner = objects_of_blocks(data.decode("latin-1"), board.shapes, sources, pieces) if b"%AB" in data else {}
+    return [inner.get(piece) or objects.get(tuple(sources[piece][1:3])) or objects.get((sources[piece][1], 0)) for piece in pieces]
+
+
 def origins(board, base=None):
     """The object of each piece of copper. Between bounds `base` is the package of the user's files, and the board has their commands."""
     package, sources, found = base or board.package, board.report.sources, []
@@ -68,8 +76,7 @@ def origins(board, base=None):
     for file, name in enumerate(package.manifest.copper):
         pieces = by_file[file]
         if base and name in base.sides.sources[0]:
-            objects = by_command(package, name)
-            found += [objects.get((command, copy)) or objects.get((command, 0)) for _, command, copy, *_ in (sources[piece] for piece in pieces)]
+            found += between(board, package, name, pieces)
         else:
             its = of_file(package, name)
             if len(its) != len(pieces):
@@ -112,7 +119,8 @@ class Padlist:
         for piece, it in enumerate(self.objects):
             file = self.board.report.sources[piece][0]
             if file in (0, self.layers - 1) and is_pad(it):
-                what = ("region", it.region, it.copy) if it.region else ("flash", it.command, self.board.report.sources[piece][2] or it.copy)
+                what = ("region", it.region, it.copy, it.inner and it.command, it.inner) if it.region else \
+                    ("flash", it.command, self.board.report.sources[piece][2] or it.copy, it.inner)
                 groups[file, what, self.board.report.net_of[piece]].append(piece)
         return [self.pad(file + 1, net, pieces) for (file, _, net), pieces in groups.items()]
 
