@@ -28,7 +28,7 @@ def via_layers(package, unit):
 def bottom_layers(package, _):
     """For a surface record of layer 2 the last layer: pads of parts are on no inner layer."""
     last = package.manifest.layers
-    return lambda record: last if not record.is_through and record.access == 2 < last else None
+    return (lambda record: last if not record.is_through and record.access == 2 else None) if last > 2 else None
 
 
 RULES = (
@@ -45,8 +45,8 @@ def recoded(package, rule, words):
     unit = unit_of(text)
     try:
         layer_of = rule(package, unit) if unit else None
-        for line in text.splitlines(keepends=True):
-            layer = layer_of(Record(line)) if unit and is_record(line) else None
+        for line in text.splitlines(keepends=True) if layer_of else ():
+            layer = layer_of(Record(line)) if is_record(line) else None
             changed += layer is not None
             out.append(line if layer is None else f"{line[:39]}{layer:02d}{line[41:]}")
     except ValueError:

@@ -11,7 +11,9 @@ MM, INCH = 10_000_000, 254_000_000
 TOOL = re.compile(rb"T([0-9]+)C([0-9.+-]+)")
 PICK = re.compile(rb"T([0-9]+)")
 PLACE = re.compile(rb"(?:G0[01])?(?:X([0-9.+-]+))?(?:Y([0-9.+-]+))?")
-FLAT = re.compile(rb"X(-?[0-9]+)Y(-?[0-9]+)D0([12])\*|%ADD([0-9]+)C,([0-9.]+)\*%|D([0-9]+)\*|(G36|G37|M02|%FSLAX47Y47|%MOMM)\*%?")
+# A stroke, most of what there is, and each other word.
+FLAT = re.compile(rb"\s*(?:X(-?[0-9]+)Y(-?[0-9]+)D02\*\nX(-?[0-9]+)Y(-?[0-9]+)D01\*|X(-?[0-9]+)Y(-?[0-9]+)D0([12])\*|"
+                  rb"%ADD([0-9]+)C,([0-9.]+)\*%|D([0-9]+)\*|(G36|G37|M02|%FSLAX47Y47|%MOMM)\*%?)")
 AREA = -1
 
 
@@ -43,6 +45,10 @@ class Shapes:
         first, end = self.start[piece], self.start[piece + 1]
         return list(zip(self.x[first:end], self.y[first:end]))
 
+    def first(self, piece):
+        """The first place of a piece."""
+        return self.x[self.start[piece]], self.y[self.start[piece]]
+
     def box(self, piece):
         """The box round a piece: left, low, right, high."""
         first, end, r = self.start[piece], self.start[piece + 1], max(self.radius[piece], 0)
@@ -67,8 +73,11 @@ class Flat:
             self.shapes.add(self.radius, [self.last] if here == self.last else [self.last, here])
 
     def word(self, found):
-        x, y, operation, defined, size, picked, other = found.groups()
-        if operation:
+        from_x, from_y, to_x, to_y, x, y, operation, defined, size, picked, other = found.groups()
+        if from_x:
+            self.place(from_x, from_y, b"2")
+            self.place(to_x, to_y, b"1")
+        elif operation:
             self.place(x, y, operation)
         elif defined:
             self.diameters[defined] = int(Decimal(size.decode()) * MM)
@@ -84,7 +93,7 @@ class Flat:
     def read(self, text):
         at = 0
         for found in FLAT.finditer(text):
-            if text[at:found.start()].strip():
+            if found.start() != at:
                 break
             at = found.end()
             self.word(found)

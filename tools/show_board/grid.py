@@ -12,18 +12,38 @@ def meet(a, b):
     return a[0] <= b[2] and b[0] <= a[2] and a[1] <= b[3] and b[1] <= a[3]
 
 
+def side_of(boxes):
+    """The side of squares of which most boxes lie in one to four."""
+    sizes = sorted(max(b[2] - b[0], b[3] - b[1]) for b in boxes)
+    return max(1, sizes[len(sizes) * 3 // 4] + 1) if sizes else 1
+
+
 def pairs(boxes):
     """The pairs (i, j) with j < i of boxes that meet."""
     if len(boxes) <= FEW:
         return [(i, j) for i in range(len(boxes)) for j in range(i) if meet(boxes[i], boxes[j])]
-    sizes = sorted(max(b[2] - b[0], b[3] - b[1]) for b in boxes)
-    # Most boxes then lie in one to four squares.
-    size = max(1, sizes[len(sizes) * 3 // 4] + 1)
+    size = side_of(boxes)
     small, large = [], []
     for k, box in enumerate(boxes):
         squares = ((box[2] // size) - (box[0] // size) + 1) * ((box[3] // size) - (box[1] // size) + 1)
         (small if squares <= MOST_SQUARES else large).append(k)
     return pairs_of_large(boxes, large) + pairs_of_small(boxes, small, size)
+
+
+def holding(boxes, spots):
+    """The pairs (box, spot) of a box that has a spot, in the order of the boxes and then of the spots."""
+    tree, size = None, side_of(boxes)
+    squares = defaultdict(list)
+    for k, (x, y) in enumerate(spots):
+        squares[x // size, y // size].append(k)
+    for i, box in enumerate(boxes):
+        left, low, right, high = (v // size for v in box)
+        if (right - left + 1) * (high - low + 1) <= MOST_SQUARES:
+            near = sorted(k for across in range(left, right + 1) for up in range(low, high + 1) for k in squares.get((across, up), ()))
+        else:
+            tree = tree or Tree([spot * 2 for spot in spots])
+            near = sorted(tree.meeting(box))
+        yield from ((i, k) for k in near if box[0] <= spots[k][0] <= box[2] and box[1] <= spots[k][1] <= box[3])
 
 
 def pairs_of_large(boxes, large):

@@ -1,5 +1,6 @@
 """The test records of an IPC-D-356A netlist: line, component, pin and place. What they mean was judged by `check`."""
 import re
+from functools import lru_cache
 from typing import NamedTuple, Optional
 
 UNITS = re.compile(rb"^P +UNITS +CUST +([01])[ \t\r]*$", re.M)
@@ -8,6 +9,7 @@ U_OF = {b"0": 25_400, b"1": 10_000}
 ALIAS = re.compile(rb"^P +(NNAME[0-9]+)[ \t]+([^\r\n]*)", re.M)
 PIN = b"C PIN,"
 NO_NET = "N/C"
+UNPRINTABLE = re.compile("[^ -~]")
 
 
 class Record(NamedTuple):
@@ -23,7 +25,7 @@ class Record(NamedTuple):
 
 
 def printable(field):
-    return "".join(c if " " <= c <= "~" else "?" for c in field.decode("latin-1").strip())
+    return UNPRINTABLE.sub("?", field.decode("latin-1").strip())
 
 
 def length(sign, digits, unit):
@@ -34,8 +36,9 @@ def length(sign, digits, unit):
     return int(text) * unit * (-1 if sign == b"-" else 1)
 
 
+@lru_cache(maxsize=2)
 def records(data):
-    """The records in order; the k-th is record k + 1 of a report."""
+    """The records in order, kept for the netlists that were read last; the k-th is record k + 1 of a report."""
     unit_line = UNITS.search(data)
     unit = U_OF[unit_line.group(1)] if unit_line else None
     found, before = [], b""
@@ -46,7 +49,7 @@ def records(data):
             place = length(line[42:43], line[43:49], unit), length(line[50:51], line[51:57], unit)
             found.append(Record(number, line[:3] == b"317", printable(line[3:17]) or NO_NET, *pin_of(line, before), *place))
         before = line
-    return found
+    return tuple(found)
 
 
 def pin_of(line, before):

@@ -14,11 +14,13 @@ from .settings import SCALES
 from .side import DRAW, FLASH, MOVE, words_of
 from .two_sides import MODES
 
+PLACED = re.compile(r"X([+-]?\d{1,13})Y([+-]?\d{1,13})D0?([123])")
 PRIMITIVES = {1: (2,), 20: (2,), 21: (2, 3)}     # where a primitive has its sizes; without one it makes nothing
 
 
 class Object(NamedTuple):
-    """`count` pieces of a flash, draw or contour; `place` is that of a flash, `region` the number of a contour's region."""
+    """`count` pieces of a flash, draw or contour; `place` is that of a flash, `region` the number of a contour's region, `inner` that of
+    an object that the flash of a block makes."""
 
     kind: str
     command: int
@@ -30,6 +32,7 @@ class Object(NamedTuple):
     net: str
     part: str
     pin: str
+    inner: int = 0
 
 
 class Aperture(NamedTuple):
@@ -96,6 +99,10 @@ class Walk:
             self.clear = word == "LPC"
 
     def plain(self, word):
+        found = PLACED.fullmatch(word)
+        if found:       # most words
+            self.operation("", *found.groups()[:2], "", "", found[3])
+            return
         picked = re.fullmatch(r"(?:G54)?D(\d{2,9})", word)
         operation = OPERATION.fullmatch(word)
         if word in SCALES:

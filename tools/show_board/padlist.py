@@ -7,6 +7,7 @@ from collections import defaultdict
 
 from . import grid
 from .aims import aim
+from .blocks import objects_of_blocks
 from .copper import BadCopper
 from .objects import objects_of
 from .tree import cover
@@ -59,6 +60,13 @@ def by_command(package, name):
     return {(it.command, it.copy): it for it in its}
 
 
+def between(board, package, name, pieces):
+    """The objects of the pieces of a file that was written between bounds."""
+    objects, data, sources = by_command(package, name), package.read(name), board.report.sources
+    inner = objects_of_blocks(data.decode("latin-1"), board.shapes, sources, pieces) if b"%AB" in data else {}
+    return [inner.get(piece) or objects.get(tuple(sources[piece][1:3])) or objects.get((sources[piece][1], 0)) for piece in pieces]
+
+
 def origins(board, base=None):
     """The object of each piece of copper. Between bounds `base` is the package of the user's files, and the board has their commands."""
     package, sources, found = base or board.package, board.report.sources, []
@@ -68,8 +76,7 @@ def origins(board, base=None):
     for file, name in enumerate(package.manifest.copper):
         pieces = by_file[file]
         if base and name in base.sides.sources[0]:
-            objects = by_command(package, name)
-            found += [objects.get((command, copy)) or objects.get((command, 0)) for _, command, copy, *_ in (sources[piece] for piece in pieces)]
+            found += between(board, package, name, pieces)
         else:
             its = of_file(package, name)
             if len(its) != len(pieces):
@@ -91,7 +98,7 @@ class Padlist:
 
     def __init__(self, board, objects):
         self.board, self.objects = board, objects
-        self.layers = board.manifest.layers
+        self.layers, self.forms = board.manifest.layers, {}
         self.holes, self.pads = self.all_holes(), self.all_pads()
         self.places = self.joined()
         self.name_by_records()
@@ -112,33 +119,42 @@ class Padlist:
         for piece, it in enumerate(self.objects):
             file = self.board.report.sources[piece][0]
             if file in (0, self.layers - 1) and is_pad(it):
-                what = ("region", it.region, it.copy) if it.region else ("flash", it.command, self.board.report.sources[piece][2] or it.copy)
+                what = ("region", it.region, it.copy, it.inner and it.command, it.inner) if it.region else \
+                    ("flash", it.command, self.board.report.sources[piece][2] or it.copy, it.inner)
                 groups[file, what, self.board.report.net_of[piece]].append(piece)
         return [self.pad(file + 1, net, pieces) for (file, _, net), pieces in groups.items()]
 
     def pad(self, layer, net, pieces):
-        left, low, right, high = box = cover([self.board.touching.box(piece) for piece in pieces])
-        found, it = Place(pieces, net, (layer, layer), middle_of(box), (right - left, high - low)), self.objects[pieces[0]]
+        shapes, it = self.board.shapes, self.objects[pieces[0]]
+        x, y = shapes.first(pieces[0])
+        form = tuple((shapes.radius[piece], tuple((v - x, w - y) for v, w in shapes.places(piece))) for piece in pieces)
+        if form not in self.forms:
+            self.forms[form] = self.measured(pieces, x, y)
+        (left, low), size, (across, up) = self.forms[form]
+        found = Place(pieces, net, (layer, layer), (x + left, y + low), size)
         found.name(it.part, it.pin, it.function == "ViaPad")
-        shapes = self.board.shapes
-        found.aim = aim(self.board.touching, pieces, found.middle, found.size)
-        found.is_round = len(pieces) == 1 and not shapes.is_area(pieces[0]) and len(shapes.places(pieces[0])) == 1
+        found.aim, found.is_round = (x + across, y + up), len(form) == 1 and form[0][0] >= 0 and len(form[0][1]) == 1
         return found
+
+    def measured(self, pieces, x, y):
+        """The middle, size and aim of a pad, places beside (x, y): found once for each form of pads."""
+        left, low, right, high = box = cover([self.board.touching.box(piece) for piece in pieces])
+        middle, size = middle_of(box), (right - left, high - low)
+        spot = aim(self.board.touching, pieces, middle, size)
+        return (middle[0] - x, middle[1] - y), size, (spot[0] - x, spot[1] - y)
 
     def name_by_records(self):
         """Part and pin of places by the netlist's records that lie on them, the nearest to the middle first."""
         board, places = self.board, self.places
         told = [(point, board.record(point), board.spot(point)) for point in range(len(board.report.points))]
         told = [it for it in told if it[1] and it[1].component and it[2]]
-        boxes = [cover([board.touching.box(piece) for piece in it.pieces]) for it in places] + [spot * 2 for _, _, spot in told]
+        boxes = [cover([board.touching.box(piece) for piece in it.pieces]) for it in places] if told else []
         found = defaultdict(list)
-        for i, j in grid.pairs(boxes):
-            if i >= len(places) > j:
-                point, record, spot = told[i - len(places)]
-                place = places[j]
-                if place.layers[0] <= board.layer(point) <= place.layers[1] and any(board.touching.holds(piece, spot) for piece in place.pieces):
-                    away = (spot[0] - place.middle[0]) ** 2 + (spot[1] - place.middle[1]) ** 2
-                    found[j].append((place.hole is None and record.component == VIA, away, point, record))
+        for j, k in grid.holding(boxes, [spot for _, _, spot in told]):
+            (point, record, spot), place = told[k], places[j]
+            if place.layers[0] <= board.layer(point) <= place.layers[1] and any(board.touching.holds(piece, spot) for piece in place.pieces):
+                away = (spot[0] - place.middle[0]) ** 2 + (spot[1] - place.middle[1]) ** 2
+                found[j].append((place.hole is None and record.component == VIA, away, point, record))
         for j, its in found.items():
             *_, record = min(its)
             if record.component == VIA:
@@ -149,14 +165,13 @@ class Padlist:
     def joined(self):
         """The holes with the pads about them, and the other pads."""
         board, about = self.board, set()
-        boxes = [board.touching.box(it.hole) for it in self.holes] + [it.middle * 2 for it in self.pads]
-        for i, j in grid.pairs(boxes):
-            if i >= len(self.holes) > j:
-                hole, pad = self.holes[j], self.pads[i - len(self.holes)]
-                layer = pad.layers[0]
-                if hole.layers[0] <= layer <= hole.layers[1] and hole.net == pad.net and board.touching.holds(hole.hole, pad.middle):
-                    hole.take(pad, layer == front(hole, self.layers))
-                    about.add(i - len(self.holes))
+        boxes = [board.touching.box(it.hole) for it in self.holes]
+        for j, k in grid.holding(boxes, [it.middle for it in self.pads]):
+            hole, pad = self.holes[j], self.pads[k]
+            layer = pad.layers[0]
+            if hole.layers[0] <= layer <= hole.layers[1] and hole.net == pad.net and board.touching.holds(hole.hole, pad.middle):
+                hole.take(pad, layer == front(hole, self.layers))
+                about.add(k)
         return self.holes + [pad for k, pad in enumerate(self.pads) if k not in about]
 
 

@@ -5,6 +5,7 @@ A vote decides what is tried, and nothing else: what is told is what `check` say
 import re
 from collections import Counter
 from fractions import Fraction as Q
+from functools import lru_cache
 
 from .netlist import U_OF, UNITS
 from .settings import SCALES
@@ -87,7 +88,8 @@ def flashes(package, index):
         at = [int(x) if x else at[0], int(y) if y else at[1]]
         if operation == "3":
             found.add((at[0], at[1]))
-    return {(round(x * step), round(y * step)) for x, y in found}
+    in_u = {v: round(v * step) for place in found for v in set(place)}
+    return {(in_u[x], in_u[y]) for x, y in found}
 
 
 def all_flashes(package):
@@ -107,15 +109,21 @@ def body_lines(text):
         body = body or line.strip() == "%"
 
 
+@lru_cache(maxsize=MANY)
+def length(digits, unit):
+    """A number with a point in u."""
+    return round(Q(digits) * unit)
+
+
 def hits(text):
     """Places of a drill file whose numbers have points, in u."""
-    unit, at = drill_unit(text), [Q(0), Q(0)]
+    unit, at = drill_unit(text), [0, 0]
     for line, body in body_lines(text) if unit else ():
         if body and "." in line and PLACE.search(line):
             for part in line.split("G85"):
                 for axis, sign, digits in PLACE.findall(part):
-                    at["XY".index(axis)] = Q(sign + digits) * unit
-                yield round(at[0]), round(at[1])
+                    at["XY".index(axis)] = length(sign + digits, unit)
+                yield tuple(at)
 
 
 def voters(package, text, without=()):

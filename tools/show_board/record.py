@@ -98,10 +98,17 @@ def text(record):
 
 # ---- verification
 
+def once(pairs):
+    """An object whose names differ: a reader and a program might take another one of two."""
+    if len(dict(pairs)) < len(pairs):
+        raise ValueError
+    return dict(pairs)
+
+
 def read(path):
     try:
         with open(path, "rb") as file:
-            record = json.loads(file.read().decode("utf-8"))
+            record = json.loads(file.read().decode("utf-8"), object_pairs_hook=once)
     except OSError as error:
         raise Stop(4, f"{path}: {error.strerror}") from None
     except ValueError:
@@ -115,6 +122,12 @@ def listed(record, key):
     """The entries of a list, none where it is no list of objects."""
     its = record.get(key)
     return [it for it in its if isinstance(it, dict)] if isinstance(its, list) else []
+
+
+def repeated(record, key, of):
+    """What a list says of one thing twice: the second of two may hide the first."""
+    names = [str(it.get(of)) for it in listed(record, key)]
+    yield from (f"the record has {counted(names.count(name), 'entry', 'entries')} of {name} under {key}" for name in dict.fromkeys(names) if names.count(name) > 1)
 
 
 def file_differences(record, now):
@@ -135,8 +148,14 @@ def report_differences(program, told, record):
     """Reports of the record that the audit does not confirm on these files, or that are others than today's."""
     ours = dict(packages(told))
     said = {str(it.get("of")): str(it.get("text")) for it in listed(record, "reports")}
-    if not said:
+    if ours and not said:
         yield "the record has no report"
+    for it in listed(record, "reports"):
+        if it.get("sha256") != sum_of(str(it.get("text")).encode("utf-8", "replace")):
+            yield f"its report of the {it.get('of')} has not the SHA-256 that the record says"
+        known = ours.get(str(it.get("of")))
+        if known and (it.get("line"), it.get("audit")) != (known.line, known.audit):
+            yield f"the answer on the {it.get('of')} was {it.get('line')} ({it.get('audit')}), and is {known.line} ({known.audit})"
     for word, text in said.items():
         if word not in ours:
             yield f"its report of the {word} is of no board here"
@@ -151,6 +170,7 @@ def report_differences(program, told, record):
 
 def differences(program, told, record, now):
     """All that is not as the record says."""
+    yield from (*repeated(record, "files", "name"), *repeated(record, "reports", "of"))
     yield from file_differences(record, now)
     yield from report_differences(program, told, record)
     for key, word in COMPARED:
@@ -174,5 +194,5 @@ def verify(program, told, shown, path):
     if other:
         shown.notes.append(f"the record of {record.get('date')} is by another program: now " + ", ".join(f"{key} {value}" for key, value in other.items()))
     shown.notes += [f"unlike the record: {words}" for words in found]
-    sums = "the record is of these files, and its report passes the audit"
+    sums = f"the record is of these files, and {'its report passes the audit' if packages(told) else 'neither it nor today has a report'}"
     shown.found(len(found), 0, sums if not found else f"unlike the record in {counted(len(found), 'point')}")

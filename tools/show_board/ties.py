@@ -97,7 +97,7 @@ class Ties:
 
     def parted(self, report):
         """The ties that no copper of a report makes."""
-        nets = nets_of(report)
+        nets = nets_of(report) if self.ties else {}
         return [it for it in self.ties if not nets.get(it.names[0], set()) & nets.get(it.names[1], set())]
 
     def counts(self, report):

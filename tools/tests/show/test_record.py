@@ -73,7 +73,10 @@ class Records(made.Case):
             ({"reports": []}, "the record has no report"), ({"reports": spoilt["reports"]}, "its report of the board does not pass the audit on these files: audit untrue 4"),
             ({"reports": "\ud800"}, "the record has no report"), ({"reports": [{"of": "board", "text": "\ud800"}]}, "does not pass the audit"),
             ({"files": agreed["files"][1:]}, "m.json is here and not in the record"), ({"files": agreed["files"] + [{"name": "x", "came": "0"}]}, "x is in the record and not here"),
-            ({"mends": ["a"]}, "the mends was a, and is none"),
+            ({"mends": ["a"]}, "the mends was a, and is none"), ({"files": agreed["files"] * 2}, "the record has 2 entries of m.json under files"),
+            ({"reports": spoilt["reports"] + agreed["reports"]}, "the record has 2 entries of board under reports"),
+            ({"reports": [{**agreed["reports"][0], "sha256": "0"}]}, "its report of the board has not the SHA-256 that the record says"),
+            ({"reports": [{**agreed["reports"][0], "audit": "audit untrue 1"}]}, "the answer on the board was agrees (audit untrue 1), and is agrees (audit true)"),
         ]
         for changes, words in rows:
             with self.subTest(words=words):
@@ -92,9 +95,19 @@ class Records(made.Case):
         self.assertEqual(status, 1)
         self.assertIn(f"unlike the record: top.gbr is another file: SHA-256 {sum_of(MACRO['top.gbr'])} in the record, {sum_of(self.read('board/top.gbr'))} here", lines)
 
+    def test_refused(self):
+        """A record of a board that was refused has no report, and is verified as it is."""
+        told = self.recorded({**MACRO, "top.gbr": "M02*\n%LPC*%\n"})
+        self.assertEqual((told["status"], told["reports"]), (3, []))
+        status, lines = self.verified()
+        self.assertEqual((status, [line for line in lines if "unlike" in line]), (3, []), lines)
+        self.assertIn("the record is of these files, and neither it nor today has a report", lines[0])
+        self.board({"top.gbr": "M02*\n%LPD*%\n"})
+        self.assertTrue(any("top.gbr is another file" in line for line in self.verified()[1]))
+
     def test_no_record(self):
         self.board(MACRO)
-        for text, words in (("[", "no JSON"), ("{}", "no record of the form 1"), ('{"boardnet_record": 2}', "no record of the form 1"), (None, "No such file")):
+        for text, words in (("[", "no JSON"), ('{"boardnet_record": 2, "boardnet_record": 1}', "no JSON"), ("{}", "no record of the form 1"), ('{"boardnet_record": 2}', "no record of the form 1"), (None, "No such file")):
             if text is not None:
                 self.write("r.json", text)
             status, out, _ = self.show("board", "--verify", "r.json" if text is not None else "none.json")

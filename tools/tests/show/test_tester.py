@@ -101,6 +101,24 @@ class Netlists(made.Case):
         self.assertTrue(600 <= max(abs(int(found[1]) - 10_000), abs(int(found[2]))) <= 1_000, body(text)[1])
         self.assertIn("U1 pin 1 by ", out)
 
+    def test_blocks(self):
+        """Each pad of a block's flash has its record: turned, mirrored and sized, in a block of a block, and in each copy."""
+        program = made.built()
+        if not program:
+            raise unittest.SkipTest("there is no built program")
+        pads = ["%ADD20R,0.6X0.4*%", "%TO.P,U1,1*%", *flash(20, (0, 0)), "%TO.P,U1,2*%", *flash(10, (3, 1)), "%TD*%", *draw(11, (3, 1), (5, 1))]
+        changed = ["%ABD13*%", *pads, "%AB*%", *flash(13, (10, 0)), "%LR90*%", *flash(13, (20, 0)), "%LMX*%", *flash(13, (30, 0)), "%LS2*%", *flash(13, (40, 0))]
+        nested = ["%ABD13*%", "%ABD14*%", *pads, "%AB*%", "%LR90*%", *flash(14, (0, 0)), "%LR0*%", "%SRX2Y1I8.0J0*%", *flash(14, (5, 0)), "%SR*%", "%AB*%",
+                  "%SRX1Y2I0J20.0*%", *flash(13, (50, 0)), "%SR*%"]
+        for lines, spots in ((changed, [(10, 0), (13, 1), (20, 0), (19, 3), (30, 0), (29, -3), (40, 0), (38, -6)]),
+                             (nested, [(50 + x, y + up) for up in (0, 20) for x, y in ((0, 0), (-1, 3), (5, 0), (8, 1), (13, 0), (16, 1))])):
+            files = {"m.json": manifest(), "top.gbr": gerber(*lines), "n.ipc": netlist(record("A", "J1.1", *spots[0]), record("B", "J1.2", *spots[1]))}
+            status, out, text = self.made(files, program)
+            found = [(line[20:31].split(), int(line[42:49]), int(line[50:57])) for line in body(text) if line.startswith("327")]
+            self.assertEqual(([it[1:] for it in found], status), ([(1000 * x, 1000 * y) for x, y in spots], 0), out)
+            self.assertEqual([it[0] for it in found][2:], [["U1", "-1"], ["U1", "-2"]] * (len(spots) // 2 - 1))
+            self.assertIn("`check` with it says: agrees (audit true)", out)
+
     def test_examples(self):
         """The netlist of each example agrees with it, also where its own netlist does not."""
         program = made.built()
