@@ -6,6 +6,7 @@ mod Each
 mod Ends
 mod Grown
 mod Lower
+mod Moved
 mod Places
 mod Radii
 mod Read
