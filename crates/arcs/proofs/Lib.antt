@@ -7,6 +7,7 @@ mod Ends
 mod Grown
 mod Lower
 mod Moved
+mod OneDistance
 mod Places
 mod Radii
 mod Read

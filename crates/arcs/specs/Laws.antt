@@ -2,7 +2,7 @@
 use Rattle.std.specs.Prelude.{ℤ, pos, ◌+ℤ◌, ◌-ℤ◌, ◌*ℤ◌, ◌≤ℤ◌, ◌<ℤ◌, ◌≡◌, ◌⊎◌}
 use Rattle.planar.specs.Plane.{Point, square}
 use Rattle.arcs.specs.declared.Arc.{Arc}
-use Rattle.arcs.specs.Copper.{InRing, InTurn, IsNear, Possibly, Surely, inmost, outmost, reach_of, swing}
+use Rattle.arcs.specs.Copper.{InRing, InTurn, IsNear, Possibly, Surely, inmost, outmost, reach_of, swing, unlike}
 
 -- What is in the copper of every curve is in that of some: so an arc draw has a copper, of which the one is the least and the other the most
 abbrev pub SurelyIsPossibly : Type 0
@@ -20,6 +20,10 @@ PossiblyOfEach = (a : Arc) (f : ℤ) (p : Point) → inmost a ≤ℤ f → f ≤
 -- and so is the round of each end
 abbrev pub PossiblyAtEnds : Type 0
 PossiblyAtEnds = (a : Arc) (p : Point) → IsNear (pos 2) (pos a.width) a.start p ⊎ IsNear (pos 2) (pos a.width) a.end p → Possibly a p
+
+-- Where the ends are at one distance, what is in the copper of some curve is in that of every one: the draw has one copper
+abbrev pub PossiblyIsSurely : Type 0
+PossiblyIsSurely = (a : Arc) (p : Point) → unlike a ≡ pos 0 → Possibly a p → Surely a p
 
 -- the centre that is equally far from both ends and nearest to the given one: moved along the way from end to end
 pub record IsMovedCentre (a : Arc) (q : Point) : Type 0 where
