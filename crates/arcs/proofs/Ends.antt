@@ -62,13 +62,13 @@ across n m i sx sy ex ey ax ay bx by some hi him way turn left right = elim (le_
 
 -- ---- and that of m times the point
 
-point_side : (m sx sy x y : ℤ) → sx *ℤ (m *ℤ y) -ℤ sy *ℤ (m *ℤ x) ≡ m *ℤ (sx *ℤ y -ℤ sy *ℤ x)
+pub point_side : (m sx sy x y : ℤ) → sx *ℤ (m *ℤ y) -ℤ sy *ℤ (m *ℤ x) ≡ m *ℤ (sx *ℤ y -ℤ sy *ℤ x)
 point_side m sx sy x y = simp ring (omega (arith, linear))
 
-is_left : (m sx sy x y : ℤ) → pos 1 ≤ℤ m → pos 0 ≤ℤ (sx *ℤ (m *ℤ y) -ℤ sy *ℤ (m *ℤ x)) → pos 0 ≤ℤ (sx *ℤ y -ℤ sy *ℤ x)
+pub is_left : (m sx sy x y : ℤ) → pos 1 ≤ℤ m → pos 0 ≤ℤ (sx *ℤ (m *ℤ y) -ℤ sy *ℤ (m *ℤ x)) → pos 0 ≤ℤ (sx *ℤ y -ℤ sy *ℤ x)
 is_left m sx sy x y some h = times_cancel m (pos 0) (sx *ℤ y -ℤ sy *ℤ x) some (omega (arith, linear, h, point_side m sx sy x y, times-zero m))
 
-is_right : (m sx sy x y : ℤ) → pos 1 ≤ℤ m → (sx *ℤ (m *ℤ y) -ℤ sy *ℤ (m *ℤ x)) ≤ℤ pos 0 → (sx *ℤ y -ℤ sy *ℤ x) ≤ℤ pos 0
+pub is_right : (m sx sy x y : ℤ) → pos 1 ≤ℤ m → (sx *ℤ (m *ℤ y) -ℤ sy *ℤ (m *ℤ x)) ≤ℤ pos 0 → (sx *ℤ y -ℤ sy *ℤ x) ≤ℤ pos 0
 is_right m sx sy x y some h = times_cancel m (sx *ℤ y -ℤ sy *ℤ x) (pos 0) some (omega (arith, linear, h, point_side m sx sy x y, times-zero m))
 
 -- ---- at an end

@@ -6,6 +6,8 @@ mod Each
 mod Ends
 mod Grown
 mod Lower
+mod Moved
+mod OneDistance
 mod Places
 mod Radii
 mod Read

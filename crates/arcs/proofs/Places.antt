@@ -34,7 +34,7 @@ whole_root : (n : ℕ) → Root (pos n)
 whole_root zero = record { i = pos 0; from = omega (arith, ints); under = omega (arith, ints); over = omega (arith, ints) }
 whole_root (suc n) = let e : pos n +ℤ pos 1 ≡ pos (suc n) = omega (arith, ints) in subst (λ (z : ℤ). Root z) e (next (pos n) (whole_root n))
 
-root_of : (n : ℤ) → pos 0 ≤ℤ n → Root n
+pub root_of : (n : ℤ) → pos 0 ≤ℤ n → Root n
 root_of (pos n) h = whole_root n
 root_of (negsuc n) h = absurd (omega (arith, ints, h))
 

@@ -1,19 +1,56 @@
 -- The least and the greatest distance that a curve of an arc may have.
-use Rattle.std.proofs.Common.{Bool, true, false, if◌then◌else◌, ℤ, pos, int_lt, ◌+ℤ◌, ◌-ℤ◌, ◌≤ℤ◌, arith}
+use Rattle.std.proofs.Common.{◌≡◌, inl, inr, ℕ, ◌+◌, ◌-◌, ◌*◌, ◌/◌, ◌≤◌, negsuc, Bool, true, false, if◌then◌else◌, ℤ, pos, int_lt, unsigned_abs, FitsSigned, to_z, of_z, to_z-of_z, ◌+ℤ◌, ◌-ℤ◌, ◌*ℤ◌, ◌≤ℤ◌, ◌<ℤ◌, arith, refl, sym, ap, ◌∙◌}
+use Rattle.std.specs.Int.{w128}
 use Rattle.std.proofs.lemmas.Int.{ints, clamps}
 use Rattle.std.specs.Int.{int_max}
 use Rattle.planar.specs.Plane.{dot_of}
-use Rattle.planar.proofs.Ring.{linear}
+use Rattle.planar.proofs.Ring.{ring, linear, le_or_lt, mul_comm, square_from_zero, square_zero, times_from_zero, times-zero}
 use Rattle.planar.proofs.SpotWithin.{whole_from_zero}
 use Rattle.arcs.specs.declared.Arc.{Arc}
-use Rattle.arcs.specs.Copper.{greater, inmost, lesser, outmost, spread, swing, unlike}
+use Rattle.arcs.specs.Copper.{apart, greater, inmost, lesser, outmost, spread, swing, times, unlike}
 
 from_either : (b : Bool) (d : ℤ) → pos 0 ≤ℤ d → pos 0 ≤ℤ (if b then d else pos 0)
 from_either true d h = h
 from_either false d h = omega (arith, ints)
 
-spread_from : (a : Arc) → pos 0 ≤ℤ spread a
-spread_from a = from_either (int_lt (swing a) (pos 0)) (unlike a) (omega (arith, ints, clamps))
+pub spread_from : (a : Arc) → pos 0 ≤ℤ spread a
+spread_from a = from_either (int_lt (swing a) (pos 0)) (unlike a *ℤ pos (times a)) (times_from_zero (unlike a) (pos (times a)) (omega (arith, ints, clamps)) (omega (arith, ints)))
+
+lt_true : (z : ℤ) → z <ℤ pos 0 → int_lt z (pos 0) ≡ true
+lt_true (pos n) h = absurd (omega (arith, ints, h))
+lt_true (negsuc n) h = refl
+
+pub spread_when : (a : Arc) → swing a <ℤ pos 0 → spread a ≡ unlike a *ℤ pos (times a)
+spread_when a h = ap (λ (b : Bool). if b then unlike a *ℤ pos (times a) else pos 0) (lt_true (swing a) h)
+
+-- ends on two sides of the centre's line are two spots
+pub apart_some : (a : Arc) → swing a <ℤ pos 0 → pos 1 ≤ℤ apart a
+apart_some a way = elim (le_or_lt (pos 1) (apart a)) [ inl l ↦ l | inr g ↦ absurd (none g) ]
+  where
+    crossed : (ux uy sx sy ex ey cx cy : ℤ) → ux ≡ sx -ℤ cx → uy ≡ sy -ℤ cy → ux *ℤ (ey -ℤ cy) -ℤ uy *ℤ (ex -ℤ cx) ≡ ux *ℤ (ey -ℤ sy) -ℤ uy *ℤ (ex -ℤ sx)
+    crossed ux uy sx sy ex ey cx cy hx hy =
+        let e : ux *ℤ (ey -ℤ cy) -ℤ uy *ℤ (ex -ℤ cx) ≡ ux *ℤ (ey -ℤ sy) -ℤ uy *ℤ (ex -ℤ sx) +ℤ (ux *ℤ (sy -ℤ cy) -ℤ uy *ℤ (sx -ℤ cx)) = simp ring (omega (arith, linear)) in
+        let f : ux *ℤ (sy -ℤ cy) -ℤ uy *ℤ (sx -ℤ cx) ≡ pos 0 = rw (← hx, ← hy) (omega (arith, linear, mul_comm ux uy)) in
+        omega (arith, linear, e, f)
+
+    none : apart a <ℤ pos 1 → ⊥
+    none g =
+        let fx = square_from_zero (a.end.x -ℤ a.start.x) in let fy = square_from_zero (a.end.y -ℤ a.start.y) in
+        let zx : a.end.x -ℤ a.start.x ≡ pos 0 = square_zero (a.end.x -ℤ a.start.x) (omega (arith, linear, g, fx, fy)) in
+        let zy : a.end.y -ℤ a.start.y ≡ pos 0 = square_zero (a.end.y -ℤ a.start.y) (omega (arith, linear, g, fx, fy)) in
+        let id : swing a ≡ (a.start.x -ℤ a.centre.x) *ℤ (a.end.y -ℤ a.start.y) -ℤ (a.start.y -ℤ a.centre.y) *ℤ (a.end.x -ℤ a.start.x) = crossed (a.start.x -ℤ a.centre.x) (a.start.y -ℤ a.centre.y) a.start.x a.start.y a.end.x a.end.y a.centre.x a.centre.y refl refl in
+        let z : swing a ≡ (a.start.x -ℤ a.centre.x) *ℤ pos 0 -ℤ (a.start.y -ℤ a.centre.y) *ℤ pos 0 = rw (zx, zy) at id in
+        omega (arith, linear, z, way, times-zero (a.start.x -ℤ a.centre.x), times-zero (a.start.y -ℤ a.centre.y))
+
+-- the spread, by the numbers of the code
+pub spread_read : (a : Arc) (near far k A : ℕ) (z : ℤ) → swing a <ℤ pos 0 → z ≡ swing a → FitsSigned w128 z → k ≡ unsigned_abs (to_z w128 (of_z w128 z)) → pos near ≡ lesser a → pos far ≡ greater a → near ≤ far → pos A ≡ apart a → pos ((far - near) * (k / A + 1)) ≡ spread a
+spread_read a near far k A z way is fits e low high order gap =
+    let kk : k ≡ unsigned_abs (swing a) = e ∙ (ap unsigned_abs (to_z-of_z fits) ∙ ap unsigned_abs is) in
+    let aa : A ≡ unsigned_abs (apart a) = ap unsigned_abs gap in
+    let u : pos (far - near) ≡ unlike a = omega (arith, ints, low, high, order) in
+    let t : k / A + 1 ≡ times a = ap (λ (n : ℕ). n / A + 1) kk ∙ ap (λ (n : ℕ). unsigned_abs (swing a) / n + 1) aa in
+    let p : pos ((far - near) * (k / A + 1)) ≡ pos (far - near) *ℤ pos (k / A + 1) = omega (arith, ints) in
+    p ∙ (ap (λ (z : ℤ). z *ℤ pos (k / A + 1)) u ∙ (ap (λ (n : ℕ). unlike a *ℤ pos n) t ∙ sym (spread_when a way)))
 
 pub inmost_from : (a : Arc) → pos 0 ≤ℤ inmost a
 inmost_from a = omega (arith, ints, clamps)
@@ -38,3 +75,9 @@ end_under a = above (greater a) (spread a) (dot_of a.centre a.end a.end) (spread
 
 pub in_order : (a : Arc) → inmost a ≤ℤ outmost a
 in_order a = omega (arith, linear, start_over a, start_under a)
+
+pub over_outmost : (a : Arc) (z : ℤ) → z ≤ℤ spread a → z ≤ℤ outmost a
+over_outmost a z h = by (greater a) (spread a) z (omega (arith, ints, clamps, whole_from_zero a.centre a.start)) h
+  where
+    by : (g s z : ℤ) → pos 0 ≤ℤ g → z ≤ℤ s → z ≤ℤ (g +ℤ s)
+    by g s z hg hz = omega (arith, ints, hg, hz)

@@ -1,9 +1,9 @@
 -- What the code's numbers and answers tell.
-use Rattle.std.proofs.Common.{◌≡◌, ℕ, negsuc, ℤ, pos, ◌+◌, ◌*◌, ◌≤◌, ◌*ℤ◌, ◌≤ℤ◌, unsigned_abs, FitsSigned, to_z, of_z, to_z-of_z, arith, ap, ◌∙◌}
+use Rattle.std.proofs.Common.{◌≡◌, Option, Some, None, SomeIff, ◌-◌, ◌<◌, ◌+ℤ◌, ◌^◌, ℕ, negsuc, ℤ, pos, ◌+◌, ◌*◌, ◌≤◌, ◌*ℤ◌, ◌≤ℤ◌, unsigned_abs, FitsSigned, to_z, of_z, to_z-of_z, arith, refl, ap, ◌∙◌}
 use Rattle.std.proofs.lemmas.Int.{ints}
 use Rattle.std.specs.Int.{w128}
 use Rattle.planar.specs.Plane.{square}
-use Rattle.arcs.specs.Chains.{HasRoom}
+use Rattle.arcs.specs.Chains.{HasRoom, IsHeld, IsRing}
 
 line_whole : (near whole off : ℕ) (d k : ℤ) → pos 0 ≤ℤ d → pos 0 ≤ℤ k → whole ≡ unsigned_abs d → off ≡ unsigned_abs k → near * near * whole ≤ off * off → (pos (near * near) *ℤ d) ≤ℤ square k
 line_whole near whole off (pos d) (pos k) hd hk e f l = let g : near * near * d ≤ k * k = rw (e, f) at l in omega (arith, ints, g)
@@ -32,3 +32,13 @@ room_read low high least most near k h l n = record {
     far_is = omega (arith, ints);
   };
 }
+
+pub held : (o : Option ℕ) (v : ℕ) (z : ℤ) → SomeIff o (v < 2 ^ 128) v → pos v ≡ z → IsHeld o z
+held None v z none is = rw (← is) (omega (arith, ints, none))
+held (Some x) v z some is = ap pos some.1 ∙ is
+
+pub root_some : (s far more r : ℕ) (g p : ℤ) → pos far ≡ g → pos more ≡ p → s ≡ far + more → s ≤ r * r → (g +ℤ p) ≤ℤ square (pos r)
+root_some s far more r g p hf hm is over = rw (← hf, ← hm) (omega (arith, ints, is, over))
+
+pub ring_some : (low high : ℤ) (least most k sub : ℕ) → high ≤ℤ square (pos most) → square (pos least) ≤ℤ low → sub ≡ most - k → IsRing (Some (sub, least + k)) low high (pos k)
+ring_some low high least most k sub over under is = room_read low high least most sub k under over (omega (arith, is))

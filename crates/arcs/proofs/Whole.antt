@@ -63,7 +63,7 @@ longer_mono w d a b hw l hb (inr h) = elim (le_or_lt (a -ℤ b -ℤ square d) (p
         let e : (z : ℤ) → b *ℤ z ≡ z *ℤ b = λ z. simp ring in
         omega (arith, linear, f, h, m, e (square (w +ℤ w)), e (square (d +ℤ d)))
 
-longer_by : (m w a b : ℤ) → AtMostLonger w a b → AtMostLonger (m *ℤ w) (square m *ℤ a) (square m *ℤ b)
+pub longer_by : (m w a b : ℤ) → AtMostLonger w a b → AtMostLonger (m *ℤ w) (square m *ℤ a) (square m *ℤ b)
 longer_by m w a b (inl h) = inl (rw (longer_scaled m w a b) (omega (arith, linear, times_mono (square m) (a -ℤ b -ℤ square w) (pos 0) (square_from_zero m) h, none)))
   where
     none : square m *ℤ pos 0 ≡ pos 0

@@ -1,5 +1,5 @@
 -- Chords and chains of chords.
-use Rattle.std.specs.Prelude.{ℤ, pos, ◌+ℤ◌, ◌*ℤ◌, ◌≤ℤ◌, ◌<ℤ◌, ◌≡◌, ◌⊎◌, ⊤, List, [], ◌∷◌}
+use Rattle.std.specs.Prelude.{ℕ, ◌^◌, Option, Some, None, ℤ, pos, ◌+ℤ◌, ◌*ℤ◌, ◌≤ℤ◌, ◌<ℤ◌, ◌≡◌, ◌⊎◌, ⊤, List, [], ◌∷◌}
 use Rattle.planar.specs.Plane.{cross_of, dot_of, square}
 use Rattle.planar.specs.declared.Spot.{Spot}
 
@@ -49,3 +49,18 @@ EachFrom P a (b ∷ rest) = P a b × EachFrom P b rest
 abbrev pub EndsAt : Spot → Spot → List Spot → Type 0
 EndsAt e a [] = a ≡ e
 EndsAt e a (b ∷ rest) = EndsAt e b rest
+
+-- the number, where it has 128 bits
+abbrev pub IsHeld : Option ℕ → ℤ → Type 0
+IsHeld None z = pos (2 ^ 128) ≤ℤ z
+IsHeld (Some n) z = pos n ≡ z
+
+-- a whole number whose square is at least z, where z has 128 bits
+abbrev pub IsRootOver : Option ℕ → ℤ → Type 0
+IsRootOver None z = pos (2 ^ 128) ≤ℤ z
+IsRootOver (Some n) z = z ≤ℤ square (pos n)
+
+-- distances of chords that are at most k off, where the greater square has 128 bits
+abbrev pub IsRing : Option (ℕ × ℕ) → ℤ → ℤ → ℤ → Type 0
+IsRing None low high k = pos (2 ^ 128) ≤ℤ high
+IsRing (Some ring) low high k = HasRoom low high (pos ring.0) (pos ring.1) k

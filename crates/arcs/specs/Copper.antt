@@ -1,7 +1,7 @@
 -- The copper of an arc draw with a round pen, as sets of rational points, without roots and angles.
 -- Sources, cited as docs/FORMATS.md says: Gerber Layer Format Specification, 4.7.2 (arcs: G02, G03, G75, the centre, the whole turn, ends at two distances), 4.8.2 (a draw with a round pen has round ends)
 -- Radii are fractions w/m, with m from 1 and w from 0
-use Rattle.std.specs.Prelude.{ℤ, pos, neg_ℤ, int_lt, if◌then◌else◌, ◌+ℤ◌, ◌-ℤ◌, ◌*ℤ◌, ◌≤ℤ◌, ◌<ℤ◌, ◌≡◌, ◌⊎◌, List, [], ◌∷◌}
+use Rattle.std.specs.Prelude.{ℕ, ◌+◌, ◌/◌, ℤ, pos, unsigned_abs, int_lt, if◌then◌else◌, ◌+ℤ◌, ◌-ℤ◌, ◌*ℤ◌, ◌≤ℤ◌, ◌<ℤ◌, ◌≡◌, ◌⊎◌, List, [], ◌∷◌}
 use Rattle.std.specs.Int.{int_min, int_max}
 use Rattle.planar.specs.Plane.{InCapsule, Point, cross_of, dot_of, square}
 use Rattle.planar.specs.declared.Spot.{Spot}
@@ -70,18 +70,19 @@ swing a = cross_of a.centre a.start a.end
 abbrev pub apart : Arc → ℤ
 apart a = dot_of a.start a.end a.end
 
--- Where the ends are at two distances: the circle through both whose centre is nearest to the given one goes round the given one; and its turn is of at most
--- about 307 degrees. Asked is what suffices, without roots. Ends in one line with the centre need neither
+-- Where the ends are at two distances: the circle through both whose centre is nearest to the given one goes round the given one. Asked is what suffices,
+-- without roots. Ends in one line with the centre do not need it
 abbrev pub IsMeant : Arc → Type 0
-IsMeant a =
-    (swing a ≡ pos 0) ⊎ ((unlike a ≡ pos 0) ⊎
-    (((pos 0 <ℤ swing a) × ((unlike a ≤ℤ (swing a +ℤ swing a)) ⊎ (unlike a ≤ℤ apart a))) ⊎
-    ((swing a <ℤ pos 0) × (unlike a ≤ℤ apart a) × (neg_ℤ (swing a) ≤ℤ apart a))))
+IsMeant a = (swing a ≡ pos 0) ⊎ ((unlike a ≤ℤ apart a) ⊎ (unlike a ≤ℤ (pos (unsigned_abs (swing a)) +ℤ pos (unsigned_abs (swing a)))))
 
--- How far a curve may leave the distances of the ends, by the squares: past a half turn by their difference, since there that circle leaves them, by less than
--- two thirds of it. Ends at one distance have none
+-- one more than the distance of the centre from the line through both ends, told in distances of the ends and rounded down
+abbrev pub times : Arc → ℕ
+times a = unsigned_abs (swing a) / unsigned_abs (apart a) + 1
+
+-- How far a curve may leave the distances of the ends, by the squares: past a half turn by so many times their difference, since there that circle leaves
+-- them. Ends at one distance have none
 abbrev pub spread : Arc → ℤ
-spread a = if int_lt (swing a) (pos 0) then unlike a else pos 0
+spread a = if int_lt (swing a) (pos 0) then unlike a *ℤ pos (times a) else pos 0
 
 -- the squares of the least and of the greatest distance that a curve may have from the centre
 abbrev pub inmost : Arc → ℤ

@@ -1,8 +1,8 @@
 -- Laws over the definitions.
-use Rattle.std.specs.Prelude.{ℤ, pos, ◌≤ℤ◌, ◌⊎◌}
-use Rattle.planar.specs.Plane.{Point}
+use Rattle.std.specs.Prelude.{ℤ, pos, ◌+ℤ◌, ◌-ℤ◌, ◌*ℤ◌, ◌≤ℤ◌, ◌<ℤ◌, ◌≡◌, ◌⊎◌}
+use Rattle.planar.specs.Plane.{Point, square}
 use Rattle.arcs.specs.declared.Arc.{Arc}
-use Rattle.arcs.specs.Copper.{InRing, InTurn, IsNear, Possibly, Surely, inmost, outmost, reach_of}
+use Rattle.arcs.specs.Copper.{InRing, InTurn, IsNear, Possibly, Surely, inmost, outmost, reach_of, swing, unlike}
 
 -- What is in the copper of every curve is in that of some: so an arc draw has a copper, of which the one is the least and the other the most
 abbrev pub SurelyIsPossibly : Type 0
@@ -20,3 +20,20 @@ PossiblyOfEach = (a : Arc) (f : ℤ) (p : Point) → inmost a ≤ℤ f → f ≤
 -- and so is the round of each end
 abbrev pub PossiblyAtEnds : Type 0
 PossiblyAtEnds = (a : Arc) (p : Point) → IsNear (pos 2) (pos a.width) a.start p ⊎ IsNear (pos 2) (pos a.width) a.end p → Possibly a p
+
+-- Where the ends are at one distance, what is in the copper of some curve is in that of every one: the draw has one copper
+abbrev pub PossiblyIsSurely : Type 0
+PossiblyIsSurely = (a : Arc) (p : Point) → unlike a ≡ pos 0 → Possibly a p → Surely a p
+
+-- the centre that is equally far from both ends and nearest to the given one: moved along the way from end to end
+pub record IsMovedCentre (a : Arc) (q : Point) : Type 0 where
+  pub along : (q.x -ℤ q.n *ℤ a.centre.x) *ℤ (a.end.y -ℤ a.start.y) ≡ (q.y -ℤ q.n *ℤ a.centre.y) *ℤ (a.end.x -ℤ a.start.x)
+  pub even : reach_of a.start q ≡ reach_of a.end q
+
+-- the point is as far from q as the start is
+abbrev pub IsAsFar : Arc → Point → Point → Type 0
+IsAsFar a q p = square (q.n *ℤ p.x -ℤ p.n *ℤ q.x) +ℤ square (q.n *ℤ p.y -ℤ p.n *ℤ q.y) ≡ square p.n *ℤ reach_of a.start q
+
+-- Past a half turn the circle through both ends about the moved centre keeps the distances that a curve may have
+abbrev pub MovedCircleIsHeld : Type 0
+MovedCircleIsHeld = (a : Arc) (q p : Point) → swing a <ℤ pos 0 → IsMovedCentre a q → IsAsFar a q p → ((square p.n *ℤ inmost a) ≤ℤ reach_of a.centre p) × (reach_of a.centre p ≤ℤ (square p.n *ℤ outmost a))

@@ -22,10 +22,12 @@ pub fn is_above(arc: &Arc, chain: &[Spot], r: u64) -> bool
     if r < half || chain.len() < 2 || !is_meant(arc) {
         return false;
     }
-    let (near, far) = ring_of(arc, r - half);
     let (first, rest) = first_and_rest(chain);
     if !is_same(first, arc.start) {
         return false;
     }
-    chain_round(arc.centre, near, far, first, rest, arc.end)
+    match ring_of(arc, r - half) {
+        Some(ring) => chain_round(arc.centre, ring.0, ring.1, first, rest, arc.end),
+        None => false,
+    }
 }

@@ -28,12 +28,8 @@ pub fn is_meant(arc: &Arc) -> bool
 {
     let swing = cross(arc.centre, arc.start, arc.end);
     let unlike = unlike_of(arc);
-    let apart = square_of(arc.start, arc.end);
-    if swing == 0 || unlike == 0 {
-        true
-    } else if swing > 0 {
-        unlike <= apart || unlike.saturating_sub(swing.unsigned_abs()) <= swing.unsigned_abs()
-    } else {
-        unlike <= apart && swing.unsigned_abs() <= apart
+    if swing == 0 || unlike <= square_of(arc.start, arc.end) {
+        return true;
     }
+    unlike.saturating_sub(swing.unsigned_abs()) <= swing.unsigned_abs()
 }

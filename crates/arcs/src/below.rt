@@ -21,7 +21,9 @@ pub fn is_below(arc: &Arc, chain: &[Spot], r: u64) -> bool
     if half < r || chain.is_empty() || !is_meant(arc) {
         return false;
     }
-    let (near, far) = ring_of(arc, half - r);
     let (first, rest) = first_and_rest(chain);
-    chain_inside(arc.centre, arc.start, arc.end, near, far, first, rest)
+    match ring_of(arc, half - r) {
+        Some(ring) => { chain_inside(arc.centre, arc.start, arc.end, ring.0, ring.1, first, rest) }
+        None => false,
+    }
 }

@@ -1,5 +1,5 @@
 //! Laws over the definitions. Their calls do nothing.
-ghost use Rattle.arcs.specs.Laws.{PossiblyAtEnds, PossiblyOfEach, SurelyIsPossibly, SurelyOfEach};
+ghost use Rattle.arcs.specs.Laws.{MovedCircleIsHeld, PossiblyAtEnds, PossiblyIsSurely, PossiblyOfEach, SurelyIsPossibly, SurelyOfEach};
 
 /// What lies in the copper of every curve of an arc lies in that of some.
 pub fn surely_is_possibly()
@@ -19,4 +19,15 @@ pub fn possibly_of_each()
 /// So do the rounds of both ends.
 pub fn possibly_at_ends()
     ensures { PossiblyAtEnds }
+{}
+
+/// Past a half turn the circle through both ends, whose centre is nearest to the given one, keeps the
+/// distances that a curve may have.
+pub fn moved_circle_is_held()
+    ensures { MovedCircleIsHeld }
+{}
+
+/// Where both ends are at one distance, what lies in the copper of some curve lies in that of every one.
+pub fn possibly_is_surely()
+    ensures { PossiblyIsSurely }
 {}

@@ -1,5 +1,5 @@
 //! Whole numbers round the radii of an arc.
-ghost use Rattle.arcs.specs.Chains.{HasRoom};
+ghost use Rattle.arcs.specs.Chains.{IsHeld, IsRing, IsRootOver};
 ghost use Rattle.arcs.specs.Copper.{greater, inmost, lesser, outmost, spread};
 ghost use Rattle.arcs.specs.declared.Arc.{Arc};
 ghost use Rattle.planar.specs.Plane.{IsPlaced, dot_of, square};
@@ -50,53 +50,77 @@ pub fn squares_of(arc: &Arc) -> (u128, u128)
     (first.min(last), first.max(last))
 }
 
-/// How far a curve may leave the distances of the ends, by the squares.
-fn spread_of(arc: &Arc) -> u128
+/// How far a curve may leave the distances of the ends, by the squares, where that has 128 bits.
+fn spread_of(arc: &Arc) -> Option<u128>
     requires centre { IsPlaced arc.now.centre }
     requires start { IsPlaced arc.now.start }
     requires end { IsPlaced arc.now.end }
-    ensures value { pos result ≡ spread arc.now }
-    ensures small { result < 2 ^ 127 }
+    ensures { IsHeld result (spread arc.now) }
 {
-    if cross(arc.centre, arc.start, arc.end) < 0 {
+    let swing = cross(arc.centre, arc.start, arc.end);
+    if swing < 0 {
         let (near, far) = squares_of(arc);
-        far - near
+        let apart = square_of(arc.start, arc.end);
+        (far - near).checked_mul(swing.unsigned_abs() / apart + 1)
     } else {
-        0
+        Some(0)
     }
 }
 
 /// A whole number that is not over the least distance that a curve may have.
-fn least_of(arc: &Arc) -> u128
+fn least_of(arc: &Arc, more: u128) -> u128
     requires centre { IsPlaced arc.now.centre }
     requires start { IsPlaced arc.now.start }
     requires end { IsPlaced arc.now.end }
+    requires is { pos more ≡ spread arc.now }
     ensures under { square (pos result) ≤ℤ inmost arc.now }
     ensures small { result < 2 ^ 64 }
 {
-    root_down(squares_of(arc).0.saturating_sub(spread_of(arc)))
+    root_down(squares_of(arc).0.saturating_sub(more))
 }
 
-/// A whole number that is not under the greatest.
-fn most_of(arc: &Arc) -> u128
+/// A whole number that is not under the greatest, where the square of that has 128 bits.
+fn most_of(arc: &Arc, more: u128) -> Option<u128>
     requires centre { IsPlaced arc.now.centre }
     requires start { IsPlaced arc.now.start }
     requires end { IsPlaced arc.now.end }
-    ensures over { outmost arc.now ≤ℤ square (pos result) }
-    ensures small { result ≤ 2 ^ 64 }
+    requires is { pos more ≡ spread arc.now }
+    ensures { IsRootOver result (outmost arc.now) }
 {
-    root_up(squares_of(arc).1 + spread_of(arc))
+    match squares_of(arc).1.checked_add(more) {
+        Some(square) => Some(root_up(square)),
+        None => None,
+    }
 }
 
-/// How near to the centre and how far from it a chord may be that is at most `k` off.
-pub fn ring_of(arc: &Arc, k: u64) -> (u128, u128)
+/// How near to the centre and how far from it a chord may be that is at most `k` off, where the square
+/// of the greatest distance that a curve may have has 128 bits.
+pub fn ring_of(arc: &Arc, k: u64) -> Option<(u128, u128)>
     requires centre { IsPlaced arc.now.centre }
     requires start { IsPlaced arc.now.start }
     requires end { IsPlaced arc.now.end }
-    ensures { HasRoom (inmost arc.now) (outmost arc.now) (pos result.0) (pos result.1) (pos k) }
+    ensures { IsRing result (inmost arc.now) (outmost arc.now) (pos k) }
 {
-    let k = k as u128;
-    let least = least_of(arc);
-    let most = most_of(arc);
-    (most.saturating_sub(k), least + k)
+    match spread_of(arc) {
+        Some(more) => ring_by(arc, more, k as u128),
+        None => None,
+    }
+}
+
+/// The same, where the spread is known.
+fn ring_by(arc: &Arc, more: u128, k: u128) -> Option<(u128, u128)>
+    requires centre { IsPlaced arc.now.centre }
+    requires start { IsPlaced arc.now.start }
+    requires end { IsPlaced arc.now.end }
+    requires is { pos more ≡ spread arc.now }
+    requires small { k < 2 ^ 64 }
+    ensures { IsRing result (inmost arc.now) (outmost arc.now) (pos k) }
+{
+    match most_of(arc, more) {
+        Some(most) => {
+            let least = least_of(arc, more);
+            Some((most.saturating_sub(k), least + k))
+        }
+        None => None,
+    }
 }

@@ -81,6 +81,35 @@ fn nearly_a_whole_turn(rt: HostRuntime) {
     assert!(rt; lies_between(&a, &chain, 903, 1097));
 }
 
+/// Ends that differ by a rounding: the nearer they are to each other, the further away is the circle
+/// through both from the distances of the ends. Where it is further than half the pen, nothing is sure.
+#[test]
+fn nearly_a_whole_turn_with_unlike_ends(rt: HostRuntime) {
+    let mut chain = round();
+    chain[16] = spot((4999, -100));
+    let one_off = arc((0, 0), (5000, 0), (4999, -100));
+    assert!(rt; lies_between(&one_off, &chain, 902, 1098));
+    chain[16] = spot((5003, -100));
+    let more_off = arc((0, 0), (5000, 0), (5003, -100));
+    assert!(rt; lies_between(&more_off, &chain, 702, 1298));
+    chain[16] = spot((5001, -2));
+    let near = arc((0, 0), (5000, 0), (5001, -2));
+    assert!(rt;
+        !is_below(&near, &chain, 0)
+            && is_above(&near, &chain, 3771)
+            && !is_above(&near, &chain, 3770)
+    );
+}
+
+/// Some 338 degrees.
+#[test]
+fn unlike_ends_further_apart(rt: HostRuntime) {
+    let mut chain = round();
+    chain[15] = spot((4619, -1920));
+    let a = arc((0, 0), (5000, 0), (4619, -1920));
+    assert!(rt; lies_between(&a, &chain[..16], 894, 1106));
+}
+
 /// A whole turn, also where no spot is opposite to the start, and the other way round.
 #[test]
 fn a_whole_turn(rt: HostRuntime) {
@@ -117,13 +146,9 @@ fn two_distances_past_a_half_turn(rt: HostRuntime) {
     assert!(rt; lies_between(&a, &chain[..13], 883, 1117));
 }
 
-/// Ends that differ too much for their turn: it is nearly a whole one, or the circle through both goes past the centre.
+/// Ends that differ too much for their turn: the circle through both goes past the centre.
 #[test]
 fn ends_too_unlike(rt: HostRuntime) {
-    let mut chain = round();
-    chain[15] = spot((4619, -1920));
-    let nearly = arc((0, 0), (5000, 0), (4619, -1920));
-    assert!(rt; !is_below(&nearly, &chain[..16], 0) && !is_above(&nearly, &chain[..16], 9000));
     let steep = [spot((10, 0)), spot((20, 1))];
     let short = arc((0, 0), (10, 0), (20, 1));
     assert!(rt; !is_below(&short, &steep, 0) && !is_above(&short, &steep, 9000));

@@ -1,0 +1,6 @@
+use Rattle.arcs.specs.Copper.{greater, spread}
+use Rattle.arcs.proofs.Read.{root_some}
+use Rattle.arcs.proofs.rings.most_of.Goals as goal
+
+pub returns-in-Some : goal.returns-in-Some
+returns-in-Some c = root_some c.in-Some.square c.squares_of.result.1 c.args.more c.root_up.result (greater c.args.arc.now) (spread c.args.arc.now) c.squares_of.ensures.far c.requires.is c.in-Some.ensures.1 c.root_up.ensures.over
