@@ -1,6 +1,6 @@
 use Rattle.std.proofs.Common.{arith}
 use Rattle.gerber_layer.proofs.Edges.{edges_few, few_shape}
-use Rattle.gerber_layer.proofs.reader.Reader.push.Goals as goal
+use Rattle.gerber_layer.proofs.reader.Reader.add_piece.Goals as goal
 
 pub overflow_add-self : goal.overflow_add-self
 overflow_add-self c =
