@@ -73,7 +73,7 @@ outline_of word n =
     else (if not (is_decimal (part 2 word)) then None
     else (if is_number (fraction (part 2 word)) n then Some (Outline n) else None))
 
--- what a word with n commas is by its code; its points say how many edges an outline has
+-- what a word with n commas is by its code; how many edges an outline has is told by n, and part 2 has to say the same
 unfoldable pub form_of : List ℕ → ℕ → Option Form
 form_of word n =
     if is_word (part 0 word) (codes "1") then Some Circle

@@ -81,7 +81,7 @@ fn form_at(word: &[u8], commas: usize) -> Option<Form>
     }
 }
 
-// What it is by its code.
+// What a word with so many commas is by its code.
 #[tactic(auto, unfolding(crate::specs::BodyWord::form_of))]
 fn form_of(word: &[u8], commas: usize) -> Option<Form>
     ensures value { result ≡ spec.form_of word.now commas }

@@ -32,7 +32,7 @@ impl Row {
 }
 
 impl Form {
-    /// The facts of the form.
+    /// What stands in a word of this form.
     pub fn row(self) -> Row
         requires { IsSized self }
         ensures { result ≡ row self }

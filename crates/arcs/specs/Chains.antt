@@ -50,17 +50,17 @@ abbrev pub EndsAt : Spot → Spot → List Spot → Type 0
 EndsAt e a [] = a ≡ e
 EndsAt e a (b ∷ rest) = EndsAt e b rest
 
--- the number, where it has 128 bits
+-- the number; none where it does not fit in 128 bits
 abbrev pub IsHeld : Option ℕ → ℤ → Type 0
 IsHeld None z = pos (2 ^ 128) ≤ℤ z
 IsHeld (Some n) z = pos n ≡ z
 
--- a whole number whose square is at least z, where z has 128 bits
+-- a whole number whose square is at least z; none where z does not fit in 128 bits
 abbrev pub IsRootOver : Option ℕ → ℤ → Type 0
 IsRootOver None z = pos (2 ^ 128) ≤ℤ z
 IsRootOver (Some n) z = z ≤ℤ square (pos n)
 
--- distances of chords that are at most k off, where the greater square has 128 bits
+-- distances of chords that are at most k off; none where the greater square does not fit in 128 bits
 abbrev pub IsRing : Option (ℕ × ℕ) → ℤ → ℤ → ℤ → Type 0
 IsRing None low high k = pos (2 ^ 128) ≤ℤ high
 IsRing (Some ring) low high k = HasRoom low high (pos ring.0) (pos ring.1) k

@@ -70,17 +70,17 @@ swing a = cross_of a.centre a.start a.end
 abbrev pub apart : Arc → ℤ
 apart a = dot_of a.start a.end a.end
 
--- Where the ends are at two distances: the circle through both whose centre is nearest to the given one goes round the given one. Asked is what suffices,
--- without roots. Ends in one line with the centre do not need it
+-- Of all circles through both ends, the one whose centre is nearest to the given centre has the given centre inside it. This is a condition without roots that
+-- suffices for that. Ends in one line with the centre need none
 abbrev pub IsMeant : Arc → Type 0
 IsMeant a = (swing a ≡ pos 0) ⊎ ((unlike a ≤ℤ apart a) ⊎ (unlike a ≤ℤ (pos (unsigned_abs (swing a)) +ℤ pos (unsigned_abs (swing a)))))
 
--- one more than the distance of the centre from the line through both ends, told in distances of the ends and rounded down
+-- how often the distance between the ends goes into the distance of the centre from the line through them, rounded down, and one more
 abbrev pub times : Arc → ℕ
 times a = unsigned_abs (swing a) / unsigned_abs (apart a) + 1
 
--- How far a curve may leave the distances of the ends, by the squares: past a half turn by so many times their difference, since there that circle leaves
--- them. Ends at one distance have none
+-- By how much the square of a distance from the centre may be outside those of the ends. Past a half turn it is their difference, so many times, since that circle
+-- leaves them there. Up to a half turn, and for ends at one distance, it is 0
 abbrev pub spread : Arc → ℤ
 spread a = if int_lt (swing a) (pos 0) then unlike a *ℤ pos (times a) else pos 0
 

@@ -50,7 +50,7 @@ pub fn squares_of(arc: &Arc) -> (u128, u128)
     (first.min(last), first.max(last))
 }
 
-/// How far a curve may leave the distances of the ends, by the squares, where that has 128 bits.
+/// The spread of the arc; `None` where it does not fit in 128 bits.
 fn spread_of(arc: &Arc) -> Option<u128>
     requires centre { IsPlaced arc.now.centre }
     requires start { IsPlaced arc.now.start }
@@ -79,7 +79,7 @@ fn least_of(arc: &Arc, more: u128) -> u128
     root_down(squares_of(arc).0.saturating_sub(more))
 }
 
-/// A whole number that is not under the greatest, where the square of that has 128 bits.
+/// A whole number that is not under the greatest distance; `None` where the square of that does not fit in 128 bits.
 fn most_of(arc: &Arc, more: u128) -> Option<u128>
     requires centre { IsPlaced arc.now.centre }
     requires start { IsPlaced arc.now.start }
@@ -93,8 +93,8 @@ fn most_of(arc: &Arc, more: u128) -> Option<u128>
     }
 }
 
-/// How near to the centre and how far from it a chord may be that is at most `k` off, where the square
-/// of the greatest distance that a curve may have has 128 bits.
+/// How near to the centre and how far from it a chord may be that is at most `k` off. `None` only where the
+/// square of the greatest distance that a curve may have does not fit in 128 bits.
 pub fn ring_of(arc: &Arc, k: u64) -> Option<(u128, u128)>
     requires centre { IsPlaced arc.now.centre }
     requires start { IsPlaced arc.now.start }

@@ -1,4 +1,4 @@
--- Laws of made packages: what lets them fit.
+-- Laws of made packages: how long their files and test records are.
 use Rattle.std.specs.Prelude.{◌≡◌, ℕ, ◌<◌, ◌≤◌, List, length, Some}
 use Rattle.board_maker.specs.MadeBoard.{test_record}
 use Rattle.board_maker.specs.MadePackage.{made_files}

@@ -6,7 +6,7 @@ pub fn made_files_are_short()
     ensures { MadeFilesAreShort }
 {}
 
-/// A test record of a made package fills the 57 columns of a netlist's line.
+/// A test record of a made package has the 57 columns of a netlist's line, and a line feed.
 pub fn test_records_fill_their_columns()
     ensures { TestRecordsFillTheirColumns }
 {}

@@ -56,7 +56,7 @@ labelled_board_of tables b = with_netlist b (named_by tables (reverse b.pieces))
 
 -- ---- One file
 
--- each file is taken, but the netlist where labels name the nets
+-- every file is taken, except the netlist where labels name the nets
 abbrev pub is_taken : Naming → Role → Bool
 is_taken ByLabels Netlist = false
 is_taken naming role = true

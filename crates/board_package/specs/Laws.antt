@@ -56,7 +56,8 @@ CutIsRefusedOrTheSame files manifest =
     (board : PlainBoard) → IsBoardOf files manifest board → (name : List ℕ) (n : ℕ) →
     ((stop : Stop) × IsRefusing stop × IsFirstStop (cut_off files name n) manifest stop) ⊎ IsBoardOf (cut_off files name n) manifest board
 
--- And of a package with a labelled board.
+-- Of a package with a labelled board: cutting one of its files off at any place is a refusal, which is never that of a label, or
+-- leaves the same labelled board.
 abbrev pub LabelledCutIsRefusedOrTheSame : Files → List ℕ → Type 0
 LabelledCutIsRefusedOrTheSame files manifest =
     (board : PlainBoard) → IsLabelledBoardOf files manifest board → (name : List ℕ) (n : ℕ) →

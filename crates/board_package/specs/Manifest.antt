@@ -138,7 +138,7 @@ IsOnBoard layers (Copper layer) = (1 ≤ layer) × (layer ≤ layers)
 IsOnBoard layers (Drill from to) = (1 ≤ from) × (from ≤ to) × (to ≤ layers)
 IsOnBoard layers Netlist = Unit {0}
 
--- 1 to MOST_LAYERS, and files on them
+-- 1 to MOST_LAYERS layers, and files on them
 pub record IsLawful (m : Manifest) : Type 0 where
   pub some : 1 ≤ m.layers
   pub few : m.layers ≤ MOST_LAYERS

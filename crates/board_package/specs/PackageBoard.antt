@@ -149,7 +149,7 @@ pub record IsBoardOf (files : Files) (name : List ℕ) (board : PlainBoard) : Ty
   pub walked : Walks files (order_of listed) (empty_board listed.layers) board
   pub frame : Fits (common_box board.pieces)
 
--- a lawful board of at most MOST_PIECES and MOST_LAYERS, as a package makes it
+-- a lawful board of at most MOST_PIECES pieces and MOST_LAYERS layers, as a package makes it
 pub record IsWithinLimits (board : PlainBoard) : Type 0 where
   pub lawful : IsLawfulBoard board
   pub few_pieces : length board.pieces ≤ MOST_PIECES

@@ -17,7 +17,7 @@ empty_board layers = record { pieces = []; probes = []; names = []; layers = lay
 abbrev pub with_pieces : PlainBoard → List PlainPiece → PlainBoard
 with_pieces b pieces = record { pieces = b.pieces ++ pieces; probes = b.probes; names = b.names; layers = b.layers }
 
--- the pieces and edges that may still come: a board has at most MOST_PIECES, and their contours MOST_EDGES
+-- the pieces and edges that may still come: a board has at most MOST_PIECES pieces, and their contours MOST_EDGES edges
 abbrev pub room_left : List PlainPiece → Room
 room_left pieces = record { pieces = MOST_PIECES - length pieces; edges = MOST_EDGES - edges_in pieces }
 

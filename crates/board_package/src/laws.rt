@@ -36,7 +36,7 @@ pub fn cut_is_refused_or_the_same()
 }
 
 /// Of a package with a labelled board: where one of its files, the manifest or another, is cut off at
-/// any place, the package is refused or has the same labelled board.
+/// any place, the package is refused, and not for a label, or has the same labelled board.
 pub fn labelled_cut_is_refused_or_the_same()
     ensures { (files : Files) (manifest : List ℕ) → LabelledCutIsRefusedOrTheSame files manifest }
 {

@@ -23,7 +23,7 @@ pub struct Parts {
 }
 
 impl Parts {
-    /// Nothing yet, on 1 to `MOST_LAYERS`.
+    /// Nothing yet, on 1 to `MOST_LAYERS` layers.
     pub fn new(alloc: Global, layers: u8) -> Parts
         requires some { 1 ≤ layers }
         requires few { layers ≤ MOST_LAYERS }
@@ -50,7 +50,7 @@ impl Parts {
     }
 }
 
-/// The pieces and edges that may still come behind these: a board has at most `MOST_PIECES` and `MOST_EDGES`.
+/// The pieces and edges that may still come behind these: a board has at most `MOST_PIECES` pieces and `MOST_EDGES` edges.
 pub fn room_left(pieces: &[Piece]) -> Room
     requires { length pieces.now ≤ MOST_PIECES }
     ensures { result ≡ spec.room_left (plain_pieces pieces.now) }

@@ -122,7 +122,8 @@ pub fn take_files<P: Package>(
     Ok(())
 }
 
-// Takes one file of the order, if it is needed, adds what it gives, and lists its labels, if they are.
+// Takes one file of the order, unless it is the netlist and labels name the nets. Adds what it gives, and lists its labels
+// where they name the nets.
 fn take_needed<P: Package>(
     alloc: Global,
     package: &mut P,

@@ -32,7 +32,7 @@ impl Shape {
         }
     }
 
-    /// The area that points bound which are known to be a contour: 4 to `MOST_CONTOUR_POINTS`, the last the first, each within 1 m.
+    /// The area of points that are known to be a contour: 4 to `MOST_CONTOUR_POINTS` points, the last the first again, each within 1 m.
     /// `NoMemory` where memory is wanted.
     pub fn area_of(alloc: Global, points: Vec<Spot>) -> Result<Shape, NoMemory>
         requires closed { IsClosed points.items }

@@ -126,7 +126,7 @@ abbrev pub reason_status : Unanswered → ℕ
 reason_status (Stopped why) = fault_status why
 reason_status other = 3
 
--- the line then, by the names of what the command is about and of its report
+-- and the line, by the names of its subject and of its report
 abbrev pub reason_line : (subject report : List ℕ) → Unanswered → List ℕ
 reason_line subject report (Stopped why) = fault_line subject why
 reason_line subject report NotAReport = file_line report (codes "not a report")

@@ -1,5 +1,5 @@
 -- What a command read: the files that a package holds, or those that it handed over between two points of the call, whether it
--- tells what it holds or not. Each relation here is one of `board_package`, by the one or by the other.
+-- tells what it holds or not. Each relation here is that of `board_package` for the one or for the other.
 use Rattle.std.specs.Prelude.{◌≡◌, ℕ, List}
 use Rattle.board_io.specs.Handed.{Handed}
 use Rattle.board_io.specs.Package.{Files}
@@ -36,7 +36,8 @@ pub record FitsWith (source : Source) (manifest : List ℕ) (P : PlainBoard → 
   pub board_is : IsBoardBy source manifest board
   pub good : P board
 
--- the package fits, with this board, and Then holds of what was read behind it
+-- The package fits, with this board, and Then holds of what was read behind it: of the same files, or of what was handed over
+-- after the package.
 abbrev pub FitsBefore : Source → List ℕ → PlainBoard → (Source → Type 0) → Type 0
 FitsBefore (Held files) manifest board Then = IsBoardOf files manifest board × Then (Held files)
 FitsBefore (HandedOver before after) manifest board Then = (built : List Handed) × IsBoardHanded before built manifest board × Then (HandedOver built after)

@@ -23,8 +23,8 @@ pub fn outcomes_agree()
     packages::handed_is_held();
 }
 
-/// What a command comes to over the same files has one status and one line, or is one refusal: texts differ in their trees
-/// alone.
+/// Two outcomes of a command over the same files have one status and one line, or are refusals with one line. Of their
+/// texts nothing is said.
 pub fn one_outcome()
     ensures { OneOutcome }
 {
@@ -36,7 +36,7 @@ pub fn one_outcome()
     verdicts::verdicts_differ_in_witnesses_only();
 }
 
-/// So has what it comes to in two calls that were handed over the same, unless a name was handed over twice with other bytes.
+/// So have its outcomes in two calls that were handed over the same, unless a name was handed over twice with other bytes.
 pub fn one_handed_outcome()
     ensures { OneHandedOutcome }
 {

@@ -91,8 +91,8 @@ pub fn run<P: Package, S: Sink, N: Sink>(
         × Gains (S.got out.old) text (S.got out.new) × Says N.got N.faults notes.old notes.new line) }
     ensures agreed { IfAgreed (P.handed «package».old) (P.handed «package».new) (λ files. (command : Asked) → Asks words.now command → Ends (λ p. Some files) P.faults P.lost S.got S.faults N.got N.faults command «package».old «package».new out.old out.new notes.old notes.new result) }
 
-    // What a package tells that it holds agrees with what it handed over in this call, under every status: so what is said of the
-    // one and of the other is said of the same bytes.
+    // Under every status, what a package tells that it holds agrees with what it handed over in this call: so what is said of the
+    // one and of the other is said of the same bytes. Of a package that tells nothing this says nothing.
     ensures consistent { IfSome (P.held «package».old) (λ files. AgreeWith files (P.handed «package».old) (P.handed «package».new)) }
 
     // 0 and 1: the output had no fault.

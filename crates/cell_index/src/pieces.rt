@@ -33,8 +33,7 @@ pub fn is_near<S: Meets<S>, L: Ledger>(
     items[p].touches(&items[q], frame, tests)
 }
 
-/// Of the pieces in the rising list keeps those that are other pieces than i and touch it. One tick of `tests` is one
-/// contact test.
+/// Keeps, of the pieces in the rising list, those other than i that touch it. One tick of `tests` is one contact test.
 pub fn keep_near<S: Meets<S>, L: Ledger>(
     items: &[Placed<S>],
     frame: Frame,

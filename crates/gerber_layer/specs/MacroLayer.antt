@@ -18,7 +18,7 @@ use Rattle.gerber_layer.specs.CommandEffects.{Place}
 abbrev pub with_macros : Dialect FlattenKind
 with_macros = record { command = command_with_macros; table = effect_with_macros }
 
--- the pieces stand on layer 1 of file 0, and there is room for MOST_PIECES and MOST_FLAT_EDGES
+-- the pieces stand on layer 1 of file 0, and there is room for MOST_PIECES pieces and MOST_FLAT_EDGES edges
 abbrev pub flat_place : Place
 flat_place = record { layer = 1; file = 0; room = record { pieces = MOST_PIECES; edges = MOST_FLAT_EDGES } }
 

@@ -170,7 +170,8 @@ fn keep_first<T: Copy>(first: Option<T>, set: T) -> Option<T>
     }
 }
 
-/// Goes behind a command that has no fault, by where it leads and the block that it opens. Only what it sets is written.
+/// Takes the settings on past a command that has no fault, by where it leads and the block that it opens. Only what the command
+/// sets is written.
 pub fn go_behind(settings: &mut Settings, command: &Command, to: Option<Spot>, next: Option<Repeat>)
     ensures { settings.new ≡ after settings.old (view command.now) to next }
 {

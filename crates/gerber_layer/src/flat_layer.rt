@@ -26,9 +26,9 @@ fn macro_fault_at(halt: Halt<FlattenKind>, command: u32, at: usize) -> FlattenFa
 /// A flash of a macro makes a piece for each of its primitives that has an image. The file's
 /// function is any.
 ///
-/// The pieces stand on layer 1 of file 0; at most `MOST_PIECES` with `MOST_FLAT_EDGES` in all come.
+/// The pieces stand on layer 1 of file 0; at most `MOST_PIECES` pieces with `MOST_FLAT_EDGES` edges in all come.
 /// `Refused` is the first command with a fault, and the first condition of its row that holds; want
-/// of memory is `NoMemory`. The file has at most `MOST_BYTES`.
+/// of memory is `NoMemory`. The file has at most `MOST_BYTES` bytes.
 pub fn read_flat(alloc: Global, file: &[u8]) -> Result<Vec<Piece>, FlattenFault>
     requires size { length file.now ≤ MOST_BYTES }
     ensures ok { IfOk result (λ pieces. IsReadWithMacros file.now (plain_pieces pieces.items)) }

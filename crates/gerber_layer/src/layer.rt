@@ -26,7 +26,7 @@ fn fault_at(halt: Halt<GerberKind>, command: u32, at: usize) -> LayerFault
 /// `layer` is from 1 to `MOST_LAYERS` and stands as span and in the file's function; `file_number` goes into the
 /// origins; `room` says how many pieces and edges may still come. `Refused` is the first command with
 /// a fault, and the first condition of its row that holds; want of memory is `NoMemory`. The file has at most
-/// `MOST_BYTES`.
+/// `MOST_BYTES` bytes.
 pub fn read_layer(
     alloc: Global,
     file: &[u8],

@@ -48,7 +48,7 @@ fn finished(alloc: Global, mut reader: Reader, line: u32) -> Result<Netlist, Rec
 }
 
 /// The probes of a netlist in record order and the distinct names of its nets, or the first faulty line. The board has
-/// 1 to `MOST_LAYERS`, the file at most `MOST_BYTES`.
+/// 1 to `MOST_LAYERS` layers, the file at most `MOST_BYTES` bytes.
 ///
 /// `Refused` gives the first line with a fault, from 1, and the first condition that it breaks; a file without `999` is
 /// refused at the next line number. `NoMemory` may come at any file.

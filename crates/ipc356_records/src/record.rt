@@ -59,7 +59,7 @@ impl<'a> Records<'a> {
     ghost use Rattle.texts.specs.Stepping.{Shortens};
     ghost use Rattle.ipc356_records.specs.Records.{ahead, Gives, IsShorter};
 
-    /// A file of at most `MOST_BYTES`, before its first line.
+    /// A file of at most `MOST_BYTES` bytes, before its first line.
     pub fn new(file: &'a [u8]) -> Records<'a>
         requires size { length file.now ≤ MOST_BYTES }
         ensures start { ahead result ≡ start file.now }

@@ -11,9 +11,9 @@ use std::alloc::Global;
 use texts::MOST_BYTES;
 
 /// The text of the image of a copper file that may have aperture macros: a copper file without macros that every layer
-/// reads as exactly the same shapes, in order; it has at most `MOST_BYTES`. Its attributes are dropped.
+/// reads as exactly the same shapes, in order; it has at most `MOST_BYTES` bytes. Its attributes are dropped.
 ///
-/// `Refused` is the file's first command with a fault; want of memory is `NoMemory`. The file has at most `MOST_BYTES`.
+/// `Refused` is the file's first command with a fault; want of memory is `NoMemory`. The file has at most `MOST_BYTES` bytes.
 pub fn flatten(alloc: Global, file: &[u8]) -> Result<Vec<u8>, FlattenFault>
     requires size { length file.now ≤ MOST_BYTES }
     ensures text { IfOk result (λ text. IsFlattened file.now text.items) }

@@ -83,7 +83,7 @@ fn ends_within(a: Spot, b: Spot, c: Spot, d: Spot, r: u64, frame: Frame) -> bool
 }
 
 /// Whether the starts of the segments from `a` to `b` and from `c` to `d`, or their ends, are at most
-/// `r` apart: a small test, which most copper passes that meets.
+/// `r` apart: a quick test, which most segments that are within `r` pass.
 fn are_near(a: Spot, b: Spot, c: Spot, d: Spot, r: u64) -> bool
     requires a_placed { IsPlaced a }
     requires b_placed { IsPlaced b }

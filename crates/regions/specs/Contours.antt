@@ -50,7 +50,7 @@ Closes (Err Open) closed = Err stays_open ≡ closed
 Closes (Err Short) closed = Err too_short ≡ closed
 Closes (Err NoMemory) closed = Unit {0}
 
--- the points have one more, or stay; the contour is too long where it has MOST_CONTOUR_EDGES
+-- the points have one more, or stay; the contour is too long where it has MOST_CONTOUR_EDGES edges
 abbrev pub Adds : List Spot → Spot → Result (Unit {0}) AddFault → List Spot → Type 0
 Adds old to (Ok done) new = new ≡ old ++ to ∷ []
 Adds old to (Err add.TooLong) new = (MOST_CONTOUR_EDGES < length old) × (new ≡ old)

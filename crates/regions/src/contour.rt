@@ -11,7 +11,7 @@ use thiserror::Error;
 /// Why an edge is not added.
 #[derive(Clone, Copy, Debug, PartialEq, Eq, Error)]
 pub enum AddFault {
-    /// There are `MOST_CONTOUR_EDGES` already.
+    /// There are `MOST_CONTOUR_EDGES` edges already.
     #[error("too many edges")]
     TooLong = 1,
     #[error("memory is wanted")]
@@ -57,7 +57,7 @@ impl Contour {
 
     /// Adds an edge from the last spot to this one, within 1 m.
     ///
-    /// `TooLong` where there are `MOST_CONTOUR_EDGES` already. A refusal changes nothing.
+    /// `TooLong` where there are `MOST_CONTOUR_EDGES` edges already. A refusal changes nothing.
     pub fn add(&mut self, to: Spot) -> Result<(), AddFault>
         requires { IsPlaced to }
         ensures { Adds (points_of self.old) to result (points_of self.new) }

@@ -38,7 +38,7 @@ impl<'a> Lines<'a> {
     ghost use Rattle.texts.specs.Lines.{start};
     ghost use Rattle.texts.specs.Stepping.{Gives, Shortens, ahead};
 
-    /// A file of at most `MOST_BYTES`, before its first line.
+    /// A file of at most `MOST_BYTES` bytes, before its first line.
     pub fn new(file: &'a [u8]) -> Lines<'a>
         requires { length file.now ≤ MOST_BYTES }
         ensures { ahead result ≡ start file.now }

@@ -7,7 +7,7 @@ ghost use Rattle.texts.specs.LastDigits.{last_digits};
 use crate::numerals::Numeral;
 use std::alloc::AllocError;
 
-/// Puts bytes. Written into its callers, so that a few known bytes are stored and not copied by a call.
+/// Puts bytes. It is inlined, so that a few known bytes are stored directly and not copied by a call.
 #[inline(always)]
 pub fn put(text: &mut Vec<u8>, bytes: &[u8]) -> Result<(), AllocError>
     ensures { OnOk result (text.new.items ≡ text.old.items ++ bytes.now) }

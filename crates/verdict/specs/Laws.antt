@@ -11,11 +11,11 @@ use Rattle.verdict.specs.Right.{IsRight}
 abbrev pub ReportTextIsInjective : Type 0
 ReportTextIsInjective = (v w : Verdict) → IsVerdict v → IsVerdict w → report_text v ≡ report_text w → v ≡ w
 
--- a report that another begins with is all of it, so what is cut off from a report is none
+-- a report that another begins with is that whole report: so a report without its end is no report
 abbrev pub NoReportIsAFront : Type 0
 NoReportIsAFront = (v w : Verdict) (rest : List ℕ) → IsVerdict v → IsVerdict w → report_text v ++ rest ≡ report_text w → rest ≡ []
 
--- the report of a verdict with no more parts and no greater numbers than the limits of a package allow is short enough to be a file
+-- the report of version 1 of a verdict with few parts and small numbers is short enough to be a file
 abbrev pub ReportsAreShort : Type 0
 ReportsAreShort = (v : Verdict) → HasSmallParts v → HasFewParts v → v.more ≡ None → length (report_text v) ≤ most_bytes
 

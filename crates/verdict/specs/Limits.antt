@@ -1,4 +1,5 @@
--- Verdicts on boards within the limits of a package: how much there is of what a report lists, and how long the report may be.
+-- How much a verdict lists, and how long its report of version 1 may be: numbers and counts as boards within the limits of a
+-- package have them.
 use Rattle.std.specs.Prelude.{◌≡◌, ℕ, ◌<◌, ◌≤◌, List, length, IfSome}
 use Rattle.std.specs.List.{AllByRecursion, sum_by}
 use Rattle.tables.specs.Tables.{Tables}
@@ -10,7 +11,7 @@ use Rattle.verdict.specs.declared.verdict.Branch.{Branch}
 use Rattle.verdict.specs.declared.verdict.Short.{Short}
 use Rattle.verdict.specs.declared.verdict.Verdict.{Verdict}
 
--- a number of at most six digits, as all numbers of a report on a board within the limits are
+-- a number of at most six digits, as those of a report of version 1 on a board within the limits should be
 abbrev pub HasSixDigits : ℕ → Type 0
 HasSixDigits n = n < 1_000_000
 
@@ -66,8 +67,8 @@ pub record HasSmallParts (v : Verdict) : Type 0 where
   pub shorts : AllByRecursion IsSmallShort v.shorts
   pub bare : AllByRecursion HasSixDigits v.bare
 
--- At most 200,000 pieces in at most as many nets, 400,000 points with 200,000 names, an open and a branch for each point, and
--- each piece and each branch's last piece in a branch.
+-- At most 200,000 pieces in at most as many nets, and 400,000 points with 200,000 names. No more opens and no more branches than
+-- points. In all branches together no more pieces than the board has, and one more for each branch.
 pub record HasFewParts (v : Verdict) : Type 0 where
   pub nets : length v.nets ≤ 200_000
   pub twigs : sum_by net_length v.nets ≤ 200_000

@@ -12,14 +12,14 @@ pub fn no_report_is_a_front()
     ensures { NoReportIsAFront }
 {}
 
-/// The report of a verdict without a supplement is at most 67,108,864 bytes long, where it has no more parts and no greater
-/// numbers than the limits of a package allow: so it is short enough to be audited.
+/// The report of a verdict without a supplement is at most `MOST_BYTES` bytes long, where its parts are few and its numbers
+/// small (`HasFewParts`, `HasSmallParts`). That a right verdict within the limits of a package has such parts is not proved.
 pub fn reports_are_short()
     ensures { ReportsAreShort }
 {}
 
-/// A right verdict has no more twigs and nets than the board has pieces, one line for each point, and no more opens, branches and points
-/// without copper than points.
+/// A right verdict has no more twigs and nets than the board has pieces, and one line for each point. It has no more opens, no
+/// more branches and no more bare points than there are points.
 pub fn right_verdicts_are_few()
     ensures { RightVerdictsAreFew }
 {}

@@ -61,7 +61,7 @@ fn list_word(
 ///
 /// A `TO.N` word gives its field 1 as name, or `N/C` where that is missing or empty; the others give none. `Bad` comes
 /// exactly at the first `TO.N` word whose field 1 is not empty and no text of 1 to 200 bytes from 32 to 126; want of memory
-/// is `NoMemory`. The file has at most `MOST_BYTES`.
+/// is `NoMemory`. The file has at most `MOST_BYTES` bytes.
 pub fn labels(alloc: Global, file: &[u8]) -> Result<Rows<Label>, LabelFault>
     requires size { length file.now ≤ MOST_BYTES }
     ensures ok { IfOk result (λ labels. IsRead file.now labels) }

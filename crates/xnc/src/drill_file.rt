@@ -49,7 +49,7 @@ fn finished(mut reader: Reader, at: usize) -> Result<Vec<Piece>, DrillFault>
 
 /// The barrels of a drill file: one for each hit, slot and straight rout, in the order of the
 /// lines, with half the tool's diameter as radius, on the layers of the span. The file has at most
-/// `MOST_BYTES`, `file_number` counts from 0, and `room.pieces` is how many pieces may come.
+/// `MOST_BYTES` bytes, `file_number` counts from 0, and `room.pieces` is how many pieces may come.
 ///
 /// `Refused` gives the first line with a fault, its number from 1, the offset of its first byte,
 /// and the first condition that it breaks; a file without `M30` is refused at the next line number,
