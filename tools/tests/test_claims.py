@@ -31,6 +31,12 @@ class Claims(unittest.TestCase):
         call = read("crates", "boardnet", "src", "run.rt").partition("pub fn run<")[2].partition("\n{\n")[0]
         self.assertEqual(told, set(re.findall(r"(?m)^    ensures (\w+) \{", call)))
 
+    def test_readme(self):
+        said = read("README.md").partition("## What is proved")[2].partition("Not proved:")[0]
+        told = {name for head in ("Clause", "Law") for first, *_ in rows(head) for name in NAME.findall(first)}
+        named = {name for cited in re.findall(r"\((`[^)]*)\)", said) for name in NAME.findall(cited)}
+        self.assertTrue(named and named <= told, named - told)
+
     def test_laws(self):
         before = []
         for laws, crates, *_ in rows("Law"):

@@ -26,6 +26,8 @@ ELSEWHERE = {
 STATUSES = {"boardnet x2": 1}
 COMMAND = re.compile(r"(?:boardnet(?!:)|\./boardnet|tools/\w+|benches/\w+|bash|find|rt|kicad-cli)(?: |$)")
 INLINE = re.compile(r"`([^`\n]+)`")
+# What a page names as a file or folder of ours; the ending of a definition or a proof may be left out.
+FILE = re.compile(r"[\w./]+\.(?:rt|py|antt)|(?:src|specs|proofs|benches|tools|docs)/[\w/]+")
 # Options of other tools, which our pages name.
 OTHER_OPTIONS = {"--excellon-separate-th", "--root=FOLDER"}
 
@@ -34,6 +36,13 @@ def pages(patterns):
     """The names of pages, from the top."""
     found = [path for it in patterns for path in sorted(glob.glob(os.path.join(common.TOP, it)))]
     return [os.path.relpath(path, common.TOP) for path in found]
+
+
+def all_files():
+    """The paths of all files but what was built."""
+    for folder, folders, names in os.walk(common.TOP):
+        folders[:] = [it for it in folders if it not in (".git", "out")]
+        yield from (os.path.join(folder, name) for name in names)
 
 
 def read(name):
@@ -105,6 +114,13 @@ class Docs(common.Case):
             for target in re.findall(r"\]\(([^)#\s]+)(?:#[^)]*)?\)", read(name)):
                 if "://" not in target:
                     self.assertTrue(os.path.exists(os.path.join(common.TOP, os.path.dirname(name), target)), f"{name}: {target}")
+
+    def test_files(self):
+        paths = [f"{path}/" for path in all_files()]
+        for name in pages(ALL):
+            for code in INLINE.findall(read(name)):
+                if FILE.fullmatch(code) and "NAME" not in code:
+                    self.assertTrue(any(f"/{code}/" in path or f"/{code}." in path for path in paths), f"{name}: {code}")
 
     def test_release(self):
         release = read("tools/release").strip()
