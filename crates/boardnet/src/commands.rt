@@ -1,6 +1,6 @@
 //! The commands: the words that ask for each, and its work, which has a file of its own (`gap`
 //! for `gaps`, since no module may be named as a library is).
-ghost use Rattle.board_io.specs.Handed.{AgreeWith};
+ghost use Rattle.board_io.specs.Handed.{AgreeWith, Grows};
 ghost use Rattle.boardnet.specs.Answers.{IsAnswerTo, status_of};
 ghost use Rattle.boardnet.specs.Command.{asked};
 ghost use Rattle.boardnet.specs.Ends.{HasNames, Leaves};
@@ -119,6 +119,7 @@ pub fn answer_to<P: Package>(alloc: Global, command: Command, package: &mut P) -
     requires { HasNames (asked command) }
     ensures handed { IfOk result (IsAnswerTo (HandedOver (P.handed «package».old) (P.handed «package».new)) (asked command.entry)) }
     ensures handed_reason { IfErr result (HasHandedReason (HandedOver (P.handed «package».old) (P.handed «package».new)) (asked command.entry) (P.faults «package».old) (P.faults «package».new) (P.lost «package».new)) }
+    ensures grows { Grows (P.handed «package».old) (P.handed «package».new) }
     ensures consistent { IfSome (P.held «package».old) (λ files. AgreeWith files (P.handed «package».old) (P.handed «package».new)) }
     ensures leaves { Leaves P.held P.faults P.lost «package».old «package».new result }
     ensures untouched { (seed size : ℕ) → asked command.entry ≡ Trial seed size → «package».new ≡ «package».old }

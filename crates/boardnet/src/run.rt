@@ -1,5 +1,5 @@
 //! The top call.
-ghost use Rattle.board_io.specs.Handed.{AgreeWith, IfAgreed};
+ghost use Rattle.board_io.specs.Handed.{AgreeWith, Grows, IfAgreed};
 ghost use Rattle.boardnet.specs.Command.{asked};
 ghost use Rattle.boardnet.specs.Ends.{Ends, HasNames};
 ghost use Rattle.boardnet.specs.HandedOutcome.{EndsHanded};
@@ -91,8 +91,10 @@ pub fn run<P: Package, S: Sink, N: Sink>(
         × Gains (S.got out.old) text (S.got out.new) × Says N.got N.faults notes.old notes.new line) }
     ensures agreed { IfAgreed (P.handed «package».old) (P.handed «package».new) (λ files. (command : Asked) → Asks words.now command → Ends (λ p. Some files) P.faults P.lost S.got S.faults N.got N.faults command «package».old «package».new out.old out.new notes.old notes.new result) }
 
-    // Under every status, what a package tells that it holds agrees with what it handed over in this call: so what is said of the
-    // one and of the other is said of the same bytes. Of a package that tells nothing this says nothing.
+    // Under every status, what was handed over in this call stands behind what had been handed over before it, and what a package
+    // tells that it holds agrees with it: so what is said of the one and of the other is said of the same bytes. Of a package that
+    // tells nothing the second clause says nothing.
+    ensures grows { Grows (P.handed «package».old) (P.handed «package».new) }
     ensures consistent { IfSome (P.held «package».old) (λ files. AgreeWith files (P.handed «package».old) (P.handed «package».new)) }
 
     // 0 and 1: the output had no fault.
@@ -209,6 +211,7 @@ fn perform<P: Package, S: Sink, N: Sink>(
     ensures agreed { IfAgreed (P.handed «package».old) (P.handed «package».new) (λ files. Ends (λ p. Some files) P.faults P.lost S.got S.faults N.got N.faults (asked command.entry) «package».old «package».new out.old out.new notes.old notes.new result) }
     ensures ends { Ends P.held P.faults P.lost S.got S.faults N.got N.faults (asked command.entry) «package».old «package».new out.old out.new notes.old notes.new result }
     ensures handed { EndsHanded (HandedOver (P.handed «package».old) (P.handed «package».new)) (asked command.entry) (P.lost «package».new) S.handed S.got N.got N.faults out.old out.new notes.old notes.new result }
+    ensures grows { Grows (P.handed «package».old) (P.handed «package».new) }
     ensures consistent { IfSome (P.held «package».old) (λ files. AgreeWith files (P.handed «package».old) (P.handed «package».new)) }
     ensures delivered { result ≤ 1 → S.faults out.new ≡ S.faults out.old }
     ensures untouched { (seed size : ℕ) → asked command.entry ≡ Trial seed size → «package».new ≡ «package».old }

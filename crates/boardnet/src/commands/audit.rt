@@ -1,5 +1,5 @@
 //! The command `audit`.
-ghost use Rattle.board_io.specs.Handed.{AgreeWith};
+ghost use Rattle.board_io.specs.Handed.{AgreeWith, Grows};
 ghost use Rattle.board_io.specs.Package.{IsFaultless};
 ghost use Rattle.board_package.specs.Causes.{HandedCause, KeepsFaults};
 ghost use Rattle.board_shapes.specs.Laws.{HasOneTables};
@@ -46,6 +46,7 @@ pub fn ruling<P: Package>(alloc: Global, manifest: &str, report: &str, package: 
     requires report { IsText report.now }
     ensures handed { IfOk result (IsAnswerTo (HandedOver (P.handed «package».old) (P.handed «package».new)) (Audit manifest.now report.now)) }
     ensures handed_reason { IfErr result (HasHandedReason (HandedOver (P.handed «package».old) (P.handed «package».new)) (Audit manifest.now report.now) (P.faults «package».old) (P.faults «package».new) (P.lost «package».new)) }
+    ensures grows { Grows (P.handed «package».old) (P.handed «package».new) }
     ensures consistent { IfSome (P.held «package».old) (λ files. AgreeWith files (P.handed «package».old) (P.handed «package».new)) }
     ensures leaves { Leaves P.held P.faults P.lost «package».old «package».new result }
 {
@@ -95,6 +96,7 @@ fn taken<P: Package>(
     requires manifest { IsText manifest.now }
     requires report { IsText report.now }
     ensures held { P.held «package».new ≡ P.held «package».old }
+    ensures grows { Grows (P.handed «package».old) (P.handed «package».new) }
     ensures consistent { IfSome (P.held «package».old) (λ files. AgreeWith files (P.handed «package».old) (P.handed «package».new)) }
     ensures later { P.faults «package».old ≤ P.faults «package».new }
     ensures calm { IfOk result (λ _. IsFaultless (P.faults «package».old) (P.lost «package».old) (P.faults «package».new) (P.lost «package».new)) }

@@ -1,5 +1,5 @@
 //! The command `flatten`.
-ghost use Rattle.board_io.specs.Handed.{AgreeWith};
+ghost use Rattle.board_io.specs.Handed.{AgreeWith, Grows};
 ghost use Rattle.boardnet.specs.Answers.{IsAnswerTo, status_of};
 ghost use Rattle.boardnet.specs.Ends.{Leaves};
 ghost use Rattle.boardnet.specs.HandedOutcome.{HasHandedReason};
@@ -19,6 +19,7 @@ pub fn flat_text<P: Package>(alloc: Global, file: &str, package: &mut P) -> Answ
     requires { IsText file.now }
     ensures handed { IfOk result (IsAnswerTo (HandedOver (P.handed «package».old) (P.handed «package».new)) (Flatten file.now)) }
     ensures handed_reason { IfErr result (HasHandedReason (HandedOver (P.handed «package».old) (P.handed «package».new)) (Flatten file.now) (P.faults «package».old) (P.faults «package».new) (P.lost «package».new)) }
+    ensures grows { Grows (P.handed «package».old) (P.handed «package».new) }
     ensures consistent { IfSome (P.held «package».old) (λ files. AgreeWith files (P.handed «package».old) (P.handed «package».new)) }
     ensures leaves { Leaves P.held P.faults P.lost «package».old «package».new result }
     ensures unjudged { IfOk result (λ answer. status_of answer.note ≡ 0) }

@@ -1,5 +1,5 @@
 //! The command `gaps`.
-ghost use Rattle.board_io.specs.Handed.{AgreeWith};
+ghost use Rattle.board_io.specs.Handed.{AgreeWith, Grows};
 ghost use Rattle.board_shapes.specs.Plain.{plain_board};
 ghost use Rattle.boardnet.specs.Command.{asked};
 ghost use Rattle.boardnet.specs.Answers.{IsAnswerTo, IsUngapped, line_of, status_of};
@@ -52,6 +52,7 @@ pub fn gap_list<P: Package>(
     requires most { nanometres ≤ 10_000_000 }
     ensures handed { IfOk result (IsAnswerTo (HandedOver (P.handed «package».old) (P.handed «package».new)) (Gaps manifest.now nanometres)) }
     ensures handed_reason { IfErr result (HasHandedReason (HandedOver (P.handed «package».old) (P.handed «package».new)) (Gaps manifest.now nanometres) (P.faults «package».old) (P.faults «package».new) (P.lost «package».new)) }
+    ensures grows { Grows (P.handed «package».old) (P.handed «package».new) }
     ensures consistent { IfSome (P.held «package».old) (λ files. AgreeWith files (P.handed «package».old) (P.handed «package».new)) }
     ensures leaves { Leaves P.held P.faults P.lost «package».old «package».new result }
 {

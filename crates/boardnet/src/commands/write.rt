@@ -1,5 +1,5 @@
 //! The command `write`.
-ghost use Rattle.board_io.specs.Handed.{AgreeWith};
+ghost use Rattle.board_io.specs.Handed.{AgreeWith, Grows};
 ghost use Rattle.board_shapes.specs.Plain.{plain_board};
 ghost use Rattle.boardnet.specs.Answers.{IsAnswerTo, status_of};
 ghost use Rattle.boardnet.specs.Ends.{Leaves};
@@ -22,6 +22,7 @@ pub fn netlist<P: Package>(alloc: Global, manifest: &str, package: &mut P) -> An
     requires { IsText manifest.now }
     ensures handed { IfOk result (IsAnswerTo (HandedOver (P.handed «package».old) (P.handed «package».new)) (Write manifest.now)) }
     ensures handed_reason { IfErr result (HasHandedReason (HandedOver (P.handed «package».old) (P.handed «package».new)) (Write manifest.now) (P.faults «package».old) (P.faults «package».new) (P.lost «package».new)) }
+    ensures grows { Grows (P.handed «package».old) (P.handed «package».new) }
     ensures consistent { IfSome (P.held «package».old) (λ files. AgreeWith files (P.handed «package».old) (P.handed «package».new)) }
     ensures leaves { Leaves P.held P.faults P.lost «package».old «package».new result }
     ensures unjudged { IfOk result (λ answer. status_of answer.note ≡ 0) }

@@ -1,5 +1,5 @@
 //! The command `x2`.
-ghost use Rattle.board_io.specs.Handed.{AgreeWith};
+ghost use Rattle.board_io.specs.Handed.{AgreeWith, Grows};
 ghost use Rattle.boardnet.specs.Answers.{IsAnswerTo};
 ghost use Rattle.boardnet.specs.Ends.{Leaves};
 ghost use Rattle.boardnet.specs.HandedOutcome.{HasHandedReason};
@@ -20,6 +20,7 @@ pub fn labelled_report<P: Package>(alloc: Global, manifest: &str, package: &mut 
     requires { IsText manifest.now }
     ensures handed { IfOk result (IsAnswerTo (HandedOver (P.handed «package».old) (P.handed «package».new)) (X2 manifest.now)) }
     ensures handed_reason { IfErr result (HasHandedReason (HandedOver (P.handed «package».old) (P.handed «package».new)) (X2 manifest.now) (P.faults «package».old) (P.faults «package».new) (P.lost «package».new)) }
+    ensures grows { Grows (P.handed «package».old) (P.handed «package».new) }
     ensures consistent { IfSome (P.held «package».old) (λ files. AgreeWith files (P.handed «package».old) (P.handed «package».new)) }
     ensures leaves { Leaves P.held P.faults P.lost «package».old «package».new result }
 {

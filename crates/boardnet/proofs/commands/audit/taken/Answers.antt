@@ -1,4 +1,5 @@
 use Rattle.std.proofs.Common.{ℕ, List, subst}
+use Rattle.board_io.proofs.Agreeing.{grows_on}
 use Rattle.board_package.proofs.Lift.{agrees_on, climbs}
 use Rattle.board_package.specs.HandedBoard.{IsHanded}
 use Rattle.boardnet.proofs.Audits.{package_handed, report_handed}
@@ -29,3 +30,9 @@ returns-in_err-take_file-clause-consistent g c = agrees_on _ _ _ _ _ c.board_of.
 
 pub returns-clause-consistent : goal.returns-clause-consistent
 returns-clause-consistent g c = agrees_on _ _ _ _ _ c.board_of.ensures.held c.board_of.ensures.grows c.take_file.ensures.grows c.board_of.ensures.consistent c.take_file.ensures.consistent
+
+pub returns-in_err-take_file-clause-grows : goal.returns-in_err-take_file-clause-grows
+returns-in_err-take_file-clause-grows g c = grows_on _ _ _ c.board_of.ensures.grows c.take_file.ensures.grows
+
+pub returns-clause-grows : goal.returns-clause-grows
+returns-clause-grows g c = grows_on _ _ _ c.board_of.ensures.grows c.take_file.ensures.grows
