@@ -13,7 +13,7 @@ use Rattle.cell_index.specs.Among.{TouchAmong, UnderAmong}
 use Rattle.cell_index.specs.Field.{IsNear}
 use Rattle.cell_index.specs.Homes.{UnderProbe}
 use Rattle.flood.specs.Laws.{HomesAreOfTheBoard, NetsAreOfTheBoard}
-use Rattle.lengths.specs.declared.NoMemory.{NoMemory}
+use Rattle.lengths.specs.declared.rows.NoMemory.{NoMemory}
 use Rattle.tables.specs.Consistent.{AreConsistent}
 use Rattle.tables.specs.Lists.{AreLeast}
 use Rattle.tables.specs.Tables.{Tables}
