@@ -78,16 +78,19 @@ def goes_once(turn, chain):
 
 def arc_chain(centre, start, end):
     """(spots, most): at each angle of the sweep chain and arc are at most `most` apart, for every curve whose distance from
-    the centre stays between those of its ends; past half a turn its square may leave theirs by their difference. So the circle
-    through both ends whose centre is nearest to the given one is such a curve, up to five sixths of a turn. Where no chain goes
-    round once, its place is the whole disc about the centre."""
+    the centre stays between those of its ends; past half a turn its square may leave theirs by their difference, times one more than
+    the centre's distance from the line through both, told in distances of the ends and rounded down. So the circle through both ends
+    whose centre is nearest to the given one is such a curve, wherever it goes round that. Where no chain goes round once, its place
+    is the whole disc about the centre."""
     near, far = sorted((dot(centre, start, start), dot(centre, end, end)))
     least, most = isqrt(near), ceil_root(far)
     if least < LEAST:
         return [start, end], 2 * most + 1
     chain = arc_points(centre, start, end, (least + most) // 2)
-    if cross(centre, start, end) < 0:
-        least, most = isqrt(max(2 * near - far, 0)), ceil_root(2 * far - near)
+    swing = cross(centre, start, end)
+    if swing < 0:
+        spread = (far - near) * (-swing // dot(start, end, end) + 1)
+        least, most = isqrt(max(near - spread, 0)), ceil_root(far + spread)
     inner, outer = least, most
     if len(chain) < 2 or not goes_once(lambda p, q: cross(centre, p, q), chain):
         return [start, end], 2 * most + 1

@@ -8,19 +8,23 @@ from show_board.spots import cross, dot
 
 
 def is_meant(centre, start, end):
-    """Ends at two distances are taken where the circle through both with the nearest centre goes round the given one, up to about 307 degrees."""
+    """Ends in one line with the centre are taken, and those where the circle through both with the nearest centre goes round the given one."""
     swing, apart = cross(centre, start, end), dot(start, end, end)
     unlike = abs(dot(centre, start, start) - dot(centre, end, end))
-    if swing == 0 or unlike == 0:
-        return True
-    return unlike <= max(2 * swing, apart) if swing > 0 else unlike <= apart and -swing <= apart
+    return swing == 0 or unlike <= apart or unlike <= 2 * abs(swing)
+
+
+def spread(centre, start, end):
+    """Past a half turn the squares of a curve's distances leave those of the ends by so much."""
+    swing, apart = cross(centre, start, end), dot(start, end, end)
+    unlike = abs(dot(centre, start, start) - dot(centre, end, end))
+    return unlike * (abs(swing) // apart + 1) if swing < 0 else 0
 
 
 def ring(centre, start, end, k):
     """How near to the centre and how far from it a chord may be that is at most k off."""
     low, high = sorted((dot(centre, start, start), dot(centre, end, end)))
-    spread = high - low if cross(centre, start, end) < 0 else 0
-    low, high = max(low - spread, 0), high + spread
+    low, high = max(low - spread(centre, start, end), 0), high + spread(centre, start, end)
     most = isqrt(high) + (isqrt(high) ** 2 < high)
     return max(most - k, 0), isqrt(low) + k
 
@@ -59,7 +63,7 @@ def is_above(centre, start, end, width, chain, r):
 
 
 def arcs(count):
-    """Arcs of 1 um to 79 mm: ends at one distance (mirror images of a spot), at two up to 303 degrees, and whole turns."""
+    """Arcs of 1 um to 79 mm: ends at one distance (mirror images of a spot), at two up to nearly a whole turn, and whole turns."""
     for k in range(count):
         radius, angle = int(10 ** random.uniform(4, 8.9)), random.uniform(0, 2 * pi)
         centre = (random.randint(-10 ** 8, 10 ** 8), random.randint(-10 ** 8, 10 ** 8))
@@ -67,7 +71,7 @@ def arcs(count):
         u, v = place(angle)
         mirrored = [(u, v), (-v, u), (-u, -v), (v, -u), (u, -v), (v, u), (-u, v), (-v, -u)]
         start = (u, v)
-        end = (random.choice(mirrored), place(angle + random.uniform(0.01, 5.3)), start)[k % 3]
+        end = (random.choice(mirrored), place(angle + random.uniform(0.01, 6.25)), start)[k % 3]
         yield centre, *((centre[0] + x, centre[1] + y) for x, y in (start, end))
 
 
@@ -104,14 +108,14 @@ class TestArcChains(unittest.TestCase):
             if not swing or not is_meant((0, 0), start, end):
                 continue
             low, high = sorted((dot((0, 0), start, start), dot((0, 0), end, end)))
-            spread = high - low if swing < 0 else 0
+            more = spread((0, 0), start, end)
             shift = (dot((0, 0), end, end) - dot((0, 0), start, start)) / (2 * apart)
             x, y = (shift * (end[j] - start[j]) for j in (0, 1))
             radius = hypot(start[0] - x, start[1] - y)
             first, last = (atan2(p[1] - y, p[0] - x) for p in (start, end))
             places = [(x + radius * cos(t), y + radius * sin(t)) for t in (first + (last - first) % (2 * pi) * k / 200 for k in range(201))]
             with self.subTest(start=start, end=end):
-                self.assertTrue(all(low - spread - 1e-6 <= px * px + py * py <= high + spread + 1e-6 for px, py in places))
+                self.assertTrue(all(low - more - 1e-6 <= px * px + py * py <= high + more + 1e-6 for px, py in places))
                 self.assertTrue(all(a[0] * b[1] - a[1] * b[0] > 0 for a, b in zip(places, places[1:])))
 
     def test_other_turns_are_refused(self):
