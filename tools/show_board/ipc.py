@@ -5,6 +5,7 @@ Columns 72 to 80 are blank: solder masks are not read.
 """
 import re
 from collections import defaultdict
+from itertools import count
 
 from . import points
 from .board import NO_NET
@@ -15,6 +16,7 @@ from .words import at_most, counted, millimetres, spoken
 NAME = re.compile(r"(?!NNAME)[!-~]{1,14}")
 UNIT_WORDS = {10_000: "0.001 mm", 25_400: "0.0001 inch"}
 FEW = 6             # nets and pads that are named in a line
+MOST = 9_999        # what the four digits of a size hold
 
 
 # ---- names
@@ -41,6 +43,7 @@ class Names:
             for name in names:
                 nets_of[name].append(net)
         self.taken, self.alias = set(nets_of), {}
+        self.aliases = (word for word in (f"NNAME{k}" for k in count(1)) if word not in self.taken)
         self.several = sorted(name for name, nets in nets_of.items() if len(nets) > 1)
         self.joined = [sorted(names) for _, names in sorted(on_nets.items()) if len(names) > 1]
         own = {net: next(iter(names)) for net, names in on_nets.items() if len(names) == 1}
@@ -60,19 +63,28 @@ class Names:
         if NAME.fullmatch(name):
             return name
         if name not in self.alias:
-            self.alias[name] = self.free("NNAME", len(self.alias) + 1)
+            self.alias[name] = next(self.aliases)
         return self.alias[name]
 
 
 # ---- records
+
+def in_ascii(name):
+    """A name with each other character as Gerber files may write it."""
+    try:
+        name = name.encode("latin-1").decode("utf-8")
+    except UnicodeError:
+        pass
+    return "".join(it if " " <= it <= "~" else f"\\u{ord(it):04X}" if it <= "\uffff" else f"\\U{ord(it):08X}" for it in name)
+
 
 def plain(text, width):
     return re.sub("[^!-~]", "?", text)[:width]
 
 
 def whole(length, unit):
-    """A size in four digits: rounded, and at most what they hold."""
-    return min(9999, (2 * length + unit) // (2 * unit))
+    """A size in four digits: rounded, at least 1 (a height of 0 stands for a round pad), and at most what they hold."""
+    return min(MOST, max(1, (2 * length + unit) // (2 * unit)))
 
 
 class Row:
@@ -108,6 +120,10 @@ class Row:
         """Whether it is farther from the middle than rounding brings it."""
         return 2 * self.off(unit) > unit * unit
 
+    def is_over(self, unit, drill):
+        """Whether a size is more than its columns hold."""
+        return max(*self.place.size, drill) > MOST * unit
+
     def told(self):
         it = self.place
         return f"{it.part} pin {it.pin}" if it.part and it.pin else it.part or f"a {'hole' if it.hole is not None else 'pad'} at {millimetres(it.middle[0])}, {millimetres(it.middle[1])} mm"
@@ -140,20 +156,23 @@ class Netlist:
         rows = {}
         for row in (Row(it, at, layers) for it, at in zip(padlist.places, found) if at is not None):
             rows.setdefault(row.key(), row)
-        self.rows = list(rows.values())
+        named = {(row.access, row.at[:2]) for row in rows.values() if row.place.part}
+        self.rows = [row for row in rows.values() if row.place.part or row.place.hole is not None or (row.access, row.at[:2]) not in named]
+
+    def drill(self, place):
+        return 2 * self.board.shapes.radius[place.hole] if place.hole is not None else 0
 
     def text(self):
-        shapes, lines = self.board.shapes, []
+        lines = []
         for row in self.rows:
             it = row.place
             if it.part and (len(it.part) > 6 or len(it.pin) > 4 or plain(it.part, 6) != it.part or plain(it.pin, 4) != it.pin):
                 lines.append(f"C PIN,{plain(it.part, 60)},{plain(it.pin, 60)}")
             if row.is_moved(self.unit):
                 lines.append(f"C the next record is {at_most(row.away(self.unit))} mm from the middle of its pad")
-            drill = 2 * shapes.radius[it.hole] if it.hole is not None else 0
-            lines.append(row.line(self.unit, self.names.field(it.net), drill))
+            lines.append(row.line(self.unit, self.names.field(it.net), self.drill(it)))
         head = [f"C boardnet show: the nets of the copper of {plain(self.title.replace(' ', '_'), 40)}", "P  VER IPC-D-356A", f"P  UNITS CUST {points.CUST[self.unit]}"]
-        aliases = [f"P  {alias}  {re.sub('[^ -~]', '?', name)}" for name, alias in self.names.alias.items()]
+        aliases = [f"P  {alias}  {in_ascii(name)}" for name, alias in self.names.alias.items()]
         none = [f"C net without a record: {self.net_word(net)}" for net in self.without()]
         return "\n".join([*head, *aliases, *lines, *none, "999", ""])
 
@@ -176,6 +195,9 @@ class Netlist:
         if moved:
             yield f"{counted(len(moved), 'place')} farther from the middle of the pad, so that copper is there: " + spoken(
                 (f"{row.told()} by {at_most(row.away(self.unit))} mm" for row in moved), FEW)
+        over = [row for row in self.rows if row.is_over(self.unit, self.drill(row.place))]
+        if over:
+            yield f"{counted(len(over), 'record')} with a size of {MOST}, the most that its columns hold: {spoken((row.told() for row in over), FEW)}"
         yield from self.wanting()
 
     def wanting(self):

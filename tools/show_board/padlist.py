@@ -36,10 +36,14 @@ class Place:
         self.is_via = self.is_via or is_via
 
     def take(self, pad, is_in_front):
-        """Takes what is said of a pad about a hole, and its size where the hole is touched on that side."""
+        """Takes what is said of a pad about a hole, and the size of the largest one where the hole is touched."""
         self.name(pad.part, pad.pin, pad.is_via)
-        if is_in_front:
+        if is_in_front and pad.size[0] * pad.size[1] >= self.size[0] * self.size[1]:
             self.size, self.is_round = pad.size, pad.is_round
+
+    def is_of_other(self, pad):
+        """Whether a pad is another pin's."""
+        return bool(self.part and pad.part) and (self.part, self.pin) != (pad.part, pad.pin)
 
 
 def repeated(objects):
@@ -163,13 +167,14 @@ class Padlist:
                 places[j].name(record.component, record.pin, False)
 
     def joined(self):
-        """The holes with the pads about them, and the other pads."""
+        """The holes with the pads about them, and the other pads: also those of other pins over a hole that has one."""
         board, about = self.board, set()
         boxes = [board.touching.box(it.hole) for it in self.holes]
         for j, k in grid.holding(boxes, [it.middle for it in self.pads]):
             hole, pad = self.holes[j], self.pads[k]
             layer = pad.layers[0]
-            if hole.layers[0] <= layer <= hole.layers[1] and hole.net == pad.net and board.touching.holds(hole.hole, pad.middle):
+            is_about = hole.layers[0] <= layer <= hole.layers[1] and hole.net == pad.net and board.touching.holds(hole.hole, pad.middle)
+            if is_about and not hole.is_of_other(pad):
                 hole.take(pad, layer == front(hole, self.layers))
                 about.add(k)
         return self.holes + [pad for k, pad in enumerate(self.pads) if k not in about]

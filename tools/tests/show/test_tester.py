@@ -89,6 +89,32 @@ class Netlists(made.Case):
                 self.assertEqual([words for words in ("1 pad without a place on the grid",) if words in out], more)
                 self.assertEqual(len(body(text)), 2)
 
+    def test_sizes(self):
+        """A size is never 0, which would stand for a round pad, and is told where its columns do not hold it."""
+        text = gerber("%ADD20R,3X0.0004*%", "%ADD21R,12X11*%", *flash(20, (0, 0)), *flash(21, (20, 0)))
+        status, out, text = self.made({"m.json": manifest(), "top.gbr": text, "n.ipc": netlist(record("A", "J1.1", 0, 0), record("B", "J1.2", 20, 0))})
+        self.assertEqual((status, [line[57:] for line in body(text)]), (0, ["X3000Y0001R000", "X9999Y9999R000"]))
+        self.assertIn("  1 record with a size of 9999, the most that its columns hold: J1 pin 2\n", out)
+
+    def test_pads_at_one_place(self):
+        """Pins on both sides of a hole have a record each, the hole the size of the largest pad; a pad without a pin has none where one with it is."""
+        files = {"m.json": manifest(["t.gbr", "b.gbr"], [("p.drl", 1, 2)]), "p.drl": drill((0.0, 0.0)),
+                 "t.gbr": gerber("%TO.P,U1,1*%", *flash(12, (0, 0)), *flash(11, (0, 0)), "%TD*%", *flash(10, (5, 0)), "%TO.P,U3,1*%", *flash(12, (5, 0))),
+                 "b.gbr": gerber("%TO.P,U2,7*%", *flash(10, (0, 0))), "n.ipc": netlist(record("A", "", 0, 0, "00"), record("B", "", 5, 0))}
+        status, _, text = self.made(files)
+        self.assertEqual((status, body(text)), (0, [
+            "317A                U1    -1    D0400PA00X+000000Y+000000X1000Y1000R000", "327B                U3    -1          A01X+005000Y+000000X1000Y1000R000",
+            "327A                U2    -7          A02X+000000Y+000000X1000Y0000R000"]))
+
+    def test_aliases(self):
+        """Each is NNAME and a number that no net is called; other characters than ASCII stay apart."""
+        names = ["NNAME2", "\u00e9 a name", "\u00e8 a name", "x" * 15]
+        lines = [line for k, name in enumerate(names) for line in (*label(name), *flash(10, (3 * k, 0)))]
+        _, _, text = self.made({"m.json": manifest(), "top.gbr": gerber(*lines).encode(), "n.ipc": netlist(record("A", "", 90, 0), record("B", "", 91, 0))})
+        told = dict(line[3:].split("  ", 1) for line in text.split("\n") if line.startswith("P  NNAME"))
+        self.assertEqual(told, {"NNAME1": "NNAME2", "NNAME3": "\\u00E9 a name", "NNAME4": "\\u00E8 a name", "NNAME5": "x" * 15})
+        self.assertEqual([line[3:17].strip() for line in body(text)], list(told))
+
     def test_macro_with_a_hole(self):
         """A flash of a macro is one pad; its record is where it has copper."""
         program = made.built()
