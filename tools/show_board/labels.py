@@ -4,13 +4,13 @@ One test point for each flash and each contour of a region with a pin, on the la
 each with a net. A pad of several nets has a point of each and declares that they are tied. What is known so are opens and shorts
 against the copper's own names: that these are the right ones nothing says.
 """
-import os
 import re
 from typing import NamedTuple
 
-from . import UNCLEAR, UNDECIDED, Stop, clear, netlist, points, ties, two_sides
+from . import UNCLEAR, Stop, clear, netlist, points, ties, two_sides
 from .exact import Refused
 from .manifest import Manifest
+from .own_names import MADE
 from .package import UNREADABLE
 from .side import words_of
 from .tree import Tree
@@ -19,10 +19,6 @@ from .words import at_most, counted, spoken
 # Mode, X and Y of an operation, and its code where it is no draw.
 OPERATION = re.compile(r"(G0?[123])?(X[+-]?\d+)?(Y[+-]?\d+)?(?:I[+-]?\d+)?(?:J[+-]?\d+)?(?:D0?(?:1|([23])))?")
 COMMENT = re.compile(r"G04 #@! ?(T[OD].*)")
-FIRST = "by the copper's own names, so that only opens and shorts against those are known: "
-MADE = "C made by boardnet show of the copper's own attributes"
-# Statuses of an answer: agrees, differs, undecided.
-ANSWERS = (0, 1, UNDECIDED)
 NO_NAMES = "the copper files do not say of which pins or nets their pads are (TO.P, TO.N): export Gerber X2 with net attributes"
 
 
@@ -259,12 +255,6 @@ def need_holes(package, found):
     if through and not package.manifest.drills:
         raise Stop(UNCLEAR, f"{counted(through, 'pin')} of the copper files stand on several layers, and there is no drill file of plated holes, which join them: "
                             "export it in the Excellon format; where the board truly has no plated hole, say --no-drills")
-
-
-def made_before(package):
-    """The package's netlist, where it was made here, as --keep keeps it; else nothing."""
-    name = package.manifest.netlist
-    return name if os.path.exists(package.path(name)) and package.read(name).startswith(MADE.encode()) else ""
 
 
 def use(package, may_lack_holes):

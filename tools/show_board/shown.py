@@ -1,7 +1,7 @@
 """One board, from its files to its findings."""
 import os
 
-from . import FAULT, UNDECIDED, UNJUDGED, Stop, beside, copper, fault_of, findings, judged, labels, mending, netlist, package, report, same_pins, ties, unjudged
+from . import FAULT, UNDECIDED, UNJUDGED, Stop, beside, copper, fault_of, findings, judged, mending, netlist, own_names, package, report, ties, unjudged
 from .board import Board
 
 NO_PLACES = "this program writes reports of version 1, which do not say where copper is from: what is told is the report and the netlist alone"
@@ -100,13 +100,14 @@ def look(program, told, shown, wants_picture):
         shown.status, shown.line = UNJUDGED, nothing
 
 
-def own_names(files, asked):
+def by_own_names(files, asked):
     """Has the board judged by the copper's own names where there is no netlist or where it is asked; answers the notes."""
     if not files.manifest:
         return []
     if files.manifest.netlist and not asked.labels:
-        files.own = labels.made_before(files)
+        files.own = own_names.made_before(files)
         return []
+    from . import labels, same_pins     # most boards want neither, and loading takes longer than a small board
     told = labels.use(files, asked.no_drills)
     return told + (same_pins.differences(files) if files.theirs else [])
 
@@ -116,7 +117,7 @@ def show(path, asked, program, scratch):
     shown = Shown(path)
     try:
         files = package.opened(path, asked, scratch)
-        own = own_names(files, asked)
+        own = by_own_names(files, asked)
         shown.ties = ties.declared(asked.tie, files)
         mending.mend(files, program.progress)
         told = judged.judge(program, files)
@@ -126,8 +127,8 @@ def show(path, asked, program, scratch):
             look(program, told, shown, asked.page or asked.svg or beside.wants_copper(asked))
         outside(program, told, shown, asked)
         mending.say(files, shown)
-        if files.own and shown.status in labels.ANSWERS:
-            shown.line = labels.FIRST + shown.line
+        if files.own and shown.status in own_names.ANSWERS:
+            shown.line = own_names.FIRST + shown.line
         beside.add(program, told, shown, asked, scratch)
         if asked.keep:
             if shown.ties.ties:
