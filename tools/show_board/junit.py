@@ -28,7 +28,7 @@ def suite(shown):
     if not shown.board or shown.status not in (0, 1):
         return whole(shown)
     failures, nowhere = {}, [("tie", words) for words in lost(shown.ties, shown.board.report)]
-    gaps = [(it.id, it.text()) for it in shown.findings if it.kind == "gap"]
+    gaps = [(doubt(it) + it.id, it.text()) for it in shown.findings if it.kind == "gap"]
     for it in shown.findings:
         for name in it.names if it.kind != "gap" else ():
             failures.setdefault(name, []).append((doubt(it) + it.id, it.text()))

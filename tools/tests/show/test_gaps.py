@@ -114,6 +114,16 @@ class Gaps(made.Case):
                 self.assertEqual((told["gaps"], {it["sure"] for it in found}), (0, {False} if wanted else set()))
                 self.assertTrue(not words or any(it["words"].startswith(words) for it in found), found)
 
+    def test_possible_ones_in_other_forms(self):
+        """Beside a certain gap a possible one is called undecided."""
+        files = {**CLOSE, "top.gbr": gerber(*WIDE, *flash(10, (0, 1.6002), (9, 0), (10.00005, 0))), "n.ipc": netlist(record("A", "J1.1", 1, 0), record("B", "J1.2", 0, 1.6))}
+        self.board(files)
+        status, _, _ = self.show("board", "--gaps", "0.0001", "--junit", "j.xml", "--rdb", "r.xml", program=made.built() or made.STAND_IN)
+        cases = minidom.parse(self.path("j.xml")).getElementsByTagName("failure")
+        self.assertEqual((status, cases[-1].getAttribute("message")), (1, "gap-0, undecided gap-1"))
+        marked = [it.firstChild.data for it in minidom.parse(self.path("r.xml")).getElementsByTagName("comment")]
+        self.assertEqual([name for name in marked if "gap" in name], ["gap-0", "undecided gap-1"])
+
     def test_words_of_the_distance(self):
         for text, u in (("0.1", 1_000_000), ("10", 100_000_000), (".0000001", 1), ("10.0000001", None), ("0", None), ("-1", None), ("1e3", None), ("", None), ("1.12345678", None)):
             self.assertEqual(asked_distance(text), u, text)
