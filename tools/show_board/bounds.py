@@ -11,13 +11,12 @@ import os
 import re
 from typing import NamedTuple
 
-from . import UNDECIDED, UNJUDGED, fault_of, judged, negative, netlist, unjudged
+from . import UNDECIDED, UNJUDGED, fault_of, judged, netlist, unjudged
 from .differing import Differing
 from .exact import Refused
 from .joint import Joint
 from .package import beside
 from .ties import Ties, lost
-from .two_sides import Copper, of_text
 from .words import counted
 
 # ClearPolarity, Arc, Macro, Block, Polygon, Hole, Transform, ApertureTwice, PenNotCircle, OffGrid, NegativeFile, TooManyVertices,
@@ -53,13 +52,15 @@ def is_outside(line):
 
 def outline_of(package):
     """The box of a board with negative files."""
+    from . import negative, two_sides
     texts = [package.read(name).decode("latin-1") for name in dict.fromkeys(package.manifest.copper)]
-    return negative.outline_of(negative.profile_of(package.home or package.folder), texts, lambda text: Copper(text, cuts=True).objects)
+    return negative.outline_of(negative.profile_of(package.home or package.folder), texts, lambda text: two_sides.Copper(text, cuts=True).objects)
 
 
 def sides_of(package, name):
+    from . import two_sides     # most boards have no bounds, and loading takes longer than a small board
     try:
-        return of_text(package.read(name).decode("latin-1"), lambda: outline_of(package))
+        return two_sides.of_text(package.read(name).decode("latin-1"), lambda: outline_of(package))
     except Refused as why:
         raise Refused(f"{name}: {why}") from None
     except Exception as fault:

@@ -7,7 +7,7 @@ from unittest import mock
 import made
 from made import built, manifest, netlist, record
 from real_shapes import fine, has, pieces_of
-from show_board import bounds, fault_of
+from show_board import fault_of, two_sides
 from show_board.two_sides import of_text
 
 HEAD = ["%FSLAX46Y46*%", "%MOMM*%", "G75*"]
@@ -93,7 +93,7 @@ class Unforeseen(made.Case):
     def test_fault(self):
         self.board("bad", "X1000000Y0D02*", "G03X-1000000Y0I-1000000J0D01*")
         self.board("good", "X1000000Y0D03*")
-        with mock.patch.object(bounds, "of_text", side_effect=ZeroDivisionError("by 0")):
+        with mock.patch.object(two_sides, "of_text", side_effect=ZeroDivisionError("by 0")):
             status, out, _ = self.show("bad", "good")
             self.assertEqual((status, out.count("\n"), "good: agrees" in out), (70, 2, True), out)
             self.assertIn(f"bad: {os.path.join('bad', 'top.gbr')}: a fault of `show` itself, which is no answer on the board (ZeroDivisionError by 0, in ", out)
