@@ -1,7 +1,5 @@
 """The findings as JSON (docs/using/forms.md, "The JSON form"). Lengths are millimetres, exact."""
-import json
-
-from . import ties
+from . import indented, ties
 from .board import NO_NET
 
 FORM = 1
@@ -98,4 +96,4 @@ def board_of(shown):
 
 
 def text(all_shown):
-    return json.dumps({"boardnet_show": FORM, "boards": [board_of(shown) for shown in all_shown]}, indent=1) + "\n"
+    return indented.text({"boardnet_show": FORM, "boards": [board_of(shown) for shown in all_shown]}) + "\n"

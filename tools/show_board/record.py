@@ -10,7 +10,7 @@ import os
 import subprocess
 from functools import lru_cache
 
-from . import Stop
+from . import Stop, indented
 from .program import TOOLS
 from .words import counted, spoken
 
@@ -93,7 +93,7 @@ def of(program, told, shown):
 
 
 def text(record):
-    return json.dumps(record, indent=1) + "\n"
+    return indented.text(record) + "\n"
 
 
 # ---- verification

@@ -13,6 +13,7 @@ from xml.dom import minidom
 import common
 import made
 from made import draw, flash, gerber, label, manifest, netlist, record
+from show_board import indented
 from show_board.progress import Progress
 
 PADS = [*flash(10, (0, 0), (10, 0), (0, 5), (3, 5))]
@@ -63,6 +64,13 @@ class Told(unittest.TestCase):
         first, second, last = "boardnet: checking, 0 s", "boardnet: checking, 75 s", "\r" + " " * 24 + "\r"
         self.assertEqual(self.told(True), f"\r{first}\r{second}{last}")
         self.assertEqual((self.told(True, quiet=True), self.told(False)), ("", ""))
+
+
+    def test_json_with_an_indent(self):
+        """As the standard library writes it."""
+        value = {"a": [], "b": {}, "": [1, -2, 0.1, 1e-07, True, None, "\u00e9\ud83d \n\"\\", [[()], ({"x": [{"y": (1, 2)}]},)]], "c": {"d": False}}
+        for it in (value, [], {}, "x", [value, value]):
+            self.assertEqual(indented.text(it), json.dumps(it, indent=1))
 
 
 class Answers(made.Case):
