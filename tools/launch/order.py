@@ -28,6 +28,11 @@ def below(using):
     return found
 
 
+def wanted(under, name):
+    """A crate and what it stands on, each with what it stands on itself: the others are proved by the gate alone."""
+    return {it: of for it, of in under.items() if it == name or it in under[name]}
+
+
 def chains(under, work):
     """For each crate the work of the longest chain that begins with it, each crate of which stands on the one before."""
     longest = {}

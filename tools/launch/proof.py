@@ -94,7 +94,7 @@ class Proof:
         kept.copy_sources(self.top, self.sources)
         with open(os.path.join(self.sources, "crates.txt"), encoding="utf-8") as file:
             text = file.read()
-        self.below = order.below(order.uses(text))
+        self.below = order.wanted(order.below(order.uses(text)), PROGRAM)
         self.lines = {order.name_of(line): line + "\n" for line in text.splitlines()}
         self.work = {name: self.size(name) for name in self.below}
         self.chain = order.chains(self.below, self.work)
