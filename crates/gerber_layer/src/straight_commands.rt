@@ -37,7 +37,11 @@ fn behind_short(text: &[u8]) -> &[u8]
     requires { 2 ≤ length text.now }
     ensures { result.now ≡ spec.behind_short text.now }
 {
-    if goes_on(&text[2..]) { &text[2..] } else { text }
+    if goes_on(&text[2..]) {
+        &text[2..]
+    } else {
+        text
+    }
 }
 
 /// What stands behind the code of arcs or of lines that a word may begin with.
