@@ -3,11 +3,15 @@ use crate::tests::{ROOM, image};
 use crate::{LayerFault, read_straight};
 use std::alloc::{AllocError, Global};
 use std::test::Fail;
+use texts::MOST_BYTES;
 
 fn told_straight(alloc: Global, words: &str) -> Result<String, AllocError> {
     let mut file = String::new(alloc);
     file.push_str("%FSLAX46Y46*%%MOMM*%%ADD10C,1.0*%D10*")?;
     file.push_str(words)?;
+    if file.len() > MOST_BYTES {
+        return String::from_str(alloc, "too long");
+    }
     match read_straight(alloc, file.as_bytes(), 1, 0, ROOM) {
         Ok(pieces) => image(alloc, &pieces),
         Err(LayerFault::NoMemory) => String::from_str(alloc, "no memory"),
