@@ -113,12 +113,13 @@ fn position(format: Format, unit: Unit, digits: &[u8]) -> Result<Len, GerberKind
 
 /// The current point in x or in y, in u.
 #[derive(Clone, Copy)]
-struct Here {
-    u: i64,
+pub struct Here {
+    pub u: i64,
 }
 
+/// Where a coordinate leads, in u, and here where none is named; or its fault.
 #[tactic(auto, unfolding(crate::specs::CommandEffects::coordinate))]
-fn coordinate(
+pub fn coordinate(
     format: Format,
     unit: Unit,
     here: Here,

@@ -1,4 +1,4 @@
-//! The dialects of copper files: by the standard apertures alone, and with macros.
+//! The dialects of copper files: by the standard apertures alone, with straight arcs, and with macros.
 ghost use Rattle.std.specs.Prelude.{◌≡◌, ◌+◌, ◌^◌, ◌<◌, IfErr, OnOk};
 ghost use Rattle.gerber_words.specs.Stepping.{entry_of};
 ghost use Rattle.gerber_layer.specs.Command.{view};
@@ -7,11 +7,13 @@ ghost use Rattle.gerber_layer.specs.Lawful.{IsLawfulCommand};
 ghost use Rattle.gerber_layer.specs.Layer.{standard};
 ghost use Rattle.gerber_layer.specs.MacroLayer.{with_macros};
 ghost use Rattle.gerber_layer.specs.Reader.{IsLawfulReader, Obeys, Stops, known_of};
+ghost use Rattle.gerber_layer.specs.Straight.{straight};
 
 use crate::command::Command;
 use crate::kind::GerberKind;
 use crate::macro_kind::FlattenKind;
 use crate::reader::Reader;
+use crate::straight_commands::read_straight_command;
 use crate::word_commands::{read_command, read_macro_command};
 use file_reading::Halt;
 use gerber_words::Word;
@@ -54,6 +56,27 @@ impl Dialect for Standard {
 
     fn read<'a>(word: Word<'a>) -> Command<'a> {
         read_command(word)
+    }
+
+    fn obey<'a>(
+        reader: &mut Reader<'a>,
+        alloc: Global,
+        command: &Command<'a>,
+    ) -> Result<(), Halt<GerberKind>> {
+        reader.obey(alloc, command)
+    }
+}
+
+/// The standard apertures alone, and each arc draw is the straight draw from its start to its end.
+pub struct Straight;
+
+impl Dialect for Straight {
+    type Kind = GerberKind;
+
+    ghost dialect = { straight };
+
+    fn read<'a>(word: Word<'a>) -> Command<'a> {
+        read_straight_command(word)
     }
 
     fn obey<'a>(

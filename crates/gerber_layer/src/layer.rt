@@ -11,7 +11,8 @@ use file_reading::Halt;
 use std::alloc::Global;
 use texts::MOST_BYTES;
 
-fn fault_at(halt: Halt<GerberKind>, command: u32, at: usize) -> LayerFault
+/// What stopped the reader, as the fault of the file.
+pub fn fault_at(halt: Halt<GerberKind>, command: u32, at: usize) -> LayerFault
     ensures { result ≡ fault_at halt command at }
 {
     match halt {

@@ -17,7 +17,7 @@ use lengths::decimal::{Unit, read_decimal, small_value, unsigned};
 use texts::{ByteClass, all_digits, begins, is_digit, is_word, run_len};
 
 #[tactic(auto, unfolding(crate::specs::WordCommands::code_in))]
-fn code_in(text: &[u8]) -> Option<Code>
+pub fn code_in(text: &[u8]) -> Option<Code>
     ensures { result ≡ spec.code_in text.now }
 {
     if is_word(text, b"D01") || is_word(text, b"D1") {
@@ -40,7 +40,7 @@ fn is_idle(text: &[u8]) -> bool
     is_word(text, b"G1") || is_word(text, b"G74") || is_word(text, b"G75") || is_word(text, b"G90")
 }
 
-fn behind_line_code(text: &[u8]) -> &[u8]
+pub fn behind_line_code(text: &[u8]) -> &[u8]
     ensures { result.now ≡ spec.behind_line_code text.now }
 {
     if begins(text, b"G01") {
@@ -64,7 +64,7 @@ impl ByteClass for Numeric {
 }
 
 /// The bytes of an arc's offsets.
-struct Offsets;
+pub struct Offsets;
 
 impl ByteClass for Offsets {
     ghost member = { spec.is_offset_byte };
@@ -74,8 +74,8 @@ impl ByteClass for Offsets {
     }
 }
 
-// The number behind a letter, if the text begins with it, and what stands behind.
-fn part(text: &[u8], letter: u8) -> (Option<&[u8]>, &[u8])
+/// The number behind a letter, if the text begins with it, and what stands behind.
+pub fn part(text: &[u8], letter: u8) -> (Option<&[u8]>, &[u8])
     ensures number { option_copied result.0 ≡ spec.number_in letter text.now }
     ensures behind { result.1.now ≡ spec.behind letter text.now }
 {
@@ -365,8 +365,8 @@ fn is_arc(text: &[u8]) -> bool
     begins(text, b"G3") && goes_on(&text[2..])
 }
 
-// Whether the text is empty or begins with a letter of an operation.
-fn goes_on(text: &[u8]) -> bool
+/// Whether the text is empty or begins with a letter of an operation.
+pub fn goes_on(text: &[u8]) -> bool
     ensures { result ≡ spec.goes_on text.now }
 {
     match text {
@@ -429,7 +429,7 @@ fn operation(text: &[u8]) -> Command<'_>
 }
 
 #[tactic(auto, unfolding(crate::specs::WordCommands::from_x))]
-fn from_x(text: &[u8]) -> Command<'_>
+pub fn from_x(text: &[u8]) -> Command<'_>
     ensures value { view result ≡ spec.from_x text.now }
     ensures lawful { IsLawfulCommand (view result) }
 {
@@ -500,7 +500,7 @@ fn operation_of<'a>(
     Command::Operate(x, y, code)
 }
 
-fn is_number_if(digits: Option<&[u8]>) -> bool
+pub fn is_number_if(digits: Option<&[u8]>) -> bool
     ensures { result ≡ spec.is_number_if (option_copied digits.entry) }
 {
     match digits {

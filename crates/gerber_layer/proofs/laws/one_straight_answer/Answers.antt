@@ -1,0 +1,5 @@
+use Rattle.gerber_layer.proofs.OneAnswer.{one_straight_answer}
+use Rattle.gerber_layer.proofs.laws.one_straight_answer.Goals as goal
+
+pub returns : goal.returns
+returns c = one_straight_answer c.words_lie_ahead.ensures
