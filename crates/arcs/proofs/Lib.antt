@@ -12,6 +12,9 @@ mod Places
 mod Radii
 mod Read
 mod Ring
+mod Roots
+mod Taken
+mod Turns
 mod Upper
 mod Vectors
 mod Whole

@@ -165,6 +165,9 @@ module _ (m n qx qy sx sy dx dy rx ry : ℤ) (hm : pos 1 ≤ℤ m) (hn : pos 1 �
         plain : (sx sy dx dy : ℤ) → norm (sx +ℤ dx) (sy +ℤ dy) -ℤ norm sx sy ≡ norm dx dy +ℤ ((dx *ℤ sx +ℤ dy *ℤ sy) +ℤ (dx *ℤ sx +ℤ dy *ℤ sy))
         plain sx sy dx dy = simp ring (omega (arith, linear))
 
+    pub circled : (U *ℤ U +ℤ (dx *ℤ ry -ℤ dy *ℤ rx) *ℤ (dx *ℤ ry -ℤ dy *ℤ rx)) -ℤ ((n *ℤ (dx *ℤ ry -ℤ dy *ℤ rx)) *ℤ k +ℤ (n *ℤ (dx *ℤ ry -ℤ dy *ℤ rx)) *ℤ k) ≡ (n *ℤ A) *ℤ U
+    circled = circle n A k U (dx *ℤ ry -ℤ dy *ℤ rx) (norm rx ry) X P hn A0 lengths parts on
+
     pub around : ((A *ℤ (norm (rx +ℤ n *ℤ sx) (ry +ℤ n *ℤ sy) -ℤ square n *ℤ norm sx sy) ≡ n *ℤ ((norm (sx +ℤ dx) (sy +ℤ dy) -ℤ norm sx sy) *ℤ U)) × (U ≤ℤ (n *ℤ A +ℤ n *ℤ h)) × (neg_ℤ (n *ℤ h) ≤ℤ U))
     around = (reach_is, past, before)
 
@@ -253,32 +256,50 @@ length_of : (z : ℤ) → square (pos (unsigned_abs z)) ≡ square z
 length_of (pos n) = refl
 length_of (negsuc n) = refl
 
-pub moved_circle_is_held : MovedCircleIsHeld
-moved_circle_is_held a q p way centre as_far = (rw (spread_when a way) (clamped p.n (lesser a -ℤ unlike a *ℤ pos (times a)) (reach_of a.centre p) reach_from between.0), rw (spread_when a way) between.1)
-  where
-    reach_from : pos 0 ≤ℤ reach_of a.centre p
-    reach_from = norm_from_zero (p.x -ℤ p.n *ℤ a.centre.x) (p.y -ℤ p.n *ℤ a.centre.y)
+module _ (a : Arc) (q p : Point) (centre : IsMovedCentre a q) (as_far : IsAsFar a q p) where
+  even : norm ((q.x -ℤ q.n *ℤ a.centre.x) -ℤ q.n *ℤ (a.start.x -ℤ a.centre.x)) ((q.y -ℤ q.n *ℤ a.centre.y) -ℤ q.n *ℤ (a.start.y -ℤ a.centre.y)) ≡ norm (((q.x -ℤ q.n *ℤ a.centre.x) -ℤ q.n *ℤ (a.start.x -ℤ a.centre.x)) -ℤ q.n *ℤ (a.end.x -ℤ a.start.x)) (((q.y -ℤ q.n *ℤ a.centre.y) -ℤ q.n *ℤ (a.start.y -ℤ a.centre.y)) -ℤ q.n *ℤ (a.end.y -ℤ a.start.y))
+  even = rw (from_end q.x q.n a.centre.x a.start.x a.end.x, from_end q.y q.n a.centre.y a.start.y a.end.y, from_start q.x q.n a.centre.x a.start.x, from_start q.y q.n a.centre.y a.start.y) centre.even
 
-    even : norm ((q.x -ℤ q.n *ℤ a.centre.x) -ℤ q.n *ℤ (a.start.x -ℤ a.centre.x)) ((q.y -ℤ q.n *ℤ a.centre.y) -ℤ q.n *ℤ (a.start.y -ℤ a.centre.y)) ≡ norm (((q.x -ℤ q.n *ℤ a.centre.x) -ℤ q.n *ℤ (a.start.x -ℤ a.centre.x)) -ℤ q.n *ℤ (a.end.x -ℤ a.start.x)) (((q.y -ℤ q.n *ℤ a.centre.y) -ℤ q.n *ℤ (a.start.y -ℤ a.centre.y)) -ℤ q.n *ℤ (a.end.y -ℤ a.start.y))
-    even = rw (from_end q.x q.n a.centre.x a.start.x a.end.x, from_end q.y q.n a.centre.y a.start.y a.end.y, from_start q.x q.n a.centre.x a.start.x, from_start q.y q.n a.centre.y a.start.y) centre.even
+  far : norm (q.n *ℤ (p.x -ℤ p.n *ℤ a.start.x) -ℤ p.n *ℤ ((q.x -ℤ q.n *ℤ a.centre.x) -ℤ q.n *ℤ (a.start.x -ℤ a.centre.x))) (q.n *ℤ (p.y -ℤ p.n *ℤ a.start.y) -ℤ p.n *ℤ ((q.y -ℤ q.n *ℤ a.centre.y) -ℤ q.n *ℤ (a.start.y -ℤ a.centre.y)))
+      ≡ square p.n *ℤ norm ((q.x -ℤ q.n *ℤ a.centre.x) -ℤ q.n *ℤ (a.start.x -ℤ a.centre.x)) ((q.y -ℤ q.n *ℤ a.centre.y) -ℤ q.n *ℤ (a.start.y -ℤ a.centre.y))
+  far = rw (from_moved p.x q.x q.n p.n a.centre.x a.start.x, from_moved p.y q.y q.n p.n a.centre.y a.start.y, from_start q.x q.n a.centre.x a.start.x, from_start q.y q.n a.centre.y a.start.y) as_far
 
-    far : norm (q.n *ℤ (p.x -ℤ p.n *ℤ a.start.x) -ℤ p.n *ℤ ((q.x -ℤ q.n *ℤ a.centre.x) -ℤ q.n *ℤ (a.start.x -ℤ a.centre.x))) (q.n *ℤ (p.y -ℤ p.n *ℤ a.start.y) -ℤ p.n *ℤ ((q.y -ℤ q.n *ℤ a.centre.y) -ℤ q.n *ℤ (a.start.y -ℤ a.centre.y)))
-        ≡ square p.n *ℤ norm ((q.x -ℤ q.n *ℤ a.centre.x) -ℤ q.n *ℤ (a.start.x -ℤ a.centre.x)) ((q.y -ℤ q.n *ℤ a.centre.y) -ℤ q.n *ℤ (a.start.y -ℤ a.centre.y))
-    far = rw (from_moved p.x q.x q.n p.n a.centre.x a.start.x, from_moved p.y q.y q.n p.n a.centre.y a.start.y, from_start q.x q.n a.centre.x a.start.x, from_start q.y q.n a.centre.y a.start.y) as_far
+  crossed : cross_of a.centre a.start a.end ≡ (a.start.x -ℤ a.centre.x) *ℤ ((a.start.y -ℤ a.centre.y) +ℤ (a.end.y -ℤ a.start.y)) -ℤ (a.start.y -ℤ a.centre.y) *ℤ ((a.start.x -ℤ a.centre.x) +ℤ (a.end.x -ℤ a.start.x))
+  crossed = rw (to_end a.centre.x a.start.x a.end.x, to_end a.centre.y a.start.y a.end.y) refl
 
-    crossed : cross_of a.centre a.start a.end ≡ (a.start.x -ℤ a.centre.x) *ℤ ((a.start.y -ℤ a.centre.y) +ℤ (a.end.y -ℤ a.start.y)) -ℤ (a.start.y -ℤ a.centre.y) *ℤ ((a.start.x -ℤ a.centre.x) +ℤ (a.end.x -ℤ a.start.x))
-    crossed = rw (to_end a.centre.x a.start.x a.end.x, to_end a.centre.y a.start.y a.end.y) refl
+  -- the place's parts along the way from end to end, and across it
+  abbrev along : ℤ
+  along = (p.x -ℤ p.n *ℤ a.start.x) *ℤ (a.end.x -ℤ a.start.x) +ℤ (p.y -ℤ p.n *ℤ a.start.y) *ℤ (a.end.y -ℤ a.start.y)
 
-    over : pos (unsigned_abs (swing a)) ≤ℤ (apart a *ℤ pos (times a))
-    over = by (apart a) (unsigned_abs (swing a)) (apart_some a way)
-      where
-        by : (z : ℤ) (k : ℕ) → pos 1 ≤ℤ z → pos k ≤ℤ (z *ℤ pos (k / unsigned_abs z + 1))
-        by (pos A) k some = quotient A (k / A) (k % A) k (div-add-mod k A) (mod_below k A (omega (arith, ints, some)))
-        by (negsuc A) k some = absurd (omega (arith, ints, some))
+  abbrev across : ℤ
+  across = (a.end.x -ℤ a.start.x) *ℤ (p.y -ℤ p.n *ℤ a.start.y) -ℤ (a.end.y -ℤ a.start.y) *ℤ (p.x -ℤ p.n *ℤ a.start.x)
 
-    between : ((square p.n *ℤ (lesser a -ℤ unlike a *ℤ pos (times a))) ≤ℤ reach_of a.centre p) × (reach_of a.centre p ≤ℤ (square p.n *ℤ (greater a +ℤ unlike a *ℤ pos (times a))))
-    between =
-        let z = around q.n p.n (q.x -ℤ q.n *ℤ a.centre.x) (q.y -ℤ q.n *ℤ a.centre.y) (a.start.x -ℤ a.centre.x) (a.start.y -ℤ a.centre.y) (a.end.x -ℤ a.start.x) (a.end.y -ℤ a.start.y) (p.x -ℤ p.n *ℤ a.start.x) (p.y -ℤ p.n *ℤ a.start.y) q.positive p.positive centre.along even far
+  reach_from : pos 0 ≤ℤ reach_of a.centre p
+  reach_from = norm_from_zero (p.x -ℤ p.n *ℤ a.centre.x) (p.y -ℤ p.n *ℤ a.centre.y)
+
+  is : apart a *ℤ (reach_of a.centre p -ℤ square p.n *ℤ dot_of a.centre a.start a.start) ≡ p.n *ℤ ((dot_of a.centre a.end a.end -ℤ dot_of a.centre a.start a.start) *ℤ along)
+  is =
+      let z = around q.n p.n (q.x -ℤ q.n *ℤ a.centre.x) (q.y -ℤ q.n *ℤ a.centre.y) (a.start.x -ℤ a.centre.x) (a.start.y -ℤ a.centre.y) (a.end.x -ℤ a.start.x) (a.end.y -ℤ a.start.y) (p.x -ℤ p.n *ℤ a.start.x) (p.y -ℤ p.n *ℤ a.start.y) q.positive p.positive centre.along even far
         (swing a) (pos (unsigned_abs (swing a))) (omega (arith, ints)) (length_of (swing a)) crossed in
-        held p.n (apart a) (pos (unsigned_abs (swing a))) (reach_of a.centre p) (dot_of a.centre a.start a.start) (dot_of a.centre a.end a.end) ((p.x -ℤ p.n *ℤ a.start.x) *ℤ (a.end.x -ℤ a.start.x) +ℤ (p.y -ℤ p.n *ℤ a.start.y) *ℤ (a.end.y -ℤ a.start.y)) (pos (times a)) p.positive (apart_some a way) over
-        (rw (from_centre p.x p.n a.centre.x a.start.x, from_centre p.y p.n a.centre.y a.start.y, to_end a.centre.x a.start.x a.end.x, to_end a.centre.y a.start.y a.end.y) at z.0) z.1 z.2
+      rw (from_centre p.x p.n a.centre.x a.start.x, from_centre p.y p.n a.centre.y a.start.y, to_end a.centre.x a.start.x a.end.x, to_end a.centre.y a.start.y a.end.y) at z.0
+
+  by : (h t : ℤ) → pos 1 ≤ℤ apart a → spread a ≡ unlike a *ℤ t → h ≤ℤ (apart a *ℤ t) → along ≤ℤ (p.n *ℤ apart a +ℤ p.n *ℤ h) → neg_ℤ (p.n *ℤ h) ≤ℤ along → ((square p.n *ℤ inmost a) ≤ℤ reach_of a.centre p) × (reach_of a.centre p ≤ℤ (square p.n *ℤ outmost a))
+  by h t some wide over past before =
+      let z = held p.n (apart a) h (reach_of a.centre p) (dot_of a.centre a.start a.start) (dot_of a.centre a.end a.end) along t p.positive some over is past before in
+      (rw wide (clamped p.n (lesser a -ℤ unlike a *ℤ t) (reach_of a.centre p) reach_from z.0), rw wide z.1)
+
+  over : swing a <ℤ pos 0 → pos (unsigned_abs (swing a)) ≤ℤ (apart a *ℤ pos (times a))
+  over way = quotients (apart a) (unsigned_abs (swing a)) (apart_some a way)
+    where
+      quotients : (z : ℤ) (k : ℕ) → pos 1 ≤ℤ z → pos k ≤ℤ (z *ℤ pos (k / unsigned_abs z + 1))
+      quotients (pos A) k some = quotient A (k / A) (k % A) k (div-add-mod k A) (mod_below k A (omega (arith, ints, some)))
+      quotients (negsuc A) k some = absurd (omega (arith, ints, some))
+
+  past_half : swing a <ℤ pos 0 → ((square p.n *ℤ inmost a) ≤ℤ reach_of a.centre p) × (reach_of a.centre p ≤ℤ (square p.n *ℤ outmost a))
+  past_half way =
+      let z = around q.n p.n (q.x -ℤ q.n *ℤ a.centre.x) (q.y -ℤ q.n *ℤ a.centre.y) (a.start.x -ℤ a.centre.x) (a.start.y -ℤ a.centre.y) (a.end.x -ℤ a.start.x) (a.end.y -ℤ a.start.y) (p.x -ℤ p.n *ℤ a.start.x) (p.y -ℤ p.n *ℤ a.start.y) q.positive p.positive centre.along even far
+        (swing a) (pos (unsigned_abs (swing a))) (omega (arith, ints)) (length_of (swing a)) crossed in
+      by (pos (unsigned_abs (swing a))) (pos (times a)) (apart_some a way) (spread_when a way) (over way) z.1 z.2
+
+pub moved_circle_is_held : MovedCircleIsHeld
+moved_circle_is_held a q p way centre as_far = past_half a q p centre as_far way
