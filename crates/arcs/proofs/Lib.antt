@@ -14,6 +14,7 @@ mod Read
 mod Ring
 mod Roots
 mod Taken
+mod Turned
 mod Turns
 mod Upper
 mod Vectors

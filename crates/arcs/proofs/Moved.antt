@@ -1,16 +1,18 @@
 -- The circle through both ends whose centre is nearest to the given one keeps the distances that a curve may have, past a half turn.
-use Rattle.std.proofs.Common.{◌≡◌, ◌⊎◌, inl, inr, Bool, true, if◌then◌else◌, ℕ, ◌+◌, ◌*◌, ◌/◌, ◌%◌, ◌<◌, negsuc, ℤ, pos, neg_ℤ, int_lt, unsigned_abs, ◌+ℤ◌, ◌-ℤ◌, ◌*ℤ◌, ◌≤ℤ◌, ◌<ℤ◌, arith, refl, sym, ap, subst}
+use Rattle.std.proofs.Common.{◌≡◌, ◌⊎◌, inl, inr, Bool, true, if◌then◌else◌, ℕ, ◌+◌, ◌*◌, ◌/◌, ◌%◌, ◌<◌, negsuc, ℤ, pos, neg_ℤ, int_lt, unsigned_abs, ◌+ℤ◌, ◌-ℤ◌, ◌*ℤ◌, ◌≤ℤ◌, ◌<ℤ◌, arith, refl, sym, ap, subst, ◌∙◌}
 use Rattle.std.proofs.Math.Nat.{div-add-mod}
 use Rattle.std.proofs.lemmas.Nat.{mod_below}
 use Rattle.std.proofs.lemmas.Int.{ints, clamps}
 use Rattle.std.specs.Int.{int_max, int_min}
+use Rattle.planar.specs.declared.Spot.{Spot}
 use Rattle.planar.specs.Plane.{Point, cross_of, dot_of, square}
 use Rattle.planar.proofs.Ring.{ring, linear, le_or_lt, over_zero, square_cancel, square_from_zero, square_zero, times_cancel, times_from_zero, times_mono, times-zero, zero-times}
 use Rattle.arcs.specs.declared.Arc.{Arc}
-use Rattle.arcs.specs.Copper.{apart, greater, inmost, lesser, outmost, reach_of, spread, swing, times, unlike}
-use Rattle.arcs.specs.Laws.{IsAsFar, IsMovedCentre, MovedCircleIsHeld}
+use Rattle.arcs.specs.Copper.{InTurn, IsMeant, apart, greater, inmost, lesser, outmost, reach_of, side_of, spread, swing, times, unlike}
+use Rattle.arcs.specs.Laws.{IsAsFar, IsMovedCentre, MovedCircleIsHeld, MovedTurnIsHeld}
 use Rattle.arcs.proofs.Vectors.{norm, norm_from_zero}
-use Rattle.arcs.proofs.Radii.{apart_some, spread_when}
+use Rattle.arcs.proofs.Radii.{apart_some, spread_none, spread_when}
+use Rattle.arcs.proofs.Turned.{flat, inside_by, turned}
 
 twice : ℤ → ℤ
 twice z = z +ℤ z
@@ -301,5 +303,101 @@ module _ (a : Arc) (q p : Point) (centre : IsMovedCentre a q) (as_far : IsAsFar 
         (swing a) (pos (unsigned_abs (swing a))) (omega (arith, ints)) (length_of (swing a)) crossed in
       by (pos (unsigned_abs (swing a))) (pos (times a)) (apart_some a way) (spread_when a way) (over way) z.1 z.2
 
+  -- ---- up to a half turn
+
+  on_circle : (along *ℤ along +ℤ across *ℤ across) -ℤ ((p.n *ℤ across) *ℤ swing a +ℤ (p.n *ℤ across) *ℤ swing a) ≡ (p.n *ℤ apart a) *ℤ along
+  on_circle = circled q.n p.n (q.x -ℤ q.n *ℤ a.centre.x) (q.y -ℤ q.n *ℤ a.centre.y) (a.start.x -ℤ a.centre.x) (a.start.y -ℤ a.centre.y) (a.end.x -ℤ a.start.x) (a.end.y -ℤ a.start.y) (p.x -ℤ p.n *ℤ a.start.x) (p.y -ℤ p.n *ℤ a.start.y) q.positive p.positive centre.along even far
+        (swing a) (pos (unsigned_abs (swing a))) (omega (arith, ints)) (length_of (swing a)) crossed
+
+  -- the given centre's part along the way
+  abbrev back : ℤ
+  back = (a.end.x -ℤ a.start.x) *ℤ (a.start.x -ℤ a.centre.x) +ℤ (a.end.y -ℤ a.start.y) *ℤ (a.start.y -ℤ a.centre.y)
+
+  parts_sum : p.n *ℤ swing a ≡ (neg_ℤ (side_of a.centre a.end p) +ℤ side_of a.centre a.start p) +ℤ across
+  parts_sum = sum_of (a.start.x -ℤ a.centre.x) (a.start.y -ℤ a.centre.y) (a.end.x -ℤ a.centre.x) (a.end.y -ℤ a.centre.y) (p.x -ℤ p.n *ℤ a.centre.x) (p.y -ℤ p.n *ℤ a.centre.y) (p.x -ℤ p.n *ℤ a.start.x) (p.y -ℤ p.n *ℤ a.start.y) (a.end.x -ℤ a.start.x) (a.end.y -ℤ a.start.y)
+      (from_to p.x p.n a.start.x a.centre.x) (from_to p.y p.n a.start.y a.centre.y) (apart_to a.centre.x a.start.x a.end.x) (apart_to a.centre.y a.start.y a.end.y)
+    where
+      from_to : (x n s c : ℤ) → x -ℤ n *ℤ s ≡ (x -ℤ n *ℤ c) -ℤ n *ℤ (s -ℤ c)
+      from_to x n s c = simp ring (omega (arith, linear))
+
+      apart_to : (c s e : ℤ) → e -ℤ s ≡ (e -ℤ c) -ℤ (s -ℤ c)
+      apart_to c s e = omega (arith, linear)
+
+      sum_of : (sx sy ex ey x y rx ry dx dy : ℤ) → rx ≡ x -ℤ p.n *ℤ sx → ry ≡ y -ℤ p.n *ℤ sy → dx ≡ ex -ℤ sx → dy ≡ ey -ℤ sy → p.n *ℤ (sx *ℤ ey -ℤ sy *ℤ ex) ≡ (neg_ℤ (ex *ℤ y -ℤ ey *ℤ x) +ℤ (sx *ℤ y -ℤ sy *ℤ x)) +ℤ (dx *ℤ ry -ℤ dy *ℤ rx)
+      sum_of sx sy ex ey x y rx ry dx dy hrx hry hdx hdy = rw (hrx, hry, hdx, hdy) (plain p.n sx sy ex ey x y)
+        where
+          plain : (n sx sy ex ey x y : ℤ) → n *ℤ (sx *ℤ ey -ℤ sy *ℤ ex) ≡ (neg_ℤ (ex *ℤ y -ℤ ey *ℤ x) +ℤ (sx *ℤ y -ℤ sy *ℤ x)) +ℤ ((ex -ℤ sx) *ℤ (y -ℤ n *ℤ sy) -ℤ (ey -ℤ sy) *ℤ (x -ℤ n *ℤ sx))
+          plain n sx sy ex ey x y = simp ring (omega (arith, linear))
+
+  cut : swing a *ℤ along ≡ apart a *ℤ side_of a.centre a.start p -ℤ across *ℤ back
+  cut = cut_of (a.start.x -ℤ a.centre.x) (a.start.y -ℤ a.centre.y) (a.end.x -ℤ a.centre.x) (a.end.y -ℤ a.centre.y) (p.x -ℤ p.n *ℤ a.centre.x) (p.y -ℤ p.n *ℤ a.centre.y) (p.x -ℤ p.n *ℤ a.start.x) (p.y -ℤ p.n *ℤ a.start.y) (a.end.x -ℤ a.start.x) (a.end.y -ℤ a.start.y)
+      (from_to p.x p.n a.start.x a.centre.x) (from_to p.y p.n a.start.y a.centre.y) (apart_to a.centre.x a.start.x a.end.x) (apart_to a.centre.y a.start.y a.end.y)
+    where
+      from_to : (x n s c : ℤ) → x -ℤ n *ℤ c ≡ (x -ℤ n *ℤ s) +ℤ n *ℤ (s -ℤ c)
+      from_to x n s c = simp ring (omega (arith, linear))
+
+      apart_to : (c s e : ℤ) → e -ℤ c ≡ (s -ℤ c) +ℤ (e -ℤ s)
+      apart_to c s e = omega (arith, linear)
+
+      cut_of : (sx sy ex ey x y rx ry dx dy : ℤ) → x ≡ rx +ℤ p.n *ℤ sx → y ≡ ry +ℤ p.n *ℤ sy → ex ≡ sx +ℤ dx → ey ≡ sy +ℤ dy → (sx *ℤ ey -ℤ sy *ℤ ex) *ℤ (rx *ℤ dx +ℤ ry *ℤ dy) ≡ (dx *ℤ dx +ℤ dy *ℤ dy) *ℤ (sx *ℤ y -ℤ sy *ℤ x) -ℤ (dx *ℤ ry -ℤ dy *ℤ rx) *ℤ (dx *ℤ sx +ℤ dy *ℤ sy)
+      cut_of sx sy ex ey x y rx ry dx dy hx hy hex hey = rw (hx, hy, hex, hey) (plain p.n sx sy rx ry dx dy)
+        where
+          plain : (n sx sy rx ry dx dy : ℤ) → (sx *ℤ (sy +ℤ dy) -ℤ sy *ℤ (sx +ℤ dx)) *ℤ (rx *ℤ dx +ℤ ry *ℤ dy) ≡ (dx *ℤ dx +ℤ dy *ℤ dy) *ℤ (sx *ℤ (ry +ℤ n *ℤ sy) -ℤ sy *ℤ (rx +ℤ n *ℤ sx)) -ℤ (dx *ℤ ry -ℤ dy *ℤ rx) *ℤ (dx *ℤ sx +ℤ dy *ℤ sy)
+          plain n sx sy rx ry dx dy = simp ring (omega (arith, linear))
+
+  difference : dot_of a.centre a.end a.end -ℤ dot_of a.centre a.start a.start ≡ apart a +ℤ (back +ℤ back)
+  difference = by_parts (a.start.x -ℤ a.centre.x) (a.start.y -ℤ a.centre.y) (a.end.x -ℤ a.centre.x) (a.end.y -ℤ a.centre.y) (a.end.x -ℤ a.start.x) (a.end.y -ℤ a.start.y) (apart_to a.centre.x a.start.x a.end.x) (apart_to a.centre.y a.start.y a.end.y)
+    where
+      apart_to : (c s e : ℤ) → e -ℤ c ≡ (s -ℤ c) +ℤ (e -ℤ s)
+      apart_to c s e = omega (arith, linear)
+
+      by_parts : (sx sy ex ey dx dy : ℤ) → ex ≡ sx +ℤ dx → ey ≡ sy +ℤ dy → (ex *ℤ ex +ℤ ey *ℤ ey) -ℤ (sx *ℤ sx +ℤ sy *ℤ sy) ≡ (dx *ℤ dx +ℤ dy *ℤ dy) +ℤ ((dx *ℤ sx +ℤ dy *ℤ sy) +ℤ (dx *ℤ sx +ℤ dy *ℤ sy))
+      by_parts sx sy ex ey dx dy hx hy = rw (hx, hy) (plain sx sy dx dy)
+        where
+          plain : (sx sy dx dy : ℤ) → ((sx +ℤ dx) *ℤ (sx +ℤ dx) +ℤ (sy +ℤ dy) *ℤ (sy +ℤ dy)) -ℤ (sx *ℤ sx +ℤ sy *ℤ sy) ≡ (dx *ℤ dx +ℤ dy *ℤ dy) +ℤ ((dx *ℤ sx +ℤ dy *ℤ sy) +ℤ (dx *ℤ sx +ℤ dy *ℤ sy))
+          plain sx sy dx dy = simp ring (omega (arith, linear))
+
+  module _ (way : pos 0 ≤ℤ swing a) (some : pos 1 ≤ℤ apart a) where
+    not_same : a.start ≡ a.end → ⊥
+    not_same one = omega (arith, linear, some, none (subst (λ (z : Spot). apart a ≡ dot_of a.start z z) (sym one) refl))
+      where
+        none : apart a ≡ dot_of a.start a.start a.start → apart a ≡ pos 0
+        none e = e ∙ plain a.start.x a.start.y
+          where
+            plain : (x y : ℤ) → (x -ℤ x) *ℤ (x -ℤ x) +ℤ (y -ℤ y) *ℤ (y -ℤ y) ≡ pos 0
+            plain x y = let f : x -ℤ x ≡ pos 0 = omega (arith, linear) in let g : y -ℤ y ≡ pos 0 = omega (arith, linear) in rw (f, g) (omega (arith, ints))
+
+    inside : pos 1 ≤ℤ swing a → IsMeant a → pos 1 ≤ℤ (swing a *ℤ swing a -ℤ back *ℤ (back +ℤ apart a))
+    inside more (inl none) = absurd (omega (arith, linear, more, none))
+    inside more (inr meant) = inside_by (apart a) back (swing a) (unlike a) some more (omega (arith, linear, difference, most (dot_of a.centre a.start a.start) (dot_of a.centre a.end a.end))) (omega (arith, linear, difference, least (dot_of a.centre a.start a.start) (dot_of a.centre a.end a.end))) (kind meant)
+      where
+        most : (s e : ℤ) → (e -ℤ s) ≤ℤ (int_max s e -ℤ int_min s e)
+        most s e = omega (arith, ints, clamps)
+
+        least : (s e : ℤ) → neg_ℤ (int_max s e -ℤ int_min s e) ≤ℤ (e -ℤ s)
+        least s e = omega (arith, ints, clamps)
+
+        itself : (k : ℤ) → pos 1 ≤ℤ k → pos (unsigned_abs k) ≡ k
+        itself (pos k) h = refl
+        itself (negsuc k) h = absurd (omega (arith, ints, h))
+
+        kind : (unlike a ≤ℤ apart a) ⊎ (unlike a ≤ℤ (pos (unsigned_abs (swing a)) +ℤ pos (unsigned_abs (swing a)))) → (unlike a ≤ℤ apart a) ⊎ (unlike a ≤ℤ (swing a +ℤ swing a))
+        kind (inl l) = inl l
+        kind (inr l) = inr (omega (arith, linear, l, itself (swing a) more))
+
+    beside : IsMeant a → InTurn a.centre a.start a.end p → (pos 0 ≤ℤ along) × (along ≤ℤ (p.n *ℤ apart a))
+    beside meant (inl (more, left, right)) = turned p.n (apart a) (swing a) along across back (neg_ℤ (side_of a.centre a.end p)) (side_of a.centre a.start p) p.positive some on_circle parts_sum cut (omega (arith, linear, right)) left (inside (omega (arith, linear, more)) meant) way
+    beside meant (inr (inl (less, other))) = absurd (omega (arith, linear, less, way))
+    beside meant (inr (inr (inl (none, opposite, other)))) = flat p.n (apart a) (swing a) along across back (pos 0) (pos 0) p.positive some on_circle none
+    beside meant (inr (inr (inr one))) = absurd (not_same one)
+
+    up_to_half : IsMeant a → InTurn a.centre a.start a.end p → ((square p.n *ℤ inmost a) ≤ℤ reach_of a.centre p) × (reach_of a.centre p ≤ℤ (square p.n *ℤ outmost a))
+    up_to_half meant turn =
+        let l = beside meant turn in
+        by (pos 0) (pos 0) some (spread_none a way ∙ sym (times-zero (unlike a))) (omega (arith, linear, times-zero (apart a))) (omega (arith, linear, l.1, times-zero p.n)) (omega (arith, linear, l.0, times-zero p.n))
+
 pub moved_circle_is_held : MovedCircleIsHeld
 moved_circle_is_held a q p way centre as_far = past_half a q p centre as_far way
+
+pub moved_turn_is_held : MovedTurnIsHeld
+moved_turn_is_held a q p way some meant turn centre as_far = up_to_half a q p centre as_far way some meant turn
