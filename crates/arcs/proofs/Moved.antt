@@ -1,4 +1,4 @@
--- The circle through both ends whose centre is nearest to the given one keeps the distances that a curve may have, past a half turn.
+-- The circle through both ends whose centre is nearest to the given one keeps the distances that a curve may have.
 use Rattle.std.proofs.Common.{◌≡◌, ◌⊎◌, inl, inr, Bool, true, if◌then◌else◌, ℕ, ◌+◌, ◌*◌, ◌/◌, ◌%◌, ◌<◌, negsuc, ℤ, pos, neg_ℤ, int_lt, unsigned_abs, ◌+ℤ◌, ◌-ℤ◌, ◌*ℤ◌, ◌≤ℤ◌, ◌<ℤ◌, arith, refl, sym, ap, subst, ◌∙◌}
 use Rattle.std.proofs.Math.Nat.{div-add-mod}
 use Rattle.std.proofs.lemmas.Nat.{mod_below}
@@ -258,6 +258,22 @@ length_of : (z : ℤ) → square (pos (unsigned_abs z)) ≡ square z
 length_of (pos n) = refl
 length_of (negsuc n) = refl
 
+-- what the sides of a place, x and y from the centre and rx and ry from the start, and the ends have to do with its parts along and across the way d
+seen_from : (n sx sy ex ey x y rx ry dx dy : ℤ) → x ≡ rx +ℤ n *ℤ sx → y ≡ ry +ℤ n *ℤ sy → ex ≡ sx +ℤ dx → ey ≡ sy +ℤ dy →
+    (n *ℤ (sx *ℤ ey -ℤ sy *ℤ ex) ≡ (neg_ℤ (ex *ℤ y -ℤ ey *ℤ x) +ℤ (sx *ℤ y -ℤ sy *ℤ x)) +ℤ (dx *ℤ ry -ℤ dy *ℤ rx)) ×
+    ((sx *ℤ ey -ℤ sy *ℤ ex) *ℤ (rx *ℤ dx +ℤ ry *ℤ dy) ≡ (dx *ℤ dx +ℤ dy *ℤ dy) *ℤ (sx *ℤ y -ℤ sy *ℤ x) -ℤ (dx *ℤ ry -ℤ dy *ℤ rx) *ℤ (dx *ℤ sx +ℤ dy *ℤ sy)) ×
+    ((ex *ℤ ex +ℤ ey *ℤ ey) -ℤ (sx *ℤ sx +ℤ sy *ℤ sy) ≡ (dx *ℤ dx +ℤ dy *ℤ dy) +ℤ ((dx *ℤ sx +ℤ dy *ℤ sy) +ℤ (dx *ℤ sx +ℤ dy *ℤ sy)))
+seen_from n sx sy ex ey x y rx ry dx dy hx hy hex hey = rw (hx, hy, hex, hey) (sides n sx sy rx ry dx dy, parts n sx sy rx ry dx dy, ends sx sy dx dy)
+  where
+    sides : (n sx sy rx ry dx dy : ℤ) → n *ℤ (sx *ℤ (sy +ℤ dy) -ℤ sy *ℤ (sx +ℤ dx)) ≡ (neg_ℤ ((sx +ℤ dx) *ℤ (ry +ℤ n *ℤ sy) -ℤ (sy +ℤ dy) *ℤ (rx +ℤ n *ℤ sx)) +ℤ (sx *ℤ (ry +ℤ n *ℤ sy) -ℤ sy *ℤ (rx +ℤ n *ℤ sx))) +ℤ (dx *ℤ ry -ℤ dy *ℤ rx)
+    sides n sx sy rx ry dx dy = simp ring (omega (arith, linear))
+
+    parts : (n sx sy rx ry dx dy : ℤ) → (sx *ℤ (sy +ℤ dy) -ℤ sy *ℤ (sx +ℤ dx)) *ℤ (rx *ℤ dx +ℤ ry *ℤ dy) ≡ (dx *ℤ dx +ℤ dy *ℤ dy) *ℤ (sx *ℤ (ry +ℤ n *ℤ sy) -ℤ sy *ℤ (rx +ℤ n *ℤ sx)) -ℤ (dx *ℤ ry -ℤ dy *ℤ rx) *ℤ (dx *ℤ sx +ℤ dy *ℤ sy)
+    parts n sx sy rx ry dx dy = simp ring (omega (arith, linear))
+
+    ends : (sx sy dx dy : ℤ) → ((sx +ℤ dx) *ℤ (sx +ℤ dx) +ℤ (sy +ℤ dy) *ℤ (sy +ℤ dy)) -ℤ (sx *ℤ sx +ℤ sy *ℤ sy) ≡ (dx *ℤ dx +ℤ dy *ℤ dy) +ℤ ((dx *ℤ sx +ℤ dy *ℤ sy) +ℤ (dx *ℤ sx +ℤ dy *ℤ sy))
+    ends sx sy dx dy = simp ring (omega (arith, linear))
+
 module _ (a : Arc) (q p : Point) (centre : IsMovedCentre a q) (as_far : IsAsFar a q p) where
   even : norm ((q.x -ℤ q.n *ℤ a.centre.x) -ℤ q.n *ℤ (a.start.x -ℤ a.centre.x)) ((q.y -ℤ q.n *ℤ a.centre.y) -ℤ q.n *ℤ (a.start.y -ℤ a.centre.y)) ≡ norm (((q.x -ℤ q.n *ℤ a.centre.x) -ℤ q.n *ℤ (a.start.x -ℤ a.centre.x)) -ℤ q.n *ℤ (a.end.x -ℤ a.start.x)) (((q.y -ℤ q.n *ℤ a.centre.y) -ℤ q.n *ℤ (a.start.y -ℤ a.centre.y)) -ℤ q.n *ℤ (a.end.y -ℤ a.start.y))
   even = rw (from_end q.x q.n a.centre.x a.start.x a.end.x, from_end q.y q.n a.centre.y a.start.y a.end.y, from_start q.x q.n a.centre.x a.start.x, from_start q.y q.n a.centre.y a.start.y) centre.even
@@ -313,49 +329,9 @@ module _ (a : Arc) (q p : Point) (centre : IsMovedCentre a q) (as_far : IsAsFar 
   abbrev back : ℤ
   back = (a.end.x -ℤ a.start.x) *ℤ (a.start.x -ℤ a.centre.x) +ℤ (a.end.y -ℤ a.start.y) *ℤ (a.start.y -ℤ a.centre.y)
 
-  parts_sum : p.n *ℤ swing a ≡ (neg_ℤ (side_of a.centre a.end p) +ℤ side_of a.centre a.start p) +ℤ across
-  parts_sum = sum_of (a.start.x -ℤ a.centre.x) (a.start.y -ℤ a.centre.y) (a.end.x -ℤ a.centre.x) (a.end.y -ℤ a.centre.y) (p.x -ℤ p.n *ℤ a.centre.x) (p.y -ℤ p.n *ℤ a.centre.y) (p.x -ℤ p.n *ℤ a.start.x) (p.y -ℤ p.n *ℤ a.start.y) (a.end.x -ℤ a.start.x) (a.end.y -ℤ a.start.y)
-      (from_to p.x p.n a.start.x a.centre.x) (from_to p.y p.n a.start.y a.centre.y) (apart_to a.centre.x a.start.x a.end.x) (apart_to a.centre.y a.start.y a.end.y)
-    where
-      from_to : (x n s c : ℤ) → x -ℤ n *ℤ s ≡ (x -ℤ n *ℤ c) -ℤ n *ℤ (s -ℤ c)
-      from_to x n s c = simp ring (omega (arith, linear))
-
-      apart_to : (c s e : ℤ) → e -ℤ s ≡ (e -ℤ c) -ℤ (s -ℤ c)
-      apart_to c s e = omega (arith, linear)
-
-      sum_of : (sx sy ex ey x y rx ry dx dy : ℤ) → rx ≡ x -ℤ p.n *ℤ sx → ry ≡ y -ℤ p.n *ℤ sy → dx ≡ ex -ℤ sx → dy ≡ ey -ℤ sy → p.n *ℤ (sx *ℤ ey -ℤ sy *ℤ ex) ≡ (neg_ℤ (ex *ℤ y -ℤ ey *ℤ x) +ℤ (sx *ℤ y -ℤ sy *ℤ x)) +ℤ (dx *ℤ ry -ℤ dy *ℤ rx)
-      sum_of sx sy ex ey x y rx ry dx dy hrx hry hdx hdy = rw (hrx, hry, hdx, hdy) (plain p.n sx sy ex ey x y)
-        where
-          plain : (n sx sy ex ey x y : ℤ) → n *ℤ (sx *ℤ ey -ℤ sy *ℤ ex) ≡ (neg_ℤ (ex *ℤ y -ℤ ey *ℤ x) +ℤ (sx *ℤ y -ℤ sy *ℤ x)) +ℤ ((ex -ℤ sx) *ℤ (y -ℤ n *ℤ sy) -ℤ (ey -ℤ sy) *ℤ (x -ℤ n *ℤ sx))
-          plain n sx sy ex ey x y = simp ring (omega (arith, linear))
-
-  cut : swing a *ℤ along ≡ apart a *ℤ side_of a.centre a.start p -ℤ across *ℤ back
-  cut = cut_of (a.start.x -ℤ a.centre.x) (a.start.y -ℤ a.centre.y) (a.end.x -ℤ a.centre.x) (a.end.y -ℤ a.centre.y) (p.x -ℤ p.n *ℤ a.centre.x) (p.y -ℤ p.n *ℤ a.centre.y) (p.x -ℤ p.n *ℤ a.start.x) (p.y -ℤ p.n *ℤ a.start.y) (a.end.x -ℤ a.start.x) (a.end.y -ℤ a.start.y)
-      (from_to p.x p.n a.start.x a.centre.x) (from_to p.y p.n a.start.y a.centre.y) (apart_to a.centre.x a.start.x a.end.x) (apart_to a.centre.y a.start.y a.end.y)
-    where
-      from_to : (x n s c : ℤ) → x -ℤ n *ℤ c ≡ (x -ℤ n *ℤ s) +ℤ n *ℤ (s -ℤ c)
-      from_to x n s c = simp ring (omega (arith, linear))
-
-      apart_to : (c s e : ℤ) → e -ℤ c ≡ (s -ℤ c) +ℤ (e -ℤ s)
-      apart_to c s e = omega (arith, linear)
-
-      cut_of : (sx sy ex ey x y rx ry dx dy : ℤ) → x ≡ rx +ℤ p.n *ℤ sx → y ≡ ry +ℤ p.n *ℤ sy → ex ≡ sx +ℤ dx → ey ≡ sy +ℤ dy → (sx *ℤ ey -ℤ sy *ℤ ex) *ℤ (rx *ℤ dx +ℤ ry *ℤ dy) ≡ (dx *ℤ dx +ℤ dy *ℤ dy) *ℤ (sx *ℤ y -ℤ sy *ℤ x) -ℤ (dx *ℤ ry -ℤ dy *ℤ rx) *ℤ (dx *ℤ sx +ℤ dy *ℤ sy)
-      cut_of sx sy ex ey x y rx ry dx dy hx hy hex hey = rw (hx, hy, hex, hey) (plain p.n sx sy rx ry dx dy)
-        where
-          plain : (n sx sy rx ry dx dy : ℤ) → (sx *ℤ (sy +ℤ dy) -ℤ sy *ℤ (sx +ℤ dx)) *ℤ (rx *ℤ dx +ℤ ry *ℤ dy) ≡ (dx *ℤ dx +ℤ dy *ℤ dy) *ℤ (sx *ℤ (ry +ℤ n *ℤ sy) -ℤ sy *ℤ (rx +ℤ n *ℤ sx)) -ℤ (dx *ℤ ry -ℤ dy *ℤ rx) *ℤ (dx *ℤ sx +ℤ dy *ℤ sy)
-          plain n sx sy rx ry dx dy = simp ring (omega (arith, linear))
-
-  difference : dot_of a.centre a.end a.end -ℤ dot_of a.centre a.start a.start ≡ apart a +ℤ (back +ℤ back)
-  difference = by_parts (a.start.x -ℤ a.centre.x) (a.start.y -ℤ a.centre.y) (a.end.x -ℤ a.centre.x) (a.end.y -ℤ a.centre.y) (a.end.x -ℤ a.start.x) (a.end.y -ℤ a.start.y) (apart_to a.centre.x a.start.x a.end.x) (apart_to a.centre.y a.start.y a.end.y)
-    where
-      apart_to : (c s e : ℤ) → e -ℤ c ≡ (s -ℤ c) +ℤ (e -ℤ s)
-      apart_to c s e = omega (arith, linear)
-
-      by_parts : (sx sy ex ey dx dy : ℤ) → ex ≡ sx +ℤ dx → ey ≡ sy +ℤ dy → (ex *ℤ ex +ℤ ey *ℤ ey) -ℤ (sx *ℤ sx +ℤ sy *ℤ sy) ≡ (dx *ℤ dx +ℤ dy *ℤ dy) +ℤ ((dx *ℤ sx +ℤ dy *ℤ sy) +ℤ (dx *ℤ sx +ℤ dy *ℤ sy))
-      by_parts sx sy ex ey dx dy hx hy = rw (hx, hy) (plain sx sy dx dy)
-        where
-          plain : (sx sy dx dy : ℤ) → ((sx +ℤ dx) *ℤ (sx +ℤ dx) +ℤ (sy +ℤ dy) *ℤ (sy +ℤ dy)) -ℤ (sx *ℤ sx +ℤ sy *ℤ sy) ≡ (dx *ℤ dx +ℤ dy *ℤ dy) +ℤ ((dx *ℤ sx +ℤ dy *ℤ sy) +ℤ (dx *ℤ sx +ℤ dy *ℤ sy))
-          plain sx sy dx dy = simp ring (omega (arith, linear))
+  seen : (p.n *ℤ swing a ≡ (neg_ℤ (side_of a.centre a.end p) +ℤ side_of a.centre a.start p) +ℤ across) × (swing a *ℤ along ≡ apart a *ℤ side_of a.centre a.start p -ℤ across *ℤ back) × (dot_of a.centre a.end a.end -ℤ dot_of a.centre a.start a.start ≡ apart a +ℤ (back +ℤ back))
+  seen = seen_from p.n (a.start.x -ℤ a.centre.x) (a.start.y -ℤ a.centre.y) (a.end.x -ℤ a.centre.x) (a.end.y -ℤ a.centre.y) (p.x -ℤ p.n *ℤ a.centre.x) (p.y -ℤ p.n *ℤ a.centre.y) (p.x -ℤ p.n *ℤ a.start.x) (p.y -ℤ p.n *ℤ a.start.y) (a.end.x -ℤ a.start.x) (a.end.y -ℤ a.start.y)
+      (sym (from_centre p.x p.n a.centre.x a.start.x)) (sym (from_centre p.y p.n a.centre.y a.start.y)) (sym (to_end a.centre.x a.start.x a.end.x)) (sym (to_end a.centre.y a.start.y a.end.y))
 
   module _ (way : pos 0 ≤ℤ swing a) (some : pos 1 ≤ℤ apart a) where
     not_same : a.start ≡ a.end → ⊥
@@ -369,7 +345,7 @@ module _ (a : Arc) (q p : Point) (centre : IsMovedCentre a q) (as_far : IsAsFar 
 
     inside : pos 1 ≤ℤ swing a → IsMeant a → pos 1 ≤ℤ (swing a *ℤ swing a -ℤ back *ℤ (back +ℤ apart a))
     inside more (inl none) = absurd (omega (arith, linear, more, none))
-    inside more (inr meant) = inside_by (apart a) back (swing a) (unlike a) some more (omega (arith, linear, difference, most (dot_of a.centre a.start a.start) (dot_of a.centre a.end a.end))) (omega (arith, linear, difference, least (dot_of a.centre a.start a.start) (dot_of a.centre a.end a.end))) (kind meant)
+    inside more (inr meant) = inside_by (apart a) back (swing a) (unlike a) some more (omega (arith, linear, seen.2, most (dot_of a.centre a.start a.start) (dot_of a.centre a.end a.end))) (omega (arith, linear, seen.2, least (dot_of a.centre a.start a.start) (dot_of a.centre a.end a.end))) (kind meant)
       where
         most : (s e : ℤ) → (e -ℤ s) ≤ℤ (int_max s e -ℤ int_min s e)
         most s e = omega (arith, ints, clamps)
@@ -386,7 +362,7 @@ module _ (a : Arc) (q p : Point) (centre : IsMovedCentre a q) (as_far : IsAsFar 
         kind (inr l) = inr (omega (arith, linear, l, itself (swing a) more))
 
     beside : IsMeant a → InTurn a.centre a.start a.end p → (pos 0 ≤ℤ along) × (along ≤ℤ (p.n *ℤ apart a))
-    beside meant (inl (more, left, right)) = turned p.n (apart a) (swing a) along across back (neg_ℤ (side_of a.centre a.end p)) (side_of a.centre a.start p) p.positive some on_circle parts_sum cut (omega (arith, linear, right)) left (inside (omega (arith, linear, more)) meant) way
+    beside meant (inl (more, left, right)) = turned p.n (apart a) (swing a) along across back (neg_ℤ (side_of a.centre a.end p)) (side_of a.centre a.start p) p.positive some on_circle seen.0 seen.1 (omega (arith, linear, right)) left (inside (omega (arith, linear, more)) meant) way
     beside meant (inr (inl (less, other))) = absurd (omega (arith, linear, less, way))
     beside meant (inr (inr (inl (none, opposite, other)))) = flat p.n (apart a) (swing a) along across back (pos 0) (pos 0) p.positive some on_circle none
     beside meant (inr (inr (inr one))) = absurd (not_same one)

@@ -11,8 +11,8 @@ use super::rings::ring_of;
 use planar::{Spot, are_placed, is_placed};
 
 /// Whether the capsules of radius `r` from each spot of the chain to the next together hold the copper
-/// of each curve of the arc. Where it says so, they do; it may refuse a chain that does. The chain has
-/// to lead from the start of the arc to its end, round the centre counterclockwise.
+/// of each curve of the arc, by its chords (`TakenAbove`). Where it says so, they do; others that do are
+/// refused. The chain has to lead from the start of the arc to its end, round the centre counterclockwise.
 pub fn is_above(arc: &Arc, chain: &[Spot], r: u64) -> bool
     ensures taken { IsTrue result ↔ TakenAbove arc.now chain.now r }
     ensures curves { IsTrue result → (p : Point) → Possibly arc.now p → InChain chain.now (pos r) p }

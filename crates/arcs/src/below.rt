@@ -11,7 +11,7 @@ use super::rings::ring_of;
 use planar::{Spot, are_placed, is_placed};
 
 /// Whether each capsule of radius `r` from a spot of the chain to the next lies in the copper of every
-/// curve of the arc. Where it says so, it does; it may refuse a chain that does.
+/// curve of the arc, by its chords (`TakenBelow`). Where it says so, it does; others that do are refused.
 pub fn is_below(arc: &Arc, chain: &[Spot], r: u64) -> bool
     ensures taken { IsTrue result ↔ TakenBelow arc.now chain.now r }
     ensures curves { IsTrue result → (p : Point) → InChain chain.now (pos r) p → Surely arc.now p }
