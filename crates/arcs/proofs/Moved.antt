@@ -1,14 +1,14 @@
 -- The circle through both ends whose centre is nearest to the given one keeps the distances that a curve may have.
-use Rattle.std.proofs.Common.{◌≡◌, ◌⊎◌, inl, inr, Bool, true, if◌then◌else◌, ℕ, ◌+◌, ◌*◌, ◌/◌, ◌%◌, ◌<◌, negsuc, ℤ, pos, neg_ℤ, int_lt, unsigned_abs, ◌+ℤ◌, ◌-ℤ◌, ◌*ℤ◌, ◌≤ℤ◌, ◌<ℤ◌, arith, refl, sym, ap, subst, ◌∙◌}
+use Rattle.std.proofs.Common.{◌≡◌, ◌⊎◌, inl, inr, ℕ, ◌+◌, ◌*◌, ◌/◌, ◌%◌, ◌<◌, negsuc, ℤ, pos, neg_ℤ, unsigned_abs, ◌+ℤ◌, ◌-ℤ◌, ◌*ℤ◌, ◌≤ℤ◌, ◌<ℤ◌, arith, refl, sym, ap, subst, ◌∙◌}
 use Rattle.std.proofs.Math.Nat.{div-add-mod}
 use Rattle.std.proofs.lemmas.Nat.{mod_below}
 use Rattle.std.proofs.lemmas.Int.{ints, clamps}
 use Rattle.std.specs.Int.{int_max, int_min}
 use Rattle.planar.specs.declared.Spot.{Spot}
 use Rattle.planar.specs.Plane.{Point, cross_of, dot_of, square}
-use Rattle.planar.proofs.Ring.{ring, linear, le_or_lt, over_zero, square_cancel, square_from_zero, square_zero, times_cancel, times_from_zero, times_mono, times-zero, zero-times}
+use Rattle.planar.proofs.Ring.{ring, linear, le_or_lt, square_cancel, square_from_zero, times_cancel, times_from_zero, times_mono, times-zero, zero-times}
 use Rattle.arcs.specs.declared.Arc.{Arc}
-use Rattle.arcs.specs.Copper.{InTurn, IsMeant, apart, greater, inmost, lesser, outmost, reach_of, side_of, spread, swing, times, unlike}
+use Rattle.arcs.specs.Copper.{InTurn, IsMeant, apart, inmost, lesser, outmost, reach_of, side_of, spread, swing, times, unlike}
 use Rattle.arcs.specs.Laws.{IsAsFar, IsMovedCentre, MovedCircleIsHeld, MovedTurnIsHeld}
 use Rattle.arcs.proofs.Vectors.{norm, norm_from_zero}
 use Rattle.arcs.proofs.Radii.{apart_some, spread_none, spread_when}
@@ -298,7 +298,7 @@ module _ (a : Arc) (q p : Point) (centre : IsMovedCentre a q) (as_far : IsAsFar 
   is : apart a *ℤ (reach_of a.centre p -ℤ square p.n *ℤ dot_of a.centre a.start a.start) ≡ p.n *ℤ ((dot_of a.centre a.end a.end -ℤ dot_of a.centre a.start a.start) *ℤ along)
   is =
       let z = around q.n p.n (q.x -ℤ q.n *ℤ a.centre.x) (q.y -ℤ q.n *ℤ a.centre.y) (a.start.x -ℤ a.centre.x) (a.start.y -ℤ a.centre.y) (a.end.x -ℤ a.start.x) (a.end.y -ℤ a.start.y) (p.x -ℤ p.n *ℤ a.start.x) (p.y -ℤ p.n *ℤ a.start.y) q.positive p.positive centre.along even far
-        (swing a) (pos (unsigned_abs (swing a))) (omega (arith, ints)) (length_of (swing a)) crossed in
+      (swing a) (pos (unsigned_abs (swing a))) (omega (arith, ints)) (length_of (swing a)) crossed in
       rw (from_centre p.x p.n a.centre.x a.start.x, from_centre p.y p.n a.centre.y a.start.y, to_end a.centre.x a.start.x a.end.x, to_end a.centre.y a.start.y a.end.y) at z.0
 
   by : (h t : ℤ) → pos 1 ≤ℤ apart a → spread a ≡ unlike a *ℤ t → h ≤ℤ (apart a *ℤ t) → along ≤ℤ (p.n *ℤ apart a +ℤ p.n *ℤ h) → neg_ℤ (p.n *ℤ h) ≤ℤ along → ((square p.n *ℤ inmost a) ≤ℤ reach_of a.centre p) × (reach_of a.centre p ≤ℤ (square p.n *ℤ outmost a))
@@ -316,14 +316,14 @@ module _ (a : Arc) (q p : Point) (centre : IsMovedCentre a q) (as_far : IsAsFar 
   past_half : swing a <ℤ pos 0 → ((square p.n *ℤ inmost a) ≤ℤ reach_of a.centre p) × (reach_of a.centre p ≤ℤ (square p.n *ℤ outmost a))
   past_half way =
       let z = around q.n p.n (q.x -ℤ q.n *ℤ a.centre.x) (q.y -ℤ q.n *ℤ a.centre.y) (a.start.x -ℤ a.centre.x) (a.start.y -ℤ a.centre.y) (a.end.x -ℤ a.start.x) (a.end.y -ℤ a.start.y) (p.x -ℤ p.n *ℤ a.start.x) (p.y -ℤ p.n *ℤ a.start.y) q.positive p.positive centre.along even far
-        (swing a) (pos (unsigned_abs (swing a))) (omega (arith, ints)) (length_of (swing a)) crossed in
+      (swing a) (pos (unsigned_abs (swing a))) (omega (arith, ints)) (length_of (swing a)) crossed in
       by (pos (unsigned_abs (swing a))) (pos (times a)) (apart_some a way) (spread_when a way) (over way) z.1 z.2
 
   -- ---- up to a half turn
 
   on_circle : (along *ℤ along +ℤ across *ℤ across) -ℤ ((p.n *ℤ across) *ℤ swing a +ℤ (p.n *ℤ across) *ℤ swing a) ≡ (p.n *ℤ apart a) *ℤ along
   on_circle = circled q.n p.n (q.x -ℤ q.n *ℤ a.centre.x) (q.y -ℤ q.n *ℤ a.centre.y) (a.start.x -ℤ a.centre.x) (a.start.y -ℤ a.centre.y) (a.end.x -ℤ a.start.x) (a.end.y -ℤ a.start.y) (p.x -ℤ p.n *ℤ a.start.x) (p.y -ℤ p.n *ℤ a.start.y) q.positive p.positive centre.along even far
-        (swing a) (pos (unsigned_abs (swing a))) (omega (arith, ints)) (length_of (swing a)) crossed
+      (swing a) (pos (unsigned_abs (swing a))) (omega (arith, ints)) (length_of (swing a)) crossed
 
   -- the given centre's part along the way
   abbrev back : ℤ

@@ -1,5 +1,5 @@
 -- What the code's numbers and answers tell.
-use Rattle.std.proofs.Common.{◌≡◌, ◌↔◌, Bool, IsTrue, sym, Option, Some, None, SomeIff, ◌-◌, ◌<◌, ◌+ℤ◌, ◌^◌, ℕ, negsuc, ℤ, pos, ◌+◌, ◌*◌, ◌≤◌, ◌*ℤ◌, ◌≤ℤ◌, ◌<ℤ◌, unsigned_abs, FitsSigned, to_z, of_z, to_z-of_z, arith, refl, ap, ◌∙◌}
+use Rattle.std.proofs.Common.{◌≡◌, ◌↔◌, Bool, IsTrue, sym, Option, Some, None, SomeIff, ◌<◌, ◌^◌, ℕ, negsuc, ℤ, pos, ◌+◌, ◌*◌, ◌≤◌, ◌*ℤ◌, ◌≤ℤ◌, ◌<ℤ◌, unsigned_abs, FitsSigned, to_z, of_z, to_z-of_z, arith, ap, ◌∙◌}
 use Rattle.std.proofs.lemmas.Int.{ints}
 use Rattle.std.specs.Int.{w128}
 use Rattle.planar.specs.Plane.{square}

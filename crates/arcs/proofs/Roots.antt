@@ -1,10 +1,10 @@
 -- The least number whose square is over another, and the greatest whose square is under it.
-use Rattle.std.proofs.Common.{◌≡◌, ◌⊎◌, Option, Some, inl, inr, ℕ, ◌+◌, ◌-◌, ◌*◌, ◌≤◌, ◌<◌, ℤ, pos, negsuc, ◌+ℤ◌, ◌-ℤ◌, ◌≤ℤ◌, ◌<ℤ◌, ◌^◌, arith}
+use Rattle.std.proofs.Common.{◌≡◌, ◌⊎◌, Some, inl, inr, ℕ, ◌+◌, ◌-◌, ◌*◌, ◌≤◌, ◌<◌, ℤ, pos, negsuc, ◌+ℤ◌, ◌-ℤ◌, ◌≤ℤ◌, ◌^◌, arith}
 use Rattle.std.proofs.Math.Nat.{mul-le-mul}
 use Rattle.std.proofs.lemmas.Int.{ints, clamps}
 use Rattle.std.specs.Int.{int_max}
 use Rattle.planar.specs.Plane.{square}
-use Rattle.arcs.specs.Chains.{HasRoom, IsGreatestUnder, IsLeastOver, IsRing, IsRootOver, IsWidest}
+use Rattle.arcs.specs.Chains.{IsGreatestUnder, IsLeastOver, IsRing, IsRootOver, IsWidest}
 use Rattle.arcs.proofs.Read.{room_read}
 
 least_or_more : (a b : ℕ) → (a ≤ b) ⊎ (b < a)

@@ -1,5 +1,5 @@
 -- Chains that the checks take.
-use Rattle.std.proofs.Common.{◌≡◌, ◌↔◌, ◌∙◌, Bool, false, IsTrue, refl, sym, subst, ap, length, [], ℕ, ◌+◌, ◌-◌, ◌/◌, ◌≤◌, ℤ, pos, ◌*ℤ◌, ◌≤ℤ◌, ◌<ℤ◌, List, ◌∷◌, arith}
+use Rattle.std.proofs.Common.{◌≡◌, ◌↔◌, ◌∙◌, Bool, false, IsTrue, sym, subst, ap, length, [], ℕ, ◌+◌, ◌-◌, ◌/◌, ◌≤◌, ℤ, pos, ◌*ℤ◌, ◌≤ℤ◌, List, ◌∷◌, arith}
 use Rattle.std.proofs.lemmas.Int.{ints}
 use Rattle.std.specs.Bool.{⊤}
 use Rattle.planar.specs.declared.Spot.{Spot}
@@ -7,7 +7,7 @@ use Rattle.planar.specs.Plane.{Point, dot_of, square}
 use Rattle.planar.proofs.Ring.{linear, square_mono, times_mono_right}
 use Rattle.planar.proofs.SpotWithin.{whole_from_zero}
 use Rattle.arcs.specs.declared.Arc.{Arc}
-use Rattle.arcs.specs.Chains.{EachFrom, EndsAt, HasRoom, IsChord, IsInner, IsLink, IsWidest}
+use Rattle.arcs.specs.Chains.{EachFrom, EndsAt, IsChord, IsInner, IsLink, IsWidest}
 use Rattle.arcs.specs.Copper.{InChain, Possibly, Surely, inmost, outmost}
 use Rattle.arcs.specs.Taken.{IsJudged, TakenAbove, TakenBelow}
 use Rattle.arcs.proofs.Chain.{below_read}
@@ -31,12 +31,15 @@ above_holds arc chain r t =
 
 module _ (c : Spot) (near far n f : ℤ) (hn : pos 0 ≤ℤ near) (hf : pos 0 ≤ℤ f) (nearer : near ≤ℤ n) (further : f ≤ℤ far) where
   wider : (a b : Spot) → IsLink c n f a b → IsLink c near far a b
-  wider a b (chord, measured) = (record {
-    left = chord.left;
-    first = omega (arith, linear, chord.first, grown);
-    last = omega (arith, linear, chord.last, grown);
-    line = omega (arith, linear, chord.line, lesser);
-  }, omega (arith, linear, measured, lesser))
+  wider a b (chord, measured) = (
+    record {
+      left = chord.left;
+      first = omega (arith, linear, chord.first, grown);
+      last = omega (arith, linear, chord.last, grown);
+      line = omega (arith, linear, chord.line, lesser);
+    },
+    omega (arith, linear, measured, lesser),
+  )
     where
       grown : square f ≤ℤ square far
       grown = square_mono f far hf further
@@ -63,17 +66,20 @@ EndsIn e (a ∷ rest) = EndsAt e a rest
 module _ (arc : Arc) (chain : List Spot) (r near far : ℕ) (judged : IsJudged arc chain) (b : Bool) where
   pub below_decided : (first : Spot) (rest : List Spot) → r + r ≤ arc.width → IsWidest (inmost arc) (outmost arc) (pos near) (pos far) (pos (arc.width / 2 - r)) → chain ≡ first ∷ rest
       → IsTrue b ↔ EachFrom (IsInner arc.centre arc.start arc.end (pos near) (pos far)) first rest → IsTrue b ↔ TakenBelow arc chain r
-  below_decided first rest pen wide is told = (λ yes. record {
-    judged = judged;
-    pen = pen;
-    near = pos near;
-    far = pos far;
-    room = wide.room;
-    first = first;
-    rest = rest;
-    is = is;
-    links = told.0 yes;
-  }, λ t. told.1 (found t))
+  below_decided first rest pen wide is told = (
+    λ yes. record {
+      judged = judged;
+      pen = pen;
+      near = pos near;
+      far = pos far;
+      room = wide.room;
+      first = first;
+      rest = rest;
+      is = is;
+      links = told.0 yes;
+    },
+    λ t. told.1 (found t),
+  )
     where
       found : TakenBelow arc chain r → EachFrom (IsInner arc.centre arc.start arc.end (pos near) (pos far)) first rest
       found t = each_as (IsInner arc.centre arc.start arc.end t.near t.far) (IsInner arc.centre arc.start arc.end (pos near) (pos far))
@@ -83,18 +89,21 @@ module _ (arc : Arc) (chain : List Spot) (r near far : ℕ) (judged : IsJudged a
   pub above_decided : (rest : List Spot) → arc.width ≤ r + r → 2 ≤ length chain → IsWidest (inmost arc) (outmost arc) (pos near) (pos far) (pos (r - (arc.width - arc.width / 2))) → chain ≡ arc.start ∷ rest
       → IsTrue b ↔ (EachFrom (IsLink arc.centre (pos near) (pos far)) arc.start rest × EndsAt arc.end arc.start rest) → IsTrue b ↔ TakenAbove arc chain r
   above_decided [] pen two wide is told = let n : length chain ≡ 1 = ap length is in absurd (omega (arith, n, two))
-  above_decided (second ∷ rest) pen two wide is told = (λ yes. record {
-    judged = judged;
-    pen = pen;
-    near = pos near;
-    far = pos far;
-    room = wide.room;
-    second = second;
-    rest = rest;
-    is = is;
-    links = (told.0 yes).0;
-    ends = (told.0 yes).1;
-  }, λ t. told.1 (found t, subst (λ (xs : List Spot). EndsIn arc.end xs) (sym t.is ∙ is) t.ends))
+  above_decided (second ∷ rest) pen two wide is told = (
+    λ yes. record {
+      judged = judged;
+      pen = pen;
+      near = pos near;
+      far = pos far;
+      room = wide.room;
+      second = second;
+      rest = rest;
+      is = is;
+      links = (told.0 yes).0;
+      ends = (told.0 yes).1;
+    },
+    λ t. told.1 (found t, subst (λ (xs : List Spot). EndsIn arc.end xs) (sym t.is ∙ is) t.ends),
+  )
     where
       found : TakenAbove arc chain r → EachFrom (IsLink arc.centre (pos near) (pos far)) arc.start (second ∷ rest)
       found t = each_as (IsLink arc.centre t.near t.far) (IsLink arc.centre (pos near) (pos far))

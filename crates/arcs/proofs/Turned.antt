@@ -1,8 +1,6 @@
 -- Up to a half turn the circle through both ends whose centre is nearest to the given one keeps the distances of the ends, in the turn.
 use Rattle.std.proofs.Common.{◌≡◌, ◌⊎◌, inl, inr, ℤ, pos, neg_ℤ, ◌+ℤ◌, ◌-ℤ◌, ◌*ℤ◌, ◌≤ℤ◌, ◌<ℤ◌, arith, ap}
-use Rattle.planar.specs.Plane.{square}
-use Rattle.planar.proofs.Ring.{ring, linear, le_or_lt, over_zero, square_from_zero, square_mono, square_over, times_from_zero}
-use Rattle.arcs.proofs.Vectors.{norm}
+use Rattle.planar.proofs.Ring.{ring, linear, le_or_lt, over_zero, square_from_zero, square_over, times_from_zero}
 
 -- a product that is not over 0 has its two factors on two sides of 0
 pub between : (u w : ℤ) → pos 0 ≤ℤ w → (u *ℤ (u -ℤ w)) ≤ℤ pos 0 → (pos 0 ≤ℤ u) × (u ≤ℤ w)
@@ -12,9 +10,9 @@ between u w hw h = (low, high)
     low = elim (le_or_lt (pos 0) u) [
       | inl l ↦ l
       | inr g ↦ absurd (
-        let f : pos 1 ≤ℤ (neg_ℤ u *ℤ (w -ℤ u)) = over_zero (neg_ℤ u) (w -ℤ u) (omega (arith, linear, g)) (omega (arith, linear, g, hw)) in
-        let e : neg_ℤ u *ℤ (w -ℤ u) ≡ u *ℤ (u -ℤ w) = simp ring (omega (arith, linear)) in
-        omega (arith, linear, e, f, h))
+          let f : pos 1 ≤ℤ (neg_ℤ u *ℤ (w -ℤ u)) = over_zero (neg_ℤ u) (w -ℤ u) (omega (arith, linear, g)) (omega (arith, linear, g, hw)) in
+          let e : neg_ℤ u *ℤ (w -ℤ u) ≡ u *ℤ (u -ℤ w) = simp ring (omega (arith, linear)) in
+          omega (arith, linear, e, f, h))
     ]
 
     high : u ≤ℤ w

@@ -1,5 +1,5 @@
 -- The kinds of turn, one by one.
-use Rattle.std.proofs.Common.{◌≡◌, ◌↔◌, ◌⊎◌, inl, inr, Bool, IsTrue, ℤ, pos, ◌≤ℤ◌, ◌<ℤ◌, arith}
+use Rattle.std.proofs.Common.{◌≡◌, ◌↔◌, ◌⊎◌, inl, inr, Bool, IsTrue, pos, ◌≤ℤ◌, ◌<ℤ◌, arith}
 use Rattle.planar.specs.declared.Spot.{Spot}
 use Rattle.planar.specs.Plane.{cross_of, dot_of}
 use Rattle.planar.proofs.Ring.{linear}
