@@ -19,7 +19,7 @@ use Rattle.arcs.proofs.Upper.{chord_holds_ring}
 module _ (c s e : Spot) (low high near far k v : ℤ) (hv : pos 0 ≤ℤ v) (h : HasRoom low high near far k) (first : IsRim c low high s) (last : IsRim c low high e) (p : Point) where
   each_below : (a : Spot) (rest : List Spot) → EachFrom (IsInner c s e near far) a rest → InFrom a rest v p → (InTurn c s e p × InRing (v +ℤ k) c high low p) ⊎ (IsNear (v +ℤ k) s p ⊎ IsNear (v +ℤ k) e p)
   each_below a [] all none = absurd none
-  each_below a (b ∷ rest) all (inl inside) = chord_below c s e a b low high h.least h.most near far k v p hv h.room first last all.0.0 all.0.1 inside
+  each_below a (b ∷ rest) all (inl inside) = chord_below c s e a b low high h.least h.most near far k v p hv h.room first last all.0.0.0 all.0.1 inside
   each_below a (b ∷ rest) all (inr more) = each_below b rest all.1 more
 
 rim_start : (a : Arc) → IsRim a.centre (inmost a) (outmost a) a.start
@@ -84,10 +84,10 @@ one_way sx sy ex ey x y flat way h =
             let b : (pos 0 *ℤ y -ℤ pos 0 *ℤ x) <ℤ pos 0 = rw (zero_x, zero_y) at h in
             omega (arith, linear, b, zero-times x, zero-times y)
 
-flat_self : (c s e : Spot) → s ≡ e → cross_of c s e ≡ pos 0
+pub flat_self : (c s e : Spot) → s ≡ e → cross_of c s e ≡ pos 0
 flat_self c s e same = subst (λ (z : Spot). cross_of c s z ≡ pos 0) same (omega (arith, linear, mul_comm (s.x -ℤ c.x) (s.y -ℤ c.y)))
 
-not_back : (c s e : Spot) → s ≡ e → pos 0 ≤ℤ dot_of c s e
+pub not_back : (c s e : Spot) → s ≡ e → pos 0 ≤ℤ dot_of c s e
 not_back c s e same = subst (λ (z : Spot). pos 0 ≤ℤ dot_of c s z) same (whole_from_zero c s)
 
 module _ (c s : Spot) (p : Point) where

@@ -1,5 +1,5 @@
 -- A pen on a place: what is near a place of a capsule lies in a greater one. And a chain is closed: what lies in each somewhat greater chain lies in it.
-use Rattle.std.proofs.Common.{◌≡◌, ◌⊎◌, inl, inr, ℕ, ℤ, pos, ◌+◌, ◌-◌, ◌≤◌, neg_ℤ, ◌+ℤ◌, ◌-ℤ◌, ◌*ℤ◌, ◌≤ℤ◌, ◌<ℤ◌, List, [], ◌∷◌, map, arith, ap, length, subst, sym}
+use Rattle.std.proofs.Common.{◌≡◌, ◌⊎◌, inl, inr, ℕ, ℤ, pos, ◌+◌, ◌-◌, ◌≤◌, neg_ℤ, ◌+ℤ◌, ◌-ℤ◌, ◌*ℤ◌, ◌≤ℤ◌, ◌<ℤ◌, List, [], ◌∷◌, map, arith, refl, subst, sym}
 use Rattle.std.proofs.lemmas.Int.{ints}
 use Rattle.planar.specs.declared.Spot.{Spot}
 use Rattle.planar.specs.Plane.{InCapsule, Point, square}
@@ -256,23 +256,22 @@ near_grown k half width z p some from wide h = by z.x z.y z.n p.x p.y p.n z.posi
             spread : (u v : ℤ) → square (u *ℤ (v +ℤ v)) ≡ ((square (u *ℤ v) +ℤ square (u *ℤ v)) +ℤ square (u *ℤ v)) +ℤ square (u *ℤ v)
             spread u v = simp ring (omega (arith, linear))
 
-pub above_read : (arc : Arc) (chain : List Spot) (r half : ℕ) (near far : ℤ) (a : Spot) (rest : List Spot) → arc.width ≤ half + half → half ≤ r → 2 ≤ length chain → HasRoom (inmost arc) (outmost arc) near far (pos (r - half)) → chain ≡ a ∷ rest → a ≡ arc.start → IsMeant arc
-    → EachFrom (IsChord arc.centre near far) a rest → EndsAt arc.end a rest → (p : Point) → Possibly arc p → InChain chain (pos r) p
-above_read arc chain r half near far a [] wide l two room e start meant all last p h = let n : length chain ≡ 1 = ap length e in absurd (omega (arith, n, two))
-above_read arc chain r half near far a (b ∷ rest) wide l two room e start meant all last p h =
-    subst (λ (xs : List Spot). InChain xs (pos r) p) (sym e) (closed (pos r) (omega (arith, ints)) p a (b ∷ rest) each)
+pub above_read : (arc : Arc) (chain : List Spot) (r half : ℕ) (near far : ℤ) (b : Spot) (rest : List Spot) → arc.width ≤ half + half → half ≤ r → HasRoom (inmost arc) (outmost arc) near far (pos (r - half)) → chain ≡ arc.start ∷ b ∷ rest → IsMeant arc
+    → EachFrom (IsChord arc.centre near far) arc.start (b ∷ rest) → EndsAt arc.end b rest → (p : Point) → Possibly arc p → InChain chain (pos r) p
+above_read arc chain r half near far b rest wide l room e meant all last p h =
+    subst (λ (xs : List Spot). InChain xs (pos r) p) (sym e) (closed (pos r) (omega (arith, ints)) p arc.start (b ∷ rest) each)
   where
     sum : (k r h : ℤ) → (pos 1 +ℤ k *ℤ r) +ℤ (k *ℤ h +ℤ pos 1) ≡ k *ℤ (r +ℤ h) +ℤ pos 2
     sum k r h = let two : pos 2 ≡ pos 1 +ℤ pos 1 = omega (arith, ints) in let e : k *ℤ (r +ℤ h) ≡ k *ℤ r +ℤ k *ℤ h = simp ring in omega (arith, linear, two, e)
 
-    each : (k : ℤ) → pos 1 ≤ℤ k → InFrom (grown k a) (map (grown k) (b ∷ rest)) (k *ℤ pos r +ℤ pos 2) (grown_point k p)
+    each : (k : ℤ) → pos 1 ≤ℤ k → InFrom (grown k arc.start) (map (grown k) (b ∷ rest)) (k *ℤ pos r +ℤ pos 2) (grown_point k p)
     each k some =
         let q : HasPlace arc k p = h meant k some in
         let hk : pos 0 ≤ℤ k = omega (arith, linear, some) in
-        let on : InFrom (grown k a) (map (grown k) (b ∷ rest)) (pos 1 +ℤ k *ℤ pos (r - half)) (grown_point k q.place) = place_held k some arc.centre arc.start arc.end (inmost arc) (outmost arc) near far (pos (r - half)) room a b rest start all last q.place q.turn q.ring in
+        let on : InFrom (grown k arc.start) (map (grown k) (b ∷ rest)) (pos 1 +ℤ k *ℤ pos (r - half)) (grown_point k q.place) = place_held k some arc.centre arc.start arc.end (inmost arc) (outmost arc) near far (pos (r - half)) room arc.start b rest refl all last q.place q.turn q.ring in
         let close : AreNear (k *ℤ pos half +ℤ pos 1) (grown_point k q.place) (grown_point k p) = near_grown k (pos half) (pos arc.width) q.place p some (omega (arith, ints)) (omega (arith, ints, wide)) q.near in
         let w : pos (r - half) +ℤ pos half ≡ pos r = omega (arith, ints, l) in
-        subst (λ (z : ℤ). InFrom (grown k a) (map (grown k) (b ∷ rest)) (k *ℤ z +ℤ pos 2) (grown_point k p)) w
-        (subst (λ (z : ℤ). InFrom (grown k a) (map (grown k) (b ∷ rest)) z (grown_point k p)) (sum k (pos (r - half)) (pos half))
-        (moved_along (grown k a) (map (grown k) (b ∷ rest)) (pos 1 +ℤ k *ℤ pos (r - half)) (k *ℤ pos half +ℤ pos 1) (grown_point k q.place) (grown_point k p)
+        subst (λ (z : ℤ). InFrom (grown k arc.start) (map (grown k) (b ∷ rest)) (k *ℤ z +ℤ pos 2) (grown_point k p)) w
+        (subst (λ (z : ℤ). InFrom (grown k arc.start) (map (grown k) (b ∷ rest)) z (grown_point k p)) (sum k (pos (r - half)) (pos half))
+        (moved_along (grown k arc.start) (map (grown k) (b ∷ rest)) (pos 1 +ℤ k *ℤ pos (r - half)) (k *ℤ pos half +ℤ pos 1) (grown_point k q.place) (grown_point k p)
         (omega (arith, linear, times_from_zero k (pos (r - half)) hk (omega (arith, ints)))) (omega (arith, linear, times_from_zero k (pos half) hk (omega (arith, ints)))) close on))

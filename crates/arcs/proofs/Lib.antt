@@ -12,6 +12,10 @@ mod Places
 mod Radii
 mod Read
 mod Ring
+mod Roots
+mod Taken
+mod Turned
+mod Turns
 mod Upper
 mod Vectors
 mod Whole

@@ -1,16 +1,18 @@
--- The circle through both ends whose centre is nearest to the given one keeps the distances that a curve may have, past a half turn.
-use Rattle.std.proofs.Common.{◌≡◌, ◌⊎◌, inl, inr, Bool, true, if◌then◌else◌, ℕ, ◌+◌, ◌*◌, ◌/◌, ◌%◌, ◌<◌, negsuc, ℤ, pos, neg_ℤ, int_lt, unsigned_abs, ◌+ℤ◌, ◌-ℤ◌, ◌*ℤ◌, ◌≤ℤ◌, ◌<ℤ◌, arith, refl, sym, ap, subst}
+-- The circle through both ends whose centre is nearest to the given one keeps the distances that a curve may have.
+use Rattle.std.proofs.Common.{◌≡◌, ◌⊎◌, inl, inr, ℕ, ◌+◌, ◌*◌, ◌/◌, ◌%◌, ◌<◌, negsuc, ℤ, pos, neg_ℤ, unsigned_abs, ◌+ℤ◌, ◌-ℤ◌, ◌*ℤ◌, ◌≤ℤ◌, ◌<ℤ◌, arith, refl, sym, ap, subst, ◌∙◌}
 use Rattle.std.proofs.Math.Nat.{div-add-mod}
 use Rattle.std.proofs.lemmas.Nat.{mod_below}
 use Rattle.std.proofs.lemmas.Int.{ints, clamps}
 use Rattle.std.specs.Int.{int_max, int_min}
+use Rattle.planar.specs.declared.Spot.{Spot}
 use Rattle.planar.specs.Plane.{Point, cross_of, dot_of, square}
-use Rattle.planar.proofs.Ring.{ring, linear, le_or_lt, over_zero, square_cancel, square_from_zero, square_zero, times_cancel, times_from_zero, times_mono, times-zero, zero-times}
+use Rattle.planar.proofs.Ring.{ring, linear, le_or_lt, square_cancel, square_from_zero, times_cancel, times_from_zero, times_mono, times-zero, zero-times}
 use Rattle.arcs.specs.declared.Arc.{Arc}
-use Rattle.arcs.specs.Copper.{apart, greater, inmost, lesser, outmost, reach_of, spread, swing, times, unlike}
-use Rattle.arcs.specs.Laws.{IsAsFar, IsMovedCentre, MovedCircleIsHeld}
+use Rattle.arcs.specs.Copper.{InTurn, IsMeant, apart, inmost, lesser, outmost, reach_of, side_of, spread, swing, times, unlike}
+use Rattle.arcs.specs.Laws.{IsAsFar, IsMovedCentre, MovedCircleIsHeld, MovedTurnIsHeld}
 use Rattle.arcs.proofs.Vectors.{norm, norm_from_zero}
-use Rattle.arcs.proofs.Radii.{apart_some, spread_when}
+use Rattle.arcs.proofs.Radii.{apart_some, spread_none, spread_when}
+use Rattle.arcs.proofs.Turned.{flat, inside_by, turned}
 
 twice : ℤ → ℤ
 twice z = z +ℤ z
@@ -165,6 +167,9 @@ module _ (m n qx qy sx sy dx dy rx ry : ℤ) (hm : pos 1 ≤ℤ m) (hn : pos 1 �
         plain : (sx sy dx dy : ℤ) → norm (sx +ℤ dx) (sy +ℤ dy) -ℤ norm sx sy ≡ norm dx dy +ℤ ((dx *ℤ sx +ℤ dy *ℤ sy) +ℤ (dx *ℤ sx +ℤ dy *ℤ sy))
         plain sx sy dx dy = simp ring (omega (arith, linear))
 
+    pub circled : (U *ℤ U +ℤ (dx *ℤ ry -ℤ dy *ℤ rx) *ℤ (dx *ℤ ry -ℤ dy *ℤ rx)) -ℤ ((n *ℤ (dx *ℤ ry -ℤ dy *ℤ rx)) *ℤ k +ℤ (n *ℤ (dx *ℤ ry -ℤ dy *ℤ rx)) *ℤ k) ≡ (n *ℤ A) *ℤ U
+    circled = circle n A k U (dx *ℤ ry -ℤ dy *ℤ rx) (norm rx ry) X P hn A0 lengths parts on
+
     pub around : ((A *ℤ (norm (rx +ℤ n *ℤ sx) (ry +ℤ n *ℤ sy) -ℤ square n *ℤ norm sx sy) ≡ n *ℤ ((norm (sx +ℤ dx) (sy +ℤ dy) -ℤ norm sx sy) *ℤ U)) × (U ≤ℤ (n *ℤ A +ℤ n *ℤ h)) × (neg_ℤ (n *ℤ h) ≤ℤ U))
     around = (reach_is, past, before)
 
@@ -253,32 +258,122 @@ length_of : (z : ℤ) → square (pos (unsigned_abs z)) ≡ square z
 length_of (pos n) = refl
 length_of (negsuc n) = refl
 
-pub moved_circle_is_held : MovedCircleIsHeld
-moved_circle_is_held a q p way centre as_far = (rw (spread_when a way) (clamped p.n (lesser a -ℤ unlike a *ℤ pos (times a)) (reach_of a.centre p) reach_from between.0), rw (spread_when a way) between.1)
+-- what the sides of a place, x and y from the centre and rx and ry from the start, and the ends have to do with its parts along and across the way d
+seen_from : (n sx sy ex ey x y rx ry dx dy : ℤ) → x ≡ rx +ℤ n *ℤ sx → y ≡ ry +ℤ n *ℤ sy → ex ≡ sx +ℤ dx → ey ≡ sy +ℤ dy →
+    (n *ℤ (sx *ℤ ey -ℤ sy *ℤ ex) ≡ (neg_ℤ (ex *ℤ y -ℤ ey *ℤ x) +ℤ (sx *ℤ y -ℤ sy *ℤ x)) +ℤ (dx *ℤ ry -ℤ dy *ℤ rx)) ×
+    ((sx *ℤ ey -ℤ sy *ℤ ex) *ℤ (rx *ℤ dx +ℤ ry *ℤ dy) ≡ (dx *ℤ dx +ℤ dy *ℤ dy) *ℤ (sx *ℤ y -ℤ sy *ℤ x) -ℤ (dx *ℤ ry -ℤ dy *ℤ rx) *ℤ (dx *ℤ sx +ℤ dy *ℤ sy)) ×
+    ((ex *ℤ ex +ℤ ey *ℤ ey) -ℤ (sx *ℤ sx +ℤ sy *ℤ sy) ≡ (dx *ℤ dx +ℤ dy *ℤ dy) +ℤ ((dx *ℤ sx +ℤ dy *ℤ sy) +ℤ (dx *ℤ sx +ℤ dy *ℤ sy)))
+seen_from n sx sy ex ey x y rx ry dx dy hx hy hex hey = rw (hx, hy, hex, hey) (sides n sx sy rx ry dx dy, parts n sx sy rx ry dx dy, ends sx sy dx dy)
   where
-    reach_from : pos 0 ≤ℤ reach_of a.centre p
-    reach_from = norm_from_zero (p.x -ℤ p.n *ℤ a.centre.x) (p.y -ℤ p.n *ℤ a.centre.y)
+    sides : (n sx sy rx ry dx dy : ℤ) → n *ℤ (sx *ℤ (sy +ℤ dy) -ℤ sy *ℤ (sx +ℤ dx)) ≡ (neg_ℤ ((sx +ℤ dx) *ℤ (ry +ℤ n *ℤ sy) -ℤ (sy +ℤ dy) *ℤ (rx +ℤ n *ℤ sx)) +ℤ (sx *ℤ (ry +ℤ n *ℤ sy) -ℤ sy *ℤ (rx +ℤ n *ℤ sx))) +ℤ (dx *ℤ ry -ℤ dy *ℤ rx)
+    sides n sx sy rx ry dx dy = simp ring (omega (arith, linear))
 
-    even : norm ((q.x -ℤ q.n *ℤ a.centre.x) -ℤ q.n *ℤ (a.start.x -ℤ a.centre.x)) ((q.y -ℤ q.n *ℤ a.centre.y) -ℤ q.n *ℤ (a.start.y -ℤ a.centre.y)) ≡ norm (((q.x -ℤ q.n *ℤ a.centre.x) -ℤ q.n *ℤ (a.start.x -ℤ a.centre.x)) -ℤ q.n *ℤ (a.end.x -ℤ a.start.x)) (((q.y -ℤ q.n *ℤ a.centre.y) -ℤ q.n *ℤ (a.start.y -ℤ a.centre.y)) -ℤ q.n *ℤ (a.end.y -ℤ a.start.y))
-    even = rw (from_end q.x q.n a.centre.x a.start.x a.end.x, from_end q.y q.n a.centre.y a.start.y a.end.y, from_start q.x q.n a.centre.x a.start.x, from_start q.y q.n a.centre.y a.start.y) centre.even
+    parts : (n sx sy rx ry dx dy : ℤ) → (sx *ℤ (sy +ℤ dy) -ℤ sy *ℤ (sx +ℤ dx)) *ℤ (rx *ℤ dx +ℤ ry *ℤ dy) ≡ (dx *ℤ dx +ℤ dy *ℤ dy) *ℤ (sx *ℤ (ry +ℤ n *ℤ sy) -ℤ sy *ℤ (rx +ℤ n *ℤ sx)) -ℤ (dx *ℤ ry -ℤ dy *ℤ rx) *ℤ (dx *ℤ sx +ℤ dy *ℤ sy)
+    parts n sx sy rx ry dx dy = simp ring (omega (arith, linear))
 
-    far : norm (q.n *ℤ (p.x -ℤ p.n *ℤ a.start.x) -ℤ p.n *ℤ ((q.x -ℤ q.n *ℤ a.centre.x) -ℤ q.n *ℤ (a.start.x -ℤ a.centre.x))) (q.n *ℤ (p.y -ℤ p.n *ℤ a.start.y) -ℤ p.n *ℤ ((q.y -ℤ q.n *ℤ a.centre.y) -ℤ q.n *ℤ (a.start.y -ℤ a.centre.y)))
-        ≡ square p.n *ℤ norm ((q.x -ℤ q.n *ℤ a.centre.x) -ℤ q.n *ℤ (a.start.x -ℤ a.centre.x)) ((q.y -ℤ q.n *ℤ a.centre.y) -ℤ q.n *ℤ (a.start.y -ℤ a.centre.y))
-    far = rw (from_moved p.x q.x q.n p.n a.centre.x a.start.x, from_moved p.y q.y q.n p.n a.centre.y a.start.y, from_start q.x q.n a.centre.x a.start.x, from_start q.y q.n a.centre.y a.start.y) as_far
+    ends : (sx sy dx dy : ℤ) → ((sx +ℤ dx) *ℤ (sx +ℤ dx) +ℤ (sy +ℤ dy) *ℤ (sy +ℤ dy)) -ℤ (sx *ℤ sx +ℤ sy *ℤ sy) ≡ (dx *ℤ dx +ℤ dy *ℤ dy) +ℤ ((dx *ℤ sx +ℤ dy *ℤ sy) +ℤ (dx *ℤ sx +ℤ dy *ℤ sy))
+    ends sx sy dx dy = simp ring (omega (arith, linear))
 
-    crossed : cross_of a.centre a.start a.end ≡ (a.start.x -ℤ a.centre.x) *ℤ ((a.start.y -ℤ a.centre.y) +ℤ (a.end.y -ℤ a.start.y)) -ℤ (a.start.y -ℤ a.centre.y) *ℤ ((a.start.x -ℤ a.centre.x) +ℤ (a.end.x -ℤ a.start.x))
-    crossed = rw (to_end a.centre.x a.start.x a.end.x, to_end a.centre.y a.start.y a.end.y) refl
+module _ (a : Arc) (q p : Point) (centre : IsMovedCentre a q) (as_far : IsAsFar a q p) where
+  even : norm ((q.x -ℤ q.n *ℤ a.centre.x) -ℤ q.n *ℤ (a.start.x -ℤ a.centre.x)) ((q.y -ℤ q.n *ℤ a.centre.y) -ℤ q.n *ℤ (a.start.y -ℤ a.centre.y)) ≡ norm (((q.x -ℤ q.n *ℤ a.centre.x) -ℤ q.n *ℤ (a.start.x -ℤ a.centre.x)) -ℤ q.n *ℤ (a.end.x -ℤ a.start.x)) (((q.y -ℤ q.n *ℤ a.centre.y) -ℤ q.n *ℤ (a.start.y -ℤ a.centre.y)) -ℤ q.n *ℤ (a.end.y -ℤ a.start.y))
+  even = rw (from_end q.x q.n a.centre.x a.start.x a.end.x, from_end q.y q.n a.centre.y a.start.y a.end.y, from_start q.x q.n a.centre.x a.start.x, from_start q.y q.n a.centre.y a.start.y) centre.even
 
-    over : pos (unsigned_abs (swing a)) ≤ℤ (apart a *ℤ pos (times a))
-    over = by (apart a) (unsigned_abs (swing a)) (apart_some a way)
+  far : norm (q.n *ℤ (p.x -ℤ p.n *ℤ a.start.x) -ℤ p.n *ℤ ((q.x -ℤ q.n *ℤ a.centre.x) -ℤ q.n *ℤ (a.start.x -ℤ a.centre.x))) (q.n *ℤ (p.y -ℤ p.n *ℤ a.start.y) -ℤ p.n *ℤ ((q.y -ℤ q.n *ℤ a.centre.y) -ℤ q.n *ℤ (a.start.y -ℤ a.centre.y)))
+      ≡ square p.n *ℤ norm ((q.x -ℤ q.n *ℤ a.centre.x) -ℤ q.n *ℤ (a.start.x -ℤ a.centre.x)) ((q.y -ℤ q.n *ℤ a.centre.y) -ℤ q.n *ℤ (a.start.y -ℤ a.centre.y))
+  far = rw (from_moved p.x q.x q.n p.n a.centre.x a.start.x, from_moved p.y q.y q.n p.n a.centre.y a.start.y, from_start q.x q.n a.centre.x a.start.x, from_start q.y q.n a.centre.y a.start.y) as_far
+
+  crossed : cross_of a.centre a.start a.end ≡ (a.start.x -ℤ a.centre.x) *ℤ ((a.start.y -ℤ a.centre.y) +ℤ (a.end.y -ℤ a.start.y)) -ℤ (a.start.y -ℤ a.centre.y) *ℤ ((a.start.x -ℤ a.centre.x) +ℤ (a.end.x -ℤ a.start.x))
+  crossed = rw (to_end a.centre.x a.start.x a.end.x, to_end a.centre.y a.start.y a.end.y) refl
+
+  -- the place's parts along the way from end to end, and across it
+  abbrev along : ℤ
+  along = (p.x -ℤ p.n *ℤ a.start.x) *ℤ (a.end.x -ℤ a.start.x) +ℤ (p.y -ℤ p.n *ℤ a.start.y) *ℤ (a.end.y -ℤ a.start.y)
+
+  abbrev across : ℤ
+  across = (a.end.x -ℤ a.start.x) *ℤ (p.y -ℤ p.n *ℤ a.start.y) -ℤ (a.end.y -ℤ a.start.y) *ℤ (p.x -ℤ p.n *ℤ a.start.x)
+
+  reach_from : pos 0 ≤ℤ reach_of a.centre p
+  reach_from = norm_from_zero (p.x -ℤ p.n *ℤ a.centre.x) (p.y -ℤ p.n *ℤ a.centre.y)
+
+  is : apart a *ℤ (reach_of a.centre p -ℤ square p.n *ℤ dot_of a.centre a.start a.start) ≡ p.n *ℤ ((dot_of a.centre a.end a.end -ℤ dot_of a.centre a.start a.start) *ℤ along)
+  is =
+      let z = around q.n p.n (q.x -ℤ q.n *ℤ a.centre.x) (q.y -ℤ q.n *ℤ a.centre.y) (a.start.x -ℤ a.centre.x) (a.start.y -ℤ a.centre.y) (a.end.x -ℤ a.start.x) (a.end.y -ℤ a.start.y) (p.x -ℤ p.n *ℤ a.start.x) (p.y -ℤ p.n *ℤ a.start.y) q.positive p.positive centre.along even far
+      (swing a) (pos (unsigned_abs (swing a))) (omega (arith, ints)) (length_of (swing a)) crossed in
+      rw (from_centre p.x p.n a.centre.x a.start.x, from_centre p.y p.n a.centre.y a.start.y, to_end a.centre.x a.start.x a.end.x, to_end a.centre.y a.start.y a.end.y) at z.0
+
+  by : (h t : ℤ) → pos 1 ≤ℤ apart a → spread a ≡ unlike a *ℤ t → h ≤ℤ (apart a *ℤ t) → along ≤ℤ (p.n *ℤ apart a +ℤ p.n *ℤ h) → neg_ℤ (p.n *ℤ h) ≤ℤ along → ((square p.n *ℤ inmost a) ≤ℤ reach_of a.centre p) × (reach_of a.centre p ≤ℤ (square p.n *ℤ outmost a))
+  by h t some wide over past before =
+      let z = held p.n (apart a) h (reach_of a.centre p) (dot_of a.centre a.start a.start) (dot_of a.centre a.end a.end) along t p.positive some over is past before in
+      (rw wide (clamped p.n (lesser a -ℤ unlike a *ℤ t) (reach_of a.centre p) reach_from z.0), rw wide z.1)
+
+  over : swing a <ℤ pos 0 → pos (unsigned_abs (swing a)) ≤ℤ (apart a *ℤ pos (times a))
+  over way = quotients (apart a) (unsigned_abs (swing a)) (apart_some a way)
+    where
+      quotients : (z : ℤ) (k : ℕ) → pos 1 ≤ℤ z → pos k ≤ℤ (z *ℤ pos (k / unsigned_abs z + 1))
+      quotients (pos A) k some = quotient A (k / A) (k % A) k (div-add-mod k A) (mod_below k A (omega (arith, ints, some)))
+      quotients (negsuc A) k some = absurd (omega (arith, ints, some))
+
+  past_half : swing a <ℤ pos 0 → ((square p.n *ℤ inmost a) ≤ℤ reach_of a.centre p) × (reach_of a.centre p ≤ℤ (square p.n *ℤ outmost a))
+  past_half way =
+      let z = around q.n p.n (q.x -ℤ q.n *ℤ a.centre.x) (q.y -ℤ q.n *ℤ a.centre.y) (a.start.x -ℤ a.centre.x) (a.start.y -ℤ a.centre.y) (a.end.x -ℤ a.start.x) (a.end.y -ℤ a.start.y) (p.x -ℤ p.n *ℤ a.start.x) (p.y -ℤ p.n *ℤ a.start.y) q.positive p.positive centre.along even far
+      (swing a) (pos (unsigned_abs (swing a))) (omega (arith, ints)) (length_of (swing a)) crossed in
+      by (pos (unsigned_abs (swing a))) (pos (times a)) (apart_some a way) (spread_when a way) (over way) z.1 z.2
+
+  -- ---- up to a half turn
+
+  on_circle : (along *ℤ along +ℤ across *ℤ across) -ℤ ((p.n *ℤ across) *ℤ swing a +ℤ (p.n *ℤ across) *ℤ swing a) ≡ (p.n *ℤ apart a) *ℤ along
+  on_circle = circled q.n p.n (q.x -ℤ q.n *ℤ a.centre.x) (q.y -ℤ q.n *ℤ a.centre.y) (a.start.x -ℤ a.centre.x) (a.start.y -ℤ a.centre.y) (a.end.x -ℤ a.start.x) (a.end.y -ℤ a.start.y) (p.x -ℤ p.n *ℤ a.start.x) (p.y -ℤ p.n *ℤ a.start.y) q.positive p.positive centre.along even far
+      (swing a) (pos (unsigned_abs (swing a))) (omega (arith, ints)) (length_of (swing a)) crossed
+
+  -- the given centre's part along the way
+  abbrev back : ℤ
+  back = (a.end.x -ℤ a.start.x) *ℤ (a.start.x -ℤ a.centre.x) +ℤ (a.end.y -ℤ a.start.y) *ℤ (a.start.y -ℤ a.centre.y)
+
+  seen : (p.n *ℤ swing a ≡ (neg_ℤ (side_of a.centre a.end p) +ℤ side_of a.centre a.start p) +ℤ across) × (swing a *ℤ along ≡ apart a *ℤ side_of a.centre a.start p -ℤ across *ℤ back) × (dot_of a.centre a.end a.end -ℤ dot_of a.centre a.start a.start ≡ apart a +ℤ (back +ℤ back))
+  seen = seen_from p.n (a.start.x -ℤ a.centre.x) (a.start.y -ℤ a.centre.y) (a.end.x -ℤ a.centre.x) (a.end.y -ℤ a.centre.y) (p.x -ℤ p.n *ℤ a.centre.x) (p.y -ℤ p.n *ℤ a.centre.y) (p.x -ℤ p.n *ℤ a.start.x) (p.y -ℤ p.n *ℤ a.start.y) (a.end.x -ℤ a.start.x) (a.end.y -ℤ a.start.y)
+      (sym (from_centre p.x p.n a.centre.x a.start.x)) (sym (from_centre p.y p.n a.centre.y a.start.y)) (sym (to_end a.centre.x a.start.x a.end.x)) (sym (to_end a.centre.y a.start.y a.end.y))
+
+  module _ (way : pos 0 ≤ℤ swing a) (some : pos 1 ≤ℤ apart a) where
+    not_same : a.start ≡ a.end → ⊥
+    not_same one = omega (arith, linear, some, none (subst (λ (z : Spot). apart a ≡ dot_of a.start z z) (sym one) refl))
       where
-        by : (z : ℤ) (k : ℕ) → pos 1 ≤ℤ z → pos k ≤ℤ (z *ℤ pos (k / unsigned_abs z + 1))
-        by (pos A) k some = quotient A (k / A) (k % A) k (div-add-mod k A) (mod_below k A (omega (arith, ints, some)))
-        by (negsuc A) k some = absurd (omega (arith, ints, some))
+        none : apart a ≡ dot_of a.start a.start a.start → apart a ≡ pos 0
+        none e = e ∙ plain a.start.x a.start.y
+          where
+            plain : (x y : ℤ) → (x -ℤ x) *ℤ (x -ℤ x) +ℤ (y -ℤ y) *ℤ (y -ℤ y) ≡ pos 0
+            plain x y = let f : x -ℤ x ≡ pos 0 = omega (arith, linear) in let g : y -ℤ y ≡ pos 0 = omega (arith, linear) in rw (f, g) (omega (arith, ints))
 
-    between : ((square p.n *ℤ (lesser a -ℤ unlike a *ℤ pos (times a))) ≤ℤ reach_of a.centre p) × (reach_of a.centre p ≤ℤ (square p.n *ℤ (greater a +ℤ unlike a *ℤ pos (times a))))
-    between =
-        let z = around q.n p.n (q.x -ℤ q.n *ℤ a.centre.x) (q.y -ℤ q.n *ℤ a.centre.y) (a.start.x -ℤ a.centre.x) (a.start.y -ℤ a.centre.y) (a.end.x -ℤ a.start.x) (a.end.y -ℤ a.start.y) (p.x -ℤ p.n *ℤ a.start.x) (p.y -ℤ p.n *ℤ a.start.y) q.positive p.positive centre.along even far
-        (swing a) (pos (unsigned_abs (swing a))) (omega (arith, ints)) (length_of (swing a)) crossed in
-        held p.n (apart a) (pos (unsigned_abs (swing a))) (reach_of a.centre p) (dot_of a.centre a.start a.start) (dot_of a.centre a.end a.end) ((p.x -ℤ p.n *ℤ a.start.x) *ℤ (a.end.x -ℤ a.start.x) +ℤ (p.y -ℤ p.n *ℤ a.start.y) *ℤ (a.end.y -ℤ a.start.y)) (pos (times a)) p.positive (apart_some a way) over
-        (rw (from_centre p.x p.n a.centre.x a.start.x, from_centre p.y p.n a.centre.y a.start.y, to_end a.centre.x a.start.x a.end.x, to_end a.centre.y a.start.y a.end.y) at z.0) z.1 z.2
+    inside : pos 1 ≤ℤ swing a → IsMeant a → pos 1 ≤ℤ (swing a *ℤ swing a -ℤ back *ℤ (back +ℤ apart a))
+    inside more (inl none) = absurd (omega (arith, linear, more, none))
+    inside more (inr meant) = inside_by (apart a) back (swing a) (unlike a) some more (omega (arith, linear, seen.2, most (dot_of a.centre a.start a.start) (dot_of a.centre a.end a.end))) (omega (arith, linear, seen.2, least (dot_of a.centre a.start a.start) (dot_of a.centre a.end a.end))) (kind meant)
+      where
+        most : (s e : ℤ) → (e -ℤ s) ≤ℤ (int_max s e -ℤ int_min s e)
+        most s e = omega (arith, ints, clamps)
+
+        least : (s e : ℤ) → neg_ℤ (int_max s e -ℤ int_min s e) ≤ℤ (e -ℤ s)
+        least s e = omega (arith, ints, clamps)
+
+        itself : (k : ℤ) → pos 1 ≤ℤ k → pos (unsigned_abs k) ≡ k
+        itself (pos k) h = refl
+        itself (negsuc k) h = absurd (omega (arith, ints, h))
+
+        kind : (unlike a ≤ℤ apart a) ⊎ (unlike a ≤ℤ (pos (unsigned_abs (swing a)) +ℤ pos (unsigned_abs (swing a)))) → (unlike a ≤ℤ apart a) ⊎ (unlike a ≤ℤ (swing a +ℤ swing a))
+        kind (inl l) = inl l
+        kind (inr l) = inr (omega (arith, linear, l, itself (swing a) more))
+
+    beside : IsMeant a → InTurn a.centre a.start a.end p → (pos 0 ≤ℤ along) × (along ≤ℤ (p.n *ℤ apart a))
+    beside meant (inl (more, left, right)) = turned p.n (apart a) (swing a) along across back (neg_ℤ (side_of a.centre a.end p)) (side_of a.centre a.start p) p.positive some on_circle seen.0 seen.1 (omega (arith, linear, right)) left (inside (omega (arith, linear, more)) meant) way
+    beside meant (inr (inl (less, other))) = absurd (omega (arith, linear, less, way))
+    beside meant (inr (inr (inl (none, opposite, other)))) = flat p.n (apart a) (swing a) along across back (pos 0) (pos 0) p.positive some on_circle none
+    beside meant (inr (inr (inr one))) = absurd (not_same one)
+
+    up_to_half : IsMeant a → InTurn a.centre a.start a.end p → ((square p.n *ℤ inmost a) ≤ℤ reach_of a.centre p) × (reach_of a.centre p ≤ℤ (square p.n *ℤ outmost a))
+    up_to_half meant turn =
+        let l = beside meant turn in
+        by (pos 0) (pos 0) some (spread_none a way ∙ sym (times-zero (unlike a))) (omega (arith, linear, times-zero (apart a))) (omega (arith, linear, l.1, times-zero p.n)) (omega (arith, linear, l.0, times-zero p.n))
+
+pub moved_circle_is_held : MovedCircleIsHeld
+moved_circle_is_held a q p way centre as_far = past_half a q p centre as_far way
+
+pub moved_turn_is_held : MovedTurnIsHeld
+moved_turn_is_held a q p way some meant turn centre as_far = up_to_half a q p centre as_far way some meant turn

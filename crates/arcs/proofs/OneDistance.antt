@@ -7,7 +7,7 @@ use Rattle.planar.specs.Plane.{Point, cross_of, dot_of, square}
 use Rattle.planar.proofs.Ring.{ring, linear, le_or_lt, mul_assoc, over_zero, square_cancel, square_from_zero, square_mono, square_zero, times_cancel, times_from_zero, times_mono, times-zero, zero-times}
 use Rattle.planar.proofs.SpotWithin.{whole_from_zero}
 use Rattle.arcs.specs.declared.Arc.{Arc}
-use Rattle.arcs.specs.Copper.{AreNear, AtMostLonger, HasPlace, InRing, InTurn, IsMeant, IsNear, MayTurn, Possibly, Surely, apart, greater, inmost, lesser, outmost, reach_of, side_of, spread, swing, times, unlike}
+use Rattle.arcs.specs.Copper.{AreNear, AtMostLonger, HasPlace, InRing, InTurn, IsMeant, IsNear, MayTurn, Possibly, Surely, apart, inmost, outmost, reach_of, side_of, spread, swing, times, unlike}
 use Rattle.arcs.specs.Laws.{PossiblyIsSurely}
 use Rattle.arcs.proofs.Closed.{Away}
 use Rattle.arcs.proofs.Crossing.{Crossed, near_end, from_less, from_more, from_half}

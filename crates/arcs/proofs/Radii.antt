@@ -23,6 +23,13 @@ lt_true (negsuc n) h = refl
 pub spread_when : (a : Arc) → swing a <ℤ pos 0 → spread a ≡ unlike a *ℤ pos (times a)
 spread_when a h = ap (λ (b : Bool). if b then unlike a *ℤ pos (times a) else pos 0) (lt_true (swing a) h)
 
+lt_false : (z : ℤ) → pos 0 ≤ℤ z → int_lt z (pos 0) ≡ false
+lt_false (pos n) h = grind (arith, ints)
+lt_false (negsuc n) h = absurd (omega (arith, ints, h))
+
+pub spread_none : (a : Arc) → pos 0 ≤ℤ swing a → spread a ≡ pos 0
+spread_none a h = ap (λ (b : Bool). if b then unlike a *ℤ pos (times a) else pos 0) (lt_false (swing a) h)
+
 -- ends on two sides of the centre's line are two spots
 pub apart_some : (a : Arc) → swing a <ℤ pos 0 → pos 1 ≤ℤ apart a
 apart_some a way = elim (le_or_lt (pos 1) (apart a)) [ inl l ↦ l | inr g ↦ absurd (none g) ]

@@ -1,20 +1,32 @@
 -- What the code's numbers and answers tell.
-use Rattle.std.proofs.Common.{◌≡◌, Option, Some, None, SomeIff, ◌-◌, ◌<◌, ◌+ℤ◌, ◌^◌, ℕ, negsuc, ℤ, pos, ◌+◌, ◌*◌, ◌≤◌, ◌*ℤ◌, ◌≤ℤ◌, unsigned_abs, FitsSigned, to_z, of_z, to_z-of_z, arith, refl, ap, ◌∙◌}
+use Rattle.std.proofs.Common.{◌≡◌, ◌↔◌, Bool, IsTrue, sym, Option, Some, None, SomeIff, ◌<◌, ◌^◌, ℕ, negsuc, ℤ, pos, ◌+◌, ◌*◌, ◌≤◌, ◌*ℤ◌, ◌≤ℤ◌, ◌<ℤ◌, unsigned_abs, FitsSigned, to_z, of_z, to_z-of_z, arith, ap, ◌∙◌}
 use Rattle.std.proofs.lemmas.Int.{ints}
 use Rattle.std.specs.Int.{w128}
 use Rattle.planar.specs.Plane.{square}
-use Rattle.arcs.specs.Chains.{HasRoom, IsHeld, IsRing}
+use Rattle.arcs.specs.Chains.{HasRoom, IsHeld}
 
-line_whole : (near whole off : ℕ) (d k : ℤ) → pos 0 ≤ℤ d → pos 0 ≤ℤ k → whole ≡ unsigned_abs d → off ≡ unsigned_abs k → near * near * whole ≤ off * off → (pos (near * near) *ℤ d) ≤ℤ square k
-line_whole near whole off (pos d) (pos k) hd hk e f l = let g : near * near * d ≤ k * k = rw (e, f) at l in omega (arith, ints, g)
-line_whole near whole off (negsuc d) k hd hk e f l = absurd (omega (arith, ints, hd))
-line_whole near whole off (pos d) (negsuc k) hd hk e f l = absurd (omega (arith, ints, hk))
+from_abs : (n : ℕ) (z : ℤ) → pos 0 ≤ℤ z → n ≡ unsigned_abs z → z ≡ pos n
+from_abs n (pos m) h e = ap pos (sym e)
+from_abs n (negsuc m) h e = absurd (omega (arith, ints, h))
 
-pub line_read : (near whole off : ℕ) (d k whole_is off_is : ℤ) → d ≡ whole_is → k ≡ off_is → pos 0 ≤ℤ whole_is → pos 0 ≤ℤ k → FitsSigned w128 d → FitsSigned w128 k → whole ≡ unsigned_abs (to_z w128 (of_z w128 d)) → off ≡ unsigned_abs (to_z w128 (of_z w128 k))
-    → near * near * whole ≤ off * off → (pos (near * near) *ℤ whole_is) ≤ℤ square off_is
-line_read near whole off d k whole_is off_is g h hd hk fd fk e f l =
-    let m : (pos (near * near) *ℤ d) ≤ℤ square k = line_whole near whole off d k (omega (arith, ints, hd, g)) hk (e ∙ ap unsigned_abs (to_z-of_z fd)) (f ∙ ap unsigned_abs (to_z-of_z fk)) l in
-    rw (← g, ← h) m
+pub line_read : (near whole off : ℕ) (d k whole_is off_is : ℤ) (t : Bool) → d ≡ whole_is → k ≡ off_is → pos 0 ≤ℤ d → pos 1 ≤ℤ k → FitsSigned w128 d → FitsSigned w128 k → whole ≡ unsigned_abs (to_z w128 (of_z w128 d)) → off ≡ unsigned_abs (to_z w128 (of_z w128 k))
+    → IsTrue t ↔ ((near * near * whole ≤ off * off) × (near * near * whole < 2 ^ 128)) → IsTrue t ↔ ((pos 1 ≤ℤ off_is) × ((square (pos near) *ℤ whole_is) ≤ℤ square off_is) × ((square (pos near) *ℤ whole_is) <ℤ pos (2 ^ 128)))
+line_read near whole off d k whole_is off_is t g h hd hk fd fk e f told = rw (w, o) plain
+  where
+    w : whole_is ≡ pos whole
+    w = sym g ∙ from_abs whole d hd (e ∙ ap unsigned_abs (to_z-of_z fd))
+
+    kk : k ≡ pos off
+    kk = from_abs off k (omega (arith, ints, hk)) (f ∙ ap unsigned_abs (to_z-of_z fk))
+
+    o : off_is ≡ pos off
+    o = sym h ∙ kk
+
+    some : pos 1 ≤ℤ pos off
+    some = rw (← kk) hk
+
+    plain : IsTrue t ↔ ((pos 1 ≤ℤ pos off) × ((square (pos near) *ℤ pos whole) ≤ℤ square (pos off)) × ((square (pos near) *ℤ pos whole) <ℤ pos (2 ^ 128)))
+    plain = (λ yes. let l = told.0 yes in (some, omega (arith, ints, l.0), omega (arith, ints, l.1)), λ z. told.1 (omega (arith, ints, z.1), omega (arith, ints, z.2)))
 
 pub room_read : (low high : ℤ) (least most near k : ℕ) → square (pos least) ≤ℤ low → high ≤ℤ square (pos most) → most ≤ near + k → HasRoom low high (pos near) (pos (least + k)) (pos k)
 room_read low high least most near k h l n = record {
@@ -36,9 +48,3 @@ room_read low high least most near k h l n = record {
 pub held : (o : Option ℕ) (v : ℕ) (z : ℤ) → SomeIff o (v < 2 ^ 128) v → pos v ≡ z → IsHeld o z
 held None v z none is = rw (← is) (omega (arith, ints, none))
 held (Some x) v z some is = ap pos some.1 ∙ is
-
-pub root_some : (s far more r : ℕ) (g p : ℤ) → pos far ≡ g → pos more ≡ p → s ≡ far + more → s ≤ r * r → (g +ℤ p) ≤ℤ square (pos r)
-root_some s far more r g p hf hm is over = rw (← hf, ← hm) (omega (arith, ints, is, over))
-
-pub ring_some : (low high : ℤ) (least most k sub : ℕ) → high ≤ℤ square (pos most) → square (pos least) ≤ℤ low → sub ≡ most - k → IsRing (Some (sub, least + k)) low high (pos k)
-ring_some low high least most k sub over under is = room_read low high least most sub k under over (omega (arith, is))

@@ -18,9 +18,17 @@ pub data InTurnBoth (c s e a b : Spot) : Type 0 where
   in_half : cross_of c s e ≡ pos 0 → dot_of c s e <ℤ pos 0 → pos 0 ≤ℤ cross_of c s a → pos 0 ≤ℤ cross_of c s b → InTurnBoth c s e a b
   in_whole : s ≡ e → InTurnBoth c s e a b
 
--- a chord in the turn
+-- the product by which the line's distance is compared with near has 128 bits
+abbrev pub IsMeasured : ℤ → Spot → Spot → Type 0
+IsMeasured near a b = (square near *ℤ dot_of a b b) <ℤ pos (2 ^ 128)
+
+-- a chord that can be measured
+abbrev pub IsLink : Spot → ℤ → ℤ → Spot → Spot → Type 0
+IsLink c near far a b = IsChord c near far a b × IsMeasured near a b
+
+-- one in the turn
 abbrev pub IsInner : Spot → Spot → Spot → ℤ → ℤ → Spot → Spot → Type 0
-IsInner c s e near far a b = IsChord c near far a b × InTurnBoth c s e a b
+IsInner c s e near far a b = IsLink c near far a b × InTurnBoth c s e a b
 
 -- Whole numbers round the radii whose squares are low and high: least is at most the one, most at least the other. Chords between near and far of c are at most k off
 pub record IsRoom (low high least most near far k : ℤ) : Type 0 where
@@ -55,12 +63,28 @@ abbrev pub IsHeld : Option ℕ → ℤ → Type 0
 IsHeld None z = pos (2 ^ 128) ≤ℤ z
 IsHeld (Some n) z = pos n ≡ z
 
--- a whole number whose square is at least z; none where z does not fit in 128 bits
+-- the least whole number whose square is at least z
+pub record IsLeastOver (z n : ℤ) : Type 0 where
+  pub over : z ≤ℤ square n
+  pub least : (m : ℤ) → pos 0 ≤ℤ m → z ≤ℤ square m → n ≤ℤ m
+
+-- the greatest whole number whose square is at most z
+pub record IsGreatestUnder (z n : ℤ) : Type 0 where
+  pub under : square n ≤ℤ z
+  pub greatest : (m : ℤ) → square m ≤ℤ z → m ≤ℤ n
+
+-- the least whole number whose square is at least z; none where z does not fit in 128 bits
 abbrev pub IsRootOver : Option ℕ → ℤ → Type 0
 IsRootOver None z = pos (2 ^ 128) ≤ℤ z
-IsRootOver (Some n) z = z ≤ℤ square (pos n)
+IsRootOver (Some n) z = (z <ℤ pos (2 ^ 128)) × IsLeastOver z (pos n)
 
--- distances of chords that are at most k off; none where the greater square does not fit in 128 bits
+-- distances of chords that are at most k off, and of all such the least and the greatest
+pub record IsWidest (low high near far k : ℤ) : Type 0 where
+  pub room : HasRoom low high near far k
+  pub nearest : (n f : ℤ) → HasRoom low high n f k → near ≤ℤ n
+  pub furthest : (n f : ℤ) → HasRoom low high n f k → f ≤ℤ far
+
+-- these distances; none where the greater square does not fit in 128 bits
 abbrev pub IsRing : Option (ℕ × ℕ) → ℤ → ℤ → ℤ → Type 0
 IsRing None low high k = pos (2 ^ 128) ≤ℤ high
-IsRing (Some ring) low high k = HasRoom low high (pos ring.0) (pos ring.1) k
+IsRing (Some ring) low high k = (high <ℤ pos (2 ^ 128)) × IsWidest low high (pos ring.0) (pos ring.1) k

@@ -1,8 +1,10 @@
 -- Laws over the definitions.
-use Rattle.std.specs.Prelude.{ℤ, pos, ◌+ℤ◌, ◌-ℤ◌, ◌*ℤ◌, ◌≤ℤ◌, ◌<ℤ◌, ◌≡◌, ◌⊎◌}
+use Rattle.std.specs.Prelude.{ℕ, List, ℤ, pos, ◌+ℤ◌, ◌-ℤ◌, ◌*ℤ◌, ◌≤ℤ◌, ◌<ℤ◌, ◌≡◌, ◌⊎◌}
 use Rattle.planar.specs.Plane.{Point, square}
 use Rattle.arcs.specs.declared.Arc.{Arc}
-use Rattle.arcs.specs.Copper.{InRing, InTurn, IsNear, Possibly, Surely, inmost, outmost, reach_of, swing, unlike}
+use Rattle.planar.specs.declared.Spot.{Spot}
+use Rattle.arcs.specs.Taken.{TakenAbove, TakenBelow}
+use Rattle.arcs.specs.Copper.{InChain, InRing, InTurn, IsMeant, IsNear, Possibly, Surely, apart, inmost, outmost, reach_of, swing, unlike}
 
 -- What is in the copper of every curve is in that of some: so an arc draw has a copper, of which the one is the least and the other the most
 abbrev pub SurelyIsPossibly : Type 0
@@ -37,3 +39,11 @@ IsAsFar a q p = square (q.n *ℤ p.x -ℤ p.n *ℤ q.x) +ℤ square (q.n *ℤ p.
 -- Past a half turn the circle through both ends about the moved centre keeps the distances that a curve may have
 abbrev pub MovedCircleIsHeld : Type 0
 MovedCircleIsHeld = (a : Arc) (q p : Point) → swing a <ℤ pos 0 → IsMovedCentre a q → IsAsFar a q p → ((square p.n *ℤ inmost a) ≤ℤ reach_of a.centre p) × (reach_of a.centre p ≤ℤ (square p.n *ℤ outmost a))
+
+-- Up to a half turn it does so in the turn, where the arc is meant and its ends are two spots
+abbrev pub MovedTurnIsHeld : Type 0
+MovedTurnIsHeld = (a : Arc) (q p : Point) → pos 0 ≤ℤ swing a → pos 1 ≤ℤ apart a → IsMeant a → InTurn a.centre a.start a.end p → IsMovedCentre a q → IsAsFar a q p → ((square p.n *ℤ inmost a) ≤ℤ reach_of a.centre p) × (reach_of a.centre p ≤ℤ (square p.n *ℤ outmost a))
+
+-- A chain that is taken below lies in the copper of every curve, and one that is taken above holds that of each
+abbrev pub TakenIsBetween : Type 0
+TakenIsBetween = (a : Arc) (chain : List Spot) (r : ℕ) (p : Point) → (TakenBelow a chain r → InChain chain (pos r) p → Surely a p) × (TakenAbove a chain r → Possibly a p → InChain chain (pos r) p)

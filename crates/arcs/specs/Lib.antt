@@ -1,3 +1,4 @@
 pub mod Chains
 pub mod Copper
 pub mod Laws
+pub mod Taken

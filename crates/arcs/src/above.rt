@@ -1,7 +1,8 @@
 //! Whether a chain holds the copper of an arc.
 ghost use Rattle.arcs.specs.Copper.{InChain, Possibly};
+ghost use Rattle.arcs.specs.Taken.{TakenAbove};
 ghost use Rattle.planar.specs.Plane.{Point};
-ghost use Rattle.std.specs.Prelude.{IsTrue, pos};
+ghost use Rattle.std.specs.Prelude.{IsTrue, pos, ◌↔◌};
 
 use super::Arc;
 use super::alike::is_meant;
@@ -10,10 +11,11 @@ use super::rings::ring_of;
 use planar::{Spot, are_placed, is_placed};
 
 /// Whether the capsules of radius `r` from each spot of the chain to the next together hold the copper
-/// of each curve of the arc. Where it says so, they do; it may refuse a chain that does. The chain has
-/// to lead from the start of the arc to its end, round the centre counterclockwise.
+/// of each curve of the arc, by its chords (`TakenAbove`). Where it says so, they do; others that do are
+/// refused. The chain has to lead from the start of the arc to its end, round the centre counterclockwise.
 pub fn is_above(arc: &Arc, chain: &[Spot], r: u64) -> bool
-    ensures { IsTrue result → (p : Point) → Possibly arc.now p → InChain chain.now (pos r) p }
+    ensures taken { IsTrue result ↔ TakenAbove arc.now chain.now r }
+    ensures curves { IsTrue result → (p : Point) → Possibly arc.now p → InChain chain.now (pos r) p }
 {
     if !(is_placed(arc.centre) && is_placed(arc.start) && is_placed(arc.end) && are_placed(chain)) {
         return false;

@@ -2,7 +2,7 @@
 ghost use Rattle.arcs.specs.Copper.{IsMeant, unlike};
 ghost use Rattle.arcs.specs.declared.Arc.{Arc};
 ghost use Rattle.planar.specs.Plane.{IsPlaced};
-ghost use Rattle.std.specs.Prelude.{IsTrue, pos, ◌≡◌};
+ghost use Rattle.std.specs.Prelude.{IsTrue, pos, ◌≡◌, ◌↔◌};
 
 use super::Arc;
 use super::rings::{square_of, squares_of};
@@ -24,7 +24,7 @@ pub fn is_meant(arc: &Arc) -> bool
     requires centre { IsPlaced arc.now.centre }
     requires start { IsPlaced arc.now.start }
     requires end { IsPlaced arc.now.end }
-    ensures { IsTrue result → IsMeant arc.now }
+    ensures { IsTrue result ↔ IsMeant arc.now }
 {
     let swing = cross(arc.centre, arc.start, arc.end);
     let unlike = unlike_of(arc);

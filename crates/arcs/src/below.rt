@@ -1,7 +1,8 @@
 //! Whether a chain lies in the copper of an arc.
 ghost use Rattle.arcs.specs.Copper.{InChain, Surely};
+ghost use Rattle.arcs.specs.Taken.{TakenBelow};
 ghost use Rattle.planar.specs.Plane.{Point};
-ghost use Rattle.std.specs.Prelude.{IsTrue, pos};
+ghost use Rattle.std.specs.Prelude.{IsTrue, pos, ◌↔◌};
 
 use super::Arc;
 use super::alike::is_meant;
@@ -10,9 +11,10 @@ use super::rings::ring_of;
 use planar::{Spot, are_placed, is_placed};
 
 /// Whether each capsule of radius `r` from a spot of the chain to the next lies in the copper of every
-/// curve of the arc. Where it says so, it does; it may refuse a chain that does.
+/// curve of the arc, by its chords (`TakenBelow`). Where it says so, it does; others that do are refused.
 pub fn is_below(arc: &Arc, chain: &[Spot], r: u64) -> bool
-    ensures { IsTrue result → (p : Point) → InChain chain.now (pos r) p → Surely arc.now p }
+    ensures taken { IsTrue result ↔ TakenBelow arc.now chain.now r }
+    ensures curves { IsTrue result → (p : Point) → InChain chain.now (pos r) p → Surely arc.now p }
 {
     if !(is_placed(arc.centre) && is_placed(arc.start) && is_placed(arc.end) && are_placed(chain)) {
         return false;

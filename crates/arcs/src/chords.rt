@@ -1,39 +1,29 @@
 //! Whether a chord lies in a ring, and a chord in a turn.
-ghost use Rattle.arcs.specs.Chains.{EachFrom, EndsAt, InTurnBoth, IsChord, IsInner};
+ghost use Rattle.arcs.specs.Chains.{EachFrom, EndsAt, InTurnBoth, IsInner, IsLink, IsMeasured};
 ghost use Rattle.planar.specs.Plane.{IsPlaced, cross_of, dot_of, square};
-ghost use Rattle.std.specs.Prelude.{All, IsTrue, length, pos, ◌*◌, ◌<◌, ◌∷◌, ◌≡◌, ◌⊎◌, ◌≤◌, ◌*ℤ◌, ◌<ℤ◌, ◌≤ℤ◌};
+ghost use Rattle.std.specs.Prelude.{All, IsTrue, length, pos, ◌*◌, ◌<◌, ◌^◌, ◌∷◌, ◌≡◌, ◌↔◌, ◌⊎◌, ◌≤◌, ◌*ℤ◌, ◌<ℤ◌, ◌≤ℤ◌};
 
 use planar::{Spot, cross, dot};
 
-/// Whether `squared` is at most the square of `far`, where that has 128 bits.
+/// Whether `squared` is at most the square of `far`.
 fn square_within(squared: u128, far: u128) -> bool
-    ensures { IsTrue result → squared ≤ far * far }
+    ensures { IsTrue result ↔ squared ≤ far * far }
 {
     match far.checked_mul(far) {
         Some(most) => squared <= most,
-        None => false,
+        None => true,
     }
 }
 
-/// Whether the square of `near` times `whole` is at most the square of `off`, where both have 128 bits.
+/// Whether the square of `near` times `whole` has 128 bits and is at most the square of `off`.
 fn line_beyond(near: u128, whole: u128, off: u128) -> bool
-    ensures { IsTrue result → near * near * whole ≤ off * off }
+    ensures { IsTrue result ↔ (near * near * whole ≤ off * off) × (near * near * whole < 2 ^ 128) }
 {
-    match near.checked_mul(near) {
-        Some(squared) => match squared.checked_mul(whole) {
-            Some(least) => square_over(least, off),
+    match whole.checked_mul(near) {
+        Some(once) => match once.checked_mul(near) {
+            Some(least) => square_within(least, off),
             None => false,
         },
-        None => false,
-    }
-}
-
-/// Whether `least` is at most the square of `off`, where that has 128 bits.
-fn square_over(least: u128, off: u128) -> bool
-    ensures { IsTrue result → least ≤ off * off }
-{
-    match off.checked_mul(off) {
-        Some(most) => least <= most,
         None => false,
     }
 }
@@ -42,7 +32,7 @@ fn square_over(least: u128, off: u128) -> bool
 fn spot_within(c: Spot, a: Spot, far: u128) -> bool
     requires c_placed { IsPlaced c }
     requires a_placed { IsPlaced a }
-    ensures { IsTrue result → dot_of c a a ≤ℤ square (pos far) }
+    ensures { IsTrue result ↔ dot_of c a a ≤ℤ square (pos far) }
 {
     square_within(dot(c, a, a).unsigned_abs(), far)
 }
@@ -52,8 +42,7 @@ fn line_over(c: Spot, a: Spot, b: Spot, near: u128) -> bool
     requires c_placed { IsPlaced c }
     requires a_placed { IsPlaced a }
     requires b_placed { IsPlaced b }
-    ensures left { IsTrue result → pos 1 ≤ℤ cross_of c a b }
-    ensures line { IsTrue result → (square (pos near) *ℤ dot_of a b b) ≤ℤ square (cross_of c a b) }
+    ensures { IsTrue result ↔ (pos 1 ≤ℤ cross_of c a b) × ((square (pos near) *ℤ dot_of a b b) ≤ℤ square (cross_of c a b)) × IsMeasured (pos near) a b }
 {
     let off = cross(c, a, b);
     if off > 0 {
@@ -69,9 +58,29 @@ pub fn is_chord(c: Spot, near: u128, far: u128, a: Spot, b: Spot) -> bool
     requires c_placed { IsPlaced c }
     requires a_placed { IsPlaced a }
     requires b_placed { IsPlaced b }
-    ensures { IsTrue result → IsChord c (pos near) (pos far) a b }
+    ensures { IsTrue result ↔ IsLink c (pos near) (pos far) a b }
 {
     spot_within(c, a, far) && spot_within(c, b, far) && line_over(c, a, b, near)
+}
+
+/// Whether `a` is on the left of the line from `c` through `s`, or on it.
+fn is_left(c: Spot, s: Spot, a: Spot) -> bool
+    requires c_placed { IsPlaced c }
+    requires s_placed { IsPlaced s }
+    requires a_placed { IsPlaced a }
+    ensures { IsTrue result ↔ pos 0 ≤ℤ cross_of c s a }
+{
+    cross(c, s, a) >= 0
+}
+
+/// Whether `a` is on the right of the line from `c` through `e`, or on it.
+fn is_right(c: Spot, e: Spot, a: Spot) -> bool
+    requires c_placed { IsPlaced c }
+    requires e_placed { IsPlaced e }
+    requires a_placed { IsPlaced a }
+    ensures { IsTrue result ↔ cross_of c e a ≤ℤ pos 0 }
+{
+    cross(c, e, a) <= 0
 }
 
 /// Whether both spots are on the left of the line from `c` through `s`, or on it.
@@ -80,35 +89,32 @@ fn both_left(c: Spot, s: Spot, a: Spot, b: Spot) -> bool
     requires s_placed { IsPlaced s }
     requires a_placed { IsPlaced a }
     requires b_placed { IsPlaced b }
-    ensures first { IsTrue result → pos 0 ≤ℤ cross_of c s a }
-    ensures second { IsTrue result → pos 0 ≤ℤ cross_of c s b }
+    ensures { IsTrue result ↔ (pos 0 ≤ℤ cross_of c s a) × (pos 0 ≤ℤ cross_of c s b) }
 {
-    cross(c, s, a) >= 0 && cross(c, s, b) >= 0
+    is_left(c, s, a) && is_left(c, s, b)
 }
 
-/// Whether both are on its right, or on it.
+/// Whether both are on the right of the line from `c` through `e`, or on it.
 fn both_right(c: Spot, e: Spot, a: Spot, b: Spot) -> bool
     requires c_placed { IsPlaced c }
     requires e_placed { IsPlaced e }
     requires a_placed { IsPlaced a }
     requires b_placed { IsPlaced b }
-    ensures first { IsTrue result → cross_of c e a ≤ℤ pos 0 }
-    ensures second { IsTrue result → cross_of c e b ≤ℤ pos 0 }
+    ensures { IsTrue result ↔ (cross_of c e a ≤ℤ pos 0) × (cross_of c e b ≤ℤ pos 0) }
 {
-    cross(c, e, a) <= 0 && cross(c, e, b) <= 0
+    is_right(c, e, a) && is_right(c, e, b)
 }
 
-/// Whether `b` is on the right of `e`, or on it, and `a` is that too, or on the left of `s`.
-fn comes_before(c: Spot, s: Spot, e: Spot, a: Spot, b: Spot) -> bool
+/// Whether both lie between the lines.
+fn both_between(c: Spot, s: Spot, e: Spot, a: Spot, b: Spot) -> bool
     requires c_placed { IsPlaced c }
     requires s_placed { IsPlaced s }
     requires e_placed { IsPlaced e }
     requires a_placed { IsPlaced a }
     requires b_placed { IsPlaced b }
-    ensures first { IsTrue result → (pos 0 ≤ℤ cross_of c s a) ⊎ (cross_of c e a ≤ℤ pos 0) }
-    ensures second { IsTrue result → cross_of c e b ≤ℤ pos 0 }
+    ensures { IsTrue result ↔ ((pos 0 ≤ℤ cross_of c s a) × (pos 0 ≤ℤ cross_of c s b)) × ((cross_of c e a ≤ℤ pos 0) × (cross_of c e b ≤ℤ pos 0)) }
 {
-    cross(c, e, b) <= 0 && is_turned(c, s, e, a)
+    both_left(c, s, a, b) && both_right(c, e, a, b)
 }
 
 /// Whether `a` is on the left of `s`, or on the right of `e`, or on one of both.
@@ -117,14 +123,39 @@ fn is_turned(c: Spot, s: Spot, e: Spot, a: Spot) -> bool
     requires s_placed { IsPlaced s }
     requires e_placed { IsPlaced e }
     requires a_placed { IsPlaced a }
-    ensures { IsTrue result → (pos 0 ≤ℤ cross_of c s a) ⊎ (cross_of c e a ≤ℤ pos 0) }
+    ensures { IsTrue result ↔ (pos 0 ≤ℤ cross_of c s a) ⊎ (cross_of c e a ≤ℤ pos 0) }
 {
-    cross(c, s, a) >= 0 || cross(c, e, a) <= 0
+    is_left(c, s, a) || is_right(c, e, a)
+}
+
+/// Whether `a` is that, and `b` on the right of `e`, or on it.
+fn comes_before(c: Spot, s: Spot, e: Spot, a: Spot, b: Spot) -> bool
+    requires c_placed { IsPlaced c }
+    requires s_placed { IsPlaced s }
+    requires e_placed { IsPlaced e }
+    requires a_placed { IsPlaced a }
+    requires b_placed { IsPlaced b }
+    ensures { IsTrue result ↔ ((pos 0 ≤ℤ cross_of c s a) ⊎ (cross_of c e a ≤ℤ pos 0)) × (cross_of c e b ≤ℤ pos 0) }
+{
+    is_turned(c, s, e, a) && is_right(c, e, b)
+}
+
+/// Whether both lie in a turn of more than a half: on the left of `s`, on the right of `e`, or the one
+/// there and the other here.
+fn both_past(c: Spot, s: Spot, e: Spot, a: Spot, b: Spot) -> bool
+    requires c_placed { IsPlaced c }
+    requires s_placed { IsPlaced s }
+    requires e_placed { IsPlaced e }
+    requires a_placed { IsPlaced a }
+    requires b_placed { IsPlaced b }
+    ensures { IsTrue result ↔ ((pos 0 ≤ℤ cross_of c s a) × (pos 0 ≤ℤ cross_of c s b)) ⊎ (((pos 0 ≤ℤ cross_of c s a) ⊎ (cross_of c e a ≤ℤ pos 0)) × (cross_of c e b ≤ℤ pos 0)) }
+{
+    both_left(c, s, a, b) || comes_before(c, s, e, a, b)
 }
 
 /// Whether the spots are one.
 pub fn is_same(a: Spot, b: Spot) -> bool
-    ensures { IsTrue result → a ≡ b }
+    ensures { IsTrue result ↔ a ≡ b }
 {
     a.x == b.x && a.y == b.y
 }
@@ -137,18 +168,30 @@ pub fn in_turn(c: Spot, s: Spot, e: Spot, a: Spot, b: Spot) -> bool
     requires e_placed { IsPlaced e }
     requires a_placed { IsPlaced a }
     requires b_placed { IsPlaced b }
-    ensures { IsTrue result → InTurnBoth c s e a b }
+    ensures { IsTrue result ↔ InTurnBoth c s e a b }
 {
     let way = cross(c, s, e);
     if way > 0 {
-        both_left(c, s, a, b) && both_right(c, e, a, b)
+        both_between(c, s, e, a, b)
     } else if way < 0 {
-        both_left(c, s, a, b) || comes_before(c, s, e, a, b)
+        both_past(c, s, e, a, b)
     } else if dot(c, s, e) < 0 {
         both_left(c, s, a, b)
     } else {
         is_same(s, e)
     }
+}
+
+/// Whether the link from `a` to `b` is a chord of the ring and lies in the turn.
+fn is_inner(c: Spot, s: Spot, e: Spot, near: u128, far: u128, a: Spot, b: Spot) -> bool
+    requires c_placed { IsPlaced c }
+    requires s_placed { IsPlaced s }
+    requires e_placed { IsPlaced e }
+    requires a_placed { IsPlaced a }
+    requires b_placed { IsPlaced b }
+    ensures { IsTrue result ↔ IsInner c s e (pos near) (pos far) a b }
+{
+    is_chord(c, near, far, a, b) && in_turn(c, s, e, a, b)
 }
 
 /// The first spot and the others.
@@ -174,11 +217,11 @@ pub fn chain_inside(
     requires e_placed { IsPlaced e }
     requires start_placed { IsPlaced start }
     requires rest_placed { All IsPlaced rest.now }
-    ensures { IsTrue result → EachFrom (IsInner c s e (pos near) (pos far)) start rest.now }
+    ensures { IsTrue result ↔ EachFrom (IsInner c s e (pos near) (pos far)) start rest.now }
 {
     let mut from = start;
     for to in rest {
-        if !(is_chord(c, near, far, from, *to) && in_turn(c, s, e, from, *to)) {
+        if !is_inner(c, s, e, near, far, from, *to) {
             return false;
         }
         from = *to;
@@ -191,8 +234,7 @@ pub fn chain_round(c: Spot, near: u128, far: u128, start: Spot, rest: &[Spot], e
     requires c_placed { IsPlaced c }
     requires start_placed { IsPlaced start }
     requires rest_placed { All IsPlaced rest.now }
-    ensures chords { IsTrue result → EachFrom (IsChord c (pos near) (pos far)) start rest.now }
-    ensures ends { IsTrue result → EndsAt end start rest.now }
+    ensures { IsTrue result ↔ EachFrom (IsLink c (pos near) (pos far)) start rest.now × EndsAt end start rest.now }
 {
     let mut from = start;
     for to in rest {

@@ -1,5 +1,5 @@
 //! Laws over the definitions. Their calls do nothing.
-ghost use Rattle.arcs.specs.Laws.{MovedCircleIsHeld, PossiblyAtEnds, PossiblyIsSurely, PossiblyOfEach, SurelyIsPossibly, SurelyOfEach};
+ghost use Rattle.arcs.specs.Laws.{MovedCircleIsHeld, MovedTurnIsHeld, PossiblyAtEnds, PossiblyIsSurely, PossiblyOfEach, SurelyIsPossibly, SurelyOfEach, TakenIsBetween};
 
 /// What lies in the copper of every curve of an arc lies in that of some.
 pub fn surely_is_possibly()
@@ -27,7 +27,17 @@ pub fn moved_circle_is_held()
     ensures { MovedCircleIsHeld }
 {}
 
+/// Up to a half turn it does so in the turn, where the arc is meant.
+pub fn moved_turn_is_held()
+    ensures { MovedTurnIsHeld }
+{}
+
 /// Where both ends are at one distance, what lies in the copper of some curve lies in that of every one.
 pub fn possibly_is_surely()
     ensures { PossiblyIsSurely }
+{}
+
+/// A chain that is taken below lies in the copper of every curve, one that is taken above holds it.
+pub fn taken_is_between()
+    ensures { TakenIsBetween }
 {}

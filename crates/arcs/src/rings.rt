@@ -1,9 +1,9 @@
 //! Whole numbers round the radii of an arc.
-ghost use Rattle.arcs.specs.Chains.{IsHeld, IsRing, IsRootOver};
+ghost use Rattle.arcs.specs.Chains.{IsGreatestUnder, IsHeld, IsRing, IsRootOver};
 ghost use Rattle.arcs.specs.Copper.{greater, inmost, lesser, outmost, spread};
 ghost use Rattle.arcs.specs.declared.Arc.{Arc};
 ghost use Rattle.planar.specs.Plane.{IsPlaced, dot_of, square};
-ghost use Rattle.std.specs.Prelude.{pos, ◌*◌, ◌<◌, ◌≡◌, ◌≤◌, ◌≤ℤ◌, ◌^◌};
+ghost use Rattle.std.specs.Prelude.{pos, ◌*◌, ◌<◌, ◌≡◌, ◌≤◌, ◌≤ℤ◌, ◌^◌, ℕ};
 
 use super::Arc;
 use planar::{Spot, cross, dot};
@@ -11,6 +11,7 @@ use planar::{Spot, cross, dot};
 /// The least whole number whose square is at least `n`.
 fn root_up(n: u128) -> u128
     ensures over { n ≤ result * result }
+    ensures least { (m : ℕ) → n ≤ m * m → result ≤ m }
     ensures small { result ≤ 2 ^ 64 }
 {
     let root = n.isqrt();
@@ -20,6 +21,7 @@ fn root_up(n: u128) -> u128
 /// The greatest whole number whose square is at most `n`.
 fn root_down(n: u128) -> u128
     ensures under { result * result ≤ n }
+    ensures greatest { (m : ℕ) → m * m ≤ n → m ≤ result }
     ensures small { result < 2 ^ 64 }
 {
     n.isqrt()
@@ -67,19 +69,19 @@ fn spread_of(arc: &Arc) -> Option<u128>
     }
 }
 
-/// A whole number that is not over the least distance that a curve may have.
+/// The least distance that a curve may have, rounded down.
 fn least_of(arc: &Arc, more: u128) -> u128
     requires centre { IsPlaced arc.now.centre }
     requires start { IsPlaced arc.now.start }
     requires end { IsPlaced arc.now.end }
     requires is { pos more ≡ spread arc.now }
-    ensures under { square (pos result) ≤ℤ inmost arc.now }
+    ensures root { IsGreatestUnder (inmost arc.now) (pos result) }
     ensures small { result < 2 ^ 64 }
 {
     root_down(squares_of(arc).0.saturating_sub(more))
 }
 
-/// A whole number that is not under the greatest distance; `None` where the square of that does not fit in 128 bits.
+/// The greatest distance, rounded up; `None` where the square of that distance does not fit in 128 bits.
 fn most_of(arc: &Arc, more: u128) -> Option<u128>
     requires centre { IsPlaced arc.now.centre }
     requires start { IsPlaced arc.now.start }

@@ -5,7 +5,7 @@ use Rattle.planar.proofs.SpotWithin.{whole_from_zero}
 use Rattle.arcs.proofs.Read.{line_read}
 use Rattle.arcs.proofs.chords.line_over.Goals as goal
 
-pub returns-then-off-gt0-clause-line : goal.returns-then-off-gt0-clause-line
-returns-then-off-gt0-clause-line c = λ yes.
-    line_read c.args.near c.unsigned_abs.result c.unsigned_abs-then-off-gt0.result c.dot.result c.cross-off.result (dot_of c.args.a c.args.b c.args.b) (cross_of c.args.c c.args.a c.args.b) c.dot.ensures c.cross-off.ensures
-    (whole_from_zero c.args.a c.args.b) (omega (arith, ints)) (search rules) (search rules) c.unsigned_abs.ensures.value c.unsigned_abs-then-off-gt0.ensures.value (c.line_beyond.ensures yes)
+pub returns-then-off-gt0 : goal.returns-then-off-gt0
+returns-then-off-gt0 c =
+    line_read c.args.near c.unsigned_abs.result c.unsigned_abs-then-off-gt0.result c.dot.result c.cross-off.result (dot_of c.args.a c.args.b c.args.b) (cross_of c.args.c c.args.a c.args.b) c.line_beyond.result c.dot.ensures c.cross-off.ensures
+    (omega (arith, ints, c.dot.ensures, whole_from_zero c.args.a c.args.b)) (omega (arith, ints)) (search rules) (search rules) c.unsigned_abs.ensures.value c.unsigned_abs-then-off-gt0.ensures.value c.line_beyond.ensures
