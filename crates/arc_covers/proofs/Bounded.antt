@@ -1,16 +1,16 @@
 -- A real board is covered by a board above whose pieces stand for its own, and covers one below.
-use Rattle.std.proofs.Common.{◌≡◌, ◌⊎◌, inl, inr, ℕ, zero, suc, option_map, ◌+◌, ◌≤◌, ◌<◌, ℤ, pos, List, [], ◌∷◌, length, get_or, map, take, sum, All, Some, slice_get, Contains, refl, sym, ap, ◌∙◌, subst, arith}
+use Rattle.std.proofs.Common.{◌≡◌, ◌⊎◌, inl, inr, ℕ, suc, option_map, ◌+◌, ◌≤◌, ◌<◌, ℤ, pos, List, [], ◌∷◌, length, map, take, sum, All, Some, slice_get, refl, sym, ap, ◌∙◌, subst, arith}
 use Rattle.std.proofs.lemmas.List.{length-map}
 use Rattle.std.proofs.lemmas.List.Elements.{All-head, All-tail}
 use Rattle.std.proofs.lemmas.Option.{same_Some, slice_get-map, slice_get_cases, slice_get_within}
-use Rattle.planar.specs.Plane.{InCapsule, Point}
+use Rattle.planar.specs.Plane.{Point}
 use Rattle.planar.specs.declared.Spot.{Spot}
 use Rattle.board_shapes.specs.Figures.{Figure, InFigure, figure_of, round}
 use Rattle.board_shapes.specs.Pieces.{PlainPiece}
 use Rattle.board_shapes.specs.Plain.{PlainBoard}
 use Rattle.board_shapes.specs.declared.placed.Placed.{Placed}
 use Rattle.covers.specs.Boards.{Layout, Span}
-use Rattle.covers.specs.Covering.{Covers, HasAt, IsCovered}
+use Rattle.covers.specs.Covering.{IsCovered}
 use Rattle.covers.specs.Plain.{InPiece, layout_of, span_of}
 use Rattle.arc_covers.specs.Bounds.{AreBounds, IsOn, StandFor, capsules_from, capsules_of, figures_of, share_of}
 use Rattle.covers.specs.Laws as covers

@@ -175,7 +175,13 @@ fn a_quarter_circle(rt: HostRuntime) {
             Err(BoundsFault::Piece(Side::Above, 0)),
         ),
     ] {
-        let found = checked(alloc, &taken(low), &taken(high), &lower_counts, &upper_counts);
+        let found = checked(
+            alloc,
+            &taken(low),
+            &taken(high),
+            &lower_counts,
+            &upper_counts,
+        );
         assert!(rt; found == told, "at {low} {high}");
     }
     let counts = checked(alloc, &taken(935), &taken(1065), &[1, 6, 0], &[1, 6]);

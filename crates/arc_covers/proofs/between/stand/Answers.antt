@@ -1,5 +1,4 @@
 use Rattle.std.proofs.Common.{sym, ◌∙◌}
-use Rattle.board_shapes.specs.Pieces.{plain_pieces}
 use Rattle.arc_covers.specs.Bounds.{IsOn}
 use Rattle.arc_covers.proofs.Figures.{chain_stands, figure_stands, of_pieces}
 use Rattle.arc_covers.proofs.between.stand.Goals as goal

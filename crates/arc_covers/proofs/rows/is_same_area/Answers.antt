@@ -1,7 +1,6 @@
-use Rattle.std.proofs.Common.{ap, List}
+use Rattle.std.proofs.Common.{ap}
 use Rattle.std.proofs.lemmas.Slice.Eq.{slice_eq-Decides}
-use Rattle.planar.specs.declared.Spot.{Spot}
-use Rattle.board_shapes.specs.Figures.{Figure, filled}
+use Rattle.board_shapes.specs.Figures.{filled}
 use Rattle.arc_covers.proofs.Figures.{points_in, spot_decides}
 use Rattle.arc_covers.proofs.rows.is_same_area.Goals as goal
 
