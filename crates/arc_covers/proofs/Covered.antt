@@ -73,7 +73,7 @@ module _ (holds : ℕ → Point → Type 0) (b : Layout) (holds' : ℕ → Point
 -- ---- and the other way round: each capsule of a chain that lies in a piece is covered by it
 
 module _ (holds : ℕ → Point → Type 0) (b : Layout) (holds' : ℕ → Point → Type 0) (c : Layout) (span : Span) (r : ℤ) (i : ℕ) (there : slice_get c.spans i ≡ Some span) where
-  by_piece : (j : ℕ) → slice_get b.spans j ≡ Some span → ((p : Point) → holds j p → holds' i p) → IsCovered holds b holds' c j
+  pub by_piece : (j : ℕ) → slice_get b.spans j ≡ Some span → ((p : Point) → holds j p → holds' i p) → IsCovered holds b holds' c j
   by_piece j is inside = record {
     cover = i ∷ [];
     covers = λ layer p h. let same : h.span ≡ span = same_Some h.span span (sym h.span_is ∙ is) in (i, (0, omega arith, refl), record { span = span; span_is = there; layers = subst (λ (s : Span). InSpan s.top s.bottom layer) same h.layers; place = inside p h.place });

@@ -1,1 +1,5 @@
+mod Bounded
 mod Covered
+mod Figures
+mod Shares
+mod Steps

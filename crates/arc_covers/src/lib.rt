@@ -8,8 +8,17 @@ ghost use Rattle.covers.specs.Boards.{Layout, Span};
 ghost use Rattle.covers.specs.Covering.{IsCovered};
 ghost use Rattle.std.specs.Prelude.{IsTrue, length, pos, ℕ, ◌+◌, ◌<◌, ◌≤◌};
 
+mod between;
+pub mod laws;
+mod real_shape;
+mod rows;
+mod side;
+
 use arcs::{Arc, Spot, is_above, is_below};
+pub use between::{BoundsFault, check_between};
 use covers::Copper;
+pub use real_shape::{RealPiece, RealShape};
+pub use side::Side;
 
 /// Whether the chain holds the copper of the arc. Where it says so, a piece that is the arc draw is
 /// covered on a board whose pieces from some number on are the capsules of the chain.
@@ -26,3 +35,6 @@ pub fn is_cover<L: Copper, R: Copper>(arc: &Arc, chain: &[Spot], r: u64) -> bool
 {
     is_below(arc, chain, r)
 }
+
+#[cfg(test)]
+mod tests;

@@ -1,0 +1,154 @@
+-- A real board is covered by a board above whose pieces stand for its own, and covers one below.
+use Rattle.std.proofs.Common.{◌≡◌, ◌⊎◌, inl, inr, ℕ, suc, option_map, ◌+◌, ◌≤◌, ◌<◌, ℤ, pos, List, [], ◌∷◌, length, map, take, sum, All, Some, slice_get, refl, sym, ap, ◌∙◌, subst, arith}
+use Rattle.std.proofs.lemmas.List.{length-map}
+use Rattle.std.proofs.lemmas.List.Elements.{All-head, All-tail}
+use Rattle.std.proofs.lemmas.Option.{same_Some, slice_get-map, slice_get_cases, slice_get_within}
+use Rattle.planar.specs.Plane.{Point}
+use Rattle.planar.specs.declared.Spot.{Spot}
+use Rattle.board_shapes.specs.Figures.{Figure, InFigure, figure_of, round}
+use Rattle.board_shapes.specs.Pieces.{PlainPiece}
+use Rattle.board_shapes.specs.Plain.{PlainBoard}
+use Rattle.board_shapes.specs.declared.placed.Placed.{Placed}
+use Rattle.covers.specs.Boards.{Layout, Span}
+use Rattle.covers.specs.Covering.{IsCovered}
+use Rattle.covers.specs.Plain.{InPiece, layout_of, span_of}
+use Rattle.arc_covers.specs.Bounds.{AreBounds, IsOn, StandFor, capsules_from, capsules_of, figures_of, share_of}
+use Rattle.covers.specs.Laws as covers
+use Rattle.verdict.specs.declared.verdict.Verdict.{Verdict}
+use Rattle.arc_covers.specs.Laws.{AreBoundsOf, AreJudged, IsBetween}
+use Rattle.arc_covers.specs.Links.{AreChain, AreLinks}
+use Rattle.arc_covers.specs.RealBoards.{IsCopperOf, IsReal, real_span}
+use Rattle.arc_covers.specs.declared.real_shape.RealShape.{RealShape}
+use Rattle.arc_covers.specs.declared.real_shape.RealShape.TheVariants.{Plain, ArcDraw}
+use Rattle.arc_covers.specs.declared.side.Side.TheVariants.{Below, Above}
+use Rattle.arc_covers.proofs.Covered.{by_piece, covered, linked}
+use Rattle.arc_covers.proofs.Shares.{IsAt, placed, share_at, share_length}
+
+-- ---- pieces of a board of figures
+
+abbrev span_from : ℕ → ℕ → Span
+span_from top bottom = record { top = top; bottom = bottom }
+
+same_span : (p : PlainPiece) (span : Span) → IsOn span.top span.bottom p → span_of p ≡ span
+same_span p span (top, bottom) = ap (λ (t : ℕ). span_from t p.bottom) top ∙ ap (λ (b : ℕ). span_from span.top b) bottom
+
+has_span : (b : PlainBoard) (span : Span) (i : ℕ) (p : PlainPiece) → slice_get b.pieces i ≡ Some p → IsOn span.top span.bottom p → slice_get (map span_of b.pieces) i ≡ Some span
+has_span b span i p is on = slice_get-map span_of b.pieces i ∙ ap (λ (o : _). option_map span_of o) is ∙ ap Some (same_span p span on)
+
+in_piece : (b : PlainBoard) (i : ℕ) (piece : PlainPiece) (f : Figure) (p : Point) → slice_get b.pieces i ≡ Some piece → piece.figure ≡ f → InFigure f p → InPiece b i p
+in_piece b i piece f p is same h = record { piece = piece; piece_is = is; inside = subst (λ (g : Figure). InFigure g p) (sym same) h }
+
+out_of_piece : (b : PlainBoard) (i : ℕ) (piece : PlainPiece) (f : Figure) (p : Point) → slice_get b.pieces i ≡ Some piece → piece.figure ≡ f → InPiece b i p → InFigure f p
+out_of_piece b i piece f p is same h =
+    let one : h.piece ≡ piece = same_Some h.piece piece (sym h.piece_is ∙ is) in
+    subst (λ (g : Figure). InFigure g p) (ap (λ (q : PlainPiece). q.figure) one ∙ same) h.inside
+
+-- pieces that are a chain's capsules
+links : (b : PlainBoard) (span : Span) (r : ℤ) (first : ℕ) (a : Spot) (rest : List Spot) (part : List PlainPiece) → IsAt b.pieces first part → figures_of part ≡ capsules_from a rest r → All (IsOn span.top span.bottom) part → AreLinks (InPiece b) (layout_of b) span first a rest r
+links b span r first a [] part at same on = tt
+links b span r first a (d ∷ rest) [] at same on = absurd cc
+links b span r first a (d ∷ rest) (p ∷ part) (here, more) same on =
+    let head : p.figure ≡ round (record { a = a; b = d; r = r }) = cc in
+    let tail : figures_of part ≡ capsules_from d rest r = cc in (
+      has_span b span first p here (All-head (IsOn span.top span.bottom) p part on),
+      (λ q. (λ h. in_piece b first p (round (record { a = a; b = d; r = r })) q here head h, λ h. out_of_piece b first p (round (record { a = a; b = d; r = r })) q here head h)),
+      links b span r (suc first) d rest part more tail (All-tail (IsOn span.top span.bottom) p part on),
+    )
+
+chain_at : (b : PlainBoard) (span : Span) (r : ℤ) (first : ℕ) (chain : List Spot) (part : List PlainPiece) → IsAt b.pieces first part → figures_of part ≡ capsules_of chain r → All (IsOn span.top span.bottom) part → AreChain (InPiece b) (layout_of b) span first chain r
+chain_at b span r first [] part at same on = tt
+chain_at b span r first (a ∷ rest) part at same on = links b span r first a rest part at same on
+
+as_many : (a : Spot) (rest : List Spot) (r : ℤ) → length (capsules_from a rest r) ≡ length rest
+as_many a [] r = refl
+as_many a (b ∷ rest) r = ap suc (as_many b rest r)
+
+chain_length : (chain : List Spot) (r : ℤ) (part : List PlainPiece) (j first : ℕ) → figures_of part ≡ capsules_of chain r → first ≤ j → j < first + length part → j + 1 < first + length chain
+chain_length [] r part j first same from to =
+    let n : length (figures_of part) ≡ 0 = ap length same in
+    let m = length-map part (λ (p : PlainPiece). p.figure) in
+    absurd (omega arith)
+chain_length (a ∷ rest) r part j first same from to =
+    let n : length (figures_of part) ≡ length (capsules_from a rest r) = ap length same in
+    let m = length-map part (λ (p : PlainPiece). p.figure) in
+    let k = as_many a rest r in
+    omega arith
+
+-- a piece past the end of a board is covered by none
+past_end : (holds : ℕ → Point → Type 0) (b : Layout) (holds' : ℕ → Point → Type 0) (c : Layout) (i : ℕ) → length b.spans ≤ i → IsCovered holds b holds' c i
+past_end holds b holds' c i past = record { cover = []; covers = λ layer p h. let within = slice_get_within b.spans i h.span h.span_is in absurd (omega arith); joined = λ j k (n, within, same) g. absurd (omega arith) }
+
+-- ---- one piece of the real board and its share
+
+module _ (holds : ℕ → Point → Type 0) (real : Layout) (b : PlainBoard) (span : Span) (i first : ℕ) (there : slice_get real.spans i ≡ Some span) (some : span.top ≤ span.bottom) (part : List PlainPiece) (at : IsAt b.pieces first part) (on : All (IsOn span.top span.bottom) part) where
+  above_shape : (shape : RealShape) → IsCopperOf shape (holds i) → StandFor Above shape (figures_of part) → IsCovered holds real (InPiece b) (layout_of b) i
+  above_shape (Plain shape) copper same = one part at on same where
+    one : (ps : List PlainPiece) → IsAt b.pieces first ps → All (IsOn span.top span.bottom) ps → figures_of ps ≡ figure_of shape ∷ [] → IsCovered holds real (InPiece b) (layout_of b) i
+    one [] at on same = absurd cc
+    one (p ∷ ps) (here, more) on same =
+        let figure : p.figure ≡ figure_of shape = cc in
+        by_piece holds real (InPiece b) (layout_of b) span (pos 0) first (has_span b span first p here (All-head (IsOn span.top span.bottom) p ps on)) i there (λ q h. in_piece b first p (figure_of shape) q here figure ((copper q).1 h))
+  above_shape (ArcDraw arc) copper (chain, r, same, bound) = covered holds real (InPiece b) (layout_of b) span (pos r) some i first chain there (chain_at b span (pos r) first chain part at same on) (λ p h. bound p (copper.most p h))
+
+  below_shape : (shape : RealShape) → IsCopperOf shape (holds i) → StandFor Below shape (figures_of part) → (j : ℕ) → first ≤ j → j < first + length part → IsCovered (InPiece b) (layout_of b) holds real j
+  below_shape (Plain shape) copper same j from to = one part at on same to where
+    one : (ps : List PlainPiece) → IsAt b.pieces first ps → All (IsOn span.top span.bottom) ps → figures_of ps ≡ figure_of shape ∷ [] → j < first + length ps → IsCovered (InPiece b) (layout_of b) holds real j
+    one [] at on same to = absurd cc
+    one (p ∷ q ∷ ps) at on same to = absurd cc
+    one (p ∷ []) (here, more) on same to =
+        let figure : p.figure ≡ figure_of shape = cc in
+        let only : first ≡ j = omega arith in
+        subst (λ (n : ℕ). IsCovered (InPiece b) (layout_of b) holds real n) only
+        (by_piece (InPiece b) (layout_of b) holds real span (pos 0) i there first (has_span b span first p here (All-head (IsOn span.top span.bottom) p [] on)) (λ q h. (copper q).0 (out_of_piece b first p (figure_of shape) q here figure h)))
+  below_shape (ArcDraw arc) copper (chain, r, same, bound) j from to =
+      linked (InPiece b) (layout_of b) holds real span (pos r) i there first chain (chain_at b span (pos r) first chain part at same on) (λ p h. copper.least p (bound p h)) j from (chain_length chain (pos r) part j first same from to)
+
+-- ---- whole boards
+
+module _ (holds : ℕ → Point → Type 0) (real : Layout) (pieces : List (Placed RealShape)) (is : IsReal pieces holds real) (counts : List ℕ) (b : PlainBoard) where
+  as_long : length real.spans ≡ length pieces
+  as_long = ap length is.spans ∙ length-map pieces real_span
+
+  real_at : (i : ℕ) (piece : Placed RealShape) → slice_get pieces i ≡ Some piece → slice_get real.spans i ≡ Some (real_span piece)
+  real_at i piece there = ap (λ (spans : List Span). slice_get spans i) is.spans ∙ slice_get-map real_span pieces i ∙ ap (λ (o : _). option_map real_span o) there
+
+  above : AreBounds Above pieces counts b.pieces → (i : ℕ) → IsCovered holds real (InPiece b) (layout_of b) i
+  above bounds i = elim (slice_get_cases pieces i).1 [
+    | inl (piece, within, there, same) ↦
+        let stand = bounds.stand i piece within there in
+        above_shape holds real b (real_span piece) i (sum (take i counts)) (real_at i piece there) piece.span.1 (share_of counts b.pieces i) (share_at counts b.pieces i) stand.layers piece.shape (is.copper i piece there) stand.figures
+    | inr (past, none) ↦ past_end holds real (InPiece b) (layout_of b) i (omega (arith, as_long))
+  ]
+
+  below : AreBounds Below pieces counts b.pieces → (j : ℕ) → IsCovered (InPiece b) (layout_of b) holds real j
+  below bounds j = elim (cases j (length b.pieces)) [
+    | inl inside ↦
+        let all = bounds.counted.all in
+        let each = bounds.counted.each in
+        let share = placed counts j (omega arith) in
+        let i : ℕ = share.0 in
+        let counted = share.1 in
+        let to = share.3 in
+        let n = share_length counts b.pieces i all counted in
+        elim (slice_get_cases pieces i).1 [
+          | inl (piece, within, there, same) ↦
+              let stand = bounds.stand i piece within there in
+              below_shape holds real b (real_span piece) i (sum (take i counts)) (real_at i piece there) piece.span.1 (share_of counts b.pieces i) (share_at counts b.pieces i) stand.layers piece.shape (is.copper i piece there) stand.figures j share.2 (omega arith)
+          | inr (past, none) ↦ absurd (omega arith)
+        ]
+    | inr past ↦
+        let n = length-map b.pieces span_of in
+        past_end (InPiece b) (layout_of b) holds real j (omega arith)
+  ]
+    where
+      cases : (j n : ℕ) → (j < n) ⊎ (n ≤ j)
+      cases j n = grind arith
+
+pub between : (holds : ℕ → Point → Type 0) (lower upper : PlainBoard) (real : Layout) → AreBoundsOf lower upper holds real → IsBetween lower holds real upper
+between holds lower upper real is = record {
+  below = record { probes = sym is.lower_netlist.probes; names = sym is.lower_netlist.names; layers = sym is.lower_netlist.layers; pieces = below holds real is.pieces is.real_is is.lower_counts lower is.below };
+  above = record { probes = is.upper_netlist.probes; names = is.upper_netlist.names; layers = is.upper_netlist.layers; pieces = above holds real is.pieces is.real_is is.upper_counts upper is.above };
+}
+
+pub judged : (holds : ℕ → Point → Type 0) (lower upper : PlainBoard) (v w : Verdict) (real : Layout) → IsBetween lower holds real upper → AreJudged lower upper v w → covers.IsBetween lower upper v w holds real
+judged holds lower upper v w real is by = record { lower_lawful = by.lower_lawful; upper_lawful = by.upper_lawful; below = is.below; above = is.above; lower_right = by.lower_right; upper_right = by.upper_right }

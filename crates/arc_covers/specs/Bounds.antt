@@ -1,0 +1,63 @@
+-- What stands for the pieces of a real board on a board below it, and on one above it.
+use Rattle.std.specs.Prelude.{ℕ, ℤ, pos, ◌≡◌, ◌<◌, List, [], ◌∷◌, Some, length, map, slice_get, slice_index, sum, take, drop, All}
+use Rattle.planar.specs.Plane.{Point}
+use Rattle.planar.specs.declared.Spot.{Spot}
+use Rattle.board_shapes.specs.Figures.{Figure, round, figure_of}
+use Rattle.board_shapes.specs.Pieces.{PlainPiece}
+use Rattle.board_shapes.specs.declared.placed.Placed.{Placed}
+use Rattle.arcs.specs.Copper.{InChain, Possibly, Surely}
+use Rattle.arcs.specs.declared.Arc.{Arc}
+use Rattle.arc_covers.specs.declared.real_shape.RealShape.{RealShape}
+use Rattle.arc_covers.specs.declared.real_shape.RealShape.TheVariants.{Plain, ArcDraw}
+use Rattle.arc_covers.specs.declared.side.Side.{Side}
+use Rattle.arc_covers.specs.declared.side.Side.TheVariants.{Below, Above}
+
+-- a chain below lies in the copper of every curve of the arc draw, one above holds that of each
+abbrev pub IsBound : Side → Arc → List Spot → ℤ → Type 0
+IsBound Below arc chain r = (p : Point) → InChain chain r p → Surely arc p
+IsBound Above arc chain r = (p : Point) → Possibly arc p → InChain chain r p
+
+-- the capsules from a to the first of the list and from each spot of it to the next
+abbrev pub capsules_from : Spot → List Spot → ℤ → List Figure
+capsules_from a [] r = []
+capsules_from a (b ∷ rest) r = round (record { a = a; b = b; r = r }) ∷ capsules_from b rest r
+
+abbrev pub capsules_of : List Spot → ℤ → List Figure
+capsules_of [] r = []
+capsules_of (a ∷ rest) r = capsules_from a rest r
+
+-- for a figure stands the figure itself, for an arc draw the capsules of one chain of one radius that is a bound: below it maybe none
+abbrev pub StandFor : Side → RealShape → List Figure → Type 0
+StandFor side (Plain shape) figures = figures ≡ figure_of shape ∷ []
+StandFor side (ArcDraw arc) figures = (chain : List Spot) × (r : ℕ) × (figures ≡ capsules_of chain (pos r)) × IsBound side arc chain (pos r)
+
+-- the figures of the pieces
+abbrev pub figures_of : List PlainPiece → List Figure
+figures_of pieces = map (λ (p : PlainPiece). p.figure) pieces
+
+-- the piece is on these layers
+abbrev pub IsOn : ℕ → ℕ → PlainPiece → Type 0
+IsOn top bottom p = (p.top ≡ top) × (p.bottom ≡ bottom)
+
+-- the pieces stand for the real piece, all on its layers
+pub record PiecesStandFor (side : Side) (real : Placed RealShape) (pieces : List PlainPiece) : Type 0 where
+  pub figures : StandFor side real.shape (figures_of pieces)
+  pub layers : All (IsOn real.top real.bottom) pieces
+
+-- the pieces that are counted to real piece i: as many as its count, after those of the real pieces before it
+abbrev pub share_of : List ℕ → List PlainPiece → ℕ → List PlainPiece
+share_of counts pieces i = take (slice_index counts i) (drop (sum (take i counts)) pieces)
+
+-- there is one count for each real piece, and they sum to the pieces
+pub record AddUp (real : List (Placed RealShape)) (counts : List ℕ) (pieces : List PlainPiece) : Type 0 where
+  pub each : length counts ≡ length real
+  pub all : sum counts ≡ length pieces
+
+-- for each of the first n real pieces stand those that are counted to it
+abbrev pub FirstStand : Side → ℕ → List (Placed RealShape) → List ℕ → List PlainPiece → Type 0
+FirstStand side n real counts pieces = (i : ℕ) (piece : Placed RealShape) → i < n → slice_get real i ≡ Some piece → PiecesStandFor side piece (share_of counts pieces i)
+
+-- the pieces, as they are counted, stand for the real ones
+pub record AreBounds (side : Side) (real : List (Placed RealShape)) (counts : List ℕ) (pieces : List PlainPiece) : Type 0 where
+  pub counted : AddUp real counts pieces
+  pub stand : FirstStand side (length real) real counts pieces

@@ -1,0 +1,58 @@
+-- Laws over real boards between two that the program can read.
+use Rattle.std.specs.Prelude.{ℕ, ◌≡◌, List, []}
+use Rattle.planar.specs.Plane.{Point}
+use Rattle.board_shapes.specs.LawfulBoard.{IsLawfulBoard}
+use Rattle.board_shapes.specs.Plain.{PlainBoard}
+use Rattle.board_shapes.specs.declared.placed.Placed.{Placed}
+use Rattle.verdict.specs.declared.verdict.Verdict.{Verdict}
+use Rattle.witness_check.specs.BoardLaws.{IsRightFor}
+use Rattle.covers.specs.Agreeing.{AgreesWithNames}
+use Rattle.covers.specs.Boards.{Layout}
+use Rattle.covers.specs.Covering.{Covers}
+use Rattle.covers.specs.Laws.{Decides}
+use Rattle.covers.specs.Plain.{InPiece, layout_of}
+use Rattle.arc_covers.specs.Bounds.{AreBounds}
+use Rattle.arc_covers.specs.RealBoards.{IsReal}
+use Rattle.arc_covers.specs.declared.real_shape.RealShape.{RealShape}
+use Rattle.arc_covers.specs.declared.side.Side.TheVariants.{Below, Above}
+
+-- the board is covered by the real one, and this by the board above
+pub record IsBetween (lower : PlainBoard) (holds : ℕ → Point → Type 0) (real : Layout) (upper : PlainBoard) : Type 0 where
+  pub below : Covers (InPiece lower) (layout_of lower) holds real
+  pub above : Covers holds real (InPiece upper) (layout_of upper)
+
+-- the board has the test points, names and layers of the real one
+pub record HasItsNetlist (b : PlainBoard) (real : Layout) : Type 0 where
+  pub probes : b.probes ≡ real.probes
+  pub names : b.names ≡ real.names
+  pub layers : b.layers ≡ real.layers
+
+-- the pieces of both boards, as they are counted, stand for those of the real board, and all three have one netlist
+pub record AreBoundsOf (lower upper : PlainBoard) (holds : ℕ → Point → Type 0) (real : Layout) : Type 0 where
+  pub pieces : List (Placed RealShape)
+  pub lower_counts : List ℕ
+  pub upper_counts : List ℕ
+  pub below : AreBounds Below pieces lower_counts lower.pieces
+  pub above : AreBounds Above pieces upper_counts upper.pieces
+  pub real_is : IsReal pieces holds real
+  pub lower_netlist : HasItsNetlist lower real
+  pub upper_netlist : HasItsNetlist upper real
+
+-- A board of figures and arc draws lies between two whose pieces stand for its own, whatever copper it has of those that its pieces may have
+abbrev pub BoundsLieBetween : (ℕ → Point → Type 0) → Type 0
+BoundsLieBetween holds = (lower upper : PlainBoard) (real : Layout) → AreBoundsOf lower upper holds real → IsBetween lower holds real upper
+
+-- the verdicts are right for the boards
+pub record AreJudged (lower upper : PlainBoard) (v w : Verdict) : Type 0 where
+  pub lower_lawful : IsLawfulBoard lower
+  pub upper_lawful : IsLawfulBoard upper
+  pub lower_right : IsRightFor lower v
+  pub upper_right : IsRightFor upper w
+
+-- So it agrees with its names where the verdict below has no opens and no missing points and that above no shorts
+abbrev pub RealBoardAgrees : (ℕ → Point → Type 0) → Type 0
+RealBoardAgrees holds = (lower upper : PlainBoard) (v w : Verdict) (real : Layout) → AreBoundsOf lower upper holds real → AreJudged lower upper v w → v.opens ≡ [] → v.bare ≡ [] → w.shorts ≡ [] → AgreesWithNames holds real
+
+-- And what the verdicts say of nets is certain of it
+abbrev pub RealBoardIsDecided : (ℕ → Point → Type 0) → Type 0
+RealBoardIsDecided holds = (lower upper : PlainBoard) (v w : Verdict) (real : Layout) → AreBoundsOf lower upper holds real → AreJudged lower upper v w → Decides v w holds real

@@ -1,0 +1,23 @@
+-- Boards of figures and arc draws, and the copper that these may have.
+use Rattle.std.specs.Prelude.{ℕ, ◌≡◌, ◌↔◌, List, Some, map, slice_get}
+use Rattle.planar.specs.Plane.{Point}
+use Rattle.board_shapes.specs.Figures.{InFigure, figure_of}
+use Rattle.board_shapes.specs.declared.placed.Placed.{Placed}
+use Rattle.arcs.specs.Copper.{IsCopper}
+use Rattle.covers.specs.Boards.{Layout, Span}
+use Rattle.arc_covers.specs.declared.real_shape.RealShape.{RealShape}
+use Rattle.arc_covers.specs.declared.real_shape.RealShape.TheVariants.{Plain, ArcDraw}
+
+-- the points are those of the figure, or a copper of the arc draw
+abbrev pub IsCopperOf : RealShape → (Point → Type 0) → Type 0
+IsCopperOf (Plain shape) holds = (p : Point) → InFigure (figure_of shape) p ↔ holds p
+IsCopperOf (ArcDraw arc) holds = IsCopper arc holds
+
+-- the layers of the piece
+abbrev pub real_span : Placed RealShape → Span
+real_span piece = record { top = piece.top; bottom = piece.bottom }
+
+-- the board has these pieces and no others, each with some copper of its shape
+pub record IsReal (pieces : List (Placed RealShape)) (holds : ℕ → Point → Type 0) (b : Layout) : Type 0 where
+  pub spans : b.spans ≡ map real_span pieces
+  pub copper : (i : ℕ) (piece : Placed RealShape) → slice_get pieces i ≡ Some piece → IsCopperOf piece.shape (holds i)

@@ -1,0 +1,22 @@
+//! Laws over real boards between two others. Their calls do nothing.
+ghost use Rattle.arc_covers.specs.Laws.{BoundsLieBetween, RealBoardAgrees, RealBoardIsDecided};
+
+use covers::Copper;
+use covers::laws::verdicts_decide;
+
+/// A board of figures and arc draws lies between two whose pieces stand for its own, whatever copper
+/// it has of those that its pieces may have.
+pub fn bounds_lie_between<R: Copper>()
+    ensures { BoundsLieBetween R.holds }
+{}
+
+/// What right verdicts on the two say of every such board: it agrees with its names where the verdict
+/// below has no opens and no missing points and the one above no shorts. What is on one net below
+/// is joined, what is joined is on one net above, and a point without a net above has no copper.
+pub fn real_board_is_decided<R: Copper>()
+    ensures agrees { RealBoardAgrees R.holds }
+    ensures decides { RealBoardIsDecided R.holds }
+{
+    bounds_lie_between::<R>();
+    verdicts_decide::<R>();
+}

@@ -1,0 +1,124 @@
+//! Rows of pieces: chains of capsules, and single figures.
+ghost use Rattle.arc_covers.specs.Bounds.{IsOn, StandFor, capsules_of, figures_of};
+ghost use Rattle.arc_covers.specs.declared.real_shape.RealShape.TheVariants.{ArcDraw, Plain};
+ghost use Rattle.board_shapes.specs.Figures.{area_figure, capsule_figure, figure_of, round};
+ghost use Rattle.board_shapes.specs.Pieces.{plain_piece, plain_pieces};
+ghost use Rattle.std.specs.Prelude.{All, IfOk, IfSome, IsTrue, length, pos, ◌≡◌, ◌↔◌, ◌∷◌, []};
+
+use crate::side::{Side, is_bound};
+use arcs::{Arc, Spot};
+use area_contact::Area;
+use board_shapes::{Piece, Shape};
+use contact::Capsule;
+use lengths::rows::NoMemory;
+use std::alloc::Global;
+
+/// Whether the piece is on the layers from `top` to `bottom` and on no others.
+fn is_on(piece: &Piece, top: u8, bottom: u8) -> bool
+    ensures { IsTrue result ↔ IsOn top bottom (plain_piece piece.now) }
+{
+    piece.top == top && piece.bottom == bottom
+}
+
+/// Whether each of the pieces is.
+pub fn are_on(pieces: &[Piece], top: u8, bottom: u8) -> bool
+    ensures { IsTrue result ↔ All (λ piece. IsOn top bottom (plain_piece piece)) pieces.now }
+{
+    pieces.iter().all(|piece| is_on(piece, top, bottom))
+}
+
+/// Whether both capsules have the same ends, in one order.
+fn is_same_line(a: &Capsule, b: &Capsule) -> bool
+    ensures { IsTrue result ↔ ((a.now.a ≡ b.now.a) × (a.now.b ≡ b.now.b)) }
+{
+    a.a == b.a && a.b == b.b
+}
+
+/// Whether they have one radius too.
+fn is_same_capsule(a: &Capsule, b: &Capsule) -> bool
+    ensures { IsTrue result ↔ (capsule_figure a.now ≡ capsule_figure b.now) }
+{
+    is_same_line(a, b) && a.r.unsigned_abs() == b.r.unsigned_abs()
+}
+
+/// Whether the contours have the same points in one order.
+fn is_same_area(a: &Area, b: &Area) -> bool
+    ensures { IsTrue result ↔ (area_figure a.now ≡ area_figure b.now) }
+{
+    a.points == b.points
+}
+
+fn is_same_shape(a: &Shape, b: &Shape) -> bool
+    ensures { IsTrue result ↔ (figure_of a.now ≡ figure_of b.now) }
+{
+    match (a, b) {
+        (Shape::Round(a), Shape::Round(b)) => is_same_capsule(a, b),
+        (Shape::Filled(a), Shape::Filled(b)) => is_same_area(a, b),
+        _ => false,
+    }
+}
+
+/// Whether there is one piece, and it has the figure of the shape.
+pub fn is_itself(shape: &Shape, pieces: &[Piece]) -> bool
+    ensures { IsTrue result ↔ (figures_of (plain_pieces pieces.now) ≡ figure_of shape.now ∷ []) }
+{
+    match pieces {
+        [only] => is_same_shape(&only.shape, shape),
+        _ => false,
+    }
+}
+
+/// Where the capsule leads that begins at `from` with radius `r`, if the shape is one.
+fn next_spot(shape: &Shape, from: Spot, r: u64) -> Option<Spot>
+    ensures { IfSome result (λ to. figure_of shape.now ≡ round (record { a = from; b = to; r = pos r })) }
+{
+    let Shape::Round(capsule) = shape else {
+        return None;
+    };
+    if capsule.a == from && capsule.r.unsigned_abs() == r {
+        Some(capsule.b)
+    } else {
+        None
+    }
+}
+
+/// The spots of the chain from `start` whose capsules of radius `r` the pieces are, in order; none
+/// where some piece is no capsule, has another radius, or does not begin where the one before ended.
+fn chain_of(
+    alloc: Global,
+    pieces: &[Piece],
+    start: Spot,
+    r: u64,
+) -> Result<Option<Vec<Spot>>, NoMemory>
+    ensures { IfOk result (λ found. IfSome found (λ chain. figures_of (plain_pieces pieces.now) ≡ capsules_of chain.items (pos r))) }
+{
+    let mut chain = Vec::new(alloc);
+    chain.push(start)?;
+    let mut from = start;
+    for piece in pieces {
+        let Some(to) = next_spot(&piece.shape, from, r) else {
+            return Ok(None);
+        };
+        chain.push(to)?;
+        from = to;
+    }
+    Ok(Some(chain))
+}
+
+/// Whether the pieces are capsules of one radius, each of which begins where the one before ended,
+/// and a bound of the arc draw. `NoMemory` where memory is wanted.
+pub fn are_bound(alloc: Global, side: Side, arc: &Arc, pieces: &[Piece]) -> Result<bool, NoMemory>
+    ensures { IfOk result (λ yes. IsTrue yes → StandFor side (ArcDraw arc.now) (figures_of (plain_pieces pieces.now))) }
+{
+    let Some(first) = pieces.first() else {
+        return Ok(is_bound(side, arc, &[], 0));
+    };
+    let Shape::Round(capsule) = &first.shape else {
+        return Ok(false);
+    };
+    let r = capsule.r.unsigned_abs();
+    match chain_of(alloc, pieces, capsule.a, r)? {
+        Some(chain) => Ok(is_bound(side, arc, &chain, r)),
+        None => Ok(false),
+    }
+}

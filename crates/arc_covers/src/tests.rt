@@ -1,0 +1,225 @@
+//! A pad and a quarter circle that touches it in one point, between pads and chains, in u.
+ghost use Rattle.planar.specs.Plane.{IsPlaced};
+
+use crate::{BoundsFault, RealPiece, RealShape, Side, check_between};
+use arcs::{Arc, Spot};
+use board_shapes::{Origin, Piece, Placed, Shape};
+use contact::Capsule;
+use lengths::rows::NoMemory;
+use std::alloc::Global;
+use std::test::Fail;
+
+const ORIGIN: Origin = Origin {
+    file: 0,
+    command: 1,
+    copy: 0,
+};
+
+fn spot(p: (i16, i16)) -> Spot
+    ensures { IsPlaced result }
+{
+    Spot {
+        x: p.0 as i64,
+        y: p.1 as i64,
+    }
+}
+
+fn capsule(a: (i16, i16), b: (i16, i16), r: u16) -> Shape {
+    Shape::Round(Capsule::new(spot(a), spot(b), r as i64))
+}
+
+fn on(layer: u8, shape: Shape) -> Piece {
+    let layer = layer.max(1);
+    Placed {
+        shape,
+        top: layer,
+        bottom: layer,
+        origin: ORIGIN,
+    }
+}
+
+fn pad(r: u16) -> Shape {
+    capsule((0, 7000), (0, 7000), r)
+}
+
+fn quarter() -> Arc {
+    Arc {
+        centre: spot((0, 0)),
+        start: spot((3000, 4000)),
+        end: spot((-4000, 3000)),
+        width: 2000,
+    }
+}
+
+/// A pad of some radius, and links of radius `r` along the quarter circle: the fourth begins at `bend`, the fifth
+/// is on `layer`, the last has the radius `last`.
+#[derive(Clone, Copy)]
+struct Row {
+    pad: u16,
+    bend: (i16, i16),
+    last: u16,
+    layer: u8,
+    r: u16,
+}
+
+/// The row that the checks take with the radius `r`.
+fn taken(r: u16) -> Row {
+    Row {
+        pad: 1000,
+        bend: (-1149, 4866),
+        last: r,
+        layer: 1,
+        r,
+    }
+}
+
+fn real(alloc: Global) -> Result<Vec<RealPiece>, NoMemory> {
+    let mut pieces = Vec::new(alloc);
+    pieces.push(Placed {
+        shape: RealShape::Plain(pad(1000)),
+        top: 1,
+        bottom: 1,
+        origin: ORIGIN,
+    })?;
+    pieces.push(Placed {
+        shape: RealShape::ArcDraw(quarter()),
+        top: 1,
+        bottom: 1,
+        origin: ORIGIN,
+    })?;
+    Ok(pieces)
+}
+
+fn board(alloc: Global, row: &Row) -> Result<Vec<Piece>, NoMemory> {
+    let mut pieces = Vec::new(alloc);
+    pieces.push(on(1, pad(row.pad)))?;
+    for (from, to) in [
+        ((3000, 4000), (1581, 4743)),
+        ((1581, 4743), (0, 5000)),
+        ((0, 5000), (-1149, 4866)),
+    ] {
+        pieces.push(on(1, capsule(from, to, row.r)))?;
+    }
+    pieces.push(on(1, capsule(row.bend, (-2236, 4472), row.r)))?;
+    pieces.push(on(row.layer, capsule((-2236, 4472), (-3204, 3839), row.r)))?;
+    pieces.push(on(1, capsule((-3204, 3839), (-4000, 3000), row.last)))?;
+    Ok(pieces)
+}
+
+fn checked(
+    alloc: Global,
+    lower: &Row,
+    upper: &Row,
+    lower_counts: &[u32],
+    upper_counts: &[u32],
+) -> Result<(), BoundsFault> {
+    let real = real(alloc)?;
+    let lower = board(alloc, lower)?;
+    let upper = board(alloc, upper)?;
+    check_between(alloc, &real, &lower, lower_counts, &upper, upper_counts)
+}
+
+/// Chains at their limits, and one u beyond; counts one off.
+#[test]
+fn a_quarter_circle(rt: HostRuntime) {
+    let alloc = rt.alloc();
+    for (low, high, lower_counts, upper_counts, told) in [
+        (935, 1065, [1, 6], [1, 6], Ok(())),
+        (
+            936,
+            1065,
+            [1, 6],
+            [1, 6],
+            Err(BoundsFault::Piece(Side::Below, 1)),
+        ),
+        (
+            935,
+            1064,
+            [1, 6],
+            [1, 6],
+            Err(BoundsFault::Piece(Side::Above, 1)),
+        ),
+        (
+            1065,
+            935,
+            [1, 6],
+            [1, 6],
+            Err(BoundsFault::Piece(Side::Below, 1)),
+        ),
+        (
+            935,
+            1065,
+            [1, 5],
+            [1, 6],
+            Err(BoundsFault::Counts(Side::Below)),
+        ),
+        (
+            935,
+            1065,
+            [1, 6],
+            [1, 7],
+            Err(BoundsFault::Counts(Side::Above)),
+        ),
+        (
+            935,
+            1065,
+            [2, 5],
+            [1, 6],
+            Err(BoundsFault::Piece(Side::Below, 0)),
+        ),
+        (
+            935,
+            1065,
+            [1, 6],
+            [0, 7],
+            Err(BoundsFault::Piece(Side::Above, 0)),
+        ),
+    ] {
+        let found = checked(
+            alloc,
+            &taken(low),
+            &taken(high),
+            &lower_counts,
+            &upper_counts,
+        );
+        assert!(rt; found == told, "at {low} {high}");
+    }
+    let counts = checked(alloc, &taken(935), &taken(1065), &[1, 6, 0], &[1, 6]);
+    assert!(rt; counts == Err(BoundsFault::Counts(Side::Below)));
+}
+
+/// A smaller pad, a gap, a link of another radius, a link on another layer.
+#[test]
+fn rows_that_stand_for_nothing(rt: HostRuntime) {
+    let alloc = rt.alloc();
+    let mut smaller = taken(935);
+    smaller.pad = 999;
+    let mut gap = taken(935);
+    gap.bend = (-1150, 4866);
+    let mut thin = taken(935);
+    thin.last = 934;
+    let mut away = taken(935);
+    away.layer = 2;
+    for (lower, told) in [(&smaller, 0), (&gap, 1), (&thin, 1), (&away, 1)] {
+        let found = checked(alloc, lower, &taken(1065), &[1, 6], &[1, 6]);
+        assert!(rt;
+            found == Err(BoundsFault::Piece(Side::Below, told)),
+            "at {told}"
+        );
+    }
+}
+
+/// Nothing below an arc draw is a bound, nothing above it is none.
+#[test]
+fn nothing_below(rt: HostRuntime) -> Result<(), Fail> {
+    let alloc = rt.alloc();
+    let real = real(alloc)?;
+    let mut lower = Vec::new(alloc);
+    lower.push(on(1, pad(1000)))?;
+    let upper = board(alloc, &taken(1065))?;
+    let found = check_between(alloc, &real, &lower, &[1, 0], &upper, &[1, 6]);
+    assert!(rt; found == Ok(()));
+    let other = check_between(alloc, &real, &lower, &[1, 0], &lower, &[1, 0]);
+    assert!(rt; other == Err(BoundsFault::Piece(Side::Above, 1)));
+    Ok(())
+}
