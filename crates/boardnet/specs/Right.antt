@@ -1,11 +1,16 @@
 -- Verdicts that are right for a board, and their reports.
-use Rattle.std.specs.Prelude.{◌↔◌, ◌≡◌, ℕ, List, None, Some}
+use Rattle.std.specs.Prelude.{◌↔◌, ◌≡◌, ℕ, List, length, None, Some}
 use Rattle.board_shapes.specs.Plain.{PlainBoard}
+use Rattle.board_shapes.specs.Shapes.{shape_box}
 use Rattle.board_shapes.specs.Tables.{IsTables}
 use Rattle.board_shapes.specs.Touching.{ProbesJoined}
+use Rattle.board_shapes.specs.declared.placed.Placed.{Placed}
+use Rattle.board_shapes.specs.declared.shape.Shape.{Shape}
 use Rattle.boardnet.specs.Common.{HasStatus}
 use Rattle.boardnet.specs.declared.words.Version.{Version}
 use Rattle.boardnet.specs.declared.words.Version.TheVariants.{One, Two}
+use Rattle.cell_index.specs.Among.{bottom_in, extent_in, top_in}
+use Rattle.cell_index.specs.Field.{pairs_of}
 use Rattle.tables.specs.Tables.{Tables}
 use Rattle.verdict.specs.Lawful.{IsVerdict}
 use Rattle.verdict.specs.ReportText.{report_text}
@@ -20,6 +25,10 @@ pub record IsRightOn (board : PlainBoard) (verdict : Verdict) : Type 0 where
   pub right : IsRight tables verdict
   -- Two probes have one net number exactly where a finite chain of touching pieces joins them.
   pub joins : (a b : ℕ) → HaveOneNet verdict a b ↔ ProbesJoined board a b
+
+-- how many unordered pairs of the pieces have boxes that meet and spans with a common layer
+abbrev pub rival_pairs : List (Placed Shape) → ℕ
+rival_pairs pieces = pairs_of (length pieces) (extent_in shape_box pieces) (top_in pieces) (bottom_in pieces)
 
 -- A report of version 2 has a supplement, and one of version 1 has none.
 abbrev pub IsOfVersion : Version → Verdict → Type 0

@@ -4,12 +4,12 @@ ghost use Rattle.board_io.specs.Package.{IsFaultless};
 ghost use Rattle.board_package.specs.Causes.{HandedCause, HasCause, KeepsFaults};
 ghost use Rattle.board_package.specs.HandedBoard.{ComesHanded, IsBoardHanded, IsFirstStopHanded};
 ghost use Rattle.board_package.specs.PackageBoard.{Comes, IsBoardOf, IsFirstStop, IsWithinLimits};
-ghost use Rattle.board_shapes.specs.Plain.{plain_board};
+ghost use Rattle.board_shapes.specs.Plain.{pieces_of, plain_board};
 ghost use Rattle.boardnet.specs.Answers.{line_of, status_of};
-ghost use Rattle.boardnet.specs.Right.{IsOfVersion, IsReportOn, IsRightOn};
+ghost use Rattle.boardnet.specs.Right.{IsOfVersion, IsReportOn, IsRightOn, rival_pairs};
 ghost use Rattle.boardnet.specs.declared.words.Version.TheVariants.{One, Two};
 ghost use Rattle.lengths.specs.Text.{IsText};
-ghost use Rattle.std.specs.Prelude.{IfErr, IfOk, IfSome, ◌<◌, ◌≡◌, ◌≤◌};
+ghost use Rattle.std.specs.Prelude.{IfErr, IfOk, IfSome, ◌*◌, ◌+◌, ◌<◌, ◌≡◌, ◌≤◌};
 
 use crate::answer::{Answer, Note};
 use crate::refusing::name_of;
@@ -91,11 +91,11 @@ pub fn verdict_on(alloc: Global, board: &Board) -> Result<Verdict, NoMemory>
     ensures right { IfOk result (IsRightOn (plain_board board.now)) }
     ensures version { IfOk result (IsOfVersion One) }
 {
-    verdict_of::<Brand>(alloc, board, Blank::new(1))
+    with_counter::<Brand>(alloc, board, Blank::new(1))
 }
 
-// The right verdict, found with a counter of contact tests. The calls of laws do nothing when the program runs.
-fn verdict_of<L: Ledger>(alloc: Global, board: &Board, blank: Blank) -> Result<Verdict, NoMemory>
+// The same, with a counter of its own.
+fn with_counter<L: Ledger>(alloc: Global, board: &Board, blank: Blank) -> Result<Verdict, NoMemory>
     requires name { blank.name ≡ L.name }
     requires parts { blank.parts ≡ L.parts }
     requires some { 0 < blank.parts }
@@ -103,8 +103,22 @@ fn verdict_of<L: Ledger>(alloc: Global, board: &Board, blank: Blank) -> Result<V
     ensures version { IfOk result (IsOfVersion One) }
 {
     let mut tests = Steps::<L>::new(blank);
+    verdict_of(alloc, board, &mut tests)
+}
+
+/// The same. One tick of `tests` is one contact test: there are at most two for each pair of pieces whose boxes meet and whose
+/// spans have a common layer. The calls of laws do nothing when the program runs.
+pub fn verdict_of<L: Ledger>(
+    alloc: Global,
+    board: &Board,
+    tests: &mut Steps<L>,
+) -> Result<Verdict, NoMemory>
+    ensures right { IfOk result (IsRightOn (plain_board board.now)) }
+    ensures version { IfOk result (IsOfVersion One) }
+    ensures pairs { tests.new ≤ tests.old + 2 * rival_pairs (pieces_of board.now) }
+{
     let pieces = Cells::new(alloc, board.pieces(), board.frame(), board.layers())?;
-    let trees = flood(alloc, &pieces, &mut tests)?;
+    let trees = flood(alloc, &pieces, tests)?;
     let least = homes(alloc, &pieces, board.probes())?;
     nets::nets_are_of_the_board();
     nets::homes_are_of_the_board();

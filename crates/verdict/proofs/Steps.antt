@@ -123,6 +123,17 @@ parsed ds (Err e) h some =
 pub parsed_text : {E : Type 0} (ds bs : List ℕ) (r : Result ℕ E) → bs ≡ ds → list_all is_decimal_digit ds ≡ true → is_numeral ds ≡ true → ParsesUnsigned 64 10 bs r → result_ok r ≡ value_of ds
 parsed_text ds bs r e digits some h = parsed ds r (parse_digits own 64 ds r (subst (λ (t : List ℕ). ParsesUnsigned 64 10 t r) e h) digits) (numeral_parts ds some).0
 
+-- at most 18 digits in front are a number
+pub wide_is : (bytes digits rest : List ℕ) (len value : ℕ) → len ≡ prefix_len is_decimal_digit bytes → digits ≡ take len bytes → rest ≡ drop len bytes → is_numeral digits ≡ true → value ≡ digits_value 10 (take len bytes) → value < 10 ^ 18 → wide_at bytes ≡ Some (value, rest)
+unfolding wide_at value_of
+wide_is bytes digits rest len value e front back some is small =
+    let run : take len bytes ≡ run_of bytes = ap (λ (k : ℕ). take k bytes) e in
+    let numeral : is_numeral (run_of bytes) ≡ true = ap is_numeral (sym (front ∙ run)) ∙ some in
+    let worth : digits_value 10 (run_of bytes) ≡ value = sym (is ∙ ap (digits_value 10) run) in
+    let left : drop (prefix_len is_decimal_digit bytes) bytes ≡ rest = sym (back ∙ ap (λ (k : ℕ). drop k bytes) e) in
+    let below : ltb value (2 ^ 64) ≡ true = lt-ltb value (2 ^ 64) (omega (arith, small)) in
+    rw (numeral, worth, below, left) refl
+
 pub wide_takes : (bytes : List ℕ) (n : ℕ) (rest : List ℕ) → wide_at bytes ≡ Some (n, rest) → (bytes ≡ decimal n ++ rest) × (n < 2 ^ 64)
 unfolding wide_at value_of
 wide_takes bytes n rest e =

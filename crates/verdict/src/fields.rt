@@ -1,14 +1,14 @@
 //! The fields of a report: fixed words and numbers, each read from the front of the bytes.
-ghost use Rattle.std.specs.Prelude.{◌≡◌, List, Option, true};
-ghost use Rattle.std.specs.List.{list_all};
+ghost use Rattle.std.specs.Prelude.{◌≡◌, ◌<◌, ◌≤◌, ◌^◌, [], ◌∷◌, List, Option, length, take, true};
+ghost use Rattle.std.specs.List.{list_all, prefix_len};
 ghost use Rattle.std.specs.Option.{option_map};
+ghost use Rattle.std.specs.Str.Parse.{digits_value};
 ghost use Rattle.texts.specs.Digits.{is_decimal_digit};
 ghost use Rattle.verdict.specs.ReportReading as spec;
 
 use crate::report_reading::ReadFault;
-use lengths::decimal::small_value;
 use std::str;
-use texts::digits_len;
+use texts::is_digit;
 
 /// The bytes behind a text, where it stands in front.
 #[tactic(auto, unfolding(crate::specs::ReportReading::behind))]
@@ -16,6 +16,21 @@ pub fn behind<'a>(bytes: &'a [u8], front: &[u8]) -> Option<&'a [u8]>
     ensures { option_map (λ rest. rest.now) result ≡ spec.behind front.now bytes.now }
 {
     bytes.strip_prefix(front)
+}
+
+/// The bytes behind a byte, where it stands in front.
+#[tactic(auto, unfolding(crate::specs::ReportReading::behind))]
+pub fn behind_byte(bytes: &[u8], byte: u8) -> Option<&[u8]>
+    ensures { option_map (λ rest. rest.now) result ≡ spec.behind (byte ∷ []) bytes.now }
+{
+    match bytes {
+        [first, rest @ ..] => if *first == byte {
+            Some(rest)
+        } else {
+            None
+        },
+        [] => None,
+    }
 }
 
 /// The same, where the text has to stand there.
@@ -26,6 +41,36 @@ pub fn expect<'a>(bytes: &'a [u8], front: &[u8]) -> Result<&'a [u8], ReadFault>
         Some(rest) => Ok(rest),
         None => Err(ReadFault::NotAReport),
     }
+}
+
+/// The same of a byte.
+pub fn expect_byte(bytes: &[u8], byte: u8) -> Result<&[u8], ReadFault>
+    ensures { spec.Gives (λ rest. rest.now) result (spec.behind (byte ∷ []) bytes.now) }
+{
+    match behind_byte(bytes, byte) {
+        Some(rest) => Ok(rest),
+        None => Err(ReadFault::NotAReport),
+    }
+}
+
+// How many digits stand in front, and their value where they are at most 18.
+fn leading(bytes: &[u8]) -> (usize, u64)
+    ensures len { result.0 ≡ prefix_len is_decimal_digit bytes.now }
+    ensures within { result.0 ≤ length bytes.now }
+    ensures digits { list_all is_decimal_digit (take result.0 bytes.now) ≡ true }
+    ensures value { result.0 ≤ 18 → result.1 ≡ digits_value 10 (take result.0 bytes.now) }
+    ensures bound { result.0 ≤ 18 → result.1 < 10 ^ 18 }
+{
+    let mut value = 0;
+    for (i, byte) in bytes.iter().enumerate() {
+        if !is_digit(*byte) {
+            return (i, value);
+        }
+        if i < 18 {
+            value = value * 10 + u64::from(*byte - b'0');
+        }
+    }
+    (bytes.len(), value)
 }
 
 // Whether digits are a number without leading zeros.
@@ -39,15 +84,12 @@ fn is_numeral(digits: &[u8]) -> bool
     }
 }
 
-#[tactic(auto, unfolding(crate::specs::ReportReading::value_of))]
+// The value of digits of any number.
 fn value_of(digits: &[u8]) -> Option<u64>
     requires digits { list_all is_decimal_digit digits.now ≡ true }
     requires some { spec.is_numeral digits.now ≡ true }
     ensures { result ≡ spec.value_of digits.now }
 {
-    if digits.len() <= 9 {
-        return Some(u64::from(small_value(digits)));
-    }
     match str::from_utf8(digits) {
         Ok(text) => text.parse::<u64>().ok(),
         Err(_) => None,
@@ -59,9 +101,13 @@ fn value_of(digits: &[u8]) -> Option<u64>
 pub fn wide(bytes: &[u8]) -> Result<(u64, &[u8]), ReadFault>
     ensures { spec.Gives (λ x. (x.0, x.1.now)) result (spec.wide_at bytes.now) }
 {
-    let (digits, rest) = bytes.split_at(digits_len(bytes));
+    let (len, value) = leading(bytes);
+    let (digits, rest) = bytes.split_at(len);
     if !is_numeral(digits) {
         return Err(ReadFault::NotAReport);
+    }
+    if len <= 18 {
+        return Ok((value, rest));
     }
     match value_of(digits) {
         Some(n) => Ok((n, rest)),
@@ -86,7 +132,7 @@ pub fn number(bytes: &[u8]) -> Result<(u32, &[u8]), ReadFault>
 pub fn word(bytes: &[u8]) -> Result<(u32, &[u8]), ReadFault>
     ensures { spec.Gives (λ x. (x.0, x.1.now)) result (spec.word_at bytes.now) }
 {
-    let rest = expect(bytes, b" ")?;
+    let rest = expect_byte(bytes, b' ')?;
     number(rest)
 }
 
@@ -97,7 +143,7 @@ pub fn titled<'a>(bytes: &'a [u8], title: &[u8]) -> Result<(u32, &'a [u8]), Read
 {
     let rest = expect(bytes, title)?;
     let (n, rest) = word(rest)?;
-    let rest = expect(rest, b"\n")?;
+    let rest = expect_byte(rest, b'\n')?;
     Ok((n, rest))
 }
 
@@ -117,7 +163,7 @@ fn negated(n: u64) -> Option<i64>
 fn signed(bytes: &[u8]) -> Result<(i64, &[u8]), ReadFault>
     ensures { spec.Gives (λ x. (x.0, x.1.now)) result (spec.signed_at bytes.now) }
 {
-    match behind(bytes, b"-") {
+    match behind_byte(bytes, b'-') {
         None => {
             let (n, rest) = wide(bytes)?;
             match i64::try_from(n) {
@@ -140,7 +186,7 @@ fn signed(bytes: &[u8]) -> Result<(i64, &[u8]), ReadFault>
 pub fn signed_word(bytes: &[u8]) -> Result<(i64, &[u8]), ReadFault>
     ensures { spec.Gives (λ x. (x.0, x.1.now)) result (spec.signed_word_at bytes.now) }
 {
-    let rest = expect(bytes, b" ")?;
+    let rest = expect_byte(bytes, b' ')?;
     signed(rest)
 }
 
@@ -161,9 +207,9 @@ pub fn layer(bytes: &[u8]) -> Result<(u8, &[u8]), ReadFault>
 pub fn count(bytes: &[u8]) -> Result<(u64, &[u8]), ReadFault>
     ensures { spec.Gives (λ x. (x.0, x.1.now)) result (spec.count_at bytes.now) }
 {
-    let rest = expect(bytes, b" ")?;
+    let rest = expect_byte(bytes, b' ')?;
     let (n, rest) = wide(rest)?;
-    let rest = expect(rest, b"\n")?;
+    let rest = expect_byte(rest, b'\n')?;
     Ok((n, rest))
 }
 
@@ -172,7 +218,7 @@ pub fn count(bytes: &[u8]) -> Result<(u64, &[u8]), ReadFault>
 pub fn parent(bytes: &[u8]) -> Result<(Option<u32>, &[u8]), ReadFault>
     ensures { spec.Gives (λ x. (x.0, x.1.now)) result (spec.parent_at bytes.now) }
 {
-    match behind(bytes, b":") {
+    match behind_byte(bytes, b':') {
         None => Ok((None, bytes)),
         Some(rest) => {
             let (parent, rest) = number(rest)?;

@@ -7,7 +7,7 @@ ghost use Rattle.verdict.specs.ReportReading as spec;
 ghost use Rattle.verdict.specs.ReportText as report;
 
 use crate::fields::{
-    begins_blank, count, expect, layer, net_number, parent, signed_word, titled, word,
+    begins_blank, count, expect, expect_byte, layer, net_number, parent, signed_word, titled, word,
 };
 use crate::report_reading::ReadFault;
 use crate::verdict::{Branch, Open, PointLine, Short, SourceLine, SpotLine, Tree, Twig};
@@ -134,7 +134,7 @@ fn heading<'a>(bytes: &'a [u8], title: &[u8], number: u64) -> Result<&'a [u8], R
     ensures { spec.Gives (λ rest. rest.now) result (spec.heading_at title.now number bytes.now) }
 {
     let rest = expect(bytes, title)?;
-    let rest = expect(rest, b" ")?;
+    let rest = expect_byte(rest, b' ')?;
     expect(rest, Numeral::of(number).as_bytes())
 }
 
@@ -191,7 +191,7 @@ impl Line for Tree {
     fn read(alloc: Global, number: u64, bytes: &[u8]) -> Result<(Tree, &[u8]), ReadFault> {
         let rest = heading(bytes, b"net", number)?;
         let (net, rest) = words(alloc, rest)?;
-        let rest = expect(rest, b"\n")?;
+        let rest = expect_byte(rest, b'\n')?;
         Ok((net, rest))
     }
 
@@ -212,7 +212,7 @@ impl Line for Text {
     #[tactic(auto, unfolding(crate::specs::ReportReading::name_at))]
     fn read(alloc: Global, number: u64, bytes: &[u8]) -> Result<(Text, &[u8]), ReadFault> {
         let rest = heading(bytes, b"name", number)?;
-        let rest = expect(rest, b" ")?;
+        let rest = expect_byte(rest, b' ')?;
         text(alloc, rest)
     }
 
@@ -238,7 +238,7 @@ impl Line for PointLine {
         let (layer, rest) = layer(rest)?;
         let (name, rest) = word(rest)?;
         let (net, rest) = net_number(rest)?;
-        let rest = expect(rest, b"\n")?;
+        let rest = expect_byte(rest, b'\n')?;
         Ok((
             PointLine {
                 number,
@@ -274,7 +274,7 @@ impl Line for Open {
         let (home, rest) = word(rest)?;
         let (other, rest) = word(rest)?;
         let (probe, rest) = word(rest)?;
-        let rest = expect(rest, b"\n")?;
+        let rest = expect_byte(rest, b'\n')?;
         Ok((
             Open {
                 name,
@@ -306,7 +306,7 @@ impl Line for Branch {
         let (name, rest) = word(rest)?;
         let (probe, rest) = word(rest)?;
         let (pieces, rest) = words(alloc, rest)?;
-        let rest = expect(rest, b"\n")?;
+        let rest = expect_byte(rest, b'\n')?;
         Ok((
             Branch {
                 name,
@@ -390,7 +390,7 @@ impl Line for SpotLine {
         let rest = heading(bytes, b"spot", number)?;
         let (x, rest) = signed_word(rest)?;
         let (y, rest) = signed_word(rest)?;
-        let rest = expect(rest, b"\n")?;
+        let rest = expect_byte(rest, b'\n')?;
         Ok((SpotLine { x, y }, rest))
     }
 
@@ -416,7 +416,7 @@ impl Line for SourceLine {
         let (copy, rest) = word(rest)?;
         let (top, rest) = layer(rest)?;
         let (bottom, rest) = layer(rest)?;
-        let rest = expect(rest, b"\n")?;
+        let rest = expect_byte(rest, b'\n')?;
         Ok((
             SourceLine {
                 file,

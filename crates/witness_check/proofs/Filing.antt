@@ -25,10 +25,11 @@ use Rattle.board_shapes.specs.Touching.{UnderAt}
 use Rattle.board_shapes.specs.declared.probe.Probe.{Probe}
 use Rattle.board_shapes.specs.declared.shape.Shape.{Shape}
 use Rattle.verdict.proofs.Holding.{le_or_lt}
-use Rattle.witness_check.specs.Extents.{IsAway, IsExtent, IsExtentAt}
-use Rattle.witness_check.specs.Strips.{AreFiled, AreIntervals, Files, IsFiled, place_in, interval_in, strip_of}
+use Rattle.witness_check.specs.Extents.{IsAway, IsAwayAt, IsExtent, IsExtentAt}
+use Rattle.witness_check.specs.Strips.{AreFiled, AreIntervals, ArePoints, AreSet, Files, IsFiled, IsSet, interval_in, place_in, point_in, strip_of}
 use Rattle.witness_check.specs.declared.extent.Away.{Away}
 use Rattle.witness_check.specs.declared.extent.Extent.{Extent}
+use Rattle.witness_check.specs.declared.least.ProbePlace.{ProbePlace}
 use Rattle.witness_check.specs.declared.strips.Interval.{Interval}
 use Rattle.witness_check.specs.declared.strips.TheConstants.{LEAST_HEIGHT}
 
@@ -170,14 +171,52 @@ near_comes b height p q xs law some near one two =
       | inr less ↦ comes_in xs height p q one.extent two.extent (strip_of height one.extent.low) (one.each (strip_of height one.extent.low) (omega arith) own) (two.each (strip_of height one.extent.low) (omega arith) back) across.0 across.1 (inl refl)
     ]
 
+-- ---- Points
+
+pub away_there : (b : PlainBoard) (probes : List Probe) (k : ℕ) (d : Probe) (frame : Frame) (a : Away) → probes ≡ b.probes → k < length b.probes → frame ≡ frame_of b → IsAway frame (get_or probes k d).at a → IsAwayAt b k a
+away_there b probes k d frame a same below corner stands = record {
+  probe = get_or probes k d;
+  is = subst (λ (ps : List Probe). slice_get b.probes k ≡ Some (get_or ps k d)) (sym same) (slice_get-get_or b.probes k d below);
+  stands = subst (λ (f : Frame). IsAway f (get_or probes k d).at a) corner stands;
+}
+
+-- the point of one probe more
+pub set_more : (b : PlainBoard) (height k : ℕ) (a : Away) (old : List ProbePlace) (s : ProbePlace) → s ≡ point_in a height k → IsAwayAt b k a → AreSet b height k old → AreSet b height (k + 1) (old ++ s ∷ [])
+set_more b height k a old s is stands are = record {
+  known = All-push (λ (x : ProbePlace). x.probe < k + 1) old s (All-weaker (λ (x : ProbePlace). x.probe < k) (λ (x : ProbePlace). x.probe < k + 1) (λ x h. omega arith) old are.known) (let same = ap (λ (x : ProbePlace). x.probe) is in omega arith);
+  set = λ q below. elim (cases_eq q k) [
+    | inl same ↦ subst (λ (i : ℕ). IsSet b height (old ++ s ∷ []) i) (sym same) (record { away = a; is = stands; listed = λ short flat. subst (λ (x : ProbePlace). Contains (old ++ s ∷ []) x) is (Contains-push old s) })
+    | inr other ↦ kept q (are.set q (omega arith))
+  ];
+}
+  where
+    kept : (q : ℕ) → IsSet b height old q → IsSet b height (old ++ s ∷ []) q
+    kept q f = record { away = f.away; is = f.is; listed = λ short flat. Contains-append_left old (s ∷ []) (point_in f.away height q) (f.listed short flat) }
+
+-- a probe that stands further has none
+pub set_less : (b : PlainBoard) (height k : ℕ) (a : Away) (old : List ProbePlace) → (pos a.along ≤ℤ SIDE → pos a.up ≤ℤ SIDE → ⊥) → IsAwayAt b k a → AreSet b height k old → AreSet b height (k + 1) old
+set_less b height k a old far stands are = record {
+  known = All-weaker (λ (x : ProbePlace). x.probe < k) (λ (x : ProbePlace). x.probe < k + 1) (λ x h. omega arith) old are.known;
+  set = λ q below. elim (cases_eq q k) [
+    | inl same ↦ subst (λ (i : ℕ). IsSet b height old i) (sym same) (record { away = a; is = stands; listed = λ short flat. absurd (far short flat) })
+    | inr other ↦ are.set q (omega arith)
+  ];
+}
+
+pub points_sorted : (b : PlainBoard) (height : ℕ) (xs ys : List ProbePlace) → AreSet b height (length b.probes) xs → IsPermutation xs ys → IsNonDecreasingBy (λ (s : ProbePlace). s.place) ys → ArePoints b height ys
+points_sorted b height xs ys are moved rising = record {
+  known = All-permutation (λ (s : ProbePlace). s.probe < length b.probes) xs ys moved are.known;
+  set = λ k below. let f = are.set k below in record { away = f.away; is = f.is; listed = λ short flat. Contains-permutation xs ys (point_in f.away height k) moved (f.listed short flat) };
+  rising = rising;
+}
+
 -- ---- A piece under a probe
 
--- An interval of piece p starts from the floor on and has the place.
-pub record HasPlace (xs : List Interval) (floor place p : ℕ) : Type 0 where
+-- An interval of piece p has the place.
+pub record HasPlace (xs : List Interval) (place p : ℕ) : Type 0 where
   pub interval : Interval
   pub listed : Contains xs interval
   pub of_it : interval.piece ≡ p
-  pub above : floor ≤ interval.start
   pub starts : interval.start ≤ place
   pub ends : place ≤ interval.end
 
@@ -196,25 +235,21 @@ pub record StandsWithin (e : Extent) (a : Away) : Type 0 where
   pub along : pos a.along ≤ℤ SIDE
   pub up : pos a.up ≤ℤ SIDE
 
-probe_spot : (probes own : List Probe) (k : ℕ) (d probe : Probe) → probes ≡ own → k < length own → slice_get own k ≡ Some probe → probe.at ≡ (get_or probes k d).at
-probe_spot probes own k d probe same below is =
-    let one : get_or own k d ≡ probe = some_one (get_or own k d) probe (sym (slice_get-get_or own k d below) ∙ is) in
-    ap (λ (x : Probe). x.at) (sym one ∙ ap (λ (xs : List Probe). get_or xs k d) (sym same))
-
-pub under_within : (b : PlainBoard) (height k p : ℕ) (xs : List Interval) (probes : List Probe) (d : Probe) (frame : Frame) (a : Away) → IsLawfulBoard b → 0 < height → (one : IsFiled b height xs p) → frame ≡ frame_of b → probes ≡ b.probes → k < length b.probes → IsAway frame (get_or probes k d).at a → UnderAt b k p → StandsWithin one.extent a
-under_within b height k p xs probes d frame a law some one corner same_probes below away u =
+pub under_within : (b : PlainBoard) (height k p : ℕ) (xs : List Interval) (a : Away) → IsLawfulBoard b → (one : IsFiled b height xs p) → IsAwayAt b k a → UnderAt b k p → StandsWithin one.extent a
+under_within b height k p xs a law one away u =
     let same : u.piece ≡ one.is.piece = some_one u.piece one.is.piece (sym u.piece_is ∙ one.is.is) in
+    let spot : u.probe ≡ away.probe = some_one u.probe away.probe (sym u.probe_is ∙ away.is) in
     let inside : InBox (figure_box u.piece.figure) (at u.probe.at) = boxed_figure u.piece.figure (at u.probe.at) (piece_at (λ x. IsLawfulFigure x.figure) b.pieces p u.piece law.figures u.piece_is) u.under.1 in
-    let held : InBox (figure_box u.piece.figure) (at (get_or probes k d).at) = subst (λ (s : Spot). InBox (figure_box u.piece.figure) (at s)) (probe_spot probes b.probes k d u.probe same_probes below u.probe_is) inside in
-    let e : IsExtent frame (figure_box u.piece.figure) one.extent = subst (λ (f : Frame). IsExtent f (figure_box u.piece.figure) one.extent) (sym corner) (subst (λ (x : PlainPiece). IsExtent (frame_of b) (figure_box x.figure) one.extent) (sym same) one.is.sides) in
-    let between = (box_holds (figure_box u.piece.figure) (get_or probes k d).at).0 held in
-    let x = place_told frame.left (figure_box u.piece.figure).left (figure_box u.piece.figure).right (get_or probes k d).at.x one.extent.left one.extent.right a.along e.left e.right between.0 away.along in
-    let y = place_told frame.low (figure_box u.piece.figure).low (figure_box u.piece.figure).high (get_or probes k d).at.y one.extent.low one.extent.high a.up e.low e.high between.1 away.up in
+    let held : InBox (figure_box u.piece.figure) (at away.probe.at) = subst (λ (x : Probe). InBox (figure_box u.piece.figure) (at x.at)) spot inside in
+    let e : IsExtent (frame_of b) (figure_box u.piece.figure) one.extent = subst (λ (x : PlainPiece). IsExtent (frame_of b) (figure_box x.figure) one.extent) (sym same) one.is.sides in
+    let between = (box_holds (figure_box u.piece.figure) away.probe.at).0 held in
+    let x = place_told (frame_of b).left (figure_box u.piece.figure).left (figure_box u.piece.figure).right away.probe.at.x one.extent.left one.extent.right a.along e.left e.right between.0 away.stands.along in
+    let y = place_told (frame_of b).low (figure_box u.piece.figure).low (figure_box u.piece.figure).high away.probe.at.y one.extent.low one.extent.high a.up e.low e.high between.1 away.stands.up in
     let short = e.short in
     let flat = e.flat in
     record { not_left = x.0; not_right = x.1; not_below = y.0; not_above = y.1; along = omega (arith, ints, x.1, short); up = omega (arith, ints, y.1, flat) }
 
-pub has_place : (b : PlainBoard) (height p : ℕ) (xs : List Interval) (a : Away) → 0 < height → (one : IsFiled b height xs p) → StandsWithin one.extent a → HasPlace xs (place_in (strip_of height a.up) 0) (place_in (strip_of height a.up) a.along) p
+pub has_place : (b : PlainBoard) (height p : ℕ) (xs : List Interval) (a : Away) → 0 < height → (one : IsFiled b height xs p) → StandsWithin one.extent a → HasPlace xs (place_in (strip_of height a.up) a.along) p
 has_place b height p xs a some one within =
     let l = within.not_left in
     let r = within.not_right in
@@ -222,7 +257,6 @@ has_place b height p xs a some one within =
       interval = interval_in one.extent height p (strip_of height a.up);
       listed = one.each (strip_of height a.up) (strips_rise height one.extent.low a.up some within.not_below) (strips_rise height a.up one.extent.high some within.not_above);
       of_it = refl;
-      above = omega arith;
       starts = omega arith;
       ends = omega arith;
     }

@@ -1,7 +1,7 @@
 -- What a sweep over sorted intervals tells: that nets stand apart, and the least piece under a probe.
-use Rattle.std.proofs.Common.{◌≡◌, ◌↔◌, ◌⊎◌, inl, inr, ℕ, zero, suc, ◌+◌, ◌<◌, ◌≤◌, List, [], ◌∷◌, length, get_or, All, Option, None, Some, IfSome, sym, ap, subst, ◌∙◌, arith}
+use Rattle.std.proofs.Common.{◌≡◌, ◌↔◌, ◌⊎◌, inl, inr, ℕ, zero, suc, ◌+◌, ◌<◌, ◌≤◌, List, [], ◌∷◌, length, get_or, set, All, Contains, Option, None, Some, IfSome, sym, ap, subst, ◌∙◌, arith}
 use Rattle.std.proofs.lemmas.Bool.{cases_eq}
-use Rattle.std.proofs.lemmas.List.{get_or_default}
+use Rattle.std.proofs.lemmas.List.{get_or-set_other, get_or-set_same, get_or_default}
 use Rattle.std.proofs.lemmas.List.Elements.{All-tail}
 use Rattle.std.specs.List.Sorted.{IsNonDecreasingBy}
 use Rattle.tables.specs.Lists.{IsLeast}
@@ -9,6 +9,7 @@ use Rattle.verdict.specs.declared.verdict.Twig.{Twig}
 use Rattle.verdict.specs.Forest.{StandOnce, StandApart, Holds}
 use Rattle.verdict.proofs.Holding.{le_or_lt}
 use Rattle.witness_check.specs.Strips.{AreAgreed, AreClear, ComeTogether, IsAtMost, IsClear, IsCounted}
+use Rattle.witness_check.specs.declared.least.ProbePlace.{ProbePlace}
 use Rattle.witness_check.specs.declared.strips.Interval.{Interval}
 use Rattle.witness_check.proofs.Filing.{Comes, HasPlace}
 
@@ -112,37 +113,103 @@ pub least_found : (P : ℕ → Type 0) (found : Option ℕ) → IfSome found P �
 least_found P None under all = all
 least_found P (Some least) under all = (under, all)
 
--- The intervals below n that start from the floor on are counted.
-abbrev pub AreCounted : (ℕ → Type 0) → ℕ → ℕ → Option ℕ → List Interval → ℕ → Type 0
-AreCounted P floor place found xs n = (i : ℕ) (d : Interval) → i < n → floor ≤ (get_or xs i d).start → IsCounted P place found (get_or xs i d)
-
-pub counted_more : (P : ℕ → Type 0) (floor place : ℕ) (found next : Option ℕ) (xs : List Interval) (n : ℕ) (e : Interval) → n < length xs → ((p : ℕ) → IsAtMost found p → IsAtMost next p) → AreCounted P floor place found xs n → IsCounted P place next (get_or xs n e) → AreCounted P floor place next xs (n + 1)
-counted_more P floor place found next xs n e there kept are one i d below above = elim (cases_eq i n) [
-  | inl same ↦ subst (λ (k : ℕ). IsCounted P place next (get_or xs k d)) (sym same) (subst (IsCounted P place next) (get_or_default xs n e d there) one)
-  | inr other ↦ λ ends under. kept (get_or xs i d).piece (are i d (omega arith) above ends under)
+-- What was found for one probe is written anew, and is at most what it was.
+pub kept_all : (homes : List (Option ℕ)) (k : ℕ) (next : Option ℕ) → k < length homes → ((p : ℕ) → IsAtMost (get_or homes k None) p → IsAtMost next p) → (q p : ℕ) → IsAtMost (get_or homes q None) p → IsAtMost (get_or (set homes k next) q None) p
+kept_all homes k next below kept q p h = elim (cases_eq q k) [
+  | inl same ↦ subst (λ (x : ℕ). IsAtMost (get_or (set homes k next) x None) p) (sym same) (subst (λ (o : Option ℕ). IsAtMost o p) (sym (get_or-set_same homes k next None below)) (kept p (subst (λ (x : ℕ). IsAtMost (get_or homes x None) p) same h)))
+  | inr other ↦ subst (λ (o : Option ℕ). IsAtMost o p) (sym (get_or-set_other homes k q next None other)) h
 ]
 
--- past an interval that starts beyond the place none has it
-pub counted_all : (P : ℕ → Type 0) (floor place : ℕ) (found : Option ℕ) (xs : List Interval) (n : ℕ) (e : Interval) → IsNonDecreasingBy (λ (s : Interval). s.start) xs → n < length xs → place < (get_or xs n e).start → AreCounted P floor place found xs n
-    → (i : ℕ) (d : Interval) → i < length xs → floor ≤ (get_or xs i d).start → (get_or xs i d).start ≤ place → IsCounted P place found (get_or xs i d)
-counted_all P floor place found xs n e rising there past are i d below above starts = elim (le_or_lt n i) [
-  | inl le ↦ absurd (far le)
-  | inr sooner ↦ are i d sooner above
+pub under_all : (U : ℕ → ℕ → Type 0) (homes : List (Option ℕ)) (k : ℕ) (next : Option ℕ) → k < length homes → (IfSome (get_or homes k None) (U k) → IfSome next (U k)) → (q : ℕ) → IfSome (get_or homes q None) (U q) → IfSome (get_or (set homes k next) q None) (U q)
+under_all U homes k next below more q h = elim (cases_eq q k) [
+  | inl same ↦ subst (λ (x : ℕ). IfSome (get_or (set homes k next) x None) (U x)) (sym same) (subst (λ (o : Option ℕ). IfSome o (U k)) (sym (get_or-set_same homes k next None below)) (more (subst (λ (x : ℕ). IfSome (get_or homes x None) (U x)) same h)))
+  | inr other ↦ subst (λ (o : Option ℕ). IfSome o (U q)) (sym (get_or-set_other homes k q next None other)) h
+]
+
+-- An interval is counted for the points from `from` on and below n.
+abbrev pub AreCounted : (ℕ → ℕ → Type 0) → List (Option ℕ) → Interval → List ProbePlace → ℕ → ℕ → Type 0
+AreCounted U homes s points from n = (i : ℕ) (d : ProbePlace) → from ≤ i → i < n → IsCounted U homes s (get_or points i d)
+
+pub counted_more : (U : ℕ → ℕ → Type 0) (homes : List (Option ℕ)) (s : Interval) (points : List ProbePlace) (from n k : ℕ) (e : ProbePlace) (next : Option ℕ) → n < length points → k < length homes → (get_or points n e).probe ≡ k → ((p : ℕ) → IsAtMost (get_or homes k None) p → IsAtMost next p) → (U k s.piece → IsAtMost next s.piece)
+    → AreCounted U homes s points from n → AreCounted U (set homes k next) s points from (n + 1)
+counted_more U homes s points from n k e next there below is kept one are i d above before = elim (cases_eq i n) [
+  | inl same ↦ subst (λ (x : ℕ). IsCounted U (set homes k next) s (get_or points x d)) (sym same) (subst (IsCounted U (set homes k next) s) (get_or_default points n e d there) here)
+  | inr other ↦ λ starts ends under. kept_all homes k next below kept (get_or points i d).probe s.piece (are i d above (omega arith) starts ends under)
 ]
   where
-    far : n ≤ i → ⊥
-    far le =
+    found : U k s.piece → IsAtMost (get_or (set homes k next) k None) s.piece
+    found under = subst (λ (o : Option ℕ). IsAtMost o s.piece) (sym (get_or-set_same homes k next None below)) (one under)
+
+    here : IsCounted U (set homes k next) s (get_or points n e)
+    here starts ends = subst (λ (x : ℕ). U x s.piece → IsAtMost (get_or (set homes k next) x None) s.piece) (sym is) found
+
+-- past a point that stands beyond the interval none stands on it
+pub counted_past : (U : ℕ → ℕ → Type 0) (homes : List (Option ℕ)) (s : Interval) (points : List ProbePlace) (from n : ℕ) (e : ProbePlace) → IsNonDecreasingBy (λ (x : ProbePlace). x.place) points → n < length points → s.end < (get_or points n e).place → AreCounted U homes s points from n
+    → (i : ℕ) (d : ProbePlace) → from ≤ i → i < length points → IsCounted U homes s (get_or points i d)
+counted_past U homes s points from n e rising there past are i d above below = elim (le_or_lt n i) [
+  | inl le ↦ λ starts ends under. absurd (far le ends)
+  | inr sooner ↦ are i d above sooner
+]
+  where
+    far : n ≤ i → (get_or points i d).place ≤ s.end → ⊥
+    far le ends =
         let up = rising n i d le below in
-        let at_n : (get_or xs n d).start ≡ (get_or xs n e).start = ap (λ (s : Interval). s.start) (get_or_default xs n d e there) in
+        let at_n : (get_or points n d).place ≡ (get_or points n e).place = ap (λ (x : ProbePlace). x.place) (get_or_default points n d e there) in
         omega arith
 
--- a piece that has the place in an interval is counted
-pub place_counted : (P : ℕ → Type 0) (floor place : ℕ) (found : Option ℕ) (xs : List Interval) (q : ℕ) → ((i : ℕ) (d : Interval) → i < length xs → floor ≤ (get_or xs i d).start → (get_or xs i d).start ≤ place → IsCounted P place found (get_or xs i d)) → HasPlace xs floor place q → P q → IsAtMost found q
-place_counted P floor place found xs q counted has pass =
-    let (i, below, is) = has.listed in
-    let s = has.interval in
-    let all : floor ≤ has.interval.start → has.interval.start ≤ place → IsCounted P place found has.interval = subst (λ (x : Interval). floor ≤ x.start → x.start ≤ place → IsCounted P place found x) is (counted i has.interval below) in
-    subst (IsAtMost found) has.of_it (all has.above has.starts has.ends (subst P (sym has.of_it) pass))
+-- The intervals before n are counted, and the points before `from` stand before the intervals from n on.
+pub record AreFound (U : ℕ → ℕ → Type 0) (xs : List Interval) (points : List ProbePlace) (count n from : ℕ) (homes : List (Option ℕ)) : Type 0 where
+  pub within : from ≤ length points
+  pub long : length homes ≡ count
+  pub passed : (i j : ℕ) (d : Interval) (e : ProbePlace) → i < from → n ≤ j → j < length xs → (get_or points i e).place < (get_or xs j d).start
+  pub under : (k : ℕ) → IfSome (get_or homes k None) (U k)
+  pub least : (i j : ℕ) (d : Interval) (e : ProbePlace) → i < n → j < length points → IsCounted U homes (get_or xs i d) (get_or points j e)
 
-pub moved_place : (xs ys : List Interval) (floor floor' place place' p : ℕ) → ys ≡ xs → floor' ≡ floor → place' ≡ place → HasPlace xs floor place p → HasPlace ys floor' place' p
-moved_place xs ys floor floor' place place' p e f g has = subst (λ (zs : List Interval). HasPlace zs floor' place' p) (sym e) (subst (λ (n : ℕ). HasPlace xs n place' p) (sym f) (subst (λ (n : ℕ). HasPlace xs floor n p) (sym g) has))
+pub found_none : (U : ℕ → ℕ → Type 0) (xs : List Interval) (points : List ProbePlace) (count : ℕ) (homes : List (Option ℕ)) → length homes ≡ count → ((k : ℕ) → get_or homes k None ≡ None) → AreFound U xs points count 0 0 homes
+found_none U xs points count homes long none = record {
+  within = omega arith;
+  long = long;
+  passed = λ i j d e before from below. absurd (omega arith);
+  under = λ k. subst (λ (o : Option ℕ). IfSome o (U k)) (sym (none k)) tt;
+  least = λ i j d e before below. absurd (omega arith);
+}
+
+pub found_more : (U : ℕ → ℕ → Type 0) (xs : List Interval) (points : List ProbePlace) (count n from next : ℕ) (s : Interval) (homes found : List (Option ℕ)) → IsNonDecreasingBy (λ (x : Interval). x.start) xs → n < length xs → get_or xs n s ≡ s → AreFound U xs points count n from homes
+    → next ≤ length points → ((j : ℕ) (e : ProbePlace) → from ≤ j → j < next → (get_or points j e).place < s.start) → length found ≡ length homes → ((k : ℕ) → IfSome (get_or homes k None) (U k) → IfSome (get_or found k None) (U k))
+    → ((k p : ℕ) → IsAtMost (get_or homes k None) p → IsAtMost (get_or found k None) p) → ((j : ℕ) (e : ProbePlace) → next ≤ j → j < length points → IsCounted U found s (get_or points j e)) → AreFound U xs points count (n + 1) next found
+found_more U xs points count n from next s homes found rising there is are within before long under kept counted = record {
+  within = within;
+  long = long ∙ are.long;
+  passed = λ i j d e early late below. let up = rising n j d (omega arith) below in let same = start d in let sooner = passed i e early in omega arith;
+  under = λ k. under k (are.under k);
+  least = λ i j d e early below. elim (cases_eq i n) [
+    | inl same ↦ subst (λ (x : ℕ). IsCounted U found (get_or xs x d) (get_or points j e)) (sym same) (subst (λ (x : Interval). IsCounted U found x (get_or points j e)) (sym is ∙ get_or_default xs n s d there) (here j e below))
+    | inr other ↦ λ starts ends u. kept (get_or points j e).probe (get_or xs i d).piece (are.least i j d e (omega arith) below starts ends u)
+  ];
+}
+  where
+    start : (d : Interval) → (get_or xs n d).start ≡ s.start
+    start d = ap (λ (x : Interval). x.start) (get_or_default xs n d s there ∙ is)
+
+    passed : (i : ℕ) (e : ProbePlace) → i < next → (get_or points i e).place < s.start
+    passed i e early = elim (le_or_lt from i) [
+      | inl le ↦ before i e le early
+      | inr sooner ↦ (let first = are.passed i n s e sooner (omega arith) there in let same = start s in omega arith)
+    ]
+
+    here : (j : ℕ) (e : ProbePlace) → j < length points → IsCounted U found s (get_or points j e)
+    here j e below = elim (le_or_lt next j) [
+      | inl le ↦ counted j e le below
+      | inr sooner ↦ λ starts ends u. absurd (let early = passed j e sooner in omega arith)
+    ]
+
+-- a piece that has a probe's place in an interval is counted for it
+pub least_counted : (U : ℕ → ℕ → Type 0) (homes : List (Option ℕ)) (xs : List Interval) (points : List ProbePlace) (k q place : ℕ) → ((i j : ℕ) (d : Interval) (e : ProbePlace) → i < length xs → j < length points → IsCounted U homes (get_or xs i d) (get_or points j e))
+    → HasPlace xs place q → Contains points (record { place = place; probe = k }) → U k q → IsAtMost (get_or homes k None) q
+least_counted U homes xs points k q place counted has stands under =
+    let (i, within, is) = has.listed in
+    let (j, inside, alike) = stands in
+    let s = has.interval in
+    let p : ProbePlace = record { place = place; probe = k } in
+    let one : IsCounted U homes s p = subst (IsCounted U homes s) alike (subst (λ (x : Interval). IsCounted U homes x (get_or points j p)) is (counted i j s p within inside)) in
+    subst (IsAtMost (get_or homes k None)) has.of_it (one has.starts has.ends (subst (U k) (sym has.of_it) under))

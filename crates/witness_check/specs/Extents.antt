@@ -2,6 +2,7 @@
 use Rattle.std.specs.Prelude.{ℕ, pos, ◌≡◌, ◌≤◌, ◌+ℤ◌, ◌≤ℤ◌, Some, slice_get}
 use Rattle.board_shapes.specs.Figures.{figure_box}
 use Rattle.board_shapes.specs.Plain.{PlainBoard, PlainPiece, frame_of}
+use Rattle.board_shapes.specs.declared.probe.Probe.{Probe}
 use Rattle.contact.specs.declared.Bounds.{Bounds}
 use Rattle.planar.specs.declared.Frame.{Frame}
 use Rattle.planar.specs.declared.Spot.{Spot}
@@ -30,3 +31,9 @@ pub record IsExtentAt (b : PlainBoard) (p : ℕ) (e : Extent) : Type 0 where
   pub piece : PlainPiece
   pub is : slice_get b.pieces p ≡ Some piece
   pub sides : IsExtent (frame_of b) (figure_box piece.figure) e
+
+-- so far from the corner stands probe k of the board
+pub record IsAwayAt (b : PlainBoard) (k : ℕ) (a : Away) : Type 0 where
+  pub probe : Probe
+  pub is : slice_get b.probes k ≡ Some probe
+  pub stands : IsAway (frame_of b) probe.at a

@@ -2,7 +2,7 @@
 ghost use Rattle.board_shapes.specs.Plain.{plain_board};
 ghost use Rattle.contact.specs.Solid.{IsInside};
 ghost use Rattle.std.specs.Prelude.{◌<◌, ◌≤ℤ◌, length};
-ghost use Rattle.witness_check.specs.Extents.{IsAway, IsExtent, IsExtentAt};
+ghost use Rattle.witness_check.specs.Extents.{IsAway, IsAwayAt, IsExtent, IsExtentAt};
 
 use board_shapes::Board;
 use contact::{Bounds, Closed};
@@ -47,8 +47,16 @@ fn extent_of(bounds: Bounds, frame: Frame) -> Extent
     }
 }
 
-/// How far the spot lies from the frame's corner.
-pub fn away_of(spot: Spot, frame: Frame) -> Away
+/// How far probe k stands from the frame's corner.
+pub fn away_at(board: &Board, k: usize) -> Away
+    requires { k < length (plain_board board.now).probes }
+    ensures { IsAwayAt (plain_board board.now) k result }
+{
+    away_of(board.probes()[k].at, board.frame())
+}
+
+// How far the spot lies from the frame's corner.
+fn away_of(spot: Spot, frame: Frame) -> Away
     ensures { IsAway frame spot result }
 {
     Away {

@@ -47,7 +47,7 @@ returns-then-not-stand_apart g c =
 pub points_hold-requires-clause-pieces : goal.points_hold-requires-clause-pieces
 points_hold-requires-clause-pieces g c =
     let stood : HasStanding (length c.pieces-pieces.result.now) c.as_slice-nets.result.now c.in-Some.standing.numbers.items c.in-Some.standing.places.items = some_told c.in_ok-standing.field-0 c.in-Some.standing _ _ c.in-Some.is c.in_ok-standing.ensures in
-    homes_in (plain_board c.args.board.now) c.pieces-pieces.result.now c.as_slice-numbers.result.now c.in-Some.standing.numbers.items c.as_slice.result.now c.in_ok-homes.homes c.pieces-pieces.ensures.plain c.as_slice-numbers.ensures.value stood.long c.as_slice.ensures c.in_ok-homes.ensures
+    homes_in (plain_board c.args.board.now) c.pieces-pieces.result.now c.as_slice-numbers.result.now c.in-Some.standing.numbers.items c.as_slice.result.now c.in_ok-homes.homes.items c.pieces-pieces.ensures.plain c.as_slice-numbers.ensures.value stood.long c.as_slice.ensures.value c.in_ok-homes.ensures
 
 pub returns-then-not-points_hold : goal.returns-then-not-points_hold
 returns-then-not-points_hold g c =
@@ -56,7 +56,7 @@ returns-then-not-points_hold g c =
     let once = once_told (plain_board c.args.board.now) c.pieces-pieces.result.now c.as_slice-nets.result.now c.args.v.now.nets c.pieces-pieces.ensures.plain c.as_slice-nets.ensures stood.once in
     let apart = apart_told (plain_board c.args.board.now) c.as_slice-nets.result.now c.args.v.now.nets c.stand_apart.result c.as_slice-nets.ensures c.stand_apart.ensures c.if-not-stand_apart.false in
     let nets = netted (plain_board c.args.board.now) c.as_slice-nets.result.now c.args.v.now.nets c.in-Some.standing.numbers.items c.as_slice-nets.ensures trees once apart stood.numbered in
-    λ t is. points_fail c.tables_are_unique.ensures.close (plain_board c.args.board.now) t c.args.v.now c.in-Some.standing.numbers.items c.in_ok-homes.homes is nets c.in_ok-homes.ensures (lines_denied (plain_board c.args.board.now) c.args.v.now c.as_slice-numbers.result.now c.in-Some.standing.numbers.items c.probes.result.now c.as_slice.result.now c.in_ok-homes.homes c.as_slice-lines.result.now c.points_hold.result c.as_slice-numbers.ensures.value c.probes.ensures.items c.as_slice.ensures c.as_slice-lines.ensures c.points_hold.ensures c.if-not-points_hold.true)
+    λ t is. points_fail c.tables_are_unique.ensures.close (plain_board c.args.board.now) t c.args.v.now c.in-Some.standing.numbers.items c.in_ok-homes.homes.items is nets c.in_ok-homes.ensures (lines_denied (plain_board c.args.board.now) c.args.v.now c.as_slice-numbers.result.now c.in-Some.standing.numbers.items c.probes.result.now c.as_slice.result.now c.in_ok-homes.homes.items c.as_slice-lines.result.now c.points_hold.result c.as_slice-numbers.ensures.value c.probes.ensures.items c.as_slice.ensures.value c.as_slice-lines.ensures c.points_hold.ensures c.if-not-points_hold.true)
 
 pub findings_ruling-requires-clause-few_nets : goal.findings_ruling-requires-clause-few_nets
 findings_ruling-requires-clause-few_nets g c =
@@ -70,8 +70,8 @@ findings_ruling-requires-clause-named g c =
     let once = once_told (plain_board c.args.board.now) c.pieces-pieces.result.now c.as_slice-nets.result.now c.args.v.now.nets c.pieces-pieces.ensures.plain c.as_slice-nets.ensures stood.once in
     let apart = apart_told (plain_board c.args.board.now) c.as_slice-nets.result.now c.args.v.now.nets c.stand_apart.result c.as_slice-nets.ensures c.stand_apart.ensures c.if-not-stand_apart.false in
     let nets = netted (plain_board c.args.board.now) c.as_slice-nets.result.now c.args.v.now.nets c.in-Some.standing.numbers.items c.as_slice-nets.ensures trees once apart stood.numbered in
-    let points = pointed (plain_board c.args.board.now) c.args.v.now c.as_slice-numbers.result.now c.in-Some.standing.numbers.items c.probes.result.now c.as_slice.result.now c.in_ok-homes.homes c.as_slice-lines.result.now c.points_hold.result c.as_slice-numbers.ensures.value c.probes.ensures.items c.as_slice.ensures c.as_slice-lines.ensures nets c.in_ok-homes.ensures c.points_hold.ensures c.if-not-points_hold.false in
-    named_in (plain_board c.args.board.now) c.args.v.now c.in-Some.standing.numbers.items c.in_ok-homes.homes c.probes.result.now c.names.result.now points c.probes.ensures.items c.names.ensures.items c.probes.ensures.known
+    let points = pointed (plain_board c.args.board.now) c.args.v.now c.as_slice-numbers.result.now c.in-Some.standing.numbers.items c.probes.result.now c.as_slice.result.now c.in_ok-homes.homes.items c.as_slice-lines.result.now c.points_hold.result c.as_slice-numbers.ensures.value c.probes.ensures.items c.as_slice.ensures.value c.as_slice-lines.ensures nets c.in_ok-homes.ensures c.points_hold.ensures c.if-not-points_hold.false in
+    named_in (plain_board c.args.board.now) c.args.v.now c.in-Some.standing.numbers.items c.in_ok-homes.homes.items c.probes.result.now c.names.result.now points c.probes.ensures.items c.names.ensures.items c.probes.ensures.known
 
 pub findings_ruling-requires-clause-netted : goal.findings_ruling-requires-clause-netted
 findings_ruling-requires-clause-netted g c =
@@ -80,8 +80,8 @@ findings_ruling-requires-clause-netted g c =
     let once = once_told (plain_board c.args.board.now) c.pieces-pieces.result.now c.as_slice-nets.result.now c.args.v.now.nets c.pieces-pieces.ensures.plain c.as_slice-nets.ensures stood.once in
     let apart = apart_told (plain_board c.args.board.now) c.as_slice-nets.result.now c.args.v.now.nets c.stand_apart.result c.as_slice-nets.ensures c.stand_apart.ensures c.if-not-stand_apart.false in
     let nets = netted (plain_board c.args.board.now) c.as_slice-nets.result.now c.args.v.now.nets c.in-Some.standing.numbers.items c.as_slice-nets.ensures trees once apart stood.numbered in
-    let points = pointed (plain_board c.args.board.now) c.args.v.now c.as_slice-numbers.result.now c.in-Some.standing.numbers.items c.probes.result.now c.as_slice.result.now c.in_ok-homes.homes c.as_slice-lines.result.now c.points_hold.result c.as_slice-numbers.ensures.value c.probes.ensures.items c.as_slice.ensures c.as_slice-lines.ensures nets c.in_ok-homes.ensures c.points_hold.ensures c.if-not-points_hold.false in
-    netted_in (plain_board c.args.board.now) c.args.v.now c.in-Some.standing.numbers.items c.in_ok-homes.homes points
+    let points = pointed (plain_board c.args.board.now) c.args.v.now c.as_slice-numbers.result.now c.in-Some.standing.numbers.items c.probes.result.now c.as_slice.result.now c.in_ok-homes.homes.items c.as_slice-lines.result.now c.points_hold.result c.as_slice-numbers.ensures.value c.probes.ensures.items c.as_slice.ensures.value c.as_slice-lines.ensures nets c.in_ok-homes.ensures c.points_hold.ensures c.if-not-points_hold.false in
+    netted_in (plain_board c.args.board.now) c.args.v.now c.in-Some.standing.numbers.items c.in_ok-homes.homes.items points
 
 pub returns-in-Some-2 : goal.returns-in-Some-2
 returns-in-Some-2 g c =
@@ -90,8 +90,8 @@ returns-in-Some-2 g c =
     let once = once_told (plain_board c.args.board.now) c.pieces-pieces.result.now c.as_slice-nets.result.now c.args.v.now.nets c.pieces-pieces.ensures.plain c.as_slice-nets.ensures stood.once in
     let apart = apart_told (plain_board c.args.board.now) c.as_slice-nets.result.now c.args.v.now.nets c.stand_apart.result c.as_slice-nets.ensures c.stand_apart.ensures c.if-not-stand_apart.false in
     let nets = netted (plain_board c.args.board.now) c.as_slice-nets.result.now c.args.v.now.nets c.in-Some.standing.numbers.items c.as_slice-nets.ensures trees once apart stood.numbered in
-    let points = pointed (plain_board c.args.board.now) c.args.v.now c.as_slice-numbers.result.now c.in-Some.standing.numbers.items c.probes.result.now c.as_slice.result.now c.in_ok-homes.homes c.as_slice-lines.result.now c.points_hold.result c.as_slice-numbers.ensures.value c.probes.ensures.items c.as_slice.ensures c.as_slice-lines.ensures nets c.in_ok-homes.ensures c.points_hold.ensures c.if-not-points_hold.false in
-    λ t is. findings_fail (plain_board c.args.board.now) t c.args.v.now c.in-Some.standing.numbers.items c.in_ok-homes.homes c.in-Some-2.number is points (found_fail c.names.result.now (plain_board c.args.board.now).names c.as_slice-2.result.now c.in_ok-homes.homes c.args.v.now c.in_ok-number.field-0 c.in-Some-2.number c.names.ensures.items c.as_slice-2.ensures c.in_ok-number.ensures c.in-Some-2.is)
+    let points = pointed (plain_board c.args.board.now) c.args.v.now c.as_slice-numbers.result.now c.in-Some.standing.numbers.items c.probes.result.now c.as_slice.result.now c.in_ok-homes.homes.items c.as_slice-lines.result.now c.points_hold.result c.as_slice-numbers.ensures.value c.probes.ensures.items c.as_slice.ensures.value c.as_slice-lines.ensures nets c.in_ok-homes.ensures c.points_hold.ensures c.if-not-points_hold.false in
+    λ t is. findings_fail (plain_board c.args.board.now) t c.args.v.now c.in-Some.standing.numbers.items c.in_ok-homes.homes.items c.in-Some-2.number is points (found_fail c.names.result.now (plain_board c.args.board.now).names c.as_slice-2.result.now c.in_ok-homes.homes.items c.args.v.now c.in_ok-number.field-0 c.in-Some-2.number c.names.ensures.items c.as_slice-2.ensures.value c.in_ok-number.ensures c.in-Some-2.is)
 
 pub returns-then-not-bare_holds : goal.returns-then-not-bare_holds
 returns-then-not-bare_holds g c =
@@ -100,9 +100,9 @@ returns-then-not-bare_holds g c =
     let once = once_told (plain_board c.args.board.now) c.pieces-pieces.result.now c.as_slice-nets.result.now c.args.v.now.nets c.pieces-pieces.ensures.plain c.as_slice-nets.ensures stood.once in
     let apart = apart_told (plain_board c.args.board.now) c.as_slice-nets.result.now c.args.v.now.nets c.stand_apart.result c.as_slice-nets.ensures c.stand_apart.ensures c.if-not-stand_apart.false in
     let nets = netted (plain_board c.args.board.now) c.as_slice-nets.result.now c.args.v.now.nets c.in-Some.standing.numbers.items c.as_slice-nets.ensures trees once apart stood.numbered in
-    let points = pointed (plain_board c.args.board.now) c.args.v.now c.as_slice-numbers.result.now c.in-Some.standing.numbers.items c.probes.result.now c.as_slice.result.now c.in_ok-homes.homes c.as_slice-lines.result.now c.points_hold.result c.as_slice-numbers.ensures.value c.probes.ensures.items c.as_slice.ensures c.as_slice-lines.ensures nets c.in_ok-homes.ensures c.points_hold.ensures c.if-not-points_hold.false in
-    let found = found_all c.names.result.now (plain_board c.args.board.now).names c.as_slice-2.result.now c.in_ok-homes.homes c.args.v.now c.in_ok-number.field-0 c.names.ensures.items c.as_slice-2.ensures c.in_ok-number.ensures c.in_default-2.is in
-    λ t is. bare_fails (plain_board c.args.board.now) t c.args.v.now c.in-Some.standing.numbers.items c.in_ok-homes.homes is points found (bare_denied c.as_slice-lines.result.now c.args.v.now.points c.as_slice-3.result.now c.args.v.now.bare c.bare_holds.result c.as_slice-lines.ensures c.as_slice-3.ensures c.bare_holds.ensures c.if-not-bare_holds.true)
+    let points = pointed (plain_board c.args.board.now) c.args.v.now c.as_slice-numbers.result.now c.in-Some.standing.numbers.items c.probes.result.now c.as_slice.result.now c.in_ok-homes.homes.items c.as_slice-lines.result.now c.points_hold.result c.as_slice-numbers.ensures.value c.probes.ensures.items c.as_slice.ensures.value c.as_slice-lines.ensures nets c.in_ok-homes.ensures c.points_hold.ensures c.if-not-points_hold.false in
+    let found = found_all c.names.result.now (plain_board c.args.board.now).names c.as_slice-2.result.now c.in_ok-homes.homes.items c.args.v.now c.in_ok-number.field-0 c.names.ensures.items c.as_slice-2.ensures.value c.in_ok-number.ensures c.in_default-2.is in
+    λ t is. bare_fails (plain_board c.args.board.now) t c.args.v.now c.in-Some.standing.numbers.items c.in_ok-homes.homes.items is points found (bare_denied c.as_slice-lines.result.now c.args.v.now.points c.as_slice-3.result.now c.args.v.now.bare c.bare_holds.result c.as_slice-lines.ensures c.as_slice-3.ensures c.bare_holds.ensures c.if-not-bare_holds.true)
 
 pub returns-then-not-counts_hold : goal.returns-then-not-counts_hold
 returns-then-not-counts_hold g c =
@@ -111,10 +111,10 @@ returns-then-not-counts_hold g c =
     let once = once_told (plain_board c.args.board.now) c.pieces-pieces.result.now c.as_slice-nets.result.now c.args.v.now.nets c.pieces-pieces.ensures.plain c.as_slice-nets.ensures stood.once in
     let apart = apart_told (plain_board c.args.board.now) c.as_slice-nets.result.now c.args.v.now.nets c.stand_apart.result c.as_slice-nets.ensures c.stand_apart.ensures c.if-not-stand_apart.false in
     let nets = netted (plain_board c.args.board.now) c.as_slice-nets.result.now c.args.v.now.nets c.in-Some.standing.numbers.items c.as_slice-nets.ensures trees once apart stood.numbered in
-    let points = pointed (plain_board c.args.board.now) c.args.v.now c.as_slice-numbers.result.now c.in-Some.standing.numbers.items c.probes.result.now c.as_slice.result.now c.in_ok-homes.homes c.as_slice-lines.result.now c.points_hold.result c.as_slice-numbers.ensures.value c.probes.ensures.items c.as_slice.ensures c.as_slice-lines.ensures nets c.in_ok-homes.ensures c.points_hold.ensures c.if-not-points_hold.false in
-    let found = found_all c.names.result.now (plain_board c.args.board.now).names c.as_slice-2.result.now c.in_ok-homes.homes c.args.v.now c.in_ok-number.field-0 c.names.ensures.items c.as_slice-2.ensures c.in_ok-number.ensures c.in_default-2.is in
+    let points = pointed (plain_board c.args.board.now) c.args.v.now c.as_slice-numbers.result.now c.in-Some.standing.numbers.items c.probes.result.now c.as_slice.result.now c.in_ok-homes.homes.items c.as_slice-lines.result.now c.points_hold.result c.as_slice-numbers.ensures.value c.probes.ensures.items c.as_slice.ensures.value c.as_slice-lines.ensures nets c.in_ok-homes.ensures c.points_hold.ensures c.if-not-points_hold.false in
+    let found = found_all c.names.result.now (plain_board c.args.board.now).names c.as_slice-2.result.now c.in_ok-homes.homes.items c.args.v.now c.in_ok-number.field-0 c.names.ensures.items c.as_slice-2.ensures.value c.in_ok-number.ensures c.in_default-2.is in
     let bare = bare_told c.as_slice-lines.result.now c.args.v.now.points c.as_slice-3.result.now c.args.v.now.bare c.bare_holds.result c.as_slice-lines.ensures c.as_slice-3.ensures c.bare_holds.ensures c.if-not-bare_holds.false in
-    λ t is. counts_fail (plain_board c.args.board.now) t c.args.v.now c.in-Some.standing.numbers.items c.in_ok-homes.homes is points found bare (counts_denied (plain_board c.args.board.now) c.pieces-pieces.result.now c.args.v.now.pieces c.as_slice-4.result.now c.args.v.now.names c.names-2.result.now c.counts_hold.result c.pieces-pieces.ensures.plain c.as_slice-4.ensures c.names-2.ensures.items c.counts_hold.ensures c.if-not-counts_hold.true)
+    λ t is. counts_fail (plain_board c.args.board.now) t c.args.v.now c.in-Some.standing.numbers.items c.in_ok-homes.homes.items is points found bare (counts_denied (plain_board c.args.board.now) c.pieces-pieces.result.now c.args.v.now.pieces c.as_slice-4.result.now c.args.v.now.names c.names-2.result.now c.counts_hold.result c.pieces-pieces.ensures.plain c.as_slice-4.ensures c.names-2.ensures.items c.counts_hold.ensures c.if-not-counts_hold.true)
 
 pub returns-in-Some-supplement_ruling : goal.returns-in-Some-supplement_ruling
 returns-in-Some-supplement_ruling g c =
@@ -123,11 +123,11 @@ returns-in-Some-supplement_ruling g c =
     let once = once_told (plain_board c.args.board.now) c.pieces-pieces.result.now c.as_slice-nets.result.now c.args.v.now.nets c.pieces-pieces.ensures.plain c.as_slice-nets.ensures stood.once in
     let apart = apart_told (plain_board c.args.board.now) c.as_slice-nets.result.now c.args.v.now.nets c.stand_apart.result c.as_slice-nets.ensures c.stand_apart.ensures c.if-not-stand_apart.false in
     let nets = netted (plain_board c.args.board.now) c.as_slice-nets.result.now c.args.v.now.nets c.in-Some.standing.numbers.items c.as_slice-nets.ensures trees once apart stood.numbered in
-    let points = pointed (plain_board c.args.board.now) c.args.v.now c.as_slice-numbers.result.now c.in-Some.standing.numbers.items c.probes.result.now c.as_slice.result.now c.in_ok-homes.homes c.as_slice-lines.result.now c.points_hold.result c.as_slice-numbers.ensures.value c.probes.ensures.items c.as_slice.ensures c.as_slice-lines.ensures nets c.in_ok-homes.ensures c.points_hold.ensures c.if-not-points_hold.false in
-    let found = found_all c.names.result.now (plain_board c.args.board.now).names c.as_slice-2.result.now c.in_ok-homes.homes c.args.v.now c.in_ok-number.field-0 c.names.ensures.items c.as_slice-2.ensures c.in_ok-number.ensures c.in_default-2.is in
+    let points = pointed (plain_board c.args.board.now) c.args.v.now c.as_slice-numbers.result.now c.in-Some.standing.numbers.items c.probes.result.now c.as_slice.result.now c.in_ok-homes.homes.items c.as_slice-lines.result.now c.points_hold.result c.as_slice-numbers.ensures.value c.probes.ensures.items c.as_slice.ensures.value c.as_slice-lines.ensures nets c.in_ok-homes.ensures c.points_hold.ensures c.if-not-points_hold.false in
+    let found = found_all c.names.result.now (plain_board c.args.board.now).names c.as_slice-2.result.now c.in_ok-homes.homes.items c.args.v.now c.in_ok-number.field-0 c.names.ensures.items c.as_slice-2.ensures.value c.in_ok-number.ensures c.in_default-2.is in
     let bare = bare_told c.as_slice-lines.result.now c.args.v.now.points c.as_slice-3.result.now c.args.v.now.bare c.bare_holds.result c.as_slice-lines.ensures c.as_slice-3.ensures c.bare_holds.ensures c.if-not-bare_holds.false in
-    let told : AreTold (plain_board c.args.board.now) c.args.v.now c.in_ok-homes.homes = record { found = found; bare = bare; counts = counts_told (plain_board c.args.board.now) c.pieces-pieces.result.now c.args.v.now.pieces c.as_slice-4.result.now c.args.v.now.names c.names-2.result.now c.counts_hold.result c.pieces-pieces.ensures.plain c.as_slice-4.ensures c.names-2.ensures.items c.counts_hold.ensures c.if-not-counts_hold.false } in
-    λ t is. supplement_fails (plain_board c.args.board.now) t c.args.v.now c.in-Some.standing.numbers.items c.in_ok-homes.homes c.in-Some-supplement_ruling.clause is points told (subst (SupplementRuled (plain_board c.args.board.now) c.args.v.now.more) c.in-Some-supplement_ruling.is c.supplement_ruling.ensures)
+    let told : AreTold (plain_board c.args.board.now) c.args.v.now c.in_ok-homes.homes.items = record { found = found; bare = bare; counts = counts_told (plain_board c.args.board.now) c.pieces-pieces.result.now c.args.v.now.pieces c.as_slice-4.result.now c.args.v.now.names c.names-2.result.now c.counts_hold.result c.pieces-pieces.ensures.plain c.as_slice-4.ensures c.names-2.ensures.items c.counts_hold.ensures c.if-not-counts_hold.false } in
+    λ t is. supplement_fails (plain_board c.args.board.now) t c.args.v.now c.in-Some.standing.numbers.items c.in_ok-homes.homes.items c.in-Some-supplement_ruling.clause is points told (subst (SupplementRuled (plain_board c.args.board.now) c.args.v.now.more) c.in-Some-supplement_ruling.is c.supplement_ruling.ensures)
 
 pub returns : goal.returns
 returns g c =
@@ -136,8 +136,8 @@ returns g c =
     let once = once_told (plain_board c.args.board.now) c.pieces-pieces.result.now c.as_slice-nets.result.now c.args.v.now.nets c.pieces-pieces.ensures.plain c.as_slice-nets.ensures stood.once in
     let apart = apart_told (plain_board c.args.board.now) c.as_slice-nets.result.now c.args.v.now.nets c.stand_apart.result c.as_slice-nets.ensures c.stand_apart.ensures c.if-not-stand_apart.false in
     let nets = netted (plain_board c.args.board.now) c.as_slice-nets.result.now c.args.v.now.nets c.in-Some.standing.numbers.items c.as_slice-nets.ensures trees once apart stood.numbered in
-    let points = pointed (plain_board c.args.board.now) c.args.v.now c.as_slice-numbers.result.now c.in-Some.standing.numbers.items c.probes.result.now c.as_slice.result.now c.in_ok-homes.homes c.as_slice-lines.result.now c.points_hold.result c.as_slice-numbers.ensures.value c.probes.ensures.items c.as_slice.ensures c.as_slice-lines.ensures nets c.in_ok-homes.ensures c.points_hold.ensures c.if-not-points_hold.false in
-    let found = found_all c.names.result.now (plain_board c.args.board.now).names c.as_slice-2.result.now c.in_ok-homes.homes c.args.v.now c.in_ok-number.field-0 c.names.ensures.items c.as_slice-2.ensures c.in_ok-number.ensures c.in_default-2.is in
+    let points = pointed (plain_board c.args.board.now) c.args.v.now c.as_slice-numbers.result.now c.in-Some.standing.numbers.items c.probes.result.now c.as_slice.result.now c.in_ok-homes.homes.items c.as_slice-lines.result.now c.points_hold.result c.as_slice-numbers.ensures.value c.probes.ensures.items c.as_slice.ensures.value c.as_slice-lines.ensures nets c.in_ok-homes.ensures c.points_hold.ensures c.if-not-points_hold.false in
+    let found = found_all c.names.result.now (plain_board c.args.board.now).names c.as_slice-2.result.now c.in_ok-homes.homes.items c.args.v.now c.in_ok-number.field-0 c.names.ensures.items c.as_slice-2.ensures.value c.in_ok-number.ensures c.in_default-2.is in
     let bare = bare_told c.as_slice-lines.result.now c.args.v.now.points c.as_slice-3.result.now c.args.v.now.bare c.bare_holds.result c.as_slice-lines.ensures c.as_slice-3.ensures c.bare_holds.ensures c.if-not-bare_holds.false in
-    let told : AreTold (plain_board c.args.board.now) c.args.v.now c.in_ok-homes.homes = record { found = found; bare = bare; counts = counts_told (plain_board c.args.board.now) c.pieces-pieces.result.now c.args.v.now.pieces c.as_slice-4.result.now c.args.v.now.names c.names-2.result.now c.counts_hold.result c.pieces-pieces.ensures.plain c.as_slice-4.ensures c.names-2.ensures.items c.counts_hold.ensures c.if-not-counts_hold.false } in
-    λ t is. all_right (plain_board c.args.board.now) t c.args.v.now c.in-Some.standing.numbers.items c.in_ok-homes.homes is points told (subst (SupplementRuled (plain_board c.args.board.now) c.args.v.now.more) c.in_default-supplement_ruling.is c.supplement_ruling.ensures)
+    let told : AreTold (plain_board c.args.board.now) c.args.v.now c.in_ok-homes.homes.items = record { found = found; bare = bare; counts = counts_told (plain_board c.args.board.now) c.pieces-pieces.result.now c.args.v.now.pieces c.as_slice-4.result.now c.args.v.now.names c.names-2.result.now c.counts_hold.result c.pieces-pieces.ensures.plain c.as_slice-4.ensures c.names-2.ensures.items c.counts_hold.ensures c.if-not-counts_hold.false } in
+    λ t is. all_right (plain_board c.args.board.now) t c.args.v.now c.in-Some.standing.numbers.items c.in_ok-homes.homes.items is points told (subst (SupplementRuled (plain_board c.args.board.now) c.args.v.now.more) c.in_default-supplement_ruling.is c.supplement_ruling.ensures)
