@@ -1,4 +1,4 @@
-//! Boards with arc draws, between boards of figures.
+//! Arc draws on boards, between bounds.
 //!
 //! `is_covered` and `is_cover` are checks of `arcs`, with what they say of a board one of whose pieces is
 //! the arc draw.
