@@ -1,6 +1,13 @@
 //! Arc draws on boards, between bounds.
 //!
-//! Each call is a check of `arcs`, with what it says of a board one of whose pieces is the arc draw.
+//! `is_covered` and `is_cover` are checks of `arcs`, with what they say of a board one of whose pieces is
+//! the arc draw.
+//!
+//! - `real_shape`: pieces that may be arc draws.
+//! - `side`: the boards below and above a real one, and what a chain has to be there.
+//! - `rows`: whether pieces are a figure, or the capsules of a chain.
+//! - `between`: the check over whole boards.
+//! - `laws`: what follows of every board whose copper the real pieces allow.
 #![tactic(auto)]
 
 ghost use Rattle.arc_covers.specs.Links.{AreChain, HasArc};
