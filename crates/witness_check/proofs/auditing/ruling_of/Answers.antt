@@ -10,26 +10,26 @@ use Rattle.witness_check.proofs.auditing.ruling_of.Goals as goal
 
 pub returns-then-not-branch : goal.returns-then-not-branch
 returns-then-not-branch g c =
-    λ t is. trees_fail (plain_board c.args.board.now) t c.args.v.now is (trees_denied (plain_board c.args.board.now) c.as_slice-nets.result.now c.args.v.now.nets c.in_ok-are_trees.field-0 c.as_slice-nets.ensures c.in_ok-are_trees.ensures c.if-not-branch.true)
+    λ t is. trees_fail (plain_board c.args.board.now) t c.args.v.now is (trees_denied (plain_board c.args.board.now) c.as_slice-nets.result.now c.args.v.now.nets c.in_ok-are_trees.field-0 c.as_slice-nets.ensures c.in_ok-are_trees.ensures.trees c.if-not-branch.true)
 
 pub standing_of-requires-clause-known : goal.standing_of-requires-clause-known
 standing_of-requires-clause-known g c =
-    let trees = trees_told (plain_board c.args.board.now) c.as_slice-nets.result.now c.args.v.now.nets c.in_ok-are_trees.field-0 c.as_slice-nets.ensures c.in_ok-are_trees.ensures c.if-not-branch.false in
+    let trees = trees_told (plain_board c.args.board.now) c.as_slice-nets.result.now c.args.v.now.nets c.in_ok-are_trees.field-0 c.as_slice-nets.ensures c.in_ok-are_trees.ensures.trees c.if-not-branch.false in
     known_in (plain_board c.args.board.now) c.pieces-pieces.result.now c.as_slice-nets.result.now c.args.v.now.nets c.pieces-pieces.ensures.plain c.as_slice-nets.ensures trees
 
 pub returns-in_default : goal.returns-in_default
 returns-in_default g c =
-    let trees = trees_told (plain_board c.args.board.now) c.as_slice-nets.result.now c.args.v.now.nets c.in_ok-are_trees.field-0 c.as_slice-nets.ensures c.in_ok-are_trees.ensures c.if-not-branch.false in
+    let trees = trees_told (plain_board c.args.board.now) c.as_slice-nets.result.now c.args.v.now.nets c.in_ok-are_trees.field-0 c.as_slice-nets.ensures c.in_ok-are_trees.ensures.trees c.if-not-branch.false in
     λ t is. covers_fail (plain_board c.args.board.now) t c.args.v.now is trees (once_denied (plain_board c.args.board.now) c.pieces-pieces.result.now c.as_slice-nets.result.now c.args.v.now.nets c.pieces-pieces.ensures.plain c.as_slice-nets.ensures (none_told c.in_ok-standing.field-0 _ _ c.in_default.is c.in_ok-standing.ensures))
 
 pub standing_of-requires-clause-few : goal.standing_of-requires-clause-few
 standing_of-requires-clause-few g c =
-    let trees = trees_told (plain_board c.args.board.now) c.as_slice-nets.result.now c.args.v.now.nets c.in_ok-are_trees.field-0 c.as_slice-nets.ensures c.in_ok-are_trees.ensures c.if-not-branch.false in
+    let trees = trees_told (plain_board c.args.board.now) c.as_slice-nets.result.now c.args.v.now.nets c.in_ok-are_trees.field-0 c.as_slice-nets.ensures c.in_ok-are_trees.ensures.trees c.if-not-branch.false in
     subst (λ (n : List (List Twig)). length n < 2 ^ 32) (sym c.as_slice-nets.ensures) (few_in (plain_board c.args.board.now) c.pieces-pieces.result.now c.args.v.now.nets c.pieces-pieces.ensures.plain c.pieces-pieces.ensures.few trees)
 
 pub stand_apart-requires-clause-known : goal.stand_apart-requires-clause-known
 stand_apart-requires-clause-known g c =
-    let trees = trees_told (plain_board c.args.board.now) c.as_slice-nets.result.now c.args.v.now.nets c.in_ok-are_trees.field-0 c.as_slice-nets.ensures c.in_ok-are_trees.ensures c.if-not-branch.false in
+    let trees = trees_told (plain_board c.args.board.now) c.as_slice-nets.result.now c.args.v.now.nets c.in_ok-are_trees.field-0 c.as_slice-nets.ensures c.in_ok-are_trees.ensures.trees c.if-not-branch.false in
     λ i p h. trees.known i p (subst (λ (n : List (List Twig)). Holds n i p) c.as_slice-nets.ensures h)
 
 pub stand_apart-requires-clause-numbers : goal.stand_apart-requires-clause-numbers
@@ -39,10 +39,10 @@ stand_apart-requires-clause-numbers g c =
 
 pub returns-then-not-stand_apart : goal.returns-then-not-stand_apart
 returns-then-not-stand_apart g c =
-    let trees = trees_told (plain_board c.args.board.now) c.as_slice-nets.result.now c.args.v.now.nets c.in_ok-are_trees.field-0 c.as_slice-nets.ensures c.in_ok-are_trees.ensures c.if-not-branch.false in
+    let trees = trees_told (plain_board c.args.board.now) c.as_slice-nets.result.now c.args.v.now.nets c.in_ok-are_trees.field-0 c.as_slice-nets.ensures c.in_ok-are_trees.ensures.trees c.if-not-branch.false in
     let stood : HasStanding (length c.pieces-pieces.result.now) c.as_slice-nets.result.now c.in-Some.standing.numbers.items c.in-Some.standing.places.items = some_told c.in_ok-standing.field-0 c.in-Some.standing _ _ c.in-Some.is c.in_ok-standing.ensures in
     let once = once_told (plain_board c.args.board.now) c.pieces-pieces.result.now c.as_slice-nets.result.now c.args.v.now.nets c.pieces-pieces.ensures.plain c.as_slice-nets.ensures stood.once in
-    λ t is. apart_fail (plain_board c.args.board.now) t c.args.v.now is trees once (apart_denied (plain_board c.args.board.now) c.as_slice-nets.result.now c.args.v.now.nets c.stand_apart.result c.as_slice-nets.ensures c.stand_apart.ensures c.if-not-stand_apart.true)
+    λ t is. apart_fail (plain_board c.args.board.now) t c.args.v.now is trees once (apart_denied (plain_board c.args.board.now) c.as_slice-nets.result.now c.args.v.now.nets c.stand_apart.result c.as_slice-nets.ensures c.stand_apart.ensures.apart c.if-not-stand_apart.true)
 
 pub points_hold-requires-clause-pieces : goal.points_hold-requires-clause-pieces
 points_hold-requires-clause-pieces g c =
@@ -51,54 +51,54 @@ points_hold-requires-clause-pieces g c =
 
 pub returns-then-not-points_hold : goal.returns-then-not-points_hold
 returns-then-not-points_hold g c =
-    let trees = trees_told (plain_board c.args.board.now) c.as_slice-nets.result.now c.args.v.now.nets c.in_ok-are_trees.field-0 c.as_slice-nets.ensures c.in_ok-are_trees.ensures c.if-not-branch.false in
+    let trees = trees_told (plain_board c.args.board.now) c.as_slice-nets.result.now c.args.v.now.nets c.in_ok-are_trees.field-0 c.as_slice-nets.ensures c.in_ok-are_trees.ensures.trees c.if-not-branch.false in
     let stood : HasStanding (length c.pieces-pieces.result.now) c.as_slice-nets.result.now c.in-Some.standing.numbers.items c.in-Some.standing.places.items = some_told c.in_ok-standing.field-0 c.in-Some.standing _ _ c.in-Some.is c.in_ok-standing.ensures in
     let once = once_told (plain_board c.args.board.now) c.pieces-pieces.result.now c.as_slice-nets.result.now c.args.v.now.nets c.pieces-pieces.ensures.plain c.as_slice-nets.ensures stood.once in
-    let apart = apart_told (plain_board c.args.board.now) c.as_slice-nets.result.now c.args.v.now.nets c.stand_apart.result c.as_slice-nets.ensures c.stand_apart.ensures c.if-not-stand_apart.false in
+    let apart = apart_told (plain_board c.args.board.now) c.as_slice-nets.result.now c.args.v.now.nets c.stand_apart.result c.as_slice-nets.ensures c.stand_apart.ensures.apart c.if-not-stand_apart.false in
     let nets = netted (plain_board c.args.board.now) c.as_slice-nets.result.now c.args.v.now.nets c.in-Some.standing.numbers.items c.as_slice-nets.ensures trees once apart stood.numbered in
     λ t is. points_fail c.tables_are_unique.ensures.close (plain_board c.args.board.now) t c.args.v.now c.in-Some.standing.numbers.items c.in_ok-homes.homes.items is nets c.in_ok-homes.ensures (lines_denied (plain_board c.args.board.now) c.args.v.now c.as_slice-numbers.result.now c.in-Some.standing.numbers.items c.probes.result.now c.as_slice.result.now c.in_ok-homes.homes.items c.as_slice-lines.result.now c.points_hold.result c.as_slice-numbers.ensures.value c.probes.ensures.items c.as_slice.ensures.value c.as_slice-lines.ensures c.points_hold.ensures c.if-not-points_hold.true)
 
 pub findings_ruling-requires-clause-few_nets : goal.findings_ruling-requires-clause-few_nets
 findings_ruling-requires-clause-few_nets g c =
-    let trees = trees_told (plain_board c.args.board.now) c.as_slice-nets.result.now c.args.v.now.nets c.in_ok-are_trees.field-0 c.as_slice-nets.ensures c.in_ok-are_trees.ensures c.if-not-branch.false in
+    let trees = trees_told (plain_board c.args.board.now) c.as_slice-nets.result.now c.args.v.now.nets c.in_ok-are_trees.field-0 c.as_slice-nets.ensures c.in_ok-are_trees.ensures.trees c.if-not-branch.false in
     few_in (plain_board c.args.board.now) c.pieces-pieces.result.now c.args.v.now.nets c.pieces-pieces.ensures.plain c.pieces-pieces.ensures.few trees
 
 pub findings_ruling-requires-clause-named : goal.findings_ruling-requires-clause-named
 findings_ruling-requires-clause-named g c =
-    let trees = trees_told (plain_board c.args.board.now) c.as_slice-nets.result.now c.args.v.now.nets c.in_ok-are_trees.field-0 c.as_slice-nets.ensures c.in_ok-are_trees.ensures c.if-not-branch.false in
+    let trees = trees_told (plain_board c.args.board.now) c.as_slice-nets.result.now c.args.v.now.nets c.in_ok-are_trees.field-0 c.as_slice-nets.ensures c.in_ok-are_trees.ensures.trees c.if-not-branch.false in
     let stood : HasStanding (length c.pieces-pieces.result.now) c.as_slice-nets.result.now c.in-Some.standing.numbers.items c.in-Some.standing.places.items = some_told c.in_ok-standing.field-0 c.in-Some.standing _ _ c.in-Some.is c.in_ok-standing.ensures in
     let once = once_told (plain_board c.args.board.now) c.pieces-pieces.result.now c.as_slice-nets.result.now c.args.v.now.nets c.pieces-pieces.ensures.plain c.as_slice-nets.ensures stood.once in
-    let apart = apart_told (plain_board c.args.board.now) c.as_slice-nets.result.now c.args.v.now.nets c.stand_apart.result c.as_slice-nets.ensures c.stand_apart.ensures c.if-not-stand_apart.false in
+    let apart = apart_told (plain_board c.args.board.now) c.as_slice-nets.result.now c.args.v.now.nets c.stand_apart.result c.as_slice-nets.ensures c.stand_apart.ensures.apart c.if-not-stand_apart.false in
     let nets = netted (plain_board c.args.board.now) c.as_slice-nets.result.now c.args.v.now.nets c.in-Some.standing.numbers.items c.as_slice-nets.ensures trees once apart stood.numbered in
     let points = pointed (plain_board c.args.board.now) c.args.v.now c.as_slice-numbers.result.now c.in-Some.standing.numbers.items c.probes.result.now c.as_slice.result.now c.in_ok-homes.homes.items c.as_slice-lines.result.now c.points_hold.result c.as_slice-numbers.ensures.value c.probes.ensures.items c.as_slice.ensures.value c.as_slice-lines.ensures nets c.in_ok-homes.ensures c.points_hold.ensures c.if-not-points_hold.false in
     named_in (plain_board c.args.board.now) c.args.v.now c.in-Some.standing.numbers.items c.in_ok-homes.homes.items c.probes.result.now c.names.result.now points c.probes.ensures.items c.names.ensures.items c.probes.ensures.known
 
 pub findings_ruling-requires-clause-netted : goal.findings_ruling-requires-clause-netted
 findings_ruling-requires-clause-netted g c =
-    let trees = trees_told (plain_board c.args.board.now) c.as_slice-nets.result.now c.args.v.now.nets c.in_ok-are_trees.field-0 c.as_slice-nets.ensures c.in_ok-are_trees.ensures c.if-not-branch.false in
+    let trees = trees_told (plain_board c.args.board.now) c.as_slice-nets.result.now c.args.v.now.nets c.in_ok-are_trees.field-0 c.as_slice-nets.ensures c.in_ok-are_trees.ensures.trees c.if-not-branch.false in
     let stood : HasStanding (length c.pieces-pieces.result.now) c.as_slice-nets.result.now c.in-Some.standing.numbers.items c.in-Some.standing.places.items = some_told c.in_ok-standing.field-0 c.in-Some.standing _ _ c.in-Some.is c.in_ok-standing.ensures in
     let once = once_told (plain_board c.args.board.now) c.pieces-pieces.result.now c.as_slice-nets.result.now c.args.v.now.nets c.pieces-pieces.ensures.plain c.as_slice-nets.ensures stood.once in
-    let apart = apart_told (plain_board c.args.board.now) c.as_slice-nets.result.now c.args.v.now.nets c.stand_apart.result c.as_slice-nets.ensures c.stand_apart.ensures c.if-not-stand_apart.false in
+    let apart = apart_told (plain_board c.args.board.now) c.as_slice-nets.result.now c.args.v.now.nets c.stand_apart.result c.as_slice-nets.ensures c.stand_apart.ensures.apart c.if-not-stand_apart.false in
     let nets = netted (plain_board c.args.board.now) c.as_slice-nets.result.now c.args.v.now.nets c.in-Some.standing.numbers.items c.as_slice-nets.ensures trees once apart stood.numbered in
     let points = pointed (plain_board c.args.board.now) c.args.v.now c.as_slice-numbers.result.now c.in-Some.standing.numbers.items c.probes.result.now c.as_slice.result.now c.in_ok-homes.homes.items c.as_slice-lines.result.now c.points_hold.result c.as_slice-numbers.ensures.value c.probes.ensures.items c.as_slice.ensures.value c.as_slice-lines.ensures nets c.in_ok-homes.ensures c.points_hold.ensures c.if-not-points_hold.false in
     netted_in (plain_board c.args.board.now) c.args.v.now c.in-Some.standing.numbers.items c.in_ok-homes.homes.items points
 
 pub returns-in-Some-2 : goal.returns-in-Some-2
 returns-in-Some-2 g c =
-    let trees = trees_told (plain_board c.args.board.now) c.as_slice-nets.result.now c.args.v.now.nets c.in_ok-are_trees.field-0 c.as_slice-nets.ensures c.in_ok-are_trees.ensures c.if-not-branch.false in
+    let trees = trees_told (plain_board c.args.board.now) c.as_slice-nets.result.now c.args.v.now.nets c.in_ok-are_trees.field-0 c.as_slice-nets.ensures c.in_ok-are_trees.ensures.trees c.if-not-branch.false in
     let stood : HasStanding (length c.pieces-pieces.result.now) c.as_slice-nets.result.now c.in-Some.standing.numbers.items c.in-Some.standing.places.items = some_told c.in_ok-standing.field-0 c.in-Some.standing _ _ c.in-Some.is c.in_ok-standing.ensures in
     let once = once_told (plain_board c.args.board.now) c.pieces-pieces.result.now c.as_slice-nets.result.now c.args.v.now.nets c.pieces-pieces.ensures.plain c.as_slice-nets.ensures stood.once in
-    let apart = apart_told (plain_board c.args.board.now) c.as_slice-nets.result.now c.args.v.now.nets c.stand_apart.result c.as_slice-nets.ensures c.stand_apart.ensures c.if-not-stand_apart.false in
+    let apart = apart_told (plain_board c.args.board.now) c.as_slice-nets.result.now c.args.v.now.nets c.stand_apart.result c.as_slice-nets.ensures c.stand_apart.ensures.apart c.if-not-stand_apart.false in
     let nets = netted (plain_board c.args.board.now) c.as_slice-nets.result.now c.args.v.now.nets c.in-Some.standing.numbers.items c.as_slice-nets.ensures trees once apart stood.numbered in
     let points = pointed (plain_board c.args.board.now) c.args.v.now c.as_slice-numbers.result.now c.in-Some.standing.numbers.items c.probes.result.now c.as_slice.result.now c.in_ok-homes.homes.items c.as_slice-lines.result.now c.points_hold.result c.as_slice-numbers.ensures.value c.probes.ensures.items c.as_slice.ensures.value c.as_slice-lines.ensures nets c.in_ok-homes.ensures c.points_hold.ensures c.if-not-points_hold.false in
     λ t is. findings_fail (plain_board c.args.board.now) t c.args.v.now c.in-Some.standing.numbers.items c.in_ok-homes.homes.items c.in-Some-2.number is points (found_fail c.names.result.now (plain_board c.args.board.now).names c.as_slice-2.result.now c.in_ok-homes.homes.items c.args.v.now c.in_ok-number.field-0 c.in-Some-2.number c.names.ensures.items c.as_slice-2.ensures.value c.in_ok-number.ensures c.in-Some-2.is)
 
 pub returns-then-not-bare_holds : goal.returns-then-not-bare_holds
 returns-then-not-bare_holds g c =
-    let trees = trees_told (plain_board c.args.board.now) c.as_slice-nets.result.now c.args.v.now.nets c.in_ok-are_trees.field-0 c.as_slice-nets.ensures c.in_ok-are_trees.ensures c.if-not-branch.false in
+    let trees = trees_told (plain_board c.args.board.now) c.as_slice-nets.result.now c.args.v.now.nets c.in_ok-are_trees.field-0 c.as_slice-nets.ensures c.in_ok-are_trees.ensures.trees c.if-not-branch.false in
     let stood : HasStanding (length c.pieces-pieces.result.now) c.as_slice-nets.result.now c.in-Some.standing.numbers.items c.in-Some.standing.places.items = some_told c.in_ok-standing.field-0 c.in-Some.standing _ _ c.in-Some.is c.in_ok-standing.ensures in
     let once = once_told (plain_board c.args.board.now) c.pieces-pieces.result.now c.as_slice-nets.result.now c.args.v.now.nets c.pieces-pieces.ensures.plain c.as_slice-nets.ensures stood.once in
-    let apart = apart_told (plain_board c.args.board.now) c.as_slice-nets.result.now c.args.v.now.nets c.stand_apart.result c.as_slice-nets.ensures c.stand_apart.ensures c.if-not-stand_apart.false in
+    let apart = apart_told (plain_board c.args.board.now) c.as_slice-nets.result.now c.args.v.now.nets c.stand_apart.result c.as_slice-nets.ensures c.stand_apart.ensures.apart c.if-not-stand_apart.false in
     let nets = netted (plain_board c.args.board.now) c.as_slice-nets.result.now c.args.v.now.nets c.in-Some.standing.numbers.items c.as_slice-nets.ensures trees once apart stood.numbered in
     let points = pointed (plain_board c.args.board.now) c.args.v.now c.as_slice-numbers.result.now c.in-Some.standing.numbers.items c.probes.result.now c.as_slice.result.now c.in_ok-homes.homes.items c.as_slice-lines.result.now c.points_hold.result c.as_slice-numbers.ensures.value c.probes.ensures.items c.as_slice.ensures.value c.as_slice-lines.ensures nets c.in_ok-homes.ensures c.points_hold.ensures c.if-not-points_hold.false in
     let found = found_all c.names.result.now (plain_board c.args.board.now).names c.as_slice-2.result.now c.in_ok-homes.homes.items c.args.v.now c.in_ok-number.field-0 c.names.ensures.items c.as_slice-2.ensures.value c.in_ok-number.ensures c.in_default-2.is in
@@ -106,10 +106,10 @@ returns-then-not-bare_holds g c =
 
 pub returns-then-not-counts_hold : goal.returns-then-not-counts_hold
 returns-then-not-counts_hold g c =
-    let trees = trees_told (plain_board c.args.board.now) c.as_slice-nets.result.now c.args.v.now.nets c.in_ok-are_trees.field-0 c.as_slice-nets.ensures c.in_ok-are_trees.ensures c.if-not-branch.false in
+    let trees = trees_told (plain_board c.args.board.now) c.as_slice-nets.result.now c.args.v.now.nets c.in_ok-are_trees.field-0 c.as_slice-nets.ensures c.in_ok-are_trees.ensures.trees c.if-not-branch.false in
     let stood : HasStanding (length c.pieces-pieces.result.now) c.as_slice-nets.result.now c.in-Some.standing.numbers.items c.in-Some.standing.places.items = some_told c.in_ok-standing.field-0 c.in-Some.standing _ _ c.in-Some.is c.in_ok-standing.ensures in
     let once = once_told (plain_board c.args.board.now) c.pieces-pieces.result.now c.as_slice-nets.result.now c.args.v.now.nets c.pieces-pieces.ensures.plain c.as_slice-nets.ensures stood.once in
-    let apart = apart_told (plain_board c.args.board.now) c.as_slice-nets.result.now c.args.v.now.nets c.stand_apart.result c.as_slice-nets.ensures c.stand_apart.ensures c.if-not-stand_apart.false in
+    let apart = apart_told (plain_board c.args.board.now) c.as_slice-nets.result.now c.args.v.now.nets c.stand_apart.result c.as_slice-nets.ensures c.stand_apart.ensures.apart c.if-not-stand_apart.false in
     let nets = netted (plain_board c.args.board.now) c.as_slice-nets.result.now c.args.v.now.nets c.in-Some.standing.numbers.items c.as_slice-nets.ensures trees once apart stood.numbered in
     let points = pointed (plain_board c.args.board.now) c.args.v.now c.as_slice-numbers.result.now c.in-Some.standing.numbers.items c.probes.result.now c.as_slice.result.now c.in_ok-homes.homes.items c.as_slice-lines.result.now c.points_hold.result c.as_slice-numbers.ensures.value c.probes.ensures.items c.as_slice.ensures.value c.as_slice-lines.ensures nets c.in_ok-homes.ensures c.points_hold.ensures c.if-not-points_hold.false in
     let found = found_all c.names.result.now (plain_board c.args.board.now).names c.as_slice-2.result.now c.in_ok-homes.homes.items c.args.v.now c.in_ok-number.field-0 c.names.ensures.items c.as_slice-2.ensures.value c.in_ok-number.ensures c.in_default-2.is in
@@ -118,10 +118,10 @@ returns-then-not-counts_hold g c =
 
 pub returns-in-Some-supplement_ruling : goal.returns-in-Some-supplement_ruling
 returns-in-Some-supplement_ruling g c =
-    let trees = trees_told (plain_board c.args.board.now) c.as_slice-nets.result.now c.args.v.now.nets c.in_ok-are_trees.field-0 c.as_slice-nets.ensures c.in_ok-are_trees.ensures c.if-not-branch.false in
+    let trees = trees_told (plain_board c.args.board.now) c.as_slice-nets.result.now c.args.v.now.nets c.in_ok-are_trees.field-0 c.as_slice-nets.ensures c.in_ok-are_trees.ensures.trees c.if-not-branch.false in
     let stood : HasStanding (length c.pieces-pieces.result.now) c.as_slice-nets.result.now c.in-Some.standing.numbers.items c.in-Some.standing.places.items = some_told c.in_ok-standing.field-0 c.in-Some.standing _ _ c.in-Some.is c.in_ok-standing.ensures in
     let once = once_told (plain_board c.args.board.now) c.pieces-pieces.result.now c.as_slice-nets.result.now c.args.v.now.nets c.pieces-pieces.ensures.plain c.as_slice-nets.ensures stood.once in
-    let apart = apart_told (plain_board c.args.board.now) c.as_slice-nets.result.now c.args.v.now.nets c.stand_apart.result c.as_slice-nets.ensures c.stand_apart.ensures c.if-not-stand_apart.false in
+    let apart = apart_told (plain_board c.args.board.now) c.as_slice-nets.result.now c.args.v.now.nets c.stand_apart.result c.as_slice-nets.ensures c.stand_apart.ensures.apart c.if-not-stand_apart.false in
     let nets = netted (plain_board c.args.board.now) c.as_slice-nets.result.now c.args.v.now.nets c.in-Some.standing.numbers.items c.as_slice-nets.ensures trees once apart stood.numbered in
     let points = pointed (plain_board c.args.board.now) c.args.v.now c.as_slice-numbers.result.now c.in-Some.standing.numbers.items c.probes.result.now c.as_slice.result.now c.in_ok-homes.homes.items c.as_slice-lines.result.now c.points_hold.result c.as_slice-numbers.ensures.value c.probes.ensures.items c.as_slice.ensures.value c.as_slice-lines.ensures nets c.in_ok-homes.ensures c.points_hold.ensures c.if-not-points_hold.false in
     let found = found_all c.names.result.now (plain_board c.args.board.now).names c.as_slice-2.result.now c.in_ok-homes.homes.items c.args.v.now c.in_ok-number.field-0 c.names.ensures.items c.as_slice-2.ensures.value c.in_ok-number.ensures c.in_default-2.is in
@@ -131,10 +131,10 @@ returns-in-Some-supplement_ruling g c =
 
 pub returns : goal.returns
 returns g c =
-    let trees = trees_told (plain_board c.args.board.now) c.as_slice-nets.result.now c.args.v.now.nets c.in_ok-are_trees.field-0 c.as_slice-nets.ensures c.in_ok-are_trees.ensures c.if-not-branch.false in
+    let trees = trees_told (plain_board c.args.board.now) c.as_slice-nets.result.now c.args.v.now.nets c.in_ok-are_trees.field-0 c.as_slice-nets.ensures c.in_ok-are_trees.ensures.trees c.if-not-branch.false in
     let stood : HasStanding (length c.pieces-pieces.result.now) c.as_slice-nets.result.now c.in-Some.standing.numbers.items c.in-Some.standing.places.items = some_told c.in_ok-standing.field-0 c.in-Some.standing _ _ c.in-Some.is c.in_ok-standing.ensures in
     let once = once_told (plain_board c.args.board.now) c.pieces-pieces.result.now c.as_slice-nets.result.now c.args.v.now.nets c.pieces-pieces.ensures.plain c.as_slice-nets.ensures stood.once in
-    let apart = apart_told (plain_board c.args.board.now) c.as_slice-nets.result.now c.args.v.now.nets c.stand_apart.result c.as_slice-nets.ensures c.stand_apart.ensures c.if-not-stand_apart.false in
+    let apart = apart_told (plain_board c.args.board.now) c.as_slice-nets.result.now c.args.v.now.nets c.stand_apart.result c.as_slice-nets.ensures c.stand_apart.ensures.apart c.if-not-stand_apart.false in
     let nets = netted (plain_board c.args.board.now) c.as_slice-nets.result.now c.args.v.now.nets c.in-Some.standing.numbers.items c.as_slice-nets.ensures trees once apart stood.numbered in
     let points = pointed (plain_board c.args.board.now) c.args.v.now c.as_slice-numbers.result.now c.in-Some.standing.numbers.items c.probes.result.now c.as_slice.result.now c.in_ok-homes.homes.items c.as_slice-lines.result.now c.points_hold.result c.as_slice-numbers.ensures.value c.probes.ensures.items c.as_slice.ensures.value c.as_slice-lines.ensures nets c.in_ok-homes.ensures c.points_hold.ensures c.if-not-points_hold.false in
     let found = found_all c.names.result.now (plain_board c.args.board.now).names c.as_slice-2.result.now c.in_ok-homes.homes.items c.args.v.now c.in_ok-number.field-0 c.names.ensures.items c.as_slice-2.ensures.value c.in_ok-number.ensures c.in_default-2.is in
