@@ -50,7 +50,7 @@ loop-i-preserved g c =
     let tests = c.is_tree.ensures.tests in
     let sofar = c.loop-i.invariant.1 in (
       subst (λ (f : ℕ). AreJudged size near c.args.nets.now (c.loop-i.i + 1) (f + 1) c.is_tree.new.stamps) (sym first)
-    (judged_more size near c.args.nets.now c.loop-i.i c.loop-i.floor c.loop-i.stamps c.is_tree.new.stamps c.loop-i.invariant.0 tree above (omega arith) c.is_tree.ensures.stamps),
+          (judged_more size near c.args.nets.now c.loop-i.i c.loop-i.floor c.loop-i.stamps c.is_tree.new.stamps c.loop-i.invariant.0 tree above (omega arith) c.is_tree.ensures.stamps),
       omega arith,
     )
 
