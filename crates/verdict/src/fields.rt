@@ -24,11 +24,7 @@ pub fn behind_byte(bytes: &[u8], byte: u8) -> Option<&[u8]>
     ensures { option_map (λ rest. rest.now) result ≡ spec.behind (byte ∷ []) bytes.now }
 {
     match bytes {
-        [first, rest @ ..] => if *first == byte {
-            Some(rest)
-        } else {
-            None
-        },
+        [first, rest @ ..] => if *first == byte { Some(rest) } else { None },
         [] => None,
     }
 }

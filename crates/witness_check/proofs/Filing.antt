@@ -1,17 +1,20 @@
 -- Extents of boxes, the intervals of pieces, and where those of two pieces that touch come together.
-use Rattle.std.proofs.Common.{FitsSigned, w64, to_z, of_z, to_z-of_z, unsigned_abs, ◌≡◌, ◌⊎◌, inl, inr, ℕ, ◌+◌, ◌/◌, ◌<◌, ◌≤◌, true, ℤ, pos, ◌+ℤ◌, ◌-ℤ◌, ◌*ℤ◌, ◌≤ℤ◌, List, [], ◌∷◌, ◌++◌, length, get_or, All, Contains, Some, slice_get, refl, sym, ap, subst, ◌∙◌, arith}
+use Rattle.std.proofs.Common.{FitsSigned, w64, to_z, of_z, to_z-of_z, unsigned_abs, ◌≡◌, ◌⊎◌, inl, inr, ℕ, ◌+◌, ◌/◌, ◌<◌, ◌≤◌, Bool, true, false, ◌==◌, ◌&&◌, ℤ, pos, ◌+ℤ◌, ◌-ℤ◌, ◌*ℤ◌, ◌≤ℤ◌, List, [], ◌∷◌, ◌++◌, length, get_or, All, Contains, Some, slice_get, refl, sym, ap, subst, ◌∙◌, arith}
 use Rattle.std.proofs.Math.Nat.{div-mul-le_self}
-use Rattle.std.proofs.lemmas.Bool.{cases_eq, eq-eqb}
+use Rattle.std.proofs.lemmas.Bool.{cases_eq, eq-eqb, eqb-true}
+use Rattle.std.proofs.lemmas.Bool.Decides.{nat_tests}
 use Rattle.std.proofs.lemmas.Int.{ints, clamps}
 use Rattle.std.proofs.lemmas.Nat.{le-div}
-use Rattle.std.proofs.lemmas.List.Elements.{All-get_or, All-push, All-weaker, Contains-append_left, Contains-push}
+use Rattle.std.proofs.lemmas.List.Elements.{All-get_or, All-push, All-tail, All-weaker, Contains-append_left, Contains-push}
 use Rattle.std.proofs.lemmas.List.Sorted.{All-permutation, Contains-permutation}
 use Rattle.std.proofs.lemmas.Option.{slice_get-get_or, slice_get_within}
+use Rattle.std.proofs.lemmas.Map.Keys.{IsDistinct-IsPermutation, IsDistinct-push}
+use Rattle.std.specs.Cmp.{IsEquivalence}
+use Rattle.std.specs.List.{IsDistinct, list_any}
 use Rattle.std.specs.List.Sorted.{IsNonDecreasingBy, IsPermutation}
 use Rattle.planar.proofs.Ring.{times_cancel}
 use Rattle.planar.specs.Plane.{Point, at}
 use Rattle.planar.specs.declared.Frame.{Frame}
-use Rattle.planar.specs.declared.Spot.{Spot}
 use Rattle.planar.specs.declared.TheConstants.{SIDE}
 use Rattle.contact.proofs.Boxes.{box_holds, overlap_share}
 use Rattle.contact.specs.Solid.{InBox, IsInside, Overlap, SharePoint}
@@ -25,13 +28,14 @@ use Rattle.board_shapes.specs.Touching.{UnderAt}
 use Rattle.board_shapes.specs.declared.probe.Probe.{Probe}
 use Rattle.board_shapes.specs.declared.shape.Shape.{Shape}
 use Rattle.verdict.proofs.Holding.{le_or_lt}
+use Rattle.verdict.proofs.Steps.{and_both}
 use Rattle.witness_check.specs.Extents.{IsAway, IsAwayAt, IsExtent, IsExtentAt}
-use Rattle.witness_check.specs.Strips.{AreFiled, AreIntervals, ArePoints, AreSet, Files, IsFiled, IsSet, interval_in, place_in, point_in, strip_of}
+use Rattle.witness_check.specs.Strips.{AreFiled, AreIntervals, ArePoints, AreSet, Files, IsFiled, IsOwn, IsSet, are_one, interval_in, place_in, point_in, strip_of}
 use Rattle.witness_check.specs.declared.extent.Away.{Away}
 use Rattle.witness_check.specs.declared.extent.Extent.{Extent}
 use Rattle.witness_check.specs.declared.least.ProbePlace.{ProbePlace}
 use Rattle.witness_check.specs.declared.strips.Interval.{Interval}
-use Rattle.witness_check.specs.declared.strips.TheConstants.{LEAST_HEIGHT}
+use Rattle.witness_check.specs.declared.strips.TheConstants.{LEAST_HEIGHT, STRIP}
 
 -- ---- Extents
 
@@ -72,17 +76,78 @@ extent_moved f f' b b' e p q is = subst (λ (x : Frame). IsExtent x b' e) p (sub
 -- ---- Filing
 
 pub files_none : (e : Extent) (height piece : ℕ) (old : List Interval) → Files e height piece (strip_of height e.low) old old
-files_none e height piece old = record { kept = λ s h. h; only = λ n all below. all; each = λ k from to. absurd (omega arith) }
+files_none e height piece old = record {
+  kept = λ s h. h;
+  only = λ n all below. all;
+  each = λ k from to. absurd (omega arith);
+  own = λ b is below all. all;
+  sooner = λ all. All-weaker (λ (s : Interval). s.piece < piece) (λ (s : Interval). (s.piece < piece) ⊎ (s.start < place_in (strip_of height e.low) 0)) (λ s h. inl h) old all;
+  once = λ all once. once;
+}
 
-pub files_more : (e : Extent) (height piece k : ℕ) (old new : List Interval) (s : Interval) → s ≡ interval_in e height piece k → Files e height piece k old new → Files e height piece (k + 1) old (new ++ s ∷ [])
-files_more e height piece k old new s is files = record {
+flips : (x y : ℕ) → (x == y) ≡ (y == x)
+flips x y = grind (arith, nat_tests)
+
+one_turned : (x y : Interval) → are_one x y ≡ are_one y x
+one_turned x y = rw (flips x.piece y.piece, flips x.start y.start) refl
+
+-- the test is an equivalence
+one_laws : IsEquivalence are_one
+one_laws = record {
+  refl = λ x. let a = eq-eqb x.piece x.piece refl in let b = eq-eqb x.start x.start refl in rw (a, b) refl;
+  symm = one_turned;
+  congr = λ x y z e.
+      let both = and_both (x.piece == y.piece) (x.start == y.start) e in
+      let p : x.piece ≡ y.piece = eqb-true x.piece y.piece both.0 in
+      let q : x.start ≡ y.start = eqb-true x.start y.start both.1 in
+      rw (p, q) refl;
+}
+
+differ : (x y : ℕ) → y < x → (x == y) ≡ false
+differ x y less = grind (arith, nat_tests)
+
+-- one of a lesser piece or that starts sooner is another
+is_other : (one two : Interval) → (two.piece < one.piece) ⊎ (two.start < one.start) → are_one one two ≡ false
+is_other one two (inl less) = let e : (one.piece == two.piece) ≡ false = differ one.piece two.piece less in rw e refl
+is_other one two (inr sooner) = by (one.piece == two.piece) (differ one.start two.start sooner)
+  where
+    by : (t : Bool) → (one.start == two.start) ≡ false → (t && (one.start == two.start)) ≡ false
+    by true e = e
+    by false e = refl
+
+none_one : (one : Interval) (xs : List Interval) → All (λ (two : Interval). (two.piece < one.piece) ⊎ (two.start < one.start)) xs → list_any (are_one one) xs ≡ false
+none_one one [] all = refl
+none_one one (two ∷ xs) all =
+    let here : are_one one two ≡ false = is_other one two (all 0 two (omega arith)) in
+    let more : list_any (are_one one) xs ≡ false = none_one one xs (All-tail (λ (x : Interval). (x.piece < one.piece) ⊎ (x.start < one.start)) two xs all) in
+    rw (here, more) refl
+
+pub files_more : (e : Extent) (height piece k : ℕ) (old new : List Interval) (s : Interval) → s ≡ interval_in e height piece k → e.left < STRIP → strip_of height e.low ≤ k → Files e height piece k old new → Files e height piece (k + 1) old (new ++ s ∷ [])
+files_more e height piece k old new s is narrow low files = record {
   kept = λ x h. Contains-append_left new (s ∷ []) x (files.kept x h);
-  only = λ n all below. All-push (λ (x : Interval). x.piece < n) new s (files.only n all below) (let same = ap (λ (x : Interval). x.piece) is in omega arith);
+  only = λ n all below. All-push (λ (x : Interval). x.piece < n) new s (files.only n all below) (let same = of in omega arith);
   each = λ j from to. elim (cases_eq j k) [
     | inl same ↦ subst (λ (i : ℕ). Contains (new ++ s ∷ []) (interval_in e height piece i)) (sym same) (subst (λ (x : Interval). Contains (new ++ s ∷ []) x) is (Contains-push new s))
     | inr other ↦ Contains-append_left new (s ∷ []) (interval_in e height piece j) (files.each j from (omega arith))
   ];
+  own = λ b there below all. All-push (IsOwn b height) new s (files.own b there (omega arith) all)
+      (subst (IsOwn b height) (sym is) (record { extent = e; of = there; strip = k; from = low; to = omega arith; is = refl }));
+  sooner = λ all. All-push (λ (x : Interval). (x.piece < piece) ⊎ (x.start < place_in (k + 1) 0)) new s
+      (All-weaker (λ (x : Interval). (x.piece < piece) ⊎ (x.start < place_in k 0)) (λ (x : Interval). (x.piece < piece) ⊎ (x.start < place_in (k + 1) 0)) (λ x h. elim h [ inl less ↦ inl less | inr sooner ↦ inr (omega arith) ]) new (files.sooner all))
+      (inr (let same = start in omega arith));
+  once = λ all once. IsDistinct-push one_laws new s (files.once all once)
+      (none_one s new (All-weaker (λ (x : Interval). (x.piece < piece) ⊎ (x.start < place_in k 0)) (λ (x : Interval). (x.piece < s.piece) ⊎ (x.start < s.start)) (λ x h. elim h [ inl less ↦ inl (let same = of in omega arith) | inr sooner ↦ inr (let same = start in omega arith) ]) new (files.sooner all)));
 }
+  where
+    of : s.piece ≡ piece
+    of = ap (λ (x : Interval). x.piece) is
+
+    start : s.start ≡ place_in k e.left
+    start = ap (λ (x : Interval). x.start) is
+
+pub filed_none : (b : PlainBoard) (height : ℕ) (xs : List Interval) → xs ≡ [] → AreFiled b height 0 xs
+unfolding IsDistinct
+filed_none b height xs none = subst (AreFiled b height 0) (sym none) (record { known = λ k d below. absurd (omega arith); filed = λ p below. absurd (omega arith); own = λ k d below. absurd (omega arith); once = tt })
 
 pub filed_more : (b : PlainBoard) (height p : ℕ) (e : Extent) (old new : List Interval) → AreFiled b height p old → IsExtentAt b p e → Files e height p (strip_of height e.high + 1) old new → AreFiled b height (p + 1) new
 filed_more b height p e old new are is files = record {
@@ -91,6 +156,8 @@ filed_more b height p e old new are is files = record {
     | inl same ↦ subst (λ (i : ℕ). IsFiled b height new i) (sym same) (record { extent = e; is = is; each = λ k from to. files.each k from (omega arith) })
     | inr other ↦ kept q (are.filed q (omega arith))
   ];
+  own = files.own b is (omega arith) are.own;
+  once = files.once are.known are.once;
 }
   where
     kept : (q : ℕ) → IsFiled b height old q → IsFiled b height new q
@@ -101,6 +168,8 @@ intervals_sorted b height xs ys high are moved rising = record {
   high = high;
   known = All-permutation (λ (s : Interval). s.piece < length b.pieces) xs ys moved are.known;
   filed = λ p below. let f = are.filed p below in record { extent = f.extent; is = f.is; each = λ k from to. Contains-permutation xs ys (interval_in f.extent height p k) moved (f.each k from to) };
+  own = All-permutation (IsOwn b height) xs ys moved are.own;
+  once = IsDistinct-IsPermutation are_one one_turned xs ys moved are.once;
   rising = rising;
 }
 

@@ -1,14 +1,14 @@
 -- What a sweep over sorted intervals tells: that nets stand apart, and the least piece under a probe.
-use Rattle.std.proofs.Common.{◌≡◌, ◌↔◌, ◌⊎◌, inl, inr, ℕ, zero, suc, ◌+◌, ◌<◌, ◌≤◌, List, [], ◌∷◌, length, get_or, set, All, Contains, Option, None, Some, IfSome, sym, ap, subst, ◌∙◌, arith}
+use Rattle.std.proofs.Common.{◌≡◌, ◌↔◌, ◌⊎◌, inl, inr, ℕ, zero, suc, ◌+◌, ◌<◌, ◌≤◌, List, [], ◌∷◌, ◌++◌, length, get_or, set, take, cond, All, Contains, Option, None, Some, IfSome, sym, ap, subst, ◌∙◌, arith}
 use Rattle.std.proofs.lemmas.Bool.{cases_eq}
-use Rattle.std.proofs.lemmas.List.{get_or-set_other, get_or-set_same, get_or_default}
+use Rattle.std.proofs.lemmas.List.{get_or-set_other, get_or-set_same, get_or_default, take_more}
 use Rattle.std.proofs.lemmas.List.Elements.{All-tail}
 use Rattle.std.specs.List.Sorted.{IsNonDecreasingBy}
 use Rattle.tables.specs.Lists.{IsLeast}
 use Rattle.verdict.specs.declared.verdict.Twig.{Twig}
 use Rattle.verdict.specs.Forest.{StandOnce, StandApart, Holds}
 use Rattle.verdict.proofs.Holding.{le_or_lt}
-use Rattle.witness_check.specs.Strips.{AreAgreed, AreClear, ComeTogether, IsAtMost, IsClear, IsCounted}
+use Rattle.witness_check.specs.Strips.{AreAgreed, AreClear, ComeTogether, IsAtMost, IsClear, IsCounted, asked_pairs, asked_with, come_together}
 use Rattle.witness_check.specs.declared.least.ProbePlace.{ProbePlace}
 use Rattle.witness_check.specs.declared.strips.Interval.{Interval}
 use Rattle.witness_check.proofs.Filing.{Comes, HasPlace}
@@ -106,6 +106,23 @@ past_end near numbers one later j e rising there past before k d below = elim (l
         let up = rising j k d le below in
         let at_j : (get_or later j d).start ≡ (get_or later j e).start = ap (λ (s : Interval). s.start) (get_or_default later j d e there) in
         omega arith
+
+-- ---- How many pairs are asked
+
+asked_push : (one : Interval) (xs : List Interval) (two : Interval) → asked_with one (xs ++ two ∷ []) ≡ asked_with one xs + cond (come_together one two) 1 0
+asked_push one [] two = omega arith
+asked_push one (x ∷ xs) two = let more = asked_push one xs two in omega arith
+
+pub asked_more : (one : Interval) (later : List Interval) (n : ℕ) (d : Interval) → n < length later → asked_with one (take (n + 1) later) ≡ asked_with one (take n later) + cond (come_together one (get_or later n d)) 1 0
+asked_more one later n d below = ap (asked_with one) (take_more later n d below) ∙ asked_push one (take n later) (get_or later n d)
+
+pub asked_most : (one : Interval) (later : List Interval) (n : ℕ) → asked_with one (take n later) ≤ asked_with one later
+asked_most one later zero = omega arith
+asked_most one [] (suc n) = omega arith
+asked_most one (two ∷ later) (suc n) = let most = asked_most one later n in omega arith
+
+pub asked_rest : (rest : List Interval) (one : Interval) (later : List Interval) → rest ≡ one ∷ later → asked_pairs rest ≡ asked_with one later + asked_pairs later
+asked_rest rest one later is = ap asked_pairs is
 
 -- ---- The least piece
 

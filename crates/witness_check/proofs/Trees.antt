@@ -5,7 +5,7 @@ use Rattle.std.proofs.lemmas.List.Elements.{All-push, All-get_or, All-from_get_o
 use Rattle.std.proofs.lemmas.Bool.{cases_eq}
 use Rattle.verdict.specs.declared.verdict.Twig.{Twig}
 use Rattle.verdict.specs.Forest.{IsTree, Hang, HangsOn, AreTrees, Holds, net_at, pieces_of, piece_of, first_piece}
-use Rattle.witness_check.specs.Nets.{IsKnownTree, HangsByStamp}
+use Rattle.witness_check.specs.Nets.{IsKnownTree, HangsByStamp, twig_count}
 
 pub hang_more : (near : ℕ → ℕ → Type 0) (earlier : List ℕ) (rest : List Twig) (t : Twig) → Hang near earlier rest → HangsOn near (earlier ++ pieces_of rest) t → Hang near earlier (rest ++ t ∷ [])
 hang_more near earlier [] t hang h = (record { parent = h.parent; named = h.named; stands = subst (λ (xs : List ℕ). Contains xs h.parent) (append-nil earlier) h.stands; touches = h.touches }, tt)
@@ -166,3 +166,17 @@ judged_all count near nets i floor stamps a all within = record {
 
 pub tree_at : (count : ℕ) (near : ℕ → ℕ → Type 0) (nets : List (List Twig)) (i : ℕ) → AreTrees count near nets → i < length nets → IsKnownTree count near (net_at nets i)
 tree_at count near nets i t below = record { known = λ p h. t.known i p h; tree = All-get_or (IsTree near) nets i [] below t.trees }
+
+-- ---- How many twigs there are
+
+twigs_push : (nets : List (List Twig)) (net : List Twig) → twig_count (nets ++ net ∷ []) ≡ twig_count nets + length net
+twigs_push [] net = omega arith
+twigs_push (first ∷ rest) net = let more = twigs_push rest net in omega arith
+
+pub twigs_more : (nets : List (List Twig)) (i : ℕ) → i < length nets → twig_count (take (i + 1) nets) ≡ twig_count (take i nets) + length (net_at nets i)
+twigs_more nets i below = ap twig_count (take_more nets i [] below) ∙ twigs_push (take i nets) (net_at nets i)
+
+pub twigs_most : (nets : List (List Twig)) (i : ℕ) → twig_count (take i nets) ≤ twig_count nets
+twigs_most nets zero = omega arith
+twigs_most [] (suc i) = omega arith
+twigs_most (net ∷ rest) (suc i) = let most = twigs_most rest i in omega arith

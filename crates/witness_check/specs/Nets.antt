@@ -1,5 +1,5 @@
 -- What the tests of nets tell.
-use Rattle.std.specs.Prelude.{◌≡◌, ◌≢◌, ◌⊎◌, ℕ, ◌<◌, ◌≤◌, List, length, slice_index_or, AllPairs, Contains, Some}
+use Rattle.std.specs.Prelude.{◌≡◌, ◌≢◌, ◌⊎◌, ℕ, ◌+◌, ◌<◌, ◌≤◌, List, [], ◌∷◌, length, slice_index_or, AllPairs, Contains, Some}
 use Rattle.verdict.specs.declared.verdict.Twig.{Twig}
 use Rattle.verdict.specs.Forest.{Holds, IsTree, StandOnce, net_at, pieces_of}
 use Rattle.verdict.specs.Places.{HasPlaces}
@@ -37,3 +37,10 @@ pub record HasStanding (count : ℕ) (nets : List (List Twig)) (numbers places :
   pub long : length numbers ≡ count
   pub numbered : (i piece : ℕ) → Holds nets i piece → slice_index_or numbers piece 0 ≡ i
   pub placed : (i : ℕ) → i < length nets → HasPlaces (net_at nets i) places
+
+-- ---- How many twigs there are
+
+-- the twigs of all nets
+abbrev pub twig_count : List (List Twig) → ℕ
+twig_count [] = 0
+twig_count (net ∷ rest) = length net + twig_count rest

@@ -3,6 +3,7 @@ ghost use Rattle.board_shapes.specs.Plain.{plain_board};
 ghost use Rattle.board_shapes.specs.Tables.{IsTables};
 ghost use Rattle.std.specs.Prelude.{◌≡◌, ◌<◌, IfOk};
 ghost use Rattle.tables.specs.Tables.{Tables};
+ghost use Rattle.witness_check.specs.Asked.{AreTested};
 ghost use Rattle.witness_check.specs.Ruled.{Rules};
 
 use crate::counts::counts_hold;
@@ -35,11 +36,11 @@ pub enum Ruling {
 pub fn audit(alloc: Global, board: &Board, v: &Verdict) -> Result<Ruling, NoMemory>
     ensures { IfOk result (λ ruling. (t : Tables) → IsTables (plain_board board.now) t → Rules t v.now ruling) }
 {
-    ruling_of::<Brand>(alloc, board, v, Blank::new(1))
+    with_counter::<Brand>(alloc, board, v, Blank::new(1))
 }
 
-// The ruling, found with a counter of contact tests. The call of a law does nothing when the program runs.
-fn ruling_of<L: Ledger>(
+// The same, with a counter of its own.
+fn with_counter<L: Ledger>(
     alloc: Global,
     board: &Board,
     v: &Verdict,
@@ -51,11 +52,25 @@ fn ruling_of<L: Ledger>(
     ensures { IfOk result (λ ruling. (t : Tables) → IsTables (plain_board board.now) t → Rules t v.now ruling) }
 {
     let mut tests = Steps::<L>::new(blank);
+    ruling_of(alloc, board, v, &mut tests)
+}
+
+/// The same. One tick of `tests` is one contact test: there is at most one for each twig of the verdict's nets, and one for
+/// each pair of pieces that come together in the strips. The call of a law does nothing when the program runs.
+pub fn ruling_of<L: Ledger>(
+    alloc: Global,
+    board: &Board,
+    v: &Verdict,
+    tests: &mut Steps<L>,
+) -> Result<Ruling, NoMemory>
+    ensures rules { IfOk result (λ ruling. (t : Tables) → IsTables (plain_board board.now) t → Rules t v.now ruling) }
+    ensures tests { AreTested (plain_board board.now) v.now.nets tests.old tests.new }
+{
     shapes::tables_are_unique();
     let nets = v.nets.as_slice();
     let lines = v.points.as_slice();
     let pieces = board.pieces().len();
-    if !are_trees(alloc, board, nets, &mut tests)? {
+    if !are_trees(alloc, board, nets, tests)? {
         return Ok(Ruling::Untrue(1));
     }
     let Some(standing) = standing_of(alloc, nets, pieces)? else {
@@ -64,7 +79,7 @@ fn ruling_of<L: Ledger>(
     let numbers = standing.numbers.as_slice();
     let places = standing.places.as_slice();
     let strips = strips_of(alloc, board)?;
-    if !stand_apart(board, nets, numbers, &strips, &mut tests) {
+    if !stand_apart(board, nets, numbers, &strips, tests) {
         return Ok(Ruling::Untrue(3));
     }
     let homes = least_under(alloc, board, &strips)?;

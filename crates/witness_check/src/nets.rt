@@ -1,9 +1,9 @@
 //! The clauses that speak of nets alone.
 ghost use Rattle.board_shapes.specs.Plain.{plain_board};
 ghost use Rattle.board_shapes.specs.Tables.{IsNear};
-ghost use Rattle.std.specs.Prelude.{◌≡◌, ◌≢◌, ℕ, ◌<◌, ◌≤◌, ◌^◌, ◌↔◌, IsTrue, length, None, Contains, slice_index_or, IfOk, MatchOption};
+ghost use Rattle.std.specs.Prelude.{◌≡◌, ◌≢◌, ℕ, ◌+◌, ◌<◌, ◌≤◌, ◌^◌, ◌↔◌, IsTrue, length, None, Contains, slice_index_or, IfOk, MatchOption};
 ghost use Rattle.verdict.specs.Forest.{AreTrees, StandOnce, Holds, pieces_of, first_piece};
-ghost use Rattle.witness_check.specs.Nets.{AreNew, HangsByStamp, HasStanding, IsKnownTree, IsStood};
+ghost use Rattle.witness_check.specs.Nets.{AreNew, HangsByStamp, HasStanding, IsKnownTree, IsStood, twig_count};
 
 use crate::contacts::are_near;
 use board_shapes::Board;
@@ -13,14 +13,15 @@ use std::sync::ledger::Ledger;
 use steps::Steps;
 use verdict::{Tree, Twig};
 
-/// Whether each net is a tree of pieces of the board, and their first pieces rise.
+/// Whether each net is a tree of pieces of the board, and their first pieces rise. At most one contact test a twig.
 pub fn are_trees<L: Ledger>(
     alloc: Global,
     board: &Board,
     nets: &[Tree],
     tests: &mut Steps<L>,
 ) -> Result<bool, NoMemory>
-    ensures { IfOk result (λ yes. IsTrue yes ↔ AreTrees (length (plain_board board.now).pieces) (IsNear (plain_board board.now)) nets.now) }
+    ensures trees { IfOk result (λ yes. IsTrue yes ↔ AreTrees (length (plain_board board.now).pieces) (IsNear (plain_board board.now)) nets.now) }
+    ensures tests { tests.new ≤ tests.old + twig_count nets.now }
 {
     let mut table = vec![in alloc; 0; board.pieces().len()]?;
     let stamps = table.as_mut_slice();
@@ -62,6 +63,7 @@ fn is_tree<L: Ledger>(
     requires fresh { (q : ℕ) → slice_index_or stamps.old q 0 < stamp }
     ensures tree { IsTrue result ↔ IsKnownTree (length (plain_board board.now).pieces) (IsNear (plain_board board.now)) net.now }
     ensures stamps { (q : ℕ) → slice_index_or stamps.new q 0 ≤ stamp }
+    ensures tests { tests.new ≤ tests.old + length net.now }
 {
     if net.is_empty() {
         return false;
@@ -101,7 +103,8 @@ fn hangs<L: Ledger>(
     tests: &mut Steps<L>,
 ) -> bool
     requires flags { length stamps.now ≡ length (plain_board board.now).pieces }
-    ensures { IsTrue result ↔ HangsByStamp (length (plain_board board.now).pieces) (IsNear (plain_board board.now)) stamps.now stamp first twig }
+    ensures hangs { IsTrue result ↔ HangsByStamp (length (plain_board board.now).pieces) (IsNear (plain_board board.now)) stamps.now stamp first twig }
+    ensures tests { tests.new ≤ tests.old + 1 }
 {
     let Some(parent) = twig.parent else {
         return false;

@@ -30,14 +30,14 @@ loop-i-preserved c =
       digits_more xs i c.loop-i-test.true c.loop-i.invariant.0 one,
       λ few. elim c.if-i-lt18.branch [
         | then-i-lt18 w ↦ (
-          let h = room 0 i 18 c.loop-i.value w.if-i-lt18.true (eighteen_fit 18 (omega arith)) (c.loop-i.invariant.1 (omega arith)).1 in
-          let d = digit_of (get_or xs i 0) one in
-          let more = digits_value_after-more 10 0 xs i c.loop-i-test.true in
-          let was = (c.loop-i.invariant.1 (omega arith)).0 in
-          let from = w.from.ensures in
-          let is = w.value-is in
-          (omega (arith, more, d, was, from, is), omega (arith, h, d, from, is))
-        )
+            let h = room 0 i 18 c.loop-i.value w.if-i-lt18.true (eighteen_fit 18 (omega arith)) (c.loop-i.invariant.1 (omega arith)).1 in
+            let d = digit_of (get_or xs i 0) one in
+            let more = digits_value_after-more 10 0 xs i c.loop-i-test.true in
+            let was = (c.loop-i.invariant.1 (omega arith)).0 in
+            let from = w.from.ensures in
+            let is = w.value-is in
+            (omega (arith, more, d, was, from, is), omega (arith, h, d, from, is))
+            )
         | else-i-lt18 w ↦ absurd (let far = w.if-i-lt18.false in omega arith)
       ],
     )

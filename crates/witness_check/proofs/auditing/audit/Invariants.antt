@@ -1,4 +1,4 @@
 use Rattle.witness_check.proofs.auditing.audit.Given as goal
 
-abbrev pub ghosts-ruling_of : goal.ghosts-ruling_of
-ghosts-ruling_of a = record { name = a.blank.name; parts = a.blank.parts }
+abbrev pub ghosts-with_counter : goal.ghosts-with_counter
+ghosts-with_counter a = record { name = a.blank.name; parts = a.blank.parts }

@@ -3,8 +3,8 @@ use Rattle.board_shapes.specs.Plain.{plain_board, plain_piece}
 use Rattle.witness_check.proofs.Touching.{near_is, piece_there, long_as}
 use Rattle.witness_check.proofs.contacts.are_near.Goals as goal
 
-pub returns : goal.returns
-returns g c =
+pub returns-clause-near : goal.returns-clause-near
+returns-clause-near g c =
     let items = c.pieces-pieces.result.now in
     let long = long_as (plain_board c.args.board.now) items c.pieces-pieces.ensures.plain in
     let one = piece_there (plain_board c.args.board.now) items c.args.p c.index-pieces-p.result c.pieces-pieces.ensures.plain (slice_get_read items _ c.args.p c.index-pieces-p.result long c.requires.first c.index-pieces-p.is) in

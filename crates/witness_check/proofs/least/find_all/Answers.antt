@@ -1,11 +1,10 @@
-use Rattle.std.proofs.Common.{◌<◌, ◌≤◌, ℕ, List, None, arith, get_or, length, rules, subst, sym}
+use Rattle.std.proofs.Common.{List, arith, length, rules, subst, sym}
 use Rattle.std.proofs.lemmas.List.{get_or_default}
 use Rattle.std.proofs.lemmas.Option.{slice_get_within}
-use Rattle.std.specs.List.Sorted.{IsNonDecreasingBy}
 use Rattle.board_shapes.proofs.Kept.{board_is_lawful}
 use Rattle.board_shapes.specs.Plain.{plain_board}
 use Rattle.board_shapes.specs.Touching.{UnderAt}
-use Rattle.witness_check.specs.Strips.{AreIntervals, IsCounted}
+use Rattle.witness_check.specs.Strips.{AreIntervals}
 use Rattle.witness_check.specs.declared.least.ProbePlace.{ProbePlace}
 use Rattle.witness_check.specs.declared.strips.Interval.{Interval}
 use Rattle.witness_check.proofs.Filing.{has_place, under_within}
