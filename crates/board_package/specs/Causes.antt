@@ -1,6 +1,7 @@
 -- Why a package gives no board.
-use Rattle.std.specs.Prelude.{◌≡◌, ◌⊎◌, ℕ, List, Option, Some, None, IfSome}
+use Rattle.std.specs.Prelude.{◌≡◌, ◌≤◌, ◌⊎◌, ℕ, List, Option, Some, None, IfSome, MatchResult, Result}
 use Rattle.board_io.specs.Causes.{Rose}
+use Rattle.board_io.specs.Handed.{AgreeWith, Grows, Handed}
 use Rattle.board_io.specs.Package.{Files, IsFaultless}
 use Rattle.board_shapes.specs.Plain.{PlainBoard}
 use Rattle.board_package.specs.PackageBoard.{StopsAtFrame, Stop, longer, not_json, bad_manifest, refused, frame_too_large}
@@ -42,6 +43,20 @@ HasCause held Stops Comes before now lost fault.NoMemory = Unit {0}
 -- The same by stops and names that speak of no files, but of what was handed over.
 abbrev pub HandedCause : (Stop → Type 0) → (List ℕ → Type 0) → ℕ → ℕ → List ℕ → BuildFault → Type 0
 HandedCause Stops Comes before now lost given = HasCause (Some (λ name. None)) (λ files stop. Stops stop) (λ files name. Comes name) before now lost given
+
+-- ---- What is left
+
+-- What a stage leaves of the package that it was lent: the package holds what it held, what it hands over only grows and agrees with
+-- what it tells that it holds, and no fault is forgotten.
+pub record Leaves {P : Type 0} (files : P → Option Files) (handover : P → List Handed) (faults : P → ℕ) (old new : P) : Type 0 where
+  pub held : files new ≡ files old
+  pub grows : Grows (handover old) (handover new)
+  pub consistent : IfSome (files old) (λ f. AgreeWith f (handover old) (handover new))
+  pub later : faults old ≤ faults new
+
+-- A success leaves the count of faults and the lost name as they were, and a fault leaves what is said of it.
+abbrev pub Spares : {P A E : Type 0} → (ℕ → List ℕ → ℕ → List ℕ → E → Type 0) → (P → ℕ) → (P → List ℕ) → P → P → Result A E → Type 0
+Spares Left faults lost old new result = MatchResult result (λ _. IsFaultless (faults old) (lost old) (faults new) (lost new)) (Left (faults old) (lost old) (faults new) (lost new))
 
 -- Neither the count of faults nor the lost name changed, but where a file could not be read or memory was wanted.
 abbrev pub KeepsFaults : ℕ → List ℕ → ℕ → List ℕ → BuildFault → Type 0

@@ -44,11 +44,7 @@ cut_off files name n other = if is_word other name then option_map (take n) (fil
 -- the stop is a refusal, and no file that is not there
 abbrev pub IsRefusing : Stop → Type 0
 IsRefusing (absent name) = ⊥
-IsRefusing (longer name) = Unit {0}
-IsRefusing not_json = Unit {0}
-IsRefusing bad_manifest = Unit {0}
-IsRefusing (refused name why) = Unit {0}
-IsRefusing (frame_too_large box) = Unit {0}
+IsRefusing stop = Unit {0}
 
 -- Of a package with a board: cutting one file off, the manifest or another, at any place is a refusal or leaves the same board.
 abbrev pub CutIsRefusedOrTheSame : Files → List ℕ → Type 0

@@ -1,7 +1,5 @@
 //! The board of a package, and the work on it: its nets, its verdict and the report on it.
-ghost use Rattle.board_io.specs.Handed.{AgreeWith, Grows};
-ghost use Rattle.board_io.specs.Package.{IsFaultless};
-ghost use Rattle.board_package.specs.Causes.{HandedCause, HasCause, KeepsFaults};
+ghost use Rattle.board_package.specs.Causes.{HandedCause, HasCause, KeepsFaults, Leaves, Spares};
 ghost use Rattle.board_package.specs.HandedBoard.{ComesHanded, IsBoardHanded, IsFirstStopHanded};
 ghost use Rattle.board_package.specs.PackageBoard.{Comes, IsBoardOf, IsFirstStop, IsWithinLimits};
 ghost use Rattle.board_shapes.specs.Plain.{plain_board};
@@ -35,12 +33,8 @@ pub fn board_of<P: Package>(
     package: &mut P,
 ) -> Result<Board, BuildFault>
     requires { IsText manifest.now }
-    ensures held { P.held «package».new ≡ P.held «package».old }
-    ensures grows { Grows (P.handed «package».old) (P.handed «package».new) }
-    ensures consistent { IfSome (P.held «package».old) (λ files. AgreeWith files (P.handed «package».old) (P.handed «package».new)) }
-    ensures later { P.faults «package».old ≤ P.faults «package».new }
-    ensures calm { IfOk result (λ _. IsFaultless (P.faults «package».old) (P.lost «package».old) (P.faults «package».new) (P.lost «package».new)) }
-    ensures left { IfErr result (KeepsFaults (P.faults «package».old) (P.lost «package».old) (P.faults «package».new) (P.lost «package».new)) }
+    ensures leaves { Leaves P.held P.handed P.faults «package».old «package».new }
+    ensures spared { Spares KeepsFaults P.faults P.lost «package».old «package».new result }
     ensures ok { IfOk result (λ board. IfSome (P.held «package».old) (λ files. IsBoardOf files manifest.now (plain_board board))) }
     ensures handed { IfOk result (λ board. IsBoardHanded (P.handed «package».old) (P.handed «package».new) manifest.now (plain_board board)) }
     ensures handed_cause { IfErr result (HandedCause (λ stop. IsFirstStopHanded (P.handed «package».old) (P.handed «package».new) manifest.now stop) (λ name. ComesHanded (P.handed «package».old) (P.handed «package».new) manifest.now name) (P.faults «package».old) (P.faults «package».new) (P.lost «package».new)) }

@@ -1,4 +1,3 @@
-use Rattle.board_io.proofs.Agreeing.{grows_on}
 use Rattle.board_shapes.specs.Plain.{plain_board}
 use Rattle.board_package.specs.Causes.{HandedCause, HasCause, IsFrameFault}
 use Rattle.board_package.specs.HandedBoard.{ComesHanded, IsFirstStopHanded}
@@ -7,7 +6,7 @@ use Rattle.board_package.specs.LabelledCauses.{labelled_so_far}
 use Rattle.board_package.specs.PackageBoard.{Comes, IsFirstStop}
 use Rattle.board_package.specs.Parts.{board_so_far}
 use Rattle.board_package.proofs.ByNetlist.{handed_plainly, no_labels, plain_cause, plain_handed, told_plainly}
-use Rattle.board_package.proofs.Lift.{agrees_on, climbs, if_err, if_ok}
+use Rattle.board_package.proofs.Lift.{climbs, if_err, if_ok, leaves_on}
 use Rattle.board_package.proofs.Staging.{board_handed, files_handed, framed_handed, manifest_handed}
 use Rattle.board_package.proofs.Taking.{board_is, files_cause, framed_cause}
 use Rattle.board_package.proofs.stages.build.Goals as goal
@@ -28,7 +27,7 @@ returns-in-Err-Build-clause-fault g c =
     let why = c.in-Err-Build.why in
     files_cause (g.P.Package.held c.args.package.now) held c.args.manifest.now c.in_ok-listed.listed start.board
     (g.P.Package.faults c.args.package.now) (g.P.Package.faults c.take_manifest.new.package) (g.P.Package.faults c.take_files.new.package) (g.P.Package.lost c.take_files.new.package) why
-    c.take_manifest.ensures.held c.new-parts.ensures.empty c.take_manifest.ensures.later c.in_ok-listed.ensures.found
+    c.take_manifest.ensures.leaves.held c.new-parts.ensures.empty c.take_manifest.ensures.leaves.later c.in_ok-listed.ensures.found
     (plain_cause held c.as_slice-entries.result.now c.in_ok-listed.listed.files start (g.P.Package.faults c.take_manifest.new.package) (g.P.Package.faults c.take_files.new.package) (g.P.Package.lost c.take_files.new.package) why c.in-Err-Build.field-0 c.as_slice-entries.ensures c.in-Err-Build.field-0-is c.in-Err-Build.ensures.cause)
 
 pub returns-in-Err-Build-clause-handed_cause : goal.returns-in-Err-Build-clause-handed_cause
@@ -39,7 +38,7 @@ returns-in-Err-Build-clause-handed_cause g c =
     let why = c.in-Err-Build.why in
     files_handed (g.P.Package.handed c.args.package.now) mid after c.args.manifest.now c.in_ok-listed.listed (board_so_far c.new-parts.result)
     (g.P.Package.faults c.args.package.now) (g.P.Package.faults c.take_manifest.new.package) (g.P.Package.faults c.take_files.new.package) (g.P.Package.lost c.take_files.new.package) why
-    c.new-parts.ensures.empty c.take_manifest.ensures.later c.in_ok-listed.ensures.handed
+    c.new-parts.ensures.empty c.take_manifest.ensures.leaves.later c.in_ok-listed.ensures.handed
     (plain_handed c.as_slice-entries.result.now c.in_ok-listed.listed.files start after (g.P.Package.faults c.take_manifest.new.package) (g.P.Package.faults c.take_files.new.package) (g.P.Package.lost c.take_files.new.package) why c.in-Err-Build.field-0 c.as_slice-entries.ensures c.in-Err-Build.field-0-is c.in-Err-Build.ensures.handed_cause)
 
 pub unreachable-requires : goal.unreachable-requires
@@ -56,7 +55,7 @@ returns-in-Ok-clause-ok g c =
     let end = labelled_so_far c.take_files.new.parts c.take_files.new.tables in
     let walked = told_plainly held c.as_slice-entries.result.now c.in_ok-listed.listed.files start end c.as_slice-entries.ensures c.in-Ok.ensures.found in
     if_ok c.framed.result _ _ _
-    (λ board made fits. board_is (g.P.Package.held c.args.package.now) held c.args.manifest.now c.in_ok-listed.listed start.board end.board (plain_board board) c.take_manifest.ensures.held c.new-parts.ensures.empty c.in_ok-listed.ensures.found walked fits made)
+    (λ board made fits. board_is (g.P.Package.held c.args.package.now) held c.args.manifest.now c.in_ok-listed.listed start.board end.board (plain_board board) c.take_manifest.ensures.leaves.held c.new-parts.ensures.empty c.in_ok-listed.ensures.found walked fits made)
     c.framed.ensures.ok c.framed.ensures.fits
 
 pub returns-in-Ok-clause-handed : goal.returns-in-Ok-clause-handed
@@ -78,7 +77,7 @@ returns-in-Ok-clause-fault g c =
     let walked = told_plainly held c.as_slice-entries.result.now c.in_ok-listed.listed.files start end c.as_slice-entries.ensures c.in-Ok.ensures.found in
     if_err c.framed.result (IsFrameFault end.board) (HasCause (g.P.Package.held c.args.package.now) (λ files stop. IsFirstStop files c.args.manifest.now stop) (λ files name. Comes files c.args.manifest.now name) (g.P.Package.faults c.args.package.now) (g.P.Package.faults c.take_files.new.package) (g.P.Package.lost c.take_files.new.package))
     (λ why h. framed_cause (g.P.Package.held c.args.package.now) held c.args.manifest.now c.in_ok-listed.listed start.board end.board (g.P.Package.faults c.args.package.now) (g.P.Package.faults c.take_files.new.package) (g.P.Package.lost c.take_files.new.package) why
-    c.take_manifest.ensures.held c.new-parts.ensures.empty c.in_ok-listed.ensures.found walked h)
+    c.take_manifest.ensures.leaves.held c.new-parts.ensures.empty c.in_ok-listed.ensures.found walked h)
     c.framed.ensures.fault
 
 pub returns-in-Ok-clause-handed_cause : goal.returns-in-Ok-clause-handed_cause
@@ -92,18 +91,10 @@ returns-in-Ok-clause-handed_cause g c =
     c.new-parts.ensures.empty c.in_ok-listed.ensures.handed walked h)
     c.framed.ensures.fault
 
--- ---- What was handed over agrees with what is held
+-- ---- What is left
 
-pub returns-in-Err-Build-clause-grows : goal.returns-in-Err-Build-clause-grows
-returns-in-Err-Build-clause-grows g c = grows_on _ _ _ c.take_manifest.ensures.grows c.take_files.ensures.grows
+pub returns-in-Err-Build-clause-leaves : goal.returns-in-Err-Build-clause-leaves
+returns-in-Err-Build-clause-leaves g c = leaves_on c.take_manifest.ensures.leaves c.take_files.ensures.leaves
 
-pub returns-in-Err-Build-clause-consistent : goal.returns-in-Err-Build-clause-consistent
-returns-in-Err-Build-clause-consistent g c =
-    agrees_on _ _ _ _ _ c.take_manifest.ensures.held c.take_manifest.ensures.grows c.take_files.ensures.grows c.take_manifest.ensures.consistent c.take_files.ensures.consistent
-
-pub returns-in-Ok-clause-grows : goal.returns-in-Ok-clause-grows
-returns-in-Ok-clause-grows g c = grows_on _ _ _ c.take_manifest.ensures.grows c.take_files.ensures.grows
-
-pub returns-in-Ok-clause-consistent : goal.returns-in-Ok-clause-consistent
-returns-in-Ok-clause-consistent g c =
-    agrees_on _ _ _ _ _ c.take_manifest.ensures.held c.take_manifest.ensures.grows c.take_files.ensures.grows c.take_manifest.ensures.consistent c.take_files.ensures.consistent
+pub returns-in-Ok-clause-leaves : goal.returns-in-Ok-clause-leaves
+returns-in-Ok-clause-leaves g c = leaves_on c.take_manifest.ensures.leaves c.take_files.ensures.leaves

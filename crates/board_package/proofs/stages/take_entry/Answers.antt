@@ -1,18 +1,15 @@
 use Rattle.std.proofs.Common.{◌≡◌}
-use Rattle.board_package.specs.Causes.{Halts, HandedCause, HasCause}
+use Rattle.board_package.specs.Causes.{Halts, HandedCause, HasCause, KeepsFaults}
 use Rattle.board_package.specs.HandedBoard.{ComesNext, StopsAtHanded, course}
 use Rattle.board_package.specs.PackageBoard.{StopsAt}
 use Rattle.board_package.specs.Parts.{board_so_far}
-use Rattle.board_package.proofs.Lift.{climbs, faultless_ok, if_err, kept_err}
+use Rattle.board_package.proofs.Lift.{climbs, if_err, kept, spared}
 use Rattle.board_package.proofs.Staging.{halted_handed, taking_entry}
 use Rattle.board_package.proofs.Taking.{halted_cause}
 use Rattle.board_package.proofs.stages.take_entry.Goals as goal
 
-pub returns-clause-faultless : goal.returns-clause-faultless
-returns-clause-faultless g c = faultless_ok c.read_file.result _ _ _ _ c.in_ok-take_file.ensures.faultless
-
-pub returns-clause-kept : goal.returns-clause-kept
-returns-clause-kept g c = kept_err c.read_file.result _ _ _ _ c.in_ok-take_file.ensures.faultless
+pub returns-clause-spared : goal.returns-clause-spared
+returns-clause-spared g c = spared KeepsFaults _ _ _ _ c.read_file.result (λ why. kept _ _ _ _ why c.in_ok-take_file.ensures.spared) c.in_ok-take_file.ensures.spared
 
 pub returns-clause-cause : goal.returns-clause-cause
 returns-clause-cause g c =
