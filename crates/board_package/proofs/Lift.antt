@@ -6,7 +6,7 @@ use Rattle.board_io.specs.Causes.{Rose}
 use Rattle.board_io.specs.Handed.{AgreeWith, Handed}
 use Rattle.board_io.specs.Package.{Files, IsFaultless}
 use Rattle.board_shapes.specs.Plain.{PlainBoard}
-use Rattle.board_package.specs.Causes.{HasCause, HasRefusal, IsFrameFault, KeepsFaults, Leaves, Spares}
+use Rattle.board_package.specs.Causes.{HasCause, HasRefusal, IsFrameFault, KeepsFaults, Leaves}
 use Rattle.board_package.specs.PackageBoard.{Stop, longer, not_json, bad_manifest, refused, frame_too_large, StopsAtFrame}
 use Rattle.board_package.specs.declared.fault.BuildFault.{BuildFault}
 use Rattle.board_package.specs.declared.fault.BuildFault.TheVariants as fault
@@ -14,14 +14,14 @@ use Rattle.board_package.specs.declared.contents.Refusal.{Refusal}
 use Rattle.board_package.specs.declared.contents.Refusal.TheVariants as refusal
 
 -- a fault that climbs
-pub climbs : {B E : Type 0} {Q : B → Type 0} (P : E → Type 0) (result : Result B E) (why : E) → IsErrAnd result (λ f. f ≡ why) → P why → MatchResult result Q P
-climbs P (Ok x) why e p = absurd e
-climbs P (Err f) why e p = subst P (sym e) p
+pub climbs : {B E : Type 0} (Q : B → Type 0) (P : E → Type 0) (result : Result B E) (why : E) → IsErrAnd result (λ f. f ≡ why) → P why → MatchResult result Q P
+climbs Q P (Ok x) why e p = absurd e
+climbs Q P (Err f) why e p = subst P (sym e) p
 
--- two facts of a value, and a third that follows
-pub if_ok : {B E : Type 0} (result : Result B E) (P Q R : B → Type 0) → ((x : B) → P x → Q x → R x) → IfOk result P → IfOk result Q → IfOk result R
-if_ok (Ok x) P Q R k p q = k x p q
-if_ok (Err f) P Q R k p q = tt
+-- two facts of a value or one of a fault, and what follows of the one and of the other
+pub either : {B E : Type 0} (result : Result B E) (P Q R : B → Type 0) (S T : E → Type 0) → ((x : B) → P x → Q x → R x) → ((why : E) → S why → T why) → IfOk result P → IfOk result Q → IfErr result S → MatchResult result R T
+either (Ok x) P Q R S T k j p q s = k x p q
+either (Err why) P Q R S T k j p q s = j why s
 
 -- two facts of the files that are told, and a third that follows
 pub told : (held : Option Files) (A B C : Files → Type 0) → ((files : Files) → A files → B files → C files) → IfSome held A → IfSome held B → IfSome held C
@@ -109,9 +109,9 @@ kept_after a l b m c n (fault.CannotRead name) h k = tt
 kept_after a l b m c n fault.NoMemory h k = tt
 kept_after a l b m c n other h k = faultless_both a l b m c n h k
 
-pub spared : {P B E : Type 0} (Left : ℕ → List ℕ → ℕ → List ℕ → E → Type 0) (faults : P → ℕ) (lost : P → List ℕ) (old new : P) (result : Result B E) → ((why : E) → Left (faults old) (lost old) (faults new) (lost new) why) → IsFaultless (faults old) (lost old) (faults new) (lost new) → Spares Left faults lost old new result
-spared Left faults lost old new (Ok x) left calm = calm
-spared Left faults lost old new (Err why) left calm = left why
+pub spared : {B E : Type 0} (Left : ℕ → List ℕ → ℕ → List ℕ → E → Type 0) (a : ℕ) (l : List ℕ) (b : ℕ) (m : List ℕ) (result : Result B E) → ((why : E) → Left a l b m why) → IsFaultless a l b m → MatchResult result (λ _. IsFaultless a l b m) (Left a l b m)
+spared Left a l b m (Ok x) left calm = calm
+spared Left a l b m (Err why) left calm = left why
 
 pub if_err : {B E : Type 0} (r : Result B E) (P Q : E → Type 0) → ((why : E) → P why → Q why) → IfErr r P → IfErr r Q
 if_err (Ok x) P Q k h = tt

@@ -1,3 +1,4 @@
+pub mod Building
 pub mod Causes
 pub mod HandedBoard
 pub mod HandedLabelled

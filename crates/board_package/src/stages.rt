@@ -2,6 +2,7 @@
 ghost use Rattle.std.specs.Prelude.{◌≡◌, ◌≤◌, List, ℕ, [], ◌∷◌, length, All, IfSome, IfOk, IfErr, OnOk};
 ghost use Rattle.std.specs.List.{filter};
 ghost use Rattle.board_shapes.specs.Plain.{plain_board, common_box, Fits};
+ghost use Rattle.board_package.specs.Building.{Builds, BuildsHanded};
 ghost use Rattle.board_package.specs.Causes.{HandedCause, HasCause, IsFrameFault, KeepsFaults, Leaves, Spares};
 ghost use Rattle.board_package.specs.HandedBoard.{ComesHanded, ComesNext, GoesHanded, IsBoardHanded, IsFirstStopHanded, IsHanded, IsManifestHanded, StopsAtHanded, StopsAtManifestHanded, StopsHanding, course};
 ghost use Rattle.board_package.specs.HandedLabelled.{GoesLabelledHanded, LabelledComesAmongHanded, StopsLabelledAmongHanded, labelled_course};
@@ -38,11 +39,9 @@ pub fn build<P: Package>(
 ) -> Result<Board, BuildFault>
     ensures leaves { Leaves P.held P.handed P.faults «package».old «package».new }
     ensures spared { Spares KeepsFaults P.faults P.lost «package».old «package».new result }
-    ensures ok { IfOk result (λ board. IfSome (P.held «package».old) (λ files. IsBoardOf files manifest.now (plain_board board))) }
-    ensures handed { IfOk result (λ board. IsBoardHanded (P.handed «package».old) (P.handed «package».new) manifest.now (plain_board board)) }
-    ensures handed_cause { IfErr result (HandedCause (λ stop. IsFirstStopHanded (P.handed «package».old) (P.handed «package».new) manifest.now stop) (λ name. ComesHanded (P.handed «package».old) (P.handed «package».new) manifest.now name) (P.faults «package».old) (P.faults «package».new) (P.lost «package».new)) }
+    ensures told { Builds P.held P.faults P.lost manifest.now «package».old «package».new result }
+    ensures handed { BuildsHanded P.handed P.faults P.lost manifest.now «package».old «package».new result }
     ensures limits { IfOk result (λ board. IsWithinLimits (plain_board board)) }
-    ensures fault { IfErr result (HasCause (P.held «package».old) (λ files stop. IsFirstStop files manifest.now stop) (λ files name. Comes files manifest.now name) (P.faults «package».old) (P.faults «package».new) (P.lost «package».new)) }
 {
     let listed = take_manifest(alloc, manifest, package)?;
     let mut parts = Parts::new(alloc, listed.layers);

@@ -30,5 +30,5 @@ returns-clause-handed_cause g c =
 
 pub returns-in_err-take_file-clause-handed_cause : goal.returns-in_err-take_file-clause-handed_cause
 returns-in_err-take_file-clause-handed_cause g c =
-    climbs _ c.from_residual.result c.in_err-take_file.field-0.0 c.from_residual.ensures.1
+    climbs _ _ c.from_residual.result c.in_err-take_file.field-0.0 c.from_residual.ensures.1
     (taking_entry c.args.entry.now (course (g.P.Package.handed c.args.package.now) (board_so_far c.args.parts.now)) (g.P.Package.handed c.take_file.new.package) (g.P.Package.faults c.args.package.now) (g.P.Package.faults c.take_file.new.package) (g.P.Package.lost c.take_file.new.package) c.in_err-take_file.field-0.0 c.in_err-take_file.ensures.handed_cause)

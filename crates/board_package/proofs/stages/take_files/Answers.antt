@@ -9,7 +9,7 @@ use Rattle.board_package.proofs.stages.take_files.Goals as goal
 
 pub returns-in_err-take_needed-clause-cause : goal.returns-in_err-take_needed-clause-cause
 returns-in_err-take_needed-clause-cause g c =
-    climbs _ c.from_residual.result c.in_err-take_needed.field-0.0 c.from_residual.ensures.1
+    climbs _ _ c.from_residual.result c.in_err-take_needed.field-0.0 c.from_residual.ensures.1
     (files_cause_more c.args.naming (g.P.Package.held c.args.package.now) (g.P.Package.held c.loop-entry.package) c.args.entries.now c.loop-entry.entry-index c.entry-item.result (labelled_so_far c.args.parts.now c.args.tables.now) (labelled_so_far c.loop-entry.parts c.loop-entry.tables)
     (g.P.Package.faults c.args.package.now) (g.P.Package.faults c.loop-entry.package) (g.P.Package.faults c.take_needed.new.package) (g.P.Package.lost c.take_needed.new.package) c.in_err-take_needed.field-0.0
     c.loop-entry-test.true c.entry-item.is c.loop-entry.invariant.leaves.held c.loop-entry.invariant.leaves.later c.loop-entry.invariant.walked c.in_err-take_needed.ensures.cause)
@@ -29,12 +29,12 @@ loop-entry-preserved g c = record {
 
 pub returns-in_err-take_needed-clause-spared : goal.returns-in_err-take_needed-clause-spared
 returns-in_err-take_needed-clause-spared g c =
-    climbs _ c.from_residual.result c.in_err-take_needed.field-0.0 c.from_residual.ensures.1
+    climbs _ _ c.from_residual.result c.in_err-take_needed.field-0.0 c.from_residual.ensures.1
     (kept_labelled_after _ _ _ _ _ _ c.in_err-take_needed.field-0.0 c.loop-entry.invariant.faultless c.in_err-take_needed.ensures.spared)
 
 pub returns-in_err-take_needed-clause-handed_cause : goal.returns-in_err-take_needed-clause-handed_cause
 returns-in_err-take_needed-clause-handed_cause g c =
-    climbs _ c.from_residual.result c.in_err-take_needed.field-0.0 c.from_residual.ensures.1
+    climbs _ _ c.from_residual.result c.in_err-take_needed.field-0.0 c.from_residual.ensures.1
     (files_more_handed c.args.naming c.args.entries.now c.loop-entry.entry-index c.entry-item.result (labelled_course (g.P.Package.handed c.args.package.now) (labelled_so_far c.args.parts.now c.args.tables.now)) (labelled_course (g.P.Package.handed c.loop-entry.package) (labelled_so_far c.loop-entry.parts c.loop-entry.tables)) (g.P.Package.handed c.take_needed.new.package)
     (g.P.Package.faults c.args.package.now) (g.P.Package.faults c.loop-entry.package) (g.P.Package.faults c.take_needed.new.package) (g.P.Package.lost c.take_needed.new.package) c.in_err-take_needed.field-0.0
     c.loop-entry-test.true c.entry-item.is c.loop-entry.invariant.leaves.later c.loop-entry.invariant.handed c.in_err-take_needed.ensures.handed_cause)

@@ -11,11 +11,11 @@ use Rattle.board_package.proofs.stages.take_needed.Goals as goal
 
 pub returns-in_err-take_entry-clause-cause : goal.returns-in_err-take_entry-clause-cause
 returns-in_err-take_entry-clause-cause g c =
-    climbs _ c.from_residual.result (fault.Build c.in_err-take_entry.field-0.0) c.from_residual.ensures.1
+    climbs _ _ c.from_residual.result (fault.Build c.in_err-take_entry.field-0.0) c.from_residual.ensures.1
     (file_cause c.args.naming (g.P.Package.held c.args.package.now) c.args.entry.now (labelled_so_far c.args.parts.now c.args.tables.now) (g.P.Package.faults c.args.package.now) (g.P.Package.faults c.take_entry.new.package) (g.P.Package.lost c.take_entry.new.package) c.in_err-take_entry.field-0.0 (sym c.if-not-takes.ensures) c.in_err-take_entry.ensures.cause)
 
 pub returns-in_err-take_entry-clause-spared : goal.returns-in_err-take_entry-clause-spared
-returns-in_err-take_entry-clause-spared g c = climbs _ c.from_residual.result (fault.Build c.in_err-take_entry.field-0.0) c.from_residual.ensures.1 c.in_err-take_entry.ensures.spared
+returns-in_err-take_entry-clause-spared g c = climbs _ _ c.from_residual.result (fault.Build c.in_err-take_entry.field-0.0) c.from_residual.ensures.1 c.in_err-take_entry.ensures.spared
 
 pub returns-clause-spared : goal.returns-clause-spared
 returns-clause-spared g c = spared KeepsLabelledFaults _ _ _ _ c.list_labels.result (λ why. kept_labelled _ _ _ _ why c.in_ok-take_entry.ensures.spared) c.in_ok-take_entry.ensures.spared
@@ -32,7 +32,7 @@ returns-clause-cause g c =
 
 pub returns-in_err-take_entry-clause-handed_cause : goal.returns-in_err-take_entry-clause-handed_cause
 returns-in_err-take_entry-clause-handed_cause g c =
-    climbs _ c.from_residual.result (fault.Build c.in_err-take_entry.field-0.0) c.from_residual.ensures.1
+    climbs _ _ c.from_residual.result (fault.Build c.in_err-take_entry.field-0.0) c.from_residual.ensures.1
     (file_handed c.args.naming c.args.entry.now (labelled_course (g.P.Package.handed c.args.package.now) (labelled_so_far c.args.parts.now c.args.tables.now)) (g.P.Package.handed c.take_entry.new.package) (g.P.Package.faults c.args.package.now) (g.P.Package.faults c.take_entry.new.package) (g.P.Package.lost c.take_entry.new.package) c.in_err-take_entry.field-0.0 (sym c.if-not-takes.ensures) c.in_err-take_entry.ensures.handed_cause)
 
 pub returns-clause-handed : goal.returns-clause-handed

@@ -10,14 +10,14 @@ use Rattle.boardnet.proofs.commands.x2.labelled_report.Goals as goal
 
 pub returns-in_err-board-clause-spared : goal.returns-in_err-board-clause-spared
 returns-in_err-board-clause-spared g c =
-    climbs _ c.from_residual-in_err-board.result (unlabelled_of c.in_err-board.field-0.0) c.from_residual-in_err-board.ensures.1 (left_of _ _ _ _ c.in_err-board.field-0.0 c.in_err-board.ensures.spared)
+    climbs _ _ c.from_residual-in_err-board.result (unlabelled_of c.in_err-board.field-0.0) c.from_residual-in_err-board.ensures.1 (left_of _ _ _ _ c.in_err-board.field-0.0 c.in_err-board.ensures.spared)
 
 pub returns-in_err-board-clause-work : goal.returns-in_err-board-clause-work
 returns-in_err-board-clause-work g c =
     let here = g.P.Package.handed c.args.package.now in
     let after = g.P.Package.handed c.build_labelled.new.package in
     subst (λ (m : List ℕ). WorksOn g.P.Package.handed g.P.Package.faults g.P.Package.lost (X2 m) c.args.package.now c.build_labelled.new.package c.from_residual-in_err-board.result) c.in_ok-name.ensures.ok
-    (climbs _ c.from_residual-in_err-board.result (unlabelled_of c.in_err-board.field-0.0) c.from_residual-in_err-board.ensures.1
+    (climbs _ _ c.from_residual-in_err-board.result (unlabelled_of c.in_err-board.field-0.0) c.from_residual-in_err-board.ensures.1
     (handed_reason _ here after _ _ _ c.in_err-board.field-0.0 c.in_err-board.ensures.handed_cause))
 
 pub returns-clause-work : goal.returns-clause-work
