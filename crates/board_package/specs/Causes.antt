@@ -3,8 +3,10 @@ use Rattle.std.specs.Prelude.{◌≡◌, ◌≤◌, ◌⊎◌, ℕ, List, Option
 use Rattle.board_io.specs.Causes.{Rose}
 use Rattle.board_io.specs.Handed.{AgreeWith, Grows, Handed}
 use Rattle.board_io.specs.Package.{Files, IsFaultless}
-use Rattle.board_shapes.specs.Plain.{PlainBoard}
-use Rattle.board_package.specs.PackageBoard.{StopsAtFrame, Stop, longer, not_json, bad_manifest, refused, frame_too_large}
+use Rattle.board_shapes.specs.Plain.{PlainBoard, plain_board}
+use Rattle.board_shapes.specs.declared.board.Board.{Board}
+use Rattle.board_package.specs.HandedBoard.{ComesHanded, IsBoardHanded, IsFirstStopHanded}
+use Rattle.board_package.specs.PackageBoard.{Comes, IsBoardOf, IsFirstStop, StopsAtFrame, Stop, longer, not_json, bad_manifest, refused, frame_too_large}
 use Rattle.board_package.specs.Contents.{Refuses}
 use Rattle.board_package.specs.declared.entry.Entry.{Entry}
 use Rattle.board_package.specs.declared.fault.BuildFault.{BuildFault}
@@ -68,3 +70,14 @@ KeepsFaults count lost count' lost' why = IsFaultless count lost count' lost'
 abbrev pub IsFrameFault : PlainBoard → BuildFault → Type 0
 IsFrameFault board (fault.FrameTooLarge box) = StopsAtFrame board (frame_too_large box)
 IsFrameFault board other = ⊥
+
+-- ---- What the building of a board gives
+
+-- the board, or why there is none: where the package tells, and by what it handed over
+abbrev pub Builds : {P : Type 0} → (P → Option Files) → (P → ℕ) → (P → List ℕ) → List ℕ → P → P → Result Board BuildFault → Type 0
+Builds files faults lost manifest old new result = MatchResult result (λ board. IfSome (files old) (λ f. IsBoardOf f manifest (plain_board board)))
+    (HasCause (files old) (λ f stop. IsFirstStop f manifest stop) (λ f name. Comes f manifest name) (faults old) (faults new) (lost new))
+
+abbrev pub BuildsHanded : {P : Type 0} → (P → List Handed) → (P → ℕ) → (P → List ℕ) → List ℕ → P → P → Result Board BuildFault → Type 0
+BuildsHanded handed faults lost manifest old new result = MatchResult result (λ board. IsBoardHanded (handed old) (handed new) manifest (plain_board board))
+    (HandedCause (λ stop. IsFirstStopHanded (handed old) (handed new) manifest stop) (λ name. ComesHanded (handed old) (handed new) manifest name) (faults old) (faults new) (lost new))

@@ -1,4 +1,3 @@
-pub mod Building
 pub mod Causes
 pub mod HandedBoard
 pub mod HandedLabelled

@@ -1,9 +1,10 @@
 //! The board of a package by the net names that its copper files give.
-ghost use Rattle.std.specs.Prelude.{IfOk};
+ghost use Rattle.std.specs.Prelude.{IfOk, IfSome, MatchResult};
 ghost use Rattle.board_shapes.specs.Plain.{plain_board};
-ghost use Rattle.board_package.specs.Building.{BuildsLabelled, BuildsLabelledHanded};
 ghost use Rattle.board_package.specs.Causes.{Leaves, Spares};
-ghost use Rattle.board_package.specs.LabelledCauses.{KeepsLabelledFaults};
+ghost use Rattle.board_package.specs.HandedLabelled.{IsFirstLabelledStopHanded, IsLabelledBoardHanded, LabelledComesHanded};
+ghost use Rattle.board_package.specs.LabelledBoard.{IsFirstLabelledStop, IsLabelledBoardOf, LabelledComes};
+ghost use Rattle.board_package.specs.LabelledCauses.{HandedLabelledCause, HasLabelledCause, KeepsLabelledFaults};
 ghost use Rattle.board_package.specs.PackageBoard.{IsWithinLimits};
 
 use crate::entry::Naming;
@@ -32,8 +33,8 @@ pub fn build_labelled<P: Package>(
 ) -> Result<Board, LabelledFault>
     ensures leaves { Leaves P.held P.handed P.faults «package».old «package».new }
     ensures spared { Spares KeepsLabelledFaults P.faults P.lost «package».old «package».new result }
-    ensures told { BuildsLabelled P.held P.faults P.lost manifest.now «package».old «package».new result }
-    ensures handed { BuildsLabelledHanded P.handed P.faults P.lost manifest.now «package».old «package».new result }
+    ensures told { MatchResult result (λ board. IfSome (P.held «package».old) (λ files. IsLabelledBoardOf files manifest.now (plain_board board))) (HasLabelledCause (P.held «package».old) (λ files stop. IsFirstLabelledStop files manifest.now stop) (λ files name. LabelledComes files manifest.now name) (P.faults «package».old) (P.faults «package».new) (P.lost «package».new)) }
+    ensures handed { MatchResult result (λ board. IsLabelledBoardHanded (P.handed «package».old) (P.handed «package».new) manifest.now (plain_board board)) (HandedLabelledCause (λ stop. IsFirstLabelledStopHanded (P.handed «package».old) (P.handed «package».new) manifest.now stop) (λ name. LabelledComesHanded (P.handed «package».old) (P.handed «package».new) manifest.now name) (P.faults «package».old) (P.faults «package».new) (P.lost «package».new)) }
     ensures limits { IfOk result (λ board. IsWithinLimits (plain_board board)) }
 {
     let listed = take_manifest(alloc, manifest, package)?;

@@ -2,8 +2,7 @@
 ghost use Rattle.std.specs.Prelude.{◌≡◌, ◌≤◌, List, ℕ, [], ◌∷◌, length, All, IfSome, IfOk, IfErr, OnOk};
 ghost use Rattle.std.specs.List.{filter};
 ghost use Rattle.board_shapes.specs.Plain.{plain_board, common_box, Fits};
-ghost use Rattle.board_package.specs.Building.{Builds, BuildsHanded};
-ghost use Rattle.board_package.specs.Causes.{HandedCause, HasCause, IsFrameFault, KeepsFaults, Leaves, Spares};
+ghost use Rattle.board_package.specs.Causes.{Builds, BuildsHanded, HandedCause, HasCause, IsFrameFault, KeepsFaults, Leaves, Spares};
 ghost use Rattle.board_package.specs.HandedBoard.{ComesHanded, ComesNext, GoesHanded, IsBoardHanded, IsFirstStopHanded, IsHanded, IsManifestHanded, StopsAtHanded, StopsAtManifestHanded, StopsHanding, course};
 ghost use Rattle.board_package.specs.HandedLabelled.{GoesLabelledHanded, LabelledComesAmongHanded, StopsLabelledAmongHanded, labelled_course};
 ghost use Rattle.board_package.specs.LabelledBoard.{GoesLabelled, LabelledComesAmong, StopsLabelledAmong, is_taken};

@@ -8,7 +8,7 @@ use Rattle.boardnet.proofs.commands.audit.taken.Goals as goal
 pub returns-in_err-board-clause-handed_cause : goal.returns-in_err-board-clause-handed_cause
 returns-in_err-board-clause-handed_cause g c =
     climbs _ _ c.from_residual-in_err-board.result c.in_err-board.field-0.0 c.from_residual-in_err-board.ensures.1
-    (package_handed (g.P.Package.handed c.args.package.now) (g.P.Package.handed c.board_of.new.package) c.args.manifest.now c.args.report.now (g.P.Package.faults c.args.package.now) (g.P.Package.faults c.board_of.new.package) (g.P.Package.lost c.board_of.new.package) c.in_err-board.field-0.0 c.in_err-board.ensures.handed_cause)
+    (package_handed (g.P.Package.handed c.args.package.now) (g.P.Package.handed c.board_of.new.package) c.args.manifest.now c.args.report.now (g.P.Package.faults c.args.package.now) (g.P.Package.faults c.board_of.new.package) (g.P.Package.lost c.board_of.new.package) c.in_err-board.field-0.0 c.in_err-board.ensures.handed)
 
 pub returns-in_err-take_file-clause-handed_cause : goal.returns-in_err-take_file-clause-handed_cause
 returns-in_err-take_file-clause-handed_cause g c =

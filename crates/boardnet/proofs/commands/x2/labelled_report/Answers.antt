@@ -18,7 +18,7 @@ returns-in_err-board-clause-work g c =
     let after = g.P.Package.handed c.build_labelled.new.package in
     subst (λ (m : List ℕ). WorksOn g.P.Package.handed g.P.Package.faults g.P.Package.lost (X2 m) c.args.package.now c.build_labelled.new.package c.from_residual-in_err-board.result) c.in_ok-name.ensures.ok
     (climbs _ _ c.from_residual-in_err-board.result (unlabelled_of c.in_err-board.field-0.0) c.from_residual-in_err-board.ensures.1
-    (handed_reason _ here after _ _ _ c.in_err-board.field-0.0 c.in_err-board.ensures.handed_cause))
+    (handed_reason _ here after _ _ _ c.in_err-board.field-0.0 c.in_err-board.ensures.handed))
 
 pub returns-clause-work : goal.returns-clause-work
 returns-clause-work g c =
