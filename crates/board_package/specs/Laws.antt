@@ -13,7 +13,7 @@ use Rattle.xnc.specs.FaultPlace.{Place as DrillPlace}
 use Rattle.board_package.specs.LabelledBoard.{IsFirstLabelledStop, IsLabelledBoardOf, LabelledStop, labelled_board_of, unbuilt}
 use Rattle.texts.specs.Words.{is_word}
 use Rattle.x2_nets.specs.declared.label_table.Label.{Label}
-use Rattle.board_package.specs.PackageBoard.{Stop, absent, longer, not_json, bad_manifest, refused, frame_too_large, IsBoardOf, IsFirstStop}
+use Rattle.board_package.specs.PackageBoard.{Stop, absent, IsBoardOf, IsFirstStop}
 
 -- Each file has one answer: copper files, drill files and netlists.
 pub record FilesHaveOneAnswer : Type 0 where

@@ -1,14 +1,14 @@
 //! The board of a package.
-ghost use Rattle.std.specs.Prelude.{◌≡◌, ◌≤◌, List, ℕ, [], ◌∷◌, length, All, IfSome, IfOk, IfErr, OnOk};
+ghost use Rattle.std.specs.Prelude.{◌≡◌, ◌≤◌, [], ◌∷◌, length, All, IfSome, IfOk, IfErr, OnOk};
 ghost use Rattle.std.specs.List.{filter};
 ghost use Rattle.board_shapes.specs.Plain.{plain_board, common_box, Fits};
 ghost use Rattle.board_package.specs.Causes.{Builds, BuildsHanded, HandedCause, HasCause, IsFrameFault, KeepsFaults, Leaves, Spares};
-ghost use Rattle.board_package.specs.HandedBoard.{ComesHanded, ComesNext, GoesHanded, IsBoardHanded, IsFirstStopHanded, IsHanded, IsManifestHanded, StopsAtHanded, StopsAtManifestHanded, StopsHanding, course};
+ghost use Rattle.board_package.specs.HandedBoard.{ComesNext, GoesHanded, IsHanded, IsManifestHanded, StopsAtHanded, StopsAtManifestHanded, StopsHanding, course};
 ghost use Rattle.board_package.specs.HandedLabelled.{GoesLabelledHanded, LabelledComesAmongHanded, StopsLabelledAmongHanded, labelled_course};
 ghost use Rattle.board_package.specs.LabelledBoard.{GoesLabelled, LabelledComesAmong, StopsLabelledAmong, is_taken};
 ghost use Rattle.board_package.specs.LabelledCauses.{HandedLabelledCause, HasLabelledCause, KeepsLabelledFaults, labelled_so_far};
 ghost use Rattle.board_package.specs.Manifest.{IsLawful, IsOnBoard};
-ghost use Rattle.board_package.specs.PackageBoard.{IsBoardOf, IsFirstStop, IsWithinLimits, Comes, IsHeld, IsManifestFile, StopsTaking, StopsAtManifest, StopsAt, StopsAtFrame, Goes, WalksBy};
+ghost use Rattle.board_package.specs.PackageBoard.{IsWithinLimits, IsHeld, IsManifestFile, StopsTaking, StopsAtManifest, StopsAt, Goes, WalksBy};
 ghost use Rattle.board_package.specs.Parts.{board_so_far, IsLawfulParts};
 ghost use Rattle.x2_nets.specs.Labels.{Rise};
 

@@ -2,7 +2,7 @@
 use Rattle.std.proofs.Common.{◌≡◌, ◌*◌, inl, inr, ℕ, pos, List, length, Some, codes, ap, refl, subst, sym, ◌∙◌, arith}
 use Rattle.board_io.specs.Package.{Files}
 use Rattle.board_package.specs.LabelledBoard.{LabelledStop, mislabelled, unbuilt}
-use Rattle.board_package.specs.PackageBoard.{Stop, absent, longer, not_json, bad_manifest, refused, frame_too_large, StopsTaking}
+use Rattle.board_package.specs.PackageBoard.{Stop, absent, longer, StopsTaking}
 use Rattle.board_shapes.proofs.BoardTables.{tables_are_consistent, tables_are_one}
 use Rattle.board_shapes.specs.Plain.{PlainBoard}
 use Rattle.boardnet.proofs.Sound.{Laws}

@@ -4,7 +4,6 @@ use Rattle.std.specs.Prelude.{slice_get}
 use Rattle.std.specs.List.{AllByRecursion}
 use Rattle.std.proofs.lemmas.Option.{slice_get-get_or}
 use Rattle.board_io.specs.Handed.{Handed}
-use Rattle.board_io.specs.Package.{Files}
 use Rattle.board_package.specs.HandedLabelled.{IsFirstLabelledStopHanded, LabelledComesHanded}
 use Rattle.board_package.specs.LabelledCauses.{HandedLabelledCause, KeepsLabelledFaults}
 use Rattle.board_package.specs.Laws.{LabelledPiecesAreUnder}

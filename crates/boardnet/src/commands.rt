@@ -6,7 +6,7 @@ ghost use Rattle.boardnet.specs.Ends.{HasNames};
 ghost use Rattle.boardnet.specs.HandedOutcome.{WorksOn};
 ghost use Rattle.boardnet.specs.Kept.{Leaves, LeftBy, Spares};
 ghost use Rattle.boardnet.specs.Words.{CanAsk, Command as Asked, Flatten, SpelledAsk, Trial, Write};
-ghost use Rattle.std.specs.Prelude.{IfErr, IfNone, IfOk, IfSome, List, [], ℕ, ◌∷◌, ◌≡◌, ◌⊎◌};
+ghost use Rattle.std.specs.Prelude.{IfNone, IfOk, IfSome, List, [], ℕ, ◌∷◌, ◌≡◌, ◌⊎◌};
 
 pub mod audit;
 pub mod check;

@@ -9,7 +9,7 @@ ghost use Rattle.boardnet.specs.Kept.{Leaves, LeftBy, Spares};
 ghost use Rattle.boardnet.specs.Outcome.{ComesFor, HandedOver, IsAuditStop};
 ghost use Rattle.boardnet.specs.Source.{FitsBefore, IsFileBy};
 ghost use Rattle.boardnet.specs.Words.{Audit, IsText};
-ghost use Rattle.std.specs.Prelude.{IfErr, IfNone, IfOk, IfSome, ◌≡◌, ◌≤◌};
+ghost use Rattle.std.specs.Prelude.{IfErr, IfNone, IfOk, IfSome, ◌≡◌};
 
 use crate::answer::{Answer, Answered, Note, Unanswered};
 use crate::commands::Command;

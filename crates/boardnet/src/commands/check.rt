@@ -4,7 +4,7 @@ ghost use Rattle.boardnet.specs.Kept.{Leaves, LeftBy, Spares};
 ghost use Rattle.boardnet.specs.Command.{asked};
 ghost use Rattle.boardnet.specs.Words.{Check, IsText};
 ghost use Rattle.boardnet.specs.declared.words.Version.TheVariants.{One};
-ghost use Rattle.std.specs.Prelude.{IfErr, IfNone, IfOk, IfSome, codes, ◌≡◌};
+ghost use Rattle.std.specs.Prelude.{IfNone, IfSome, codes, ◌≡◌};
 
 use crate::answer::Answered;
 use crate::commands::Command;

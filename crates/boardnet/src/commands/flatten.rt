@@ -3,7 +3,7 @@ ghost use Rattle.boardnet.specs.Answers.{status_of};
 ghost use Rattle.boardnet.specs.HandedOutcome.{WorksOn};
 ghost use Rattle.boardnet.specs.Kept.{Leaves, LeftBy, Spares};
 ghost use Rattle.boardnet.specs.Words.{Flatten, IsText};
-ghost use Rattle.std.specs.Prelude.{IfErr, IfOk, IfSome, ◌≡◌};
+ghost use Rattle.std.specs.Prelude.{IfOk, ◌≡◌};
 
 use crate::answer::{Answer, Answered, Note};
 use crate::refusing::name_of;

@@ -5,7 +5,7 @@ ghost use Rattle.boardnet.specs.HandedOutcome.{WorksOn};
 ghost use Rattle.boardnet.specs.Kept.{Leaves, LeftBy, Spares};
 ghost use Rattle.boardnet.specs.Words.{IsText, Write};
 ghost use Rattle.boardnet.specs.Written.{IsNetlistOn};
-ghost use Rattle.std.specs.Prelude.{IfErr, IfOk, IfSome, ◌≡◌};
+ghost use Rattle.std.specs.Prelude.{IfOk, ◌≡◌};
 
 use crate::answer::{Answer, Answered, Note};
 use crate::judged::{board_of, verdict_on};

@@ -2,7 +2,6 @@
 ghost use Rattle.boardnet.specs.HandedOutcome.{WorksOn};
 ghost use Rattle.boardnet.specs.Kept.{Leaves, LeftBy, Spares};
 ghost use Rattle.boardnet.specs.Words.{IsText, X2};
-ghost use Rattle.std.specs.Prelude.{IfErr, IfOk, IfSome};
 
 use crate::answer::Answered;
 use crate::judged::report_on;
