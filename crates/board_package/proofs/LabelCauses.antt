@@ -1,5 +1,5 @@
 -- Causes of a labelled board, carried from one stage to the next.
-use Rattle.std.proofs.Common.{◌≡◌, inl, inr, ℕ, ◌+◌, ◌<◌, ◌≤◌, Bool, true, List, [], ◌∷◌, length, take, get_or, Option, IfSome, Result, Ok, Err, IfErr, OnOk, refl, sym, ap, ◌∙◌, subst, arith}
+use Rattle.std.proofs.Common.{◌≡◌, inl, inr, ℕ, ◌+◌, ◌<◌, ◌≤◌, Bool, true, List, [], ◌∷◌, length, take, get_or, Option, IfSome, Result, Ok, Err, OnOk, refl, sym, ap, ◌∙◌, subst, arith}
 use Rattle.std.specs.List.{filter}
 use Rattle.board_io.specs.Package.{Files, IsFaultless}
 use Rattle.board_shapes.specs.Plain.{PlainBoard, common_box, Fits}
@@ -32,10 +32,6 @@ pub on_ok : {B : Type 0} (result : Result B LabelledFault) (P Q : Type 0) → (P
 on_ok (Ok x) P Q k h = k h
 on_ok (Err f) P Q k h = tt
 
-pub if_err : {B : Type 0} (result : Result B LabelledFault) (P Q : LabelledFault → Type 0) → ((why : LabelledFault) → P why → Q why) → IfErr result P → IfErr result Q
-if_err (Ok x) P Q k h = tt
-if_err (Err f) P Q k h = k f h
-
 -- ---- What a package leaves
 
 pub kept_labelled : (a : ℕ) (l : List ℕ) (b : ℕ) (m : List ℕ) (why : LabelledFault) → IsFaultless a l b m → KeepsLabelledFaults a l b m why
@@ -46,28 +42,16 @@ pub kept_labelled_after : (a : ℕ) (l : List ℕ) (b : ℕ) (m : List ℕ) (c :
 kept_labelled_after a l b m c n (fault.Build why) h k = kept_after a l b m c n why h k
 kept_labelled_after a l b m c n (fault.Label name command at) h k = faultless_both a l b m c n h k
 
-pub kept_labelled_err : {B : Type 0} (result : Result B LabelledFault) (a : ℕ) (l : List ℕ) (b : ℕ) (m : List ℕ) → IsFaultless a l b m → IfErr result (KeepsLabelledFaults a l b m)
-kept_labelled_err (Ok x) a l b m h = tt
-kept_labelled_err (Err why) a l b m h = kept_labelled a l b m why h
-
-pub faultless_labelled : {B : Type 0} (result : Result B LabelledFault) (a : ℕ) (l : List ℕ) (b : ℕ) (m : List ℕ) → IsFaultless a l b m → OnOk result (IsFaultless a l b m)
-faultless_labelled (Ok x) a l b m h = h
-faultless_labelled (Err why) a l b m h = tt
-
 -- ---- Causes
 
-pub record CarriesLabelled (S T : LabelledStop → Type 0) (C D : List ℕ → Type 0) : Type 0 where
-  pub stops : (stop : LabelledStop) → S stop → T stop
-  pub comes : (name : List ℕ) → C name → D name
-
 pub lift_labelled : (held : Option Files) (S T : Files → LabelledStop → Type 0) (C D : Files → List ℕ → Type 0) (before mid now : ℕ) (lost : List ℕ) (why : LabelledFault)
-    → IfSome held (λ files. CarriesLabelled (S files) (T files) (C files) (D files)) → before ≤ mid → HasLabelledCause held S C mid now lost why → HasLabelledCause held T D before now lost why
+    → IfSome held (λ files. Carries (S files) (T files) (C files) (D files)) → before ≤ mid → HasLabelledCause held S C mid now lost why → HasLabelledCause held T D before now lost why
 lift_labelled held S T C D before mid now lost (fault.Build why) carries le h =
     lift held (λ files stop. S files (unbuilt stop)) (λ files stop. T files (unbuilt stop)) C D before mid now lost why
-    (told_of held (λ files. CarriesLabelled (S files) (T files) (C files) (D files)) (λ files. Carries (λ stop. S files (unbuilt stop)) (λ stop. T files (unbuilt stop)) (C files) (D files)) (λ files k. record { stops = λ stop s. k.stops (unbuilt stop) s; comes = k.comes }) carries)
+    (told_of held (λ files. Carries (S files) (T files) (C files) (D files)) (λ files. Carries (λ stop. S files (unbuilt stop)) (λ stop. T files (unbuilt stop)) (C files) (D files)) (λ files k. record { stops = λ stop s. k.stops (unbuilt stop) s; comes = k.comes }) carries)
     le h
 lift_labelled held S T C D before mid now lost (fault.Label name command at) carries le h =
-    told held (λ files. CarriesLabelled (S files) (T files) (C files) (D files)) (λ files. S files (mislabelled name command at)) (λ files. T files (mislabelled name command at)) (λ files k s. k.stops (mislabelled name command at) s) carries h
+    told held (λ files. Carries (S files) (T files) (C files) (D files)) (λ files. S files (mislabelled name command at)) (λ files. T files (mislabelled name command at)) (λ files k s. k.stops (mislabelled name command at) s) carries h
 
 -- ---- One file, which is taken
 
@@ -122,7 +106,7 @@ files_cause_more naming held after entries i e start mid before between now lost
     let T : Files → LabelledStop → Type 0 = λ files stop. StopsLabelledAmong naming files (filter (needed naming) entries) start stop in
     let D : Files → List ℕ → Type 0 = λ files name. LabelledComesAmong naming files (filter (needed naming) entries) start name in
     lift_labelled held S T C D before between now lost why
-    (told_of held (λ files. WalksBy (GoesLabelled naming files) (filter (needed naming) (take i entries)) start mid) (λ files. CarriesLabelled (S files) (T files) (C files) (D files))
+    (told_of held (λ files. WalksBy (GoesLabelled naming files) (filter (needed naming) (take i entries)) start mid) (λ files. Carries (S files) (T files) (C files) (D files))
     (λ files w. record {
       stops = λ stop s. passing_at_one (GoesLabelled naming files) (needed naming) entries i e start mid _ below here w s;
       comes = λ name s. passing_at_one (GoesLabelled naming files) (needed naming) entries i e start mid _ below here w s;
@@ -158,7 +142,7 @@ files_labelled_cause held after manifest listed start before between now lost wh
     let T : Files → LabelledStop → Type 0 = λ files stop. IsFirstLabelledStop files manifest stop in
     let D : Files → List ℕ → Type 0 = λ files name. LabelledComes files manifest name in
     lift_labelled held S T C D before between now lost why
-    (told_of held (λ files. IsManifestFile files manifest listed) (λ files. CarriesLabelled (S files) (T files) (C files) (D files))
+    (told_of held (λ files. IsManifestFile files manifest listed) (λ files. Carries (S files) (T files) (C files) (D files))
     (λ files m. record {
       stops = λ stop s. inr (record { listed = listed; manifest = m; stops = inl (subst (λ b. StopsLabelledAmong ByLabels files (labelled_order listed) b stop) empty s) });
       comes = λ name s. inr (record { listed = listed; manifest_file = m; comes = subst (λ b. LabelledComesAmong ByLabels files (labelled_order listed) b name) empty s });

@@ -16,13 +16,13 @@ use Rattle.board_package.specs.declared.fault.BuildFault.{BuildFault}
 use Rattle.board_package.specs.declared.fault.LabelledFault.{LabelledFault}
 use Rattle.board_package.specs.declared.fault.LabelledFault.TheVariants as fault
 use Rattle.board_package.specs.declared.manifest.Manifest.{Manifest}
-use Rattle.board_package.proofs.LabelCauses.{CarriesLabelled, frame_of_pieces, lift_labelled, needed, only}
-use Rattle.board_package.proofs.Lift.{frame_cause}
+use Rattle.board_package.proofs.LabelCauses.{frame_of_pieces, lift_labelled, needed, only}
+use Rattle.board_package.proofs.Lift.{Carries, frame_cause}
 use Rattle.board_package.proofs.Staging.{carry, one_handed}
 use Rattle.board_package.proofs.Walking.{passing_at_one}
 
 -- a cause of one stage is one of the next
-pub carry_labelled : (S T : LabelledStop → Type 0) (C D : List ℕ → Type 0) (before mid now : ℕ) (lost : List ℕ) (why : LabelledFault) → CarriesLabelled S T C D → before ≤ mid → HandedLabelledCause S C mid now lost why → HandedLabelledCause T D before now lost why
+pub carry_labelled : (S T : LabelledStop → Type 0) (C D : List ℕ → Type 0) (before mid now : ℕ) (lost : List ℕ) (why : LabelledFault) → Carries S T C D → before ≤ mid → HandedLabelledCause S C mid now lost why → HandedLabelledCause T D before now lost why
 carry_labelled S T C D before mid now lost why k le h = lift_labelled (Some (λ name. None)) (λ files stop. S stop) (λ files stop. T stop) (λ files name. C name) (λ files name. D name) before mid now lost why k le h
 
 -- ---- One file, which is taken

@@ -1,12 +1,12 @@
 -- Causes, carried from one stage to the next.
-use Rattle.std.proofs.Common.{◌≡◌, inl, inr, ℕ, ◌≤◌, List, Option, Some, None, IfSome, Result, Ok, Err, IfErr, IfOk, OnOk, sym, ◌∙◌, subst, arith}
+use Rattle.std.proofs.Common.{◌≡◌, inl, inr, ℕ, ◌≤◌, List, Option, Some, None, IfSome, Result, Ok, Err, IfErr, IfOk, MatchResult, sym, ◌∙◌, subst, arith}
 use Rattle.std.specs.Result.{IsErrAnd}
-use Rattle.board_io.proofs.Agreeing.{agree_on}
+use Rattle.board_io.proofs.Agreeing.{agree_on, grows_on}
 use Rattle.board_io.specs.Causes.{Rose}
-use Rattle.board_io.specs.Handed.{AgreeWith, Grows, Handed}
+use Rattle.board_io.specs.Handed.{AgreeWith, Handed}
 use Rattle.board_io.specs.Package.{Files, IsFaultless}
 use Rattle.board_shapes.specs.Plain.{PlainBoard}
-use Rattle.board_package.specs.Causes.{HasCause, HasRefusal, IsFrameFault, KeepsFaults}
+use Rattle.board_package.specs.Causes.{HasCause, HasRefusal, IsFrameFault, KeepsFaults, Leaves}
 use Rattle.board_package.specs.PackageBoard.{Stop, longer, not_json, bad_manifest, refused, frame_too_large, StopsAtFrame}
 use Rattle.board_package.specs.declared.fault.BuildFault.{BuildFault}
 use Rattle.board_package.specs.declared.fault.BuildFault.TheVariants as fault
@@ -14,14 +14,14 @@ use Rattle.board_package.specs.declared.contents.Refusal.{Refusal}
 use Rattle.board_package.specs.declared.contents.Refusal.TheVariants as refusal
 
 -- a fault that climbs
-pub climbs : {B E : Type 0} (P : E → Type 0) (result : Result B E) (why : E) → IsErrAnd result (λ f. f ≡ why) → P why → IfErr result P
-climbs P (Ok x) why e p = tt
-climbs P (Err f) why e p = subst P (sym e) p
+pub climbs : {B E : Type 0} (Q : B → Type 0) (P : E → Type 0) (result : Result B E) (why : E) → IsErrAnd result (λ f. f ≡ why) → P why → MatchResult result Q P
+climbs Q P (Ok x) why e p = absurd e
+climbs Q P (Err f) why e p = subst P (sym e) p
 
--- two facts of a value, and a third that follows
-pub if_ok : {B E : Type 0} (result : Result B E) (P Q R : B → Type 0) → ((x : B) → P x → Q x → R x) → IfOk result P → IfOk result Q → IfOk result R
-if_ok (Ok x) P Q R k p q = k x p q
-if_ok (Err f) P Q R k p q = tt
+-- two facts of a value or one of a fault, and what follows of the one and of the other
+pub either : {B E : Type 0} (result : Result B E) (P Q R : B → Type 0) (S T : E → Type 0) → ((x : B) → P x → Q x → R x) → ((why : E) → S why → T why) → IfOk result P → IfOk result Q → IfErr result S → MatchResult result R T
+either (Ok x) P Q R S T k j p q s = k x p q
+either (Err why) P Q R S T k j p q s = j why s
 
 -- two facts of the files that are told, and a third that follows
 pub told : (held : Option Files) (A B C : Files → Type 0) → ((files : Files) → A files → B files → C files) → IfSome held A → IfSome held B → IfSome held C
@@ -36,32 +36,34 @@ pub told_all : (held : Option Files) (A : Files → Type 0) → ((files : Files)
 told_all None A k = tt
 told_all (Some files) A k = k files
 
--- the stops of one stage are stops of the next, and so are the names that come
-pub record Carries (S T : Stop → Type 0) (C D : List ℕ → Type 0) : Type 0 where
-  pub stops : (stop : Stop) → S stop → T stop
-  pub comes : (name : List ℕ) → C name → D name
-
 rose_before : (before mid now : ℕ) → before ≤ mid → Rose mid now → Rose before now
 rose_before before mid now le rose = omega arith
 
+-- a cause told of other files, and of a call that began before
+pub retold : (held other : Option Files) (S T : Files → Stop → Type 0) (C D : Files → List ℕ → Type 0) (before mid now : ℕ) (lost : List ℕ) (why : BuildFault) → before ≤ mid
+    → ((stop : Stop) → IfSome held (λ files. S files stop) → IfSome other (λ files. T files stop)) → ((name : List ℕ) → IfSome held (λ files. C files name) → IfSome other (λ files. D files name))
+    → HasCause held S C mid now lost why → HasCause other T D before now lost why
+retold held other S T C D before mid now lost fault.NotJson le s c h = s not_json h
+retold held other S T C D before mid now lost fault.BadManifest le s c h = s bad_manifest h
+retold held other S T C D before mid now lost (fault.Longer name) le s c h = s (longer name) h
+retold held other S T C D before mid now lost (fault.CannotRead name) le s c h = record { rose = rose_before before mid now le h.rose; lost_is = h.lost_is; comes = c name h.comes }
+retold held other S T C D before mid now lost (fault.Layer name kind command at) le s c h = s (refused name (refusal.Layer kind command at)) h
+retold held other S T C D before mid now lost (fault.Drill name kind line at) le s c h = s (refused name (refusal.Drill kind line at)) h
+retold held other S T C D before mid now lost (fault.Netlist name kind line) le s c h = s (refused name (refusal.Netlist kind line)) h
+retold held other S T C D before mid now lost (fault.FrameTooLarge box) le s c h = s (frame_too_large box) h
+retold held other S T C D before mid now lost fault.NoMemory le s c h = tt
+
+-- the stops of one stage are stops of the next, and so are the names that come
+pub record Carries {K : Type 0} (S T : K → Type 0) (C D : List ℕ → Type 0) : Type 0 where
+  pub stops : (stop : K) → S stop → T stop
+  pub comes : (name : List ℕ) → C name → D name
+
 pub lift : (held : Option Files) (S T : Files → Stop → Type 0) (C D : Files → List ℕ → Type 0) (before mid now : ℕ) (lost : List ℕ) (why : BuildFault)
     → IfSome held (λ files. Carries (S files) (T files) (C files) (D files)) → before ≤ mid → HasCause held S C mid now lost why → HasCause held T D before now lost why
-lift held S T C D before mid now lost fault.NotJson carries le h = told held _ (λ files. S files not_json) (λ files. T files not_json) (λ files a b. a.stops not_json b) carries h
-lift held S T C D before mid now lost fault.BadManifest carries le h = told held _ (λ files. S files bad_manifest) (λ files. T files bad_manifest) (λ files a b. a.stops bad_manifest b) carries h
-lift held S T C D before mid now lost (fault.Longer name) carries le h = told held _ (λ files. S files (longer name)) (λ files. T files (longer name)) (λ files a b. a.stops (longer name) b) carries h
-lift held S T C D before mid now lost (fault.CannotRead name) carries le h = record {
-  rose = rose_before before mid now le h.rose;
-  lost_is = h.lost_is;
-  comes = told held _ (λ files. C files name) (λ files. D files name) (λ files a b. a.comes name b) carries h.comes;
-}
-lift held S T C D before mid now lost (fault.Layer name kind command at) carries le h =
-    told held _ (λ files. S files (refused name (refusal.Layer kind command at))) (λ files. T files (refused name (refusal.Layer kind command at))) (λ files a b. a.stops (refused name (refusal.Layer kind command at)) b) carries h
-lift held S T C D before mid now lost (fault.Drill name kind line at) carries le h =
-    told held _ (λ files. S files (refused name (refusal.Drill kind line at))) (λ files. T files (refused name (refusal.Drill kind line at))) (λ files a b. a.stops (refused name (refusal.Drill kind line at)) b) carries h
-lift held S T C D before mid now lost (fault.Netlist name kind line) carries le h =
-    told held _ (λ files. S files (refused name (refusal.Netlist kind line))) (λ files. T files (refused name (refusal.Netlist kind line))) (λ files a b. a.stops (refused name (refusal.Netlist kind line)) b) carries h
-lift held S T C D before mid now lost (fault.FrameTooLarge box) carries le h = told held _ (λ files. S files (frame_too_large box)) (λ files. T files (frame_too_large box)) (λ files a b. a.stops (frame_too_large box) b) carries h
-lift held S T C D before mid now lost fault.NoMemory carries le h = tt
+lift held S T C D before mid now lost why carries le h =
+    retold held held S T C D before mid now lost why le
+    (λ stop s. told held (λ files. Carries (S files) (T files) (C files) (D files)) (λ files. S files stop) (λ files. T files stop) (λ files a b. a.stops stop b) carries s)
+    (λ name c. told held (λ files. Carries (S files) (T files) (C files) (D files)) (λ files. C files name) (λ files. D files name) (λ files a b. a.comes name b) carries c) h
 
 -- a refusal of a file is a cause
 pub refusal_cause : (held : Option Files) (S : Files → Stop → Type 0) (C : Files → List ℕ → Type 0) (before now : ℕ) (lost name : List ℕ) (why : Refusal) (given : BuildFault)
@@ -82,10 +84,15 @@ frame_cause held S C before now lost board other h e = absurd e
 
 -- ---- What a package leaves
 
--- where it tells, what it handed over agrees with the files, in two stages
-pub agrees_on : (held after : Option Files) (a b c : List Handed) → after ≡ held → Grows a b → Grows b c → IfSome held (λ files. AgreeWith files a b) → IfSome after (λ files. AgreeWith files b c) → IfSome held (λ files. AgreeWith files a c)
-agrees_on held after a b c same g h v w =
-    told held (λ files. AgreeWith files a b) (λ files. AgreeWith files b c) (λ files. AgreeWith files a c) (λ files x y. agree_on files a b c g h x y) v (subst (λ z. IfSome z (λ files. AgreeWith files b c)) same w)
+-- two stages, one after the other
+pub leaves_on : {P : Type 0} {files : P → Option Files} {handover : P → List Handed} {faults : P → ℕ} {a b c : P} → Leaves files handover faults a b → Leaves files handover faults b c → Leaves files handover faults a c
+leaves_on {files = files} {handover = handover} {a = a} {b = b} {c = c} x y = record {
+  held = y.held ∙ x.held;
+  grows = grows_on (handover a) (handover b) (handover c) x.grows y.grows;
+  consistent = told (files a) (λ f. AgreeWith f (handover a) (handover b)) (λ f. AgreeWith f (handover b) (handover c)) (λ f. AgreeWith f (handover a) (handover c))
+      (λ f v w. agree_on f (handover a) (handover b) (handover c) x.grows y.grows v w) x.consistent (subst (λ o. IfSome o (λ f. AgreeWith f (handover b) (handover c))) x.held y.consistent);
+  later = omega (arith, x.later, y.later);
+}
 
 pub faultless_both : (a : ℕ) (l : List ℕ) (b : ℕ) (m : List ℕ) (c : ℕ) (n : List ℕ) → IsFaultless a l b m → IsFaultless b m c n → IsFaultless a l c n
 faultless_both a l b m c n h k = record { count_stays = k.count_stays ∙ h.count_stays; lost_stays = k.lost_stays ∙ h.lost_stays }
@@ -102,28 +109,10 @@ kept_after a l b m c n (fault.CannotRead name) h k = tt
 kept_after a l b m c n fault.NoMemory h k = tt
 kept_after a l b m c n other h k = faultless_both a l b m c n h k
 
-pub kept_err : {B : Type 0} (r : Result B BuildFault) (a : ℕ) (l : List ℕ) (b : ℕ) (m : List ℕ) → IsFaultless a l b m → IfErr r (KeepsFaults a l b m)
-kept_err (Ok x) a l b m h = tt
-kept_err (Err why) a l b m h = kept a l b m why h
+pub spared : {B E : Type 0} (Left : ℕ → List ℕ → ℕ → List ℕ → E → Type 0) (a : ℕ) (l : List ℕ) (b : ℕ) (m : List ℕ) (result : Result B E) → ((why : E) → Left a l b m why) → IsFaultless a l b m → MatchResult result (λ _. IsFaultless a l b m) (Left a l b m)
+spared Left a l b m (Ok x) left calm = calm
+spared Left a l b m (Err why) left calm = left why
 
-pub faultless_ok : {B : Type 0} (r : Result B BuildFault) (a : ℕ) (l : List ℕ) (b : ℕ) (m : List ℕ) → IsFaultless a l b m → OnOk r (IsFaultless a l b m)
-faultless_ok (Ok x) a l b m h = h
-faultless_ok (Err why) a l b m h = tt
-
-pub if_err : {B : Type 0} (r : Result B BuildFault) (P Q : BuildFault → Type 0) → ((why : BuildFault) → P why → Q why) → IfErr r P → IfErr r Q
+pub if_err : {B E : Type 0} (r : Result B E) (P Q : E → Type 0) → ((why : E) → P why → Q why) → IfErr r P → IfErr r Q
 if_err (Ok x) P Q k h = tt
 if_err (Err why) P Q k h = k why h
-
--- a cause told of other files
-pub retold : (held other : Option Files) (S T : Files → Stop → Type 0) (C D : Files → List ℕ → Type 0) (before now : ℕ) (lost : List ℕ) (why : BuildFault)
-    → ((stop : Stop) → IfSome held (λ files. S files stop) → IfSome other (λ files. T files stop)) → ((name : List ℕ) → IfSome held (λ files. C files name) → IfSome other (λ files. D files name))
-    → HasCause held S C before now lost why → HasCause other T D before now lost why
-retold held other S T C D before now lost fault.NotJson s c h = s not_json h
-retold held other S T C D before now lost fault.BadManifest s c h = s bad_manifest h
-retold held other S T C D before now lost (fault.Longer name) s c h = s (longer name) h
-retold held other S T C D before now lost (fault.CannotRead name) s c h = record { rose = h.rose; lost_is = h.lost_is; comes = c name h.comes }
-retold held other S T C D before now lost (fault.Layer name kind command at) s c h = s (refused name (refusal.Layer kind command at)) h
-retold held other S T C D before now lost (fault.Drill name kind line at) s c h = s (refused name (refusal.Drill kind line at)) h
-retold held other S T C D before now lost (fault.Netlist name kind line) s c h = s (refused name (refusal.Netlist kind line)) h
-retold held other S T C D before now lost (fault.FrameTooLarge box) s c h = s (frame_too_large box) h
-retold held other S T C D before now lost fault.NoMemory s c h = tt

@@ -31,34 +31,21 @@ reads_one all role.Netlist n bytes before x y (a, names, read, is) (b, names', r
 
 reads_not_refused : FilesHaveOneAnswer → (r : Role) (n : ℕ) (bytes : List ℕ) (before x : PlainBoard) (why : Refusal) → Reads r n bytes before x → Refuses r n bytes before why → ⊥
 reads_not_refused all (role.Copper layer) n bytes before x (refusal.Layer kind command at) (a, read, is) no' = (all.layer bytes (layer_place layer n before)).not_both a kind command at read no'
-reads_not_refused all (role.Copper layer) n bytes before x (refusal.Drill kind line at) read no' = no'
-reads_not_refused all (role.Copper layer) n bytes before x (refusal.Netlist kind line) read no' = no'
-reads_not_refused all (role.Drill from to) n bytes before x (refusal.Layer kind command at) read no' = no'
 reads_not_refused all (role.Drill from to) n bytes before x (refusal.Drill kind line at) (a, read, is) no' = (all.drill bytes (drill_place from to n before)).not_both a kind line at read no'
-reads_not_refused all (role.Drill from to) n bytes before x (refusal.Netlist kind line) read no' = no'
-reads_not_refused all role.Netlist n bytes before x (refusal.Layer kind command at) read no' = no'
-reads_not_refused all role.Netlist n bytes before x (refusal.Drill kind line at) read no' = no'
 reads_not_refused all role.Netlist n bytes before x (refusal.Netlist kind line) (a, names, read, is) (count, no') = (all.netlist bytes before.layers).not_both (record { probes = a; names = names }) kind count line read no'
+reads_not_refused all other n bytes before x why read no' = absurd no'
 
 refuses_one : FilesHaveOneAnswer → (r : Role) (n : ℕ) (bytes : List ℕ) (before : PlainBoard) (why other : Refusal) → Refuses r n bytes before why → Refuses r n bytes before other → why ≡ other
 refuses_one all (role.Copper layer) n bytes before (refusal.Layer kind command at) (refusal.Layer kind' command' at') p q =
     let e = (all.layer bytes (layer_place layer n before)).one_fault kind kind' command command' at at' p q in cc (e.0, e.1, e.2)
-refuses_one all (role.Copper layer) n bytes before (refusal.Layer kind command at) (refusal.Drill kind' line at') p q = absurd q
-refuses_one all (role.Copper layer) n bytes before (refusal.Layer kind command at) (refusal.Netlist kind' line) p q = absurd q
-refuses_one all (role.Copper layer) n bytes before (refusal.Drill kind line at) other p q = absurd p
-refuses_one all (role.Copper layer) n bytes before (refusal.Netlist kind line) other p q = absurd p
-refuses_one all (role.Drill from to) n bytes before (refusal.Layer kind command at) other p q = absurd p
-refuses_one all (role.Drill from to) n bytes before (refusal.Drill kind line at) (refusal.Layer kind' command at') p q = absurd q
 refuses_one all (role.Drill from to) n bytes before (refusal.Drill kind line at) (refusal.Drill kind' line' at') p q =
     let e = (all.drill bytes (drill_place from to n before)).one_fault kind kind' line line' at at' p q in cc (e.0, e.1, e.2)
-refuses_one all (role.Drill from to) n bytes before (refusal.Drill kind line at) (refusal.Netlist kind' line') p q = absurd q
-refuses_one all (role.Drill from to) n bytes before (refusal.Netlist kind line) other p q = absurd p
-refuses_one all role.Netlist n bytes before (refusal.Layer kind command at) other p q = absurd p
-refuses_one all role.Netlist n bytes before (refusal.Drill kind line at) other p q = absurd p
-refuses_one all role.Netlist n bytes before (refusal.Netlist kind line) (refusal.Layer kind' command at') p q = absurd q
-refuses_one all role.Netlist n bytes before (refusal.Netlist kind line) (refusal.Drill kind' line' at') p q = absurd q
 refuses_one all role.Netlist n bytes before (refusal.Netlist kind line) (refusal.Netlist kind' line') (count, p) (count', q) =
     let e = (all.netlist bytes before.layers).one_fault kind kind' count count' line line' p q in cc (e.0, e.2)
+refuses_one all (role.Copper layer) n bytes before (refusal.Layer kind command at) other p q = absurd q
+refuses_one all (role.Drill from to) n bytes before (refusal.Drill kind line at) other p q = absurd q
+refuses_one all role.Netlist n bytes before (refusal.Netlist kind line) other p q = absurd q
+refuses_one all r n bytes before why other p q = absurd p
 
 -- ---- One taking
 
@@ -68,7 +55,7 @@ held_one files name a b h k = some_one (h.held) (k.held)
     some_one : files name ≡ Some a → files name ≡ Some b → a ≡ b
     some_one p q = cc
 
-held_not_absent : (files : Files) (name a : List ℕ) → IsHeld files name a → files name ≡ None → ⊥
+pub held_not_absent : (files : Files) (name a : List ℕ) → IsHeld files name a → files name ≡ None → ⊥
 held_not_absent files name a h e = apart (h.held)
   where
     apart : files name ≡ Some a → ⊥
@@ -77,7 +64,7 @@ held_not_absent files name a h e = apart (h.held)
 long_of : (o : Option (List ℕ)) (a : List ℕ) → o ≡ Some a → IsSomeAnd o (λ bytes. most_bytes < length bytes) → most_bytes < length a
 long_of o a e h = subst (λ (p : Option (List ℕ)). IsSomeAnd p (λ bytes. most_bytes < length bytes)) e h
 
-held_not_longer : (files : Files) (name a : List ℕ) → IsHeld files name a → IsSomeAnd (files name) (λ bytes. most_bytes < length bytes) → ⊥
+pub held_not_longer : (files : Files) (name a : List ℕ) → IsHeld files name a → IsSomeAnd (files name) (λ bytes. most_bytes < length bytes) → ⊥
 held_not_longer files name a h long = let l = long_of (files name) a h.held long in let s = h.short in omega arith
 
 absent_not_longer : (o : Option (List ℕ)) → o ≡ None → IsSomeAnd o (λ bytes. most_bytes < length bytes) → ⊥

@@ -1,9 +1,12 @@
 -- Why a package gives no board.
-use Rattle.std.specs.Prelude.{◌≡◌, ◌⊎◌, ℕ, List, Option, Some, None, IfSome}
+use Rattle.std.specs.Prelude.{◌≡◌, ◌≤◌, ◌⊎◌, ℕ, List, Option, Some, None, IfSome, MatchResult, Result}
 use Rattle.board_io.specs.Causes.{Rose}
+use Rattle.board_io.specs.Handed.{AgreeWith, Grows, Handed}
 use Rattle.board_io.specs.Package.{Files, IsFaultless}
-use Rattle.board_shapes.specs.Plain.{PlainBoard}
-use Rattle.board_package.specs.PackageBoard.{StopsAtFrame, Stop, longer, not_json, bad_manifest, refused, frame_too_large}
+use Rattle.board_shapes.specs.Plain.{PlainBoard, plain_board}
+use Rattle.board_shapes.specs.declared.board.Board.{Board}
+use Rattle.board_package.specs.HandedBoard.{ComesHanded, IsBoardHanded, IsFirstStopHanded}
+use Rattle.board_package.specs.PackageBoard.{Comes, IsBoardOf, IsFirstStop, StopsAtFrame, Stop, longer, not_json, bad_manifest, refused, frame_too_large}
 use Rattle.board_package.specs.Contents.{Refuses}
 use Rattle.board_package.specs.declared.entry.Entry.{Entry}
 use Rattle.board_package.specs.declared.fault.BuildFault.{BuildFault}
@@ -43,6 +46,20 @@ HasCause held Stops Comes before now lost fault.NoMemory = Unit {0}
 abbrev pub HandedCause : (Stop → Type 0) → (List ℕ → Type 0) → ℕ → ℕ → List ℕ → BuildFault → Type 0
 HandedCause Stops Comes before now lost given = HasCause (Some (λ name. None)) (λ files stop. Stops stop) (λ files name. Comes name) before now lost given
 
+-- ---- What is left
+
+-- What a stage leaves of the package that it was lent: the package holds what it held, what it hands over only grows and agrees with
+-- what it tells that it holds, and no fault is forgotten.
+pub record Leaves {P : Type 0} (files : P → Option Files) (handover : P → List Handed) (faults : P → ℕ) (old new : P) : Type 0 where
+  pub held : files new ≡ files old
+  pub grows : Grows (handover old) (handover new)
+  pub consistent : IfSome (files old) (λ f. AgreeWith f (handover old) (handover new))
+  pub later : faults old ≤ faults new
+
+-- A success leaves the count of faults and the lost name as they were, and a fault leaves what is said of it.
+abbrev pub Spares : {P A E : Type 0} → (ℕ → List ℕ → ℕ → List ℕ → E → Type 0) → (P → ℕ) → (P → List ℕ) → P → P → Result A E → Type 0
+Spares Left faults lost old new result = MatchResult result (λ _. IsFaultless (faults old) (lost old) (faults new) (lost new)) (Left (faults old) (lost old) (faults new) (lost new))
+
 -- Neither the count of faults nor the lost name changed, but where a file could not be read or memory was wanted.
 abbrev pub KeepsFaults : ℕ → List ℕ → ℕ → List ℕ → BuildFault → Type 0
 KeepsFaults count lost count' lost' (fault.CannotRead name) = Unit {0}
@@ -53,3 +70,14 @@ KeepsFaults count lost count' lost' why = IsFaultless count lost count' lost'
 abbrev pub IsFrameFault : PlainBoard → BuildFault → Type 0
 IsFrameFault board (fault.FrameTooLarge box) = StopsAtFrame board (frame_too_large box)
 IsFrameFault board other = ⊥
+
+-- ---- What the building of a board gives
+
+-- the board, or why there is none: where the package tells, and by what it handed over
+abbrev pub Builds : {P : Type 0} → (P → Option Files) → (P → ℕ) → (P → List ℕ) → List ℕ → P → P → Result Board BuildFault → Type 0
+Builds files faults lost manifest old new result = MatchResult result (λ board. IfSome (files old) (λ f. IsBoardOf f manifest (plain_board board)))
+    (HasCause (files old) (λ f stop. IsFirstStop f manifest stop) (λ f name. Comes f manifest name) (faults old) (faults new) (lost new))
+
+abbrev pub BuildsHanded : {P : Type 0} → (P → List Handed) → (P → ℕ) → (P → List ℕ) → List ℕ → P → P → Result Board BuildFault → Type 0
+BuildsHanded handed faults lost manifest old new result = MatchResult result (λ board. IsBoardHanded (handed old) (handed new) manifest (plain_board board))
+    (HandedCause (λ stop. IsFirstStopHanded (handed old) (handed new) manifest stop) (λ name. ComesHanded (handed old) (handed new) manifest name) (faults old) (faults new) (lost new))

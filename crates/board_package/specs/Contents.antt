@@ -30,11 +30,6 @@ Reads role.Netlist number bytes before after = (probes : List Probe) × (names :
 -- the file of this role and number is refused
 abbrev pub Refuses : Role → ℕ → List ℕ → PlainBoard → Refusal → Type 0
 Refuses (role.Copper layer) number bytes before (refusal.Layer kind command at) = layer_file.IsRefused bytes (layer_place layer number before) kind command at
-Refuses (role.Copper layer) number bytes before (refusal.Drill kind line at) = ⊥
-Refuses (role.Copper layer) number bytes before (refusal.Netlist kind line) = ⊥
-Refuses (role.Drill from to) number bytes before (refusal.Layer kind command at) = ⊥
 Refuses (role.Drill from to) number bytes before (refusal.Drill kind line at) = drill_file.IsRefused bytes (drill_place from to number before) kind line at
-Refuses (role.Drill from to) number bytes before (refusal.Netlist kind line) = ⊥
-Refuses role.Netlist number bytes before (refusal.Layer kind command at) = ⊥
-Refuses role.Netlist number bytes before (refusal.Drill kind line at) = ⊥
 Refuses role.Netlist number bytes before (refusal.Netlist kind line) = netlist_file.IsRefused bytes before.layers kind line
+Refuses other number bytes before why = ⊥

@@ -13,7 +13,7 @@ use Rattle.xnc.specs.FaultPlace.{Place as DrillPlace}
 use Rattle.board_package.specs.LabelledBoard.{IsFirstLabelledStop, IsLabelledBoardOf, LabelledStop, labelled_board_of, unbuilt}
 use Rattle.texts.specs.Words.{is_word}
 use Rattle.x2_nets.specs.declared.label_table.Label.{Label}
-use Rattle.board_package.specs.PackageBoard.{Stop, absent, longer, not_json, bad_manifest, refused, frame_too_large, IsBoardOf, IsFirstStop}
+use Rattle.board_package.specs.PackageBoard.{Stop, absent, IsBoardOf, IsFirstStop}
 
 -- Each file has one answer: copper files, drill files and netlists.
 pub record FilesHaveOneAnswer : Type 0 where
@@ -44,11 +44,7 @@ cut_off files name n other = if is_word other name then option_map (take n) (fil
 -- the stop is a refusal, and no file that is not there
 abbrev pub IsRefusing : Stop → Type 0
 IsRefusing (absent name) = ⊥
-IsRefusing (longer name) = Unit {0}
-IsRefusing not_json = Unit {0}
-IsRefusing bad_manifest = Unit {0}
-IsRefusing (refused name why) = Unit {0}
-IsRefusing (frame_too_large box) = Unit {0}
+IsRefusing stop = Unit {0}
 
 -- Of a package with a board: cutting one file off, the manifest or another, at any place is a refusal or leaves the same board.
 abbrev pub CutIsRefusedOrTheSame : Files → List ℕ → Type 0

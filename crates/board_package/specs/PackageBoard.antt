@@ -41,10 +41,7 @@ pub record IsHeld (files : Files) (name bytes : List ℕ) : Type 0 where
 abbrev pub StopsTaking : Files → List ℕ → Stop → Type 0
 StopsTaking files name (absent other) = (other ≡ name) × (files name ≡ None)
 StopsTaking files name (longer other) = (other ≡ name) × IsSomeAnd (files name) (λ bytes. most_bytes < length bytes)
-StopsTaking files name not_json = ⊥
-StopsTaking files name bad_manifest = ⊥
-StopsTaking files name (refused other why) = ⊥
-StopsTaking files name (frame_too_large box) = ⊥
+StopsTaking files name stop = ⊥
 
 -- the file is read and takes the board on
 pub record Goes (files : Files) (e : Entry) (before after : PlainBoard) : Type 0 where
@@ -60,12 +57,8 @@ pub record IsRefusedFor (files : Files) (e : Entry) (before : PlainBoard) (why :
 
 -- the first file to be taken stops the package
 abbrev pub StopsAt : Files → Entry → PlainBoard → Stop → Type 0
-StopsAt files e before (absent other) = StopsTaking files e.name (absent other)
-StopsAt files e before (longer other) = StopsTaking files e.name (longer other)
-StopsAt files e before not_json = ⊥
-StopsAt files e before bad_manifest = ⊥
 StopsAt files e before (refused other why) = (other ≡ e.name) × IsRefusedFor files e before why
-StopsAt files e before (frame_too_large box) = ⊥
+StopsAt files e before stop = StopsTaking files e.name stop
 
 -- ---- The files in their order
 
@@ -109,21 +102,14 @@ IsManifestFile files name m = IsHeldWith files name (λ bytes. IsManifest bytes 
 
 -- the manifest stops the package
 abbrev pub StopsAtManifest : Files → List ℕ → Stop → Type 0
-StopsAtManifest files name (absent other) = StopsTaking files name (absent other)
-StopsAtManifest files name (longer other) = StopsTaking files name (longer other)
 StopsAtManifest files name not_json = IsHeldWith files name IsNotJson
 StopsAtManifest files name bad_manifest = IsHeldWith files name IsOther
-StopsAtManifest files name (refused other why) = ⊥
-StopsAtManifest files name (frame_too_large box) = ⊥
+StopsAtManifest files name stop = StopsTaking files name stop
 
 -- the common box of all pieces is too large
 abbrev pub StopsAtFrame : PlainBoard → Stop → Type 0
-StopsAtFrame b (absent name) = ⊥
-StopsAtFrame b (longer name) = ⊥
-StopsAtFrame b not_json = ⊥
-StopsAtFrame b bad_manifest = ⊥
-StopsAtFrame b (refused name why) = ⊥
 StopsAtFrame b (frame_too_large box) = (common_box b.pieces ≡ Some box) × (FitsFrame box → ⊥)
+StopsAtFrame b stop = ⊥
 
 -- all files are read, and then the frame is too large
 pub record IsFrameStop (files : Files) (m : Manifest) (stop : Stop) : Type 0 where

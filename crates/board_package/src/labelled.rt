@@ -1,10 +1,9 @@
 //! The board of a package by the net names that its copper files give.
-ghost use Rattle.std.specs.Prelude.{◌≡◌, ◌≤◌, List, ℕ, IfSome, IfOk, IfErr, OnOk};
+ghost use Rattle.std.specs.Prelude.{IfOk, IfSome, MatchResult};
 ghost use Rattle.board_shapes.specs.Plain.{plain_board};
-ghost use Rattle.board_io.specs.Handed.{AgreeWith, Grows};
-ghost use Rattle.board_io.specs.Package.{IsFaultless};
-ghost use Rattle.board_package.specs.LabelledBoard.{IsFirstLabelledStop, IsLabelledBoardOf, LabelledComes};
+ghost use Rattle.board_package.specs.Causes.{Leaves, Spares};
 ghost use Rattle.board_package.specs.HandedLabelled.{IsFirstLabelledStopHanded, IsLabelledBoardHanded, LabelledComesHanded};
+ghost use Rattle.board_package.specs.LabelledBoard.{IsFirstLabelledStop, IsLabelledBoardOf, LabelledComes};
 ghost use Rattle.board_package.specs.LabelledCauses.{HandedLabelledCause, HasLabelledCause, KeepsLabelledFaults};
 ghost use Rattle.board_package.specs.PackageBoard.{IsWithinLimits};
 
@@ -32,17 +31,11 @@ pub fn build_labelled<P: Package>(
     manifest: &Text,
     package: &mut P,
 ) -> Result<Board, LabelledFault>
-    ensures held { P.held «package».new ≡ P.held «package».old }
-    ensures grows { Grows (P.handed «package».old) (P.handed «package».new) }
-    ensures consistent { IfSome (P.held «package».old) (λ files. AgreeWith files (P.handed «package».old) (P.handed «package».new)) }
-    ensures later { P.faults «package».old ≤ P.faults «package».new }
-    ensures faultless { OnOk result (IsFaultless (P.faults «package».old) (P.lost «package».old) (P.faults «package».new) (P.lost «package».new)) }
-    ensures kept { IfErr result (KeepsLabelledFaults (P.faults «package».old) (P.lost «package».old) (P.faults «package».new) (P.lost «package».new)) }
-    ensures ok { IfOk result (λ board. IfSome (P.held «package».old) (λ files. IsLabelledBoardOf files manifest.now (plain_board board))) }
-    ensures handed { IfOk result (λ board. IsLabelledBoardHanded (P.handed «package».old) (P.handed «package».new) manifest.now (plain_board board)) }
-    ensures handed_cause { IfErr result (HandedLabelledCause (λ stop. IsFirstLabelledStopHanded (P.handed «package».old) (P.handed «package».new) manifest.now stop) (λ name. LabelledComesHanded (P.handed «package».old) (P.handed «package».new) manifest.now name) (P.faults «package».old) (P.faults «package».new) (P.lost «package».new)) }
+    ensures leaves { Leaves P.held P.handed P.faults «package».old «package».new }
+    ensures spared { Spares KeepsLabelledFaults P.faults P.lost «package».old «package».new result }
+    ensures told { MatchResult result (λ board. IfSome (P.held «package».old) (λ files. IsLabelledBoardOf files manifest.now (plain_board board))) (HasLabelledCause (P.held «package».old) (λ files stop. IsFirstLabelledStop files manifest.now stop) (λ files name. LabelledComes files manifest.now name) (P.faults «package».old) (P.faults «package».new) (P.lost «package».new)) }
+    ensures handed { MatchResult result (λ board. IsLabelledBoardHanded (P.handed «package».old) (P.handed «package».new) manifest.now (plain_board board)) (HandedLabelledCause (λ stop. IsFirstLabelledStopHanded (P.handed «package».old) (P.handed «package».new) manifest.now stop) (λ name. LabelledComesHanded (P.handed «package».old) (P.handed «package».new) manifest.now name) (P.faults «package».old) (P.faults «package».new) (P.lost «package».new)) }
     ensures limits { IfOk result (λ board. IsWithinLimits (plain_board board)) }
-    ensures fault { IfErr result (HasLabelledCause (P.held «package».old) (λ files stop. IsFirstLabelledStop files manifest.now stop) (λ files name. LabelledComes files manifest.now name) (P.faults «package».old) (P.faults «package».new) (P.lost «package».new)) }
 {
     let listed = take_manifest(alloc, manifest, package)?;
     let mut parts = Parts::new(alloc, listed.layers);

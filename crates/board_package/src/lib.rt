@@ -23,7 +23,7 @@ pub use entry::{Entry, Role};
 pub use fault::{BuildFault, LabelledFault};
 pub use labelled::build_labelled;
 pub use manifest::{Manifest, ManifestFault, read_manifest};
-pub use stages::{MOST_BYTES, build, take_file};
+pub use stages::{build, take_file};
 
 #[cfg(test)]
 mod tests;

@@ -1,16 +1,14 @@
 //! The board of a package.
-ghost use Rattle.std.specs.Prelude.{◌≡◌, ◌≤◌, List, ℕ, [], ◌∷◌, length, All, IfSome, IfOk, IfErr, OnOk};
+ghost use Rattle.std.specs.Prelude.{◌≡◌, ◌≤◌, [], ◌∷◌, length, All, IfSome, IfOk, IfErr, OnOk};
 ghost use Rattle.std.specs.List.{filter};
 ghost use Rattle.board_shapes.specs.Plain.{plain_board, common_box, Fits};
-ghost use Rattle.board_io.specs.Handed.{AgreeWith, Grows};
-ghost use Rattle.board_io.specs.Package.{IsFaultless};
-ghost use Rattle.board_package.specs.Causes.{HandedCause, HasCause, IsFrameFault, KeepsFaults};
-ghost use Rattle.board_package.specs.HandedBoard.{ComesHanded, ComesNext, GoesHanded, IsBoardHanded, IsFirstStopHanded, IsHanded, IsManifestHanded, StopsAtHanded, StopsAtManifestHanded, StopsHanding, course};
+ghost use Rattle.board_package.specs.Causes.{Builds, BuildsHanded, HandedCause, HasCause, IsFrameFault, KeepsFaults, Leaves, Spares};
+ghost use Rattle.board_package.specs.HandedBoard.{ComesNext, GoesHanded, IsHanded, IsManifestHanded, StopsAtHanded, StopsAtManifestHanded, StopsHanding, course};
 ghost use Rattle.board_package.specs.HandedLabelled.{GoesLabelledHanded, LabelledComesAmongHanded, StopsLabelledAmongHanded, labelled_course};
 ghost use Rattle.board_package.specs.LabelledBoard.{GoesLabelled, LabelledComesAmong, StopsLabelledAmong, is_taken};
 ghost use Rattle.board_package.specs.LabelledCauses.{HandedLabelledCause, HasLabelledCause, KeepsLabelledFaults, labelled_so_far};
 ghost use Rattle.board_package.specs.Manifest.{IsLawful, IsOnBoard};
-ghost use Rattle.board_package.specs.PackageBoard.{IsBoardOf, IsFirstStop, IsWithinLimits, Comes, IsHeld, IsManifestFile, StopsTaking, StopsAtManifest, StopsAt, StopsAtFrame, Goes, WalksBy};
+ghost use Rattle.board_package.specs.PackageBoard.{IsWithinLimits, IsHeld, IsManifestFile, StopsTaking, StopsAtManifest, StopsAt, Goes, WalksBy};
 ghost use Rattle.board_package.specs.Parts.{board_so_far, IsLawfulParts};
 ghost use Rattle.x2_nets.specs.Labels.{Rise};
 
@@ -25,7 +23,7 @@ use board_shapes::{Board, BoardFault, laws};
 use lengths::rows::Rows;
 use lengths::text::Text;
 use std::alloc::Global;
-pub use texts::MOST_BYTES;
+use texts::MOST_BYTES;
 use x2_nets::Label;
 
 /// The board of a package under the name of its manifest: its copper files' pieces and then its drill files', the probes
@@ -38,17 +36,11 @@ pub fn build<P: Package>(
     manifest: &Text,
     package: &mut P,
 ) -> Result<Board, BuildFault>
-    ensures held { P.held «package».new ≡ P.held «package».old }
-    ensures grows { Grows (P.handed «package».old) (P.handed «package».new) }
-    ensures consistent { IfSome (P.held «package».old) (λ files. AgreeWith files (P.handed «package».old) (P.handed «package».new)) }
-    ensures later { P.faults «package».old ≤ P.faults «package».new }
-    ensures faultless { OnOk result (IsFaultless (P.faults «package».old) (P.lost «package».old) (P.faults «package».new) (P.lost «package».new)) }
-    ensures kept { IfErr result (KeepsFaults (P.faults «package».old) (P.lost «package».old) (P.faults «package».new) (P.lost «package».new)) }
-    ensures ok { IfOk result (λ board. IfSome (P.held «package».old) (λ files. IsBoardOf files manifest.now (plain_board board))) }
-    ensures handed { IfOk result (λ board. IsBoardHanded (P.handed «package».old) (P.handed «package».new) manifest.now (plain_board board)) }
-    ensures handed_cause { IfErr result (HandedCause (λ stop. IsFirstStopHanded (P.handed «package».old) (P.handed «package».new) manifest.now stop) (λ name. ComesHanded (P.handed «package».old) (P.handed «package».new) manifest.now name) (P.faults «package».old) (P.faults «package».new) (P.lost «package».new)) }
+    ensures leaves { Leaves P.held P.handed P.faults «package».old «package».new }
+    ensures spared { Spares KeepsFaults P.faults P.lost «package».old «package».new result }
+    ensures told { Builds P.held P.faults P.lost manifest.now «package».old «package».new result }
+    ensures handed { BuildsHanded P.handed P.faults P.lost manifest.now «package».old «package».new result }
     ensures limits { IfOk result (λ board. IsWithinLimits (plain_board board)) }
-    ensures fault { IfErr result (HasCause (P.held «package».old) (λ files stop. IsFirstStop files manifest.now stop) (λ files name. Comes files manifest.now name) (P.faults «package».old) (P.faults «package».new) (P.lost «package».new)) }
 {
     let listed = take_manifest(alloc, manifest, package)?;
     let mut parts = Parts::new(alloc, listed.layers);
@@ -68,12 +60,8 @@ pub fn take_manifest<P: Package>(
     manifest: &Text,
     package: &mut P,
 ) -> Result<Manifest, BuildFault>
-    ensures held { P.held «package».new ≡ P.held «package».old }
-    ensures grows { Grows (P.handed «package».old) (P.handed «package».new) }
-    ensures consistent { IfSome (P.held «package».old) (λ files. AgreeWith files (P.handed «package».old) (P.handed «package».new)) }
-    ensures later { P.faults «package».old ≤ P.faults «package».new }
-    ensures faultless { OnOk result (IsFaultless (P.faults «package».old) (P.lost «package».old) (P.faults «package».new) (P.lost «package».new)) }
-    ensures kept { IfErr result (KeepsFaults (P.faults «package».old) (P.lost «package».old) (P.faults «package».new) (P.lost «package».new)) }
+    ensures leaves { Leaves P.held P.handed P.faults «package».old «package».new }
+    ensures spared { Spares KeepsFaults P.faults P.lost «package».old «package».new result }
     ensures found { IfOk result (λ m. IfSome (P.held «package».old) (λ files. IsManifestFile files manifest.now m)) }
     ensures handed { IfOk result (λ m. IsManifestHanded (P.handed «package».old) (P.handed «package».new) manifest.now m) }
     ensures handed_cause { IfErr result (HandedCause (λ stop. StopsAtManifestHanded (P.handed «package».old) (P.handed «package».new) manifest.now stop) (λ name. ComesNext (P.handed «package».old) (P.handed «package».new) manifest.now name) (P.faults «package».old) (P.faults «package».new) (P.lost «package».new)) }
@@ -102,12 +90,8 @@ pub fn take_files<P: Package>(
     requires lawful { IsLawfulParts parts.old }
     requires roles { All (λ e. IsOnBoard parts.old.layers e.role) entries.now }
     requires rise { All Rise tables.old }
-    ensures held { P.held «package».new ≡ P.held «package».old }
-    ensures grows { Grows (P.handed «package».old) (P.handed «package».new) }
-    ensures consistent { IfSome (P.held «package».old) (λ files. AgreeWith files (P.handed «package».old) (P.handed «package».new)) }
-    ensures later { P.faults «package».old ≤ P.faults «package».new }
-    ensures faultless { OnOk result (IsFaultless (P.faults «package».old) (P.lost «package».old) (P.faults «package».new) (P.lost «package».new)) }
-    ensures kept { IfErr result (KeepsLabelledFaults (P.faults «package».old) (P.lost «package».old) (P.faults «package».new) (P.lost «package».new)) }
+    ensures leaves { Leaves P.held P.handed P.faults «package».old «package».new }
+    ensures spared { Spares KeepsLabelledFaults P.faults P.lost «package».old «package».new result }
     ensures found { OnOk result (IfSome (P.held «package».old) (λ files. WalksBy (GoesLabelled naming files) (filter (λ e. is_taken naming e.role) entries.now) (labelled_so_far parts.old tables.old) (labelled_so_far parts.new tables.new))) }
     ensures handed { OnOk result (WalksBy (GoesLabelledHanded naming) (filter (λ e. is_taken naming e.role) entries.now) (labelled_course (P.handed «package».old) (labelled_so_far parts.old tables.old)) (labelled_course (P.handed «package».new) (labelled_so_far parts.new tables.new))) }
     ensures handed_cause { IfErr result (HandedLabelledCause (λ stop. StopsLabelledAmongHanded naming (filter (λ e. is_taken naming e.role) entries.now) (labelled_course (P.handed «package».old) (labelled_so_far parts.old tables.old)) (P.handed «package».new) stop) (λ name. LabelledComesAmongHanded naming (filter (λ e. is_taken naming e.role) entries.now) (labelled_course (P.handed «package».old) (labelled_so_far parts.old tables.old)) (P.handed «package».new) name) (P.faults «package».old) (P.faults «package».new) (P.lost «package».new)) }
@@ -136,12 +120,8 @@ fn take_needed<P: Package>(
     requires lawful { IsLawfulParts parts.old }
     requires role { IsOnBoard parts.old.layers entry.now.role }
     requires rise { All Rise tables.old }
-    ensures held { P.held «package».new ≡ P.held «package».old }
-    ensures grows { Grows (P.handed «package».old) (P.handed «package».new) }
-    ensures consistent { IfSome (P.held «package».old) (λ files. AgreeWith files (P.handed «package».old) (P.handed «package».new)) }
-    ensures later { P.faults «package».old ≤ P.faults «package».new }
-    ensures faultless { OnOk result (IsFaultless (P.faults «package».old) (P.lost «package».old) (P.faults «package».new) (P.lost «package».new)) }
-    ensures kept { IfErr result (KeepsLabelledFaults (P.faults «package».old) (P.lost «package».old) (P.faults «package».new) (P.lost «package».new)) }
+    ensures leaves { Leaves P.held P.handed P.faults «package».old «package».new }
+    ensures spared { Spares KeepsLabelledFaults P.faults P.lost «package».old «package».new result }
     ensures found { OnOk result (IfSome (P.held «package».old) (λ files. WalksBy (GoesLabelled naming files) (filter (λ e. is_taken naming e.role) (entry.now ∷ [])) (labelled_so_far parts.old tables.old) (labelled_so_far parts.new tables.new))) }
     ensures handed { OnOk result (WalksBy (GoesLabelledHanded naming) (filter (λ e. is_taken naming e.role) (entry.now ∷ [])) (labelled_course (P.handed «package».old) (labelled_so_far parts.old tables.old)) (labelled_course (P.handed «package».new) (labelled_so_far parts.new tables.new))) }
     ensures handed_cause { IfErr result (HandedLabelledCause (λ stop. StopsLabelledAmongHanded naming (filter (λ e. is_taken naming e.role) (entry.now ∷ [])) (labelled_course (P.handed «package».old) (labelled_so_far parts.old tables.old)) (P.handed «package».new) stop) (λ name. LabelledComesAmongHanded naming (filter (λ e. is_taken naming e.role) (entry.now ∷ [])) (labelled_course (P.handed «package».old) (labelled_so_far parts.old tables.old)) (P.handed «package».new) name) (P.faults «package».old) (P.faults «package».new) (P.lost «package».new)) }
@@ -167,12 +147,8 @@ fn take_entry<P: Package>(
 ) -> Result<(), BuildFault>
     requires lawful { IsLawfulParts parts.old }
     requires role { IsOnBoard parts.old.layers entry.now.role }
-    ensures held { P.held «package».new ≡ P.held «package».old }
-    ensures grows { Grows (P.handed «package».old) (P.handed «package».new) }
-    ensures consistent { IfSome (P.held «package».old) (λ files. AgreeWith files (P.handed «package».old) (P.handed «package».new)) }
-    ensures later { P.faults «package».old ≤ P.faults «package».new }
-    ensures faultless { OnOk result (IsFaultless (P.faults «package».old) (P.lost «package».old) (P.faults «package».new) (P.lost «package».new)) }
-    ensures kept { IfErr result (KeepsFaults (P.faults «package».old) (P.lost «package».old) (P.faults «package».new) (P.lost «package».new)) }
+    ensures leaves { Leaves P.held P.handed P.faults «package».old «package».new }
+    ensures spared { Spares KeepsFaults P.faults P.lost «package».old «package».new result }
     ensures short { OnOk result (length file.new.items ≤ MOST_BYTES) }
     ensures whole { OnOk result (IfSome (P.held «package».old) (λ files. IsHeld files entry.now.name file.new.items)) }
     ensures found { OnOk result (IfSome (P.held «package».old) (λ files. Goes files entry.now (board_so_far parts.old) (board_so_far parts.new))) }
@@ -196,12 +172,8 @@ pub fn take_file<P: Package>(
     package: &mut P,
     file: &mut Vec<u8>,
 ) -> Result<(), BuildFault>
-    ensures held { P.held «package».new ≡ P.held «package».old }
-    ensures grows { Grows (P.handed «package».old) (P.handed «package».new) }
-    ensures consistent { IfSome (P.held «package».old) (λ files. AgreeWith files (P.handed «package».old) (P.handed «package».new)) }
-    ensures later { P.faults «package».old ≤ P.faults «package».new }
-    ensures faultless { OnOk result (IsFaultless (P.faults «package».old) (P.lost «package».old) (P.faults «package».new) (P.lost «package».new)) }
-    ensures kept { IfErr result (KeepsFaults (P.faults «package».old) (P.lost «package».old) (P.faults «package».new) (P.lost «package».new)) }
+    ensures leaves { Leaves P.held P.handed P.faults «package».old «package».new }
+    ensures spared { Spares KeepsFaults P.faults P.lost «package».old «package».new result }
     ensures short { OnOk result (length file.new.items ≤ MOST_BYTES) }
     ensures found { OnOk result (IfSome (P.held «package».old) (λ files. IsHeld files name.now file.new.items)) }
     ensures handed { OnOk result (IsHanded (P.handed «package».old) (P.handed «package».new) name.now file.new.items) }

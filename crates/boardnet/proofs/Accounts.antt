@@ -1,5 +1,5 @@
 -- From what a command says of what was handed over to it to what it comes to, and to all files that agree.
-use Rattle.std.proofs.Common.{◌≡◌, ◌≤◌, ℕ, List, [], ◌∷◌, ◌++◌, Option, Some, None, Result, Ok, Err, IfErr, IfOk, MatchResult, refl, sym, subst, arith}
+use Rattle.std.proofs.Common.{◌≡◌, ◌≤◌, ℕ, List, [], ◌∷◌, ◌++◌, Option, Some, None, Result, Ok, Err, IfOk, MatchResult, refl, sym, subst, arith}
 use Rattle.board_io.specs.Handed.{Handed}
 use Rattle.board_io.specs.Package.{Files}
 use Rattle.board_package.proofs.Lift.{retold}
@@ -11,8 +11,9 @@ use Rattle.boardnet.proofs.Ending.{HasReason, Works, small_status}
 use Rattle.boardnet.proofs.Sound.{HoldsHanded}
 use Rattle.boardnet.proofs.Soundness.{sound}
 use Rattle.boardnet.specs.Answers.{IsAnswerTo, Refuses, RefusesFor, line_of, status_of, subject_of}
-use Rattle.boardnet.specs.Ends.{Leaves, Puts, StopsFor, cut, whole}
-use Rattle.boardnet.specs.HandedOutcome.{EndsHanded, HasHandedReason}
+use Rattle.boardnet.specs.Ends.{Puts, StopsFor, cut, whole}
+use Rattle.boardnet.specs.HandedOutcome.{EndsHanded, HasHandedReason, WorksOn}
+use Rattle.boardnet.specs.Kept.{LeftBy, Spares}
 use Rattle.boardnet.specs.Lines.{Says}
 use Rattle.boardnet.specs.Outcome.{ComesFor, HandedOver, Held, IsLineOf, OutcomeOf, Refused, Source, Told, read_by}
 use Rattle.boardnet.specs.Words.{Command}
@@ -74,10 +75,10 @@ ends_without source c lost handed got noted failed o o' n n' status (wanting is)
 }
 
 pub ends_handed : {S N : Type 0} (source : Source) (c : Command) (before now : ℕ) (lost : List ℕ) (handed : S → List (List ℕ)) (got : S → Option (List ℕ)) (broken : S → ℕ) (noted : N → Option (List ℕ)) (failed : N → ℕ) (o o' : S) (n n' : N) (status : ℕ) (given : Result Answer Unanswered)
-    → IfOk given (λ answer. IsAnswerTo source c answer) → IfErr given (HasHandedReason source c before now lost) → IfOk given (λ answer. handed o' ≡ handed o ++ answer.text.items ∷ [])
+    → MatchResult given (IsAnswerTo source c) (HasHandedReason source c before now lost) → IfOk given (λ answer. handed o' ≡ handed o ++ answer.text.items ∷ [])
     → MatchResult given (λ answer. Puts got broken noted failed answer o o' n n' status) (λ why. RefusesFor c why status (Says noted failed n n') × (o' ≡ o))
     → EndsHanded source c lost handed got noted failed o o' n n' status
-ends_handed source c before now lost handed got broken noted failed o o' n n' status (Ok answer) ok reason piece (whole is gains said) =
+ends_handed source c before now lost handed got broken noted failed o o' n n' status (Ok answer) ok piece (whole is gains said) =
     let small : status ≤ 1 = subst (λ (s : ℕ). s ≤ 1) (sym is) (small_status answer.note) in
     record {
       told = λ le. (answer.text.items, line_of answer.note, subst (λ (s : ℕ). OutcomeOf source c (Told answer.text.items s (line_of answer.note))) (sym is) ok, piece, gains, said);
@@ -85,30 +86,25 @@ ends_handed source c before now lost handed got broken noted failed o o' n n' st
       unread = λ four. absurd (omega (arith, small, four));
       front = λ five. absurd (omega (arith, small, five));
     }
-ends_handed source c before now lost handed got broken noted failed o o' n n' status (Ok answer) ok reason piece (cut is rose gains said) = record {
+ends_handed source c before now lost handed got broken noted failed o o' n n' status (Ok answer) ok piece (cut is rose gains said) = record {
   told = λ le. absurd (omega (arith, is, le));
   refused = λ three. absurd (omega (arith, is, three));
   unread = λ four. absurd (omega (arith, is, four));
   front = λ five. (answer.text.items, line_of answer.note, status_of answer.note, ok, piece, gains);
 }
-ends_handed source c before now lost handed got broken noted failed o o' n n' status (Err why) ok reason piece put =
+ends_handed source c before now lost handed got broken noted failed o o' n n' status (Err why) reason piece put =
     ends_without source c lost handed got noted failed o o' n n' status (reason_of source c before now lost status (Says noted failed n n') why put.0 reason)
 
 -- ---- The files that the package tells, or all that agree
 
 reason_held : (c : Command) (held : Option Files) (a b : List Handed) (before now : ℕ) (lost : List ℕ) (why : Unanswered) → HoldsHanded c held a b → HasHandedReason (HandedOver a b) c before now lost why → HasReason c held before now lost why
 reason_held c held a b before now lost (Stopped why) h r =
-    retold (Some (λ name. None)) (read_by c held) (λ files stop. StopsFor (HandedOver a b) c stop) (λ files stop. StopsFor (Held files) c stop) (λ files name. ComesFor (HandedOver a b) c name) (λ files name. ComesFor (Held files) c name) before now lost why
-    (λ stop s. h.stops stop s) (λ name s. h.comes name s) r
+    retold (Some (λ name. None)) (read_by c held) (λ files stop. StopsFor (HandedOver a b) c stop) (λ files stop. StopsFor (Held files) c stop) (λ files name. ComesFor (HandedOver a b) c name) (λ files name. ComesFor (Held files) c name) before before now lost why
+    (omega arith) (λ stop s. h.stops stop s) (λ name s. h.comes name s) r
 reason_held c held a b before now lost other h r = h.refuses other r
 
 -- the work on what was handed over is work on the files that agree with it
-pub held_works : {P : Type 0} (c : Command) (files : P → Option Files) (a b : List Handed) (faults : P → ℕ) (lost : P → List ℕ) (old new : P) (result : Result Answer Unanswered) → HoldsHanded c (files old) a b → Leaves files faults lost old new result
-    → IfOk result (IsAnswerTo (HandedOver a b) c) → IfErr result (HasHandedReason (HandedOver a b) c (faults old) (faults new) (lost new))
-    → Works files faults lost c old new result
-held_works c files a b faults lost old new (Ok answer) h leaves ok reason = record { held = leaves.held; later = leaves.later; calm = leaves.calm; left = tt; ok = h.outcome (Told answer.text.items (status_of answer.note) (line_of answer.note)) ok; reason = tt }
-held_works c files a b faults lost old new (Err why) h leaves ok reason = record { held = leaves.held; later = leaves.later; calm = tt; left = leaves.left; ok = tt; reason = reason_held c (files old) a b (faults old) (faults new) (lost new) why h reason }
-
--- whatever the package tells, nothing else is left of it
-pub told_leaves : {P : Type 0} (files : P → Option Files) (f : Files) (faults : P → ℕ) (lost : P → List ℕ) (old new : P) (result : Result Answer Unanswered) → Leaves files faults lost old new result → Leaves (λ p. Some f) faults lost old new result
-told_leaves files f faults lost old new result leaves = record { held = refl; later = leaves.later; calm = leaves.calm; left = leaves.left }
+pub held_works : {P : Type 0} (c : Command) (files : P → Option Files) (handed : P → List Handed) (faults : P → ℕ) (lost : P → List ℕ) (old new : P) (result : Result Answer Unanswered) → HoldsHanded c (files old) (handed old) (handed new)
+    → files new ≡ files old → faults old ≤ faults new → Spares LeftBy faults lost old new result → WorksOn handed faults lost c old new result → Works files faults lost c old new result
+held_works c files handed faults lost old new (Ok answer) h held later spared work = record { held = held; later = later; spared = spared; work = h.outcome (Told answer.text.items (status_of answer.note) (line_of answer.note)) work }
+held_works c files handed faults lost old new (Err why) h held later spared work = record { held = held; later = later; spared = spared; work = reason_held c (files old) (handed old) (handed new) (faults old) (faults new) (lost new) why h work }

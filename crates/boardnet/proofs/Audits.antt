@@ -1,12 +1,13 @@
 -- From what the parts of an audit give to its outcome.
-use Rattle.std.proofs.Common.{◌≡◌, ◌<◌, ◌≤◌, inl, inr, ℕ, List, length, Option, Some, None, IsSomeAnd, codes, ap, subst, sym, ◌∙◌, arith}
+use Rattle.std.proofs.Common.{◌≡◌, ◌≤◌, inl, inr, ℕ, List, Some, codes, ap, subst, sym, ◌∙◌, arith}
 use Rattle.board_io.specs.Handed.{Handed}
 use Rattle.board_io.specs.Package.{Files, IsFaultless}
+use Rattle.board_package.proofs.OneOutcome.{held_not_absent, held_not_longer}
 use Rattle.board_package.proofs.Staging.{carry}
 use Rattle.board_package.specs.Causes.{HandedCause}
 use Rattle.board_package.specs.HandedBoard.{ComesHanded, ComesNext, IsBoardHanded, IsFirstStopHanded, StopsHanding}
 use Rattle.board_package.specs.Laws.{HasOneOutcome}
-use Rattle.board_package.specs.PackageBoard.{IsHeld, StopsTaking, Stop, absent, longer, not_json, bad_manifest, refused, frame_too_large, most_bytes}
+use Rattle.board_package.specs.PackageBoard.{IsHeld, StopsTaking, Stop, absent, longer}
 use Rattle.board_package.specs.declared.fault.BuildFault.{BuildFault}
 use Rattle.board_shapes.proofs.BoardTables.{tables_are_one}
 use Rattle.board_shapes.specs.Laws.{HasOneTables}
@@ -71,15 +72,9 @@ one_answer files manifest report t l text line s status law one a b =
 
 -- a file that is held and not too long does not stop its taking
 pub no_stop_taking : (files : Files) (name bytes : List ℕ) (stop : Stop) → IsHeld files name bytes → StopsTaking files name stop → ⊥
-no_stop_taking files name bytes (absent other) h s = absurd (cc (h.held, s.1))
-no_stop_taking files name bytes (longer other) h s = too_long (files name) bytes h.held h.short s.1 where
-  too_long : (o : Option (List ℕ)) (bytes : List ℕ) → o ≡ Some bytes → length bytes ≤ most_bytes → IsSomeAnd o (λ b. most_bytes < length b) → ⊥
-  too_long None bytes e short h = absurd h
-  too_long (Some b) bytes e short h = let same : b ≡ bytes = cc e in let long : most_bytes < length bytes = subst (λ (z : List ℕ). most_bytes < length z) same h in omega (arith, short, long)
-no_stop_taking files name bytes not_json h s = absurd s
-no_stop_taking files name bytes bad_manifest h s = absurd s
-no_stop_taking files name bytes (refused other why) h s = absurd s
-no_stop_taking files name bytes (frame_too_large box) h s = absurd s
+no_stop_taking files name bytes (absent other) h s = held_not_absent files name bytes h s.1
+no_stop_taking files name bytes (longer other) h s = held_not_longer files name bytes h s.1
+no_stop_taking files name bytes other h s = absurd s
 
 -- an audit that has an answer has no stop
 pub no_stop : (files : Files) (manifest report text line : List ℕ) (status : ℕ) (stop : Stop) → HasOneOutcome files manifest → IsAnswer (Held files) manifest report text status line → IsAuditStop (Held files) manifest report stop → ⊥

@@ -1,11 +1,9 @@
 -- Verdicts on labelled boards: no probe is bare, and net numbers tell what joins the labelled pieces.
-use Rattle.std.proofs.Common.{◌≡◌, ℕ, ◌+◌, ◌-◌, ◌<◌, suc, List, [], ◌∷◌, ◌++◌, length, get_or, Contains, pos, Option, Some, None, MatchOption, Result, Ok, Err, ◌≤◌, refl, sym, subst, ◌∙◌, arith}
+use Rattle.std.proofs.Common.{◌≡◌, ℕ, ◌+◌, ◌-◌, ◌<◌, suc, List, [], ◌∷◌, ◌++◌, length, get_or, Contains, pos, Option, Some, None, MatchOption, refl, sym, subst, ◌∙◌, arith}
 use Rattle.std.specs.Prelude.{slice_get}
 use Rattle.std.specs.List.{AllByRecursion}
 use Rattle.std.proofs.lemmas.Option.{slice_get-get_or}
-use Rattle.std.specs.Result.{IsErrAnd}
 use Rattle.board_io.specs.Handed.{Handed}
-use Rattle.board_io.specs.Package.{Files}
 use Rattle.board_package.specs.HandedLabelled.{IsFirstLabelledStopHanded, LabelledComesHanded}
 use Rattle.board_package.specs.LabelledCauses.{HandedLabelledCause, KeepsLabelledFaults}
 use Rattle.board_package.specs.Laws.{LabelledPiecesAreUnder}
@@ -17,7 +15,6 @@ use Rattle.board_shapes.specs.declared.probe.Probe.{Probe}
 use Rattle.board_package.specs.declared.fault.LabelledFault.{LabelledFault}
 use Rattle.board_package.specs.declared.fault.LabelledFault.TheVariants as labelled
 use Rattle.boardnet.specs.Answers.{IsAnswerTo, line_of, status_of, unlabelled_of}
-use Rattle.boardnet.specs.Ends.{Leaves}
 use Rattle.boardnet.specs.HandedOutcome.{HasHandedReason}
 use Rattle.boardnet.specs.Kept.{LeftBy}
 use Rattle.boardnet.specs.Outcome.{HandedOver, Held, JoinsPieces, Source}
@@ -25,7 +22,6 @@ use Rattle.boardnet.specs.Right.{IsReportOn, IsRightOn}
 use Rattle.boardnet.specs.Source.{IsLabelledBoardBy}
 use Rattle.boardnet.specs.Words.{X2}
 use Rattle.boardnet.specs.declared.answer.Answer.{Answer}
-use Rattle.boardnet.specs.declared.answer.Unanswered.{Unanswered}
 use Rattle.boardnet.specs.declared.words.Version.TheVariants.{Two}
 use Rattle.tables.specs.Chains.{IsChain}
 use Rattle.tables.specs.Tables.{TestPoint}
@@ -106,16 +102,9 @@ labelled_report_is law source manifest b answer is lawful r =
 
 -- ---- Where there is no board
 
-left_of : (before : ℕ) (was : List ℕ) (now : ℕ) (lost : List ℕ) (why : LabelledFault) → KeepsLabelledFaults before was now lost why → LeftBy before was now lost (unlabelled_of why)
+pub left_of : (before : ℕ) (was : List ℕ) (now : ℕ) (lost : List ℕ) (why : LabelledFault) → KeepsLabelledFaults before was now lost why → LeftBy before was now lost (unlabelled_of why)
 left_of before was now lost (labelled.Build why) h = h
 left_of before was now lost (labelled.Label name number byte) h = h
-
--- a fault of the labelled board stops the work
-pub stopped_by : {P : Type 0} (files : P → Option Files) (faults : P → ℕ) (lost : P → List ℕ) (old new : P) (why : LabelledFault) (result : Result Answer Unanswered)
-    → IsErrAnd result (λ u. u ≡ unlabelled_of why) → files new ≡ files old → faults old ≤ faults new → KeepsLabelledFaults (faults old) (lost old) (faults new) (lost new) why → Leaves files faults lost old new result
-stopped_by files faults lost old new why (Ok answer) e held later left = absurd e
-stopped_by files faults lost old new why (Err u) e held later left =
-    subst (λ (x : Unanswered). Leaves files faults lost old new (Err x)) (sym e) (record { held = held; later = later; calm = tt; left = left_of (faults old) (lost old) (faults new) (lost new) why left })
 
 pub handed_reason : (manifest : List ℕ) (a b : List Handed) (before now : ℕ) (lost : List ℕ) (why : LabelledFault)
     → HandedLabelledCause (λ stop. IsFirstLabelledStopHanded a b manifest stop) (λ name. LabelledComesHanded a b manifest name) before now lost why → HasHandedReason (HandedOver a b) (X2 manifest) before now lost (unlabelled_of why)

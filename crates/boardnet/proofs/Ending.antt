@@ -1,5 +1,5 @@
 -- From the work of a command and what was put for it to what the command comes to.
-use Rattle.std.proofs.Common.{◌≡◌, ◌⊎◌, ◌≤◌, inl, inr, ℕ, Bool, true, false, List, Option, Result, Ok, Err, IfErr, IfOk, MatchResult, codes, refl, sym, subst, arith}
+use Rattle.std.proofs.Common.{◌≡◌, ◌⊎◌, ◌≤◌, inl, inr, ℕ, Bool, true, false, List, Option, Result, Ok, Err, IfOk, MatchResult, codes, refl, sym, subst, arith}
 use Rattle.std.specs.Prelude.{if◌then◌else◌}
 use Rattle.board_io.specs.Causes.{Rose}
 use Rattle.board_io.specs.Package.{Files, IsFaultless}
@@ -14,7 +14,7 @@ use Rattle.boardnet.proofs.Sound.{OneOutcome}
 use Rattle.boardnet.proofs.Soundness.{sound}
 use Rattle.boardnet.specs.Answers.{IsAnswerTo, Refuses, RefusesFor, line_of, is_good, reason_line, subject_of, report_of, status_of}
 use Rattle.boardnet.specs.Ends.{Ends, HasText, Puts, StopsFor, TakesFiles, cut, whole}
-use Rattle.boardnet.specs.Kept.{LeftBy}
+use Rattle.boardnet.specs.Kept.{LeftBy, Spares}
 use Rattle.boardnet.specs.Lines.{Says, file_line, plain_line}
 use Rattle.boardnet.specs.Outcome.{ComesFor, Held, IsLineOf, OfFilesRead, OutcomeOf, Refused, Told, read_by}
 use Rattle.boardnet.specs.Words.{Command, task_of, Flatten, Write}
@@ -30,17 +30,12 @@ abbrev pub HasReason : Command → Option Files → ℕ → ℕ → List ℕ →
 HasReason command held before now lost (Stopped why) = HasCause (read_by command held) (λ files stop. StopsFor (Held files) command stop) (λ files name. ComesFor (Held files) command name) before now lost why
 HasReason command held before now lost other = OfFilesRead command held (λ files. (task_of command).refuses (Held files) other)
 
--- The answer is the command's outcome, or there is a reason why there is
--- none.
+-- The answer is the command's outcome, or there is a reason why there is none.
 pub record Works {P : Type 0} (files : P → Option Files) (faults : P → ℕ) (lost : P → List ℕ) (command : Command) (old new : P) (result : Result Answer Unanswered) : Type 0 where
   pub held : files new ≡ files old
   pub later : faults old ≤ faults new
-  -- an answer leaves the count of faults and the lost name as they were
-  pub calm : IfOk result (λ answer. IsFaultless (faults old) (lost old) (faults new) (lost new))
-  -- and where there is none they change only by a fault of reading or want of memory
-  pub left : IfErr result (LeftBy (faults old) (lost old) (faults new) (lost new))
-  pub ok : IfOk result (λ answer. OfFilesRead command (files old) (λ f. IsAnswerTo (Held f) command answer))
-  pub reason : IfErr result (HasReason command (files old) (faults old) (faults new) (lost new))
+  pub spared : Spares LeftBy faults lost old new result
+  pub work : MatchResult result (λ answer. OfFilesRead command (files old) (λ f. IsAnswerTo (Held f) command answer)) (HasReason command (files old) (faults old) (faults new) (lost new))
 
 -- ---- Why there is no answer
 
@@ -94,7 +89,7 @@ ends_whole : {P S N : Type 0} (files : P → Option Files) (faults : P → ℕ) 
 ends_whole files faults lost got broken noted failed c p p' o o' n n' status answer w later is gains said =
     let small : status ≤ 1 = subst (λ (s : ℕ). s ≤ 1) (sym is) (small_status answer.note) in
     let outcome : OfFilesRead c (files p) (λ f. OutcomeOf (Held f) c (Told answer.text.items status (line_of answer.note))) =
-    subst (λ (s : ℕ). OfFilesRead c (files p) (λ f. OutcomeOf (Held f) c (Told answer.text.items s (line_of answer.note)))) (sym is) w.ok in
+    subst (λ (s : ℕ). OfFilesRead c (files p) (λ f. OutcomeOf (Held f) c (Told answer.text.items s (line_of answer.note)))) (sym is) w.work in
     record {
       few = omega (arith, small);
       understood = λ two. omega (arith, small, two);
@@ -107,7 +102,7 @@ ends_whole files faults lost got broken noted failed c p p' o o' n n' status ans
       front = λ five. absurd (omega (arith, small, five));
       memory = λ six. absurd (omega (arith, small, six));
       silent = λ two other. absurd (omega (arith, small, two));
-      kept = record { held = w.held; later = w.later; calm = λ four six. w.calm };
+      kept = record { held = w.held; later = w.later; calm = λ four six. w.spared };
       later = later;
       complete = told_all (read_by c (files p)) (λ f. HasText (Held f) c → (TakesFiles c → Rose (faults p) (faults p') → ⊥) → (Rose (broken o) (broken o') → ⊥) → (status ≤ 1) ⊎ (status ≡ 6)) (λ f text calm quiet. inl small);
     }
@@ -127,10 +122,10 @@ ends_cut files faults lost got broken noted failed c p p' o o' n n' status answe
   unread = λ four. absurd (omega (arith, is, four));
   unwritable = λ five. (rose, said);
   front = λ five. told_of (read_by c (files p)) (λ f. OutcomeOf (Held f) c (Told answer.text.items (status_of answer.note) (line_of answer.note)))
-      (λ f. (text line : List ℕ) × (s : ℕ) × OutcomeOf (Held f) c (Told text s line) × GainsFrontOf (got o) text (got o')) (λ f h. (answer.text.items, line_of answer.note, status_of answer.note, h, gains)) w.ok;
+      (λ f. (text line : List ℕ) × (s : ℕ) × OutcomeOf (Held f) c (Told text s line) × GainsFrontOf (got o) text (got o')) (λ f h. (answer.text.items, line_of answer.note, status_of answer.note, h, gains)) w.work;
   memory = λ six. absurd (omega (arith, is, six));
   silent = λ two other. absurd (other is);
-  kept = record { held = w.held; later = w.later; calm = λ four six. w.calm };
+  kept = record { held = w.held; later = w.later; calm = λ four six. w.spared };
   later = later;
   complete = told_all (read_by c (files p)) (λ f. HasText (Held f) c → (TakesFiles c → Rose (faults p) (faults p') → ⊥) → (Rose (broken o) (broken o') → ⊥) → (status ≤ 1) ⊎ (status ≡ 6)) (λ f text calm quiet. absurd (quiet rose));
 }
@@ -205,7 +200,7 @@ ends files faults lost got broken noted failed c p p' o o' n n' status (Ok answe
     ends_cut files faults lost got broken noted failed c p p' o o' n n' status answer w later is rose gains said
 ends files faults lost got broken noted failed c p p' o o' n n' status (Err why) law w later put =
     ends_without files faults lost got broken noted failed c p p' o o' n n' status w.held w.later later put.1
-    (reason_of law c (files p) (faults p) (lost p) (faults p') (lost p') status (Says noted failed n n') why put.0 w.reason w.left)
+    (reason_of law c (files p) (faults p) (lost p) (faults p') (lost p') status (Says noted failed n n') why put.0 w.work w.spared)
 
 -- ---- What is never judged
 

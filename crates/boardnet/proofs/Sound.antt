@@ -10,7 +10,7 @@ use Rattle.board_package.specs.HandedLaw.{HandedIsHeld, HoldsWhatWasHanded}
 use Rattle.board_package.specs.Laws.{HasOneLabelledOutcome, HasOneOutcome}
 use Rattle.board_package.specs.PackageBoard.{Stop}
 use Rattle.board_shapes.specs.Plain.{PlainBoard}
-use Rattle.gaps.specs.Laws.{GapsAreOne}
+use Rattle.gaps.specs.Laws.{GapListsAreOne}
 use Rattle.gerber_layer.specs.MacroLayer.{HasOneMacroAnswer}
 use Rattle.boardnet.specs.Answers.{reason_line}
 use Rattle.boardnet.specs.Common.{IsRefusal}
@@ -38,7 +38,7 @@ pub record Laws : Type 0 where
   pub one : OneOutcome
   pub witnesses : (board : Tables) (v w : Verdict) → AreConsistent board → IsRight board v → IsRight board w → DifferInWitnessesOnly v w
   pub texts : ReportTextIsInjective
-  pub gaps : GapsAreOne
+  pub gaps : GapListsAreOne
 
 -- what is said of what was handed over holds of the files, where they are told
 pub record HoldsHanded (c : Command) (held : Option Files) (a b : List Handed) : Type 0 where

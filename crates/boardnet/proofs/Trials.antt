@@ -1,10 +1,11 @@
 -- The causes of a made package.
-use Rattle.std.proofs.Common.{◌≤◌, ℕ, List, Some, Result, Ok, Err, IfErr, subst, sym}
+use Rattle.std.proofs.Common.{◌≤◌, ℕ, List, Some, Result, Ok, Err, IfErr, IfOk, MatchResult, subst, sym}
 use Rattle.board_maker.specs.MadePackage.{made_files}
 use Rattle.board_package.specs.Causes.{HasCause}
 use Rattle.board_package.specs.PackageBoard.{Comes, IsFirstStop}
 use Rattle.board_package.specs.declared.fault.BuildFault.{BuildFault}
 use Rattle.board_package.specs.declared.fault.BuildFault.TheVariants as fault
+use Rattle.boardnet.specs.Answers.{IsAnswerTo}
 use Rattle.boardnet.specs.HandedOutcome.{HasHandedReason}
 use Rattle.boardnet.specs.Outcome.{Source, made_manifest}
 use Rattle.boardnet.specs.Trials.{IsUnlost}
@@ -21,17 +22,11 @@ HasTrialCause seed size source before now lost why = HasHandedReason source (Tri
 pub unlost_cause : (seed size : ℕ) (count count' : ℕ) (missed : List ℕ) (why given : BuildFault) → size ≤ 10000
     → HasCause (Some (made_files seed size)) (λ files stop. IsFirstStop files made_manifest stop) (λ files name. Comes files made_manifest name) count count' missed why → IsUnlost why given
     → (source : Source) (before now : ℕ) (lost : List ℕ) → HasTrialCause seed size source before now lost given
-unlost_cause seed size count count' missed fault.NotJson given small h e source before now lost = subst (λ (z : BuildFault). HasTrialCause seed size source before now lost z) (sym e) (small, h)
-unlost_cause seed size count count' missed fault.BadManifest given small h e source before now lost = subst (λ (z : BuildFault). HasTrialCause seed size source before now lost z) (sym e) (small, h)
-unlost_cause seed size count count' missed (fault.Longer name) given small h e source before now lost = subst (λ (z : BuildFault). HasTrialCause seed size source before now lost z) (sym e) (small, h)
 unlost_cause seed size count count' missed (fault.CannotRead name) given small h e source before now lost = subst (λ (z : BuildFault). HasTrialCause seed size source before now lost z) (sym e) tt
-unlost_cause seed size count count' missed (fault.Layer name kind command at) given small h e source before now lost = subst (λ (z : BuildFault). HasTrialCause seed size source before now lost z) (sym e) (small, h)
-unlost_cause seed size count count' missed (fault.Drill name kind line at) given small h e source before now lost = subst (λ (z : BuildFault). HasTrialCause seed size source before now lost z) (sym e) (small, h)
-unlost_cause seed size count count' missed (fault.Netlist name kind line) given small h e source before now lost = subst (λ (z : BuildFault). HasTrialCause seed size source before now lost z) (sym e) (small, h)
-unlost_cause seed size count count' missed (fault.FrameTooLarge box) given small h e source before now lost = subst (λ (z : BuildFault). HasTrialCause seed size source before now lost z) (sym e) (small, h)
 unlost_cause seed size count count' missed fault.NoMemory given small h e source before now lost = subst (λ (z : BuildFault). HasTrialCause seed size source before now lost z) (sym e) tt
+unlost_cause seed size count count' missed other given small h e source before now lost = subst (λ (z : BuildFault). HasTrialCause seed size source before now lost z) (sym e) (small, h)
 
-pub trial_reasons : (seed size : ℕ) (source : Source) (before now : ℕ) (lost : List ℕ) (result : Result Answer Unanswered)
-    → IfErr result (λ why. (source : Source) (before now : ℕ) (lost : List ℕ) → HasHandedReason source (Trial seed size) before now lost why) → IfErr result (HasHandedReason source (Trial seed size) before now lost)
-trial_reasons seed size source before now lost (Ok answer) h = tt
-trial_reasons seed size source before now lost (Err why) h = h source before now lost
+pub trial_works : (seed size : ℕ) (source : Source) (before now : ℕ) (lost : List ℕ) (result : Result Answer Unanswered) → IfOk result (IsAnswerTo source (Trial seed size))
+    → IfErr result (λ why. (source : Source) (before now : ℕ) (lost : List ℕ) → HasHandedReason source (Trial seed size) before now lost why) → MatchResult result (IsAnswerTo source (Trial seed size)) (HasHandedReason source (Trial seed size) before now lost)
+trial_works seed size source before now lost (Ok answer) answers h = answers
+trial_works seed size source before now lost (Err why) answers h = h source before now lost

@@ -1,16 +1,15 @@
 -- What a command comes to: its work on the package, and then what is put.
-use Rattle.std.specs.Prelude.{◌≡◌, ◌≤◌, ◌⊎◌, ℕ, List, Option, codes, ◌≢◌, Result, IfErr, IfOk}
+use Rattle.std.specs.Prelude.{◌≡◌, ◌≤◌, ◌⊎◌, ℕ, List, Option, codes, ◌≢◌}
 use Rattle.board_io.specs.Causes.{Rose}
-use Rattle.board_io.specs.Package.{Files, IsFaultless}
+use Rattle.board_io.specs.Package.{Files}
 use Rattle.board_io.specs.Sink.{Gains, GainsFrontOf}
 use Rattle.board_package.specs.PackageBoard.{Stop}
 use Rattle.boardnet.specs.Answers.{line_of, status_of}
-use Rattle.boardnet.specs.Kept.{Keeps, LeftBy}
+use Rattle.boardnet.specs.Kept.{Keeps}
 use Rattle.boardnet.specs.Lines.{plain_line, file_line, Says}
 use Rattle.boardnet.specs.Outcome.{Held, Told, Refused, ComesFor, OfFilesRead, OutcomeOf, Source}
 use Rattle.boardnet.specs.Words.{Command, task_of}
 use Rattle.boardnet.specs.declared.answer.Answer.{Answer}
-use Rattle.boardnet.specs.declared.answer.Unanswered.{Unanswered}
 
 -- the names of files in a command are texts, and its numbers are in range
 abbrev pub HasNames : Command → Type 0
@@ -19,15 +18,6 @@ HasNames command = (task_of command).in_range
 -- the stops of a command
 abbrev pub StopsFor : Source → Command → Stop → Type 0
 StopsFor source command stop = (task_of command).stops source stop
-
--- What a command leaves of the package that it was lent, by its answer.
-pub record Leaves {P : Type 0} (files : P → Option Files) (faults : P → ℕ) (lost : P → List ℕ) (old new : P) (result : Result Answer Unanswered) : Type 0 where
-  pub held : files new ≡ files old
-  pub later : faults old ≤ faults new
-  -- an answer leaves the count of faults and the lost name as they were
-  pub calm : IfOk result (λ answer. IsFaultless (faults old) (lost old) (faults new) (lost new))
-  -- and where there is none they change only by a fault of reading or want of memory
-  pub left : IfErr result (LeftBy (faults old) (lost old) (faults new) (lost new))
 
 -- An answer that was put: whole, or cut at a fault of the output, which is status 5.
 pub data Puts {S N : Type 0} (got : S → Option (List ℕ)) (broken : S → ℕ) (noted : N → Option (List ℕ)) (failed : N → ℕ) (answer : Answer) (o o' : S) (n n' : N) (status : ℕ) : Type 0 where

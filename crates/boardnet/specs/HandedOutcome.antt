@@ -1,11 +1,14 @@
 -- What the commands come to by the files that the package handed over in the call, whether it tells what it holds or not.
-use Rattle.std.specs.Prelude.{◌≡◌, ◌≤◌, ℕ, List, [], ◌∷◌, ◌++◌, Option}
+use Rattle.std.specs.Prelude.{◌≡◌, ◌≤◌, ℕ, List, [], ◌∷◌, ◌++◌, MatchResult, Option, Result}
+use Rattle.board_io.specs.Handed.{Handed}
 use Rattle.board_io.specs.Sink.{Gains, GainsFrontOf}
 use Rattle.board_package.specs.Causes.{HandedCause}
+use Rattle.boardnet.specs.Answers.{IsAnswerTo}
 use Rattle.boardnet.specs.Ends.{StopsFor}
 use Rattle.boardnet.specs.Lines.{Says}
-use Rattle.boardnet.specs.Outcome.{ComesFor, OutcomeOf, Refused, Source, Told}
+use Rattle.boardnet.specs.Outcome.{ComesFor, HandedOver, OutcomeOf, Refused, Source, Told}
 use Rattle.boardnet.specs.Words.{Command, task_of}
+use Rattle.boardnet.specs.declared.answer.Answer.{Answer}
 use Rattle.boardnet.specs.declared.answer.Unanswered.{Unanswered}
 use Rattle.boardnet.specs.declared.answer.Unanswered.TheVariants.{Stopped}
 
@@ -13,6 +16,11 @@ use Rattle.boardnet.specs.declared.answer.Unanswered.TheVariants.{Stopped}
 abbrev pub HasHandedReason : Source → Command → ℕ → ℕ → List ℕ → Unanswered → Type 0
 HasHandedReason source command before now lost (Stopped why) = HandedCause (λ stop. StopsFor source command stop) (λ name. ComesFor source command name) before now lost why
 HasHandedReason source command before now lost other = (task_of command).refuses source other
+
+-- The work of a command on what was handed over to it: an answer that is its outcome, or a reason why it has none.
+abbrev pub WorksOn : {P : Type 0} → (P → List Handed) → (P → ℕ) → (P → List ℕ) → Command → P → P → Result Answer Unanswered → Type 0
+WorksOn handed faults lost command old new result =
+    MatchResult result (IsAnswerTo (HandedOver (handed old) (handed new)) command) (HasHandedReason (HandedOver (handed old) (handed new)) command (faults old) (faults new) (lost new))
 
 -- What a command comes to, by the status that it answers, of what was handed over to it: of the output `o` and the notes `n`,
 -- before and after, and the name of the last file that could not be read.

@@ -1,6 +1,7 @@
 -- What a call leaves of what it was lent.
 use Rattle.std.specs.Prelude.{◌≡◌, ◌≢◌, ◌≤◌, ℕ, List, Option}
 use Rattle.board_io.specs.Package.{Files, IsFaultless}
+pub use Rattle.board_package.specs.Causes.{Leaves, Spares}
 use Rattle.board_package.specs.Causes.{KeepsFaults}
 use Rattle.boardnet.specs.declared.answer.Unanswered.{Unanswered}
 use Rattle.boardnet.specs.declared.answer.Unanswered.TheVariants.{Stopped}

@@ -1,11 +1,13 @@
 -- What is told of a command, whatever it is.
-use Rattle.std.specs.Prelude.{ℕ, List, Option, String}
+use Rattle.std.specs.Prelude.{ℕ, List, [], Option, String}
 use Rattle.std.specs.declared.alloc.Global.{Global}
 use Rattle.board_io.specs.Package.{Files}
 use Rattle.board_package.specs.PackageBoard.{Stop}
+use Rattle.board_shapes.specs.Plain.{PlainBoard}
 use Rattle.boardnet.specs.Common.{Outcome}
-use Rattle.boardnet.specs.Source.{Source}
+use Rattle.boardnet.specs.Source.{Source, ComesBy, IsBoardBy, IsFirstStopBy}
 use Rattle.boardnet.specs.declared.answer.Unanswered.{Unanswered}
+use Rattle.lengths.specs.Text.{IsText}
 
 pub record Task : Type 1 where
   -- the words that ask for it, how they are spelled
@@ -28,3 +30,21 @@ pub record Task : Type 1 where
   -- what it comes to, and when that is a text
   pub outcome : Source → Outcome → Type 0
   pub has_text : Source → Type 0
+
+-- A command on a package, which but for what it says otherwise takes the files of the manifest that it is about in their order,
+-- stops where the package does, refuses nothing else, and has a text where the package fits.
+abbrev pub on_package : List ℕ → (List (String Global) → Type 0) → List (List ℕ) → (Source → Outcome → Type 0) → Task
+on_package manifest asks spelled outcome = record {
+  asks = asks;
+  spelled = spelled;
+  in_range = IsText manifest;
+  subject = manifest;
+  report = [];
+  takes = Unit {0};
+  reads = λ held. held;
+  comes = λ source name. ComesBy source manifest name;
+  stops = λ source stop. IsFirstStopBy source manifest stop;
+  refuses = λ source why. ⊥;
+  outcome = outcome;
+  has_text = λ source. (board : PlainBoard) × IsBoardBy source manifest board;
+}

@@ -11,8 +11,8 @@ ghost use Rattle.std.specs.Prelude.{List, None, [], length, ℕ, ◌<◌, ◌≡
 use crate::laws::reports_pass;
 use crate::run::run;
 use board_io::{MemoryPackage, MemorySink, Sink};
-use board_package::MOST_BYTES;
 use std::alloc::Global;
+use texts::MOST_BYTES;
 
 /// What a check and the audit of its report come to.
 #[derive(Clone, Copy, Debug, PartialEq, Eq)]

@@ -1,13 +1,12 @@
 //! The commands: the words that ask for each, and its work, which has a file of its own (`gap`
 //! for `gaps`, since no module may be named as a library is).
-ghost use Rattle.board_io.specs.Handed.{AgreeWith, Grows};
-ghost use Rattle.boardnet.specs.Answers.{IsAnswerTo, status_of};
+ghost use Rattle.boardnet.specs.Answers.{status_of};
 ghost use Rattle.boardnet.specs.Command.{asked};
-ghost use Rattle.boardnet.specs.Ends.{HasNames, Leaves};
-ghost use Rattle.boardnet.specs.HandedOutcome.{HasHandedReason};
-ghost use Rattle.boardnet.specs.Outcome.{HandedOver};
+ghost use Rattle.boardnet.specs.Ends.{HasNames};
+ghost use Rattle.boardnet.specs.HandedOutcome.{WorksOn};
+ghost use Rattle.boardnet.specs.Kept.{Leaves, LeftBy, Spares};
 ghost use Rattle.boardnet.specs.Words.{CanAsk, Command as Asked, Flatten, SpelledAsk, Trial, Write};
-ghost use Rattle.std.specs.Prelude.{IfErr, IfNone, IfOk, IfSome, List, [], ℕ, ◌∷◌, ◌≡◌, ◌⊎◌};
+ghost use Rattle.std.specs.Prelude.{IfNone, IfOk, IfSome, List, [], ℕ, ◌∷◌, ◌≡◌, ◌⊎◌};
 
 pub mod audit;
 pub mod check;
@@ -117,11 +116,9 @@ pub fn of_two<'a>(command: &str, first: &'a str, second: &'a str) -> Option<Comm
 /// The answer to a command, or why it has none.
 pub fn answer_to<P: Package>(alloc: Global, command: Command, package: &mut P) -> Answered
     requires { HasNames (asked command) }
-    ensures handed { IfOk result (IsAnswerTo (HandedOver (P.handed «package».old) (P.handed «package».new)) (asked command.entry)) }
-    ensures handed_reason { IfErr result (HasHandedReason (HandedOver (P.handed «package».old) (P.handed «package».new)) (asked command.entry) (P.faults «package».old) (P.faults «package».new) (P.lost «package».new)) }
-    ensures grows { Grows (P.handed «package».old) (P.handed «package».new) }
-    ensures consistent { IfSome (P.held «package».old) (λ files. AgreeWith files (P.handed «package».old) (P.handed «package».new)) }
-    ensures leaves { Leaves P.held P.faults P.lost «package».old «package».new result }
+    ensures work { WorksOn P.handed P.faults P.lost (asked command.entry) «package».old «package».new result }
+    ensures leaves { Leaves P.held P.handed P.faults «package».old «package».new }
+    ensures spared { Spares LeftBy P.faults P.lost «package».old «package».new result }
     ensures untouched { (seed size : ℕ) → asked command.entry ≡ Trial seed size → «package».new ≡ «package».old }
     ensures unjudged { IfOk result (λ answer. (name : List ℕ) → (asked command.entry ≡ Write name) ⊎ (asked command.entry ≡ Flatten name) → status_of answer.note ≡ 0) }
 {

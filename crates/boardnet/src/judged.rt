@@ -1,15 +1,12 @@
 //! The board of a package, and the work on it: its nets, its verdict and the report on it.
-ghost use Rattle.board_io.specs.Handed.{AgreeWith, Grows};
-ghost use Rattle.board_io.specs.Package.{IsFaultless};
-ghost use Rattle.board_package.specs.Causes.{HandedCause, HasCause, KeepsFaults};
-ghost use Rattle.board_package.specs.HandedBoard.{ComesHanded, IsBoardHanded, IsFirstStopHanded};
-ghost use Rattle.board_package.specs.PackageBoard.{Comes, IsBoardOf, IsFirstStop, IsWithinLimits};
+ghost use Rattle.board_package.specs.Causes.{Builds, BuildsHanded, KeepsFaults, Leaves, Spares};
+ghost use Rattle.board_package.specs.PackageBoard.{IsWithinLimits};
 ghost use Rattle.board_shapes.specs.Plain.{pieces_of, plain_board};
 ghost use Rattle.boardnet.specs.Answers.{line_of, status_of};
 ghost use Rattle.boardnet.specs.Right.{IsOfVersion, IsReportOn, IsRightOn, rival_pairs};
 ghost use Rattle.boardnet.specs.declared.words.Version.TheVariants.{One, Two};
 ghost use Rattle.lengths.specs.Text.{IsText};
-ghost use Rattle.std.specs.Prelude.{IfErr, IfOk, IfSome, ◌*◌, ◌+◌, ◌<◌, ◌≡◌, ◌≤◌};
+ghost use Rattle.std.specs.Prelude.{IfOk, ◌*◌, ◌+◌, ◌<◌, ◌≡◌, ◌≤◌};
 
 use crate::answer::{Answer, Note};
 use crate::refusing::name_of;
@@ -35,17 +32,11 @@ pub fn board_of<P: Package>(
     package: &mut P,
 ) -> Result<Board, BuildFault>
     requires { IsText manifest.now }
-    ensures held { P.held «package».new ≡ P.held «package».old }
-    ensures grows { Grows (P.handed «package».old) (P.handed «package».new) }
-    ensures consistent { IfSome (P.held «package».old) (λ files. AgreeWith files (P.handed «package».old) (P.handed «package».new)) }
-    ensures later { P.faults «package».old ≤ P.faults «package».new }
-    ensures calm { IfOk result (λ _. IsFaultless (P.faults «package».old) (P.lost «package».old) (P.faults «package».new) (P.lost «package».new)) }
-    ensures left { IfErr result (KeepsFaults (P.faults «package».old) (P.lost «package».old) (P.faults «package».new) (P.lost «package».new)) }
-    ensures ok { IfOk result (λ board. IfSome (P.held «package».old) (λ files. IsBoardOf files manifest.now (plain_board board))) }
-    ensures handed { IfOk result (λ board. IsBoardHanded (P.handed «package».old) (P.handed «package».new) manifest.now (plain_board board)) }
-    ensures handed_cause { IfErr result (HandedCause (λ stop. IsFirstStopHanded (P.handed «package».old) (P.handed «package».new) manifest.now stop) (λ name. ComesHanded (P.handed «package».old) (P.handed «package».new) manifest.now name) (P.faults «package».old) (P.faults «package».new) (P.lost «package».new)) }
+    ensures leaves { Leaves P.held P.handed P.faults «package».old «package».new }
+    ensures spared { Spares KeepsFaults P.faults P.lost «package».old «package».new result }
+    ensures told { Builds P.held P.faults P.lost manifest.now «package».old «package».new result }
+    ensures handed { BuildsHanded P.handed P.faults P.lost manifest.now «package».old «package».new result }
     ensures limits { IfOk result (λ board. IsWithinLimits (plain_board board)) }
-    ensures fault { IfErr result (HasCause (P.held «package».old) (λ files stop. IsFirstStop files manifest.now stop) (λ files name. Comes files manifest.now name) (P.faults «package».old) (P.faults «package».new) (P.lost «package».new)) }
 {
     let name = name_of(alloc, manifest)?;
     build(alloc, &name, package)

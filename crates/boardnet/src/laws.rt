@@ -31,7 +31,7 @@ pub fn one_outcome()
     packages::one_outcome();
     packages::one_labelled_outcome();
     layers::one_macro_answer();
-    lists::gaps_are_one();
+    lists::gap_lists_are_one();
     reports::report_text_is_injective();
     verdicts::verdicts_differ_in_witnesses_only();
 }

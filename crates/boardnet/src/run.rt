@@ -3,7 +3,7 @@ ghost use Rattle.board_io.specs.Handed.{AgreeWith, Grows, IfAgreed};
 ghost use Rattle.boardnet.specs.Command.{asked};
 ghost use Rattle.boardnet.specs.Ends.{Ends, HasNames};
 ghost use Rattle.boardnet.specs.HandedOutcome.{EndsHanded};
-ghost use Rattle.boardnet.specs.Kept.{Keeps};
+ghost use Rattle.boardnet.specs.Kept.{Keeps, Leaves};
 ghost use Rattle.boardnet.specs.Lines.{Gains, GainsFrontOf, Rose, Says, file_line, plain_line};
 ghost use Rattle.boardnet.specs.Outcome.{ComesFor, Fits, HandedOver, Held, IsAnswer, IsBoardOf, IsFlatText, IsGapped, IsHeld, IsLabelledBoardOf, IsLabelledReport, IsReadWithMacros, IsReport, IsTrialReport, IsWritten, OfFilesRead, OutcomeOf, PlainBoard, PlainPiece, Refused, Told, grown_common, made_files, made_manifest};
 ghost use Rattle.boardnet.specs.Words.{Asks, Command as Asked, IsAudit, IsCheck, IsFlatten, IsGaps, IsTrial, IsUnderstood, IsWrite, IsX2, Trial, Version, Write, Flatten};
@@ -211,8 +211,7 @@ fn perform<P: Package, S: Sink, N: Sink>(
     ensures agreed { IfAgreed (P.handed «package».old) (P.handed «package».new) (λ files. Ends (λ p. Some files) P.faults P.lost S.got S.faults N.got N.faults (asked command.entry) «package».old «package».new out.old out.new notes.old notes.new result) }
     ensures ends { Ends P.held P.faults P.lost S.got S.faults N.got N.faults (asked command.entry) «package».old «package».new out.old out.new notes.old notes.new result }
     ensures handed { EndsHanded (HandedOver (P.handed «package».old) (P.handed «package».new)) (asked command.entry) (P.lost «package».new) S.handed S.got N.got N.faults out.old out.new notes.old notes.new result }
-    ensures grows { Grows (P.handed «package».old) (P.handed «package».new) }
-    ensures consistent { IfSome (P.held «package».old) (λ files. AgreeWith files (P.handed «package».old) (P.handed «package».new)) }
+    ensures leaves { Leaves P.held P.handed P.faults «package».old «package».new }
     ensures delivered { result ≤ 1 → S.faults out.new ≡ S.faults out.old }
     ensures untouched { (seed size : ℕ) → asked command.entry ≡ Trial seed size → «package».new ≡ «package».old }
     ensures unjudged { (name : List ℕ) → (asked command.entry ≡ Write name) ⊎ (asked command.entry ≡ Flatten name) → result ≢ 1 }

@@ -8,7 +8,7 @@ use Rattle.boardnet.specs.Command.{Command, Audit}
 use Rattle.boardnet.specs.Common.{IsLineOf, Outcome, Told, Refused}
 use Rattle.boardnet.specs.Lines.{counted_line, plain_line, file_line, end}
 use Rattle.boardnet.specs.Source.{Source, ComesBy, FitsBefore, FitsThen, IsFileWith, IsFirstStopBy, NextBy, StopsFileBy}
-use Rattle.boardnet.specs.Task.{Task}
+use Rattle.boardnet.specs.Task.{Task, on_package}
 use Rattle.boardnet.specs.declared.answer.Unanswered.{Unanswered}
 use Rattle.boardnet.specs.declared.answer.Unanswered.TheVariants.{NotAReport}
 use Rattle.lengths.specs.Text.{IsText}
@@ -81,18 +81,12 @@ AuditRefuses source manifest report NotAReport = IsNoText source manifest report
 AuditRefuses source manifest report other = ⊥
 
 abbrev pub audit : List ℕ → List ℕ → Task
-audit manifest report = record {
-  asks = λ words. IsAudit words manifest report;
-  spelled = codes "audit" ∷ manifest ∷ report ∷ [];
+audit manifest report = record (on_package manifest (λ words. IsAudit words manifest report) (codes "audit" ∷ manifest ∷ report ∷ []) (λ source outcome. AuditOutcome source manifest report outcome)) {
   in_range = IsText manifest × IsText report;
-  subject = manifest;
   report = report;
-  takes = Unit {0};
-  reads = λ held. held;
   comes = λ source name. ComesBy source manifest name ⊎ IsReportNext source manifest report name;
   stops = λ source stop. IsAuditStop source manifest report stop;
   refuses = λ source why. AuditRefuses source manifest report why;
-  outcome = λ source outcome. AuditOutcome source manifest report outcome;
   has_text = λ source. (text line : List ℕ) × (status : ℕ) × IsAnswer source manifest report text status line;
 }
 

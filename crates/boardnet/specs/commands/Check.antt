@@ -1,12 +1,11 @@
 -- The command `check MANIFEST` or `check MANIFEST 1`: the package is judged, with a report of a version.
 use Rattle.std.specs.Prelude.{◌≡◌, ℕ, List, [], ◌∷◌, codes, map, string_bytes, String, Option, Some, None}
 use Rattle.std.specs.declared.alloc.Global.{Global}
-use Rattle.board_shapes.specs.Plain.{PlainBoard}
 use Rattle.boardnet.specs.Command.{Command, Check}
 use Rattle.boardnet.specs.Common.{IsRefusal, Outcome, Told, Refused}
 use Rattle.boardnet.specs.Right.{IsReportOn}
-use Rattle.boardnet.specs.Source.{Source, ComesBy, FitsWith, IsBoardBy, IsFirstStopBy}
-use Rattle.boardnet.specs.Task.{Task}
+use Rattle.boardnet.specs.Source.{Source, FitsWith}
+use Rattle.boardnet.specs.Task.{Task, on_package}
 use Rattle.boardnet.specs.declared.words.Version.{Version}
 use Rattle.boardnet.specs.declared.words.Version.TheVariants.{One, Two}
 use Rattle.lengths.specs.Text.{IsText}
@@ -32,20 +31,7 @@ CheckOutcome source version manifest (Refused line) = IsRefusal source manifest 
 
 -- What is told of the command.
 abbrev pub check : Version → List ℕ → Task
-check version manifest = record {
-  asks = λ words. IsCheck words version manifest;
-  spelled = codes "check" ∷ manifest ∷ version_words version;
-  in_range = IsText manifest;
-  subject = manifest;
-  report = [];
-  takes = Unit {0};
-  reads = λ held. held;
-  comes = λ source name. ComesBy source manifest name;
-  stops = λ source stop. IsFirstStopBy source manifest stop;
-  refuses = λ source why. ⊥;
-  outcome = λ source outcome. CheckOutcome source version manifest outcome;
-  has_text = λ source. (board : PlainBoard) × IsBoardBy source manifest board;
-}
+check version manifest = on_package manifest (λ words. IsCheck words version manifest) (codes "check" ∷ manifest ∷ version_words version) (λ source outcome. CheckOutcome source version manifest outcome)
 
 -- the command that words behind its name can ask for; whether they are texts, and in range, is for `IsCheck` to say
 abbrev pub check_by : List (List ℕ) → Option Command

@@ -7,7 +7,7 @@ use Rattle.boardnet.specs.Command.{Command, Flatten}
 use Rattle.boardnet.specs.Common.{IsLineOf, Outcome, Told, Refused}
 use Rattle.boardnet.specs.Lines.{at_byte, plain_line, kind_line}
 use Rattle.boardnet.specs.Source.{Source, IsFileBy, NextBy, StopsFileBy}
-use Rattle.boardnet.specs.Task.{Task}
+use Rattle.boardnet.specs.Task.{Task, on_package}
 use Rattle.boardnet.specs.declared.answer.Unanswered.{Unanswered}
 use Rattle.boardnet.specs.declared.answer.Unanswered.TheVariants.{Unflat}
 use Rattle.gerber_layer.specs.MacroKinds.{flatten_number, flatten_name}
@@ -66,18 +66,10 @@ FlattenRefuses source file (Unflat kind number byte) = IsUnflat source file kind
 FlattenRefuses source file other = ⊥
 
 abbrev pub flatten : List ℕ → Task
-flatten file = record {
-  asks = λ words. IsFlatten words file;
-  spelled = codes "flatten" ∷ file ∷ [];
-  in_range = IsText file;
-  subject = file;
-  report = [];
-  takes = Unit {0};
-  reads = λ held. held;
+flatten file = record (on_package file (λ words. IsFlatten words file) (codes "flatten" ∷ file ∷ []) (λ source outcome. FlattenOutcome source file outcome)) {
   comes = λ source name. NextBy source file name;
   stops = λ source stop. StopsFileBy source file stop;
   refuses = λ source why. FlattenRefuses source file why;
-  outcome = λ source outcome. FlattenOutcome source file outcome;
   has_text = λ source. (bytes : List ℕ) × IsFileBy source file bytes × (pieces : List PlainPiece) × IsReadWithMacros bytes pieces;
 }
 

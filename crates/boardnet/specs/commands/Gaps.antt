@@ -7,8 +7,8 @@ use Rattle.boardnet.specs.Command.{Command, Gaps}
 use Rattle.boardnet.specs.Common.{IsRefusal, Outcome, Told, Refused}
 use Rattle.boardnet.specs.Gapped.{IsGapListOn, IsTooWide}
 use Rattle.boardnet.specs.Lines.{frame_line}
-use Rattle.boardnet.specs.Source.{Source, ComesBy, FitsWith, IsBoardBy, IsFirstStopBy}
-use Rattle.boardnet.specs.Task.{Task}
+use Rattle.boardnet.specs.Source.{Source, FitsWith, IsBoardBy}
+use Rattle.boardnet.specs.Task.{Task, on_package}
 use Rattle.boardnet.specs.declared.answer.Unanswered.{Unanswered}
 use Rattle.boardnet.specs.declared.answer.Unanswered.TheVariants.{GrownTooLarge}
 use Rattle.contact.specs.declared.Bounds.{Bounds}
@@ -46,18 +46,9 @@ GapsRefuses source manifest nanometres (GrownTooLarge box) = IsGrownStop source 
 GapsRefuses source manifest nanometres other = ⊥
 
 abbrev pub gaps : List ℕ → ℕ → Task
-gaps manifest nanometres = record {
-  asks = λ words. IsGaps words manifest nanometres;
-  spelled = codes "gaps" ∷ manifest ∷ decimal nanometres ∷ [];
+gaps manifest nanometres = record (on_package manifest (λ words. IsGaps words manifest nanometres) (codes "gaps" ∷ manifest ∷ decimal nanometres ∷ []) (λ source outcome. GapsOutcome source manifest nanometres outcome)) {
   in_range = IsText manifest × (nanometres ≤ 10_000_000);
-  subject = manifest;
-  report = [];
-  takes = Unit {0};
-  reads = λ held. held;
-  comes = λ source name. ComesBy source manifest name;
-  stops = λ source stop. IsFirstStopBy source manifest stop;
   refuses = λ source why. GapsRefuses source manifest nanometres why;
-  outcome = λ source outcome. GapsOutcome source manifest nanometres outcome;
   has_text = λ source. (board : PlainBoard) × IsBoardBy source manifest board × Fits (grown_common (pos (5 * nanometres)) board.pieces);
 }
 

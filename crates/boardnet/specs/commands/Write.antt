@@ -6,8 +6,8 @@ use Rattle.board_shapes.specs.Plain.{PlainBoard}
 use Rattle.boardnet.specs.Command.{Command, Write}
 use Rattle.boardnet.specs.Common.{IsRefusal, Outcome, Told, Refused}
 use Rattle.boardnet.specs.Lines.{plain_line}
-use Rattle.boardnet.specs.Source.{Source, ComesBy, IsBoardBy, IsFirstStopBy}
-use Rattle.boardnet.specs.Task.{Task}
+use Rattle.boardnet.specs.Source.{Source, IsBoardBy}
+use Rattle.boardnet.specs.Task.{Task, on_package}
 use Rattle.boardnet.specs.Written.{IsNetlistOn}
 use Rattle.lengths.specs.Text.{IsText}
 
@@ -33,20 +33,7 @@ WriteOutcome source manifest (Refused line) = IsRefusal source manifest line
 
 -- What is told of the command.
 abbrev pub write : List ℕ → Task
-write manifest = record {
-  asks = λ words. IsWrite words manifest;
-  spelled = codes "write" ∷ manifest ∷ [];
-  in_range = IsText manifest;
-  subject = manifest;
-  report = [];
-  takes = Unit {0};
-  reads = λ held. held;
-  comes = λ source name. ComesBy source manifest name;
-  stops = λ source stop. IsFirstStopBy source manifest stop;
-  refuses = λ source why. ⊥;
-  outcome = λ source outcome. WriteOutcome source manifest outcome;
-  has_text = λ source. (board : PlainBoard) × IsBoardBy source manifest board;
-}
+write manifest = on_package manifest (λ words. IsWrite words manifest) (codes "write" ∷ manifest ∷ []) (λ source outcome. WriteOutcome source manifest outcome)
 
 -- the command that words behind its name can ask for; whether they are texts, and in range, is for `IsWrite` to say
 abbrev pub write_by : List (List ℕ) → Option Command

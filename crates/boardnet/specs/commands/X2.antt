@@ -10,7 +10,7 @@ use Rattle.boardnet.specs.Common.{IsLineOf, Outcome, Told, Refused}
 use Rattle.boardnet.specs.Lines.{label_line}
 use Rattle.boardnet.specs.Right.{IsReportOn}
 use Rattle.boardnet.specs.Source.{Source, IsFirstLabelledStopBy, IsLabelledBoardBy, LabelledComesBy}
-use Rattle.boardnet.specs.Task.{Task}
+use Rattle.boardnet.specs.Task.{Task, on_package}
 use Rattle.boardnet.specs.declared.answer.Unanswered.{Unanswered}
 use Rattle.boardnet.specs.declared.answer.Unanswered.TheVariants.{Mislabelled}
 use Rattle.boardnet.specs.declared.words.Version.TheVariants.{Two}
@@ -59,18 +59,10 @@ X2Refuses source manifest (Mislabelled name number byte) = IsFirstLabelledStopBy
 X2Refuses source manifest other = ⊥
 
 abbrev pub x2 : List ℕ → Task
-x2 manifest = record {
-  asks = λ words. IsX2 words manifest;
-  spelled = codes "x2" ∷ manifest ∷ [];
-  in_range = IsText manifest;
-  subject = manifest;
-  report = [];
-  takes = Unit {0};
-  reads = λ held. held;
+x2 manifest = record (on_package manifest (λ words. IsX2 words manifest) (codes "x2" ∷ manifest ∷ []) (λ source outcome. X2Outcome source manifest outcome)) {
   comes = λ source name. LabelledComesBy source manifest name;
   stops = λ source stop. IsFirstLabelledStopBy source manifest (unbuilt stop);
   refuses = λ source why. X2Refuses source manifest why;
-  outcome = λ source outcome. X2Outcome source manifest outcome;
   has_text = λ source. (board : PlainBoard) × IsLabelledBoardBy source manifest board;
 }
 

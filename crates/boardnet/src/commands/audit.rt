@@ -1,17 +1,15 @@
 //! The command `audit`.
-ghost use Rattle.board_io.specs.Handed.{AgreeWith, Grows};
-ghost use Rattle.board_io.specs.Package.{IsFaultless};
 ghost use Rattle.board_package.specs.Causes.{HandedCause, KeepsFaults};
 ghost use Rattle.board_shapes.specs.Laws.{HasOneTables};
 ghost use Rattle.board_shapes.specs.Plain.{plain_board};
 ghost use Rattle.boardnet.specs.Command.{asked};
-ghost use Rattle.boardnet.specs.Answers.{Answers, IsAnswerTo, IsRuledOn, IsUnruled};
-ghost use Rattle.boardnet.specs.Ends.{Leaves};
-ghost use Rattle.boardnet.specs.HandedOutcome.{HasHandedReason};
+ghost use Rattle.boardnet.specs.Answers.{Answers, IsRuledOn, IsUnruled};
+ghost use Rattle.boardnet.specs.HandedOutcome.{WorksOn};
+ghost use Rattle.boardnet.specs.Kept.{Leaves, LeftBy, Spares};
 ghost use Rattle.boardnet.specs.Outcome.{ComesFor, HandedOver, IsAuditStop};
 ghost use Rattle.boardnet.specs.Source.{FitsBefore, IsFileBy};
 ghost use Rattle.boardnet.specs.Words.{Audit, IsText};
-ghost use Rattle.std.specs.Prelude.{IfErr, IfNone, IfOk, IfSome, ◌≡◌, ◌≤◌};
+ghost use Rattle.std.specs.Prelude.{IfErr, IfNone, IfOk, IfSome, ◌≡◌};
 
 use crate::answer::{Answer, Answered, Note, Unanswered};
 use crate::commands::Command;
@@ -44,11 +42,9 @@ pub fn of_words<'a>(manifest: &'a str, report: &'a str) -> Option<Command<'a>>
 pub fn ruling<P: Package>(alloc: Global, manifest: &str, report: &str, package: &mut P) -> Answered
     requires manifest { IsText manifest.now }
     requires report { IsText report.now }
-    ensures handed { IfOk result (IsAnswerTo (HandedOver (P.handed «package».old) (P.handed «package».new)) (Audit manifest.now report.now)) }
-    ensures handed_reason { IfErr result (HasHandedReason (HandedOver (P.handed «package».old) (P.handed «package».new)) (Audit manifest.now report.now) (P.faults «package».old) (P.faults «package».new) (P.lost «package».new)) }
-    ensures grows { Grows (P.handed «package».old) (P.handed «package».new) }
-    ensures consistent { IfSome (P.held «package».old) (λ files. AgreeWith files (P.handed «package».old) (P.handed «package».new)) }
-    ensures leaves { Leaves P.held P.faults P.lost «package».old «package».new result }
+    ensures work { WorksOn P.handed P.faults P.lost (Audit manifest.now report.now) «package».old «package».new result }
+    ensures leaves { Leaves P.held P.handed P.faults «package».old «package».new }
+    ensures spared { Spares LeftBy P.faults P.lost «package».old «package».new result }
 {
     let mut file = Vec::new(alloc);
     let board = taken(alloc, manifest, report, package, &mut file)?;
@@ -95,12 +91,8 @@ fn taken<P: Package>(
 ) -> Result<Board, BuildFault>
     requires manifest { IsText manifest.now }
     requires report { IsText report.now }
-    ensures held { P.held «package».new ≡ P.held «package».old }
-    ensures grows { Grows (P.handed «package».old) (P.handed «package».new) }
-    ensures consistent { IfSome (P.held «package».old) (λ files. AgreeWith files (P.handed «package».old) (P.handed «package».new)) }
-    ensures later { P.faults «package».old ≤ P.faults «package».new }
-    ensures calm { IfOk result (λ _. IsFaultless (P.faults «package».old) (P.lost «package».old) (P.faults «package».new) (P.lost «package».new)) }
-    ensures left { IfErr result (KeepsFaults (P.faults «package».old) (P.lost «package».old) (P.faults «package».new) (P.lost «package».new)) }
+    ensures leaves { Leaves P.held P.handed P.faults «package».old «package».new }
+    ensures spared { Spares KeepsFaults P.faults P.lost «package».old «package».new result }
     ensures handed { IfOk result (λ board. FitsBefore (HandedOver (P.handed «package».old) (P.handed «package».new)) manifest.now (plain_board board) (λ rest. IsFileBy rest report.now file.new.items)) }
     ensures handed_cause { IfErr result (HandedCause (λ stop. IsAuditStop (HandedOver (P.handed «package».old) (P.handed «package».new)) manifest.now report.now stop) (λ name. ComesFor (HandedOver (P.handed «package».old) (P.handed «package».new)) (Audit manifest.now report.now) name) (P.faults «package».old) (P.faults «package».new) (P.lost «package».new)) }
 {

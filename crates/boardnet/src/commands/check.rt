@@ -1,13 +1,10 @@
 //! The command `check`.
-ghost use Rattle.board_io.specs.Handed.{AgreeWith, Grows};
-ghost use Rattle.boardnet.specs.Answers.{IsAnswerTo};
-ghost use Rattle.boardnet.specs.Ends.{Leaves};
-ghost use Rattle.boardnet.specs.HandedOutcome.{HasHandedReason};
+ghost use Rattle.boardnet.specs.HandedOutcome.{WorksOn};
+ghost use Rattle.boardnet.specs.Kept.{Leaves, LeftBy, Spares};
 ghost use Rattle.boardnet.specs.Command.{asked};
-ghost use Rattle.boardnet.specs.Outcome.{HandedOver};
 ghost use Rattle.boardnet.specs.Words.{Check, IsText};
 ghost use Rattle.boardnet.specs.declared.words.Version.TheVariants.{One};
-ghost use Rattle.std.specs.Prelude.{IfErr, IfNone, IfOk, IfSome, codes, ◌≡◌};
+ghost use Rattle.std.specs.Prelude.{IfNone, IfSome, codes, ◌≡◌};
 
 use crate::answer::Answered;
 use crate::commands::Command;
@@ -40,11 +37,9 @@ pub fn report<P: Package>(
     package: &mut P,
 ) -> Answered
     requires { IsText manifest.now }
-    ensures handed { IfOk result (IsAnswerTo (HandedOver (P.handed «package».old) (P.handed «package».new)) (Check version manifest.now)) }
-    ensures handed_reason { IfErr result (HasHandedReason (HandedOver (P.handed «package».old) (P.handed «package».new)) (Check version manifest.now) (P.faults «package».old) (P.faults «package».new) (P.lost «package».new)) }
-    ensures grows { Grows (P.handed «package».old) (P.handed «package».new) }
-    ensures consistent { IfSome (P.held «package».old) (λ files. AgreeWith files (P.handed «package».old) (P.handed «package».new)) }
-    ensures leaves { Leaves P.held P.faults P.lost «package».old «package».new result }
+    ensures work { WorksOn P.handed P.faults P.lost (Check version manifest.now) «package».old «package».new result }
+    ensures leaves { Leaves P.held P.handed P.faults «package».old «package».new }
+    ensures spared { Spares LeftBy P.faults P.lost «package».old «package».new result }
 {
     let board = board_of(alloc, manifest, package)?;
     let answer = report_on(alloc, version, &board)?;

@@ -1,11 +1,9 @@
 //! The command `flatten`.
-ghost use Rattle.board_io.specs.Handed.{AgreeWith, Grows};
-ghost use Rattle.boardnet.specs.Answers.{IsAnswerTo, status_of};
-ghost use Rattle.boardnet.specs.Ends.{Leaves};
-ghost use Rattle.boardnet.specs.HandedOutcome.{HasHandedReason};
-ghost use Rattle.boardnet.specs.Outcome.{HandedOver};
+ghost use Rattle.boardnet.specs.Answers.{status_of};
+ghost use Rattle.boardnet.specs.HandedOutcome.{WorksOn};
+ghost use Rattle.boardnet.specs.Kept.{Leaves, LeftBy, Spares};
 ghost use Rattle.boardnet.specs.Words.{Flatten, IsText};
-ghost use Rattle.std.specs.Prelude.{IfErr, IfOk, IfSome, ◌≡◌};
+ghost use Rattle.std.specs.Prelude.{IfOk, ◌≡◌};
 
 use crate::answer::{Answer, Answered, Note};
 use crate::refusing::name_of;
@@ -17,11 +15,9 @@ use std::alloc::Global;
 /// The text of the image of a copper file.
 pub fn flat_text<P: Package>(alloc: Global, file: &str, package: &mut P) -> Answered
     requires { IsText file.now }
-    ensures handed { IfOk result (IsAnswerTo (HandedOver (P.handed «package».old) (P.handed «package».new)) (Flatten file.now)) }
-    ensures handed_reason { IfErr result (HasHandedReason (HandedOver (P.handed «package».old) (P.handed «package».new)) (Flatten file.now) (P.faults «package».old) (P.faults «package».new) (P.lost «package».new)) }
-    ensures grows { Grows (P.handed «package».old) (P.handed «package».new) }
-    ensures consistent { IfSome (P.held «package».old) (λ files. AgreeWith files (P.handed «package».old) (P.handed «package».new)) }
-    ensures leaves { Leaves P.held P.faults P.lost «package».old «package».new result }
+    ensures work { WorksOn P.handed P.faults P.lost (Flatten file.now) «package».old «package».new result }
+    ensures leaves { Leaves P.held P.handed P.faults «package».old «package».new }
+    ensures spared { Spares LeftBy P.faults P.lost «package».old «package».new result }
     ensures unjudged { IfOk result (λ answer. status_of answer.note ≡ 0) }
 {
     let name = name_of(alloc, file)?;

@@ -1,12 +1,10 @@
 //! The command `gaps`.
-ghost use Rattle.board_io.specs.Handed.{AgreeWith, Grows};
 ghost use Rattle.board_shapes.specs.Plain.{plain_board};
 ghost use Rattle.boardnet.specs.Command.{asked};
-ghost use Rattle.boardnet.specs.Answers.{IsAnswerTo, IsUngapped, line_of, status_of};
-ghost use Rattle.boardnet.specs.Ends.{Leaves};
+ghost use Rattle.boardnet.specs.Answers.{IsUngapped, line_of, status_of};
 ghost use Rattle.boardnet.specs.Gapped.{IsGapListOn};
-ghost use Rattle.boardnet.specs.HandedOutcome.{HasHandedReason};
-ghost use Rattle.boardnet.specs.Outcome.{HandedOver};
+ghost use Rattle.boardnet.specs.HandedOutcome.{WorksOn};
+ghost use Rattle.boardnet.specs.Kept.{Leaves, LeftBy, Spares};
 ghost use Rattle.boardnet.specs.Words.{Gaps, IsText};
 ghost use Rattle.std.specs.Prelude.{IfErr, IfNone, IfOk, IfSome, decimal, ℕ, ◌≡◌, ◌≤◌};
 
@@ -50,11 +48,9 @@ pub fn gap_list<P: Package>(
 ) -> Answered
     requires text { IsText manifest.now }
     requires most { nanometres ≤ 10_000_000 }
-    ensures handed { IfOk result (IsAnswerTo (HandedOver (P.handed «package».old) (P.handed «package».new)) (Gaps manifest.now nanometres)) }
-    ensures handed_reason { IfErr result (HasHandedReason (HandedOver (P.handed «package».old) (P.handed «package».new)) (Gaps manifest.now nanometres) (P.faults «package».old) (P.faults «package».new) (P.lost «package».new)) }
-    ensures grows { Grows (P.handed «package».old) (P.handed «package».new) }
-    ensures consistent { IfSome (P.held «package».old) (λ files. AgreeWith files (P.handed «package».old) (P.handed «package».new)) }
-    ensures leaves { Leaves P.held P.faults P.lost «package».old «package».new result }
+    ensures work { WorksOn P.handed P.faults P.lost (Gaps manifest.now nanometres) «package».old «package».new result }
+    ensures leaves { Leaves P.held P.handed P.faults «package».old «package».new }
+    ensures spared { Spares LeftBy P.faults P.lost «package».old «package».new result }
 {
     let board = board_of(alloc, manifest, package)?;
     let answer = gap_list_on(alloc, &board, nanometres)?;

@@ -1,6 +1,5 @@
 use Rattle.std.proofs.Common.{List, IfSome, subst, ap, ◌∙◌}
 use Rattle.std.specs.List.{filter}
-use Rattle.board_io.proofs.Agreeing.{grows_on}
 use Rattle.board_io.specs.Package.{IsFaultless}
 use Rattle.board_package.proofs.LabelStaging.{files_labelled_handed, frame_labelled_handed, labelled_board_handed, manifest_labelled_handed}
 use Rattle.board_package.specs.HandedLabelled.{GoesLabelledHanded, LabelledComesAmongHanded, StopsLabelledAmongHanded, labelled_course}
@@ -13,112 +12,112 @@ use Rattle.board_package.specs.declared.fault.BuildFault.TheVariants as build
 use Rattle.board_package.specs.declared.fault.LabelledFault.TheVariants as fault
 use Rattle.x2_nets.specs.declared.label_table.Label.{Label}
 use Rattle.board_package.proofs.LabelCauses.{files_labelled_cause, frame_labelled_cause, kept_labelled, kept_labelled_after, labelled_board_is, manifest_labelled_cause, needed, nothing_yet}
-use Rattle.board_package.proofs.Lift.{agrees_on, climbs, faultless_both}
+use Rattle.board_package.proofs.Lift.{climbs, faultless_both, leaves_on}
 use Rattle.board_package.proofs.labelled.build_labelled.Goals as goal
 
 -- ---- The manifest
 
-pub returns-in_err-listed-clause-fault : goal.returns-in_err-listed-clause-fault
-returns-in_err-listed-clause-fault g c =
-    climbs _ c.from_residual.result (fault.Build c.in_err-listed.field-0.0) c.from_residual.ensures.1
+pub returns-in_err-listed-clause-told : goal.returns-in_err-listed-clause-told
+returns-in_err-listed-clause-told g c =
+    climbs _ _ c.from_residual.result (fault.Build c.in_err-listed.field-0.0) c.from_residual.ensures.1
     (manifest_labelled_cause (g.P.Package.held c.args.package.now) c.args.manifest.now (g.P.Package.faults c.args.package.now) (g.P.Package.faults c.take_manifest.new.package) (g.P.Package.lost c.take_manifest.new.package) c.in_err-listed.field-0.0 c.in_err-listed.ensures.cause)
 
-pub returns-in_err-listed-clause-kept : goal.returns-in_err-listed-clause-kept
-returns-in_err-listed-clause-kept g c = climbs _ c.from_residual.result (fault.Build c.in_err-listed.field-0.0) c.from_residual.ensures.1 c.in_err-listed.ensures.kept
+pub returns-in_err-listed-clause-spared : goal.returns-in_err-listed-clause-spared
+returns-in_err-listed-clause-spared g c = climbs _ _ c.from_residual.result (fault.Build c.in_err-listed.field-0.0) c.from_residual.ensures.1 c.in_err-listed.ensures.spared
 
 -- ---- The files
 
-pub returns-in_err-take_files-clause-fault : goal.returns-in_err-take_files-clause-fault
-returns-in_err-take_files-clause-fault g c =
+pub returns-in_err-take_files-clause-told : goal.returns-in_err-take_files-clause-told
+returns-in_err-take_files-clause-told g c =
     let held = g.P.Package.held c.take_manifest.new.package in
     let start = labelled_so_far c.new-parts.result c.new-tables.result in
     let why = c.in_err-take_files.field-0.0 in
     let cause = subst (λ entries. HasLabelledCause held (λ files stop. StopsLabelledAmong ByLabels files (filter (needed ByLabels) entries) start stop) (λ files name. LabelledComesAmong ByLabels files (filter (needed ByLabels) entries) start name)
     (g.P.Package.faults c.take_manifest.new.package) (g.P.Package.faults c.take_files.new.package) (g.P.Package.lost c.take_files.new.package) why) c.as_slice-entries.ensures c.in_err-take_files.ensures.cause in
-    climbs _ c.from_residual-in_err-take_files.result why c.from_residual-in_err-take_files.ensures.1
+    climbs _ _ c.from_residual-in_err-take_files.result why c.from_residual-in_err-take_files.ensures.1
     (files_labelled_cause (g.P.Package.held c.args.package.now) held c.args.manifest.now c.in_ok-listed.listed start
     (g.P.Package.faults c.args.package.now) (g.P.Package.faults c.take_manifest.new.package) (g.P.Package.faults c.take_files.new.package) (g.P.Package.lost c.take_files.new.package) why
-    c.take_manifest.ensures.held (nothing_yet _ _ _ c.new-parts.ensures.empty c.new-tables.ensures) c.take_manifest.ensures.later c.in_ok-listed.ensures.found cause)
+    c.take_manifest.ensures.leaves.held (nothing_yet _ _ _ c.new-parts.ensures.empty c.new-tables.ensures) c.take_manifest.ensures.leaves.later c.in_ok-listed.ensures.found cause)
 
-pub returns-in_err-take_files-clause-kept : goal.returns-in_err-take_files-clause-kept
-returns-in_err-take_files-clause-kept g c =
-    climbs _ c.from_residual-in_err-take_files.result c.in_err-take_files.field-0.0 c.from_residual-in_err-take_files.ensures.1
-    (kept_labelled_after _ _ _ _ _ _ c.in_err-take_files.field-0.0 c.in_ok-listed.ensures.faultless c.in_err-take_files.ensures.kept)
+pub returns-in_err-take_files-clause-spared : goal.returns-in_err-take_files-clause-spared
+returns-in_err-take_files-clause-spared g c =
+    climbs _ _ c.from_residual-in_err-take_files.result c.in_err-take_files.field-0.0 c.from_residual-in_err-take_files.ensures.1
+    (kept_labelled_after _ _ _ _ _ _ c.in_err-take_files.field-0.0 c.in_ok-listed.ensures.spared c.in_err-take_files.ensures.spared)
 
 -- ---- The labels
 
-pub returns-in_err-name_pieces-clause-fault : goal.returns-in_err-name_pieces-clause-fault
-returns-in_err-name_pieces-clause-fault g c = climbs _ c.from_residual-in_err-name_pieces.result (fault.Build build.NoMemory) c.from_residual-in_err-name_pieces.ensures.1 tt
+pub returns-in_err-name_pieces-clause-told : goal.returns-in_err-name_pieces-clause-told
+returns-in_err-name_pieces-clause-told g c = climbs _ _ c.from_residual-in_err-name_pieces.result (fault.Build build.NoMemory) c.from_residual-in_err-name_pieces.ensures.1 tt
 
-pub returns-in_err-name_pieces-clause-kept : goal.returns-in_err-name_pieces-clause-kept
-returns-in_err-name_pieces-clause-kept g c = climbs _ c.from_residual-in_err-name_pieces.result (fault.Build build.NoMemory) c.from_residual-in_err-name_pieces.ensures.1 tt
+pub returns-in_err-name_pieces-clause-spared : goal.returns-in_err-name_pieces-clause-spared
+returns-in_err-name_pieces-clause-spared g c = climbs _ _ c.from_residual-in_err-name_pieces.result (fault.Build build.NoMemory) c.from_residual-in_err-name_pieces.ensures.1 tt
 
 -- ---- The frame
 
-pub returns-in_err-board-clause-fault : goal.returns-in_err-board-clause-fault
-returns-in_err-board-clause-fault g c =
+pub returns-in_err-board-clause-told : goal.returns-in_err-board-clause-told
+returns-in_err-board-clause-told g c =
     let held = g.P.Package.held c.take_manifest.new.package in
     let start = labelled_so_far c.new-parts.result c.new-tables.result in
     let end = labelled_so_far c.take_files.new.parts c.take_files.new.tables in
     let walked = subst (λ entries. IfSome held (λ files. WalksBy (GoesLabelled ByLabels files) (filter (needed ByLabels) entries) start end)) c.as_slice-entries.ensures c.in_ok-take_files.ensures.found in
     let named = c.in_ok-name_pieces.ensures.ok ∙ ap (λ (t : List (List Label)). labelled_board_of t (board_so_far c.take_files.new.parts)) c.as_slice.ensures in
-    climbs _ c.from_residual-in_err-board.result (fault.Build c.in_err-board.field-0.0) c.from_residual-in_err-board.ensures.1
+    climbs _ _ c.from_residual-in_err-board.result (fault.Build c.in_err-board.field-0.0) c.from_residual-in_err-board.ensures.1
     (frame_labelled_cause (g.P.Package.held c.args.package.now) held c.args.manifest.now c.in_ok-listed.listed start end (board_so_far c.name_pieces.new.parts)
     (g.P.Package.faults c.args.package.now) (g.P.Package.faults c.take_files.new.package) (g.P.Package.lost c.take_files.new.package) c.in_err-board.field-0.0
-    c.take_manifest.ensures.held (nothing_yet _ _ _ c.new-parts.ensures.empty c.new-tables.ensures) named c.in_ok-listed.ensures.found walked c.in_err-board.ensures.fault)
+    c.take_manifest.ensures.leaves.held (nothing_yet _ _ _ c.new-parts.ensures.empty c.new-tables.ensures) named c.in_ok-listed.ensures.found walked c.in_err-board.ensures.fault)
 
-pub returns-in_err-board-clause-kept : goal.returns-in_err-board-clause-kept
-returns-in_err-board-clause-kept g c =
-    let whole : IsFaultless (g.P.Package.faults c.args.package.now) (g.P.Package.lost c.args.package.now) (g.P.Package.faults c.take_files.new.package) (g.P.Package.lost c.take_files.new.package) = faultless_both _ _ _ _ _ _ c.in_ok-listed.ensures.faultless c.in_ok-take_files.ensures.faultless in
-    climbs _ c.from_residual-in_err-board.result (fault.Build c.in_err-board.field-0.0) c.from_residual-in_err-board.ensures.1 (kept_labelled _ _ _ _ (fault.Build c.in_err-board.field-0.0) whole)
+pub returns-in_err-board-clause-spared : goal.returns-in_err-board-clause-spared
+returns-in_err-board-clause-spared g c =
+    let whole : IsFaultless (g.P.Package.faults c.args.package.now) (g.P.Package.lost c.args.package.now) (g.P.Package.faults c.take_files.new.package) (g.P.Package.lost c.take_files.new.package) = faultless_both _ _ _ _ _ _ c.in_ok-listed.ensures.spared c.in_ok-take_files.ensures.spared in
+    climbs _ _ c.from_residual-in_err-board.result (fault.Build c.in_err-board.field-0.0) c.from_residual-in_err-board.ensures.1 (kept_labelled _ _ _ _ (fault.Build c.in_err-board.field-0.0) whole)
 
 -- ---- The board
 
-pub returns-clause-faultless : goal.returns-clause-faultless
-returns-clause-faultless g c = faultless_both _ _ _ _ _ _ c.in_ok-listed.ensures.faultless c.in_ok-take_files.ensures.faultless
+pub returns-clause-spared : goal.returns-clause-spared
+returns-clause-spared g c = faultless_both _ _ _ _ _ _ c.in_ok-listed.ensures.spared c.in_ok-take_files.ensures.spared
 
-pub returns-clause-ok : goal.returns-clause-ok
-returns-clause-ok g c =
+pub returns-clause-told : goal.returns-clause-told
+returns-clause-told g c =
     let held = g.P.Package.held c.take_manifest.new.package in
     let start = labelled_so_far c.new-parts.result c.new-tables.result in
     let end = labelled_so_far c.take_files.new.parts c.take_files.new.tables in
     let walked = subst (λ entries. IfSome held (λ files. WalksBy (GoesLabelled ByLabels files) (filter (needed ByLabels) entries) start end)) c.as_slice-entries.ensures c.in_ok-take_files.ensures.found in
     let named = c.in_ok-name_pieces.ensures.ok ∙ ap (λ (t : List (List Label)). labelled_board_of t (board_so_far c.take_files.new.parts)) c.as_slice.ensures in
     labelled_board_is (g.P.Package.held c.args.package.now) held c.args.manifest.now c.in_ok-listed.listed start end (board_so_far c.name_pieces.new.parts) _
-    c.take_manifest.ensures.held (nothing_yet _ _ _ c.new-parts.ensures.empty c.new-tables.ensures) named c.in_ok-listed.ensures.found walked c.in_ok-board.ensures.fits c.in_ok-board.ensures.ok
+    c.take_manifest.ensures.leaves.held (nothing_yet _ _ _ c.new-parts.ensures.empty c.new-tables.ensures) named c.in_ok-listed.ensures.found walked c.in_ok-board.ensures.fits c.in_ok-board.ensures.ok
 
 -- ---- Of what was handed over
 
-pub returns-in_err-listed-clause-handed_cause : goal.returns-in_err-listed-clause-handed_cause
-returns-in_err-listed-clause-handed_cause g c =
-    climbs _ c.from_residual.result (fault.Build c.in_err-listed.field-0.0) c.from_residual.ensures.1
+pub returns-in_err-listed-clause-handed : goal.returns-in_err-listed-clause-handed
+returns-in_err-listed-clause-handed g c =
+    climbs _ _ c.from_residual.result (fault.Build c.in_err-listed.field-0.0) c.from_residual.ensures.1
     (manifest_labelled_handed (g.P.Package.handed c.args.package.now) (g.P.Package.handed c.take_manifest.new.package) c.args.manifest.now (g.P.Package.faults c.args.package.now) (g.P.Package.faults c.take_manifest.new.package) (g.P.Package.lost c.take_manifest.new.package) c.in_err-listed.field-0.0 c.in_err-listed.ensures.handed_cause)
 
-pub returns-in_err-take_files-clause-handed_cause : goal.returns-in_err-take_files-clause-handed_cause
-returns-in_err-take_files-clause-handed_cause g c =
+pub returns-in_err-take_files-clause-handed : goal.returns-in_err-take_files-clause-handed
+returns-in_err-take_files-clause-handed g c =
     let start = labelled_so_far c.new-parts.result c.new-tables.result in
     let mid = g.P.Package.handed c.take_manifest.new.package in
     let after = g.P.Package.handed c.take_files.new.package in
     let why = c.in_err-take_files.field-0.0 in
     let cause = subst (λ entries. HandedLabelledCause (λ stop. StopsLabelledAmongHanded ByLabels (filter (needed ByLabels) entries) (labelled_course mid start) after stop) (λ name. LabelledComesAmongHanded ByLabels (filter (needed ByLabels) entries) (labelled_course mid start) after name)
     (g.P.Package.faults c.take_manifest.new.package) (g.P.Package.faults c.take_files.new.package) (g.P.Package.lost c.take_files.new.package) why) c.as_slice-entries.ensures c.in_err-take_files.ensures.handed_cause in
-    climbs _ c.from_residual-in_err-take_files.result why c.from_residual-in_err-take_files.ensures.1
+    climbs _ _ c.from_residual-in_err-take_files.result why c.from_residual-in_err-take_files.ensures.1
     (files_labelled_handed (g.P.Package.handed c.args.package.now) mid after c.args.manifest.now c.in_ok-listed.listed start
     (g.P.Package.faults c.args.package.now) (g.P.Package.faults c.take_manifest.new.package) (g.P.Package.faults c.take_files.new.package) (g.P.Package.lost c.take_files.new.package) why
-    (nothing_yet _ _ _ c.new-parts.ensures.empty c.new-tables.ensures) c.take_manifest.ensures.later c.in_ok-listed.ensures.handed cause)
+    (nothing_yet _ _ _ c.new-parts.ensures.empty c.new-tables.ensures) c.take_manifest.ensures.leaves.later c.in_ok-listed.ensures.handed cause)
 
-pub returns-in_err-name_pieces-clause-handed_cause : goal.returns-in_err-name_pieces-clause-handed_cause
-returns-in_err-name_pieces-clause-handed_cause g c = climbs _ c.from_residual-in_err-name_pieces.result (fault.Build build.NoMemory) c.from_residual-in_err-name_pieces.ensures.1 tt
+pub returns-in_err-name_pieces-clause-handed : goal.returns-in_err-name_pieces-clause-handed
+returns-in_err-name_pieces-clause-handed g c = climbs _ _ c.from_residual-in_err-name_pieces.result (fault.Build build.NoMemory) c.from_residual-in_err-name_pieces.ensures.1 tt
 
-pub returns-in_err-board-clause-handed_cause : goal.returns-in_err-board-clause-handed_cause
-returns-in_err-board-clause-handed_cause g c =
+pub returns-in_err-board-clause-handed : goal.returns-in_err-board-clause-handed
+returns-in_err-board-clause-handed g c =
     let start = labelled_so_far c.new-parts.result c.new-tables.result in
     let end = labelled_so_far c.take_files.new.parts c.take_files.new.tables in
     let mid = g.P.Package.handed c.take_manifest.new.package in
     let after = g.P.Package.handed c.take_files.new.package in
     let walked = subst (λ entries. WalksBy (GoesLabelledHanded ByLabels) (filter (needed ByLabels) entries) (labelled_course mid start) (labelled_course after end)) c.as_slice-entries.ensures c.in_ok-take_files.ensures.handed in
     let named = c.in_ok-name_pieces.ensures.ok ∙ ap (λ (t : List (List Label)). labelled_board_of t (board_so_far c.take_files.new.parts)) c.as_slice.ensures in
-    climbs _ c.from_residual-in_err-board.result (fault.Build c.in_err-board.field-0.0) c.from_residual-in_err-board.ensures.1
+    climbs _ _ c.from_residual-in_err-board.result (fault.Build c.in_err-board.field-0.0) c.from_residual-in_err-board.ensures.1
     (frame_labelled_handed (g.P.Package.handed c.args.package.now) mid after c.args.manifest.now c.in_ok-listed.listed start end (board_so_far c.name_pieces.new.parts)
     (g.P.Package.faults c.args.package.now) (g.P.Package.faults c.take_files.new.package) (g.P.Package.lost c.take_files.new.package) c.in_err-board.field-0.0
     (nothing_yet _ _ _ c.new-parts.ensures.empty c.new-tables.ensures) named c.in_ok-listed.ensures.handed walked c.in_err-board.ensures.fault)
@@ -134,32 +133,16 @@ returns-clause-handed g c =
     labelled_board_handed (g.P.Package.handed c.args.package.now) mid after c.args.manifest.now c.in_ok-listed.listed start end (board_so_far c.name_pieces.new.parts) _
     (nothing_yet _ _ _ c.new-parts.ensures.empty c.new-tables.ensures) named c.in_ok-listed.ensures.handed walked c.in_ok-board.ensures.fits c.in_ok-board.ensures.ok
 
--- ---- What was handed over agrees with what is held
+-- ---- What is left
 
-pub returns-in_err-take_files-clause-grows : goal.returns-in_err-take_files-clause-grows
-returns-in_err-take_files-clause-grows g c = grows_on _ _ _ c.take_manifest.ensures.grows c.take_files.ensures.grows
+pub returns-in_err-take_files-clause-leaves : goal.returns-in_err-take_files-clause-leaves
+returns-in_err-take_files-clause-leaves g c = leaves_on c.take_manifest.ensures.leaves c.take_files.ensures.leaves
 
-pub returns-in_err-take_files-clause-consistent : goal.returns-in_err-take_files-clause-consistent
-returns-in_err-take_files-clause-consistent g c =
-    agrees_on _ _ _ _ _ c.take_manifest.ensures.held c.take_manifest.ensures.grows c.take_files.ensures.grows c.take_manifest.ensures.consistent c.take_files.ensures.consistent
+pub returns-in_err-name_pieces-clause-leaves : goal.returns-in_err-name_pieces-clause-leaves
+returns-in_err-name_pieces-clause-leaves g c = leaves_on c.take_manifest.ensures.leaves c.take_files.ensures.leaves
 
-pub returns-in_err-name_pieces-clause-grows : goal.returns-in_err-name_pieces-clause-grows
-returns-in_err-name_pieces-clause-grows g c = grows_on _ _ _ c.take_manifest.ensures.grows c.take_files.ensures.grows
+pub returns-in_err-board-clause-leaves : goal.returns-in_err-board-clause-leaves
+returns-in_err-board-clause-leaves g c = leaves_on c.take_manifest.ensures.leaves c.take_files.ensures.leaves
 
-pub returns-in_err-name_pieces-clause-consistent : goal.returns-in_err-name_pieces-clause-consistent
-returns-in_err-name_pieces-clause-consistent g c =
-    agrees_on _ _ _ _ _ c.take_manifest.ensures.held c.take_manifest.ensures.grows c.take_files.ensures.grows c.take_manifest.ensures.consistent c.take_files.ensures.consistent
-
-pub returns-in_err-board-clause-grows : goal.returns-in_err-board-clause-grows
-returns-in_err-board-clause-grows g c = grows_on _ _ _ c.take_manifest.ensures.grows c.take_files.ensures.grows
-
-pub returns-in_err-board-clause-consistent : goal.returns-in_err-board-clause-consistent
-returns-in_err-board-clause-consistent g c =
-    agrees_on _ _ _ _ _ c.take_manifest.ensures.held c.take_manifest.ensures.grows c.take_files.ensures.grows c.take_manifest.ensures.consistent c.take_files.ensures.consistent
-
-pub returns-clause-grows : goal.returns-clause-grows
-returns-clause-grows g c = grows_on _ _ _ c.take_manifest.ensures.grows c.take_files.ensures.grows
-
-pub returns-clause-consistent : goal.returns-clause-consistent
-returns-clause-consistent g c =
-    agrees_on _ _ _ _ _ c.take_manifest.ensures.held c.take_manifest.ensures.grows c.take_files.ensures.grows c.take_manifest.ensures.consistent c.take_files.ensures.consistent
+pub returns-clause-leaves : goal.returns-clause-leaves
+returns-clause-leaves g c = leaves_on c.take_manifest.ensures.leaves c.take_files.ensures.leaves

@@ -8,7 +8,7 @@ use Rattle.board_package.proofs.labelling.list_labels.Goals as goal
 
 pub returns-in_err-listed-in-Copper-clause-fault : goal.returns-in_err-listed-in-Copper-clause-fault
 returns-in_err-listed-in-Copper-clause-fault c =
-    climbs (λ f. IsMislabelling c.args.naming c.args.entry.now.role c.args.entry.now.name c.args.file.now f) c.from_residual.result c.in_err-listed-in-Copper.field-0.0 c.from_residual.ensures.1
+    climbs _ (λ f. IsMislabelling c.args.naming c.args.entry.now.role c.args.entry.now.name c.args.file.now f) c.from_residual.result c.in_err-listed-in-Copper.field-0.0 c.from_residual.ensures.1
     (subst (λ n. IsMislabelling n c.args.entry.now.role c.args.entry.now.name c.args.file.now c.in_err-listed-in-Copper.field-0.0) (sym c.in-ByLabels.is)
     (subst (λ r. IsMislabelling ByLabels r c.args.entry.now.name c.args.file.now c.in_err-listed-in-Copper.field-0.0) (sym c.in-Copper.is) (c.in_err-listed-in-Copper.ensures.fault c.in-Copper.layer)))
 

@@ -1,45 +1,42 @@
-use Rattle.board_io.proofs.Agreeing.{grows_on}
 use Rattle.board_shapes.specs.Plain.{plain_board}
-use Rattle.board_package.specs.Causes.{HandedCause, HasCause, IsFrameFault}
-use Rattle.board_package.specs.HandedBoard.{ComesHanded, IsFirstStopHanded}
+use Rattle.board_package.specs.Causes.{IsFrameFault}
 use Rattle.board_package.specs.HandedLabelled.{labelled_course}
 use Rattle.board_package.specs.LabelledCauses.{labelled_so_far}
-use Rattle.board_package.specs.PackageBoard.{Comes, IsFirstStop}
 use Rattle.board_package.specs.Parts.{board_so_far}
 use Rattle.board_package.proofs.ByNetlist.{handed_plainly, no_labels, plain_cause, plain_handed, told_plainly}
-use Rattle.board_package.proofs.Lift.{agrees_on, climbs, if_err, if_ok}
+use Rattle.board_package.proofs.Lift.{climbs, either, leaves_on}
 use Rattle.board_package.proofs.Staging.{board_handed, files_handed, framed_handed, manifest_handed}
 use Rattle.board_package.proofs.Taking.{board_is, files_cause, framed_cause}
 use Rattle.board_package.proofs.stages.build.Goals as goal
 
 -- ---- The manifest
 
-pub returns-in_err-listed-clause-handed_cause : goal.returns-in_err-listed-clause-handed_cause
-returns-in_err-listed-clause-handed_cause g c =
-    climbs _ c.from_residual.result c.in_err-listed.field-0.0 c.from_residual.ensures.1
+pub returns-in_err-listed-clause-handed : goal.returns-in_err-listed-clause-handed
+returns-in_err-listed-clause-handed g c =
+    climbs _ _ c.from_residual.result c.in_err-listed.field-0.0 c.from_residual.ensures.1
     (manifest_handed (g.P.Package.handed c.args.package.now) (g.P.Package.handed c.take_manifest.new.package) c.args.manifest.now (g.P.Package.faults c.args.package.now) (g.P.Package.faults c.take_manifest.new.package) (g.P.Package.lost c.take_manifest.new.package) c.in_err-listed.field-0.0 c.in_err-listed.ensures.handed_cause)
 
 -- ---- The files
 
-pub returns-in-Err-Build-clause-fault : goal.returns-in-Err-Build-clause-fault
-returns-in-Err-Build-clause-fault g c =
+pub returns-in-Err-Build-clause-told : goal.returns-in-Err-Build-clause-told
+returns-in-Err-Build-clause-told g c =
     let held = g.P.Package.held c.take_manifest.new.package in
     let start = labelled_so_far c.new-parts.result c.new-tables.result in
     let why = c.in-Err-Build.why in
     files_cause (g.P.Package.held c.args.package.now) held c.args.manifest.now c.in_ok-listed.listed start.board
     (g.P.Package.faults c.args.package.now) (g.P.Package.faults c.take_manifest.new.package) (g.P.Package.faults c.take_files.new.package) (g.P.Package.lost c.take_files.new.package) why
-    c.take_manifest.ensures.held c.new-parts.ensures.empty c.take_manifest.ensures.later c.in_ok-listed.ensures.found
+    c.take_manifest.ensures.leaves.held c.new-parts.ensures.empty c.take_manifest.ensures.leaves.later c.in_ok-listed.ensures.found
     (plain_cause held c.as_slice-entries.result.now c.in_ok-listed.listed.files start (g.P.Package.faults c.take_manifest.new.package) (g.P.Package.faults c.take_files.new.package) (g.P.Package.lost c.take_files.new.package) why c.in-Err-Build.field-0 c.as_slice-entries.ensures c.in-Err-Build.field-0-is c.in-Err-Build.ensures.cause)
 
-pub returns-in-Err-Build-clause-handed_cause : goal.returns-in-Err-Build-clause-handed_cause
-returns-in-Err-Build-clause-handed_cause g c =
+pub returns-in-Err-Build-clause-handed : goal.returns-in-Err-Build-clause-handed
+returns-in-Err-Build-clause-handed g c =
     let mid = g.P.Package.handed c.take_manifest.new.package in
     let after = g.P.Package.handed c.take_files.new.package in
     let start = labelled_course mid (labelled_so_far c.new-parts.result c.new-tables.result) in
     let why = c.in-Err-Build.why in
     files_handed (g.P.Package.handed c.args.package.now) mid after c.args.manifest.now c.in_ok-listed.listed (board_so_far c.new-parts.result)
     (g.P.Package.faults c.args.package.now) (g.P.Package.faults c.take_manifest.new.package) (g.P.Package.faults c.take_files.new.package) (g.P.Package.lost c.take_files.new.package) why
-    c.new-parts.ensures.empty c.take_manifest.ensures.later c.in_ok-listed.ensures.handed
+    c.new-parts.ensures.empty c.take_manifest.ensures.leaves.later c.in_ok-listed.ensures.handed
     (plain_handed c.as_slice-entries.result.now c.in_ok-listed.listed.files start after (g.P.Package.faults c.take_manifest.new.package) (g.P.Package.faults c.take_files.new.package) (g.P.Package.lost c.take_files.new.package) why c.in-Err-Build.field-0 c.as_slice-entries.ensures c.in-Err-Build.field-0-is c.in-Err-Build.ensures.handed_cause)
 
 pub unreachable-requires : goal.unreachable-requires
@@ -49,61 +46,34 @@ unreachable-requires g c =
 
 -- ---- The board
 
-pub returns-in-Ok-clause-ok : goal.returns-in-Ok-clause-ok
-returns-in-Ok-clause-ok g c =
+pub returns-in-Ok-clause-told : goal.returns-in-Ok-clause-told
+returns-in-Ok-clause-told g c =
     let held = g.P.Package.held c.take_manifest.new.package in
     let start = labelled_so_far c.new-parts.result c.new-tables.result in
     let end = labelled_so_far c.take_files.new.parts c.take_files.new.tables in
     let walked = told_plainly held c.as_slice-entries.result.now c.in_ok-listed.listed.files start end c.as_slice-entries.ensures c.in-Ok.ensures.found in
-    if_ok c.framed.result _ _ _
-    (λ board made fits. board_is (g.P.Package.held c.args.package.now) held c.args.manifest.now c.in_ok-listed.listed start.board end.board (plain_board board) c.take_manifest.ensures.held c.new-parts.ensures.empty c.in_ok-listed.ensures.found walked fits made)
-    c.framed.ensures.ok c.framed.ensures.fits
+    either c.framed.result _ _ _ (IsFrameFault end.board) _
+    (λ board made fits. board_is (g.P.Package.held c.args.package.now) held c.args.manifest.now c.in_ok-listed.listed start.board end.board (plain_board board) c.take_manifest.ensures.leaves.held c.new-parts.ensures.empty c.in_ok-listed.ensures.found walked fits made)
+    (λ why h. framed_cause (g.P.Package.held c.args.package.now) held c.args.manifest.now c.in_ok-listed.listed start.board end.board (g.P.Package.faults c.args.package.now) (g.P.Package.faults c.take_files.new.package) (g.P.Package.lost c.take_files.new.package) why
+    c.take_manifest.ensures.leaves.held c.new-parts.ensures.empty c.in_ok-listed.ensures.found walked h)
+    c.framed.ensures.ok c.framed.ensures.fits c.framed.ensures.fault
 
 pub returns-in-Ok-clause-handed : goal.returns-in-Ok-clause-handed
 returns-in-Ok-clause-handed g c =
-    let start = labelled_course (g.P.Package.handed c.take_manifest.new.package) (labelled_so_far c.new-parts.result c.new-tables.result) in
-    let end = labelled_course (g.P.Package.handed c.take_files.new.package) (labelled_so_far c.take_files.new.parts c.take_files.new.tables) in
-    let walked = handed_plainly c.as_slice-entries.result.now c.in_ok-listed.listed.files start end c.as_slice-entries.ensures c.in-Ok.ensures.handed in
-    if_ok c.framed.result _ _ _
-    (λ board made fits. board_handed (g.P.Package.handed c.args.package.now) start.handed end.handed c.args.manifest.now c.in_ok-listed.listed start.so_far.board end.so_far.board (plain_board board) c.new-parts.ensures.empty c.in_ok-listed.ensures.handed walked fits made)
-    c.framed.ensures.ok c.framed.ensures.fits
-
--- ---- The frame
-
-pub returns-in-Ok-clause-fault : goal.returns-in-Ok-clause-fault
-returns-in-Ok-clause-fault g c =
-    let held = g.P.Package.held c.take_manifest.new.package in
-    let start = labelled_so_far c.new-parts.result c.new-tables.result in
-    let end = labelled_so_far c.take_files.new.parts c.take_files.new.tables in
-    let walked = told_plainly held c.as_slice-entries.result.now c.in_ok-listed.listed.files start end c.as_slice-entries.ensures c.in-Ok.ensures.found in
-    if_err c.framed.result (IsFrameFault end.board) (HasCause (g.P.Package.held c.args.package.now) (λ files stop. IsFirstStop files c.args.manifest.now stop) (λ files name. Comes files c.args.manifest.now name) (g.P.Package.faults c.args.package.now) (g.P.Package.faults c.take_files.new.package) (g.P.Package.lost c.take_files.new.package))
-    (λ why h. framed_cause (g.P.Package.held c.args.package.now) held c.args.manifest.now c.in_ok-listed.listed start.board end.board (g.P.Package.faults c.args.package.now) (g.P.Package.faults c.take_files.new.package) (g.P.Package.lost c.take_files.new.package) why
-    c.take_manifest.ensures.held c.new-parts.ensures.empty c.in_ok-listed.ensures.found walked h)
-    c.framed.ensures.fault
-
-pub returns-in-Ok-clause-handed_cause : goal.returns-in-Ok-clause-handed_cause
-returns-in-Ok-clause-handed_cause g c =
     let a = g.P.Package.handed c.args.package.now in
     let start = labelled_course (g.P.Package.handed c.take_manifest.new.package) (labelled_so_far c.new-parts.result c.new-tables.result) in
     let end = labelled_course (g.P.Package.handed c.take_files.new.package) (labelled_so_far c.take_files.new.parts c.take_files.new.tables) in
     let walked = handed_plainly c.as_slice-entries.result.now c.in_ok-listed.listed.files start end c.as_slice-entries.ensures c.in-Ok.ensures.handed in
-    if_err c.framed.result (IsFrameFault end.so_far.board) (HandedCause (λ stop. IsFirstStopHanded a end.handed c.args.manifest.now stop) (λ name. ComesHanded a end.handed c.args.manifest.now name) (g.P.Package.faults c.args.package.now) (g.P.Package.faults c.take_files.new.package) (g.P.Package.lost c.take_files.new.package))
+    either c.framed.result _ _ _ (IsFrameFault end.so_far.board) _
+    (λ board made fits. board_handed a start.handed end.handed c.args.manifest.now c.in_ok-listed.listed start.so_far.board end.so_far.board (plain_board board) c.new-parts.ensures.empty c.in_ok-listed.ensures.handed walked fits made)
     (λ why h. framed_handed a start.handed end.handed c.args.manifest.now c.in_ok-listed.listed start.so_far.board end.so_far.board (g.P.Package.faults c.args.package.now) (g.P.Package.faults c.take_files.new.package) (g.P.Package.lost c.take_files.new.package) why
     c.new-parts.ensures.empty c.in_ok-listed.ensures.handed walked h)
-    c.framed.ensures.fault
+    c.framed.ensures.ok c.framed.ensures.fits c.framed.ensures.fault
 
--- ---- What was handed over agrees with what is held
+-- ---- What is left
 
-pub returns-in-Err-Build-clause-grows : goal.returns-in-Err-Build-clause-grows
-returns-in-Err-Build-clause-grows g c = grows_on _ _ _ c.take_manifest.ensures.grows c.take_files.ensures.grows
+pub returns-in-Err-Build-clause-leaves : goal.returns-in-Err-Build-clause-leaves
+returns-in-Err-Build-clause-leaves g c = leaves_on c.take_manifest.ensures.leaves c.take_files.ensures.leaves
 
-pub returns-in-Err-Build-clause-consistent : goal.returns-in-Err-Build-clause-consistent
-returns-in-Err-Build-clause-consistent g c =
-    agrees_on _ _ _ _ _ c.take_manifest.ensures.held c.take_manifest.ensures.grows c.take_files.ensures.grows c.take_manifest.ensures.consistent c.take_files.ensures.consistent
-
-pub returns-in-Ok-clause-grows : goal.returns-in-Ok-clause-grows
-returns-in-Ok-clause-grows g c = grows_on _ _ _ c.take_manifest.ensures.grows c.take_files.ensures.grows
-
-pub returns-in-Ok-clause-consistent : goal.returns-in-Ok-clause-consistent
-returns-in-Ok-clause-consistent g c =
-    agrees_on _ _ _ _ _ c.take_manifest.ensures.held c.take_manifest.ensures.grows c.take_files.ensures.grows c.take_manifest.ensures.consistent c.take_files.ensures.consistent
+pub returns-in-Ok-clause-leaves : goal.returns-in-Ok-clause-leaves
+returns-in-Ok-clause-leaves g c = leaves_on c.take_manifest.ensures.leaves c.take_files.ensures.leaves

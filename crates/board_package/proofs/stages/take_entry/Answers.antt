@@ -1,18 +1,15 @@
 use Rattle.std.proofs.Common.{◌≡◌}
-use Rattle.board_package.specs.Causes.{Halts, HandedCause, HasCause}
+use Rattle.board_package.specs.Causes.{Halts, HandedCause, HasCause, KeepsFaults}
 use Rattle.board_package.specs.HandedBoard.{ComesNext, StopsAtHanded, course}
 use Rattle.board_package.specs.PackageBoard.{StopsAt}
 use Rattle.board_package.specs.Parts.{board_so_far}
-use Rattle.board_package.proofs.Lift.{climbs, faultless_ok, if_err, kept_err}
+use Rattle.board_package.proofs.Lift.{climbs, if_err, kept, spared}
 use Rattle.board_package.proofs.Staging.{halted_handed, taking_entry}
 use Rattle.board_package.proofs.Taking.{halted_cause}
 use Rattle.board_package.proofs.stages.take_entry.Goals as goal
 
-pub returns-clause-faultless : goal.returns-clause-faultless
-returns-clause-faultless g c = faultless_ok c.read_file.result _ _ _ _ c.in_ok-take_file.ensures.faultless
-
-pub returns-clause-kept : goal.returns-clause-kept
-returns-clause-kept g c = kept_err c.read_file.result _ _ _ _ c.in_ok-take_file.ensures.faultless
+pub returns-clause-spared : goal.returns-clause-spared
+returns-clause-spared g c = spared KeepsFaults _ _ _ _ c.read_file.result (λ why. kept _ _ _ _ why c.in_ok-take_file.ensures.spared) c.in_ok-take_file.ensures.spared
 
 pub returns-clause-cause : goal.returns-clause-cause
 returns-clause-cause g c =
@@ -33,5 +30,5 @@ returns-clause-handed_cause g c =
 
 pub returns-in_err-take_file-clause-handed_cause : goal.returns-in_err-take_file-clause-handed_cause
 returns-in_err-take_file-clause-handed_cause g c =
-    climbs _ c.from_residual.result c.in_err-take_file.field-0.0 c.from_residual.ensures.1
+    climbs _ _ c.from_residual.result c.in_err-take_file.field-0.0 c.from_residual.ensures.1
     (taking_entry c.args.entry.now (course (g.P.Package.handed c.args.package.now) (board_so_far c.args.parts.now)) (g.P.Package.handed c.take_file.new.package) (g.P.Package.faults c.args.package.now) (g.P.Package.faults c.take_file.new.package) (g.P.Package.lost c.take_file.new.package) c.in_err-take_file.field-0.0 c.in_err-take_file.ensures.handed_cause)

@@ -1,29 +1,25 @@
-use Rattle.std.proofs.Common.{arith, ◌∙◌}
-use Rattle.board_io.proofs.Agreeing.{grows_on}
+use Rattle.std.proofs.Common.{◌∙◌}
 use Rattle.board_package.specs.HandedLabelled.{GoesLabelledHanded, labelled_course}
 use Rattle.board_package.specs.LabelledCauses.{labelled_so_far}
 use Rattle.board_package.proofs.LabelCauses.{files_cause_more, files_walked_more, kept_labelled_after, needed}
 use Rattle.board_package.proofs.LabelStaging.{files_more_handed}
-use Rattle.board_package.proofs.Lift.{agrees_on, climbs, faultless_both}
+use Rattle.board_package.proofs.Lift.{climbs, faultless_both, leaves_on}
 use Rattle.board_package.proofs.Walking.{passing_walk_more}
 use Rattle.board_package.proofs.stages.take_files.Goals as goal
 
 pub returns-in_err-take_needed-clause-cause : goal.returns-in_err-take_needed-clause-cause
 returns-in_err-take_needed-clause-cause g c =
-    climbs _ c.from_residual.result c.in_err-take_needed.field-0.0 c.from_residual.ensures.1
+    climbs _ _ c.from_residual.result c.in_err-take_needed.field-0.0 c.from_residual.ensures.1
     (files_cause_more c.args.naming (g.P.Package.held c.args.package.now) (g.P.Package.held c.loop-entry.package) c.args.entries.now c.loop-entry.entry-index c.entry-item.result (labelled_so_far c.args.parts.now c.args.tables.now) (labelled_so_far c.loop-entry.parts c.loop-entry.tables)
     (g.P.Package.faults c.args.package.now) (g.P.Package.faults c.loop-entry.package) (g.P.Package.faults c.take_needed.new.package) (g.P.Package.lost c.take_needed.new.package) c.in_err-take_needed.field-0.0
-    c.loop-entry-test.true c.entry-item.is c.loop-entry.invariant.held c.loop-entry.invariant.later c.loop-entry.invariant.walked c.in_err-take_needed.ensures.cause)
+    c.loop-entry-test.true c.entry-item.is c.loop-entry.invariant.leaves.held c.loop-entry.invariant.leaves.later c.loop-entry.invariant.walked c.in_err-take_needed.ensures.cause)
 
 pub loop-entry-preserved : goal.loop-entry-preserved
 loop-entry-preserved g c = record {
-  held = c.take_needed.ensures.held ∙ c.loop-entry.invariant.held;
-  grows = grows_on _ _ _ c.loop-entry.invariant.grows c.take_needed.ensures.grows;
-  consistent = agrees_on _ _ _ _ _ c.loop-entry.invariant.held c.loop-entry.invariant.grows c.take_needed.ensures.grows c.loop-entry.invariant.consistent c.take_needed.ensures.consistent;
-  later = omega (arith, c.take_needed.ensures.later, c.loop-entry.invariant.later);
-  faultless = faultless_both _ _ _ _ _ _ c.loop-entry.invariant.faultless c.in_ok-take_needed.ensures.faultless;
+  leaves = leaves_on c.loop-entry.invariant.leaves c.take_needed.ensures.leaves;
+  faultless = faultless_both _ _ _ _ _ _ c.loop-entry.invariant.faultless c.in_ok-take_needed.ensures.spared;
   walked = files_walked_more c.args.naming (g.P.Package.held c.args.package.now) (g.P.Package.held c.loop-entry.package) c.args.entries.now c.loop-entry.entry-index c.entry-item.result (labelled_so_far c.args.parts.now c.args.tables.now) (labelled_so_far c.loop-entry.parts c.loop-entry.tables) (labelled_so_far c.take_needed.new.parts c.take_needed.new.tables)
-      c.loop-entry-test.true c.entry-item.is c.loop-entry.invariant.held c.loop-entry.invariant.walked c.in_ok-take_needed.ensures.found;
+      c.loop-entry-test.true c.entry-item.is c.loop-entry.invariant.leaves.held c.loop-entry.invariant.walked c.in_ok-take_needed.ensures.found;
   handed = passing_walk_more (GoesLabelledHanded c.args.naming) (needed c.args.naming) c.args.entries.now c.loop-entry.entry-index c.entry-item.result (labelled_course (g.P.Package.handed c.args.package.now) (labelled_so_far c.args.parts.now c.args.tables.now)) (labelled_course (g.P.Package.handed c.loop-entry.package) (labelled_so_far c.loop-entry.parts c.loop-entry.tables)) (labelled_course (g.P.Package.handed c.take_needed.new.package) (labelled_so_far c.take_needed.new.parts c.take_needed.new.tables))
       c.loop-entry-test.true c.entry-item.is c.loop-entry.invariant.handed c.in_ok-take_needed.ensures.handed;
   parts = c.in_ok-take_needed.ensures.parts;
@@ -31,21 +27,17 @@ loop-entry-preserved g c = record {
   rise = c.in_ok-take_needed.ensures.rise;
 }
 
-pub returns-in_err-take_needed-clause-kept : goal.returns-in_err-take_needed-clause-kept
-returns-in_err-take_needed-clause-kept g c =
-    climbs _ c.from_residual.result c.in_err-take_needed.field-0.0 c.from_residual.ensures.1
-    (kept_labelled_after _ _ _ _ _ _ c.in_err-take_needed.field-0.0 c.loop-entry.invariant.faultless c.in_err-take_needed.ensures.kept)
+pub returns-in_err-take_needed-clause-spared : goal.returns-in_err-take_needed-clause-spared
+returns-in_err-take_needed-clause-spared g c =
+    climbs _ _ c.from_residual.result c.in_err-take_needed.field-0.0 c.from_residual.ensures.1
+    (kept_labelled_after _ _ _ _ _ _ c.in_err-take_needed.field-0.0 c.loop-entry.invariant.faultless c.in_err-take_needed.ensures.spared)
 
 pub returns-in_err-take_needed-clause-handed_cause : goal.returns-in_err-take_needed-clause-handed_cause
 returns-in_err-take_needed-clause-handed_cause g c =
-    climbs _ c.from_residual.result c.in_err-take_needed.field-0.0 c.from_residual.ensures.1
+    climbs _ _ c.from_residual.result c.in_err-take_needed.field-0.0 c.from_residual.ensures.1
     (files_more_handed c.args.naming c.args.entries.now c.loop-entry.entry-index c.entry-item.result (labelled_course (g.P.Package.handed c.args.package.now) (labelled_so_far c.args.parts.now c.args.tables.now)) (labelled_course (g.P.Package.handed c.loop-entry.package) (labelled_so_far c.loop-entry.parts c.loop-entry.tables)) (g.P.Package.handed c.take_needed.new.package)
     (g.P.Package.faults c.args.package.now) (g.P.Package.faults c.loop-entry.package) (g.P.Package.faults c.take_needed.new.package) (g.P.Package.lost c.take_needed.new.package) c.in_err-take_needed.field-0.0
-    c.loop-entry-test.true c.entry-item.is c.loop-entry.invariant.later c.loop-entry.invariant.handed c.in_err-take_needed.ensures.handed_cause)
+    c.loop-entry-test.true c.entry-item.is c.loop-entry.invariant.leaves.later c.loop-entry.invariant.handed c.in_err-take_needed.ensures.handed_cause)
 
-pub returns-in_err-take_needed-clause-grows : goal.returns-in_err-take_needed-clause-grows
-returns-in_err-take_needed-clause-grows g c = grows_on _ _ _ c.loop-entry.invariant.grows c.take_needed.ensures.grows
-
-pub returns-in_err-take_needed-clause-consistent : goal.returns-in_err-take_needed-clause-consistent
-returns-in_err-take_needed-clause-consistent g c =
-    agrees_on _ _ _ _ _ c.loop-entry.invariant.held c.loop-entry.invariant.grows c.take_needed.ensures.grows c.loop-entry.invariant.consistent c.take_needed.ensures.consistent
+pub returns-in_err-take_needed-clause-leaves : goal.returns-in_err-take_needed-clause-leaves
+returns-in_err-take_needed-clause-leaves g c = leaves_on c.loop-entry.invariant.leaves c.take_needed.ensures.leaves

@@ -12,7 +12,7 @@ returns-in-Err-NotJson-clause-cause g c =
 
 pub returns-in_err-take_file-clause-handed_cause : goal.returns-in_err-take_file-clause-handed_cause
 returns-in_err-take_file-clause-handed_cause g c =
-    climbs _ c.from_residual.result c.in_err-take_file.field-0.0 c.from_residual.ensures.1
+    climbs _ _ c.from_residual.result c.in_err-take_file.field-0.0 c.from_residual.ensures.1
     (taking_manifest (g.P.Package.handed c.args.package.now) (g.P.Package.handed c.take_file.new.package) c.args.manifest.now (g.P.Package.faults c.args.package.now) (g.P.Package.faults c.take_file.new.package) (g.P.Package.lost c.take_file.new.package) c.in_err-take_file.field-0.0 c.in_err-take_file.ensures.handed_cause)
 
 pub returns-in-Err-NotJson-clause-handed_cause : goal.returns-in-Err-NotJson-clause-handed_cause

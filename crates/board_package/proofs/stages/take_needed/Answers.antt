@@ -1,27 +1,24 @@
 use Rattle.std.proofs.Common.{IfErr, OnOk, sym, subst}
 use Rattle.board_package.specs.HandedLabelled.{labelled_course}
 use Rattle.board_package.specs.LabelledBoard.{Lists}
-use Rattle.board_package.specs.LabelledCauses.{IsMislabelling, labelled_so_far}
+use Rattle.board_package.specs.LabelledCauses.{IsMislabelling, KeepsLabelledFaults, labelled_so_far}
 use Rattle.board_package.specs.Parts.{board_so_far}
 use Rattle.board_package.specs.declared.fault.LabelledFault.TheVariants as fault
-use Rattle.board_package.proofs.Lift.{climbs}
-use Rattle.board_package.proofs.LabelCauses.{faultless_labelled, file_cause, file_walked, if_err, kept_labelled_err, label_cause, on_ok}
+use Rattle.board_package.proofs.Lift.{climbs, if_err, spared}
+use Rattle.board_package.proofs.LabelCauses.{file_cause, file_walked, kept_labelled, label_cause, on_ok}
 use Rattle.board_package.proofs.LabelStaging.{file_handed, label_handed, walked_handed}
 use Rattle.board_package.proofs.stages.take_needed.Goals as goal
 
 pub returns-in_err-take_entry-clause-cause : goal.returns-in_err-take_entry-clause-cause
 returns-in_err-take_entry-clause-cause g c =
-    climbs _ c.from_residual.result (fault.Build c.in_err-take_entry.field-0.0) c.from_residual.ensures.1
+    climbs _ _ c.from_residual.result (fault.Build c.in_err-take_entry.field-0.0) c.from_residual.ensures.1
     (file_cause c.args.naming (g.P.Package.held c.args.package.now) c.args.entry.now (labelled_so_far c.args.parts.now c.args.tables.now) (g.P.Package.faults c.args.package.now) (g.P.Package.faults c.take_entry.new.package) (g.P.Package.lost c.take_entry.new.package) c.in_err-take_entry.field-0.0 (sym c.if-not-takes.ensures) c.in_err-take_entry.ensures.cause)
 
-pub returns-in_err-take_entry-clause-kept : goal.returns-in_err-take_entry-clause-kept
-returns-in_err-take_entry-clause-kept g c = climbs _ c.from_residual.result (fault.Build c.in_err-take_entry.field-0.0) c.from_residual.ensures.1 c.in_err-take_entry.ensures.kept
+pub returns-in_err-take_entry-clause-spared : goal.returns-in_err-take_entry-clause-spared
+returns-in_err-take_entry-clause-spared g c = climbs _ _ c.from_residual.result (fault.Build c.in_err-take_entry.field-0.0) c.from_residual.ensures.1 c.in_err-take_entry.ensures.spared
 
-pub returns-clause-faultless : goal.returns-clause-faultless
-returns-clause-faultless g c = faultless_labelled c.list_labels.result _ _ _ _ c.in_ok-take_entry.ensures.faultless
-
-pub returns-clause-kept : goal.returns-clause-kept
-returns-clause-kept g c = kept_labelled_err c.list_labels.result _ _ _ _ c.in_ok-take_entry.ensures.faultless
+pub returns-clause-spared : goal.returns-clause-spared
+returns-clause-spared g c = spared KeepsLabelledFaults _ _ _ _ c.list_labels.result (λ why. kept_labelled _ _ _ _ why c.in_ok-take_entry.ensures.spared) c.in_ok-take_entry.ensures.spared
 
 pub returns-clause-found : goal.returns-clause-found
 returns-clause-found g c =
@@ -35,7 +32,7 @@ returns-clause-cause g c =
 
 pub returns-in_err-take_entry-clause-handed_cause : goal.returns-in_err-take_entry-clause-handed_cause
 returns-in_err-take_entry-clause-handed_cause g c =
-    climbs _ c.from_residual.result (fault.Build c.in_err-take_entry.field-0.0) c.from_residual.ensures.1
+    climbs _ _ c.from_residual.result (fault.Build c.in_err-take_entry.field-0.0) c.from_residual.ensures.1
     (file_handed c.args.naming c.args.entry.now (labelled_course (g.P.Package.handed c.args.package.now) (labelled_so_far c.args.parts.now c.args.tables.now)) (g.P.Package.handed c.take_entry.new.package) (g.P.Package.faults c.args.package.now) (g.P.Package.faults c.take_entry.new.package) (g.P.Package.lost c.take_entry.new.package) c.in_err-take_entry.field-0.0 (sym c.if-not-takes.ensures) c.in_err-take_entry.ensures.handed_cause)
 
 pub returns-clause-handed : goal.returns-clause-handed

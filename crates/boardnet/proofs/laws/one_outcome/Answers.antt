@@ -6,5 +6,5 @@ returns c = one_outcome (record {
   one = record { listed = c.one_outcome.ensures; labelled = c.one_labelled_outcome.ensures; flat = c.one_macro_answer.ensures };
   witnesses = c.verdicts_differ_in_witnesses_only.ensures;
   texts = c.report_text_is_injective.ensures;
-  gaps = c.gaps_are_one.ensures;
+  gaps = c.gap_lists_are_one.ensures;
 })

@@ -1,7 +1,7 @@
-use Rattle.boardnet.proofs.Accounts.{ends_handed, held_works, told_leaves}
+use Rattle.boardnet.proofs.Accounts.{ends_handed, held_works}
 use Rattle.boardnet.proofs.Ending.{ends, unjudged}
 use Rattle.boardnet.proofs.Soundness.{sound}
-use Rattle.std.proofs.Common.{Some}
+use Rattle.std.proofs.Common.{Some, refl}
 use Rattle.boardnet.specs.Command.{asked}
 use Rattle.boardnet.specs.Outcome.{HandedOver}
 use Rattle.boardnet.proofs.run.perform.Goals as goal
@@ -13,9 +13,9 @@ returns-clause-ends g c =
     ends g.P.Package.held g.P.Package.faults g.P.Package.lost g.S.Sink.got g.S.Sink.faults g.N.Sink.got g.N.Sink.faults (asked c.args.command)
     c.args.package.now c.answer_to-given.new.package c.args.out.now c.conclude.new.out c.args.notes.now c.conclude.new.notes c.conclude.result c.answer_to-given.result
     (record { listed = c.one_outcome.ensures; labelled = c.one_labelled_outcome.ensures; flat = c.one_macro_answer.ensures })
-    (held_works (asked c.args.command) g.P.Package.held a b g.P.Package.faults g.P.Package.lost c.args.package.now c.answer_to-given.new.package c.answer_to-given.result
-    ((sound (asked c.args.command)).agrees c.handed_is_held.ensures (g.P.Package.held c.args.package.now) a b c.answer_to-given.ensures.consistent)
-    c.answer_to-given.ensures.leaves c.answer_to-given.ensures.handed c.answer_to-given.ensures.handed_reason)
+    (held_works (asked c.args.command) g.P.Package.held g.P.Package.handed g.P.Package.faults g.P.Package.lost c.args.package.now c.answer_to-given.new.package c.answer_to-given.result
+    ((sound (asked c.args.command)).agrees c.handed_is_held.ensures (g.P.Package.held c.args.package.now) a b c.answer_to-given.ensures.leaves.consistent)
+    c.answer_to-given.ensures.leaves.held c.answer_to-given.ensures.leaves.later c.answer_to-given.ensures.spared c.answer_to-given.ensures.work)
     c.conclude.ensures.later c.conclude.ensures.put
 
 pub returns-clause-unjudged : goal.returns-clause-unjudged
@@ -28,7 +28,7 @@ pub returns-clause-handed : goal.returns-clause-handed
 returns-clause-handed g c =
     ends_handed (HandedOver (g.P.Package.handed c.args.package.now) (g.P.Package.handed c.answer_to-given.new.package)) (asked c.args.command) (g.P.Package.faults c.args.package.now) (g.P.Package.faults c.answer_to-given.new.package) (g.P.Package.lost c.answer_to-given.new.package)
     g.S.Sink.handed g.S.Sink.got g.S.Sink.faults g.N.Sink.got g.N.Sink.faults c.args.out.now c.conclude.new.out c.args.notes.now c.conclude.new.notes c.conclude.result c.answer_to-given.result
-    c.answer_to-given.ensures.handed c.answer_to-given.ensures.handed_reason c.conclude.ensures.handed c.conclude.ensures.put
+    c.answer_to-given.ensures.work c.conclude.ensures.handed c.conclude.ensures.put
 
 pub returns-clause-agreed : goal.returns-clause-agreed
 returns-clause-agreed g c = λ files w.
@@ -37,7 +37,7 @@ returns-clause-agreed g c = λ files w.
     ends (λ p. Some files) g.P.Package.faults g.P.Package.lost g.S.Sink.got g.S.Sink.faults g.N.Sink.got g.N.Sink.faults (asked c.args.command)
     c.args.package.now c.answer_to-given.new.package c.args.out.now c.conclude.new.out c.args.notes.now c.conclude.new.notes c.conclude.result c.answer_to-given.result
     (record { listed = c.one_outcome.ensures; labelled = c.one_labelled_outcome.ensures; flat = c.one_macro_answer.ensures })
-    (held_works (asked c.args.command) (λ p. Some files) a b g.P.Package.faults g.P.Package.lost c.args.package.now c.answer_to-given.new.package c.answer_to-given.result
+    (held_works (asked c.args.command) (λ p. Some files) g.P.Package.handed g.P.Package.faults g.P.Package.lost c.args.package.now c.answer_to-given.new.package c.answer_to-given.result
     ((sound (asked c.args.command)).agrees c.handed_is_held.ensures (Some files) a b w)
-    (told_leaves g.P.Package.held files g.P.Package.faults g.P.Package.lost c.args.package.now c.answer_to-given.new.package c.answer_to-given.result c.answer_to-given.ensures.leaves) c.answer_to-given.ensures.handed c.answer_to-given.ensures.handed_reason)
+    refl c.answer_to-given.ensures.leaves.later c.answer_to-given.ensures.spared c.answer_to-given.ensures.work)
     c.conclude.ensures.later c.conclude.ensures.put

@@ -11,4 +11,4 @@ pub returns-clause-reason : goal.returns-clause-reason
 returns-clause-reason c =
     let small : c.args.size ≤ 10000 = search rules in
     unlost_cause c.args.seed c.args.size (faults_of c.in_ok-made.made) (faults_of c.board_of.new.package) (lost_of c.board_of.new.package) c.in-Err.fault c.unlost.result small
-    (subst (λ (z : Files). HasCause (Some z) (λ files stop. IsFirstStop files made_manifest stop) (λ files name. Comes files made_manifest name) (faults_of c.in_ok-made.made) (faults_of c.board_of.new.package) (lost_of c.board_of.new.package) c.in-Err.fault) c.in_ok-made.ensures.ok.files c.in-Err.ensures.fault) c.unlost.ensures
+    (subst (λ (z : Files). HasCause (Some z) (λ files stop. IsFirstStop files made_manifest stop) (λ files name. Comes files made_manifest name) (faults_of c.in_ok-made.made) (faults_of c.board_of.new.package) (lost_of c.board_of.new.package) c.in-Err.fault) c.in_ok-made.ensures.ok.files c.in-Err.ensures.told) c.unlost.ensures
