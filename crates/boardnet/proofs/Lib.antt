@@ -16,3 +16,11 @@ pub mod Passes
 pub mod TwoCalls
 pub mod Trials
 pub mod Supplements
+pub mod Ways
+pub mod SmallParts
+pub mod SmallNetlists
+pub mod ReportLength
+pub mod Tenths
+pub mod LineTexts
+pub mod MadeHoles
+pub mod MadePoints

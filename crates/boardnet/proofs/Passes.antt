@@ -1,10 +1,13 @@
 -- A report that was written passes the audit of a package that also holds it.
-use Rattle.std.proofs.Common.{inl, ℕ, List, [], ◌∷◌, refl}
+use Rattle.std.proofs.Common.{◌≤◌, inl, ℕ, List, [], ◌∷◌, length, refl}
 use Rattle.board_io.specs.Package.{Files}
-use Rattle.board_package.specs.PackageBoard.{IsBoardOf, IsHeld, Walks}
+use Rattle.board_package.specs.PackageBoard.{IsBoardOf, IsHeld, Walks, most_bytes}
 use Rattle.board_package.specs.declared.entry.Entry.{Entry}
 use Rattle.board_shapes.specs.Plain.{PlainBoard}
-use Rattle.boardnet.specs.Laws.{HoldsReport, ReportsPass}
+use Rattle.boardnet.specs.Laws.{CanBeTaken, FirstReportsAreShort, HoldsReport, ReportsPass}
+use Rattle.boardnet.specs.Outcome.{CheckOutcome, Held, Told}
+use Rattle.boardnet.specs.declared.words.Version.{Version}
+use Rattle.boardnet.specs.declared.words.Version.TheVariants.{One, Two}
 
 still_held : (before after : Files) (report text name bytes : List ℕ) → HoldsReport before after report text → IsHeld before name bytes → IsHeld after name bytes
 still_held before after report text name bytes h i = record { held = h.still name bytes i.held; short = i.short }
@@ -23,15 +26,20 @@ still_board before after report text manifest board h b = record {
   frame = b.frame;
 }
 
-pub reports_pass : ReportsPass
-reports_pass before after version manifest report text line status r h = record {
+-- a report that was written can be taken
+taken : FirstReportsAreShort → (before : Files) (version : Version) (manifest text line : List ℕ) (status : ℕ) → CheckOutcome (Held before) version manifest (Told text status line) → CanBeTaken version text → length text ≤ most_bytes
+taken law before One manifest text line status r can = law before manifest text line status r
+taken law before Two manifest text line status r can = can
+
+pub reports_pass : FirstReportsAreShort → ReportsPass
+reports_pass law before after version manifest report text line status r h can = record {
   board = r.board;
   tables = r.good.right.tables;
   tables_are = r.good.right.tables_are;
   verdict = r.good.verdict;
   read = (
     still_board before after report text manifest r.board h r.board_is,
-    record { bytes = text; file = record { held = h.held; short = h.short }; good = record { lawful = r.good.lawful; text_is = r.good.text_is } },
+    record { bytes = text; file = record { held = h.held; short = taken law before version manifest text line status r can }; good = record { lawful = r.good.lawful; text_is = r.good.text_is } },
   );
   ruling = inl (r.good.right.right, refl, refl, refl);
 }

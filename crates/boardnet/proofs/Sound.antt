@@ -75,7 +75,7 @@ value n small = (decimal_is_IsNumeral n small).1
 -- ---- Of files that agree with what was handed over
 
 pub held_fit : {f : Files} {a b : List Handed} {manifest : List ℕ} {P : PlainBoard → Type 0} → HoldsWhatWasHanded f a b manifest → FitsWith (HandedOver a b) manifest P → FitsWith (Held f) manifest P
-held_fit h x = record { board = x.board; board_is = h.board x.board x.board_is; good = x.good }
+held_fit h x = record { board = x.board; board_is = h.board x.board x.board_is; limits = x.limits; good = x.good }
 
 pub held_refusal : {f : Files} {a b : List Handed} {manifest line : List ℕ} → HoldsWhatWasHanded f a b manifest → IsRefusal (HandedOver a b) manifest line → IsRefusal (Held f) manifest line
 held_refusal h x = record { stop = x.stop; first = h.stop x.stop x.first; line_is = x.line_is }

@@ -8,10 +8,11 @@ use Rattle.board_io.specs.Memory.{HoldsAlso}
 use Rattle.board_io.specs.Package.{Files}
 use Rattle.board_io.specs.Sink.{Gains}
 use Rattle.board_package.specs.PackageBoard.{most_bytes}
-use Rattle.boardnet.specs.Laws.{HoldsReport, ReportsPass}
+use Rattle.boardnet.specs.Laws.{CanBeTaken, HoldsReport, ReportsPass}
 use Rattle.boardnet.specs.Outcome.{Held, IsAnswer, IsReport}
 use Rattle.boardnet.specs.Words.{IsAudit, IsCheck}
 use Rattle.boardnet.specs.declared.words.Version.{Version}
+use Rattle.boardnet.specs.declared.words.Version.TheVariants.{One, Two}
 
 still : (before mid after : Files) (report bytes name held : List ℕ) (same : Bool) → bytes_eq report name ≡ same → mid ≡ before → before report ≡ None
     → after name ≡ cond same (Some bytes) (mid name) → before name ≡ Some held → after name ≡ Some held
@@ -21,12 +22,16 @@ still before mid after report bytes name held true e m free a b =
     absurd (cc (none, b))
 still before mid after report bytes name held false e m free a b = a ∙ (subst (λ (z : Files). z name ≡ Some held) (sym m) b)
 
-pub holds_report : (before mid after : Files) (report bytes : List ℕ) → mid ≡ before → before report ≡ None → HoldsAlso mid report bytes after → length bytes ≤ most_bytes → HoldsReport before after report bytes
-holds_report before mid after report bytes m free also short = record {
+pub holds_report : (before mid after : Files) (report bytes : List ℕ) → mid ≡ before → before report ≡ None → HoldsAlso mid report bytes after → HoldsReport before after report bytes
+holds_report before mid after report bytes m free also = record {
   still = λ name held b. still before mid after report bytes name held (bytes_eq report name) refl m free (also name) b;
   held = let same : bytes_eq report report ≡ true = (bytes_eq-Decides report report).1 refl in also report ∙ (rw same refl);
-  short = short;
 }
+
+-- what is no longer than a file may be can be taken
+can_be_taken : (version : Version) (text : List ℕ) → length text ≤ most_bytes → CanBeTaken version text
+can_be_taken One text short = tt
+can_be_taken Two text short = short
 
 -- what a sink that was empty got is what was put
 pub all_got : (text before got : List ℕ) → before ≡ [] → Gains (Some before) text (Some got) → got ≡ text
@@ -50,5 +55,5 @@ pub passes : (before mid after : Files) (checking auditing : List (String Global
 passes before mid after checking auditing report got bytes checked status A B law version manifest check audit free m wrote same also short rules calm quiet =
     let (text, line, is, all) = wrote version manifest check in
     let is_text : text ≡ bytes = sym (same ∙ all) in
-    let holds : HoldsReport before after report bytes = holds_report before mid after report bytes m free also short in
-    rules manifest report audit _ _ 0 (law before after version manifest report bytes line checked (subst (λ (z : List ℕ). IsReport (Held before) version manifest z checked line) is_text is) holds) calm quiet
+    let holds : HoldsReport before after report bytes = holds_report before mid after report bytes m free also in
+    rules manifest report audit _ _ 0 (law before after version manifest report bytes line checked (subst (λ (z : List ℕ). IsReport (Held before) version manifest z checked line) is_text is) holds (can_be_taken version bytes short)) calm quiet

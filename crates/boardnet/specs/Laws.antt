@@ -1,5 +1,5 @@
 -- The laws of the program.
-use Rattle.std.specs.Prelude.{◌≡◌, ◌≤◌, ℕ, List, [], ◌∷◌, ◌++◌, length, All, Some, codes}
+use Rattle.std.specs.Prelude.{◌≡◌, ◌<◌, ◌≤◌, ℕ, List, [], ◌∷◌, ◌++◌, length, All, Some, codes}
 use Rattle.board_io.specs.Package.{Files}
 use Rattle.board_package.specs.PackageBoard.{IsBoardOf, IsManifestFile, most_bytes, order_of}
 use Rattle.board_package.specs.declared.entry.Entry.{Entry}
@@ -9,18 +9,59 @@ use Rattle.board_shapes.specs.Plain.{PlainBoard}
 use Rattle.boardnet.specs.Lines.{end, plain_line}
 use Rattle.boardnet.specs.Outcome.{AuditOutcome, CheckOutcome, Held, IsWritten, Told}
 use Rattle.boardnet.specs.declared.words.Version.{Version}
+use Rattle.boardnet.specs.declared.words.Version.TheVariants.{One, Two}
+use Rattle.tables.specs.Tables.{Tables, TestPoint}
+use Rattle.verdict.specs.Limits.{HasFewParts, HasSixDigits, HasSmallParts, IsRecordName}
+use Rattle.verdict.specs.Right.{IsRight}
+use Rattle.verdict.specs.declared.verdict.Verdict.{Verdict}
 
--- A package holds what it held before, and this text, which is not too long, under the name of a report.
+-- ---- Reports
+
+-- the record and the layer of a test point have six digits at most, and its name is one of so many
+pub record IsSmallPoint (names : ℕ) (point : TestPoint) : Type 0 where
+  pub number : HasSixDigits point.number
+  pub layer : HasSixDigits point.layer
+  pub name : point.name < names
+
+-- a board with as many pieces, points and names as a package may have, named as in its records
+pub record IsSmallBoard (board : Tables) : Type 0 where
+  pub pieces : length board.near ≤ 200_000
+  pub points : length board.points ≤ 400_000
+  pub names : length board.names ≤ 200_000
+  pub short_names : All IsRecordName board.names
+  pub known : All (IsSmallPoint (length board.names)) board.points
+
+-- a verdict with small numbers and few parts
+pub record IsSmallVerdict (verdict : Verdict) : Type 0 where
+  pub small : HasSmallParts verdict
+  pub few : HasFewParts verdict
+
+-- A right verdict on a small board is small: above all, in all paths together it lists no more pieces than the board has, and
+-- one more for each branch.
+abbrev pub RightVerdictsAreSmall : Type 0
+RightVerdictsAreSmall = (board : Tables) (verdict : Verdict) → IsSmallBoard board → IsRight board verdict → IsSmallVerdict verdict
+
+-- The report of version 1 that `check` writes can be taken as a file.
+abbrev pub FirstReportsAreShort : Type 0
+FirstReportsAreShort = (files : Files) (manifest text line : List ℕ) (status : ℕ) → CheckOutcome (Held files) One manifest (Told text status line) → length text ≤ most_bytes
+
+-- A package holds what it held before, and this text under the name of a report.
 pub record HoldsReport (before after : Files) (report text : List ℕ) : Type 0 where
   pub still : (name bytes : List ℕ) → before name ≡ Some bytes → after name ≡ Some bytes
   pub held : after report ≡ Some text
-  pub short : length text ≤ most_bytes
 
--- The report that `check` writes, of either version, passes the audit: where the package also holds it, the outcome of the
+-- What is asked of the length of a report: nothing of version 1, and of version 2 that it can be taken as a file.
+abbrev pub CanBeTaken : Version → List ℕ → Type 0
+CanBeTaken One text = Unit {0}
+CanBeTaken Two text = length text ≤ most_bytes
+
+-- The report that `check` writes passes the audit: where the package also holds it, and it can be taken, the outcome of the
 -- audit is `audit true`.
 abbrev pub ReportsPass : Type 0
-ReportsPass = (before after : Files) (version : Version) (manifest report text line : List ℕ) (status : ℕ) → CheckOutcome (Held before) version manifest (Told text status line) → HoldsReport before after report text
+ReportsPass = (before after : Files) (version : Version) (manifest report text line : List ℕ) (status : ℕ) → CheckOutcome (Held before) version manifest (Told text status line) → HoldsReport before after report text → CanBeTaken version text
     → AuditOutcome (Held after) manifest report (Told (codes "audit true" ++ end) 0 (plain_line (codes "audit true")))
+
+-- ---- Written netlists
 
 -- One package has the netlist of another replaced by a text: it holds the same manifest, which lists these files, the netlist
 -- last, and the same files but that.

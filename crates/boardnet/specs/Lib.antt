@@ -17,3 +17,4 @@ pub mod commands
 pub mod Trials
 pub mod Words
 pub mod Written
+pub mod MadeFiles

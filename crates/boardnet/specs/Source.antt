@@ -6,7 +6,7 @@ use Rattle.board_io.specs.Package.{Files}
 use Rattle.board_package.specs.HandedBoard.{ComesHanded, ComesNext, IsBoardHanded, IsFirstStopHanded, IsHanded, StopsHanding}
 use Rattle.board_package.specs.HandedLabelled.{IsFirstLabelledStopHanded, IsLabelledBoardHanded, LabelledComesHanded}
 use Rattle.board_package.specs.LabelledBoard.{IsFirstLabelledStop, IsLabelledBoardOf, LabelledComes, LabelledStop}
-use Rattle.board_package.specs.PackageBoard.{Comes, IsBoardOf, IsFirstStop, IsHeld, Stop, StopsTaking}
+use Rattle.board_package.specs.PackageBoard.{Comes, IsBoardOf, IsFirstStop, IsHeld, IsWithinLimits, Stop, StopsTaking}
 use Rattle.board_shapes.specs.Plain.{PlainBoard}
 
 pub data Source : Type 0 where
@@ -30,10 +30,11 @@ abbrev pub ComesBy : Source → List ℕ → List ℕ → Type 0
 ComesBy (Held files) manifest name = Comes files manifest name
 ComesBy (HandedOver before after) manifest name = ComesHanded before after manifest name
 
--- the package fits, and P holds of its board
+-- the package fits, its board is within the limits of a package, and P holds of the board
 pub record FitsWith (source : Source) (manifest : List ℕ) (P : PlainBoard → Type 0) : Type 0 where
   pub board : PlainBoard
   pub board_is : IsBoardBy source manifest board
+  pub limits : IsWithinLimits board
   pub good : P board
 
 -- The package fits, with this board, and Then holds of what was read behind it: of the same files, or of what was handed over

@@ -1,6 +1,7 @@
 //! Laws over the outcomes. Their calls do nothing.
 ghost use Rattle.boardnet.specs.FilesAgree.{FilesAgree, OutcomesAgree};
-ghost use Rattle.boardnet.specs.Laws.{ReportsPass, WrittenNetlistsPass};
+ghost use Rattle.boardnet.specs.Laws.{FirstReportsAreShort, ReportsPass, RightVerdictsAreSmall, WrittenNetlistsPass};
+ghost use Rattle.boardnet.specs.MadeFiles.{MadeHolesAreRead, MadePointsAreRead};
 ghost use Rattle.boardnet.specs.OneOutcome.{OneHandedOutcome, OneOutcome};
 
 use board_package::laws as packages;
@@ -44,10 +45,29 @@ pub fn one_handed_outcome()
     packages::handed_is_held();
 }
 
-/// The report that `check` writes passes the audit of the same package.
+/// A right verdict on a board of at most 200,000 pieces, 400,000 points and 200,000 names lists no more than that, in all paths
+/// no more pieces than the board has and one for each branch, and its numbers have at most six digits.
+pub fn right_verdicts_are_small()
+    ensures { RightVerdictsAreSmall }
+{
+    reports::right_verdicts_are_few();
+}
+
+/// The report of version 1 that `check` writes has at most 67,108,864 bytes, so it can be taken as a file.
+pub fn first_reports_are_short()
+    ensures { FirstReportsAreShort }
+{
+    right_verdicts_are_small();
+    reports::reports_are_short();
+}
+
+/// The report that `check` writes passes the audit of the same package: that of version 1 whatever its length, that of version
+/// 2 to 67,108,864 bytes.
 pub fn reports_pass()
     ensures { ReportsPass }
-{}
+{
+    first_reports_are_short();
+}
 
 /// The netlist that `write` puts agrees with the copper: a package that holds it in place of its own netlist fits, and where
 /// `check` puts a report on it the status is 0.
@@ -60,3 +80,13 @@ pub fn written_netlists_pass()
     netlists::written_netlists_are_short();
     netlists::written_netlist_agrees();
 }
+
+/// The drill file of every made board of at most 10,000 cells is read where there is room, as a hole of 0.4 mm in each cell.
+pub fn made_holes_are_read()
+    ensures { MadeHolesAreRead }
+{}
+
+/// The netlist of every made board of at most 10,000 cells is read, as the three points and the name of each cell.
+pub fn made_points_are_read()
+    ensures { MadePointsAreRead }
+{}
