@@ -20,7 +20,3 @@ pub mod Ways
 pub mod SmallParts
 pub mod SmallNetlists
 pub mod ReportLength
-pub mod Tenths
-pub mod LineTexts
-pub mod MadeHoles
-pub mod MadePoints

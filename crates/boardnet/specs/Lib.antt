@@ -17,4 +17,3 @@ pub mod commands
 pub mod Trials
 pub mod Words
 pub mod Written
-pub mod MadeFiles

@@ -1,7 +1,6 @@
 //! Laws over the outcomes. Their calls do nothing.
 ghost use Rattle.boardnet.specs.FilesAgree.{FilesAgree, OutcomesAgree};
 ghost use Rattle.boardnet.specs.Laws.{FirstReportsAreShort, ReportsPass, RightVerdictsAreSmall, WrittenNetlistsPass};
-ghost use Rattle.boardnet.specs.MadeFiles.{MadeHolesAreRead, MadePointsAreRead};
 ghost use Rattle.boardnet.specs.OneOutcome.{OneHandedOutcome, OneOutcome};
 
 use board_package::laws as packages;
@@ -80,13 +79,3 @@ pub fn written_netlists_pass()
     netlists::written_netlists_are_short();
     netlists::written_netlist_agrees();
 }
-
-/// The drill file of every made board of at most 10,000 cells is read where there is room, as a hole of 0.4 mm in each cell.
-pub fn made_holes_are_read()
-    ensures { MadeHolesAreRead }
-{}
-
-/// The netlist of every made board of at most 10,000 cells is read, as the three points and the name of each cell.
-pub fn made_points_are_read()
-    ensures { MadePointsAreRead }
-{}

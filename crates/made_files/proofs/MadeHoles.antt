@@ -16,9 +16,9 @@ use Rattle.lengths.specs.Grid.{position_of, size_of}
 use Rattle.lengths.specs.declared.decimal.Unit.TheVariants.{Mm}
 use Rattle.planar.specs.declared.TheConstants.{METRE}
 use Rattle.std.specs.Prelude.{◌/◌, ◌%◌, nat_lt}
-use Rattle.boardnet.proofs.LineTexts.{IsPlain, each_of, is_plain, spelled, text_cut, texts}
-use Rattle.boardnet.proofs.Tenths.{IsTenths, is_mark, tenths_read}
-use Rattle.boardnet.specs.MadeFiles.{MadeHolesAreRead, cell_at, hole_of, holes}
+use Rattle.made_files.proofs.LineTexts.{IsPlain, each_of, is_plain, spelled, text_cut, texts}
+use Rattle.made_files.proofs.Tenths.{IsTenths, is_mark, tenths_read}
+use Rattle.made_files.specs.MadeFiles.{MadeHolesAreRead, cell_at, hole_of, holes}
 use Rattle.texts.specs.Blanks.{is_blank, trimmed, without_back, without_front}
 use Rattle.texts.specs.Lines.{PlainLine, lines_of}
 use Rattle.xnc.specs.DrillEffects.{Effect, Known, stays, drills, barrel, body, define, diameter, diameter_of, effect, header, hit as hit_effect, staged, target, value_of}

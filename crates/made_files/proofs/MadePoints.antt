@@ -10,9 +10,9 @@ use Rattle.std.proofs.lemmas.List.Folds.{list_all-append, list_any-append}
 use Rattle.std.specs.Prelude.{decimal, nat_lt}
 use Rattle.std.specs.Str.Parse.{AllDigits, digits_value}
 use Rattle.board_maker.specs.MadeBoard.{cells, column, name, part_text, row, six, test_record, test_records}
-use Rattle.boardnet.proofs.LineTexts.{IsPlain, each_of, is_plain, spelled, text_cut, texts}
-use Rattle.boardnet.proofs.MadeHoles.{all_with, first_place, wider}
-use Rattle.boardnet.specs.MadeFiles.{MadePointsAreRead, beside, cell_at, cell_name, names, point, points}
+use Rattle.made_files.proofs.LineTexts.{IsPlain, each_of, is_plain, spelled, text_cut, texts}
+use Rattle.made_files.proofs.MadeHoles.{all_with, first_place, wider}
+use Rattle.made_files.specs.MadeFiles.{MadePointsAreRead, beside, cell_at, cell_name, names, point, points}
 use Rattle.std.proofs.lemmas.Str.Parse.{digit_from_value}
 use Rattle.ipc356_records.specs.declared.line.Coordinate.{Coordinate}
 use Rattle.board_maker.specs.declared.files.Part.TheVariants.{Points}
