@@ -1,0 +1,4 @@
+pub mod Gathering
+pub mod ReadSoFar
+pub mod Refusals
+pub mod Sums
