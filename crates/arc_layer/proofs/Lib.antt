@@ -1,4 +1,4 @@
-pub mod Gathering
+pub mod OneAnswer
 pub mod ReadSoFar
 pub mod Refusals
 pub mod Sums

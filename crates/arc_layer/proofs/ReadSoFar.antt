@@ -1,5 +1,5 @@
 -- How far the bends of a file are read.
-use Rattle.std.proofs.Common.{◌≡◌, ℕ, ◌+◌, ◌<◌, ◌==◌, Bool, true, false, cond, ◌&&◌, List, [], ◌∷◌, length, Option, Some, None, is_some, Result, Ok, Err, IsOk, refl, sym, ap, ◌∙◌, subst, arith}
+use Rattle.std.proofs.Common.{◌≡◌, ℕ, ◌+◌, ◌<◌, ◌==◌, Bool, true, false, cond, ◌&&◌, List, [], ◌∷◌, length, Option, Some, None, is_some, Ok, Err, IsOk, refl, sym, ap, ◌∙◌, subst, arith}
 use mathlib.Core.Path.{fun_ext}
 use Rattle.std.proofs.lemmas.List.{length-map}
 use Rattle.file_reading.specs.Reading.{Item, IsReadTo, IsRefused, said}
@@ -7,10 +7,10 @@ use Rattle.file_reading.proofs.Turning.{read-start, read-more, read-fault}
 use Rattle.file_reading.specs.declared.halt.Halt.{Halt}
 use Rattle.file_reading.specs.declared.halt.Halt.TheVariants as halt
 use Rattle.gerber_words.specs.Words.{Ahead, Entry, Stop, ended, broken, HasWords, start}
-use Rattle.gerber_words.specs.Items.{AreItems, word_item, stop_item, items_with}
+use Rattle.gerber_words.specs.Items.{word_item, stop_item, items_with}
 use Rattle.gerber_words.specs.Laws.{HasOneReadingAhead}
 use Rattle.gerber_layer.specs.Reader.{Stops}
-use Rattle.arc_layer.specs.Bends.{AreBends, AreSayings, AreShort, IsShort, IsBendFault, IsBendRefused, bend_behind, bend_of, bends_in, fault_at, ok_bend}
+use Rattle.arc_layer.specs.Bends.{AreBends, AreSayings, AreShort, IsShort, IsBendFault, bend_behind, bend_of, bends_in, fault_at, ok_bend}
 use Rattle.arc_layer.specs.Reading.{Takes, bends_so_far}
 use Rattle.arc_layer.specs.State.{state_before, state_behind}
 use Rattle.arc_layer.specs.Words.{Saying, saying, stop_saying}

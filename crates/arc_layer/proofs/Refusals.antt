@@ -1,5 +1,5 @@
 -- Which of two refusals counts.
-use Rattle.std.proofs.Common.{◌≡◌, ℕ, ◌<◌, ◌≤◌, Bool, true, false, cond, List, Option, Some, None, Result, Ok, Err, refl, sym, arith}
+use Rattle.std.proofs.Common.{◌≡◌, ℕ, Bool, true, false, cond, List, Option, Result, Ok, Err, refl, arith}
 use Rattle.std.specs.Prelude.{nat_lt, IfErr, IfOk}
 use Rattle.board_shapes.specs.Pieces.{PlainPiece}
 use Rattle.file_reading.specs.Reading as reading
@@ -13,19 +13,18 @@ use Rattle.gerber_layer.specs.declared.kind.GerberKind.{GerberKind}
 use Rattle.gerber_layer.specs.declared.kind.LayerFault.{LayerFault}
 use Rattle.gerber_layer.specs.declared.kind.LayerFault.TheVariants as layer
 use Rattle.arc_layer.specs.Bends.{AreBends, AreSayings, IsBendFault, IsBendRefused, bend_behind, bends_in}
-use Rattle.arc_layer.specs.Real.{IsRealFault, IsRealRefused, NoBendBefore, NoneUpTo, by_bend, by_straight, earlier, fault_of, first_fault}
+use Rattle.arc_layer.specs.Real.{IsRealFault, NoBendBefore, NoneUpTo, by_bend, by_straight, earlier, fault_of, first_fault}
 use Rattle.arc_layer.specs.Words.{saying, stop_saying}
 use Rattle.arc_layer.specs.declared.draws.Bend.{Bend}
 use Rattle.arc_layer.specs.declared.kind.RealFault.{RealFault}
 use Rattle.arc_layer.specs.declared.kind.RealFault.TheVariants as fault
-use Rattle.arc_layer.specs.declared.kind.RealKind.{RealKind}
 use Rattle.arc_layer.specs.declared.kind.RealKind.TheVariants.{Gerber}
 
 -- each file has one answer of its bends
-abbrev HasOneBendAnswer : List ℕ → Type 0
+abbrev pub HasOneBendAnswer : List ℕ → Type 0
 HasOneBendAnswer file = reading.HasOneAnswer (AreBends file) (IsBendRefused file)
 
-one_bend_answer : ((a : Ahead) → HasOneReadingAhead a) → (file : List ℕ) → HasOneBendAnswer file
+pub one_bend_answer : ((a : Ahead) → HasOneReadingAhead a) → (file : List ℕ) → HasOneBendAnswer file
 one_bend_answer one file = one_answer_of bend_behind bends_in (AreSayings file) (some_items one saying stop_saying file) (one_items one saying stop_saying file)
 
 -- the straight reading refuses nothing, and the bends something

@@ -1,5 +1,5 @@
 -- What the reader of bends keeps.
-use Rattle.std.specs.Prelude.{◌≡◌, ℕ, ◌+◌, ◌&&◌, ◌==◌, nat_eq, if◌then◌else◌, Option, is_some, Result, Ok}
+use Rattle.std.specs.Prelude.{◌≡◌, ℕ, ◌+◌, ◌&&◌, ◌==◌, nat_eq, if◌then◌else◌, Option, is_some, Ok}
 use Rattle.std.specs.HashMap.{get}
 use Rattle.arc_layer.specs.Bends.{bend_of}
 use Rattle.arc_layer.specs.State.{state_behind}

@@ -1,10 +1,11 @@
 -- Real copper: the pieces of a copper file in which draws may be arcs.
-use Rattle.std.specs.Prelude.{◌≡◌, ℕ, ◌*◌, ◌<◌, ◌≤◌, nat_lt, Bool, true, false, if◌then◌else◌, List, map, Option, Some, None, unsigned_abs, Result, Ok, Err}
+use Rattle.std.specs.Prelude.{◌≡◌, ℕ, ◌*◌, ◌<◌, ◌≤◌, nat_lt, if◌then◌else◌, List, map, Option, Some, None, unsigned_abs, Result, Ok, Err}
 use Rattle.board_shapes.specs.Figures.{Figure, Stroke, round, filled, figure_of}
 use Rattle.board_shapes.specs.Pieces.{PlainPiece}
 use Rattle.board_shapes.specs.declared.placed.Origin.{Origin}
 use Rattle.board_shapes.specs.declared.placed.Placed.{Placed}
 use Rattle.arcs.specs.declared.Arc.{Arc}
+use Rattle.file_reading.specs.Reading as reading
 use Rattle.gerber_layer.specs.CommandEffects.{Place}
 use Rattle.gerber_layer.specs.Straight.{IsReadStraight, IsRefusedStraight}
 use Rattle.gerber_layer.specs.declared.kind.GerberKind.{GerberKind}
@@ -80,6 +81,10 @@ NoneUpTo file p number = (kind : GerberKind) (n place : ℕ) → IsRefusedStraig
 pub data IsRealRefused (file : List ℕ) (p : Place) : RealKind → ℕ → ℕ → Type 0 where
   by_straight : (kind : GerberKind) (number place : ℕ) → IsRefusedStraight file p kind number place → NoBendBefore file number → IsRealRefused file p (Gerber kind) number place
   by_bend : (kind : RealKind) (number place : ℕ) → IsBendRefused file kind number place → NoneUpTo file p number → IsRealRefused file p kind number place
+
+-- Each file has one answer: its real copper, or its refusal.
+abbrev pub HasOneRealAnswer : List ℕ → Place → Type 0
+HasOneRealAnswer file p = reading.HasOneAnswer (IsRealCopper file p) (IsRealRefused file p)
 
 -- why there are no pieces
 abbrev pub IsRealFault : List ℕ → Place → RealFault → Type 0

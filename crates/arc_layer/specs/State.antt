@@ -1,5 +1,5 @@
 -- What is in force for an arc. A history is a list of what words say, the last first.
-use Rattle.std.specs.Prelude.{ℕ, ◌≤◌, List, map, Option, Some, None}
+use Rattle.std.specs.Prelude.{List, map}
 use Rattle.std.specs.Option.{option_or}
 use Rattle.planar.specs.declared.Spot.{Spot}
 use Rattle.planar.specs.Plane.{IsPlaced}

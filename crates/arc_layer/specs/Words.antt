@@ -1,5 +1,5 @@
 -- What a word says of arcs (Gerber Layer Format Specification, 4.7 and 4.8).
-use Rattle.std.specs.Prelude.{ℕ, Bool, true, false, ◌&&◌, ◌||◌, if◌then◌else◌, List, drop, codes, Option, Some, None, option_map}
+use Rattle.std.specs.Prelude.{ℕ, Bool, false, ◌&&◌, ◌||◌, if◌then◌else◌, List, drop, codes, Option, Some, None, option_map}
 use Rattle.texts.specs.Words.{begins, is_word}
 use Rattle.gerber_words.specs.Words.{Entry, Stop}
 use Rattle.gerber_layer.specs.Command.{Command, view}

@@ -1,4 +1,3 @@
-use Rattle.std.proofs.Common.{◌≡◌}
 use Rattle.arc_layer.proofs.Sums.{sum_read}
 use Rattle.arc_layer.proofs.centres.moved.Goals as goal
 
