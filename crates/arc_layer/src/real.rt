@@ -7,7 +7,7 @@ ghost use Rattle.board_shapes.specs.Figures.{figure_of};
 ghost use Rattle.board_shapes.specs.Pieces.{plain_piece, plain_pieces};
 ghost use Rattle.planar.specs.Plane.{IsPlaced};
 ghost use Rattle.std.specs.Option.{option_copied};
-ghost use Rattle.std.specs.Prelude.{◌≡◌, ◌≤◌, length, map, IfErr, IfOk, Some};
+ghost use Rattle.std.specs.Prelude.{◌≡◌, ◌≤◌, All, length, map, IfErr, IfOk, Some};
 
 use crate::bends::{Bends, read_bends};
 use crate::centres::moved;
@@ -160,6 +160,7 @@ pub fn read_real(
     requires size { length file.now ≤ MOST_BYTES }
     ensures ok { IfOk result (λ pieces. IsRealCopper file.now (record { layer = layer; file = file_number; room = room }) (plain_reals pieces.items)) }
     ensures few { IfOk result (λ pieces. length pieces.items ≤ room.pieces) }
+    ensures layers { IfOk result (λ pieces. All (λ piece. (piece.top ≡ layer) × (piece.bottom ≡ layer)) pieces.items) }
     ensures fault { IfErr result (IsRealFault file.now (record { layer = layer; file = file_number; room = room })) }
 {
     words_lie_ahead();
