@@ -5,6 +5,7 @@ use board_shapes::{Room, Shape};
 use std::alloc::{AllocError, Global};
 use std::fmt::Write;
 use std::test::Fail;
+use texts::MOST_BYTES;
 
 const HEAD: &str = "%FSLAX46Y46*%%MOMM*%%ADD10C,1.0*%D10*";
 
@@ -51,6 +52,9 @@ fn told(alloc: Global, words: &str) -> Result<String, AllocError> {
         file.push_str(HEAD)?;
     }
     file.push_str(words)?;
+    if file.len() > MOST_BYTES {
+        return String::from_str(alloc, "too long");
+    }
     let room = Room {
         pieces: 6,
         edges: 16,
