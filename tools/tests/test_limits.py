@@ -37,6 +37,8 @@ LEFT = {
     ("gaps/src/found.rt", "65_536"): "no limit: lines are thinned first when they are so many",
     ("lengths/src/decimal.rt", "1_000_000"): "no limit: the units of a decimal's last place",
     ("lengths/src/decimal.rt", "100_000"): "the same",
+    ("arc_layer/src/centres.rt", "1_000_000"): "no limit: how many steps of a format are a unit",
+    ("arc_layer/src/centres.rt", "100_000"): "the same",
     ("board_maker/specs/Laws.antt", "1_000_000"): "no limit: what six digits tell",
     ("board_maker/proofs/Shortness.antt", "1_000_000"): "the same",
     ("board_maker/proofs/Shortness.antt", "250_000_000"): "no limit: how far the pieces of the largest made package reach",

@@ -1,0 +1,5 @@
+pub mod OneAnswer
+pub mod OnLayer
+pub mod ReadSoFar
+pub mod Refusals
+pub mod Sums

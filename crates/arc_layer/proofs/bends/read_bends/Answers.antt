@@ -1,0 +1,43 @@
+use Rattle.std.proofs.Common.{◌≡◌, length, refl, sym, ap, subst, arith}
+use Rattle.gerber_words.specs.Words.{Ahead, start, ended, broken}
+use Rattle.gerber_words.specs.Stepping.{ahead, entry_of}
+use Rattle.gerber_layer.specs.Reader.{Stops}
+use Rattle.arc_layer.specs.Bends.{bend_of}
+use Rattle.arc_layer.specs.Reading.{bends_of}
+use Rattle.arc_layer.specs.Words.{Saying}
+use Rattle.arc_layer.proofs.ReadSoFar.{ReadSoFar, none_short, nothing-read, word-fault, word-read, stop-read}
+use Rattle.arc_layer.proofs.bends.read_bends.Goals as goal
+
+pub loop-word-init : goal.loop-word-init
+loop-word-init c =
+    let at_start : ahead c.new-words.result ≡ start c.args.file.now = c.new-words.ensures in
+    let size : length c.new-words.result.cursor.rest.now ≡ length c.args.file.now = ap (λ (a : Ahead). length a.bytes) at_start in
+    let none : c.new-reader.result.commands ≡ 0 = c.new-reader.ensures.commands in
+    record {
+      read = subst (λ (a : Ahead). ReadSoFar c.args.file.now a c.new-reader.result) (sym at_start) (nothing-read c.args.file.now c.new-reader.result c.new-reader.ensures.state c.new-reader.ensures.bends none);
+      lawful = c.new-reader.ensures.lawful;
+      short = none_short _ c.new-reader.ensures.bends;
+      few = omega (arith, size, none);
+    }
+
+pub loop-word-preserved : goal.loop-word-preserved
+loop-word-preserved c =
+    let takes = rw c.read_word.ensures.value at c.in-Ok.ensures.takes in
+    let counts = c.in-Ok.ensures.takes.counts in
+    record {
+      read = word-read c.args.file.now (ahead c.loop-word.words) (ahead c.next_word.new.self) (entry_of c.in-Word.word) c.loop-word.reader c.take.new.self c.loop-word.invariant.read c.in-Word.ensures.next takes;
+      lawful = c.in-Ok.ensures.lawful;
+      short = c.in-Ok.ensures.short;
+      few = omega (arith, counts, c.in-Word.ensures.shorter, c.loop-word.invariant.few);
+    }
+
+pub returns-in-Err-clause-fault : goal.returns-in-Err-clause-fault
+returns-in-Err-clause-fault c =
+    let stops = subst (λ (w : Saying). Stops (bend_of c.loop-word.reader.state w) c.in-Err.halt) c.read_word.ensures.value c.in-Err.ensures.halt in
+    rw c.fault_at.ensures (word-fault c.words_lie_ahead.ensures c.args.file.now (ahead c.loop-word.words) (ahead c.next_word.new.self) (entry_of c.in-Word.word) c.loop-word.reader c.in-Err.halt _ c.loop-word.invariant.read c.in-Word.ensures.next refl stops)
+
+pub returns-in-End-clause-ok : goal.returns-in-End-clause-ok
+returns-in-End-clause-ok c = stop-read c.args.file.now (ahead c.loop-word.words) ended c.loop-word.reader (bends_of (record { bends = c.loop-word.reader.bends })) c.loop-word.invariant.read c.in-End.ensures.next.0 (λ n. refl)
+
+pub returns-in-Broken-clause-ok : goal.returns-in-Broken-clause-ok
+returns-in-Broken-clause-ok c = stop-read c.args.file.now (ahead c.loop-word.words) (broken c.in-Broken.field-0 c.in-Broken.field-1) c.loop-word.reader (bends_of (record { bends = c.loop-word.reader.bends })) c.loop-word.invariant.read c.in-Broken.ensures.next.0 (λ n. refl)

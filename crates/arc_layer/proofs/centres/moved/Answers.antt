@@ -1,0 +1,8 @@
+use Rattle.arc_layer.proofs.Sums.{sum_read}
+use Rattle.arc_layer.proofs.centres.moved.Goals as goal
+
+pub returns : goal.returns
+returns c =
+    let x = sum_read c.args.a.x c.args.way.x c.requires.spot.0 c.requires.way.0 in
+    let y = sum_read c.args.a.y c.args.way.y c.requires.spot.1 c.requires.way.1 in
+    cc

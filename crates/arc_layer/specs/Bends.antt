@@ -1,0 +1,149 @@
+-- The bends of a copper file: what the straight reading of its arc draws leaves out (Gerber Layer Format Specification, 4.7 and 4.8).
+use Rattle.std.specs.Prelude.{ℕ, ◌+◌, Bool, true, false, ◌&&◌, ◌||◌, not, ◌==◌, if◌then◌else◌, List, [], ◌∷◌, length, pos, Option, Some, None, is_none, is_some, Result, Ok, Err, IfSome}
+use Rattle.planar.specs.Plane.{IsPlaced, is_placed}
+use Rattle.planar.specs.declared.Spot.{Spot}
+use Rattle.file_reading.specs.Conditions.{◌>>=◌, unless, needed}
+use Rattle.file_reading.specs.Reading as reading
+use Rattle.file_reading.specs.Reading.{Item}
+use Rattle.gerber_words.specs.Items as words
+use Rattle.gerber_layer.specs.Command.{Command, operates}
+use Rattle.gerber_layer.specs.CommandEffects.{code_of, coordinate}
+use Rattle.lengths.specs.declared.decimal.Unit.{Unit as Measure}
+use Rattle.gerber_layer.specs.declared.command.Format.{Format}
+use Rattle.gerber_layer.specs.declared.command.Code.{Code}
+use Rattle.gerber_layer.specs.declared.command.Code.TheVariants.{Draw, Move, Flash}
+use Rattle.gerber_layer.specs.declared.kind.GerberKind.{GerberKind}
+use Rattle.gerber_layer.specs.declared.kind.GerberKind.TheVariants as gerber
+use Rattle.gerber_layer.specs.WordCommands.{is_number_if}
+use Rattle.arc_layer.specs.Centres.{centre_at, choice, same_spot}
+use Rattle.arc_layer.specs.State.{curve_at, point_behind, state_before}
+use Rattle.arc_layer.specs.Words.{Saying, saying, stop_saying}
+use Rattle.arc_layer.specs.declared.centres.Draw.{Draw as Sought}
+use Rattle.arc_layer.specs.declared.draws.Bend.{Bend}
+use Rattle.arc_layer.specs.declared.kind.RealFault.{RealFault}
+use Rattle.arc_layer.specs.declared.kind.RealFault.TheVariants as fault
+use Rattle.file_reading.specs.declared.halt.Halt.{Halt}
+use Rattle.file_reading.specs.declared.halt.Halt.TheVariants as halt
+use Rattle.arc_layer.specs.declared.kind.RealKind.{RealKind}
+use Rattle.arc_layer.specs.declared.kind.RealKind.TheVariants.{Gerber, NoOffsets, OffsetsAmiss, NoQuadrants, NoCentre}
+use Rattle.arc_layer.specs.declared.state.State.{State}
+use Rattle.arc_layer.specs.declared.words.Curve.{Curve}
+use Rattle.arc_layer.specs.declared.words.Curve.TheVariants.{Line, Clockwise, Counterclockwise}
+use Rattle.arc_layer.specs.declared.words.Quadrants.{Quadrants}
+use Rattle.arc_layer.specs.declared.words.Quadrants.TheVariants.{Single, Multi}
+
+-- a fault of a coordinate
+abbrev pub as_real : {A : Type 0} → Result A GerberKind → Result A RealKind
+as_real (Ok x) = Ok x
+as_real (Err why) = Err (Gerber why)
+
+-- the way that the offsets of a word say, in u; one that is missing is 0
+unfoldable pub way_of : Format → Measure → Saying → Result Spot RealKind
+way_of format unit w = do
+  i ← as_real (coordinate format unit (pos 0) w.i)
+  j ← as_real (coordinate format unit (pos 0) w.j)
+  Ok (record { x = i; y = j })
+
+-- a bend whose centre is found
+abbrev pub bend_by : Bool → Spot → Bend
+bend_by clockwise way = record { clockwise = clockwise; to_centre = way }
+
+-- in multi quadrant mode the offsets lead to the centre
+abbrev pub any_bend : Sought → Spot → Result (Option Bend) RealKind
+any_bend d way = if is_placed (centre_at d way) then Ok (Some (bend_by d.clockwise way)) else Err (Gerber gerber.OutOfRange)
+
+-- in single quadrant mode they lead there but for their signs, and there is no whole turn
+abbrev pub chosen_bend : Bool → Option Spot → Result (Option Bend) RealKind
+chosen_bend clockwise None = Err NoCentre
+chosen_bend clockwise (Some way) = Ok (Some (bend_by clockwise way))
+
+abbrev pub quarter_bend : Sought → Spot → Result (Option Bend) RealKind
+quarter_bend d way = if same_spot d.start d.end then Ok None else chosen_bend d.clockwise (choice d way)
+
+abbrev pub bend_in : Quadrants → Sought → Spot → Result (Option Bend) RealKind
+bend_in Multi d way = any_bend d way
+bend_in Single d way = quarter_bend d way
+
+-- the draw that a word is, in such a format and unit
+abbrev pub sought : State → Saying → Bool → Format → Measure → Sought
+sought s w clockwise format unit =
+    record { clockwise = clockwise; start = s.at; end = point_behind s w.command; decimals = format.decimals; unit = unit }
+
+-- the offsets of a word are numbers, where there are some
+abbrev pub are_numbers : Saying → Bool
+are_numbers w = is_number_if w.i && is_number_if w.j
+
+-- The row of an arc: its conditions in order, and its bend.
+unfoldable pub arc_of : State → Saying → Bool → Result (Option Bend) RealKind
+arc_of s w clockwise =
+    unless s.region (Gerber gerber.Arc) (unless (w.more || not (are_numbers w)) OffsetsAmiss (unless (is_none w.i && is_none w.j) NoOffsets (do
+      quadrants ← needed NoQuadrants s.quadrants
+      format ← needed (Gerber gerber.MissingFormat) s.format
+      unit ← needed (Gerber gerber.MissingUnit) s.unit
+      way ← way_of format unit w
+      bend_in quadrants (sought s w clockwise format unit) way)))
+
+-- an operation that is no arc has no offsets
+abbrev pub no_bend : Saying → Result (Option Bend) RealKind
+no_bend w = unless (is_some w.i || (is_some w.j || w.more)) OffsetsAmiss (Ok None)
+
+-- a draw by its curve, and an operation by its code
+abbrev pub draw_by : Curve → State → Saying → Result (Option Bend) RealKind
+draw_by Line s w = no_bend w
+draw_by Clockwise s w = arc_of s w true
+draw_by Counterclockwise s w = arc_of s w false
+
+abbrev pub operation_by : Code → State → Saying → Result (Option Bend) RealKind
+operation_by Draw s w = draw_by (curve_at s w) s w
+operation_by Move s w = no_bend w
+operation_by Flash s w = no_bend w
+
+-- the bend of a word, if it has one, or why it is refused
+abbrev pub command_bend : Command → State → Saying → Result (Option Bend) RealKind
+command_bend (operates x y code) s w = operation_by (code_of code) s w
+command_bend other s w = Ok None
+
+abbrev pub bend_of : State → Saying → Result (Option Bend) RealKind
+bend_of s w = command_bend w.command s w
+
+-- so behind a history
+abbrev pub bend_behind : List Saying → Saying → Result (Option Bend) RealKind
+bend_behind earlier w = bend_of (state_before earlier) w
+
+abbrev pub ok_bend : Result (Option Bend) RealKind → Option Bend
+ok_bend (Ok bend) = bend
+ok_bend (Err why) = None
+
+-- the bends of a history: that of the command of each number, from 1
+abbrev pub bends_in : List Saying → ℕ → Option Bend
+bends_in [] n = None
+bends_in (w ∷ earlier) n = if length earlier + 1 == n then ok_bend (bend_behind earlier w) else bends_in earlier n
+
+-- these are the words of a file and its stop, by what they say
+abbrev pub AreSayings : List ℕ → List (Item Saying) → Type 0
+AreSayings file items = words.AreItems saying stop_saying file items
+
+-- no arc of the file has a fault, and these are the bends of its commands
+abbrev pub AreBends : List ℕ → (ℕ → Option Bend) → Type 0
+AreBends file bends = (items : List (Item Saying)) × AreSayings file items × reading.IsRead bend_behind bends_in items bends
+
+-- the first command with a fault of its arc, its number and its place
+abbrev pub IsBendRefused : List ℕ → RealKind → ℕ → ℕ → Type 0
+IsBendRefused file kind number place = (items : List (Item Saying)) × AreSayings file items × reading.IsRefused bend_behind items kind number place
+
+-- the way of each bend is at most a metre long in x and y
+abbrev pub IsShort : Option Bend → Type 0
+IsShort bend = IfSome bend (λ b. IsPlaced b.to_centre)
+
+abbrev pub AreShort : (ℕ → Option Bend) → Type 0
+AreShort bends = (n : ℕ) → IsShort (bends n)
+
+-- why there are no bends: the file is refused, or memory is wanted
+abbrev pub IsBendFault : List ℕ → RealFault → Type 0
+IsBendFault file (fault.Refused kind number place) = IsBendRefused file kind number place
+IsBendFault file fault.NoMemory = Unit {0}
+
+-- what stops the reader, as the fault of the file at the command of this number and place
+abbrev pub fault_at : Halt RealKind → ℕ → ℕ → RealFault
+fault_at (halt.Fault kind) number at = fault.Refused kind number at
+fault_at halt.NoMemory number at = fault.NoMemory

@@ -1,0 +1,6 @@
+pub mod Bends
+pub mod Centres
+pub mod Reading
+pub mod Real
+pub mod State
+pub mod Words

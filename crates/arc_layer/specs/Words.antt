@@ -1,0 +1,81 @@
+-- What a word says of arcs (Gerber Layer Format Specification, 4.7 and 4.8).
+use Rattle.std.specs.Prelude.{ℕ, Bool, false, ◌&&◌, ◌||◌, if◌then◌else◌, List, drop, codes, Option, Some, None, option_map}
+use Rattle.texts.specs.Words.{begins, is_word}
+use Rattle.gerber_words.specs.Words.{Entry, Stop}
+use Rattle.gerber_layer.specs.Command.{Command, view}
+use Rattle.gerber_layer.specs.Dialect.{stop_command}
+use Rattle.gerber_layer.specs.WordCommands.{behind, goes_on, number_in}
+use Rattle.gerber_layer.specs.StraightCommands.{behind_code, straight_command}
+use Rattle.arc_layer.specs.declared.words.Curve.{Curve}
+use Rattle.arc_layer.specs.declared.words.Curve.TheVariants.{Line, Clockwise, Counterclockwise}
+use Rattle.arc_layer.specs.declared.words.Quadrants.{Quadrants}
+use Rattle.arc_layer.specs.declared.words.Quadrants.TheVariants.{Single, Multi}
+use Rattle.arc_layer.specs.declared.words.Saying.{Saying as Seen}
+
+-- what a word says: its command where arcs are straight, the curve and the quadrants that it sets, and its offsets
+pub record Saying : Type 0 where
+  pub command : Command
+  pub curve : Option Curve
+  pub quadrants : Option Quadrants
+  pub i : Option (List ℕ)
+  pub j : Option (List ℕ)
+  -- there are further offsets
+  pub more : Bool
+
+-- the same without where it lies in memory
+abbrev pub saying_of : Seen → Saying
+saying_of s = record {
+  command = view s.command;
+  curve = s.curve;
+  quadrants = s.quadrants;
+  i = option_map (λ t. t.now) s.i;
+  j = option_map (λ t. t.now) s.j;
+  more = s.more;
+}
+
+-- a short code of arcs is told apart from longer codes by what follows it
+abbrev pub is_short : List ℕ → Bool
+is_short text = goes_on (drop 2 text)
+
+-- the curve that a word sets, alone or before an operation
+abbrev pub curve_in : List ℕ → Option Curve
+curve_in text =
+    if begins text (codes "G01") || begins text (codes "G1") then Some Line
+    else (if begins text (codes "G02") || (begins text (codes "G2") && is_short text) then Some Clockwise
+    else (if begins text (codes "G03") || (begins text (codes "G3") && is_short text) then Some Counterclockwise
+    else None))
+
+-- the quadrants that a word sets
+abbrev pub quadrants_in : List ℕ → Option Quadrants
+quadrants_in text = if is_word text (codes "G74") then Some Single else (if is_word text (codes "G75") then Some Multi else None)
+
+-- a letter of an offset stands in front
+abbrev pub begins_offset : List ℕ → Bool
+begins_offset text = begins text (codes "I") || begins text (codes "J")
+
+-- what stands behind the numbers of X and Y
+abbrev pub from_offsets : List ℕ → List ℕ
+from_offsets text = behind 89 (behind 88 (behind_code text))
+
+-- a plain word: `I` and then `J` are its offsets
+abbrev pub plain : Command → List ℕ → Saying
+plain command text = record {
+  command = command;
+  curve = curve_in text;
+  quadrants = quadrants_in text;
+  i = number_in 73 (from_offsets text);
+  j = number_in 74 (behind 73 (from_offsets text));
+  more = begins_offset (behind 74 (behind 73 (from_offsets text)));
+}
+
+-- a word that says nothing of arcs
+abbrev pub silent : Command → Saying
+silent command = record { command = command; curve = None; quadrants = None; i = None; j = None; more = false }
+
+-- Of arcs only plain words say something.
+abbrev pub saying : Entry → Saying
+saying w = if w.extended then silent (straight_command w) else plain (straight_command w) w.text
+
+-- and the stop of a file says nothing
+abbrev pub stop_saying : Stop → Saying
+stop_saying stop = silent (stop_command stop)

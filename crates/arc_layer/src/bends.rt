@@ -1,0 +1,119 @@
+//! The bends of a file.
+ghost use Rattle.arc_layer.specs.Bends.{AreBends, AreShort, IsBendFault, bend_of as bend_spec, fault_at};
+ghost use Rattle.arc_layer.specs.Reading.{Takes, bends_of, bends_so_far};
+ghost use Rattle.arc_layer.specs.State.{IsLawfulState, state_before};
+ghost use Rattle.arc_layer.specs.Words.{saying_of};
+ghost use Rattle.gerber_layer.specs.Command.{view};
+ghost use Rattle.gerber_layer.specs.Lawful.{IsLawfulCommand};
+ghost use Rattle.gerber_layer.specs.Reader.{Stops};
+ghost use Rattle.std.specs.Option.{option_copied};
+ghost use Rattle.std.specs.Prelude.{◌≡◌, ◌+◌, ◌^◌, ◌<◌, ◌≤◌, ℕ, [], length, IfErr, IfOk, None, OnOk};
+
+use crate::draws::{Bend, bend_of};
+use crate::kind::{RealFault, RealKind};
+use crate::state::{State, at_start};
+use crate::words::{Saying, read_word};
+use file_reading::Halt;
+use gerber_words::laws::words_lie_ahead;
+use gerber_words::{Step, Words};
+use std::alloc::Global;
+use std::collections::HashMap;
+use texts::MOST_BYTES;
+
+/// The bends of the draws of a file, by the numbers of their commands, from 1.
+#[derive(Drop)]
+pub struct Bends {
+    bends: HashMap<u32, Bend>,
+}
+
+impl Bends {
+    /// The bend of the command of this number, if it has one.
+    pub fn find(&self, command: u32) -> Option<&Bend>
+        ensures { option_copied result ≡ bends_of self.now command }
+    {
+        self.bends.get(&command)
+    }
+}
+
+/// What the words of a file so far have set and made; `commands` counts them.
+#[derive(Drop)]
+struct Reader {
+    state: State,
+    bends: HashMap<u32, Bend>,
+    commands: u32,
+}
+
+impl Reader {
+    fn new(alloc: Global) -> Reader
+        ensures state { result.state ≡ state_before [] }
+        ensures lawful { IsLawfulState result.state }
+        ensures bends { (n : ℕ) → bends_so_far result n ≡ None }
+        ensures commands { result.commands ≡ 0 }
+    {
+        Reader {
+            state: at_start(),
+            bends: HashMap::new(alloc),
+            commands: 0,
+        }
+    }
+
+    // Takes a word. An `Err` leaves a reader that is of no more use.
+    fn take(&mut self, word: &Saying) -> Result<(), Halt<RealKind>>
+        requires lawful { IsLawfulState self.old.state }
+        requires command { IsLawfulCommand (view word.now.command) }
+        requires few { self.old.commands + 1 < 2 ^ 32 }
+        requires short { AreShort (bends_so_far self.old) }
+        ensures takes { OnOk result (Takes self.old (saying_of word.now) self.new) }
+        ensures lawful { OnOk result (IsLawfulState self.new.state) }
+        ensures short { OnOk result (AreShort (bends_so_far self.new)) }
+        ensures halt { IfErr result (Stops (bend_spec self.old.state (saying_of word.now))) }
+    {
+        let bend = bend_of(&self.state, word)?;
+        self.commands += 1;
+        if let Some(bend) = bend {
+            if let Err(_) = self.bends.insert(self.commands, bend) {
+                return Err(Halt::NoMemory);
+            }
+        }
+        self.state = self.state.behind(word);
+        Ok(())
+    }
+}
+
+fn fault_at(halt: Halt<RealKind>, command: u32, at: usize) -> RealFault
+    ensures { result ≡ fault_at halt command at }
+{
+    match halt {
+        Halt::Fault(kind) => RealFault::Refused { kind, command, at },
+        Halt::NoMemory => RealFault::NoMemory,
+    }
+}
+
+/// The bends of a file, or why an arc of it is refused first. The file has at most `MOST_BYTES` bytes.
+pub fn read_bends(alloc: Global, file: &[u8]) -> Result<Bends, RealFault>
+    requires size { length file.now ≤ MOST_BYTES }
+    ensures ok { IfOk result (λ bends. AreBends file.now (bends_of bends)) }
+    ensures short { IfOk result (λ bends. AreShort (bends_of bends)) }
+    ensures fault { IfErr result (IsBendFault file.now) }
+{
+    words_lie_ahead();
+    let mut words = Words::new(file);
+    let mut reader = Reader::new(alloc);
+    loop {
+        match words.next_word() {
+            Step::Word(word) => {
+                let command = reader.commands + 1;
+                match reader.take(&read_word(word)) {
+                    Ok(()) => (),
+                    Err(halt) => return Err(fault_at(halt, command, word.at)),
+                }
+            },
+            Step::End => return Ok(Bends {
+                bends: reader.bends,
+            }),
+            Step::Broken(_, _) => return Ok(Bends {
+                bends: reader.bends,
+            }),
+        }
+    }
+}

@@ -1,0 +1,15 @@
+//! Laws over the definitions alone.
+ghost use Rattle.arc_layer.specs.Real.{HasOneRealAnswer};
+ghost use Rattle.gerber_layer.specs.CommandEffects.{Place};
+ghost use Rattle.std.specs.Prelude.{ℕ, List};
+
+use gerber_layer::laws::one_straight_answer;
+use gerber_words::laws::words_lie_ahead;
+
+/// Each file has one answer: its real copper, or the first fault.
+pub fn one_real_answer()
+    ensures { (file : List ℕ) (p : Place) → HasOneRealAnswer file p }
+{
+    words_lie_ahead();
+    one_straight_answer();
+}

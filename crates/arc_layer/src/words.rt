@@ -1,0 +1,130 @@
+//! What a word says of arcs.
+ghost use Rattle.arc_layer.specs.Words as spec;
+ghost use Rattle.gerber_layer.specs.Command.{view};
+ghost use Rattle.gerber_layer.specs.Lawful.{IsLawfulCommand};
+ghost use Rattle.gerber_words.specs.Stepping.{entry_of};
+ghost use Rattle.std.specs.Option.{option_copied};
+ghost use Rattle.std.specs.Prelude.{◌≡◌, ◌≤◌, length, option_map};
+
+use gerber_layer::{Command, behind_code, goes_on, part, read_straight_command};
+use gerber_words::Word;
+use texts::{begins, is_word};
+
+/// How draws go (4.7).
+#[derive(Clone, Copy, Debug, PartialEq, Eq)]
+pub enum Curve {
+    Line,
+    Clockwise,
+    Counterclockwise,
+}
+
+/// Whether an arc is at most a quarter circle, `G74`, or any, `G75` (4.7).
+#[derive(Clone, Copy, Debug, PartialEq, Eq)]
+pub enum Quadrants {
+    Single,
+    Multi,
+}
+
+/// What a word says.
+#[derive(Clone, Copy)]
+pub struct Saying<'a> {
+    /// Its command where arcs are straight.
+    pub command: Command<'a>,
+    pub curve: Option<Curve>,
+    pub quadrants: Option<Quadrants>,
+    pub i: Option<&'a [u8]>,
+    pub j: Option<&'a [u8]>,
+    /// There are further offsets.
+    pub more: bool,
+}
+
+fn is_short(text: &[u8]) -> bool
+    requires { 2 ≤ length text.now }
+    ensures { result ≡ spec.is_short text.now }
+{
+    goes_on(&text[2..])
+}
+
+fn curve_in(text: &[u8]) -> Option<Curve>
+    ensures { result ≡ spec.curve_in text.now }
+{
+    if begins(text, b"G01") || begins(text, b"G1") {
+        return Some(Curve::Line);
+    }
+    if begins(text, b"G02") || begins(text, b"G2") && is_short(text) {
+        return Some(Curve::Clockwise);
+    }
+    if begins(text, b"G03") || begins(text, b"G3") && is_short(text) {
+        return Some(Curve::Counterclockwise);
+    }
+    None
+}
+
+fn quadrants_in(text: &[u8]) -> Option<Quadrants>
+    ensures { result ≡ spec.quadrants_in text.now }
+{
+    if is_word(text, b"G74") {
+        Some(Quadrants::Single)
+    } else if is_word(text, b"G75") {
+        Some(Quadrants::Multi)
+    } else {
+        None
+    }
+}
+
+fn begins_offset(text: &[u8]) -> bool
+    ensures { result ≡ spec.begins_offset text.now }
+{
+    begins(text, b"I") || begins(text, b"J")
+}
+
+/// What stands behind the numbers of X and Y.
+fn from_offsets(text: &[u8]) -> &[u8]
+    ensures { result.now ≡ spec.from_offsets text.now }
+{
+    let (_, text) = part(behind_code(text), b'X');
+    let (_, text) = part(text, b'Y');
+    text
+}
+
+fn plain<'a>(command: Command<'a>, text: &'a [u8]) -> Saying<'a>
+    ensures { spec.saying_of result ≡ spec.plain (view command.entry) text.now }
+{
+    let (i, rest) = part(from_offsets(text), b'I');
+    let (j, rest) = part(rest, b'J');
+    Saying {
+        command,
+        curve: curve_in(text),
+        quadrants: quadrants_in(text),
+        i,
+        j,
+        more: begins_offset(rest),
+    }
+}
+
+/// A word that says nothing of arcs.
+pub fn silent<'a>(command: Command<'a>) -> Saying<'a>
+    ensures { spec.saying_of result ≡ spec.silent (view command.entry) }
+{
+    Saying {
+        command,
+        curve: None,
+        quadrants: None,
+        i: None,
+        j: None,
+        more: false,
+    }
+}
+
+/// What a word says.
+pub fn read_word<'a>(word: Word<'a>) -> Saying<'a>
+    ensures value { spec.saying_of result ≡ spec.saying (entry_of word.entry) }
+    ensures lawful { IsLawfulCommand (view result.command) }
+{
+    let command = read_straight_command(word);
+    if word.extended {
+        silent(command)
+    } else {
+        plain(command, word.text)
+    }
+}
