@@ -18,8 +18,8 @@ use Rattle.verdict.specs.declared.verdict.Verdict.{Verdict}
 use Rattle.arc_covers.specs.Laws.{AreBoundsOf, AreJudged, IsBetween}
 use Rattle.arc_covers.specs.Links.{AreChain, AreLinks}
 use Rattle.arc_covers.specs.RealBoards.{IsCopperOf, IsReal, real_span}
-use Rattle.arc_covers.specs.declared.real_shape.RealShape.{RealShape}
-use Rattle.arc_covers.specs.declared.real_shape.RealShape.TheVariants.{Plain, ArcDraw}
+use Rattle.arcs.specs.declared.real_shape.RealShape.{RealShape}
+use Rattle.arcs.specs.declared.real_shape.RealShape.TheVariants.{Plain, ArcDraw}
 use Rattle.arc_covers.specs.declared.side.Side.TheVariants.{Below, Above}
 use Rattle.arc_covers.proofs.Covered.{by_piece, covered, linked}
 use Rattle.arc_covers.proofs.Shares.{IsAt, placed, share_at, share_length}

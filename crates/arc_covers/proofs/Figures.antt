@@ -13,8 +13,8 @@ use Rattle.board_shapes.specs.declared.shape.Shape.{Shape}
 use Rattle.arcs.specs.declared.Arc.{Arc}
 use Rattle.lengths.specs.declared.rows.NoMemory.{NoMemory}
 use Rattle.arc_covers.specs.Bounds.{IsOn, PiecesStandFor, StandFor, capsules_from, capsules_of, figures_of}
-use Rattle.arc_covers.specs.declared.real_shape.RealShape.{RealShape}
-use Rattle.arc_covers.specs.declared.real_shape.RealShape.TheVariants.{ArcDraw, Plain}
+use Rattle.arcs.specs.declared.real_shape.RealShape.{RealShape}
+use Rattle.arcs.specs.declared.real_shape.RealShape.TheVariants.{ArcDraw, Plain}
 use Rattle.arc_covers.specs.declared.side.Side.{Side}
 
 abbrev spot_from : ℤ → ℤ → Spot

@@ -7,7 +7,7 @@ use Rattle.board_shapes.specs.Pieces.{PlainPiece, plain_piece, plain_pieces}
 use Rattle.board_shapes.specs.declared.placed.Placed.{Placed}
 use Rattle.board_shapes.specs.declared.shape.Shape.{Shape}
 use Rattle.arc_covers.specs.Bounds.{AddUp, FirstStand, PiecesStandFor, share_of}
-use Rattle.arc_covers.specs.declared.real_shape.RealShape.{RealShape}
+use Rattle.arcs.specs.declared.real_shape.RealShape.{RealShape}
 use Rattle.arc_covers.specs.declared.side.Side.{Side}
 
 -- what is cut out of the pieces is the share

@@ -6,8 +6,8 @@ use Rattle.board_shapes.specs.declared.shape.Shape.{Shape}
 use Rattle.arc_covers.specs.Bounds.{AddUp, FirstStand, PiecesStandFor, share_of}
 use Rattle.arc_covers.specs.declared.between.BoundsFault.{BoundsFault}
 use Rattle.arc_covers.specs.declared.between.BoundsFault.TheVariants.{Counts, Piece, NoMemory}
-use Rattle.arc_covers.specs.declared.real_shape.RealShape.{RealShape}
-use Rattle.arc_covers.specs.declared.real_shape.RealShape.TheVariants.{Plain}
+use Rattle.arcs.specs.declared.real_shape.RealShape.{RealShape}
+use Rattle.arcs.specs.declared.real_shape.RealShape.TheVariants.{Plain}
 use Rattle.arc_covers.specs.declared.side.Side.{Side}
 use Rattle.arc_covers.specs.declared.side.Side.TheVariants.{Below, Above}
 

@@ -13,7 +13,7 @@ use Rattle.covers.specs.Laws.{Decides}
 use Rattle.covers.specs.Plain.{InPiece, layout_of}
 use Rattle.arc_covers.specs.Bounds.{AreBounds}
 use Rattle.arc_covers.specs.RealBoards.{IsReal}
-use Rattle.arc_covers.specs.declared.real_shape.RealShape.{RealShape}
+use Rattle.arcs.specs.declared.real_shape.RealShape.{RealShape}
 use Rattle.arc_covers.specs.declared.side.Side.TheVariants.{Below, Above}
 
 -- the board is covered by the real one, and this by the board above

@@ -1,15 +1,15 @@
 //! Whether a real board lies between two boards of figures.
 ghost use Rattle.arc_covers.specs.Bounds.{AddUp, AreBounds, PiecesStandFor};
 ghost use Rattle.arc_covers.specs.Faults.{IsBoundsFault};
-ghost use Rattle.arc_covers.specs.declared.real_shape.RealShape.TheVariants.{Plain};
+ghost use Rattle.arcs.specs.declared.real_shape.RealShape.TheVariants.{Plain};
 ghost use Rattle.arc_covers.specs.declared.side.Side.TheVariants.{Above, Below};
 ghost use Rattle.board_shapes.specs.Pieces.{plain_pieces};
 ghost use Rattle.board_shapes.specs.declared.shape.Shape.{Shape};
 ghost use Rattle.std.specs.Prelude.{IfErr, IfOk, IsTrue, drop, length, sum, take, ◌+◌, ◌≡◌, ◌≤◌, ◌↔◌};
 
-use crate::real_shape::{RealPiece, RealShape};
 use crate::rows::{are_bound, are_on, is_itself};
 use crate::side::Side;
+use arcs::{RealPiece, RealShape};
 use board_shapes::Piece;
 use lengths::rows::NoMemory;
 use std::alloc::Global;

@@ -3,7 +3,6 @@
 //! `is_covered` and `is_cover` are checks of `arcs`, with what they say of a board one of whose pieces is
 //! the arc draw.
 //!
-//! - `real_shape`: pieces that may be arc draws.
 //! - `side`: the boards below and above a real one, and what a chain has to be there.
 //! - `rows`: whether pieces are a figure, or the capsules of a chain.
 //! - `between`: the check over whole boards.
@@ -17,14 +16,12 @@ ghost use Rattle.std.specs.Prelude.{IsTrue, length, pos, ℕ, ◌+◌, ◌<◌, 
 
 mod between;
 pub mod laws;
-mod real_shape;
 mod rows;
 mod side;
 
 use arcs::{Arc, Spot, is_above, is_below};
 pub use between::{BoundsFault, check_between};
 use covers::Copper;
-pub use real_shape::{RealPiece, RealShape};
 pub use side::Side;
 
 /// Whether the chain holds the copper of the arc. Where it says so, a piece that is the arc draw is

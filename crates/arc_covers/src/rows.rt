@@ -1,6 +1,6 @@
 //! Rows of pieces: chains of capsules, and single figures.
 ghost use Rattle.arc_covers.specs.Bounds.{IsOn, StandFor, capsules_of, figures_of};
-ghost use Rattle.arc_covers.specs.declared.real_shape.RealShape.TheVariants.{ArcDraw, Plain};
+ghost use Rattle.arcs.specs.declared.real_shape.RealShape.TheVariants.{ArcDraw, Plain};
 ghost use Rattle.board_shapes.specs.Figures.{area_figure, capsule_figure, figure_of, round};
 ghost use Rattle.board_shapes.specs.Pieces.{plain_piece, plain_pieces};
 ghost use Rattle.std.specs.Prelude.{All, IfOk, IfSome, IsTrue, length, pos, ◌≡◌, ◌↔◌, ◌∷◌, []};

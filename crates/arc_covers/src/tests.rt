@@ -1,8 +1,8 @@
 //! A pad and a quarter circle that touches it in one point, between pads and chains, in u.
 ghost use Rattle.planar.specs.Plane.{IsPlaced};
 
-use crate::{BoundsFault, RealPiece, RealShape, Side, check_between};
-use arcs::{Arc, Spot};
+use crate::{BoundsFault, Side, check_between};
+use arcs::{Arc, RealPiece, RealShape, Spot};
 use board_shapes::{Origin, Piece, Placed, Shape};
 use contact::Capsule;
 use lengths::rows::NoMemory;

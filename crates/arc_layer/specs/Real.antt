@@ -18,8 +18,8 @@ use Rattle.arc_layer.specs.declared.kind.RealFault.{RealFault}
 use Rattle.arc_layer.specs.declared.kind.RealFault.TheVariants as fault
 use Rattle.arc_layer.specs.declared.kind.RealKind.{RealKind}
 use Rattle.arc_layer.specs.declared.kind.RealKind.TheVariants.{Gerber}
-use Rattle.arc_layer.specs.declared.real.RealShape.{RealShape}
-use Rattle.arc_layer.specs.declared.real.RealShape.TheVariants as shape
+use Rattle.arcs.specs.declared.real_shape.RealShape.{RealShape}
+use Rattle.arcs.specs.declared.real_shape.RealShape.TheVariants as shape
 
 -- a figure, or an arc draw
 pub data RealFigure : Type 0 where
@@ -35,8 +35,8 @@ pub record PlainReal : Type 0 where
 
 -- a piece without where its points lie in memory, and each of a list
 abbrev pub real_figure : RealShape → RealFigure
-real_figure (shape.Figure s) = plain (figure_of s)
-real_figure (shape.Bent a) = bent a
+real_figure (shape.Plain s) = plain (figure_of s)
+real_figure (shape.ArcDraw a) = bent a
 
 abbrev pub plain_real : Placed RealShape → PlainReal
 plain_real p = record { figure = real_figure p.shape; top = p.top; bottom = p.bottom; origin = p.origin }

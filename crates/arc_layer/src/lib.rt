@@ -15,10 +15,10 @@ mod real;
 mod state;
 mod words;
 
-pub use arcs::Arc;
+pub use arcs::{Arc, RealPiece, RealShape};
 pub use draws::Bend;
 pub use kind::{RealFault, RealKind};
-pub use real::{RealPiece, RealShape, read_real};
+pub use real::read_real;
 
 #[cfg(test)]
 mod tests;

@@ -13,7 +13,7 @@ use crate::bends::{Bends, read_bends};
 use crate::centres::moved;
 use crate::draws::Bend;
 use crate::kind::{RealFault, RealKind};
-use arcs::Arc;
+use arcs::{Arc, RealPiece, RealShape};
 use board_shapes::{MOST_LAYERS, Piece, Placed, Room, Shape};
 use contact::Capsule;
 use gerber_layer::laws::one_straight_answer;
@@ -21,16 +21,6 @@ use gerber_layer::{GerberKind, LayerFault, read_straight};
 use gerber_words::laws::words_lie_ahead;
 use std::alloc::Global;
 use texts::MOST_BYTES;
-
-/// The copper of a piece: a shape, or an arc draw.
-#[derive(Drop)]
-pub enum RealShape {
-    Figure(Shape),
-    Bent(Arc),
-}
-
-/// A piece of real copper.
-pub type RealPiece = Placed<RealShape>;
 
 /// The arc of a bend between the ends of a straight draw.
 fn arc_of(bend: &Bend, stroke: &Capsule) -> Arc
@@ -61,10 +51,10 @@ fn with_bend(bend: Option<&Bend>, shape: Shape) -> RealShape
     ensures { real_figure result ≡ spec.with_bend (option_copied bend.entry) (figure_of shape) }
 {
     match bend {
-        None => RealShape::Figure(shape),
+        None => RealShape::Plain(shape),
         Some(bend) => match shape {
-            Shape::Round(stroke) => RealShape::Bent(arc_of(bend, &stroke)),
-            Shape::Filled(area) => RealShape::Figure(Shape::Filled(area)),
+            Shape::Round(stroke) => RealShape::ArcDraw(arc_of(bend, &stroke)),
+            Shape::Filled(area) => RealShape::Plain(Shape::Filled(area)),
         },
     }
 }

@@ -12,12 +12,12 @@ const HEAD: &str = "%FSLAX46Y46*%%MOMM*%%ADD10C,1.0*%D10*";
 fn shown(alloc: Global, piece: &RealPiece) -> Result<String, AllocError> {
     let mut line = String::new(alloc);
     match &piece.shape {
-        RealShape::Figure(Shape::Round(capsule)) => {
+        RealShape::Plain(Shape::Round(capsule)) => {
             let (a, b, r) = capsule.parts();
             write!(line, "{} {}, {} {}, {r}", a.x, a.y, b.x, b.y)?;
         },
-        RealShape::Figure(Shape::Filled(_)) => line.push_str("an area")?,
-        RealShape::Bent(arc) => {
+        RealShape::Plain(Shape::Filled(_)) => line.push_str("an area")?,
+        RealShape::ArcDraw(arc) => {
             let Arc {
                 centre: c,
                 start: s,

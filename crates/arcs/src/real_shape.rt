@@ -1,6 +1,6 @@
 //! Pieces of a board that may have arc draws.
 
-use arcs::Arc;
+use crate::Arc;
 use board_shapes::{Placed, Shape};
 
 /// A figure of ours, or an arc draw with a round pen.
