@@ -1,7 +1,7 @@
 //! Laws over the outcomes. Their calls do nothing.
 ghost use Rattle.boardnet.specs.FilesAgree.{FilesAgree, OutcomesAgree};
 ghost use Rattle.boardnet.specs.Laws.{FirstReportsAreShort, ReportsPass, RightVerdictsAreSmall, WrittenNetlistsPass};
-ghost use Rattle.boardnet.specs.MadeFiles.{MadeHolesAreRead, MadePointsAreRead};
+ghost use Rattle.boardnet.specs.MadeFiles.{MadeCopperIsRead, MadeHolesAreRead, MadePointsAreRead};
 ghost use Rattle.boardnet.specs.OneOutcome.{OneHandedOutcome, OneOutcome};
 
 use board_package::laws as packages;
@@ -89,4 +89,10 @@ pub fn made_holes_are_read()
 /// The netlist of every made board of at most 10,000 cells is read, as the three points and the name of each cell.
 pub fn made_points_are_read()
     ensures { MadePointsAreRead }
+{}
+
+/// Both copper files of every made board of at most 10,000 cells are read where there is room for three pieces and four edges a
+/// cell, as the pads and the tracks of each cell.
+pub fn made_copper_is_read()
+    ensures { MadeCopperIsRead }
 {}
