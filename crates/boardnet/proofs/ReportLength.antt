@@ -1,5 +1,5 @@
 -- The report of version 1 that `check` writes can be taken as a file.
-use Rattle.std.proofs.Common.{◌≡◌, ◌<◌, ◌≤◌, ℕ, List, [], ◌∷◌, length, map, All, sym, ap, subst, ◌∙◌, arith}
+use Rattle.std.proofs.Common.{◌≤◌, ℕ, List, [], ◌∷◌, length, map, All, sym, ap, subst, arith}
 use Rattle.std.proofs.lemmas.List.{length-map}
 use Rattle.std.proofs.lemmas.List.Elements.{All-from_recursion, recursion_from_All}
 use Rattle.std.specs.List.{AllByRecursion}
@@ -13,12 +13,9 @@ use Rattle.board_package.specs.declared.entry.Role.TheVariants as role
 use Rattle.board_shapes.specs.Lawful.{IsProbe}
 use Rattle.board_shapes.specs.Plain.{PlainBoard}
 use Rattle.board_shapes.specs.Tables.{IsTables, point_of}
-use Rattle.board_shapes.specs.declared.TheConstants.{MOST_LAYERS, MOST_PIECES}
 use Rattle.board_shapes.specs.declared.probe.Probe.{Probe}
 use Rattle.boardnet.proofs.SmallNetlists.{IsCounted, IsSmallNetlist, small_netlist}
-use Rattle.boardnet.proofs.SmallParts.{all_mapped}
 use Rattle.boardnet.specs.Laws.{FirstReportsAreShort, IsSmallBoard, IsSmallPoint, RightVerdictsAreSmall}
-use Rattle.ipc356_records.specs.declared.TheConstants.{MOST_RECORDS}
 use Rattle.tables.specs.Tables.{Tables, TestPoint}
 use Rattle.verdict.specs.Laws.{ReportsAreShort}
 use Rattle.verdict.specs.Limits.{IsRecordName, most_bytes}

@@ -1,11 +1,16 @@
 -- What the files of a made package are read as.
-use Rattle.std.specs.Prelude.{ℕ, zero, suc, ◌+◌, ◌*◌, ◌≤◌, List, [], ◌∷◌, ◌++◌, pos, decimal}
-use Rattle.board_maker.specs.MadeBoard.{column, part_text, row}
-use Rattle.board_maker.specs.declared.files.Part.TheVariants.{Holes, Points}
-use Rattle.board_shapes.specs.Plain.{PlainPiece, round}
-use Rattle.planar.specs.declared.Spot.{Spot}
+use Rattle.std.specs.Prelude.{◌≡◌, ℕ, zero, suc, ◌+◌, ◌*◌, ◌≤◌, if◌then◌else◌, List, [], ◌∷◌, ◌++◌, map, pos, decimal}
+use Rattle.board_maker.specs.MadeBoard.{column, is_bridged, is_broken, part_text, row}
+use Rattle.board_maker.specs.declared.files.Part.{Part}
+use Rattle.board_maker.specs.declared.files.Part.TheVariants.{Top, Bottom, Holes, Points}
+use Rattle.board_shapes.specs.Figures.{Figure, filled, round}
+use Rattle.board_shapes.specs.Pieces.{PlainPiece}
+use Rattle.board_shapes.specs.Rectangles.{lower, rectangle, upper}
 use Rattle.board_shapes.specs.declared.probe.Probe.{Probe}
+use Rattle.gerber_layer.specs.CommandEffects.{Place as LayerPlace}
+use Rattle.gerber_layer.specs.Layer as layer_file
 use Rattle.ipc356_records.specs.NetlistFile as netlist_file
+use Rattle.planar.specs.declared.Spot.{Spot}
 use Rattle.xnc.specs.DrillFile as drill_file
 use Rattle.xnc.specs.FaultPlace.{Place}
 
@@ -53,3 +58,48 @@ names (suc i) = names i ++ cell_name i ∷ []
 -- The netlist of a made board is read, as the points and the name of each cell.
 abbrev pub MadePointsAreRead : Type 0
 MadePointsAreRead = (seed size : ℕ) → size ≤ 10_000 → netlist_file.IsRead (part_text Points seed size) 2 (points size) (names size)
+
+-- ---- Copper
+
+-- the place of the next cell of its row
+abbrev pub next_to : ℕ → Spot
+next_to i = record { x = pos (25_000_000 * column i + 25_000_000); y = pos (25_000_000 * row i) }
+
+-- a round pad of 1 mm, a square one of 0.8 mm, and a track of 0.2 mm
+abbrev pub round_pad : Spot → Figure
+round_pad at = round (record { a = at; b = at; r = pos 5_000_000 })
+
+abbrev pub square_pad : Spot → Figure
+square_pad at = filled (rectangle (lower at 8_000_000 8_000_000) (upper at 8_000_000 8_000_000))
+
+abbrev pub track_between : Spot → Spot → Figure
+track_between from to = round (record { a = from; b = to; r = pos 1_000_000 })
+
+-- the copper of a cell: the round pad on both layers; on top the square pad, and the track to it where that is not missing; at
+-- the bottom the track to the next cell where the cell is bridged
+abbrev pub copper_of : Part → ℕ → ℕ → ℕ → List Figure
+copper_of Top seed size i = round_pad (cell_at i) ∷ square_pad (beside i) ∷ (if is_broken seed i then [] else track_between (cell_at i) (beside i) ∷ [])
+copper_of Bottom seed size i = round_pad (cell_at i) ∷ (if is_bridged seed size i then track_between (cell_at i) (next_to i) ∷ [] else [])
+copper_of Holes seed size i = []
+copper_of Points seed size i = []
+
+-- the copper of the cells from 0 up to a number of them
+abbrev pub copper : Part → ℕ → ℕ → ℕ → List Figure
+copper part seed size zero = []
+copper part seed size (suc i) = copper part seed size i ++ copper_of part seed size i
+
+-- the file is read as pieces with these figures
+pub record IsReadAs (file : List ℕ) (p : LayerPlace) (figures : List Figure) : Type 0 where
+  pub pieces : List PlainPiece
+  pub read : layer_file.IsRead file p pieces
+  pub are : map (λ piece. piece.figure) pieces ≡ figures
+
+-- where there is room for three pieces and four edges a cell
+pub record HasRoom (size : ℕ) (p : LayerPlace) : Type 0 where
+  pub pieces : 3 * size ≤ p.room.pieces
+  pub edges : 4 * size ≤ p.room.edges
+
+-- The copper files of a made board are read, as the copper of each cell.
+pub record MadeCopperIsRead : Type 0 where
+  pub top : (seed size : ℕ) (p : LayerPlace) → size ≤ 10_000 → HasRoom size p → IsReadAs (part_text Top seed size) p (copper Top seed size size)
+  pub bottom : (seed size : ℕ) (p : LayerPlace) → size ≤ 10_000 → HasRoom size p → IsReadAs (part_text Bottom seed size) p (copper Bottom seed size size)
