@@ -23,7 +23,7 @@ ELSEWHERE = {
     "tools/test": "this very command",
 }
 # The statuses of lines that do not end with 0 on the example: the names of its copper are not those of its netlist.
-STATUSES = {"boardnet x2": 1}
+STATUSES = {}
 COMMAND = re.compile(r"(?:boardnet(?!:)|\./boardnet|tools/\w+|benches/\w+|bash|find|rt|kicad-cli)(?: |$)")
 INLINE = re.compile(r"`([^`\n]+)`")
 # What a page names as a file or folder of ours; the ending of a definition or a proof may be left out.
