@@ -184,7 +184,7 @@ class Lines(common.Case):
             with self.subTest(folder=folder, lines=lines):
                 status, _, notes = self.run_words(["sh", "-c", shown], here, environment={"PATH": path})
                 self.assertEqual(str(status), re.match(r"\d+", end)[0], notes)
-        self.assertEqual({folder for *_, folder, _, _ in rows}, {f"`{name}`" for name in os.listdir(common.EXAMPLES) if "." not in name})
+        self.assertEqual({folder for *_, folder, _, _ in rows}, {f"`{name}`" for name in common.examples()})
 
     def test_toolchain_has_its_commands(self):
         if not shutil.which("rt"):
