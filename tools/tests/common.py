@@ -10,6 +10,11 @@ TOP = os.path.dirname(TOOLS)
 EXAMPLES = os.path.join(TOP, "examples")
 
 
+def examples():
+    """The names of the examples, each a folder."""
+    return sorted(it.name for it in os.scandir(EXAMPLES) if it.is_dir())
+
+
 def program():
     """The built program; a test that wants it is skipped where there is none."""
     for path in (os.environ.get("BOARDNET"), os.path.join(TOP, "crates", "boardnet", "out", "boardnet")):

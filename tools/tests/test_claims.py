@@ -1,4 +1,5 @@
 """Tries docs/CLAIMS.md: that it has each clause of the top call and names no other, and that its laws are there."""
+import glob
 import os
 import re
 import unittest
@@ -36,6 +37,12 @@ class Claims(unittest.TestCase):
         told = {name for head in ("Clause", "Law") for first, *_ in rows(head) for name in NAME.findall(first)}
         named = {name for cited in re.findall(r"\((`[^)]*)\)", said) for name in NAME.findall(cited)}
         self.assertTrue(named and named <= told, named - told)
+
+    def test_edits(self):
+        edits = {os.path.basename(path)[:-len(".edit")] for path in glob.glob(os.path.join(common.TOP, "crates", "*", "must-fail", "*.edit"))}
+        for cells in rows("Clause") + rows("Law"):
+            named = {name for name in NAME.findall(cells[-1]) if "_" in name}
+            self.assertTrue(named <= edits, named - edits)
 
     def test_laws(self):
         before = []

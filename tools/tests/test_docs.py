@@ -22,8 +22,6 @@ ELSEWHERE = {
     "rt ": "the toolchain",
     "tools/test": "this very command",
 }
-# The statuses of lines that do not end with 0 on the example: the names of its copper are not those of its netlist.
-STATUSES = {"boardnet x2": 1}
 COMMAND = re.compile(r"(?:boardnet(?!:)|\./boardnet|tools/\w+|benches/\w+|bash|find|rt|kicad-cli)(?: |$)")
 INLINE = re.compile(r"`([^`\n]+)`")
 # What a page names as a file or folder of ours; the ending of a definition or a proof may be left out.
@@ -173,7 +171,20 @@ class Lines(common.Case):
                     continue
                 with self.subTest(page=name, line=line):
                     status, _, notes = self.run_words(["sh", "-c", line], here, environment={"PATH": path})
-                    self.assertEqual(status, next((it for head, it in STATUSES.items() if line.startswith(head)), 0), notes)
+                    self.assertEqual(status, 0, notes)
+
+    def test_examples(self):
+        """Each row of the examples' page ends with its status: its lines in a copy of its folder, or `show` on that."""
+        path = os.pathsep.join([os.path.dirname(self.put_command(common.program())), os.environ["PATH"]])
+        rows = [row.split(" | ") for row in re.findall(r"(?m)^\| (.* \| \d.*) \|$", read("examples/README.md"))]
+        for number, (*_, folder, words, end) in enumerate(rows):
+            lines = words.strip("`") if words.startswith("`") else ":"
+            here = self.example(folder.strip("`"), f"example{number}")
+            shown = lines if "boardnet" in lines else f"{lines}; boardnet show ."
+            with self.subTest(folder=folder, lines=lines):
+                status, _, notes = self.run_words(["sh", "-c", shown], here, environment={"PATH": path})
+                self.assertEqual(str(status), re.match(r"\d+", end)[0], notes)
+        self.assertEqual({folder for *_, folder, _, _ in rows}, {f"`{name}`" for name in common.examples()})
 
     def test_toolchain_has_its_commands(self):
         if not shutil.which("rt"):

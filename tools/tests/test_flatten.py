@@ -33,7 +33,7 @@ class Flattened(common.Case):
         self.assertEqual(self.run_words([self.program, "check", "flat.json", "1"], folder), plain)
 
     def test_examples(self):
-        for name in sorted(os.listdir(common.EXAMPLES)):
+        for name in common.examples():
             with self.subTest(name):
                 self.compare(self.example(name, name))
 

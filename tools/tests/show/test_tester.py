@@ -148,7 +148,7 @@ class Netlists(made.Case):
     def test_examples(self):
         """The netlist of each example agrees with it, also where its own netlist does not."""
         program = made.built()
-        for name in sorted(os.listdir(common.EXAMPLES)) if program else ():
+        for name in common.examples() if program else ():
             with self.subTest(name=name):
                 self.example(name, name)
                 self.show(name, "--ipc", f"{name}.ipc", program=program)
