@@ -12,6 +12,7 @@ from functools import cmp_to_key
 from .exact import Refused
 from .strands import crossing, slope, straight, toggled
 from .swaps import Swap
+from .upright import WIDE, boxed, dark_parts, ends
 
 MOST_BUNDLES = 300_000
 MOST_WALLS = 24         # strands of a bundle whose orders are looked at
@@ -27,18 +28,33 @@ def straighten(sweep, y):
             while status[i] is not a:
                 i += 1
             found.append([i, i + 2])
-    sweep.seeds, before = [], None
+    sweep.seeds = []
+    found = together(found, lambda i, j: widened(status, i, j, y + 1))
+    swaps, before = plain(sweep, y, found), None
     while found != before:
-        before, found = found, merged([widened(status, i, j, y + 1) for i, j in sorted(found)])
-    swaps, often = [], Counter(piece for i, j in found for piece in pieces(status[i:j]))
+        before = found
+        found = together(found, lambda i, j: boxed(status, i, j, y) if i not in swaps and is_wide(status[i:j], y) else widened(status, i, j, y + 1))
+        swaps = plain(sweep, y, found)
     for i, j in reversed(found):
-        swap = Swap(sweep, y, i) if j - i == 2 and all(often[piece] == 1 for piece in pieces(status[i:j])) else None
-        if swap and swap.is_plain():
-            swaps.append(swap)
-        else:
+        if i not in swaps:
             bundle(sweep, y, i, j)
-    for swap in swaps:
+    for swap in swaps.values():
         swap.make()
+
+
+def together(found, widen):
+    """Ranges of strands, each with what it wants beside it."""
+    before = None
+    while found != before:
+        before, found = found, merged([widen(i, j) for i, j in sorted(found)])
+    return found
+
+
+def plain(sweep, y, found):
+    """The ranges of two strands that change places, by where they begin."""
+    often = Counter(piece for i, j in found for piece in pieces(sweep.status[i:j]))
+    pairs = [Swap(sweep, y, i) for i, j in found if j - i == 2 and all(often[piece] == 1 for piece in pieces(sweep.status[i:j]))]
+    return {swap.i: swap for swap in pairs if swap.is_plain()}
 
 
 def pieces(strands):
@@ -75,12 +91,7 @@ def bundle(sweep, y, i, j):
     if sweep.count > MOST_BUNDLES:
         raise Refused("too many borders that cross")
     old, left = sweep.status[i:j], sweep.status[i - 1].cover if i else ()
-    ends = [e.at(y + 1) for e in old]
-    walls, states = columns(sweep, left, old, y)
-    new = [straight((old[0].at(y), y), (min(ends), y + 1)), *(straight((e.at(y), y), (e.at(y + 1), y + 1)) for e in walls)]
-    for e, its in zip(new, states):
-        e.cover = DARK if its == {True} or len(its) == 2 and sweep.upper else CLEAR
-    new.append(straight((old[-1].at(y), y), (max(ends), y + 1)))
+    new = (boxes if is_wide(old, y) else chords)(sweep, left, old, y)
     new[-1].cover = old[-1].cover
     below = sweep.below(y, old)
     sweep.put(i, j, new)
@@ -88,7 +99,32 @@ def bundle(sweep, y, i, j):
     sweep.note(y + 1, new[0].x2)
     sweep.spans.setdefault(y + 1, []).append((new[0].x2, new[-1].x2))
     sweep.unders.setdefault(y + 1, []).extend(under(left, old, y + 1))
-    sweep.back.setdefault(y + 1, []).extend((x, e) for x, e in zip(ends, old) if e.y2 > y + 1)
+    sweep.back.setdefault(y + 1, []).extend((e.at(y + 1), e) for e in old if e.y2 > y + 1)
+
+
+def chords(sweep, left, old, y):
+    """Chords beyond all strands, and the walls between them."""
+    tops = [e.at(y + 1) for e in old]
+    walls, states = columns(sweep, left, old, y)
+    new = [straight((old[0].at(y), y), (min(tops), y + 1)), *(straight((e.at(y), y), (e.at(y + 1), y + 1)) for e in walls)]
+    for e, its in zip(new, states):
+        e.cover = DARK if its == {True} or len(its) == 2 and sweep.upper else CLEAR
+    return [*new, straight((old[-1].at(y), y), (max(tops), y + 1))]
+
+
+def boxes(sweep, left, old, y):
+    """The ends of a box, and upright walls at those of its dark parts."""
+    parts = dark_parts(sweep, left, old, y)
+    starts = {a for a, _ in parts}
+    new = [straight((x, y), (x, y + 1)) for x in sorted({*ends(old, y), *(x for part in parts for x in part)})]
+    for e in new:
+        e.cover = DARK if e.x1 in starts else CLEAR
+    return new
+
+
+def is_wide(strands, y):
+    low, high = ends(strands, y)
+    return high - low > WIDE
 
 
 def under(left, old, top):

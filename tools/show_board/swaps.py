@@ -15,7 +15,7 @@ class Swap:
     """`a` is left of `b` at a line and right of it a unit above."""
 
     def __init__(self, sweep, y, i):
-        self.sweep, self.runs, self.y = sweep, sweep.runs, y
+        self.sweep, self.runs, self.y, self.i = sweep, sweep.runs, y, i
         self.a, self.b = a, b = sweep.status[i:i + 2]
         self.left, self.under, self.right = sweep.status[i - 1].cover if i else (), a.cover, b.cover
         self.over = toggled(self.left, b.item)
