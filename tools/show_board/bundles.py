@@ -24,16 +24,15 @@ def straighten(sweep, y):
     status, found = sweep.status, []
     for a, b in sweep.seeds:
         if a.active and a.after is b:
-            i = sweep.find(y, a.at(y))
-            while status[i] is not a:
-                i += 1
+            i = sweep.place_of(a, y)
             found.append([i, i + 2])
     sweep.seeds = []
-    found = together(found, lambda i, j: widened(status, i, j, y + 1))
+    chord = lambda i, j: widened(status, i, j, y + 1)
+    found = together(sorted(found), chord)
     swaps, before = plain(sweep, y, found), None
-    while found != before:
+    while found != before and any(i not in swaps and is_wide(status[i:j], y) for i, j in found):
         before = found
-        found = together(found, lambda i, j: boxed(status, i, j, y) if i not in swaps and is_wide(status[i:j], y) else widened(status, i, j, y + 1))
+        found = together(found, lambda i, j: boxed(status, i, j, y) if i not in swaps and is_wide(status[i:j], y) else chord(i, j))
         swaps = plain(sweep, y, found)
     for i, j in reversed(found):
         if i not in swaps:
@@ -44,10 +43,11 @@ def straighten(sweep, y):
 
 def together(found, widen):
     """Ranges of strands, each with what it wants beside it."""
-    before = None
-    while found != before:
-        before, found = found, merged([widen(i, j) for i, j in sorted(found)])
-    return found
+    while True:
+        wider = merged([widen(i, j) for i, j in found])
+        if wider == found:
+            return found
+        found = wider
 
 
 def plain(sweep, y, found):
@@ -65,12 +65,10 @@ def widened(status, i, j, top):
     """With the neighbours that cross one of them; and where they are a unit above."""
     xs = [e.at(top) for e in status[i:j]]
     low, high = min(xs), max(xs)
-    while i and status[i - 1].at(top) > low:
-        i -= 1
-        low, high = min(low, status[i].at(top)), max(high, status[i].at(top))
-    while j < len(status) and status[j].at(top) < high:
-        low, high = min(low, status[j].at(top)), max(high, status[j].at(top))
-        j += 1
+    while i and status[i - 1].high > low and (x := status[i - 1].at(top)) > low:
+        i, low, high = i - 1, min(low, x), max(high, x)
+    while j < len(status) and status[j].low < high and (x := status[j].at(top)) < high:
+        j, low, high = j + 1, min(low, x), max(high, x)
     return i, j, low, high
 
 

@@ -35,9 +35,7 @@ class Swap:
 
     def make(self):
         sweep, a, b = self.sweep, self.a, self.b
-        i = sweep.find(self.y, a.at(self.y))
-        while sweep.status[i] is not a:
-            i += 1
+        i = sweep.place_of(a, self.y)
         count, (left, under, over, right) = sum(self.dark), self.dark
         if count in (1, 3):
             is_chord, off = (count == 1) != sweep.upper, sweep.off

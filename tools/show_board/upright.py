@@ -8,7 +8,7 @@ from bisect import bisect_right
 from fractions import Fraction as Q
 from itertools import groupby
 
-from .strands import crossing, toggled
+from .strands import crossing, place, toggled
 
 WIDE = 5_000            # u: in a narrower box what is wrong is so at most that far
 MOST_MEETS = 400_000    # strands beside each other that are looked at in one box
@@ -114,7 +114,7 @@ def hairs(sweep, rows, xs, made):
             items.setdefault(row.foot, []).append(row.e.item)
     for k, x in enumerate(xs):
         if x in items and is_hair(sweep, made[k], made[k + 1], x, items[x]):
-            yield max(xs[0], x - 1), min(xs[-1], x + 1)
+            yield max(xs[0], place(x - 1)), min(xs[-1], place(x + 1))
 
 
 def dark_parts(sweep, left, old, y):
