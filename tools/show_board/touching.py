@@ -17,12 +17,7 @@ class Touching:
 
     def __init__(self, shapes, spans):
         self.shapes, self.spans = shapes, spans
-        self.edges, self.trees, self.boxes = {}, {}, {}
-
-    def box(self, piece):
-        if piece not in self.boxes:
-            self.boxes[piece] = self.shapes.box(piece)
-        return self.boxes[piece]
+        self.edges, self.trees, self.box = {}, {}, shapes.box
 
     def lines(self, piece):
         """The lines of a piece: one of a capsule, the edges of an area."""
