@@ -43,6 +43,17 @@ class Shapes:
             self.y.append(y)
         self.start.append(len(self.x))
 
+    def add_area(self, xs, ys):
+        self.radius.append(AREA)
+        self.x.fromlist(xs)
+        self.y.fromlist(ys)
+        self.start.append(len(self.x))
+
+    def has(self, piece, others, other):
+        """Whether a piece is the same as one of other shapes."""
+        mine, its = slice(self.start[piece], self.start[piece + 1]), slice(others.start[other], others.start[other + 1])
+        return self.radius[piece] == others.radius[other] and self.x[mine] == others.x[its] and self.y[mine] == others.y[its]
+
     def is_area(self, piece):
         return self.radius[piece] == AREA
 
@@ -94,8 +105,8 @@ class Flat:
         strokes, picked, defined, size = found.groups()
         if strokes:
             values = numbers(strokes)
-            for here, there in zip(zip(values[::6], values[1::6]), zip(values[3::6], values[4::6])):
-                self.shapes.add(self.radius, [here] if here == there else [here, there])
+            for x, y, x2, y2 in zip(values[::6], values[1::6], values[3::6], values[4::6]):
+                self.shapes.add(self.radius, ((x, y),) if x == x2 and y == y2 else ((x, y), (x2, y2)))
         elif picked:
             self.radius = self.diameters[picked] // 2
         elif defined:
@@ -109,7 +120,7 @@ class Flat:
             raise BadCopper(NOT_NORMAL)
         values = numbers(words)
         # The last corner is the first.
-        self.shapes.add(AREA, zip(values[-3:-2] + values[3:-3:3], values[-2:-1] + values[4:-3:3]))
+        self.shapes.add_area(values[-3:-2] + values[3:-3:3], values[-2:-1] + values[4:-3:3])
         return end + len(REGION_END)
 
 
