@@ -3,7 +3,8 @@
 The strands of a bundle are some that lie side by side, and none of them crosses another. The greatest of straight lines bends
 outwards, so its chord lies beyond all of them, and the least likewise. Strands of the bundle that do not cross each other cut it
 into columns. One is dark or clear where it is that at every height, by all orders that the strands have on the way; where both occur
-it is clear for LOWER and dark for UPPER. So what is wrong is a unit high, but may be as wide as the most level strand goes in a unit.
+it is clear for LOWER and dark for UPPER. So what is wrong is a unit high, and as wide as the most level strand goes in a unit: where that
+is far, upright columns stand there instead (upright).
 """
 from collections import Counter
 from fractions import Fraction as Q

@@ -59,6 +59,8 @@ class Shapes:
 
     def places(self, piece):
         first, end = self.start[piece], self.start[piece + 1]
+        if end - first == 1:
+            return [(self.x[first], self.y[first])]
         return list(zip(self.x[first:end], self.y[first:end]))
 
     def first(self, piece):

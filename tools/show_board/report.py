@@ -66,12 +66,15 @@ class Report:
         return columns[1:]
 
     def read_net(self):
-        _, number, *twigs = next(self.rows).split(" ")
-        for twig in twigs:
-            piece, _, parent = twig.partition(":")
-            self.net_of[int(piece)] = int(number)
-            if parent:
-                self.parent[int(piece)] = int(parent)
+        _, number, first, *twigs = next(self.rows).split(" ")
+        number, its = int(number), [*map(int, ":".join(twigs).split(":"))] if twigs else []
+        if ":" in first or len(its) != 2 * len(twigs):      # the one without a parent is not the first
+            parts = [(twig if ":" in twig else f"{twig}:-1").split(":") for twig in [first, *twigs]]
+            its = [int(part) for piece, parent in parts for part in (piece, parent)]
+        else:
+            self.net_of[int(first)] = number
+        for piece, parent in zip(its[::2], its[1::2]):
+            self.net_of[piece], self.parent[piece] = number, parent
 
     def short(self):
         net, count = self.numbers("short")
