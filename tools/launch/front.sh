@@ -177,12 +177,12 @@ is_tool() {
 # Whether a tool runs the program.
 needs_program() { [ "$1" = show ] && [ -z "${BOARDNET-}" ]; }
 
-# Runs a tool with Python, which alone wants it.
+# Runs a tool with Python, which alone wants it; nothing but its own library, so that it starts sooner.
 tool() {
   command -v python3 >/dev/null 2>&1 || { say "\`boardnet $1\` wants Python 3.8 or later, and there is no python3 on the PATH"; exit 127; }
   tool=$home/$1
   shift
-  exec python3 "$tool" "$@"
+  exec python3 -S "$tool" "$@"
 }
 
 # Judges the words.

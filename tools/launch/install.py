@@ -9,6 +9,7 @@ import sys
 
 sys.dont_write_bytecode = True
 sys.path.insert(0, os.path.dirname(os.path.abspath(__file__)))
+import compiled  # noqa: E402
 import kept  # noqa: E402
 import texts  # noqa: E402
 
@@ -49,6 +50,8 @@ def files(top):
     found = {"lib/boardnet/boardnet": (read(kept.program_of(top))[0], 0o755)}
     for name in tools_of(top):
         found[f"lib/boardnet/{name}"] = read(os.path.join(top, "tools", name))
+    modules = [name for name in tools_of(top) if name.endswith(".py")]
+    found.update((f"lib/boardnet/{name}", (data, 0o644)) for name, data in compiled.of_sources(os.path.join(top, "tools"), modules).items())
     told = subprocess.run([os.path.join(top, "boardnet"), "--version"], stdout=subprocess.PIPE, check=True).stdout
     made = {
         "lib/boardnet/version": told,

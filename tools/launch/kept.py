@@ -11,6 +11,8 @@ import tempfile
 import time
 from typing import NamedTuple
 
+import compiled
+
 # So many programs are kept.
 MOST = 4
 
@@ -58,12 +60,8 @@ def program_of(top):
     return os.path.join(top, "crates", "boardnet", "out", "boardnet")
 
 
-def base():
-    return os.environ.get("XDG_CACHE_HOME") or os.path.join(os.path.expanduser("~"), ".cache")
-
-
 def place():
-    return os.path.join(base(), "boardnet")
+    return os.path.join(compiled.base(), "boardnet")
 
 
 def count_as_new(top):

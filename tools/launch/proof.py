@@ -12,6 +12,7 @@ import re
 import shutil
 import tempfile
 
+import compiled
 import kept
 import order
 from children import Child, end_inside
@@ -75,8 +76,8 @@ class Room:
 def base():
     """Where the user's kept files are, or where scratch files are where there is no writing there."""
     with contextlib.suppress(OSError):
-        os.makedirs(kept.base(), exist_ok=True)
-    return kept.base() if os.access(kept.base(), os.W_OK) else tempfile.gettempdir()
+        os.makedirs(compiled.base(), exist_ok=True)
+    return compiled.base() if os.access(compiled.base(), os.W_OK) else tempfile.gettempdir()
 
 
 class Proof:

@@ -1,6 +1,5 @@
 """Zip archives: their files, written flat to a folder beside the archive."""
 import os
-import zipfile
 
 from . import MOST_BYTES, Refused, shown
 
@@ -24,6 +23,7 @@ def files_of(archive):
 
 def extract(path, folder):
     """Writes the archive's files to a new folder."""
+    import zipfile          # most boards come in no archive, and loading takes long
     try:
         with zipfile.ZipFile(path) as archive:
             found = files_of(archive)

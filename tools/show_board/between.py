@@ -80,9 +80,10 @@ def wider(low, high):
         for piece, source in enumerate(board.report.sources):
             by_key[tuple(source[:3])].append(piece)
     for key, pieces in above.items():
-        layer = high.report.sources[pieces[0]][3]
-        if high.report.sources[pieces[0]][4] == layer:
-            found += [(layer, corners) for corners in beyond([shape(low.shapes, p) for p in below[key]], [shape(high.shapes, p) for p in pieces])]
+        layer, ours = high.report.sources[pieces[0]][3], below[key]
+        is_same = len(ours) == len(pieces) and all(low.shapes.has(p, high.shapes, q) for p, q in zip(ours, pieces))
+        if not is_same and high.report.sources[pieces[0]][4] == layer:
+            found += [(layer, corners) for corners in beyond([shape(low.shapes, p) for p in ours], [shape(high.shapes, p) for p in pieces])]
     return found
 
 

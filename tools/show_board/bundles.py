@@ -3,7 +3,8 @@
 The strands of a bundle are some that lie side by side, and none of them crosses another. The greatest of straight lines bends
 outwards, so its chord lies beyond all of them, and the least likewise. Strands of the bundle that do not cross each other cut it
 into columns. One is dark or clear where it is that at every height, by all orders that the strands have on the way; where both occur
-it is clear for LOWER and dark for UPPER. So what is wrong is a unit high, but may be as wide as the most level strand goes in a unit.
+it is clear for LOWER and dark for UPPER. So what is wrong is a unit high, and as wide as the most level strand goes in a unit: where that
+is far, upright columns stand there instead (upright).
 """
 from collections import Counter
 from fractions import Fraction as Q
@@ -12,6 +13,7 @@ from functools import cmp_to_key
 from .exact import Refused
 from .strands import crossing, slope, straight, toggled
 from .swaps import Swap
+from .upright import WIDE, boxed, dark_parts, ends
 
 MOST_BUNDLES = 300_000
 MOST_WALLS = 24         # strands of a bundle whose orders are looked at
@@ -23,22 +25,37 @@ def straighten(sweep, y):
     status, found = sweep.status, []
     for a, b in sweep.seeds:
         if a.active and a.after is b:
-            i = sweep.find(y, a.at(y))
-            while status[i] is not a:
-                i += 1
+            i = sweep.place_of(a, y)
             found.append([i, i + 2])
-    sweep.seeds, before = [], None
-    while found != before:
-        before, found = found, merged([widened(status, i, j, y + 1) for i, j in sorted(found)])
-    swaps, often = [], Counter(piece for i, j in found for piece in pieces(status[i:j]))
+    sweep.seeds = []
+    chord = lambda i, j: widened(status, i, j, y + 1)
+    found = together(sorted(found), chord)
+    swaps, before = plain(sweep, y, found), None
+    while found != before and any(i not in swaps and is_wide(status[i:j], y) for i, j in found):
+        before = found
+        found = together(found, lambda i, j: boxed(status, i, j, y) if i not in swaps and is_wide(status[i:j], y) else chord(i, j))
+        swaps = plain(sweep, y, found)
     for i, j in reversed(found):
-        swap = Swap(sweep, y, i) if j - i == 2 and all(often[piece] == 1 for piece in pieces(status[i:j])) else None
-        if swap and swap.is_plain():
-            swaps.append(swap)
-        else:
+        if i not in swaps:
             bundle(sweep, y, i, j)
-    for swap in swaps:
+    for swap in swaps.values():
         swap.make()
+
+
+def together(found, widen):
+    """Ranges of strands, each with what it wants beside it."""
+    while True:
+        wider = merged([widen(i, j) for i, j in found])
+        if wider == found:
+            return found
+        found = wider
+
+
+def plain(sweep, y, found):
+    """The ranges of two strands that change places, by where they begin."""
+    often = Counter(piece for i, j in found for piece in pieces(sweep.status[i:j]))
+    pairs = [Swap(sweep, y, i) for i, j in found if j - i == 2 and all(often[piece] == 1 for piece in pieces(sweep.status[i:j]))]
+    return {swap.i: swap for swap in pairs if swap.is_plain()}
 
 
 def pieces(strands):
@@ -49,12 +66,10 @@ def widened(status, i, j, top):
     """With the neighbours that cross one of them; and where they are a unit above."""
     xs = [e.at(top) for e in status[i:j]]
     low, high = min(xs), max(xs)
-    while i and status[i - 1].at(top) > low:
-        i -= 1
-        low, high = min(low, status[i].at(top)), max(high, status[i].at(top))
-    while j < len(status) and status[j].at(top) < high:
-        low, high = min(low, status[j].at(top)), max(high, status[j].at(top))
-        j += 1
+    while i and status[i - 1].high > low and (x := status[i - 1].at(top)) > low:
+        i, low, high = i - 1, min(low, x), max(high, x)
+    while j < len(status) and status[j].low < high and (x := status[j].at(top)) < high:
+        j, low, high = j + 1, min(low, x), max(high, x)
     return i, j, low, high
 
 
@@ -75,12 +90,7 @@ def bundle(sweep, y, i, j):
     if sweep.count > MOST_BUNDLES:
         raise Refused("too many borders that cross")
     old, left = sweep.status[i:j], sweep.status[i - 1].cover if i else ()
-    ends = [e.at(y + 1) for e in old]
-    walls, states = columns(sweep, left, old, y)
-    new = [straight((old[0].at(y), y), (min(ends), y + 1)), *(straight((e.at(y), y), (e.at(y + 1), y + 1)) for e in walls)]
-    for e, its in zip(new, states):
-        e.cover = DARK if its == {True} or len(its) == 2 and sweep.upper else CLEAR
-    new.append(straight((old[-1].at(y), y), (max(ends), y + 1)))
+    new = (boxes if is_wide(old, y) else chords)(sweep, left, old, y)
     new[-1].cover = old[-1].cover
     below = sweep.below(y, old)
     sweep.put(i, j, new)
@@ -88,7 +98,32 @@ def bundle(sweep, y, i, j):
     sweep.note(y + 1, new[0].x2)
     sweep.spans.setdefault(y + 1, []).append((new[0].x2, new[-1].x2))
     sweep.unders.setdefault(y + 1, []).extend(under(left, old, y + 1))
-    sweep.back.setdefault(y + 1, []).extend((x, e) for x, e in zip(ends, old) if e.y2 > y + 1)
+    sweep.back.setdefault(y + 1, []).extend((e.at(y + 1), e) for e in old if e.y2 > y + 1)
+
+
+def chords(sweep, left, old, y):
+    """Chords beyond all strands, and the walls between them."""
+    tops = [e.at(y + 1) for e in old]
+    walls, states = columns(sweep, left, old, y)
+    new = [straight((old[0].at(y), y), (min(tops), y + 1)), *(straight((e.at(y), y), (e.at(y + 1), y + 1)) for e in walls)]
+    for e, its in zip(new, states):
+        e.cover = DARK if its == {True} or len(its) == 2 and sweep.upper else CLEAR
+    return [*new, straight((old[-1].at(y), y), (max(tops), y + 1))]
+
+
+def boxes(sweep, left, old, y):
+    """The ends of a box, and upright walls at those of its dark parts."""
+    parts = dark_parts(sweep, left, old, y)
+    starts = {a for a, _ in parts}
+    new = [straight((x, y), (x, y + 1)) for x in sorted({*ends(old, y), *(x for part in parts for x in part)})]
+    for e in new:
+        e.cover = DARK if e.x1 in starts else CLEAR
+    return new
+
+
+def is_wide(strands, y):
+    low, high = ends(strands, y)
+    return high - low > WIDE
 
 
 def under(left, old, top):

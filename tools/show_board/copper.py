@@ -11,9 +11,13 @@ MM, INCH = 10_000_000, 254_000_000
 TOOL = re.compile(rb"T([0-9]+)C([0-9.+-]+)")
 PICK = re.compile(rb"T([0-9]+)")
 PLACE = re.compile(rb"(?:G0[01])?(?:X([0-9.+-]+))?(?:Y([0-9.+-]+))?")
-# A stroke, most of what there is, and each other word.
-FLAT = re.compile(rb"\s*(?:X(-?[0-9]+)Y(-?[0-9]+)D02\*\nX(-?[0-9]+)Y(-?[0-9]+)D01\*|X(-?[0-9]+)Y(-?[0-9]+)D0([12])\*|"
-                  rb"%ADD([0-9]+)C,([0-9.]+)\*%|D([0-9]+)\*|(G36|G37|M02|%FSLAX47Y47|%MOMM)\*%?)")
+# Of the normal form: strokes, a choice, a definition, and the other words; the corners of a region.
+PART = re.compile(rb"((?:X-?[0-9]+Y-?[0-9]+D02\*\nX-?[0-9]+Y-?[0-9]+D01\*\n){1,500})|D([0-9]+)\*\n|%ADD([0-9]+)C,([0-9.]+)\*%\n|"
+                  rb"(?:M02\*|%FSLAX47Y47\*%|%MOMM\*%)\n")
+CORNER = re.compile(rb"X-?[0-9]+Y-?[0-9]+D0[12]\*\n")
+REGION, REGION_END = b"G36*\n", b"G37*\n"
+NUMBERS = bytes.maketrans(b"XYD*", b"    ")
+NOT_NORMAL = "the flattened copper is not in its normal form"
 AREA = -1
 
 
@@ -27,6 +31,7 @@ class Shapes:
     def __init__(self):
         self.radius, self.start = array("q"), array("q", [0])
         self.x, self.y = array("q"), array("q")
+        self.boxes = []
 
     def __len__(self):
         return len(self.radius)
@@ -38,11 +43,24 @@ class Shapes:
             self.y.append(y)
         self.start.append(len(self.x))
 
+    def add_area(self, xs, ys):
+        self.radius.append(AREA)
+        self.x.fromlist(xs)
+        self.y.fromlist(ys)
+        self.start.append(len(self.x))
+
+    def has(self, piece, others, other):
+        """Whether a piece is the same as one of other shapes."""
+        mine, its = slice(self.start[piece], self.start[piece + 1]), slice(others.start[other], others.start[other + 1])
+        return self.radius[piece] == others.radius[other] and self.x[mine] == others.x[its] and self.y[mine] == others.y[its]
+
     def is_area(self, piece):
         return self.radius[piece] == AREA
 
     def places(self, piece):
         first, end = self.start[piece], self.start[piece + 1]
+        if end - first == 1:
+            return [(self.x[first], self.y[first])]
         return list(zip(self.x[first:end], self.y[first:end]))
 
     def first(self, piece):
@@ -51,54 +69,66 @@ class Shapes:
 
     def box(self, piece):
         """The box round a piece: left, low, right, high."""
-        first, end, r = self.start[piece], self.start[piece + 1], max(self.radius[piece], 0)
-        xs, ys = self.x[first:end], self.y[first:end]
-        return min(xs) - r, min(ys) - r, max(xs) + r, max(ys) + r
+        if piece >= len(self.boxes):
+            self.boxes += self.boxes_from(len(self.boxes))
+        return self.boxes[piece]
+
+    def boxes_from(self, first):
+        """The boxes of all pieces from one on."""
+        found = []
+        for r, a, b in zip(self.radius[first:], self.start[first:], self.start[first + 1:]):
+            if b - a == 1:
+                x, y = self.x[a], self.y[a]
+                found.append((x - r, y - r, x + r, y + r))
+            else:
+                r, xs, ys = max(r, 0), self.x[a:b], self.y[a:b]
+                found.append((min(xs) - r, min(ys) - r, max(xs) + r, max(ys) + r))
+        return found
 
 
 class Flat:
     """Reads the normal form into shapes."""
 
     def __init__(self, shapes):
-        self.shapes, self.diameters = shapes, {}
-        self.radius = self.area = self.last = None
-
-    def place(self, x, y, operation):
-        here = int(x), int(y)
-        if operation == b"2":
-            self.last = here
-        elif self.area is not None:
-            self.area.append(here)
-        else:
-            self.shapes.add(self.radius, [self.last] if here == self.last else [self.last, here])
-
-    def word(self, found):
-        from_x, from_y, to_x, to_y, x, y, operation, defined, size, picked, other = found.groups()
-        if from_x:
-            self.place(from_x, from_y, b"2")
-            self.place(to_x, to_y, b"1")
-        elif operation:
-            self.place(x, y, operation)
-        elif defined:
-            self.diameters[defined] = int(Decimal(size.decode()) * MM)
-        elif picked:
-            self.radius = self.diameters[picked] // 2
-        elif other == b"G36":
-            self.area = []
-        elif other == b"G37":
-            # The last corner is the first.
-            self.shapes.add(AREA, self.area[-1:] + self.area[:-1])
-            self.area = None
+        self.shapes, self.diameters, self.radius = shapes, {}, None
 
     def read(self, text):
         at = 0
-        for found in FLAT.finditer(text):
-            if found.start() != at:
-                break
-            at = found.end()
-            self.word(found)
-        if text[at:].strip():
-            raise BadCopper("the flattened copper is not in its normal form")
+        while at < len(text):
+            at = self.region(text, at + len(REGION)) if text.startswith(REGION, at) else self.part(text, at)
+
+    def part(self, text, at):
+        """Reads what there is up to a place, which is returned."""
+        found = PART.match(text, at)
+        if not found:
+            if text[at:].strip():
+                raise BadCopper(NOT_NORMAL)
+            return len(text)
+        strokes, picked, defined, size = found.groups()
+        if strokes:
+            values = numbers(strokes)
+            for x, y, x2, y2 in zip(values[::6], values[1::6], values[3::6], values[4::6]):
+                self.shapes.add(self.radius, ((x, y),) if x == x2 and y == y2 else ((x, y), (x2, y2)))
+        elif picked:
+            self.radius = self.diameters[picked] // 2
+        elif defined:
+            self.diameters[defined] = int(Decimal(size.decode()) * MM)
+        return found.end()
+
+    def region(self, text, at):
+        end = text.find(REGION_END, at)
+        words = text[at:end]
+        if end < 0 or CORNER.sub(b"", words):
+            raise BadCopper(NOT_NORMAL)
+        values = numbers(words)
+        # The last corner is the first.
+        self.shapes.add_area(values[-3:-2] + values[3:-3:3], values[-2:-1] + values[4:-3:3])
+        return end + len(REGION_END)
+
+
+def numbers(words):
+    """x, y and code of each operation."""
+    return [*map(int, words.translate(NUMBERS).split())]
 
 
 def add_flat(shapes, text):
@@ -106,7 +136,7 @@ def add_flat(shapes, text):
     try:
         Flat(shapes).read(text)
     except (KeyError, TypeError, IndexError):
-        raise BadCopper("the flattened copper is not in its normal form") from None
+        raise BadCopper(NOT_NORMAL) from None
 
 
 class Drill:
@@ -174,9 +204,8 @@ def shapes_of(package, report, flatten):
 
 def must_fit(shapes, report):
     """Every piece's box meets its parent's: a cheap sign that shapes and report belong together."""
-    boxes = [shapes.box(piece) for piece in range(len(shapes))]
     for piece, parent in enumerate(report.parent):
         if parent >= 0:
-            a, b = boxes[piece], boxes[parent]
+            a, b = shapes.box(piece), shapes.box(parent)
             if a[0] > b[2] or b[0] > a[2] or a[1] > b[3] or b[1] > a[3]:
                 raise BadCopper(f"the shapes of pieces {parent} and {piece} do not touch, and the report says that they do")

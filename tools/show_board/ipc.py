@@ -110,7 +110,8 @@ class Row:
 
     def off(self, unit):
         """How far it is from the middle of the pad, squared, in u."""
-        return sum((v * unit - middle) ** 2 for v, middle in zip(self.at, self.place.middle))
+        x, y = self.place.middle
+        return (self.at.x * unit - x) ** 2 + (self.at.y * unit - y) ** 2
 
     def away(self, unit):
         """The same as a length, rounded up."""

@@ -69,13 +69,17 @@ class Walk:
 
     def __init__(self, text):
         self.objects, self.attributes, self.apertures, self.macros = [], Attributes(), {}, {}
-        self.scale = self.decimals = self.last = self.aperture = self.block = self.macro = None
+        self.scale = self.parts = self.last = self.aperture = self.block = self.macro = None
         self.place, self.clear, self.in_region, self.edges, self.region = (0, 0), False, False, 0, 0
-        for self.command, (extended, word, first) in enumerate(words_of(text), 1):
+        self.command = 0
+        for extended, word, first in words_of(text, True):
+            self.command += 1
             if extended:
                 self.extended(word, first)
-            else:
+            elif isinstance(word, str):
                 self.plain(word)
+            else:
+                self.run(word[::3], word[1::3], word[2::3])
 
     # ---- words
 
@@ -92,7 +96,7 @@ class Walk:
         elif word.startswith("SR"):
             self.steps(word)
         elif word.startswith("FS"):
-            self.decimals = int(word[-1])
+            self.parts = 10 ** int(word[-1])
         elif word in SCALES:
             self.scale = SCALES[word]
         elif word in ("LPC", "LPD"):
@@ -144,9 +148,8 @@ class Walk:
     # ---- operations
 
     def operation(self, _, x, y, i, j, code):
-        code = int(code) if code else self.last
-        before, self.last = self.place, code
-        self.place = tuple(int(v) * self.scale // 10 ** self.decimals if v else old for v, old in zip((x, y), before))
+        code = self.last = int(code) if code else self.last
+        self.place = (int(x) * self.scale // self.parts if x else self.place[0], int(y) * self.scale // self.parts if y else self.place[1])
         if self.in_region:
             if code == MOVE:
                 self.close()
@@ -156,6 +159,18 @@ class Walk:
             self.add("draw", 1)
         elif code == FLASH and self.aperture is not None:
             self.add("flash", self.aperture.count)
+
+    def run(self, xs, ys, codes):
+        """The words of a region by their numbers."""
+        first, before = self.command, 0
+        for k in [*(k for k, code in enumerate(codes) if code == MOVE), len(codes)]:
+            self.edges += k - before
+            if k < len(codes):
+                self.command, self.place = first + k, (xs[k] * self.scale // self.parts, ys[k] * self.scale // self.parts)
+                self.close()
+            before = k + 1
+        self.command, self.last = first + len(codes) - 1, codes[-1]
+        self.place = xs[-1] * self.scale // self.parts, ys[-1] * self.scale // self.parts
 
     def close(self):
         if self.edges:

@@ -1,9 +1,8 @@
 """A board's files in a scratch folder, from a folder, a zip archive or a manifest. Nothing is written beside the user's files."""
 import os
 import shutil
-import zipfile
 
-from manifest_files import Refused, archives
+from manifest_files import Refused
 from manifest_files import package as gathered
 
 from . import UNCLEAR, Stop, manifest
@@ -148,8 +147,16 @@ def of_folder(home, asked, scratch):
     return package
 
 
+def is_archive(path):
+    if not os.path.isfile(path):
+        return False
+    import zipfile          # most boards come in no archive, and loading takes long
+    return zipfile.is_zipfile(path)
+
+
 def unpacked(path, scratch):
     """The folder of a zip archive's files, in the scratch folder."""
+    from manifest_files import archives
     folder = os.path.join(scratch, "unpacked")
     archives.extract(path, folder)
     return folder
@@ -158,7 +165,7 @@ def unpacked(path, scratch):
 def opened(path, asked, scratch):
     """The package of a folder, a zip archive or a manifest."""
     try:
-        if os.path.isfile(path) and zipfile.is_zipfile(path):
+        if is_archive(path):
             package = opened(unpacked(path, scratch), asked, scratch)
             package.home = path
             return package

@@ -79,16 +79,16 @@ def other_unit(text):
 
 def flashes(package, index):
     """Centres of the flashes of a copper file, in u; none without one format and unit. Copies of blocks have no vote."""
-    text, at, found = text_of(package, package.manifest.copper[index]), [0, 0], set()
+    text, x, y, found = text_of(package, package.manifest.copper[index]), "0", "0", set()
     scale, decimals = GERBER_UNIT.search(text), FORMAT.search(text)
     if not scale or not decimals:
         return found
     step = Q(SCALES[scale[1] or scale[2]], 10 ** int(decimals[1]))
-    for x, y, operation in OPERATION.findall(text):
-        at = [int(x) if x else at[0], int(y) if y else at[1]]
+    for new_x, new_y, operation in OPERATION.findall(text):
+        x, y = new_x or x, new_y or y
         if operation == "3":
-            found.add((at[0], at[1]))
-    in_u = {v: round(v * step) for place in found for v in set(place)}
+            found.add((x, y))
+    in_u = {v: round(int(v) * step) for v in {v for place in found for v in place}}
     return {(in_u[x], in_u[y]) for x, y in found}
 
 

@@ -1,5 +1,6 @@
 """Reads a report of either version (docs/FORMATS.md, "The report")."""
 from array import array
+from itertools import islice
 
 
 class BadReport(Exception):
@@ -31,14 +32,15 @@ class Report:
         for _ in range(self.nets):
             self.read_net()
         self.names = [next(self.rows).split(" ", 2)[2] for _ in range(self.count("names"))]
-        self.points = [self.point() for _ in range(self.count("points"))]
+        record, layer, name, net = self.table("point", "points", 5)[1:]
+        self.points = [*zip(map(int, record), map(int, layer), map(int, name), (-1 if it == "-" else int(it) for it in net))]
         self.opens = [self.numbers("open") for _ in range(self.count("opens"))]
         self.shorts = [self.short() for _ in range(self.count("shorts"))]
         self.bare = [self.numbers("bare")[0] for _ in range(self.count("missing"))]
         self.spots = self.sources = None
         if self.version == 2:
-            self.spots = [tuple(self.numbers("spot")[1:]) for _ in range(self.count("spots"))]
-            self.sources = [tuple(self.numbers("source")[1:]) for _ in range(self.count("sources"))]
+            self.spots = [*zip(*(map(int, column) for column in self.table("spot", "spots", 3)[1:]))]
+            self.sources = [*zip(*(map(int, column) for column in self.table("source", "sources", 6)[1:]))]
             if len(self.sources) != self.pieces or len(self.spots) != len(self.points):
                 raise ValueError
         self.agrees = {"agrees": True, "differs": False}[next(self.rows)]
@@ -53,17 +55,26 @@ class Report:
         (count,) = self.numbers(head)
         return count
 
-    def read_net(self):
-        _, number, *twigs = next(self.rows).split(" ")
-        for twig in twigs:
-            piece, _, parent = twig.partition(":")
-            self.net_of[int(piece)] = int(number)
-            if parent:
-                self.parent[int(piece)] = int(parent)
+    def table(self, head, counted, width):
+        """The columns of rows that all have so many words behind their head."""
+        count = self.count(counted)
+        rows = [*islice(self.rows, count)]
+        parts = " ".join(rows).split(" ") if rows else []
+        columns = [parts[k::width + 1] for k in range(width + 1)]
+        if len(rows) != count or len(parts) != count * (width + 1) or set(columns[0]) - {head}:
+            raise ValueError
+        return columns[1:]
 
-    def point(self):
-        _, _, record, layer, name, net = next(self.rows).split(" ")
-        return int(record), int(layer), int(name), -1 if net == "-" else int(net)
+    def read_net(self):
+        _, number, first, *twigs = next(self.rows).split(" ")
+        number, its = int(number), [*map(int, ":".join(twigs).split(":"))] if twigs else []
+        if ":" in first or len(its) != 2 * len(twigs):      # the one without a parent is not the first
+            parts = [(twig if ":" in twig else f"{twig}:-1").split(":") for twig in [first, *twigs]]
+            its = [int(part) for piece, parent in parts for part in (piece, parent)]
+        else:
+            self.net_of[int(first)] = number
+        for piece, parent in zip(its[::2], its[1::2]):
+            self.net_of[piece], self.parent[piece] = number, parent
 
     def short(self):
         net, count = self.numbers("short")

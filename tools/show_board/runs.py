@@ -6,6 +6,7 @@ strand. What is rounded past the other side is no part of LOWER.
 """
 from operator import mul
 
+from .spots import cross
 from .strands import slope
 
 LONGEST = 30_000        # corners of a side that is still added to
@@ -133,11 +134,20 @@ class Runs:
             self.close(piece, *self.sides(piece, piece.since))
 
     def close(self, piece, low, high):
+        is_open = opens(piece.lefts, piece.rights)
         around = piece.lefts + [(low, piece.since), (high, piece.since)] + piece.rights[::-1]
         piece.lefts = piece.rights = None
         corners = [p for p, before in zip(around, around[-1:] + around) if p != before]
-        if has_area(corners):
+        if is_open or has_area(corners):
             self.out.append((corners, piece.item))
+
+
+def opens(lefts, rights):
+    """Whether two sides that do not cross are apart above their first line; where that is not seen at once, no."""
+    if len(lefts) < 2 or len(rights) < 2:
+        return False
+    first, left, right = lefts[0], lefts[1], rights[1]
+    return left[1] > first[1] < right[1] and (first[0] < rights[0][0] or cross(first, left, right) != 0)
 
 
 def has_area(corners):

@@ -1,7 +1,7 @@
 """Garbage is looked for seldom: nearly all that is made here is held until the end, and is in no cycle."""
 import gc
 
-THRESHOLDS = (500_000, 20, 100)
+THRESHOLDS = (3_000_000, 20, 100)
 
 
 def collected():

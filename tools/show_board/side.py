@@ -6,21 +6,37 @@ from .exact import Refused
 OWN = 900_000_000       # numbers of apertures that are made here
 DRAW, MOVE, FLASH = 1, 2, 3
 TOKENS = re.compile(r"[\t\n\r ]*(?:(%)|([^*%]*)(\*?))")
+PLACED = re.compile(r"[\t\n\r ]*X[+-]?[0-9]{1,13}Y[+-]?[0-9]{1,13}D0?[12]\*")
+NUMBERS = bytes.maketrans(b"XYD*", b"    ")
 
 
-def words_of(text):
-    """(in a pair of percent signs, word, first of its pair) in order."""
-    inside, first = False, True
-    for match in TOKENS.finditer(text):
-        sign, word, star = match.groups()
-        if sign:
-            inside, first = not inside, True
-        elif star:
-            yield inside, word, first
-            first = False
-        elif word:
-            is_broken = match.end() < len(text) and "*" in text[match.end():]
-            raise Refused(f"a broken word at byte {match.start(2)}" if is_broken else "a word without an end")
+def words_of(text, runs=False):
+    """(in a pair of percent signs, word, first of its pair) in order. With `runs` the words of a region from G36 to G37 are one list of
+    their numbers, x, y and code of each, where all of them say these."""
+    inside, first, start = False, True, 0
+    while start is not None:
+        matches, start = TOKENS.finditer(text, start), None
+        for match in matches:
+            sign, word, star = match.groups()
+            if sign:
+                inside, first = not inside, True
+            elif star:
+                yield inside, word, first
+                first = False
+                end = text.find("G37*", match.end()) if runs and word == "G36" and not inside else -1
+                run = end >= 0 and numbers_of(text[match.end():end])
+                if run:
+                    yield False, run, False
+                    start = end
+                    break
+            elif word:
+                is_broken = match.end() < len(text) and "*" in text[match.end():]
+                raise Refused(f"a broken word at byte {match.start(2)}" if is_broken else "a word without an end")
+
+
+def numbers_of(text):
+    """The numbers of words that each say x, y and one of the codes of a region; none where there are others."""
+    return [] if PLACED.sub("", text).strip("\t\n\r ") else [*map(int, text.encode("latin-1").translate(NUMBERS).split())]
 
 
 def millimetres(u):

@@ -1,8 +1,46 @@
 """Contours of whole corners as strands that rise, for a line that goes upwards over them."""
 from fractions import Fraction as Q
 from functools import cmp_to_key
+from math import gcd
 
-from .spots import edges
+
+class Place(Q):
+    """A place on a line that is not whole: a fraction that is compared and found in tables faster, with its like and whole numbers."""
+
+    __slots__ = ()
+
+    def __lt__(self, other):
+        return self._numerator * other.denominator < other.numerator * self._denominator
+
+    def __gt__(self, other):
+        return self._numerator * other.denominator > other.numerator * self._denominator
+
+    def __le__(self, other):
+        return self._numerator * other.denominator <= other.numerator * self._denominator
+
+    def __ge__(self, other):
+        return self._numerator * other.denominator >= other.numerator * self._denominator
+
+    def __eq__(self, other):
+        return type(other) is Place and self._numerator == other._numerator and self._denominator == other._denominator
+
+    def __hash__(self):
+        return hash((self._numerator, self._denominator))
+
+
+def place(x):
+    """A number as a whole one or as a Place."""
+    return x if type(x) is int or type(x) is Place else quotient(x.numerator, x.denominator)
+
+
+def quotient(above, below):
+    """A quotient by a number over 0, as a whole number or as a Place."""
+    by = gcd(above, below)
+    if by == below:
+        return above // by
+    found = object.__new__(Place)
+    found._numerator, found._denominator = above // by, below // by
+    return found
 
 
 class Strand:
@@ -46,8 +84,12 @@ class Strand:
     def at(self, y):
         if y == self.y1:
             return self.x1
-        rise, rest = divmod(self.dx * (y - self.y1), self.dy)
-        return self.x1 + rise if not rest else Q((self.x1 + rise) * self.dy + rest, self.dy)
+        if y == self.y2:
+            return self.x2
+        above, below = self.x1 * self.dy + self.dx * (y - self.y1), self.dy
+        if type(above) is int:
+            return quotient(above, below)
+        return quotient(above.numerator, above.denominator * below)
 
     def down(self, y):
         return (self.x1 * self.dy + self.dx * (y - self.y1)) // self.dy
@@ -82,7 +124,7 @@ def ordered(y, strands):
 
     def order(a, b):
         (x, dx, dy), (x2, dx2, dy2) = ways[a], ways[b]
-        return x - x2 or dx * dy2 - dx2 * dy
+        return (x > x2) - (x < x2) or dx * dy2 - dx2 * dy
 
     return sorted(strands, key=cmp_to_key(order))
 
@@ -115,22 +157,18 @@ def beneath(left, below, under):
 
 def strands_of(corners, item):
     """(strands, level edges as (y, low, high))."""
-    around = [(a, b) for a, b in edges(corners) if a != b]
-    way = [(a[1] < b[1]) - (a[1] > b[1]) for a, b in around]
-    first = next((k for k in range(len(around)) if way[k] != way[k - 1]), 0)
-    strands, levels, run = [], [], []
-    for k in range(first, first + len(around)):
-        k %= len(around)
-        a, b = around[k]
-        if way[k] == 0:
-            levels.append((a[1], min(a[0], b[0]), max(a[0], b[0])))
-            continue
-        run = run or [a]
-        run.append(b)
-        after = (k + 1) % len(around)
-        if way[after] != way[k] or after == first:
-            strands.append(Strand(run if way[k] > 0 else run[::-1], item))
-            run = []
+    spots = [p for p, before in zip(corners, corners[-1:] + corners) if p != before]
+    ys = [y for _, y in spots]
+    ways = [(b > a) - (b < a) for a, b in zip(ys, ys[1:] + ys[:1])]
+    turns = [k for k, (way, before) in enumerate(zip(ways, ways[-1:] + ways)) if way != before] or [0]
+    spots += spots[:turns[0] + 1]
+    strands, levels = [], []
+    for first, past in zip(turns, turns[1:] + [turns[0] + len(ways)]):
+        run = spots[first:past + 1]
+        if ways and ways[first]:
+            strands.append(Strand(run if ways[first] > 0 else run[::-1], item))
+        else:
+            levels += [(a[1], min(a[0], b[0]), max(a[0], b[0])) for a, b in zip(run, run[1:])]
     return strands, levels
 
 

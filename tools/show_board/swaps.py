@@ -15,7 +15,7 @@ class Swap:
     """`a` is left of `b` at a line and right of it a unit above."""
 
     def __init__(self, sweep, y, i):
-        self.sweep, self.runs, self.y = sweep, sweep.runs, y
+        self.sweep, self.runs, self.y, self.i = sweep, sweep.runs, y, i
         self.a, self.b = a, b = sweep.status[i:i + 2]
         self.left, self.under, self.right = sweep.status[i - 1].cover if i else (), a.cover, b.cover
         self.over = toggled(self.left, b.item)
@@ -35,9 +35,7 @@ class Swap:
 
     def make(self):
         sweep, a, b = self.sweep, self.a, self.b
-        i = sweep.find(self.y, a.at(self.y))
-        while sweep.status[i] is not a:
-            i += 1
+        i = sweep.place_of(a, self.y)
         count, (left, under, over, right) = sum(self.dark), self.dark
         if count in (1, 3):
             is_chord, off = (count == 1) != sweep.upper, sweep.off

@@ -25,7 +25,7 @@ class Sweep:
 
     def __init__(self, items, upper, closed=()):
         self.upper, self.status, self.runs, self.seeds, self.count, self.touched = upper, [], Runs(upper), [], 0, ()
-        self.noted, self.spans, self.levels, self.back, self.unders, self.heap, self.marks = {}, {}, {}, {}, {}, [], ()
+        self.noted, self.spans, self.levels, self.back, self.unders, self.heap, self.marks, self.crossed = {}, {}, {}, {}, {}, [], (), {}
         self.dark = [dark for dark, _ in items] + [False, True]     # the last two: what stands for clear and dark in a bundle
         self.out, self.closed = self.runs.out, set(closed)
         events, strands = [], []
@@ -45,11 +45,11 @@ class Sweep:
         if self.status:
             raise Refused("a sweep that does not end")
 
-    def note(self, y, x):
+    def note(self, y, *xs):
         if y not in self.noted:
             self.noted[y] = []
             heappush(self.heap, y)
-        self.noted[y].append(x)
+        self.noted[y] += xs
 
     # ---- lines
 
@@ -112,6 +112,9 @@ class Sweep:
                     self.keep_off(y, old, left, below, above)
             for low, high, started in windows:
                 self.window(y, low, high, started)
+        for a, b in self.crossed.pop(y, ()):
+            if a.active and a.after is b:
+                self.meet(a, b, y)
         if self.seeds:
             bundles.straighten(self, y)
 
@@ -129,10 +132,9 @@ class Sweep:
         a, b = s.before, s.after
         if not s.active or not s.rest or a and a.high >= x and a.side(x, y) >= 0 or b and b.low <= x and b.side(x, y) <= 0:
             return False
-        if s.opens:
-            self.runs.turn(s.opens, s, x, y)
-        elif s.ends:
-            self.runs.turn(s.ends, s, x, y)
+        piece = s.opens or s.ends
+        if piece:
+            self.runs.turn(piece, s, x, y)
         s.rise()
         if a and a.high >= s.low:
             self.meet(a, s, y)
@@ -210,6 +212,13 @@ class Sweep:
             else:
                 high = middle
         return low
+
+    def place_of(self, strand, y):
+        """A strand's place among those on a line."""
+        i = self.find(y, strand.at(y))
+        while self.status[i] is not strand:
+            i += 1
+        return i
 
     def put(self, i, j, new):
         """Other strands in place of some."""
@@ -322,10 +331,14 @@ class Sweep:
         if (a.x1 * a.dy + a.dx * (top - a.y1)) * b.dy <= (b.x1 * b.dy + b.dx * (top - b.y1)) * a.dy:
             return
         at, rest = divmod(*crossing(a, b))
-        if at > y:
-            self.note(at, a.at(at))
+        if at == y:
+            if rest:
+                self.seeds.append((a, b))
         elif rest:
-            self.seeds.append((a, b))
+            self.note(at)
+            self.crossed.setdefault(at, []).append((a, b))
+        else:
+            self.note(at, a.at(at))
 
     # ---- pieces
 

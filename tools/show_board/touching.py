@@ -17,12 +17,7 @@ class Touching:
 
     def __init__(self, shapes, spans):
         self.shapes, self.spans = shapes, spans
-        self.edges, self.trees, self.boxes = {}, {}, {}
-
-    def box(self, piece):
-        if piece not in self.boxes:
-            self.boxes[piece] = self.shapes.box(piece)
-        return self.boxes[piece]
+        self.edges, self.trees, self.box = {}, {}, shapes.box
 
     def lines(self, piece):
         """The lines of a piece: one of a capsule, the edges of an area."""
@@ -61,11 +56,12 @@ class Touching:
 
     def holds(self, piece, place):
         """Whether a piece has a place."""
-        r = max(self.shapes.radius[piece], 0)
-        x, y = place
+        if not self.shapes.is_area(piece):
+            return point_within(place, *self.lines(piece)[0], self.shapes.radius[piece])
+        x, y, r = *place, 0
         if any(point_within(place, a, b, r) for a, b in self.lines_near(piece, (x - r, y - r, x + r, y + r))):
             return True
-        return self.shapes.is_area(piece) and self.is_inside(piece, place)
+        return self.is_inside(piece, place)
 
     def touch(self, p, q):
         """Whether two pieces share a place, and a layer."""

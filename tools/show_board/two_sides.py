@@ -11,11 +11,10 @@ from .drawn import OPERATION, STRAIGHT, Operations
 from .exact import Refused
 from .regions import Regions
 from .settings import SCALES, Settings
-from .side import DRAW, Side, words_of
+from .side import MOVE, Side, words_of
 
 IN_REGIONS = ("TF", "TA", "TO", "TD", "AD", "AM", "LPD")      # what may stand there and says nothing of the contours
 MODES = ("G01", "G1", "G02", "G2", "G03", "G3")
-CORNER = re.compile(r"X([+-]?\d{1,13})Y([+-]?\d{1,13})D0?1")
 MOST_OBJECTS = 400_000
 
 
@@ -53,9 +52,11 @@ class Copper(Settings, Definitions, Operations, Regions):
         self.taken, self.written, self.objects, self.copies = taken, written, [], None
         self.clear, self.clears, self.negative = False, False, None
         self.cuts = cuts or "LPC*" in text or "IPNEG*" in text or ".FilePolarity,Negative" in text
-        for self.number, (extended, word, first) in enumerate(words_of(text), 1):
+        self.number = 0
+        for extended, word, first in words_of(text, True):
+            self.number += 1
             try:
-                (self.extended if extended else self.plain)(word, first)
+                (self.extended if extended else self.plain if isinstance(word, str) else self.run)(word, first)
             except Refused as why:
                 raise Refused(f"{why} at command {self.number}") from None
         if self.contours is not None:
@@ -160,12 +161,21 @@ class Copper(Settings, Definitions, Operations, Regions):
 
     # ---- other words
 
-    def plain(self, word, _):
-        match = CORNER.fullmatch(word) if self.contours and self.mode == STRAIGHT and isinstance(self.unit, int) else None
-        if match:       # most words of a plane
-            self.spot, self.last = (int(match[1]) * self.unit, int(match[2]) * self.unit), DRAW
-            self.contours[-1].append(self.spot)
+    def run(self, numbers, _):
+        """The words of a region by their numbers."""
+        xs, ys, codes = numbers[::3], numbers[1::3], numbers[2::3]
+        if self.mode != STRAIGHT or not isinstance(self.unit, int) or codes[0] != MOVE:
+            for self.number, (x, y, code) in enumerate(zip(xs, ys, codes), self.number):
+                self.operation(None, str(x), str(y), None, None, str(code))
             return
+        if self.unit != 1:
+            xs, ys = ([v * self.unit for v in its] for its in (xs, ys))
+        spots = [*zip(xs, ys)]
+        moves = [k for k, code in enumerate(codes) if code == MOVE]
+        self.contours += [spots[a:b] for a, b in zip(moves, [*moves[1:], len(spots)])]
+        self.spot, self.last, self.number = spots[-1], codes[-1], self.number + len(spots) - 1
+
+    def plain(self, word, _):
         match = OPERATION.fullmatch(word)
         if match and any(match.groups()[1:]):
             self.operation(*match.groups())

@@ -1,12 +1,12 @@
 """How lengths, counts and lists are said."""
 import re
 
-NOT_XML = re.compile(r"[^\t\n\r -\ud7ff\ue000-\ufffd\U00010000-\U0010ffff]")
+NOT_XML = r"[^\t\n\r -\ud7ff\ue000-\ufffd\U00010000-\U0010ffff]"       # compiled where it is wanted: that takes long
 
 
 def for_xml(text):
     """A text without the characters that XML has not, as names of files may have them."""
-    return NOT_XML.sub("\ufffd", text)
+    return re.sub(NOT_XML, "\ufffd", text)
 
 
 def millimetres(u):

@@ -1,4 +1,5 @@
 """What is installed and packaged of a checkout, over a stand-in for its program, and the texts that are made of the help."""
+import importlib.util
 import os
 import shutil
 import sys
@@ -6,6 +7,7 @@ import sys
 import common
 
 sys.path.insert(0, os.path.join(common.TOOLS, "launch"))
+import compiled  # noqa: E402
 import kept  # noqa: E402
 import package  # noqa: E402
 
@@ -77,6 +79,36 @@ class Install(Installed):
         status, out, _ = self.launch("install", "/usr", DESTDIR=self.path("stage"))
         self.assertEqual((status, out.split()[0]), (0, "/usr/lib/boardnet/boardnet"))
         self.assertTrue(os.path.isfile(self.path("stage", "usr", "bin", "boardnet")))
+
+
+class Compiled(Installed):
+    """Where Python keeps what it makes of the scripts' modules."""
+
+    def made_by(self, cache):
+        """What a run of the checkout leaves in a cache folder."""
+        words = ["env", "-u", "PYTHONDONTWRITEBYTECODE", os.path.join(self.top, "tools", "manifest"), "--help"]
+        self.assertEqual(self.run_words(words, environment={"XDG_CACHE_HOME": cache})[0], 0)
+        self.assertFalse([name for name in tree(self.top) if name.endswith(".pyc")])
+        return [name for name in tree(cache) if name.endswith(".pyc")]
+
+    def test_of_a_checkout(self):
+        cache = self.path("cache")
+        self.assertTrue(any("/mends/table." in name for name in self.made_by(cache)))
+        self.assertEqual(os.stat(os.path.join(cache, "boardnet-python")).st_mode & 0o777, 0o700)
+        for mode in (0o770, 0o707):
+            os.makedirs(self.path(f"open{mode}", "boardnet-python"))
+            os.chmod(self.path(f"open{mode}", "boardnet-python"), mode)
+            self.assertEqual(self.made_by(self.path(f"open{mode}")), [])
+
+    def test_of_what_is_installed(self):
+        self.assertEqual(self.launch("install", self.path("here"))[0], 0)
+        files = tree(self.path("here", "lib", "boardnet"))
+        modules = [name for name in files if name.endswith(".py")]
+        self.assertTrue(modules)
+        for name in modules:
+            data = files[compiled.beside(name)][1]
+            # It holds for the bytes of its source, whatever the times of both files are.
+            self.assertEqual((data[:4], data[4:8], data[8:16]), (importlib.util.MAGIC_NUMBER, b"\3\0\0\0", importlib.util.source_hash(files[name][1])))
 
 
 class Package(Installed):

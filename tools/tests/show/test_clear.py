@@ -121,6 +121,72 @@ class Areas(unittest.TestCase):
                                 truth = (above and not inside) == dark
                                 self.assertEqual((holds(low, p, PARTS), holds(high, p, PARTS)), (truth, truth), (a, b, dark, p))
 
+    def leveled(self, rng):
+        """Areas whose nearly level edges cross each other and steep ones within a u or two of height, round one place."""
+        size, middle = 10 ** rng.choice((5, 6, 7)), rng.randint(0, 10 ** 5)
+        x, y = (lambda: rng.randint(0, size)), (lambda: rng.randint(0, 1))
+        items = [(True, block_of(-size, -20, 2 * size, 20))] if rng.random() < .5 else []
+        for _ in range(rng.randint(2, 8)):
+            (a, b), s, w = sorted((x(), x())), rng.randint(-20, 20), rng.choice((-size // 3, size // 3, 1000, 7))
+            forms = ([(a, y()), (b, y()), (b + rng.choice((0, 5)), w), (a, w)],
+                     [(a, y()), (b, y()), (b, y()), (a, y())],
+                     [(x(), y()) for _ in range(rng.randint(3, 7))],
+                     [(middle + s, -14), (middle + s + w, -14), (middle + s + w, 15), (middle - s + rng.randint(-1, 1), 15)])
+            items.append((rng.random() < .5, rng.choice(forms)))
+            if rng.random() < .25:
+                items.append((rng.random() < .5, [(p, q + rng.randint(0, 1)) for p, q in rng.choice(items)[1]]))
+        return items
+
+    def most(self, items, p):
+        """Whether a place is dark where borders of clear areas are."""
+        state = False
+        for dark, corners in items:
+            is_border = on_border(corners, p, 1)
+            inside = odd_inside(corners, p) and not (is_border and not dark) or is_border and dark
+            state = dark if inside else state
+        return state
+
+    def least(self, items, p):
+        """Whether it is where they are not."""
+        state = False
+        for dark, corners in items:
+            state = dark if odd_inside(corners, p) or on_border(corners, p, 1) else state
+        return state
+
+    def upwards(self, items, x, y):
+        """All kinds of places at most 3 u above and below one."""
+        ends = {y - 3, y + 3}
+        for a, b in ((a, b) for _, corners in items for a, b in zip(corners, corners[1:] + corners[:1])):
+            if min(a[0], b[0]) <= x <= max(a[0], b[0]):
+                ends.update([a[1], b[1]] if a[0] == b[0] else [a[1] + Q(b[1] - a[1]) * (x - a[0]) / (b[0] - a[0])])
+        ends = sorted(end for end in ends if abs(end - y) <= 3)
+        return [(x, end) for end in ends] + [(x, (a + b) / 2) for a, b in zip(ends, ends[1:])]
+
+    def test_slivers(self):
+        """Where borders cross nearly level, what a bound has is so within half a micrometre sideways and 3 u upwards, and holds."""
+        rng, asked = random.Random(30), 0
+        for _ in range(12 * MANY):
+            items = self.leveled(rng)
+            low, high = ([c for c, _ in Sweep(items, upper).out] for upper in (False, True))
+            for _ in range(15):
+                x, y = rng.choice(rng.choice(items)[1])[0] + Q(rng.choice((0, rng.randint(-60, 60), rng.randint(-10 ** 6, 10 ** 6))), PARTS), Q(rng.randint(-18, 36), PARTS)
+                is_low, is_high = holds(low, (x, y), 1), holds(high, (x, y), 1)
+                self.assertTrue((not is_low or self.most(items, (x, y))) and (is_high or not self.least(items, (x, y))), (items, x, y))
+                beside = sorted({x, x - 3, x + 3, x - 5010, x + 5010, *(v for _, corners in items for v, _ in corners if abs(v - x) <= 3)})
+                places = [place for at in beside for place in self.upwards(items, at, y)]
+                asked += 1
+                self.assertTrue(not is_high or any(self.most(items, p) for p in places), ("upper", items, x, y))
+                self.assertTrue(is_low or not all(self.least(items, p) for p in places), ("lower", items, x, y))
+        self.assertEqual(asked, 180 * MANY)
+
+    def test_sliver_between_steep_borders(self):
+        """Two steep borders and a level one that says nothing there, all in a unit of height."""
+        steep = [(True, [(-1000, -15), (-16, -15), (15, 15), (-1000, 15)]), (True, [(-1000, -15), (14, -15), (-16, 15), (-1000, 15)])]
+        level = (False, [(-10 ** 6, -1), (10 ** 6, 0), (10 ** 6, -10), (-10 ** 6, -10)])
+        for items in ([level, *steep], [*steep, level]):
+            for upper in (False, True):
+                self.assertLess(max(x for corners, _ in Sweep(items, upper).out for x, _ in corners), 20)
+
     def test_sides_do_not_cross(self):
         """Each contour has its corners up one side and down the other, and at each of its heights the sides in order."""
         rng = random.Random(23)
