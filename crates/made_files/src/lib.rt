@@ -3,6 +3,7 @@
 //! `board_maker` writes the files of a board of so many cells, and `boardnet trial` judges it. Here it is proved what the drill
 //! file, the netlist and both copper files of each such board are read as. Their calls do nothing.
 #![tactic(auto)]
+
 ghost use Rattle.made_files.specs.MadeFiles.{MadeCopperIsRead, MadeHolesAreRead, MadePointsAreRead};
 
 /// The drill file of every made board of at most 10,000 cells is read where there is room, as a hole of 0.4 mm in each cell.
