@@ -13,7 +13,7 @@ pub fn no_report_is_a_front()
 {}
 
 /// The report of a verdict without a supplement is at most `MOST_BYTES` bytes long, where its parts are few and its numbers
-/// small (`HasFewParts`, `HasSmallParts`).
+/// small (`HasFewParts`, `HasSmallParts`). That a right verdict within the limits of a package has such parts is not proved.
 pub fn reports_are_short()
     ensures { ReportsAreShort }
 {}
