@@ -13,6 +13,7 @@ use Rattle.board_package.specs.declared.entry.Role.TheVariants as role
 use Rattle.board_shapes.specs.Lawful.{IsProbe}
 use Rattle.board_shapes.specs.Plain.{PlainBoard}
 use Rattle.board_shapes.specs.Tables.{IsTables, point_of}
+use Rattle.board_shapes.specs.declared.TheConstants.{MOST_LAYERS}
 use Rattle.board_shapes.specs.declared.probe.Probe.{Probe}
 use Rattle.boardnet.proofs.SmallNetlists.{IsCounted, IsSmallNetlist, small_netlist}
 use Rattle.boardnet.specs.Laws.{FirstReportsAreShort, IsSmallBoard, IsSmallPoint, RightVerdictsAreSmall}
@@ -36,7 +37,7 @@ walked_small files (e ∷ rest) from to small (next, goes, walks) = walked_small
 
 -- ---- The board's tables
 
-counted_known : (names layers : ℕ) (probes : List Probe) → layers ≤ 32 → AllByRecursion IsCounted probes → AllByRecursion (IsProbe names layers) probes → AllByRecursion (IsSmallPoint names) (map point_of probes)
+counted_known : (names layers : ℕ) (probes : List Probe) → layers ≤ MOST_LAYERS → AllByRecursion IsCounted probes → AllByRecursion (IsProbe names layers) probes → AllByRecursion (IsSmallPoint names) (map point_of probes)
 counted_known names layers [] few counted known = tt
 counted_known names layers (p ∷ probes) few counted known =
     let number = counted.0 in

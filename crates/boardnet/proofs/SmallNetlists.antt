@@ -302,8 +302,8 @@ few_so_far layers (form ∷ earlier) clean = by (effect (known_at layers earlier
 
 -- as many points and names as a package may have, counted and named as in its records
 pub record IsSmallNetlist (probes : List Probe) (names : List (List ℕ)) : Type 0 where
-  pub probes_few : length probes ≤ 400_000
-  pub names_few : length names ≤ 200_000
+  pub probes_few : length probes ≤ 2 * MOST_RECORDS
+  pub names_few : length names ≤ MOST_RECORDS
   pub counted : AllByRecursion IsCounted probes
   pub short : AllByRecursion IsRecordName names
 

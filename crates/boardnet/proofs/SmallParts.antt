@@ -18,6 +18,7 @@ use Rattle.verdict.specs.declared.verdict.Short.{Short}
 use Rattle.verdict.specs.declared.verdict.Twig.{Twig}
 use Rattle.verdict.specs.declared.verdict.Verdict.{Verdict}
 use Rattle.witness_check.specs.Opened.{open_by}
+use Rattle.board_shapes.specs.declared.TheConstants.{MOST_PIECES}
 use Rattle.boardnet.proofs.Ways.{AreApart, paths_are_few}
 use Rattle.boardnet.specs.Laws.{IsSmallPoint, RightVerdictsAreSmall}
 
@@ -59,11 +60,11 @@ nets_small near (net ∷ nets) known trees = (tree_small near net (known 0) tree
 
 -- ---- Points
 
-net_small : (nets : List (List Twig)) (under : List ℕ) (o : Option ℕ) → length nets ≤ 200_000 → MatchOption o (under ≡ []) (λ net. (piece : ℕ) × Contains under piece × Holds nets net piece) → IfSome o HasSixDigits
+net_small : (nets : List (List Twig)) (under : List ℕ) (o : Option ℕ) → length nets ≤ MOST_PIECES → MatchOption o (under ≡ []) (λ net. (piece : ℕ) × Contains under piece × Holds nets net piece) → IfSome o HasSixDigits
 net_small nets under None few found = tt
 net_small nets under (Some net) few (piece, inside, held) = let below = held_within nets net piece held in omega (arith, few, below)
 
-lines_small : (most : ℕ) → most ≤ 200_000 → (nets : List (List Twig)) (beneath : List (List ℕ)) (points : List TestPoint) (lines : List PointLine) → length nets ≤ 200_000 → AreLines nets beneath points lines → AllByRecursion (IsSmallPoint most) points → AllByRecursion IsSmallPointLine lines
+lines_small : (most : ℕ) → most ≤ MOST_PIECES → (nets : List (List Twig)) (beneath : List (List ℕ)) (points : List TestPoint) (lines : List PointLine) → length nets ≤ MOST_PIECES → AreLines nets beneath points lines → AllByRecursion (IsSmallPoint most) points → AllByRecursion IsSmallPointLine lines
 lines_small most low nets [] [] [] few all small = tt
 lines_small most low nets [] [] (l ∷ lines) few all small = absurd all
 lines_small most low nets [] (p ∷ points) [] few all small = absurd all
@@ -171,7 +172,7 @@ first_is_small : (net : List Twig) → AllByRecursion IsSmallTwig net → HasSix
 first_is_small [] twigs = omega arith
 first_is_small (t ∷ rest) twigs = twigs.0.piece
 
-short_small : (nets : List (List Twig)) (starts : ℕ → ℕ → Type 0) (lines : List PointLine) (s : Short) → length nets ≤ 200_000 → length lines ≤ 1_000_000 → AllByRecursion IsSmallPointLine lines → AllByRecursion (AllByRecursion IsSmallTwig) nets → HasBranches nets starts lines s → IsSmallShort s
+short_small : (nets : List (List Twig)) (starts : ℕ → ℕ → Type 0) (lines : List PointLine) (s : Short) → length nets ≤ MOST_PIECES → length lines ≤ 1_000_000 → AllByRecursion IsSmallPointLine lines → AllByRecursion (AllByRecursion IsSmallTwig) nets → HasBranches nets starts lines s → IsSmallShort s
 short_small nets starts lines s few short small twigs here =
     let below = slice_get_within nets s.net here.net here.there in
     let own : AllByRecursion IsSmallTwig here.net = All-contains (AllByRecursion IsSmallTwig) nets here.net (All-from_recursion (AllByRecursion IsSmallTwig) nets twigs) (s.net, below, get_or_from_slice_get nets s.net here.net here.net here.there) in
@@ -197,7 +198,7 @@ right_verdicts_are_small counted board v b right =
     let low_pieces = b.pieces in let low_points = b.points in let low_names = b.names in
     let count_nets = counts.nets in let count_twigs = counts.twigs in let count_names = counts.names in let count_points = counts.points in
     let count_opens = counts.opens in let count_shorts = counts.shorts in let count_branches = counts.branches in let count_bare = counts.bare in
-    let few_nets : length v.nets ≤ 200_000 = omega (arith, low_pieces, count_nets) in
+    let few_nets : length v.nets ≤ MOST_PIECES = omega (arith, low_pieces, count_nets) in
     let few_lines : length v.points ≤ 1_000_000 = omega (arith, low_points, count_points) in
     let nets = nets_small near v.nets (λ i p h. let known = forest.known i p h in omega (arith, known, low_pieces)) trees in
     let lines = lines_small (length board.names) low_names v.nets board.beneath board.points v.points few_nets (right Points) (recursion_from_All (IsSmallPoint (length board.names)) board.points b.known) in

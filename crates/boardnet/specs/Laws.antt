@@ -1,5 +1,5 @@
 -- The laws of the program.
-use Rattle.std.specs.Prelude.{◌≡◌, ◌<◌, ◌≤◌, ℕ, List, [], ◌∷◌, ◌++◌, length, All, Some, codes}
+use Rattle.std.specs.Prelude.{◌≡◌, ◌*◌, ◌<◌, ◌≤◌, ℕ, List, [], ◌∷◌, ◌++◌, length, All, Some, codes}
 use Rattle.board_io.specs.Package.{Files}
 use Rattle.board_package.specs.PackageBoard.{IsBoardOf, IsManifestFile, most_bytes, order_of}
 use Rattle.board_package.specs.declared.entry.Entry.{Entry}
@@ -10,6 +10,8 @@ use Rattle.boardnet.specs.Lines.{end, plain_line}
 use Rattle.boardnet.specs.Outcome.{AuditOutcome, CheckOutcome, Held, IsWritten, Told}
 use Rattle.boardnet.specs.declared.words.Version.{Version}
 use Rattle.boardnet.specs.declared.words.Version.TheVariants.{One, Two}
+use Rattle.board_shapes.specs.declared.TheConstants.{MOST_PIECES}
+use Rattle.ipc356_records.specs.declared.TheConstants.{MOST_RECORDS}
 use Rattle.tables.specs.Tables.{Tables, TestPoint}
 use Rattle.verdict.specs.Limits.{HasFewParts, HasSixDigits, HasSmallParts, IsRecordName}
 use Rattle.verdict.specs.Right.{IsRight}
@@ -25,9 +27,9 @@ pub record IsSmallPoint (names : ℕ) (point : TestPoint) : Type 0 where
 
 -- a board with as many pieces, points and names as a package may have, named as in its records
 pub record IsSmallBoard (board : Tables) : Type 0 where
-  pub pieces : length board.near ≤ 200_000
-  pub points : length board.points ≤ 400_000
-  pub names : length board.names ≤ 200_000
+  pub pieces : length board.near ≤ MOST_PIECES
+  pub points : length board.points ≤ 2 * MOST_RECORDS
+  pub names : length board.names ≤ MOST_RECORDS
   pub short_names : All IsRecordName board.names
   pub known : All (IsSmallPoint (length board.names)) board.points
 
