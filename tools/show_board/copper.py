@@ -5,6 +5,7 @@ tools, and places, of which a missing coordinate stays. No modes and no conditio
 """
 import re
 from array import array
+from collections import Counter
 from decimal import Decimal
 
 MM, INCH = 10_000_000, 254_000_000
@@ -48,6 +49,17 @@ class Shapes:
         self.x.fromlist(xs)
         self.y.fromlist(ys)
         self.start.append(len(self.x))
+
+    def take(self, others, first, past):
+        """Adds a range of other shapes, with their boxes where both are known."""
+        a, b = others.start[first], others.start[past]
+        if len(self.boxes) == len(self) and len(others.boxes) >= past:
+            self.boxes += others.boxes[first:past]
+        shift = len(self.x) - a
+        self.radius += others.radius[first:past]
+        self.start.extend(at + shift for at in others.start[first + 1:past + 1])
+        self.x += others.x[a:b]
+        self.y += others.y[a:b]
 
     def has(self, piece, others, other):
         """Whether a piece is the same as one of other shapes."""
@@ -183,8 +195,19 @@ def add_drilled(shapes, data, lines):
         raise BadCopper("a hole of a drill file has no tool") from None
 
 
-def shapes_of(package, report, flatten):
-    """The shape of every piece. `flatten(name)` answers the normal form of a copper file."""
+class Known:
+    """The copper files of a board whose shapes are known: the pieces of each, by its bytes."""
+
+    def __init__(self, board):
+        self.shapes, self.pieces, first = board.shapes, {}, 0
+        counts = Counter(file for file, *_ in board.report.sources)
+        for file, name in enumerate(board.manifest.copper):
+            self.pieces[board.package.read(name)] = first, first + counts[file]
+            first += counts[file]
+
+
+def shapes_of(package, report, flatten, known=None):
+    """The shape of every piece. `flatten(name)` answers the normal form of a copper file; what is `known` of another board is taken."""
     files, shapes = package.manifest.files, Shapes()
     lines, counts = [set() for _ in files], [0] * len(files)
     for file, command, *_ in report.sources:
@@ -194,6 +217,8 @@ def shapes_of(package, report, flatten):
         before = len(shapes)
         if package.manifest.is_drilled(file):
             add_drilled(shapes, package.read(name), lines[file])
+        elif known and package.read(name) in known.pieces:
+            shapes.take(known.shapes, *known.pieces[package.read(name)])
         else:
             add_flat(shapes, flatten(name))
         if len(shapes) - before != counts[file]:

@@ -149,8 +149,8 @@ def checked(program, told, text, ties):
     return answer, ""
 
 
-def reference(program, path, asked, scratch):
-    """The other board's netlist, as it was made and as a text."""
+def reference(program, path, asked, scratch, board):
+    """The other board's netlist, as it was made and as a text; copper files that both boards have are read once."""
     folder = os.path.join(scratch, "like")
     os.makedirs(folder)
     files = package.opened(path, asked, folder)
@@ -159,7 +159,8 @@ def reference(program, path, asked, scratch):
     mending.mend(files, program.progress)
     theirs = judged.judge(program, files)
     bounds.bounded(program, theirs)
-    made = tester.made(program, theirs, os.path.basename(os.path.normpath(path)))
+    known = copper.Known(board) if board and board.shapes else None
+    made = tester.made(program, theirs, os.path.basename(os.path.normpath(path)), known=known)
     if made.text is None:
         raise Stop(theirs.status, f"{path}: {'; '.join(made.lines)}")
     return made, made.text.encode("latin-1")
@@ -168,7 +169,7 @@ def reference(program, path, asked, scratch):
 def add(program, told, shown, asked, scratch):
     """Compares a board with another one."""
     try:
-        made, text = reference(program, asked.like, asked, scratch)
+        made, text = reference(program, asked.like, asked, scratch, shown.board)
         answer, placed = checked(program, told, text, shown.ties.allowed())
         its = differences(program, shown.board and shown.board.shapes, answer, made.netlist, text)
     except (Stop, copper.BadCopper) as why:

@@ -18,21 +18,21 @@ class Tester(NamedTuple):
     is_whole: bool = True
 
 
-def with_copper(program, told, sources=()):
+def with_copper(program, told, sources=(), known=None):
     """A judged package as a board whose copper is known; one of two bounds with the user's commands by its `sources`."""
-    shapes = copper.shapes_of(told.package, told.report, judged.flat_of(program, told.package))
+    shapes = copper.shapes_of(told.package, told.report, judged.flat_of(program, told.package), known)
     return between.board_of(told, dict(sources), shapes)
 
 
-def copper_of(program, told, board=None):
-    """The board whose copper is told of, the lower one of two; `board` where its copper is known already."""
+def copper_of(program, told, board=None, known=None):
+    """The board whose copper is told of, the lower one of two; `board` where its copper is known already, `known` as for shapes."""
     if board and board.shapes:
         return board
     if told.report:
-        return with_copper(program, told)
+        return with_copper(program, told, known=known)
     if not told.package.between:
         raise Stop(told.status, told.line)
-    return with_copper(program, told.package.between[1], told.package.sides.sources[0])
+    return with_copper(program, told.package.between[1], told.package.sides.sources[0], known)
 
 
 def confirmed(program, package, text):
@@ -53,10 +53,10 @@ def above(program, base, text):
     return is_right, f"on the upper bound {said}, {meaning}"
 
 
-def made(program, told, title, board=None):
+def made(program, told, title, board=None, known=None):
     """The netlist of a judged package."""
     try:
-        board, base = copper_of(program, told, board), told.package if told.package.between else None
+        board, base = copper_of(program, told, board, known), told.package if told.package.between else None
         its = Netlist(padlist.Padlist(board, padlist.origins(board, base)), title)
     except (Stop, copper.BadCopper) as why:
         return Tester(None, [f"no netlist for a tester: {why}"], None)

@@ -9,6 +9,7 @@ from made import STAND_IN, flash, manifest, netlist, record
 from real_shapes import Real, fine, has, pieces_of
 from show_board import bounds, judged, manifest as manifests
 from show_board.exact import Refused
+from show_board.objects import objects_of
 from show_board.package import Package
 from show_board.program import Program
 from show_board.progress import Progress
@@ -75,6 +76,26 @@ class Files(unittest.TestCase):
         given = [word for _, word, _ in words_of("\n".join(HEAD + lines))]
         self.assertEqual([given[source - 1] for source in copper.sides[0].sources[5:11]],
                          ["X1000000Y0D02", "Y2000000D01", "Y2000000D01", "TO.N,A", "D03", "D03"])
+
+    def test_regions_at_once(self):
+        """The words of a region are read at once where all say both coordinates, and else one by one: with the same outcome."""
+        square = ["X0Y0D02*", "X+9Y0D01*", "X9Y9D1*", "X0Y09D01*", "X0Y-0D01*"]
+        for before in ([], ["G02*", "G01*"], ["%LPC*%"], ["X5Y5D02*"], ["%ADD10C,.1*%", "D10*", "X7Y7D01*"]):
+            for body in (square, square * 2, [*square, "X50Y50D02*"], ["X3Y3D02*", *square]):
+                told = [copper_of(*before, "G36*", *inside, "G37*", "Y20D02*", "X8Y1D02*") for inside in (body, ["G04 each*", *body], [*body[:2], "G04*", *body[2:]])]
+                for one, other in zip(told, told[1:]):
+                    self.assertEqual([side.lines for side in one.sides], [side.lines for side in other.sides])
+                    self.assertEqual([it._replace(tag=0) for it in one.objects], [it._replace(tag=0) for it in other.objects])
+                made = [objects_of("\n".join([*HEAD, *before, "G36*", *inside, "G37*", "Y20D02*", "M02*"]).encode()) for inside in (body, [*body, "G04 each*"])]
+                self.assertEqual([it._replace(command=0) for it in made[0]], [it._replace(command=0) for it in made[1]])
+        for body in (square[1:], ["G03*", *square], ["X1Y1D03*"]):
+            said = []
+            for inside in (body, ["G04 each*", *body]):
+                try:
+                    said.append([side.lines for side in copper_of("X9Y9D02*", "G36*", *inside, "G37*").sides])
+                except Refused as why:
+                    said.append(str(why).split(" at ")[0])
+            self.assertEqual(*said)
 
     def test_holes(self):
         copper = copper_of("%ADD10C,1X.4*%", "%ADD11R,1X.6X.3*%", "D10*", "X0Y0D03*", "D11*", "X5000000Y0D03*")
