@@ -13,6 +13,7 @@ mod kind;
 pub mod laws;
 mod real;
 mod state;
+mod ways;
 mod words;
 
 pub use arcs::{Arc, RealPiece, RealShape};
