@@ -5,8 +5,8 @@ ghost use Rattle.arc_layer.specs.Centres.{IsCandidate, IsLawfulDraw};
 ghost use Rattle.lengths.specs.Decimal.{units_in as of_unit};
 ghost use Rattle.std.specs.Prelude.{◌≡◌, ◌≤◌, ◌^◌, not, int_lt, pos, IfSome};
 
-use lengths::decimal::Unit;
 use crate::ways::{cross, dot};
+use lengths::decimal::Unit;
 use planar::Spot;
 
 /// A draw whose centre is looked for, in u. `decimals` and `unit` tell the step of its file.

@@ -194,7 +194,7 @@ fn of_quarters() -> [(&'static str, &'static str); 21] {
 }
 
 // Refusals; the last are of this crate's own.
-fn of_refusals() -> [(&'static str, &'static str); 19] {
+fn of_refusals() -> [(&'static str, &'static str); 20] {
     [
         (
             "G74*G03X1000000Y1000003I0J1000000D01*M02*",
@@ -237,6 +237,10 @@ fn of_refusals() -> [(&'static str, &'static str); 19] {
         (
             "X1000000000D02*G74*G03X999999988Y-12I1J13D01*M02*",
             "Gerber(OutOfRange) at command 7",
+        ),
+        (
+            "G74*G03X10Y10I5J5D01*I5J5*M02*",
+            "Gerber(BadWord) at command 7",
         ),
         ("G75*G02X1J0D01*G20*M02*", "Gerber(BadWord) at command 7"),
         ("G75*G02X1D01*G20*M02*", "NoOffsets at command 6"),

@@ -9,4 +9,6 @@ returns-clause-value c =
 
 pub returns-clause-near : goal.returns-clause-near
 returns-clause-near c =
-    (sum_within c.args.a.x c.args.way.x c.requires.spot.0 c.requires.way.0) , (sum_within c.args.a.y c.args.way.y c.requires.spot.1 c.requires.way.1)
+    let x = sum_within c.args.a.x c.args.way.x c.requires.spot.0 c.requires.way.0 in
+    let y = sum_within c.args.a.y c.args.way.y c.requires.spot.1 c.requires.way.1 in
+    (x, y)
