@@ -45,7 +45,8 @@ class Operations:
 
     def centre(self, start, offset):
         """The centre of an arc; None where a single quadrant has both ends at one place, so no arc. Where rounding makes a quarter
-        circle more than a right angle, as much as a unit of the file at both ends is allowed."""
+        circle more than a right angle, as much as a unit of the file at both ends is allowed. Of several centres the ends of the one
+        that is meant are the least unlike; of those as unlike it is the one at most a right angle."""
         if self.quadrants is None:
             raise Refused("an arc before G74 or G75")
         if self.quadrants == "G75":
@@ -58,7 +59,7 @@ class Operations:
             reach = sum(abs(p[k] - c[k]) for p in (start, self.spot) for k in (0, 1))
             apart = abs(dot(c, start, start) - dot(c, self.spot, self.spot))
             if turn >= 0 and dot(c, start, self.spot) >= -self.unit * (reach + self.unit):
-                found.append((dot(c, start, self.spot) < 0, apart, c))
+                found.append((apart, dot(c, start, self.spot) < 0, c))
         found.sort()
         if not found or len(found) > 1 and found[0][:2] == found[1][:2]:
             raise Refused("an arc without one centre")

@@ -1,5 +1,6 @@
-pub mod OneAnswer
 pub mod OnLayer
+pub mod OneAnswer
+pub mod Products
 pub mod ReadSoFar
 pub mod Refusals
 pub mod Sums

@@ -53,12 +53,12 @@ abbrev pub any_bend : Sought → Spot → Result (Option Bend) RealKind
 any_bend d way = if is_placed (centre_at d way) then Ok (Some (bend_by d.clockwise way)) else Err (Gerber gerber.OutOfRange)
 
 -- in single quadrant mode they lead there but for their signs, and there is no whole turn
-abbrev pub chosen_bend : Bool → Option Spot → Result (Option Bend) RealKind
-chosen_bend clockwise None = Err NoCentre
-chosen_bend clockwise (Some way) = Ok (Some (bend_by clockwise way))
+abbrev pub chosen_bend : Sought → Option Spot → Result (Option Bend) RealKind
+chosen_bend d None = Err NoCentre
+chosen_bend d (Some way) = any_bend d way
 
 abbrev pub quarter_bend : Sought → Spot → Result (Option Bend) RealKind
-quarter_bend d way = if same_spot d.start d.end then Ok None else chosen_bend d.clockwise (choice d way)
+quarter_bend d way = if same_spot d.start d.end then Ok None else chosen_bend d (choice d way)
 
 abbrev pub bend_in : Quadrants → Sought → Spot → Result (Option Bend) RealKind
 bend_in Multi d way = any_bend d way

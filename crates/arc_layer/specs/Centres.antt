@@ -1,11 +1,13 @@
 -- Which centre an arc of a single quadrant means: its offsets have no signs (Gerber Layer Format Specification, 4.7, G74, in the revisions that have it).
-use Rattle.std.specs.Prelude.{ℕ, ◌+◌, ◌*◌, ◌^◌, ◌≤◌, Bool, ◌&&◌, ◌||◌, not, nat_le, nat_lt, int_lt, if◌then◌else◌, ℤ, pos, neg_ℤ, unsigned_abs, ◌+ℤ◌, ◌-ℤ◌, Option, Some, None}
+use Rattle.std.specs.Prelude.{ℕ, ◌+◌, ◌*◌, ◌^◌, ◌≤◌, Bool, ◌&&◌, ◌||◌, not, ◌==◌, nat_le, nat_lt, int_lt, if◌then◌else◌, ℤ, pos, neg_ℤ, unsigned_abs, ◌+ℤ◌, ◌-ℤ◌, Option, Some, None}
 use Rattle.std.specs.Int.{abs_diff}
 use Rattle.std.specs.Ordering.{int_eq}
-use Rattle.planar.specs.Plane.{IsPlaced, cross_of, dot_of, is_placed}
+use Rattle.planar.specs.Plane.{IsPlaced, IsWithin, cross_of, dot_of}
 use Rattle.planar.specs.declared.Spot.{Spot}
+use Rattle.planar.specs.declared.TheConstants.{TWO_METRES}
 use Rattle.lengths.specs.Decimal.{units_in}
 use Rattle.arc_layer.specs.declared.centres.Draw.{Draw}
+use Rattle.arc_layer.specs.declared.ways.Way.{Way}
 
 -- the spot this way from another
 abbrev pub moved : Spot → Spot → Spot
@@ -48,19 +50,19 @@ is_nearly_right d c = is_little (unsigned_abs (opening d c)) (steps_in d) (units
 abbrev pub is_quarter : Draw → Spot → Bool
 is_quarter d c = not (is_wide d c) || is_nearly_right d c
 
--- A centre may be meant: it is within a metre, the turn goes the way of the draw, and is at most a right angle, or nearly.
+-- A centre may be meant: the turn goes the way of the draw, and is at most a right angle, or nearly.
 abbrev pub is_fit : Draw → Spot → Bool
-is_fit d c = is_placed c && (not (int_lt (turn_about d c) (pos 0)) && is_quarter d c)
+is_fit d c = not (int_lt (turn_about d c) (pos 0)) && is_quarter d c
 
 -- by how much the squares of the distances of both ends differ
 abbrev pub unlike : Draw → Spot → ℕ
 unlike d c = abs_diff (unsigned_abs (dot_of c d.start d.start)) (unsigned_abs (dot_of c d.end d.end))
 
--- a centre is better than another: only the other's angle is over a right one, or that is no difference and its ends are less unlike
+-- a centre is better than another: its ends are less unlike, or as unlike and only the other's angle is over a right one
 abbrev pub is_better : Draw → Spot → Spot → Bool
 is_better d a b =
-    if is_wide d a then is_wide d b && nat_lt (unlike d a) (unlike d b)
-    else is_wide d b || nat_lt (unlike d a) (unlike d b)
+    if unlike d a == unlike d b then not (is_wide d a) && is_wide d b
+    else nat_lt (unlike d a) (unlike d b)
 
 -- the spots are one
 abbrev pub same_spot : Spot → Spot → Bool
@@ -98,3 +100,11 @@ pub record IsLawfulDraw (d : Draw) : Type 0 where
   pub start : IsPlaced d.start
   pub end : IsPlaced d.end
   pub decimals : d.decimals ≤ 7
+
+-- a spot that a way of a metre leads to from one within a metre
+abbrev pub IsCandidate : Spot → Type 0
+IsCandidate c = IsWithin TWO_METRES c.x × IsWithin TWO_METRES c.y
+
+-- a way from such a spot to one within a metre
+abbrev pub IsLong : Way → Type 0
+IsLong w = IsWithin 30_000_000_000 w.x × IsWithin 30_000_000_000 w.y

@@ -1,12 +1,13 @@
 //! Which centre an arc of a single quadrant means.
 ghost use Rattle.arc_layer.specs.Centres as spec;
 ghost use Rattle.planar.specs.Plane.{IsPlaced};
-ghost use Rattle.arc_layer.specs.Centres.{IsLawfulDraw};
+ghost use Rattle.arc_layer.specs.Centres.{IsCandidate, IsLawfulDraw};
 ghost use Rattle.lengths.specs.Decimal.{units_in as of_unit};
-ghost use Rattle.std.specs.Prelude.{◌≡◌, ◌≤◌, ◌^◌, not, int_lt, pos, IfSome, IsTrue};
+ghost use Rattle.std.specs.Prelude.{◌≡◌, ◌≤◌, ◌^◌, not, int_lt, pos, IfSome};
 
+use crate::ways::{cross, dot};
 use lengths::decimal::Unit;
-use planar::{Spot, cross, dot, is_placed};
+use planar::Spot;
 
 /// A draw whose centre is looked for, in u. `decimals` and `unit` tell the step of its file.
 #[derive(Clone, Copy)]
@@ -22,7 +23,8 @@ pub struct Draw {
 pub fn moved(a: Spot, way: Spot) -> Spot
     requires spot { IsPlaced a }
     requires way { IsPlaced way }
-    ensures { result ≡ spec.moved a way }
+    ensures value { result ≡ spec.moved a way }
+    ensures near { IsCandidate result }
 {
     Spot {
         x: a.x + way.x,
@@ -31,10 +33,10 @@ pub fn moved(a: Spot, way: Spot) -> Spot
 }
 
 fn span(a: Spot, b: Spot) -> u64
-    requires a { IsPlaced a }
+    requires a { IsCandidate a }
     requires b { IsPlaced b }
     ensures value { result ≡ spec.span a b }
-    ensures short { result ≤ 40_000_000_000 }
+    ensures short { result ≤ 60_000_000_000 }
 {
     b.x.abs_diff(a.x) + b.y.abs_diff(a.y)
 }
@@ -71,7 +73,7 @@ fn steps_in(decimals: u8) -> u128
 fn is_little(over: u128, steps: u128, units: u128, reach: u64) -> bool
     requires steps { steps ≤ 10_000_000 }
     requires units { units ≤ 254_000_000 }
-    requires reach { reach ≤ 80_000_000_000 }
+    requires reach { reach ≤ 120_000_000_000 }
     ensures { result ≡ spec.is_little over steps units reach }
 {
     match over.checked_mul(steps * steps) {
@@ -112,7 +114,7 @@ fn flip_y(way: Spot) -> Spot
 impl Draw {
     fn is_forward(&self, c: Spot) -> bool
         requires lawful { IsLawfulDraw self.now }
-        requires centre { IsPlaced c }
+        requires centre { IsCandidate c }
         ensures { result ≡ not (int_lt (spec.turn_about self.now c) (pos 0)) }
     {
         let turn = if self.clockwise {
@@ -125,7 +127,7 @@ impl Draw {
 
     fn is_wide(&self, c: Spot) -> bool
         requires lawful { IsLawfulDraw self.now }
-        requires centre { IsPlaced c }
+        requires centre { IsCandidate c }
         ensures { result ≡ spec.is_wide self.now c }
     {
         dot(c, self.start, self.end) < 0
@@ -133,7 +135,7 @@ impl Draw {
 
     fn is_nearly_right(&self, c: Spot) -> bool
         requires lawful { IsLawfulDraw self.now }
-        requires centre { IsPlaced c }
+        requires centre { IsCandidate c }
         ensures { result ≡ spec.is_nearly_right self.now c }
     {
         let over = dot(c, self.start, self.end).unsigned_abs();
@@ -143,7 +145,7 @@ impl Draw {
 
     fn is_quarter(&self, c: Spot) -> bool
         requires lawful { IsLawfulDraw self.now }
-        requires centre { IsPlaced c }
+        requires centre { IsCandidate c }
         ensures { result ≡ spec.is_quarter self.now c }
     {
         !self.is_wide(c) || self.is_nearly_right(c)
@@ -152,19 +154,16 @@ impl Draw {
     /// Whether a centre may be meant.
     fn is_fit(&self, c: Spot) -> bool
         requires lawful { IsLawfulDraw self.now }
-        ensures value { result ≡ spec.is_fit self.now c }
-        ensures placed { IsTrue result → IsPlaced c }
+        requires centre { IsCandidate c }
+        ensures { result ≡ spec.is_fit self.now c }
     {
-        if !is_placed(c) {
-            return false;
-        }
         self.is_forward(c) && self.is_quarter(c)
     }
 
     /// By how much the squares of the distances of both ends from a centre differ, in square u.
     fn unlike(&self, c: Spot) -> u128
         requires lawful { IsLawfulDraw self.now }
-        requires centre { IsPlaced c }
+        requires centre { IsCandidate c }
         ensures { result ≡ spec.unlike self.now c }
     {
         let near = dot(c, self.start, self.start).unsigned_abs();
@@ -174,22 +173,24 @@ impl Draw {
 
     fn is_better(&self, a: Spot, b: Spot) -> bool
         requires lawful { IsLawfulDraw self.now }
-        requires a { IsPlaced a }
-        requires b { IsPlaced b }
+        requires a { IsCandidate a }
+        requires b { IsCandidate b }
         ensures { result ≡ spec.is_better self.now a b }
     {
-        let less = self.unlike(a) < self.unlike(b);
-        if self.is_wide(a) {
-            self.is_wide(b) && less
+        let unlike = self.unlike(a);
+        let other = self.unlike(b);
+        if unlike == other {
+            !self.is_wide(a) && self.is_wide(b)
         } else {
-            self.is_wide(b) || less
+            unlike < other
         }
     }
 
     /// Whether a centre that may be meant is better than another, if that is one.
     fn beats(&self, a: Spot, b: Spot) -> bool
         requires lawful { IsLawfulDraw self.now }
-        requires a { IsPlaced a }
+        requires a { IsCandidate a }
+        requires b { IsCandidate b }
         ensures { result ≡ spec.beats self.now a b }
     {
         if same_spot(a, b) || !self.is_fit(b) {

@@ -78,10 +78,7 @@ fn quarter_bend(draw: &Draw, way: Spot) -> Result<Option<Bend>, RealKind>
         return Ok(None);
     }
     match draw.choice(way) {
-        Some(way) => Ok(Some(Bend {
-            clockwise: draw.clockwise,
-            to_centre: way,
-        })),
+        Some(way) => any_bend(draw, way),
         None => Err(RealKind::NoCentre),
     }
 }

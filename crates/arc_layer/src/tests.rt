@@ -107,7 +107,7 @@ fn of_any_arcs() -> [(&'static str, &'static str); 8] {
 }
 
 // Single quadrant mode, and inches.
-fn of_quarters() -> [(&'static str, &'static str); 19] {
+fn of_quarters() -> [(&'static str, &'static str); 21] {
     [
         (
             "G74*G03X1000000Y1000000I0J1000000D01*M02*",
@@ -171,6 +171,14 @@ fn of_quarters() -> [(&'static str, &'static str); 19] {
             "(-50 50) 0 0, 100 100, 10000000 by 6.0",
         ),
         (
+            "G74*G03X400001Y200000I100000J300000D01*M02*",
+            "(1000000 3000000) 0 0, 4000010 2000000, 10000000 by 6.0",
+        ),
+        (
+            "G74*G03X13Y13I1J13D01*M02*",
+            "(-10 130) 0 0, 130 130, 10000000 by 6.0",
+        ),
+        (
             "G75*G02*X1000000I500000D01*G74*Y500000I500000D01*G01*X0D01*M02*",
             "(5000000 0) 10000000 0, 0 0, 10000000 by 7.0\n(15000000 0) 10000000 5000000, 10000000 0, 10000000 by 9.0\n10000000 5000000, 0 5000000, 5000000 by 11.0",
         ),
@@ -186,7 +194,7 @@ fn of_quarters() -> [(&'static str, &'static str); 19] {
 }
 
 // Refusals; the last are of this crate's own.
-fn of_refusals() -> [(&'static str, &'static str); 18] {
+fn of_refusals() -> [(&'static str, &'static str); 20] {
     [
         (
             "G74*G03X1000000Y1000003I0J1000000D01*M02*",
@@ -225,6 +233,14 @@ fn of_refusals() -> [(&'static str, &'static str); 18] {
         (
             "X1000000000D02*G75*G02X999999999I1J0D01*M02*",
             "Gerber(OutOfRange) at command 7",
+        ),
+        (
+            "X1000000000D02*G74*G03X999999988Y-12I1J13D01*M02*",
+            "Gerber(OutOfRange) at command 7",
+        ),
+        (
+            "G74*G03X10Y10I5J5D01*I5J5*M02*",
+            "Gerber(BadWord) at command 7",
         ),
         ("G75*G02X1J0D01*G20*M02*", "Gerber(BadWord) at command 7"),
         ("G75*G02X1D01*G20*M02*", "NoOffsets at command 6"),

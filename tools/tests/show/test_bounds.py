@@ -3,11 +3,13 @@ import os
 import random
 import tempfile
 import unittest
+from math import cos, pi, sin
 
 import made
 from made import STAND_IN, flash, manifest, netlist, record
 from real_shapes import Real, fine, has, pieces_of
 from show_board import bounds, judged, manifest as manifests
+from show_board.drawn import Operations
 from show_board.exact import Refused
 from show_board.objects import objects_of
 from show_board.package import Package
@@ -113,6 +115,23 @@ class Files(unittest.TestCase):
         low, high = (pieces_of(side) for side in copper.sides)
         for p, inside in (((7071000, 7071000), True), ((7900000, 7900000), False), ((-7071000, 7071000), False), ((7071000, -7071000), False)):
             self.assertEqual((has(low, fine(p)), has(high, fine(p))), (inside, inside), p)
+
+    def test_right_angles_on_the_grid(self):
+        """Centre and ends are rounded, so that about one angle in five is over a right one while another centre fits."""
+        rng = random.Random(7)
+        for tried in range(1000):
+            read = Operations()
+            read.quadrants, read.mode, read.unit = "G74", rng.choice((2, 3)), 10
+            x, y, radius, angle = *(rng.uniform(-10 ** 7, 10 ** 7) for _ in range(2)), 10 ** rng.uniform(3, 6.5), rng.uniform(0, 2 * pi)
+            place = lambda r, t: (10 * round(x + r * cos(t)), 10 * round(y + r * sin(t)))
+            centre, start = place(0, 0), place(radius, angle)
+            read.spot = place(radius, angle + (read.mode - 2.5) * pi)
+            self.assertEqual(read.centre(start, tuple(abs(a - b) for a, b in zip(centre, start))), centre, (start, read.spot))
+
+    def test_as_unlike_ends(self):
+        read = Operations()
+        read.quadrants, read.mode, read.unit, read.spot = "G74", 3, 10, (130, 130)
+        self.assertEqual(read.centre((0, 0), (10, 130)), (-10, 130))
 
     def test_steps_and_inches(self):
         copper = Copper("%FSLAX24Y24*%\n%MOIN*%\n%AMA*21,1,.1,.1,0,0,30*%\n%ADD10A*%\n%SRX2Y1I.5J0*%\nD10*\nX10000Y0D03*\n%SR*%\nM02*")

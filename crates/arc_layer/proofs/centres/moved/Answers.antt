@@ -1,8 +1,14 @@
-use Rattle.arc_layer.proofs.Sums.{sum_read}
+use Rattle.arc_layer.proofs.Sums.{sum_read, sum_within}
 use Rattle.arc_layer.proofs.centres.moved.Goals as goal
 
-pub returns : goal.returns
-returns c =
+pub returns-clause-value : goal.returns-clause-value
+returns-clause-value c =
     let x = sum_read c.args.a.x c.args.way.x c.requires.spot.0 c.requires.way.0 in
     let y = sum_read c.args.a.y c.args.way.y c.requires.spot.1 c.requires.way.1 in
     cc
+
+pub returns-clause-near : goal.returns-clause-near
+returns-clause-near c =
+    let x = sum_within c.args.a.x c.args.way.x c.requires.spot.0 c.requires.way.0 in
+    let y = sum_within c.args.a.y c.args.way.y c.requires.spot.1 c.requires.way.1 in
+    (x, y)
