@@ -5,7 +5,6 @@ tools, and places, of which a missing coordinate stays. No modes and no conditio
 """
 import re
 from array import array
-from collections import Counter
 from decimal import Decimal
 
 MM, INCH = 10_000_000, 254_000_000
@@ -81,9 +80,13 @@ class Shapes:
 
     def box(self, piece):
         """The box round a piece: left, low, right, high."""
-        if piece >= len(self.boxes):
+        return self.boxes[piece] if piece < len(self.boxes) else self.all_boxes()[piece]
+
+    def all_boxes(self):
+        """The boxes of all pieces, found once."""
+        if len(self.boxes) < len(self):
             self.boxes += self.boxes_from(len(self.boxes))
-        return self.boxes[piece]
+        return self.boxes
 
     def boxes_from(self, first):
         """The boxes of all pieces from one on."""
@@ -195,30 +198,37 @@ def add_drilled(shapes, data, lines):
         raise BadCopper("a hole of a drill file has no tool") from None
 
 
+def lines_of(files, report):
+    """How many pieces each file has, and the commands or lines that make them."""
+    counts, lines = [0] * len(files), [set() for _ in files]
+    for file, command, *_ in report.sources:
+        counts[file] += 1
+        lines[file].add(command)
+    return counts, lines
+
+
 class Known:
-    """The copper files of a board whose shapes are known: the pieces of each, by its bytes."""
+    """The files of a board whose shapes are known: the pieces of each, by its bytes and of a drill file the lines with holes."""
 
     def __init__(self, board):
         self.shapes, self.pieces, first = board.shapes, {}, 0
-        counts = Counter(file for file, *_ in board.report.sources)
-        for file, name in enumerate(board.manifest.copper):
-            self.pieces[board.package.read(name)] = first, first + counts[file]
-            first += counts[file]
+        files = board.manifest.files
+        for file, (name, count, lines) in enumerate(zip(files, *lines_of(files, board.report))):
+            self.pieces[board.package.read(name), frozenset(lines) if board.manifest.is_drilled(file) else None] = first, first + count
+            first += count
 
 
 def shapes_of(package, report, flatten, known=None):
     """The shape of every piece. `flatten(name)` answers the normal form of a copper file; what is `known` of another board is taken."""
     files, shapes = package.manifest.files, Shapes()
-    lines, counts = [set() for _ in files], [0] * len(files)
-    for file, command, *_ in report.sources:
-        counts[file] += 1
-        lines[file].add(command)
+    counts, lines = lines_of(files, report)
     for file, name in enumerate(files):
-        before = len(shapes)
-        if package.manifest.is_drilled(file):
+        before, is_drilled = len(shapes), package.manifest.is_drilled(file)
+        key = known and (package.read(name), frozenset(lines[file]) if is_drilled else None)
+        if known and key in known.pieces:
+            shapes.take(known.shapes, *known.pieces[key])
+        elif is_drilled:
             add_drilled(shapes, package.read(name), lines[file])
-        elif known and package.read(name) in known.pieces:
-            shapes.take(known.shapes, *known.pieces[package.read(name)])
         else:
             add_flat(shapes, flatten(name))
         if len(shapes) - before != counts[file]:
@@ -229,8 +239,9 @@ def shapes_of(package, report, flatten, known=None):
 
 def must_fit(shapes, report):
     """Every piece's box meets its parent's: a cheap sign that shapes and report belong together."""
+    boxes = shapes.all_boxes()
     for piece, parent in enumerate(report.parent):
         if parent >= 0:
-            a, b = shapes.box(piece), shapes.box(parent)
+            a, b = boxes[piece], boxes[parent]
             if a[0] > b[2] or b[0] > a[2] or a[1] > b[3] or b[1] > a[3]:
                 raise BadCopper(f"the shapes of pieces {parent} and {piece} do not touch, and the report says that they do")
