@@ -74,6 +74,15 @@ class Shapes:
             return [(self.x[first], self.y[first])]
         return list(zip(self.x[first:end], self.y[first:end]))
 
+    def is_spot(self, piece):
+        """Whether it is a capsule of one place, as of a round pad."""
+        return self.start[piece + 1] - self.start[piece] == 1 and self.radius[piece] >= 0
+
+    def form(self, piece, x, y):
+        """The radius and the places beside (x, y): pieces that are alike have the same."""
+        a, b = self.start[piece], self.start[piece + 1]
+        return self.radius[piece], tuple([v - x for v in self.x[a:b]]), tuple([w - y for w in self.y[a:b]])
+
     def first(self, piece):
         """The first place of a piece."""
         return self.x[self.start[piece]], self.y[self.start[piece]]
@@ -95,9 +104,12 @@ class Shapes:
             if b - a == 1:
                 x, y = self.x[a], self.y[a]
                 found.append((x - r, y - r, x + r, y + r))
+            elif r >= 0:
+                x, y, u, v = self.x[a], self.y[a], self.x[b - 1], self.y[b - 1]
+                found.append(((x if x < u else u) - r, (y if y < v else v) - r, (u if x < u else x) + r, (v if y < v else y) + r))
             else:
-                r, xs, ys = max(r, 0), self.x[a:b], self.y[a:b]
-                found.append((min(xs) - r, min(ys) - r, max(xs) + r, max(ys) + r))
+                xs, ys = self.x[a:b], self.y[a:b]
+                found.append((min(xs), min(ys), max(xs), max(ys)))
         return found
 
 
