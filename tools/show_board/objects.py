@@ -73,12 +73,14 @@ class Walk:
         self.scale = self.parts = self.last = self.aperture = self.block = self.macro = None
         self.place, self.clear, self.in_region, self.edges, self.region = (0, 0), False, False, 0, 0
         self.command = 0
-        for extended, word, first in words_of(text, True):
+        for extended, word, first in words_of(text, True, True):
             self.command += 1
             if extended:
                 self.extended(word, first)
             elif isinstance(word, str):
                 self.plain(word)
+            elif isinstance(word, tuple):
+                self.plain_run(word)
             else:
                 self.run(word[::3], word[1::3], word[2::3])
 
@@ -123,6 +125,16 @@ class Walk:
         elif word not in MODES and operation and any(operation.groups()[1:]):
             _, x, y, _, _, code = operation.groups()
             self.operation(x, y, code)
+
+    def plain_run(self, words):
+        """Words by x, y and code, or by the number of an aperture."""
+        self.command -= 1
+        for x, y, code, number in words:
+            self.command += 1
+            if number:
+                self.aperture = self.apertures.get(int(number))
+            else:
+                self.operation(x, y, code)
 
     # ---- apertures
 
