@@ -11,9 +11,10 @@ MM, INCH = 10_000_000, 254_000_000
 TOOL = re.compile(rb"T([0-9]+)C([0-9.+-]+)")
 PICK = re.compile(rb"T([0-9]+)")
 PLACE = re.compile(rb"(?:G0[01])?(?:X([0-9.+-]+))?(?:Y([0-9.+-]+))?")
-# Of the normal form: strokes, a choice, a definition, and the other words; the corners of a region.
-PART = re.compile(rb"((?:X-?[0-9]+Y-?[0-9]+D02\*\nX-?[0-9]+Y-?[0-9]+D01\*\n){1,500})|D([0-9]+)\*\n|%ADD([0-9]+)C,([0-9.]+)\*%\n|"
-                  rb"(?:M02\*|%FSLAX47Y47\*%|%MOMM\*%)\n")
+# Of the normal form: choices, strokes and small regions; a definition, and the other words; the corners of a region.
+PIECES = re.compile(rb"(?:X-?[0-9]+Y-?[0-9]+D02\*\nX-?[0-9]+Y-?[0-9]+D01\*\n|D[0-9]+\*\n|G36\*\n(?:X-?[0-9]+Y-?[0-9]+D0[12]\*\n){1,40}G37\*\n){1,500}")
+PIECE = re.compile(rb"X(-?[0-9]+)Y(-?[0-9]+)D02\*\nX(-?[0-9]+)Y(-?[0-9]+)D01\*\n|D([0-9]+)\*\n|G36\*\n([^G]+)G37\*\n")
+PART = re.compile(rb"%ADD([0-9]+)C,([0-9.]+)\*%\n|(?:M02\*|%FSLAX47Y47\*%|%MOMM\*%)\n")
 CORNER = re.compile(rb"X-?[0-9]+Y-?[0-9]+D0[12]\*\n")
 REGION, REGION_END = b"G36*\n", b"G37*\n"
 NUMBERS = bytes.maketrans(b"XYD*", b"    ")
@@ -122,7 +123,23 @@ class Flat:
     def read(self, text):
         at = 0
         while at < len(text):
-            at = self.region(text, at + len(REGION)) if text.startswith(REGION, at) else self.part(text, at)
+            many = PIECES.match(text, at)
+            if many:
+                self.pieces(many[0])
+                at = many.end()
+            else:
+                at = self.region(text, at + len(REGION)) if text.startswith(REGION, at) else self.part(text, at)
+
+    def pieces(self, words):
+        """Reads choices, strokes and small regions."""
+        for x, y, to_x, to_y, picked, corners in PIECE.findall(words):
+            if x:
+                here, there = (int(x), int(y)), (int(to_x), int(to_y))
+                self.shapes.add(self.radius, (here,) if here == there else (here, there))
+            elif picked:
+                self.radius = self.diameters[picked] // 2
+            else:
+                self.area(corners)
 
     def part(self, text, at):
         """Reads what there is up to a place, which is returned."""
@@ -131,14 +148,8 @@ class Flat:
             if text[at:].strip():
                 raise BadCopper(NOT_NORMAL)
             return len(text)
-        strokes, picked, defined, size = found.groups()
-        if strokes:
-            values = numbers(strokes)
-            for x, y, x2, y2 in zip(values[::6], values[1::6], values[3::6], values[4::6]):
-                self.shapes.add(self.radius, ((x, y),) if x == x2 and y == y2 else ((x, y), (x2, y2)))
-        elif picked:
-            self.radius = self.diameters[picked] // 2
-        elif defined:
+        defined, size = found.groups()
+        if defined:
             self.diameters[defined] = int(Decimal(size.decode()) * MM)
         return found.end()
 
@@ -147,10 +158,13 @@ class Flat:
         words = text[at:end]
         if end < 0 or CORNER.sub(b"", words):
             raise BadCopper(NOT_NORMAL)
+        self.area(words)
+        return end + len(REGION_END)
+
+    def area(self, words):
         values = numbers(words)
         # The last corner is the first.
         self.shapes.add_area(values[-3:-2] + values[3:-3:3], values[-2:-1] + values[4:-3:3])
-        return end + len(REGION_END)
 
 
 def numbers(words):
