@@ -5,6 +5,7 @@ Columns 72 to 80 are blank: solder masks are not read.
 """
 import re
 from collections import defaultdict
+from functools import lru_cache
 from itertools import count
 
 from . import points
@@ -85,6 +86,7 @@ def plain(text, width):
     return UNPLAIN.sub("?", text)[:width]
 
 
+@lru_cache(maxsize=1_000)
 def whole(length, unit):
     """A size in four digits: rounded, at least 1 (a height of 0 stands for a round pad), and at most what they hold."""
     return min(MOST, max(1, (2 * length + unit) // (2 * unit)))
