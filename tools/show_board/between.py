@@ -19,7 +19,7 @@ NOTE = ("The board lies between two bounds, since some of its copper is outside 
 def own_commands(report, manifest, sources):
     """The report with the user's commands in place of those of the copy."""
     told = copy.copy(report)
-    if report.sources:
+    if report.sources and sources:
         by_file = [sources.get(name) for name in manifest.files]
         told.sources = [(file, by_file[file][command - 1] if by_file[file] else command, *more) for file, command, *more in report.sources]
     return told

@@ -1,5 +1,6 @@
 """What findings are told about: the report, the files that it speaks of, the netlist's records, and the copper where it is known."""
 from collections import defaultdict
+from functools import cached_property
 
 from .netlist import NO_NET
 from .ties import Ties
@@ -13,12 +14,23 @@ class Board:
     def __init__(self, package, report, records, shapes=None, labels=None, ties=None):
         self.package, self.manifest, self.report = package, package.manifest, report
         self.records, self.shapes, self.labels, self.ties = records, shapes, labels or {}, ties or Ties()
-        self.pieces_of, self.points_of = defaultdict(list), defaultdict(list)
-        for piece, net in enumerate(report.net_of):
-            self.pieces_of[net].append(piece)
-        for point, (*_, net) in enumerate(report.points):
-            self.points_of[net].append(point)
         self.touching = Touching(shapes, [source[3:] for source in report.sources]) if shapes is not None else None
+
+    @cached_property
+    def pieces_of(self):
+        """The pieces of each net."""
+        found = defaultdict(list)
+        for piece, net in enumerate(self.report.net_of):
+            found[net].append(piece)
+        return found
+
+    @cached_property
+    def points_of(self):
+        """The test points of each net, those without copper under -1."""
+        found = defaultdict(list)
+        for point, (*_, net) in enumerate(self.report.points):
+            found[net].append(point)
+        return found
 
     # ---- names
 

@@ -5,16 +5,16 @@ tools, and places, of which a missing coordinate stays. No modes and no conditio
 """
 import re
 from array import array
-from collections import Counter
 from decimal import Decimal
 
 MM, INCH = 10_000_000, 254_000_000
 TOOL = re.compile(rb"T([0-9]+)C([0-9.+-]+)")
 PICK = re.compile(rb"T([0-9]+)")
 PLACE = re.compile(rb"(?:G0[01])?(?:X([0-9.+-]+))?(?:Y([0-9.+-]+))?")
-# Of the normal form: strokes, a choice, a definition, and the other words; the corners of a region.
-PART = re.compile(rb"((?:X-?[0-9]+Y-?[0-9]+D02\*\nX-?[0-9]+Y-?[0-9]+D01\*\n){1,500})|D([0-9]+)\*\n|%ADD([0-9]+)C,([0-9.]+)\*%\n|"
-                  rb"(?:M02\*|%FSLAX47Y47\*%|%MOMM\*%)\n")
+# Of the normal form: choices, strokes and small regions; a definition, and the other words; the corners of a region.
+PIECES = re.compile(rb"(?:X-?[0-9]+Y-?[0-9]+D02\*\nX-?[0-9]+Y-?[0-9]+D01\*\n|D[0-9]+\*\n|G36\*\n(?:X-?[0-9]+Y-?[0-9]+D0[12]\*\n){1,40}G37\*\n){1,500}")
+PIECE = re.compile(rb"X(-?[0-9]+)Y(-?[0-9]+)D02\*\nX(-?[0-9]+)Y(-?[0-9]+)D01\*\n|D([0-9]+)\*\n|G36\*\n([^G]+)G37\*\n")
+PART = re.compile(rb"%ADD([0-9]+)C,([0-9.]+)\*%\n|(?:M02\*|%FSLAX47Y47\*%|%MOMM\*%)\n")
 CORNER = re.compile(rb"X-?[0-9]+Y-?[0-9]+D0[12]\*\n")
 REGION, REGION_END = b"G36*\n", b"G37*\n"
 NUMBERS = bytes.maketrans(b"XYD*", b"    ")
@@ -75,15 +75,28 @@ class Shapes:
             return [(self.x[first], self.y[first])]
         return list(zip(self.x[first:end], self.y[first:end]))
 
+    def is_spot(self, piece):
+        """Whether it is a capsule of one place, as of a round pad."""
+        return self.start[piece + 1] - self.start[piece] == 1 and self.radius[piece] >= 0
+
+    def form(self, piece, x, y):
+        """The radius and the places beside (x, y): pieces that are alike have the same."""
+        a, b = self.start[piece], self.start[piece + 1]
+        return self.radius[piece], tuple([v - x for v in self.x[a:b]]), tuple([w - y for w in self.y[a:b]])
+
     def first(self, piece):
         """The first place of a piece."""
         return self.x[self.start[piece]], self.y[self.start[piece]]
 
     def box(self, piece):
         """The box round a piece: left, low, right, high."""
-        if piece >= len(self.boxes):
+        return self.boxes[piece] if piece < len(self.boxes) else self.all_boxes()[piece]
+
+    def all_boxes(self):
+        """The boxes of all pieces, found once."""
+        if len(self.boxes) < len(self):
             self.boxes += self.boxes_from(len(self.boxes))
-        return self.boxes[piece]
+        return self.boxes
 
     def boxes_from(self, first):
         """The boxes of all pieces from one on."""
@@ -92,9 +105,12 @@ class Shapes:
             if b - a == 1:
                 x, y = self.x[a], self.y[a]
                 found.append((x - r, y - r, x + r, y + r))
+            elif r >= 0:
+                x, y, u, v = self.x[a], self.y[a], self.x[b - 1], self.y[b - 1]
+                found.append(((x if x < u else u) - r, (y if y < v else v) - r, (u if x < u else x) + r, (v if y < v else y) + r))
             else:
-                r, xs, ys = max(r, 0), self.x[a:b], self.y[a:b]
-                found.append((min(xs) - r, min(ys) - r, max(xs) + r, max(ys) + r))
+                xs, ys = self.x[a:b], self.y[a:b]
+                found.append((min(xs), min(ys), max(xs), max(ys)))
         return found
 
 
@@ -107,7 +123,23 @@ class Flat:
     def read(self, text):
         at = 0
         while at < len(text):
-            at = self.region(text, at + len(REGION)) if text.startswith(REGION, at) else self.part(text, at)
+            many = PIECES.match(text, at)
+            if many:
+                self.pieces(many[0])
+                at = many.end()
+            else:
+                at = self.region(text, at + len(REGION)) if text.startswith(REGION, at) else self.part(text, at)
+
+    def pieces(self, words):
+        """Reads choices, strokes and small regions."""
+        for x, y, to_x, to_y, picked, corners in PIECE.findall(words):
+            if x:
+                here, there = (int(x), int(y)), (int(to_x), int(to_y))
+                self.shapes.add(self.radius, (here,) if here == there else (here, there))
+            elif picked:
+                self.radius = self.diameters[picked] // 2
+            else:
+                self.area(corners)
 
     def part(self, text, at):
         """Reads what there is up to a place, which is returned."""
@@ -116,14 +148,8 @@ class Flat:
             if text[at:].strip():
                 raise BadCopper(NOT_NORMAL)
             return len(text)
-        strokes, picked, defined, size = found.groups()
-        if strokes:
-            values = numbers(strokes)
-            for x, y, x2, y2 in zip(values[::6], values[1::6], values[3::6], values[4::6]):
-                self.shapes.add(self.radius, ((x, y),) if x == x2 and y == y2 else ((x, y), (x2, y2)))
-        elif picked:
-            self.radius = self.diameters[picked] // 2
-        elif defined:
+        defined, size = found.groups()
+        if defined:
             self.diameters[defined] = int(Decimal(size.decode()) * MM)
         return found.end()
 
@@ -132,10 +158,13 @@ class Flat:
         words = text[at:end]
         if end < 0 or CORNER.sub(b"", words):
             raise BadCopper(NOT_NORMAL)
+        self.area(words)
+        return end + len(REGION_END)
+
+    def area(self, words):
         values = numbers(words)
         # The last corner is the first.
         self.shapes.add_area(values[-3:-2] + values[3:-3:3], values[-2:-1] + values[4:-3:3])
-        return end + len(REGION_END)
 
 
 def numbers(words):
@@ -195,30 +224,37 @@ def add_drilled(shapes, data, lines):
         raise BadCopper("a hole of a drill file has no tool") from None
 
 
+def lines_of(files, report):
+    """How many pieces each file has, and the commands or lines that make them."""
+    counts, lines = [0] * len(files), [set() for _ in files]
+    for file, command, *_ in report.sources:
+        counts[file] += 1
+        lines[file].add(command)
+    return counts, lines
+
+
 class Known:
-    """The copper files of a board whose shapes are known: the pieces of each, by its bytes."""
+    """The files of a board whose shapes are known: the pieces of each, by its bytes and of a drill file the lines with holes."""
 
     def __init__(self, board):
         self.shapes, self.pieces, first = board.shapes, {}, 0
-        counts = Counter(file for file, *_ in board.report.sources)
-        for file, name in enumerate(board.manifest.copper):
-            self.pieces[board.package.read(name)] = first, first + counts[file]
-            first += counts[file]
+        files = board.manifest.files
+        for file, (name, count, lines) in enumerate(zip(files, *lines_of(files, board.report))):
+            self.pieces[board.package.read(name), frozenset(lines) if board.manifest.is_drilled(file) else None] = first, first + count
+            first += count
 
 
 def shapes_of(package, report, flatten, known=None):
     """The shape of every piece. `flatten(name)` answers the normal form of a copper file; what is `known` of another board is taken."""
     files, shapes = package.manifest.files, Shapes()
-    lines, counts = [set() for _ in files], [0] * len(files)
-    for file, command, *_ in report.sources:
-        counts[file] += 1
-        lines[file].add(command)
+    counts, lines = lines_of(files, report)
     for file, name in enumerate(files):
-        before = len(shapes)
-        if package.manifest.is_drilled(file):
+        before, is_drilled = len(shapes), package.manifest.is_drilled(file)
+        key = known and (package.read(name), frozenset(lines[file]) if is_drilled else None)
+        if known and key in known.pieces:
+            shapes.take(known.shapes, *known.pieces[key])
+        elif is_drilled:
             add_drilled(shapes, package.read(name), lines[file])
-        elif known and package.read(name) in known.pieces:
-            shapes.take(known.shapes, *known.pieces[package.read(name)])
         else:
             add_flat(shapes, flatten(name))
         if len(shapes) - before != counts[file]:
@@ -229,8 +265,9 @@ def shapes_of(package, report, flatten, known=None):
 
 def must_fit(shapes, report):
     """Every piece's box meets its parent's: a cheap sign that shapes and report belong together."""
+    boxes = shapes.all_boxes()
     for piece, parent in enumerate(report.parent):
         if parent >= 0:
-            a, b = shapes.box(piece), shapes.box(parent)
+            a, b = boxes[piece], boxes[parent]
             if a[0] > b[2] or b[0] > a[2] or a[1] > b[3] or b[1] > a[3]:
                 raise BadCopper(f"the shapes of pieces {parent} and {piece} do not touch, and the report says that they do")

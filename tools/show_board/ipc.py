@@ -5,6 +5,7 @@ Columns 72 to 80 are blank: solder masks are not read.
 """
 import re
 from collections import defaultdict
+from functools import lru_cache
 from itertools import count
 
 from . import points
@@ -78,10 +79,14 @@ def in_ascii(name):
     return "".join(it if " " <= it <= "~" else f"\\u{ord(it):04X}" if it <= "\uffff" else f"\\U{ord(it):08X}" for it in name)
 
 
+UNPLAIN = re.compile("[^!-~]")
+
+
 def plain(text, width):
-    return re.sub("[^!-~]", "?", text)[:width]
+    return UNPLAIN.sub("?", text)[:width]
 
 
+@lru_cache(maxsize=1_000)
 def whole(length, unit):
     """A size in four digits: rounded, at least 1 (a height of 0 stands for a round pad), and at most what they hold."""
     return min(MOST, max(1, (2 * length + unit) // (2 * unit)))
@@ -102,8 +107,8 @@ class Row:
     def line(self, unit, name, drill):
         it = self.place
         part, pin = (it.part, it.pin) if it.part else (VIA, "") if it.is_via else ("", "")
-        is_middle = it.is_via and not it.part
-        head = f"{'317' if it.hole is not None else '327'}{name:<14}   {plain(part, 6):<6}{'-' if pin else ' '}{plain(pin, 4):<4}{'M' if is_middle else ' '}"
+        named = f"{plain(part, 6):<6}{'-' if pin else ' '}{plain(pin, 4):<4}{'M' if it.is_via and not it.part else ' '}" if part else " " * 12
+        head = f"{'317' if it.hole is not None else '327'}{name:<14}   {named}"
         hole = f"D{whole(drill, unit):04d}P" if it.hole is not None else " " * 6
         wide, high = (whole(length, unit) for length in it.size)
         return f"{head}{hole}A{self.access:02d}X{self.at.x:+07d}Y{self.at.y:+07d}X{wide:04d}Y{0 if it.is_round else high:04d}R000"
@@ -136,12 +141,23 @@ def solid(shapes, piece):
     return ("area", places) if shapes.is_area(piece) else ("capsule", places[0], places[-1], shapes.radius[piece])
 
 
-def on_grid(pads):
+def is_middle(place, shapes):
+    """Whether a place is a round piece that is touched at its middle: there it has copper."""
+    return len(place.pieces) == 1 and shapes.is_spot(place.pieces[0]) and place.aim == shapes.first(place.pieces[0])
+
+
+def on_grid(places, shapes):
     """A unit of which every aim is a whole number, with the places; most boards have one."""
     for unit in UNIT_WORDS:
-        if all(v % unit == 0 and abs(v) <= points.MOST * unit for pad in pads for v in pad.middle) and all(points.is_copper(pad, pad.middle) for pad in pads):
-            return unit, [points.Place(pad.middle[0] // unit, pad.middle[1] // unit, 0) for pad in pads]
+        most = points.MOST * unit
+        if all(x % unit == 0 == y % unit and abs(x) <= most and abs(y) <= most for x, y in (it.aim for it in places)) \
+                and all(is_middle(it, shapes) or points.is_copper(pad_of(it, shapes), it.aim) for it in places):
+            return unit, [points.Place(it.aim[0] // unit, it.aim[1] // unit, 0) for it in places]
     return None
+
+
+def pad_of(place, shapes):
+    return points.Pad(place.aim, [solid(shapes, piece) for piece in place.pieces])
 
 
 class Netlist:
@@ -151,8 +167,7 @@ class Netlist:
         self.board, self.title = padlist.board, title
         shapes, layers = self.board.shapes, self.board.manifest.layers
         self.names = Names(self.board, padlist.objects)
-        pads = [points.Pad(it.aim, [solid(shapes, piece) for piece in it.pieces]) for it in padlist.places]
-        self.unit, found = on_grid(pads) or points.settled(pads)
+        self.unit, found = on_grid(padlist.places, shapes) or points.settled([pad_of(it, shapes) for it in padlist.places])
         self.unplaced = [it for it, at in zip(padlist.places, found) if at is None]
         rows = {}
         for row in (Row(it, at, layers) for it, at in zip(padlist.places, found) if at is not None):

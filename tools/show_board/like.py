@@ -44,7 +44,7 @@ class Move:
     """How places of the other board become places of this one, by the records of its netlist before and after."""
 
     def __init__(self, before, after):
-        pairs = [((a.x, a.y), (b.x, b.y)) for a, b in zip(before, after)]
+        pairs = [((a.x, a.y), (b.x, b.y)) for a, b in zip(before, after)] if before is not after else []     # kept records are the same
         for _, form in FORMS:
             shifts = {tuple(v - w for v, w in zip(here, form(*there))) for there, here in pairs}
             if len(shifts) == 1:
@@ -160,7 +160,7 @@ def reference(program, path, asked, scratch, board):
     theirs = judged.judge(program, files)
     bounds.bounded(program, theirs)
     known = copper.Known(board) if board and board.shapes else None
-    made = tester.made(program, theirs, os.path.basename(os.path.normpath(path)), known=known)
+    made = tester.made(program, theirs, os.path.basename(os.path.normpath(path)), known=known, is_told=False)
     if made.text is None:
         raise Stop(theirs.status, f"{path}: {'; '.join(made.lines)}")
     return made, made.text.encode("latin-1")

@@ -25,7 +25,7 @@ class Record(NamedTuple):
 
 
 def printable(field):
-    return UNPRINTABLE.sub("?", field.decode("latin-1").strip())
+    return "" if field.isspace() else UNPRINTABLE.sub("?", field.decode("latin-1").strip())
 
 
 def length(sign, digits, unit):

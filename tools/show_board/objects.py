@@ -15,6 +15,7 @@ from .side import DRAW, FLASH, MOVE, words_of
 from .two_sides import MODES
 
 PLACED = re.compile(r"X([+-]?\d{1,13})Y([+-]?\d{1,13})D0?([123])")
+PICKED = re.compile(r"(?:G54)?D(\d{2,9})")
 PRIMITIVES = {1: (2,), 20: (2,), 21: (2, 3)}     # where a primitive has its sizes; without one it makes nothing
 
 
@@ -72,12 +73,14 @@ class Walk:
         self.scale = self.parts = self.last = self.aperture = self.block = self.macro = None
         self.place, self.clear, self.in_region, self.edges, self.region = (0, 0), False, False, 0, 0
         self.command = 0
-        for extended, word, first in words_of(text, True):
+        for extended, word, first in words_of(text, True, True):
             self.command += 1
             if extended:
                 self.extended(word, first)
             elif isinstance(word, str):
                 self.plain(word)
+            elif isinstance(word, tuple):
+                self.plain_run(word)
             else:
                 self.run(word[::3], word[1::3], word[2::3])
 
@@ -105,9 +108,12 @@ class Walk:
     def plain(self, word):
         found = PLACED.fullmatch(word)
         if found:       # most words
-            self.operation("", *found.groups()[:2], "", "", found[3])
+            self.operation(*found.groups())
             return
-        picked = re.fullmatch(r"(?:G54)?D(\d{2,9})", word)
+        picked = PICKED.fullmatch(word)
+        if picked and int(picked[1]) >= 10:
+            self.aperture = self.apertures.get(int(picked[1]))
+            return
         operation = OPERATION.fullmatch(word)
         if word in SCALES:
             self.scale = SCALES[word]
@@ -116,10 +122,19 @@ class Walk:
             self.in_region, self.region = word == "G36", self.region + 1
         elif word in ("M02", "M2"):
             self.steps("SR")
-        elif picked and int(picked[1]) >= 10:
-            self.aperture = self.apertures.get(int(picked[1]))
         elif word not in MODES and operation and any(operation.groups()[1:]):
-            self.operation(*operation.groups())
+            _, x, y, _, _, code = operation.groups()
+            self.operation(x, y, code)
+
+    def plain_run(self, words):
+        """Words by x, y and code, or by the number of an aperture."""
+        self.command -= 1
+        for x, y, code, number in words:
+            self.command += 1
+            if number:
+                self.aperture = self.apertures.get(int(number))
+            else:
+                self.operation(x, y, code)
 
     # ---- apertures
 
@@ -147,7 +162,7 @@ class Walk:
 
     # ---- operations
 
-    def operation(self, _, x, y, i, j, code):
+    def operation(self, x, y, code):
         code = self.last = int(code) if code else self.last
         self.place = (int(x) * self.scale // self.parts if x else self.place[0], int(y) * self.scale // self.parts if y else self.place[1])
         if self.in_region:

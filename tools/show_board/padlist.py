@@ -119,25 +119,24 @@ class Padlist:
         return found
 
     def all_pads(self):
-        groups = defaultdict(list)
-        for piece, it in enumerate(self.objects):
-            file = self.board.report.sources[piece][0]
-            if file in (0, self.layers - 1) and is_pad(it):
-                what = ("region", it.region, it.copy, it.inner and it.command, it.inner) if it.region else \
-                    ("flash", it.command, self.board.report.sources[piece][2] or it.copy, it.inner)
-                groups[file, what, self.board.report.net_of[piece]].append(piece)
+        groups, outer = defaultdict(list), (0, self.layers - 1)
+        for piece, (it, (file, _, copy, *_), net) in enumerate(zip(self.objects, self.board.report.sources, self.board.report.net_of)):
+            if file in outer and is_pad(it):
+                what = ("region", it.region, it.copy, it.inner and it.command, it.inner) if it.region else ("flash", it.command, copy or it.copy, it.inner)
+                groups[file, what, net].append(piece)
         return [self.pad(file + 1, net, pieces) for (file, _, net), pieces in groups.items()]
 
     def pad(self, layer, net, pieces):
         shapes, it = self.board.shapes, self.objects[pieces[0]]
         x, y = shapes.first(pieces[0])
-        form = tuple((shapes.radius[piece], tuple((v - x, w - y) for v, w in shapes.places(piece))) for piece in pieces)
+        is_round = len(pieces) == 1 and shapes.is_spot(pieces[0])
+        form = shapes.radius[pieces[0]] if is_round else tuple([shapes.form(piece, x, y) for piece in pieces])
         if form not in self.forms:
             self.forms[form] = self.measured(pieces, x, y)
         (left, low), size, (across, up) = self.forms[form]
         found = Place(pieces, net, (layer, layer), (x + left, y + low), size)
         found.name(it.part, it.pin, it.function == "ViaPad")
-        found.aim, found.is_round = (x + across, y + up), len(form) == 1 and form[0][0] >= 0 and len(form[0][1]) == 1
+        found.aim, found.is_round = (x + across, y + up), is_round
         return found
 
     def measured(self, pieces, x, y):
@@ -173,7 +172,8 @@ class Padlist:
         for j, k in grid.holding(boxes, [it.middle for it in self.pads]):
             hole, pad = self.holes[j], self.pads[k]
             layer = pad.layers[0]
-            is_about = hole.layers[0] <= layer <= hole.layers[1] and hole.net == pad.net and board.touching.holds(hole.hole, pad.middle)
+            is_about = hole.layers[0] <= layer <= hole.layers[1] and hole.net == pad.net and (
+                hole.middle == pad.middle and board.shapes.is_spot(hole.hole) or board.touching.holds(hole.hole, pad.middle))
             if is_about and not hole.is_of_other(pad):
                 hole.take(pad, layer == front(hole, self.layers))
                 about.add(k)

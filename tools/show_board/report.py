@@ -1,5 +1,6 @@
 """Reads a report of either version (docs/FORMATS.md, "The report")."""
 from array import array
+from functools import lru_cache
 from itertools import islice
 
 
@@ -27,20 +28,17 @@ class Report:
 
     def read(self):
         self.pieces = self.count("pieces")
-        self.net_of, self.parent = array("l", [-1]) * self.pieces, array("l", [-1]) * self.pieces
         self.nets = self.count("nets")
-        for _ in range(self.nets):
-            self.read_net()
+        self.net_of, self.parent = nets_of(tuple(islice(self.rows, self.nets)), self.pieces, self.nets)
         self.names = [next(self.rows).split(" ", 2)[2] for _ in range(self.count("names"))]
-        record, layer, name, net = self.table("point", "points", 5)[1:]
+        _, record, layer, name, net = columns(*self.rows_of("points"), "point", 5)
         self.points = [*zip(map(int, record), map(int, layer), map(int, name), (-1 if it == "-" else int(it) for it in net))]
         self.opens = [self.numbers("open") for _ in range(self.count("opens"))]
         self.shorts = [self.short() for _ in range(self.count("shorts"))]
         self.bare = [self.numbers("bare")[0] for _ in range(self.count("missing"))]
         self.spots = self.sources = None
         if self.version == 2:
-            self.spots = [*zip(*(map(int, column) for column in self.table("spot", "spots", 3)[1:]))]
-            self.sources = [*zip(*(map(int, column) for column in self.table("source", "sources", 6)[1:]))]
+            self.spots, self.sources = numbered(*self.rows_of("spots"), "spot", 3), numbered(*self.rows_of("sources"), "source", 6)
             if len(self.sources) != self.pieces or len(self.spots) != len(self.points):
                 raise ValueError
         self.agrees = {"agrees": True, "differs": False}[next(self.rows)]
@@ -55,28 +53,51 @@ class Report:
         (count,) = self.numbers(head)
         return count
 
-    def table(self, head, counted, width):
-        """The columns of rows that all have so many words behind their head."""
+    def rows_of(self, counted):
+        """How many rows of a table there are to be, and they in one text."""
         count = self.count(counted)
         rows = [*islice(self.rows, count)]
-        parts = " ".join(rows).split(" ") if rows else []
-        columns = [parts[k::width + 1] for k in range(width + 1)]
-        if len(rows) != count or len(parts) != count * (width + 1) or set(columns[0]) - {head}:
+        if len(rows) != count:
             raise ValueError
-        return columns[1:]
-
-    def read_net(self):
-        _, number, first, *twigs = next(self.rows).split(" ")
-        number, its = int(number), [*map(int, ":".join(twigs).split(":"))] if twigs else []
-        if ":" in first or len(its) != 2 * len(twigs):      # the one without a parent is not the first
-            parts = [(twig if ":" in twig else f"{twig}:-1").split(":") for twig in [first, *twigs]]
-            its = [int(part) for piece, parent in parts for part in (piece, parent)]
-        else:
-            self.net_of[int(first)] = number
-        for piece, parent in zip(its[::2], its[1::2]):
-            self.net_of[piece], self.parent[piece] = number, parent
+        return count, " ".join(rows)
 
     def short(self):
         net, count = self.numbers("short")
         branches = [self.numbers("branch") for _ in range(count)]
         return net, [(name, point, pieces) for name, point, *pieces in branches]
+
+
+# What follows is kept for the reports that were read last: copper that is judged anew with another netlist has the same nets and sources.
+
+@lru_cache(maxsize=2)
+def nets_of(rows, pieces, nets):
+    """Net and parent of each piece, by the rows of the nets."""
+    net_of, parents = array("l", [-1]) * pieces, array("l", [-1]) * pieces
+    if len(rows) != nets:
+        raise ValueError
+    for row in rows:
+        _, number, first, *twigs = row.split(" ")
+        number, its = int(number), [*map(int, ":".join(twigs).split(":"))] if twigs else []
+        if ":" in first or len(its) != 2 * len(twigs):      # the one without a parent is not the first
+            parts = [(twig if ":" in twig else f"{twig}:-1").split(":") for twig in [first, *twigs]]
+            its = [int(part) for piece, parent in parts for part in (piece, parent)]
+        else:
+            net_of[int(first)] = number
+        for piece, parent in zip(its[::2], its[1::2]):
+            net_of[piece], parents[piece] = number, parent
+    return net_of, parents
+
+
+def columns(count, rows, head, width):
+    """The columns of rows that all have so many words behind their head, without the head."""
+    parts = rows.split(" ") if count else []
+    found = [parts[k::width + 1] for k in range(width + 1)]
+    if len(parts) != count * (width + 1) or set(found[0]) - {head}:
+        raise ValueError
+    return found[1:]
+
+
+@lru_cache(maxsize=4)
+def numbered(count, rows, head, width):
+    """The numbers of such rows but for the first, which counts them."""
+    return [*zip(*(map(int, column) for column in columns(count, rows, head, width)[1:]))]

@@ -7,12 +7,16 @@ OWN = 900_000_000       # numbers of apertures that are made here
 DRAW, MOVE, FLASH = 1, 2, 3
 TOKENS = re.compile(r"[\t\n\r ]*(?:(%)|([^*%]*)(\*?))")
 PLACED = re.compile(r"[\t\n\r ]*X[+-]?[0-9]{1,13}Y[+-]?[0-9]{1,13}D0?[12]\*")
+# Words that most files have most: a place with its code, and an aperture.
+PLAIN_WORDS = re.compile(r"(?:[\t\n\r ]*(?:X[+-]?[0-9]{1,13}Y[+-]?[0-9]{1,13}D0?[123]|D[1-9][0-9]{1,8})\*){2,500}")
+PLAIN = re.compile(r"(?:X([+-]?[0-9]+)Y([+-]?[0-9]+)D0?([123])|D([0-9]+))\*")
 NUMBERS = bytes.maketrans(b"XYD*", b"    ")
 
 
-def words_of(text, runs=False):
+def words_of(text, runs=False, plain=False):
     """(in a pair of percent signs, word, first of its pair) in order. With `runs` the words of a region from G36 to G37 are one list of
-    their numbers, x, y and code of each, where all of them say these."""
+    their numbers, x, y and code of each, where all of them say these; with `plain` other words of that kind, and those that pick an
+    aperture, are one tuple of (x, y, code, aperture)."""
     inside, first, start = False, True, 0
     while start is not None:
         matches, start = TOKENS.finditer(text, start), None
@@ -21,6 +25,11 @@ def words_of(text, runs=False):
             if sign:
                 inside, first = not inside, True
             elif star:
+                many = plain and not inside and word[:1] in ("X", "D") and PLAIN_WORDS.match(text, match.start())
+                if many:
+                    yield False, tuple(PLAIN.findall(many[0])), False
+                    first, start = False, many.end()
+                    break
                 yield inside, word, first
                 first = False
                 end = text.find("G37*", match.end()) if runs and word == "G36" and not inside else -1

@@ -55,20 +55,21 @@ class Lines:
     of nets other groups may be given, as those of each piece."""
 
     def __init__(self, board, groups=None):
-        self.board, self.rows = board, defaultdict(list)
+        self.board, self.pieces = board, board.pieces_of
         self.trees, self.found = {}, {}
-        groups = dict(enumerate(zip(board.report.net_of))) if groups is None else groups
-        for piece, its in groups.items():
-            *_, top, bottom = board.report.sources[piece]
-            for group in its:
-                for layer in range(top, bottom + 1):
-                    self.rows[group, layer].append(piece)
+        if groups is not None:
+            self.pieces = defaultdict(list)
+            for piece, its in groups.items():
+                for group in its:
+                    self.pieces[group].append(piece)
 
     def of(self, net, layer):
         key = net, layer
         if key not in self.found:
             radius, touching = self.board.shapes.radius, self.board.touching
-            rows = [(line, max(radius[piece], 0), piece) for piece in self.rows[key] for line in touching.lines(piece)]
+            spans = touching.spans
+            rows = [(line, max(radius[piece], 0), piece) for piece in self.pieces[net] if spans[piece][0] <= layer <= spans[piece][1]
+                    for line in touching.lines(piece)]
             boxes = [(min(p[0], q[0]) - r, min(p[1], q[1]) - r, max(p[0], q[0]) + r, max(p[1], q[1]) + r) for (p, q), r, _ in rows]
             self.found[key] = rows, boxes
         return self.found[key]

@@ -53,8 +53,8 @@ def above(program, base, text):
     return is_right, f"on the upper bound {said}, {meaning}"
 
 
-def made(program, told, title, board=None, known=None):
-    """The netlist of a judged package."""
+def made(program, told, title, board=None, known=None, is_told=True):
+    """The netlist of a judged package; where it is not told of, there are lines only on why there is none."""
     try:
         board, base = copper_of(program, told, board, known), told.package if told.package.between else None
         its = Netlist(padlist.Padlist(board, padlist.origins(board, base)), title)
@@ -68,5 +68,7 @@ def made(program, told, title, board=None, known=None):
         is_right, said = False, str(stop)
     if not is_right:
         return Tester(None, [f"no netlist for a tester is written: {said}"], its)
+    if not is_told:
+        return Tester(text, [], its, is_whole)
     first, *rest = its.lines()
     return Tester(text, [f"{first}; {said}", *rest, *([LOWER, upper] if upper else [])], its, is_whole)
