@@ -29,6 +29,3 @@ mod values;
 pub use body_word::read_body;
 pub use fault::{FigureFault, MacroFault};
 pub use primitive::{Form, Primitive, Rotation};
-
-#[cfg(test)]
-mod tests;

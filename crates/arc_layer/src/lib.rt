@@ -21,6 +21,3 @@ pub use arcs::{Arc, RealPiece, RealShape};
 pub use draws::Bend;
 pub use kind::{RealFault, RealKind};
 pub use real::read_real;
-
-#[cfg(test)]
-mod tests;

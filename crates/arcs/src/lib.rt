@@ -34,6 +34,3 @@ pub struct Arc {
     pub end: Spot,
     pub width: u64,
 }
-
-#[cfg(test)]
-mod tests;

@@ -24,6 +24,3 @@ pub use fault::{BuildFault, LabelledFault};
 pub use labelled::build_labelled;
 pub use manifest::{Manifest, ManifestFault, read_manifest};
 pub use stages::{build, take_file};
-
-#[cfg(test)]
-mod tests;

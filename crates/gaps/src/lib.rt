@@ -48,6 +48,3 @@ pub struct Fat<'a> {
     pub grow: i64,
     ghost growth: { IsGrowth grow },
 }
-
-#[cfg(test)]
-mod tests;

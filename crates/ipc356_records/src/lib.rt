@@ -26,6 +26,3 @@ pub use record::{Record, Records};
 
 /// The most test records of a netlist.
 pub const MOST_RECORDS: u32 = 200_000;
-
-#[cfg(test)]
-mod tests;

@@ -15,6 +15,3 @@ mod pens;
 
 pub use flat_text::write_flat;
 pub use flattening::flatten;
-
-#[cfg(test)]
-mod tests;

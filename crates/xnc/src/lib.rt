@@ -22,6 +22,3 @@ mod tools;
 pub use drill_file::read_drill;
 pub use kind::{DrillFault, DrillKind};
 pub use span::Span;
-
-#[cfg(test)]
-mod tests;

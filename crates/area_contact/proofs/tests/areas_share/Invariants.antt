@@ -1,4 +1,0 @@
-use Rattle.area_contact.proofs.tests.areas_share.Given as goal
-
-abbrev pub ghosts-share : goal.ghosts-share
-ghosts-share a = record { name = a.blank.name; parts = a.blank.parts }

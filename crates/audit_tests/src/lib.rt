@@ -1,0 +1,5 @@
+//! Tests of the audit, through its public calls.
+#![tactic(auto)]
+
+#[cfg(test)]
+mod witness_check;

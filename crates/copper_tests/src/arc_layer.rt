@@ -1,0 +1,270 @@
+// Files in which draws may be arcs, and their copper. The rows without a comment are what the script of
+// bounds, tools/show_board, makes of them.
+use arc_layer::{Arc, RealFault, RealPiece, RealShape, read_real};
+use board_shapes::{Room, Shape};
+use std::alloc::{AllocError, Global};
+use std::fmt::Write;
+use std::test::Fail;
+use texts::MOST_BYTES;
+
+const HEAD: &str = "%FSLAX46Y46*%%MOMM*%%ADD10C,1.0*%D10*";
+
+fn shown(alloc: Global, piece: &RealPiece) -> Result<String, AllocError> {
+    let mut line = String::new(alloc);
+    match &piece.shape {
+        RealShape::Plain(Shape::Round(capsule)) => {
+            let (a, b, r) = capsule.parts();
+            write!(line, "{} {}, {} {}, {r}", a.x, a.y, b.x, b.y)?;
+        },
+        RealShape::Plain(Shape::Filled(_)) => line.push_str("an area")?,
+        RealShape::ArcDraw(arc) => {
+            let Arc {
+                centre: c,
+                start: s,
+                end: e,
+                width,
+            } = arc;
+            write!(
+                line,
+                "({} {}) {} {}, {} {}, {width}",
+                c.x, c.y, s.x, s.y, e.x, e.y
+            )?;
+        },
+    }
+    write!(line, " by {}.{}", piece.origin.command, piece.origin.copy)?;
+    Ok(line)
+}
+
+fn copper(alloc: Global, pieces: &[RealPiece]) -> Result<String, AllocError> {
+    let mut lines = String::new(alloc);
+    for piece in pieces {
+        if !lines.is_empty() {
+            lines.push('\n')?;
+        }
+        lines.push_str(shown(alloc, piece)?.as_str())?;
+    }
+    Ok(lines)
+}
+
+fn told(alloc: Global, words: &str) -> Result<String, AllocError> {
+    let mut file = String::new(alloc);
+    if !words.starts_with("%FS") {
+        file.push_str(HEAD)?;
+    }
+    file.push_str(words)?;
+    if file.len() > MOST_BYTES {
+        return String::from_str(alloc, "too long");
+    }
+    let room = Room {
+        pieces: 6,
+        edges: 16,
+    };
+    match read_real(alloc, file.as_bytes(), 1, 0, room) {
+        Ok(pieces) => copper(alloc, &pieces),
+        Err(RealFault::NoMemory) => String::from_str(alloc, "no memory"),
+        Err(RealFault::Refused { kind, command, .. }) => {
+            format!(in alloc; "{kind:?} at command {command}")
+        },
+    }
+}
+
+// Multi quadrant mode, and a block of this crate's own.
+fn of_any_arcs() -> [(&'static str, &'static str); 8] {
+    [
+        (
+            "G75*G02X1000000I500000J0D01*M02*",
+            "(5000000 0) 10000000 0, 0 0, 10000000 by 6.0",
+        ),
+        (
+            "G75*G03X1000000I500000J0D01*M02*",
+            "(5000000 0) 0 0, 10000000 0, 10000000 by 6.0",
+        ),
+        (
+            "G75*G02*I500000D01*M02*",
+            "(5000000 0) 0 0, 0 0, 10000000 by 7.0",
+        ),
+        (
+            "G75*G03X1000000Y1000000J1000000D01*M02*",
+            "(0 10000000) 0 0, 10000000 10000000, 10000000 by 6.0",
+        ),
+        (
+            "G75*G3X1000000Y900000J1000000D01*G01X5D01*X6D01*M02*",
+            "(0 10000000) 0 0, 10000000 9000000, 10000000 by 6.0\n10000000 9000000, 50 9000000, 5000000 by 7.0\n50 9000000, 60 9000000, 5000000 by 8.0",
+        ),
+        (
+            "G75*G03X1000000I-0J-300000D01*M02*",
+            "(0 -3000000) 0 0, 10000000 0, 10000000 by 6.0",
+        ),
+        (
+            "G75*G02X1000000J0D01*M02*",
+            "(0 0) 10000000 0, 0 0, 10000000 by 6.0",
+        ),
+        (
+            "%SRX2Y1I3.0J0*%G75*G02X1000000I500000D01*%SR*%M02*",
+            "(5000000 0) 10000000 0, 0 0, 10000000 by 7.0\n(35000000 0) 40000000 0, 30000000 0, 10000000 by 7.1",
+        ),
+    ]
+}
+
+// Single quadrant mode, and inches.
+fn of_quarters() -> [(&'static str, &'static str); 21] {
+    [
+        (
+            "G74*G03X1000000Y1000000I0J1000000D01*M02*",
+            "(0 10000000) 0 0, 10000000 10000000, 10000000 by 6.0",
+        ),
+        (
+            "G74*G03X1000000Y1000000I1000000J0D01*M02*",
+            "(-10000000 0) 0 0, 10000000 10000000, 10000000 by 6.0",
+        ),
+        (
+            "G74*G02X1000000Y1000000I1000000J0D01*M02*",
+            "(10000000 0) 10000000 10000000, 0 0, 10000000 by 6.0",
+        ),
+        (
+            "G74*G02X1000000Y1000000I0J1000000D01*M02*",
+            "(0 -10000000) 10000000 10000000, 0 0, 10000000 by 6.0",
+        ),
+        (
+            "G74*G03X-1000000Y1000000I1000000J0D01*M02*",
+            "(-10000000 0) 0 0, -10000000 10000000, 10000000 by 6.0",
+        ),
+        ("G74*G03I1000000J0D01*M02*", "0 0, 0 0, 5000000 by 6.0"),
+        (
+            "G74*G03X600000Y200000I0J1000000D01*M02*",
+            "(0 10000000) 0 0, 6000000 2000000, 10000000 by 6.0",
+        ),
+        (
+            "G74*G03X200000Y-600000I600000J800000D01*M02*",
+            "(6000000 -8000000) 0 0, 2000000 -6000000, 10000000 by 6.0",
+        ),
+        (
+            "G74*G03X1000001Y1000000I0J1000000D01*M02*",
+            "(0 10000000) 0 0, 10000010 10000000, 10000000 by 6.0",
+        ),
+        (
+            "G74*G03X1000003Y1000000I0J1000000D01*M02*",
+            "(0 10000000) 0 0, 10000030 10000000, 10000000 by 6.0",
+        ),
+        (
+            "G74*G03X1000000Y1000001I0J1000000D01*M02*",
+            "(0 10000000) 0 0, 10000000 10000010, 10000000 by 6.0",
+        ),
+        (
+            "G74*G03X1000000Y1000002I0J1000000D01*M02*",
+            "(0 10000000) 0 0, 10000000 10000020, 10000000 by 6.0",
+        ),
+        (
+            "G74*G03X2000000I1000000J1D01*M02*",
+            "(-10000000 10) 0 0, 20000000 0, 10000000 by 6.0",
+        ),
+        (
+            "G74*G03X2000000I1000000J0D01*M02*",
+            "(-10000000 0) 0 0, 20000000 0, 10000000 by 6.0",
+        ),
+        (
+            "G74*G03X0Y1000I0J0D01*M02*",
+            "(0 0) 0 0, 0 10000, 10000000 by 6.0",
+        ),
+        (
+            "G74*G03X10Y10I5J5D01*M02*",
+            "(-50 50) 0 0, 100 100, 10000000 by 6.0",
+        ),
+        (
+            "G74*G03X400001Y200000I100000J300000D01*M02*",
+            "(1000000 3000000) 0 0, 4000010 2000000, 10000000 by 6.0",
+        ),
+        (
+            "G74*G03X13Y13I1J13D01*M02*",
+            "(-10 130) 0 0, 130 130, 10000000 by 6.0",
+        ),
+        (
+            "G75*G02*X1000000I500000D01*G74*Y500000I500000D01*G01*X0D01*M02*",
+            "(5000000 0) 10000000 0, 0 0, 10000000 by 7.0\n(15000000 0) 10000000 5000000, 10000000 0, 10000000 by 9.0\n10000000 5000000, 0 5000000, 5000000 by 11.0",
+        ),
+        (
+            "%FSLAX27Y27*%%MOIN*%%ADD10C,0.1*%D10*G75*G02X10I5J0D01*M02*",
+            "(127 0) 254 0, 0 0, 25400000 by 6.0",
+        ),
+        (
+            "%FSLAX26Y26*%%MOIN*%%ADD10C,0.1*%D10*G74*G03X1000Y1000I0J1000D01*X0Y2002I1000J0D01*M02*",
+            "(0 254000) 0 0, 254000 254000, 25400000 by 6.0\n(0 254000) 254000 254000, 0 508508, 25400000 by 7.0",
+        ),
+    ]
+}
+
+// Refusals; the last are of this crate's own.
+fn of_refusals() -> [(&'static str, &'static str); 20] {
+    [
+        (
+            "G74*G03X1000000Y1000003I0J1000000D01*M02*",
+            "NoCentre at command 6",
+        ),
+        (
+            "G74*G03X1000000Y1000020I0J1000000D01*M02*",
+            "NoCentre at command 6",
+        ),
+        ("G74*G02X10Y10I10J10D01*M02*", "NoCentre at command 6"),
+        ("G02X1000000I500000J0D01*M02*", "NoQuadrants at command 5"),
+        ("G75*G02X1000000D01*M02*", "NoOffsets at command 6"),
+        ("G75*G01X1000000I1J1D01*M02*", "OffsetsAmiss at command 6"),
+        ("G75*G02X1000000I1J1D02*M02*", "OffsetsAmiss at command 6"),
+        (
+            "G75*G36*G02X1000000I500000J0D01*G01*X0D01*G37*M02*",
+            "Gerber(Arc) at command 7",
+        ),
+        (
+            "G75*G02X1000000J500000I0D01*M02*",
+            "OffsetsAmiss at command 6",
+        ),
+        ("G75*G02X1000000I1I2D01*M02*", "OffsetsAmiss at command 6"),
+        (
+            "%FSLAX27Y27*%%MOIN*%%ADD10C,0.1*%D10*G75*G02X10I1J0D01*M02*",
+            "Gerber(OffGrid) at command 6",
+        ),
+        (
+            "%FSLAX27Y27*%%MOIN*%%ADD10C,0.1*%D10*G74*G03X1000Y1005I0J1000D01*M02*",
+            "NoCentre at command 6",
+        ),
+        (
+            "G75*G02X1I12000000000J0D01*M02*",
+            "Gerber(OutOfRange) at command 6",
+        ),
+        (
+            "X1000000000D02*G75*G02X999999999I1J0D01*M02*",
+            "Gerber(OutOfRange) at command 7",
+        ),
+        (
+            "X1000000000D02*G74*G03X999999988Y-12I1J13D01*M02*",
+            "Gerber(OutOfRange) at command 7",
+        ),
+        (
+            "G74*G03X10Y10I5J5D01*I5J5*M02*",
+            "Gerber(BadWord) at command 7",
+        ),
+        ("G75*G02X1J0D01*G20*M02*", "Gerber(BadWord) at command 7"),
+        ("G75*G02X1D01*G20*M02*", "NoOffsets at command 6"),
+        ("D11*G75*G02X1D01*M02*", "Gerber(NoAperture) at command 5"),
+        (
+            "G36*G75*G02D03*G37*M02*",
+            "Gerber(NotInRegion) at command 7",
+        ),
+    ]
+}
+
+#[test]
+fn arcs_are_read(rt: HostRuntime) -> Result<(), Fail> {
+    for (words, expected) in of_any_arcs() {
+        let read = told(rt.alloc(), words)?;
+        assert_eq!(rt; read.as_str(), expected);
+    }
+    for (words, expected) in of_quarters() {
+        let read = told(rt.alloc(), words)?;
+        assert_eq!(rt; read.as_str(), expected);
+    }
+    for (words, expected) in of_refusals() {
+        let read = told(rt.alloc(), words)?;
+        assert_eq!(rt; read.as_str(), expected);
+    }
+    Ok(())
+}
