@@ -2,12 +2,10 @@
 use Rattle.std.specs.Prelude.{ℕ, ◌+◌, ◌*◌, ◌^◌, ◌≤◌, Bool, ◌&&◌, ◌||◌, not, ◌==◌, nat_le, nat_lt, int_lt, if◌then◌else◌, ℤ, pos, neg_ℤ, unsigned_abs, ◌+ℤ◌, ◌-ℤ◌, Option, Some, None}
 use Rattle.std.specs.Int.{abs_diff}
 use Rattle.std.specs.Ordering.{int_eq}
-use Rattle.planar.specs.Plane.{IsPlaced, IsWithin, cross_of, dot_of}
+use Rattle.planar.specs.Plane.{IsPlaced, cross_of, dot_of}
 use Rattle.planar.specs.declared.Spot.{Spot}
-use Rattle.planar.specs.declared.TheConstants.{TWO_METRES}
 use Rattle.lengths.specs.Decimal.{units_in}
 use Rattle.arc_layer.specs.declared.centres.Draw.{Draw}
-use Rattle.arc_layer.specs.declared.ways.Way.{Way}
 
 -- the spot this way from another
 abbrev pub moved : Spot → Spot → Spot
@@ -100,11 +98,3 @@ pub record IsLawfulDraw (d : Draw) : Type 0 where
   pub start : IsPlaced d.start
   pub end : IsPlaced d.end
   pub decimals : d.decimals ≤ 7
-
--- a spot that a way of a metre leads to from one within a metre
-abbrev pub IsCandidate : Spot → Type 0
-IsCandidate c = IsWithin TWO_METRES c.x × IsWithin TWO_METRES c.y
-
--- a way from such a spot to one within a metre
-abbrev pub IsLong : Way → Type 0
-IsLong w = IsWithin 30_000_000_000 w.x × IsWithin 30_000_000_000 w.y

@@ -1,13 +1,12 @@
 //! Which centre an arc of a single quadrant means.
 ghost use Rattle.arc_layer.specs.Centres as spec;
-ghost use Rattle.planar.specs.Plane.{IsPlaced};
-ghost use Rattle.arc_layer.specs.Centres.{IsCandidate, IsLawfulDraw};
+ghost use Rattle.planar.specs.Plane.{IsPlaced, IsReachable};
+ghost use Rattle.arc_layer.specs.Centres.{IsLawfulDraw};
 ghost use Rattle.lengths.specs.Decimal.{units_in as of_unit};
 ghost use Rattle.std.specs.Prelude.{◌≡◌, ◌≤◌, ◌^◌, not, int_lt, pos, IfSome};
 
-use crate::ways::{cross, dot};
 use lengths::decimal::Unit;
-use planar::Spot;
+use planar::{Spot, cross, dot};
 
 /// A draw whose centre is looked for, in u. `decimals` and `unit` tell the step of its file.
 #[derive(Clone, Copy)]
@@ -24,7 +23,7 @@ pub fn moved(a: Spot, way: Spot) -> Spot
     requires spot { IsPlaced a }
     requires way { IsPlaced way }
     ensures value { result ≡ spec.moved a way }
-    ensures near { IsCandidate result }
+    ensures near { IsReachable result }
 {
     Spot {
         x: a.x + way.x,
@@ -33,7 +32,7 @@ pub fn moved(a: Spot, way: Spot) -> Spot
 }
 
 fn span(a: Spot, b: Spot) -> u64
-    requires a { IsCandidate a }
+    requires a { IsReachable a }
     requires b { IsPlaced b }
     ensures value { result ≡ spec.span a b }
     ensures short { result ≤ 60_000_000_000 }
@@ -114,7 +113,7 @@ fn flip_y(way: Spot) -> Spot
 impl Draw {
     fn is_forward(&self, c: Spot) -> bool
         requires lawful { IsLawfulDraw self.now }
-        requires centre { IsCandidate c }
+        requires centre { IsReachable c }
         ensures { result ≡ not (int_lt (spec.turn_about self.now c) (pos 0)) }
     {
         let turn = if self.clockwise {
@@ -127,7 +126,7 @@ impl Draw {
 
     fn is_wide(&self, c: Spot) -> bool
         requires lawful { IsLawfulDraw self.now }
-        requires centre { IsCandidate c }
+        requires centre { IsReachable c }
         ensures { result ≡ spec.is_wide self.now c }
     {
         dot(c, self.start, self.end) < 0
@@ -135,7 +134,7 @@ impl Draw {
 
     fn is_nearly_right(&self, c: Spot) -> bool
         requires lawful { IsLawfulDraw self.now }
-        requires centre { IsCandidate c }
+        requires centre { IsReachable c }
         ensures { result ≡ spec.is_nearly_right self.now c }
     {
         let over = dot(c, self.start, self.end).unsigned_abs();
@@ -145,7 +144,7 @@ impl Draw {
 
     fn is_quarter(&self, c: Spot) -> bool
         requires lawful { IsLawfulDraw self.now }
-        requires centre { IsCandidate c }
+        requires centre { IsReachable c }
         ensures { result ≡ spec.is_quarter self.now c }
     {
         !self.is_wide(c) || self.is_nearly_right(c)
@@ -154,7 +153,7 @@ impl Draw {
     /// Whether a centre may be meant.
     fn is_fit(&self, c: Spot) -> bool
         requires lawful { IsLawfulDraw self.now }
-        requires centre { IsCandidate c }
+        requires centre { IsReachable c }
         ensures { result ≡ spec.is_fit self.now c }
     {
         self.is_forward(c) && self.is_quarter(c)
@@ -163,7 +162,7 @@ impl Draw {
     /// By how much the squares of the distances of both ends from a centre differ, in square u.
     fn unlike(&self, c: Spot) -> u128
         requires lawful { IsLawfulDraw self.now }
-        requires centre { IsCandidate c }
+        requires centre { IsReachable c }
         ensures { result ≡ spec.unlike self.now c }
     {
         let near = dot(c, self.start, self.start).unsigned_abs();
@@ -173,8 +172,8 @@ impl Draw {
 
     fn is_better(&self, a: Spot, b: Spot) -> bool
         requires lawful { IsLawfulDraw self.now }
-        requires a { IsCandidate a }
-        requires b { IsCandidate b }
+        requires a { IsReachable a }
+        requires b { IsReachable b }
         ensures { result ≡ spec.is_better self.now a b }
     {
         let unlike = self.unlike(a);
@@ -189,8 +188,8 @@ impl Draw {
     /// Whether a centre that may be meant is better than another, if that is one.
     fn beats(&self, a: Spot, b: Spot) -> bool
         requires lawful { IsLawfulDraw self.now }
-        requires a { IsCandidate a }
-        requires b { IsCandidate b }
+        requires a { IsReachable a }
+        requires b { IsReachable b }
         ensures { result ≡ spec.beats self.now a b }
     {
         if same_spot(a, b) || !self.is_fit(b) {

@@ -3,8 +3,8 @@
 //! `gerber_layer` reads the file with each arc draw as the straight one between its ends. What that
 //! leaves out is read here of the same words: `words` reads what a word says of arcs, `state` keeps what is in
 //! force, `draws` tells the bend of a draw, or why it is refused (`kind`), `centres` which centre a single
-//! quadrant means, by the products of `ways`. `bends` reads all bends of a file, and `real` puts both readings
-//! together. The law stands in `laws`.
+//! quadrant means. `bends` reads all bends of a file, and `real` puts both readings together. The law
+//! stands in `laws`.
 #![tactic(auto)]
 
 mod bends;
@@ -14,7 +14,6 @@ mod kind;
 pub mod laws;
 mod real;
 mod state;
-mod ways;
 mod words;
 
 pub use arcs::{Arc, RealPiece, RealShape};

@@ -1,5 +1,5 @@
 -- The plane: points with rational coordinates, and what it means to lie in a capsule.
-use Rattle.std.specs.Prelude.{ℕ, nat_le, Bool, ◌&&◌, ℤ, pos, neg_ℤ, unsigned_abs, ◌+ℤ◌, ◌-ℤ◌, ◌*ℤ◌, ◌≤ℤ◌, ◌<ℤ◌, ◌⊎◌}
+use Rattle.std.specs.Prelude.{ℕ, ◌*◌, nat_le, Bool, ◌&&◌, ℤ, pos, neg_ℤ, unsigned_abs, ◌+ℤ◌, ◌-ℤ◌, ◌*ℤ◌, ◌≤ℤ◌, ◌<ℤ◌, ◌⊎◌}
 use Rattle.planar.specs.declared.Frame.{Frame}
 use Rattle.planar.specs.declared.Spot.{Spot}
 use Rattle.planar.specs.declared.TheConstants.{METRE, MOST_REACH, SIDE, TWO_METRES}
@@ -73,9 +73,13 @@ IsPlaced p = IsReached p.x × IsReached p.y
 abbrev pub is_placed : Spot → Bool
 is_placed p = nat_le (unsigned_abs p.x) METRE && nat_le (unsigned_abs p.y) METRE
 
--- a way between two such spots
-abbrev pub IsShort : Way → Type 0
-IsShort u = IsWithin TWO_METRES u.x × IsWithin TWO_METRES u.y
+-- a spot that a way of a metre leads to from one within a metre
+abbrev pub IsReachable : Spot → Type 0
+IsReachable p = IsWithin TWO_METRES p.x × IsWithin TWO_METRES p.y
+
+-- a way from there to a spot within a metre
+abbrev pub IsLong : Way → Type 0
+IsLong u = IsWithin (3 * METRE) u.x × IsWithin (3 * METRE) u.y
 
 -- z lies from low to low + SIDE
 abbrev pub IsInSide : ℤ → ℤ → Type 0

@@ -1,8 +1,8 @@
 //! Exact planar geometry over whole numbers.
 //!
 //! All coordinates, lengths and radii are in u, a tenth of a nanometre. Every call but those of
-//! `places` asks that each coordinate lies between -10^10 and 10^10, one metre to each side of 0. Points of
-//! segments are rational: no call rounds, takes memory or refuses.
+//! `places` asks that each coordinate lies between -10^10 and 10^10, one metre to each side of 0 (two, at the first
+//! spot of those of `ways`). Points of segments are rational: no call rounds, takes memory or refuses.
 //!
 //! - `places`: whether spots lie within one metre.
 //! - `ways`: the cross and the scalar product of two ways.

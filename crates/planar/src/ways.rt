@@ -1,5 +1,5 @@
 //! Ways from spot to spot, and their products.
-ghost use Rattle.planar.specs.Plane.{IsPlaced, IsShort, cross_of, dot_of};
+ghost use Rattle.planar.specs.Plane.{IsLong, IsPlaced, IsReachable, cross_of, dot_of};
 ghost use Rattle.std.specs.Prelude.{◌*ℤ◌, ◌+ℤ◌, ◌-ℤ◌, ◌≡◌};
 
 use super::Spot;
@@ -13,16 +13,16 @@ struct Way {
 
 impl Way {
     fn cross(self, other: Way) -> i128
-        requires self_short { IsShort self }
-        requires other_short { IsShort other }
+        requires self_long { IsLong self }
+        requires other_long { IsLong other }
         ensures { result ≡ self.x *ℤ other.y -ℤ self.y *ℤ other.x }
     {
         self.x * other.y - self.y * other.x
     }
 
     fn dot(self, other: Way) -> i128
-        requires self_short { IsShort self }
-        requires other_short { IsShort other }
+        requires self_long { IsLong self }
+        requires other_long { IsLong other }
         ensures { result ≡ self.x *ℤ other.x +ℤ self.y *ℤ other.y }
     {
         self.x * other.x + self.y * other.y
@@ -31,11 +31,11 @@ impl Way {
 
 /// The way from `o` to `a`.
 fn between(o: Spot, a: Spot) -> Way
-    requires o_placed { IsPlaced o }
+    requires o_reachable { IsReachable o }
     requires a_placed { IsPlaced a }
     ensures across { result.x ≡ a.x -ℤ o.x }
     ensures up { result.y ≡ a.y -ℤ o.y }
-    ensures short { IsShort result }
+    ensures long { IsLong result }
 {
     Way {
         x: a.x as i128 - o.x as i128,
@@ -46,7 +46,7 @@ fn between(o: Spot, a: Spot) -> Way
 /// The cross product of `a` minus `o` and `b` minus `o`, in square u: above 0 where `b` is on the left
 /// of the way from `o` to `a`.
 pub fn cross(o: Spot, a: Spot, b: Spot) -> i128
-    requires o_placed { IsPlaced o }
+    requires o_reachable { IsReachable o }
     requires a_placed { IsPlaced a }
     requires b_placed { IsPlaced b }
     ensures { result ≡ cross_of o a b }
@@ -56,7 +56,7 @@ pub fn cross(o: Spot, a: Spot, b: Spot) -> i128
 
 /// The scalar product of `a` minus `o` and `b` minus `o`, in square u.
 pub fn dot(o: Spot, a: Spot, b: Spot) -> i128
-    requires o_placed { IsPlaced o }
+    requires o_reachable { IsReachable o }
     requires a_placed { IsPlaced a }
     requires b_placed { IsPlaced b }
     ensures { result ≡ dot_of o a b }
