@@ -1,9 +1,10 @@
 -- The laws of verdicts.
 use Rattle.std.specs.Prelude.{◌≡◌, ◌≤◌, ℕ, List, [], ◌++◌, length, None}
 use Rattle.tables.specs.Tables.{Tables}
+use Rattle.texts.specs.declared.TheConstants.{MOST_BYTES}
 use Rattle.verdict.specs.declared.verdict.Verdict.{Verdict}
 use Rattle.verdict.specs.Lawful.{IsVerdict}
-use Rattle.verdict.specs.Limits.{HasCountsOf, HasFewParts, HasSmallParts, most_bytes}
+use Rattle.verdict.specs.Limits.{HasCountsOf, HasFewParts, HasSmallParts}
 use Rattle.verdict.specs.ReportText.{report_text}
 use Rattle.verdict.specs.Right.{IsRight}
 
@@ -17,7 +18,7 @@ NoReportIsAFront = (v w : Verdict) (rest : List ℕ) → IsVerdict v → IsVerdi
 
 -- the report of version 1 of a verdict with few parts and small numbers is short enough to be a file
 abbrev pub ReportsAreShort : Type 0
-ReportsAreShort = (v : Verdict) → HasSmallParts v → HasFewParts v → v.more ≡ None → length (report_text v) ≤ most_bytes
+ReportsAreShort = (v : Verdict) → HasSmallParts v → HasFewParts v → v.more ≡ None → length (report_text v) ≤ MOST_BYTES
 
 -- a right verdict lists no more than its board has points and pieces for
 abbrev pub RightVerdictsAreFew : Type 0

@@ -3,7 +3,6 @@
 use Rattle.std.specs.Prelude.{◌≡◌, ℕ, ◌<◌, ◌≤◌, List, length, IfSome}
 use Rattle.std.specs.List.{AllByRecursion, sum_by}
 use Rattle.tables.specs.Tables.{Tables}
-use Rattle.texts.specs.declared.TheConstants.{MOST_BYTES}
 use Rattle.verdict.specs.declared.verdict.Twig.{Twig}
 use Rattle.verdict.specs.declared.verdict.PointLine.{PointLine}
 use Rattle.verdict.specs.declared.verdict.Open.{Open}
@@ -91,7 +90,3 @@ pub record HasCountsOf (board : Tables) (v : Verdict) : Type 0 where
   pub shorts : length v.shorts ≤ length v.nets
   pub branches : sum_by branch_count v.shorts ≤ length board.points
   pub bare : length v.bare ≤ length board.points
-
--- the length over which a file is refused
-abbrev pub most_bytes : ℕ
-most_bytes = MOST_BYTES

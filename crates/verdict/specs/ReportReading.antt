@@ -66,6 +66,10 @@ number_at bytes = do
   n ← wide_at bytes
   if nat_lt n.0 (2 ^ 32) then Some n else None
 
+-- what was read, and the bytes behind the end of its line
+abbrev pub line_end : {X : Type 0} → X → List ℕ → Option (X × List ℕ)
+line_end x bytes = behind (10 ∷ []) bytes >>= λ rest. Some (x, rest)
+
 -- a blank and a number below 2^32
 unfoldable pub word_at : List ℕ → Option (ℕ × List ℕ)
 word_at bytes = do
@@ -83,16 +87,14 @@ unfoldable pub count_at : List ℕ → Option (ℕ × List ℕ)
 count_at bytes = do
   rest ← behind (32 ∷ []) bytes
   n ← wide_at rest
-  after ← behind (10 ∷ []) n.1
-  Some (n.0, after)
+  line_end n.0 n.1
 
 -- a title, a number below 2^32 and the end of the line
 unfoldable pub titled_at : List ℕ → List ℕ → Option (ℕ × List ℕ)
 titled_at title bytes = do
   rest ← behind title bytes
   number ← word_at rest
-  after ← behind (10 ∷ []) number.1
-  Some (number.0, after)
+  line_end number.0 number.1
 
 -- so much below zero, from 1 to 2^63
 abbrev pub negated : ℕ → Option ℤ
@@ -180,8 +182,7 @@ unfoldable pub net_at : ℕ → List ℕ → Option (List Twig × List ℕ)
 net_at n bytes = do
   rest ← heading_at (codes "net") n bytes
   net ← words_at twig_at (length rest) rest
-  after ← behind (10 ∷ []) net.1
-  Some (net.0, after)
+  line_end net.0 net.1
 
 unfoldable pub name_at : ℕ → List ℕ → Option (List ℕ × List ℕ)
 name_at n bytes = do
@@ -196,8 +197,7 @@ point_at n bytes = do
   layer ← layer_at number.1
   name ← word_at layer.1
   net ← net_number_at name.1
-  after ← behind (10 ∷ []) net.1
-  Some (record { number = number.0; layer = layer.0; name = name.0; net = net.0 }, after)
+  line_end (record { number = number.0; layer = layer.0; name = name.0; net = net.0 }) net.1
 
 unfoldable pub open_at : ℕ → List ℕ → Option (Open × List ℕ)
 open_at n bytes = do
@@ -206,8 +206,7 @@ open_at n bytes = do
   home ← word_at name.1
   other ← word_at home.1
   probe ← word_at other.1
-  after ← behind (10 ∷ []) probe.1
-  Some (record { name = name.0; home = home.0; other = other.0; probe = probe.0 }, after)
+  line_end (record { name = name.0; home = home.0; other = other.0; probe = probe.0 }) probe.1
 
 unfoldable pub branch_at : ℕ → List ℕ → Option (Branch × List ℕ)
 branch_at n bytes = do
@@ -215,8 +214,7 @@ branch_at n bytes = do
   name ← word_at rest
   probe ← word_at name.1
   pieces ← words_at word_at (length probe.1) probe.1
-  after ← behind (10 ∷ []) pieces.1
-  Some (record { name = name.0; probe = probe.0; pieces = pieces.0 }, after)
+  line_end (record { name = name.0; probe = probe.0; pieces = pieces.0 }) pieces.1
 
 -- so many items, numbered from n
 unfoldable pub items_at : {X : Type 0} → (ℕ → List ℕ → Option (X × List ℕ)) → ℕ → ℕ → List ℕ → Option (List X × List ℕ)
@@ -242,8 +240,7 @@ spot_at n bytes = do
   rest ← heading_at (codes "spot") n bytes
   x ← signed_word_at rest
   y ← signed_word_at x.1
-  after ← behind (10 ∷ []) y.1
-  Some (record { x = x.0; y = y.0 }, after)
+  line_end (record { x = x.0; y = y.0 }) y.1
 
 unfoldable pub source_at : ℕ → List ℕ → Option (SourceLine × List ℕ)
 source_at n bytes = do
@@ -253,8 +250,7 @@ source_at n bytes = do
   copy ← word_at command.1
   top ← layer_at copy.1
   bottom ← layer_at top.1
-  after ← behind (10 ∷ []) bottom.1
-  Some (record { file = file.0; command = command.0; copy = copy.0; top = top.0; bottom = bottom.0 }, after)
+  line_end (record { file = file.0; command = command.0; copy = copy.0; top = top.0; bottom = bottom.0 }) bottom.1
 
 -- ---- Parts
 

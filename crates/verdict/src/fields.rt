@@ -49,6 +49,14 @@ pub fn expect_byte(bytes: &[u8], byte: u8) -> Result<&[u8], ReadFault>
     }
 }
 
+/// What was read, and the bytes behind the end of its line.
+pub fn line_end<T: Drop>(item: T, bytes: &[u8]) -> Result<(T, &[u8]), ReadFault>
+    ensures { spec.Gives (λ x. (x.0, x.1.now)) result (spec.line_end item bytes.now) }
+{
+    let rest = expect_byte(bytes, b'\n')?;
+    Ok((item, rest))
+}
+
 // How many digits stand in front, and their value where they are at most 18.
 fn leading(bytes: &[u8]) -> (usize, u64)
     ensures len { result.0 ≡ prefix_len is_decimal_digit bytes.now }
@@ -139,8 +147,7 @@ pub fn titled<'a>(bytes: &'a [u8], title: &[u8]) -> Result<(u32, &'a [u8]), Read
 {
     let rest = expect(bytes, title)?;
     let (n, rest) = word(rest)?;
-    let rest = expect_byte(rest, b'\n')?;
-    Ok((n, rest))
+    line_end(n, rest)
 }
 
 // So much below zero, from 1 to 2^63.
@@ -205,8 +212,7 @@ pub fn count(bytes: &[u8]) -> Result<(u64, &[u8]), ReadFault>
 {
     let rest = expect_byte(bytes, b' ')?;
     let (n, rest) = wide(rest)?;
-    let rest = expect_byte(rest, b'\n')?;
-    Ok((n, rest))
+    line_end(n, rest)
 }
 
 /// The parent of a twig, where a colon follows its piece.

@@ -7,7 +7,8 @@ ghost use Rattle.verdict.specs.ReportReading as spec;
 ghost use Rattle.verdict.specs.ReportText as report;
 
 use crate::fields::{
-    begins_blank, count, expect, expect_byte, layer, net_number, parent, signed_word, titled, word,
+    begins_blank, count, expect, expect_byte, layer, line_end, net_number, parent, signed_word,
+    titled, word,
 };
 use crate::report_reading::ReadFault;
 use crate::verdict::{Branch, Open, PointLine, Short, SourceLine, SpotLine, Tree, Twig};
@@ -191,8 +192,7 @@ impl Line for Tree {
     fn read(alloc: Global, number: u64, bytes: &[u8]) -> Result<(Tree, &[u8]), ReadFault> {
         let rest = heading(bytes, b"net", number)?;
         let (net, rest) = words(alloc, rest)?;
-        let rest = expect_byte(rest, b'\n')?;
-        Ok((net, rest))
+        line_end(net, rest)
     }
 
     fn write(&self, number: u64, out: &mut Vec<u8>) -> Result<(), AllocError> {
@@ -238,16 +238,13 @@ impl Line for PointLine {
         let (layer, rest) = layer(rest)?;
         let (name, rest) = word(rest)?;
         let (net, rest) = net_number(rest)?;
-        let rest = expect_byte(rest, b'\n')?;
-        Ok((
-            PointLine {
-                number,
-                layer,
-                name,
-                net,
-            },
-            rest,
-        ))
+        let line = PointLine {
+            number,
+            layer,
+            name,
+            net,
+        };
+        line_end(line, rest)
     }
 
     fn write(&self, number: u64, out: &mut Vec<u8>) -> Result<(), AllocError> {
@@ -274,16 +271,13 @@ impl Line for Open {
         let (home, rest) = word(rest)?;
         let (other, rest) = word(rest)?;
         let (probe, rest) = word(rest)?;
-        let rest = expect_byte(rest, b'\n')?;
-        Ok((
-            Open {
-                name,
-                home,
-                other,
-                probe,
-            },
-            rest,
-        ))
+        let line = Open {
+            name,
+            home,
+            other,
+            probe,
+        };
+        line_end(line, rest)
     }
 
     fn write(&self, _: u64, out: &mut Vec<u8>) -> Result<(), AllocError> {
@@ -306,15 +300,12 @@ impl Line for Branch {
         let (name, rest) = word(rest)?;
         let (probe, rest) = word(rest)?;
         let (pieces, rest) = words(alloc, rest)?;
-        let rest = expect_byte(rest, b'\n')?;
-        Ok((
-            Branch {
-                name,
-                probe,
-                pieces,
-            },
-            rest,
-        ))
+        let line = Branch {
+            name,
+            probe,
+            pieces,
+        };
+        line_end(line, rest)
     }
 
     fn write(&self, _: u64, out: &mut Vec<u8>) -> Result<(), AllocError> {
@@ -390,8 +381,7 @@ impl Line for SpotLine {
         let rest = heading(bytes, b"spot", number)?;
         let (x, rest) = signed_word(rest)?;
         let (y, rest) = signed_word(rest)?;
-        let rest = expect_byte(rest, b'\n')?;
-        Ok((SpotLine { x, y }, rest))
+        line_end(SpotLine { x, y }, rest)
     }
 
     fn write(&self, number: u64, out: &mut Vec<u8>) -> Result<(), AllocError> {
@@ -416,17 +406,14 @@ impl Line for SourceLine {
         let (copy, rest) = word(rest)?;
         let (top, rest) = layer(rest)?;
         let (bottom, rest) = layer(rest)?;
-        let rest = expect_byte(rest, b'\n')?;
-        Ok((
-            SourceLine {
-                file,
-                command,
-                copy,
-                top,
-                bottom,
-            },
-            rest,
-        ))
+        let line = SourceLine {
+            file,
+            command,
+            copy,
+            top,
+            bottom,
+        };
+        line_end(line, rest)
     }
 
     fn write(&self, number: u64, out: &mut Vec<u8>) -> Result<(), AllocError> {
