@@ -45,7 +45,7 @@ pub const SIDE: i64 = METRE as i64;
 pub const MOST_REACH: i64 = 700_000_000;
 
 /// The closed square from the corner (`left`, `low`), with side `SIDE`.
-#[derive(Clone, Copy, Debug, PartialEq, Eq)]
+#[derive(Clone, Copy, PartialEq, Eq)]
 pub struct Frame {
     pub left: i64,
     pub low: i64,
