@@ -4,7 +4,6 @@ ghost use Rattle.contact.specs.Round.{IsCapsuleRadius};
 ghost use Rattle.planar.specs.Plane.{IsPlaced};
 ghost use Rattle.std.specs.Prelude.{◌≡◌, ◌+◌, ◌<◌, All, IfOk, length, pos};
 
-use Word::{End, On, Root};
 use board_shapes::{Board, Origin, Piece, Placed, Probe, Shape};
 use contact::Capsule;
 use lengths::rows::{NoMemory, Rows};
@@ -12,9 +11,7 @@ use lengths::text::Text;
 use planar::Spot;
 use std::alloc::Global;
 use std::test::Fail;
-use verdict::{
-    Branch, Open, PointLine, Short, SourceLine, SpotLine, Supplement, Tree, Trees, Twig, Verdict,
-};
+use verdict::{Verdict, read_report};
 use witness_check::{Ruling, audit};
 
 fn disc(at: Spot, r: i64) -> Piece
@@ -97,294 +94,160 @@ fn names(alloc: Global) -> Result<Rows<Text>, NoMemory>
     Ok(names)
 }
 
-// A piece without a parent, a piece on its parent, and the end of a net.
-#[derive(Clone, Copy)]
-enum Word {
-    Root(u32),
-    On(u32, u32),
-    End,
-}
+// What stands in front of the nets of a report, and between them and its points.
+const FRONT: &[u8] = b"boardnet 1\npieces 3\n";
 
-fn trees(alloc: Global, words: &[Word]) -> Result<Trees, NoMemory> {
-    let mut trees = Rows::new(alloc);
-    let mut tree: Tree = Rows::new(alloc);
-    for word in words {
-        match *word {
-            Word::Root(piece) => tree.push(Twig {
-                piece,
-                parent: None,
-            })?,
-            Word::On(piece, parent) => tree.push(Twig {
-                piece,
-                parent: Some(parent),
-            })?,
-            Word::End => {
-                trees.push(tree)?;
-                tree = Rows::new(alloc);
-            }
-        }
-    }
-    Ok(trees)
-}
+const NAMES: &[u8] = b"names 2\nname 0 A\nname 1 B\n";
 
-// The lines of the probes, on these nets.
-fn lines(alloc: Global, nets: &[Option<u32>]) -> Result<Rows<PointLine>, NoMemory> {
-    let mut lines = Rows::new(alloc);
-    let mut number = 1;
-    for net in nets {
-        lines.push(PointLine {
-            number,
-            layer: 1,
-            name: if number == 2 { 1 } else { 0 },
-            net: *net,
-        })?;
-        number = if number < 9 { number + 1 } else { number };
-    }
-    Ok(lines)
-}
+// The nets, the points, the findings and the supplement of the right report.
+const NETS: &[u8] = b"nets 2\nnet 0 0 1:0\nnet 1 2\n";
 
-fn numbers(alloc: Global, items: &[u32]) -> Result<Rows<u32>, NoMemory> {
-    let mut rows = Rows::new(alloc);
-    for item in items {
-        rows.push(*item)?;
-    }
-    Ok(rows)
-}
+const POINTS: &[u8] = b"points 3\npoint 0 1 1 0 0\npoint 1 2 1 1 0\npoint 2 3 1 0 -\n";
 
-// The short of the first net, with these paths from the probes of the two names.
-fn short(alloc: Global, first: &[u32], second: &[u32]) -> Result<Rows<Short>, NoMemory> {
-    let mut branches = Rows::new(alloc);
-    branches.push(Branch {
-        name: 0,
-        probe: 0,
-        pieces: numbers(alloc, first)?,
-    })?;
-    branches.push(Branch {
-        name: 1,
-        probe: 1,
-        pieces: numbers(alloc, second)?,
-    })?;
-    let mut shorts = Rows::new(alloc);
-    shorts.push(Short { net: 0, branches })?;
-    Ok(shorts)
-}
+const FINDINGS: &[u8] =
+    b"opens 0\nshorts 1\nshort 0 2\nbranch 0 0 0\nbranch 1 1 1 0\nmissing 1\nbare 2\n";
 
-// A verdict with the short of the board and its bare probe.
-fn verdict(alloc: Global, words: &[Word], points: &[Option<u32>]) -> Result<Verdict, NoMemory> {
-    Ok(Verdict {
-        pieces: 3,
-        names: names(alloc)?,
-        nets: trees(alloc, words)?,
-        points: lines(alloc, points)?,
-        opens: Rows::new(alloc),
-        shorts: short(alloc, &[0], &[1, 0])?,
-        bare: numbers(alloc, &[2])?,
-        more: None,
-    })
-}
+const MORE: &[u8] =
+    b"spots 3\nspot 0 10000000 0\nspot 1 25000000 0\nspot 2 90000000 0\nsources 3\nsource 0 0 1 0 1 1\nsource 1 0 1 0 1 1\nsource 2 0 1 0 1 1\n";
 
-// The supplement of the board, but that its second probe is at this x and its last disc is this copy.
-fn supplement(alloc: Global, x: i64, copy: u32) -> Result<Supplement, NoMemory> {
-    let mut spots = Rows::new(alloc);
-    for x in [10_000_000, x, 90_000_000] {
-        spots.push(SpotLine { x, y: 0 })?;
-    }
-    let mut sources = Rows::new(alloc);
-    for copy in [0, 0, copy] {
-        sources.push(SourceLine {
-            file: 0,
-            command: 1,
-            copy,
-            top: 1,
-            bottom: 1,
-        })?;
-    }
-    Ok(Supplement { spots, sources })
-}
-
-// A verdict with these nets and points, and the first clause that fails.
+// The parts of a report, and what the audit says of it.
 #[derive(Clone, Copy)]
 struct Case {
-    what: &'static str,
-    words: &'static [Word],
-    points: &'static [Option<u32>],
-    clause: u8,
+    front: &'static [u8],
+    nets: &'static [u8],
+    points: &'static [u8],
+    findings: &'static [u8],
+    more: &'static [u8],
+    ruling: Ruling,
 }
 
-fn row(
-    what: &'static str,
-    words: &'static [Word],
-    points: &'static [Option<u32>],
-    clause: u8,
-) -> Case {
+// The right report but for its nets and points, and the clause that does not hold.
+fn wrong(nets: &'static [u8], points: &'static [u8], clause: u8) -> Case {
     Case {
-        what,
-        words,
+        front: FRONT,
+        nets,
         points,
-        clause,
+        findings: FINDINGS,
+        more: b"",
+        ruling: Ruling::Untrue(clause),
     }
 }
 
-fn rows() -> [Case; 18] {
+// The right report but for what is not nets and points.
+fn part(
+    front: &'static [u8],
+    findings: &'static [u8],
+    more: &'static [u8],
+    ruling: Ruling,
+) -> Case {
+    Case {
+        front,
+        nets: NETS,
+        points: POINTS,
+        findings,
+        more,
+        ruling,
+    }
+}
+
+fn cases() -> [Case; 27] {
+    let none: &'static [u8] = b"points 0\n";
+    let second: &'static [u8] = b"boardnet 2\npieces 3\n";
+    let many: &'static [u8] = b"boardnet 2\npieces 4\n";
+    // the last disc is another copy, and then the second probe is elsewhere too
+    let copied: &'static [u8] =
+        b"spots 3\nspot 0 10000000 0\nspot 1 25000000 0\nspot 2 90000000 0\nsources 3\nsource 0 0 1 0 1 1\nsource 1 0 1 0 1 1\nsource 2 0 1 1 1 1\n";
+    let moved: &'static [u8] =
+        b"spots 3\nspot 0 10000000 0\nspot 1 -25000000 0\nspot 2 90000000 0\nsources 3\nsource 0 0 1 0 1 1\nsource 1 0 1 0 1 1\nsource 2 0 1 1 1 1\n";
     [
-        row("no nets", &[], &[], 2),
-        row(
-            "an empty net",
-            &[End, Root(0), On(1, 0), End, Root(2), End],
-            &[],
-            1,
-        ),
-        row(
-            "parents in a circle",
-            &[Root(0), On(1, 2), On(2, 1), End],
-            &[],
-            1,
-        ),
-        row(
-            "its own parent",
-            &[Root(0), On(1, 1), End, Root(2), End],
-            &[],
-            1,
-        ),
-        row(
-            "its own parent again",
-            &[Root(0), On(1, 0), On(1, 1), End, Root(2), End],
-            &[],
-            1,
-        ),
-        row(
-            "a parent of another net",
-            &[Root(0), End, Root(1), On(1, 0), End, Root(2), End],
-            &[],
-            1,
-        ),
-        row(
-            "a parent that does not touch",
-            &[Root(0), On(1, 0), On(2, 1), End],
-            &[],
-            1,
-        ),
-        row("past the board", &[Root(0), On(3, 0), End], &[], 1),
-        row("far past the board", &[Root(u32::MAX), End], &[], 1),
-        row(
-            "a parent past the board",
-            &[Root(0), On(1, u32::MAX), End],
-            &[],
-            1,
-        ),
-        row(
-            "the first is not the least",
-            &[Root(1), On(0, 1), End, Root(2), End],
-            &[],
-            1,
-        ),
-        row(
-            "equal first pieces",
-            &[Root(0), On(1, 0), End, Root(0), End, Root(2), End],
-            &[],
-            1,
-        ),
-        row(
-            "a piece twice",
-            &[Root(0), On(1, 0), On(1, 0), End, Root(2), End],
-            &[],
-            2,
-        ),
-        row(
-            "the first piece twice",
-            &[Root(0), On(1, 0), On(0, 1), End, Root(2), End],
-            &[],
-            2,
-        ),
-        row(
-            "a piece of two nets",
-            &[Root(0), On(1, 0), End, Root(1), End, Root(2), End],
-            &[],
-            2,
-        ),
-        row(
-            "a net in two",
-            &[Root(0), End, Root(1), End, Root(2), End],
-            &[],
-            3,
-        ),
-        row(
-            "a net that is not there",
-            &[Root(0), On(1, 0), End, Root(2), End],
-            &[Some(9), Some(0), None],
+        // no nets, an empty net, parents in a circle, its own parent, and that again
+        wrong(b"nets 0\n", none, 2),
+        wrong(b"nets 3\nnet 0\nnet 1 0 1:0\nnet 2 2\n", none, 1),
+        wrong(b"nets 1\nnet 0 0 1:2 2:1\n", none, 1),
+        wrong(b"nets 2\nnet 0 0 1:1\nnet 1 2\n", none, 1),
+        wrong(b"nets 2\nnet 0 0 1:0 1:1\nnet 1 2\n", none, 1),
+        // a parent of another net, one that does not touch, and one past the board
+        wrong(b"nets 3\nnet 0 0\nnet 1 1 1:0\nnet 2 2\n", none, 1),
+        wrong(b"nets 1\nnet 0 0 1:0 2:1\n", none, 1),
+        wrong(b"nets 1\nnet 0 0 1:4294967295\n", none, 1),
+        // past the board, and far past it
+        wrong(b"nets 1\nnet 0 0 3:0\n", none, 1),
+        wrong(b"nets 1\nnet 0 4294967295\n", none, 1),
+        // the first is not the least, and equal first pieces
+        wrong(b"nets 2\nnet 0 1 0:1\nnet 1 2\n", none, 1),
+        wrong(b"nets 3\nnet 0 0 1:0\nnet 1 0\nnet 2 2\n", none, 1),
+        // a piece twice, the first piece twice, a piece of two nets, and a net in two
+        wrong(b"nets 2\nnet 0 0 1:0 1:0\nnet 1 2\n", none, 2),
+        wrong(b"nets 2\nnet 0 0 1:0 0:1\nnet 1 2\n", none, 2),
+        wrong(b"nets 3\nnet 0 0 1:0\nnet 1 1\nnet 2 2\n", none, 2),
+        wrong(b"nets 3\nnet 0 0\nnet 1 1\nnet 2 2\n", none, 3),
+        // a net that is not there, and a line too few
+        wrong(
+            NETS,
+            b"points 3\npoint 0 1 1 0 9\npoint 1 2 1 1 0\npoint 2 3 1 0 -\n",
             4,
         ),
-        row(
-            "a line too few",
-            &[Root(0), On(1, 0), End, Root(2), End],
-            &[Some(0), Some(0)],
-            4,
+        wrong(NETS, b"points 2\npoint 0 1 1 0 0\npoint 1 2 1 1 0\n", 4),
+        // right, and then spoilt at one part more a row
+        part(FRONT, FINDINGS, b"", Ruling::True),
+        part(second, FINDINGS, MORE, Ruling::True),
+        part(second, FINDINGS, copied, Ruling::Untrue(11)),
+        part(second, FINDINGS, moved, Ruling::Untrue(10)),
+        part(many, FINDINGS, moved, Ruling::Untrue(9)),
+        part(
+            many,
+            b"opens 0\nshorts 1\nshort 0 2\nbranch 0 0 0\nbranch 1 1 1 0\nmissing 2\nbare 0\nbare 2\n",
+            moved,
+            Ruling::Untrue(8),
+        ),
+        part(
+            many,
+            b"opens 0\nshorts 1\nshort 0 2\nbranch 0 0 0\nbranch 1 1 1\nmissing 2\nbare 0\nbare 2\n",
+            moved,
+            Ruling::Untrue(7),
+        ),
+        part(
+            many,
+            b"opens 0\nshorts 0\nmissing 2\nbare 0\nbare 2\n",
+            moved,
+            Ruling::Untrue(6),
+        ),
+        part(
+            many,
+            b"opens 1\nopen 0 0 1 2\nshorts 0\nmissing 2\nbare 0\nbare 2\n",
+            moved,
+            Ruling::Untrue(5),
         ),
     ]
 }
 
-// What the audit says of the verdict of a row.
-fn ruling(alloc: Global, board: &Board, row: &Case) -> Result<Ruling, NoMemory> {
-    let v = verdict(alloc, row.words, row.points)?;
-    audit(alloc, board, &v)
+// The verdict of a report that differs.
+fn verdict(alloc: Global, case: &Case) -> Result<Verdict, Fail> {
+    let mut text = Vec::new(alloc);
+    for bytes in [
+        case.front,
+        case.nets,
+        NAMES,
+        case.points,
+        case.findings,
+        case.more,
+        b"differs\n",
+    ] {
+        text.extend_from_slice(bytes)?;
+    }
+    match read_report(alloc, text.as_slice()) {
+        Ok(verdict) => Ok(verdict),
+        Err(_) => Err("no report".into()),
+    }
 }
 
 #[test]
 fn verdicts_from_anywhere(rt: HostRuntime) -> Result<(), Fail> {
     let alloc = rt.alloc();
     let board = Board::new(discs(alloc)?, probes(alloc)?, names(alloc)?, 1).expect(&rt, "a board");
-    for row in rows() {
-        assert_eq!(rt;
-            ruling(alloc, &board, &row)?,
-            Ruling::Untrue(row.clause),
-            "{}",
-            row.what
-        );
+    for (k, case) in cases().iter().enumerate() {
+        let v = verdict(alloc, case)?;
+        assert_eq!(rt; audit(alloc, &board, &v)?, case.ruling, "case {k}");
     }
-    Ok(())
-}
-
-// The right verdict of the board.
-fn right(alloc: Global) -> Result<Verdict, NoMemory> {
-    verdict(
-        alloc,
-        &[Root(0), On(1, 0), End, Root(2), End],
-        &[Some(0), Some(0), None],
-    )
-}
-
-fn one_open(alloc: Global) -> Result<Rows<Open>, NoMemory> {
-    let mut opens = Rows::new(alloc);
-    opens.push(Open {
-        name: 0,
-        home: 0,
-        other: 1,
-        probe: 2,
-    })?;
-    Ok(opens)
-}
-
-#[test]
-fn right_but_for_one_part(rt: HostRuntime) -> Result<(), Fail> {
-    let alloc = rt.alloc();
-    let board = Board::new(discs(alloc)?, probes(alloc)?, names(alloc)?, 1).expect(&rt, "a board");
-    let mut v = right(alloc)?;
-    assert_eq!(rt; audit(alloc, &board, &v)?, Ruling::True);
-    v.more = Some(supplement(alloc, 25_000_000, 0)?);
-    assert_eq!(rt; audit(alloc, &board, &v)?, Ruling::True);
-    v.more = Some(supplement(alloc, 25_000_000, 1)?);
-    assert_eq!(rt; audit(alloc, &board, &v)?, Ruling::Untrue(11));
-    v.more = Some(supplement(alloc, -25_000_000, 1)?);
-    assert_eq!(rt; audit(alloc, &board, &v)?, Ruling::Untrue(10));
-    v.pieces = 4;
-    assert_eq!(rt; audit(alloc, &board, &v)?, Ruling::Untrue(9));
-    v.bare = numbers(alloc, &[0, 2])?;
-    assert_eq!(rt; audit(alloc, &board, &v)?, Ruling::Untrue(8));
-    v.shorts = short(alloc, &[0], &[1])?;
-    assert_eq!(rt; audit(alloc, &board, &v)?, Ruling::Untrue(7));
-    v.shorts = Rows::new(alloc);
-    assert_eq!(rt; audit(alloc, &board, &v)?, Ruling::Untrue(6));
-    v.opens = one_open(alloc)?;
-    assert_eq!(rt; audit(alloc, &board, &v)?, Ruling::Untrue(5));
     Ok(())
 }

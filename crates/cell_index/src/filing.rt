@@ -1,8 +1,7 @@
 //! The pieces of a layer, filed under its cells.
-ghost use Rattle.cell_index.specs.Bins.{pieces_in};
-ghost use Rattle.cell_index.specs.Rows.{CanBeFiled, Files, IsSheet, in_patch, in_row, in_run, row_of};
+ghost use Rattle.cell_index.specs.Rows.{CanBeFiled, Files, IsSheet, in_patch, in_row, in_run};
 ghost use Rattle.contact.specs.Solid.{IsInside};
-ghost use Rattle.std.specs.Prelude.{◌≡◌, ℕ, ◌+◌, ◌<◌, ◌≤◌, ◌^◌, All, IfOk, OnOk, length};
+ghost use Rattle.std.specs.Prelude.{◌≡◌, ◌+◌, ◌<◌, ◌≤◌, ◌^◌, All, IfOk, OnOk, length};
 
 use crate::bins::{Bins, Filing};
 use crate::patch::{CELLS, Patch};
@@ -18,7 +17,7 @@ pub const ROWS: u32 = 16_385;
 /// The row of the wide list.
 pub const WIDE: u32 = 16_384;
 
-/// The rows of a layer.
+/// The rows of a layer, whose pieces are filed one after the other.
 pub fn sheet<S: Closed>(
     alloc: Global,
     items: &[Placed<S>],
@@ -28,21 +27,6 @@ pub fn sheet<S: Closed>(
     requires filed { CanBeFiled S.extent frame items.now }
     ensures sheet { IfOk result (IsSheet S.extent frame items.now layer) }
 {
-    let filings = filings_on(alloc, items, frame, layer)?;
-    Bins::new(alloc, ROWS as usize, filings.as_slice())
-}
-
-// What the pieces of the layer are filed under, piece by piece.
-fn filings_on<S: Closed>(
-    alloc: Global,
-    items: &[Placed<S>],
-    frame: Frame,
-    layer: u8,
-) -> Result<Vec<Filing>, NoMemory>
-    requires filed { CanBeFiled S.extent frame items.now }
-    ensures rows { IfOk result (λ v. All (λ f. f.row < 16385) v.items) }
-    ensures each { IfOk result (λ v. (row : ℕ) → row < 16385 → pieces_in row v.items ≡ row_of S.extent frame items.now layer row) }
-{
     let mut filings = Vec::new(alloc);
     for p in 0..items.len() {
         let item = &items[p];
@@ -50,7 +34,8 @@ fn filings_on<S: Closed>(
             file(item, p as u32, frame, &mut filings)?;
         }
     }
-    Ok(filings)
+    let rows = Bins::new(alloc, ROWS as usize, filings.as_slice())?;
+    Ok(rows)
 }
 
 // Files the piece under its cells, or as a wide one.

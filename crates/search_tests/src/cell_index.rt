@@ -1,5 +1,5 @@
 // Discs on layers: who touches whom, and who is under a place.
-ghost use Rattle.contact.specs.Round.{IsCapsuleRadius, IsLawful, box_of};
+ghost use Rattle.contact.specs.Round.{IsLawful, box_of};
 ghost use Rattle.contact.specs.RoundLaws.{boxed, boxes_share, not_empty, shared_by_itself, turned};
 ghost use Rattle.contact.specs.Solid.{IsInside};
 ghost use Rattle.planar.specs.Plane.{InCapsule, IsPlaced};
@@ -7,7 +7,7 @@ ghost use Rattle.std.specs.Prelude.{◌≡◌, ◌<◌, ◌≤◌, ◌↔◌, Al
 
 use board_shapes::{Origin, Placed};
 use cell_index::{AllPairs, Cells, Field};
-use contact::{Bounds, Capsule, Closed, MOST_RADIUS, Meets};
+use contact::{Bounds, Capsule, Closed, Meets};
 use lengths::rows::NoMemory;
 use planar::{Frame, SIDE, Spot};
 use std::alloc::Global;
@@ -214,168 +214,6 @@ fn a_piece_stands_in_each_cell_that_it_meets(rt: HostRuntime) -> Result<(), Fail
 const WHOLE: i64 = SIDE as i64 / 128;
 
 const HALF: i64 = WHOLE / 2;
-
-// A spot on the lines that halve the cells of the frame (0, 0), every second of which is an edge of cells.
-fn half_cell(x: u8, y: u8) -> Spot
-    ensures { IsPlaced result }
-{
-    Spot {
-        x: x as i64 * HALF,
-        y: y as i64 * HALF,
-    }
-}
-
-fn one_of(first: bool, a: Spot, b: Spot) -> Spot
-    requires first { IsPlaced a }
-    requires second { IsPlaced b }
-    ensures { IsPlaced result }
-{
-    if first { a } else { b }
-}
-
-// Half a cell, a whole one, a dot, half a millimetre, none, or the greatest.
-fn radius(k: u32) -> i64
-    ensures { IsCapsuleRadius result }
-{
-    match k % 6 {
-        0 => HALF,
-        1 => WHOLE,
-        2 => 1_000,
-        3 => 5_000_000,
-        4 => 0,
-        _ => MOST_RADIUS,
-    }
-}
-
-// A span within four layers, by the same formula.
-fn span(k: u32) -> (u8, u8)
-    ensures { (1 ≤ result.0) × (result.0 ≤ result.1) }
-{
-    let top = (k / 7 % 4) as u8 + 1;
-    if k % 3 == 0 {
-        (top, top.max(4))
-    } else {
-        (top, top)
-    }
-}
-
-// Capsules of four layers by a formula, within so many half cells of the corner; those that leave the frame are left out.
-fn board(
-    alloc: Global,
-    seed: u32,
-    count: u32,
-    within: u8,
-) -> Result<Vec<Placed<Capsule>>, NoMemory> {
-    let mut items = Vec::new(alloc);
-    let mut h = seed;
-    for _ in 0..count {
-        h = h.wrapping_mul(1_664_525).wrapping_add(1_013_904_223);
-        let from = half_cell(
-            (h / 16_777_216) as u8 & within,
-            (h / 65_536 % 256) as u8 & within,
-        );
-        let k = h / 256;
-        h = h.wrapping_mul(1_664_525).wrapping_add(1_013_904_223);
-        let to = half_cell(
-            (h / 16_777_216) as u8 & within,
-            (h / 65_536 % 256) as u8 & within,
-        );
-        let shape = Capsule::new(from, one_of(k % 5 == 0, to, from), radius(k));
-        let (top, bottom) = span(k);
-        if shape.bounds().inside(CORNER) {
-            items.push(Placed {
-                shape,
-                top,
-                bottom,
-                origin: Origin {
-                    file: 0,
-                    command: 1,
-                    copy: 0,
-                },
-            })?;
-        }
-    }
-    Ok(items)
-}
-
-// Whether both fields tell the same neighbours of each piece.
-fn same_neighbours<F: Field, G: Field, L: Ledger>(
-    alloc: Global,
-    first: &F,
-    second: &G,
-    blank: Blank,
-) -> Result<bool, NoMemory>
-    requires name { blank.name ≡ L.name }
-    requires parts { blank.parts ≡ L.parts }
-    requires some { 0 < blank.parts }
-{
-    let mut tests = Steps::<L>::new(blank);
-    let mut one = Vec::new(alloc);
-    let mut other = Vec::new(alloc);
-    for i in 0..first.count().min(second.count()) {
-        first.neighbours(i, &mut one, &mut tests)?;
-        second.neighbours(i, &mut other, &mut tests)?;
-        if one.as_slice() != other.as_slice() {
-            return Ok(false);
-        }
-    }
-    Ok(first.count() == second.count())
-}
-
-// Whether both tell the same least piece where lines of half cells cross, every so many, on each layer and beside them.
-fn same_homes<F: Field, G: Field>(first: &F, second: &G, step: u8) -> bool {
-    for x in 0..64u8 {
-        for y in 0..64u8 {
-            if !same_least(
-                first,
-                second,
-                half_cell(x.wrapping_mul(step), y.wrapping_mul(step)),
-            ) {
-                return false;
-            }
-        }
-    }
-    true
-}
-
-fn same_least<F: Field, G: Field>(first: &F, second: &G, at: Spot) -> bool
-    requires { IsPlaced at }
-{
-    for layer in 0..6 {
-        if first.least_at(at, layer) != second.least_at(at, layer) {
-            return false;
-        }
-    }
-    true
-}
-
-// Boards by a formula, close together and spread, with few and with many pieces.
-#[test]
-fn cells_answer_as_all_pairs(rt: HostRuntime) -> Result<(), Fail> {
-    for (seed, count, within, step) in [
-        (1, 90, 7, 1),
-        (2, 90, 31, 1),
-        (3, 90, 63, 1),
-        (4, 90, 255, 5),
-        (5, 3, 255, 5),
-        (6, 0, 7, 1),
-    ] {
-        let items = board(rt.alloc(), seed, count, within)?;
-        let cells = cells_of(rt.alloc(), items.as_slice(), CORNER, 4)?.expect(&rt, "in the frame");
-        let pairs = pairs_of(items.as_slice(), CORNER).expect(&rt, "in the frame");
-        assert!(rt;
-            same_neighbours::<Cells<Capsule>, AllPairs<Capsule>, Brand>(
-                rt.alloc(),
-                &cells,
-                &pairs,
-                Blank::new(1)
-            )?,
-            "of board {seed}"
-        );
-        assert!(rt; same_homes(&cells, &pairs, step), "on board {seed}");
-    }
-    Ok(())
-}
 
 // A capsule that counts what it is asked.
 #[derive(Drop)]
