@@ -6,7 +6,7 @@ ghost use Rattle.std.specs.Prelude.{pos, ◌<◌, ◌≡◌, ◌≤ℤ◌};
 use Outline::*;
 use area_contact::{Area, AreaFault, MOST_CONTOUR_EDGES, MOST_CONTOUR_POINTS};
 use contact::{Capsule, Closed, Meets};
-use planar::{Frame, METRE, Spot, ray_crosses, segments_meet, segments_within};
+use planar::{Frame, METRE, Spot};
 use std::alloc::{AllocError, Global};
 use std::marker::Brand;
 use std::sync::ledger::{Blank, Ledger};
@@ -388,57 +388,6 @@ fn contour(
     area_of(alloc, &corners_of(alloc, outline, by, view)?)
 }
 
-/// Whether the edge comes into the capsule.
-fn edge_reaches(from: Corner, to: Corner, track: Track) -> bool {
-    segments_within(from.at, to.at, track.a.at, track.b.at, track.r, FRAME)
-}
-
-/// Whether an edge comes into the capsule, by a walk over all edges.
-fn walk_reaches(corners: &[Corner], track: Track) -> bool {
-    for i in 1..corners.len() {
-        if edge_reaches(corners[i - 1], corners[i], track) {
-            return true;
-        }
-    }
-    false
-}
-
-/// Whether the ray from the spot to the right crosses an odd number of edges, by a walk over all.
-fn walk_crossed(corners: &[Corner], p: Corner) -> bool {
-    let mut odd = false;
-    for i in 1..corners.len() {
-        odd = odd != ray_crosses(corners[i - 1].at, corners[i].at, p.at);
-    }
-    odd
-}
-
-fn walk_track(corners: &[Corner], track: Track) -> bool {
-    walk_reaches(corners, track) || walk_crossed(corners, track.a)
-}
-
-/// Whether an edge shares a point with the edge, by a walk over all.
-fn walk_meets(corners: &[Corner], from: Corner, to: Corner) -> bool {
-    for i in 1..corners.len() {
-        if segments_meet(corners[i - 1].at, corners[i].at, from.at, to.at) {
-            return true;
-        }
-    }
-    false
-}
-
-/// Whether areas share a point, by a walk over all pairs of edges.
-fn walk_areas(corners: &[Corner], others: &[Corner]) -> bool {
-    for i in 1..others.len() {
-        if walk_meets(corners, others[i - 1], others[i]) {
-            return true;
-        }
-    }
-    match (corners.first(), others.first()) {
-        (Some(c), Some(o)) => walk_crossed(others, *c) || walk_crossed(corners, *o),
-        _ => false,
-    }
-}
-
 /// A contour of so many points, all one spot.
 fn many(alloc: Global, count: usize) -> Result<Result<Area, AreaFault>, AllocError> {
     let mut corners = Vec::new(alloc);
@@ -519,11 +468,8 @@ fn holds(area: &Area, p: Corner) -> Option<bool> {
 fn pairs_of_areas(rt: HostRuntime) -> Result<(), Fail> {
     for (first, second, by, want) in pairs() {
         for view in VIEWS {
-            let corners = corners_of(rt.alloc(), first.corners(), (0, 0), view)?;
-            let others = corners_of(rt.alloc(), second.corners(), by, view)?;
-            let first = area_of(rt.alloc(), &corners)?.expect(&rt, "first");
-            let second = area_of(rt.alloc(), &others)?.expect(&rt, "second");
-            assert!(rt; walk_areas(&corners, &others) == want);
+            let first = contour(rt.alloc(), first.corners(), (0, 0), view)?.expect(&rt, "first");
+            let second = contour(rt.alloc(), second.corners(), by, view)?.expect(&rt, "second");
             assert!(rt; areas_share(&first, &second) == Some(want));
             assert!(rt; areas_share(&second, &first) == Some(want));
         }
@@ -535,17 +481,13 @@ fn pairs_of_areas(rt: HostRuntime) -> Result<(), Fail> {
 fn areas_with_capsules_and_spots(rt: HostRuntime) -> Result<(), Fail> {
     for view in VIEWS {
         for (outline, a, b, r, want) in rounds() {
-            let corners = corners_of(rt.alloc(), outline.corners(), (0, 0), view)?;
-            let area = area_of(rt.alloc(), &corners)?.expect(&rt, "area");
+            let area = contour(rt.alloc(), outline.corners(), (0, 0), view)?.expect(&rt, "area");
             let track = track_of(a, b, r, view);
-            assert!(rt; walk_track(&corners, track) == want);
             assert!(rt; area_shares(&area, track) == Some(want));
             assert!(rt; capsule_shares(track, &area) == Some(want));
         }
         for (outline, p, want) in holdings() {
-            let corners = corners_of(rt.alloc(), outline.corners(), (0, 0), view)?;
-            let area = area_of(rt.alloc(), &corners)?.expect(&rt, "area");
-            assert!(rt; walk_track(&corners, track_of(p, p, 0, view)) == want);
+            let area = contour(rt.alloc(), outline.corners(), (0, 0), view)?.expect(&rt, "area");
             assert!(rt; holds(&area, spot(p, view)) == Some(want));
         }
     }
