@@ -8,7 +8,7 @@ ghost use Rattle.board_package.specs.Contents.{Reads};
 use crate::entry::{Entry, Role};
 use crate::fault::{BuildFault, refused};
 use crate::parts::{Parts, room_left};
-use gerber_layer::{GerberKind, LayerFault, read_layer};
+use gerber_layer::{GerberKind, LayerFault, Standard, read_layer};
 use ipc356_records::{RecordFault, RecordKind, read_netlist};
 use std::alloc::Global;
 use texts::MOST_BYTES;
@@ -77,7 +77,7 @@ pub fn read_file(
 {
     let room = room_left(parts.pieces.as_slice());
     match entry.role {
-        Role::Copper { layer } => match read_layer(alloc, file, layer, entry.number, room) {
+        Role::Copper { layer } => match read_layer::<Standard>(alloc, file, layer, entry.number, room) {
             Ok(pieces) => Ok(parts.add(pieces)?),
             Err(LayerFault::Refused { kind, command, at }) => {
                 Err(refused(&entry.name, Refusal::Layer { kind, command, at }))

@@ -1,7 +1,7 @@
 // Copper files, and what they are flattened to.
 use super::*;
 use board_shapes::{MOST_PIECES, Room};
-use gerber_layer::{MOST_FLAT_EDGES, read_layer};
+use gerber_layer::{MOST_FLAT_EDGES, Standard, read_layer};
 use std::alloc::Global;
 use std::test::Fail;
 use texts::MOST_BYTES;
@@ -43,7 +43,7 @@ fn flattened(alloc: Global, file: &[u8]) -> Result<Vec<u8>, Fail> {
     if file.len() > MOST_BYTES {
         return Err("the file is too long".into());
     }
-    match read_layer(alloc, file, 1, 0, ROOM) {
+    match read_layer::<Standard>(alloc, file, 1, 0, ROOM) {
         Ok(pieces) => match write_flat(alloc, &pieces) {
             Ok(text) => Ok(text),
             Err(_) => Err("memory is wanted".into()),
