@@ -8,7 +8,8 @@ use Rattle.gerber_words.specs.Words.{Ahead}
 use Rattle.gerber_words.specs.Laws.{HasOneReadingAhead}
 use Rattle.gerber_words.specs.ItemsLaws.{some_items, one_items}
 use Rattle.gerber_layer.specs.CommandEffects.{Place}
-use Rattle.gerber_layer.specs.Straight.{HasOneStraightAnswer, IsReadStraight, IsRefusedStraight, IsStraightFault}
+use Rattle.gerber_layer.specs.Dialect.{HasOneAnswerBy, IsReadBy, IsRefusedBy}
+use Rattle.gerber_layer.specs.Layer.{IsFaultBy, straight as straight_words}
 use Rattle.gerber_layer.specs.declared.kind.GerberKind.{GerberKind}
 use Rattle.gerber_layer.specs.declared.kind.LayerFault.{LayerFault}
 use Rattle.gerber_layer.specs.declared.kind.LayerFault.TheVariants as layer
@@ -28,12 +29,12 @@ pub one_bend_answer : ((a : Ahead) → HasOneReadingAhead a) → (file : List �
 one_bend_answer one file = one_answer_of bend_behind bends_in (AreSayings file) (some_items one saying stop_saying file) (one_items one saying stop_saying file)
 
 -- the straight reading refuses nothing, and the bends something
-pub bend_alone : ((file : List ℕ) (p : Place) → HasOneStraightAnswer file p) → (file : List ℕ) (p : Place) (pieces : List PlainPiece) (why : RealFault) → IsReadStraight file p pieces → IsBendFault file why → IsRealFault file p why
+pub bend_alone : ((file : List ℕ) (p : Place) → HasOneAnswerBy straight_words file p) → (file : List ℕ) (p : Place) (pieces : List PlainPiece) (why : RealFault) → IsReadBy straight_words file p pieces → IsBendFault file why → IsRealFault file p why
 bend_alone one file p pieces fault.NoMemory read h = tt
 bend_alone one file p pieces (fault.Refused kind number place) read h = by_bend kind number place h (λ other n q refused. absurd ((one file p).not_both pieces other n q read refused))
 
 -- both refuse something
-earlier_is : ((a : Ahead) → HasOneReadingAhead a) → ((file : List ℕ) (p : Place) → HasOneStraightAnswer file p) → (file : List ℕ) (p : Place) (kind : GerberKind) (number place : ℕ) (why : RealFault) → IsRefusedStraight file p kind number place → IsBendFault file why → IsRealFault file p (earlier kind number place why)
+earlier_is : ((a : Ahead) → HasOneReadingAhead a) → ((file : List ℕ) (p : Place) → HasOneAnswerBy straight_words file p) → (file : List ℕ) (p : Place) (kind : GerberKind) (number place : ℕ) (why : RealFault) → IsRefusedBy straight_words file p kind number place → IsBendFault file why → IsRealFault file p (earlier kind number place why)
 earlier_is words one file p kind number place fault.NoMemory straight h = tt
 earlier_is words one file p kind number place (fault.Refused bent n at) straight h = by (nat_lt n number) refl
   where
@@ -48,7 +49,7 @@ earlier_is words one file p kind number place (fault.Refused bent n at) straight
     by false is = by_straight kind number place straight (none is)
 
 -- the straight reading refuses something
-pub first_is : ((a : Ahead) → HasOneReadingAhead a) → ((file : List ℕ) (p : Place) → HasOneStraightAnswer file p) → {B : Type 0} (bends_of : B → ℕ → Option Bend) (file : List ℕ) (p : Place) (straight : LayerFault) (bends : Result B RealFault) → IsStraightFault file p straight → IfOk bends (λ b. AreBends file (bends_of b)) → IfErr bends (IsBendFault file) → IsRealFault file p (first_fault straight (fault_of bends))
+pub first_is : ((a : Ahead) → HasOneReadingAhead a) → ((file : List ℕ) (p : Place) → HasOneAnswerBy straight_words file p) → {B : Type 0} (bends_of : B → ℕ → Option Bend) (file : List ℕ) (p : Place) (straight : LayerFault) (bends : Result B RealFault) → IsFaultBy straight_words file p straight → IfOk bends (λ b. AreBends file (bends_of b)) → IfErr bends (IsBendFault file) → IsRealFault file p (first_fault straight (fault_of bends))
 first_is words one bends_of file p layer.NoMemory bends h read refused = tt
 first_is words one bends_of file p (layer.Refused kind number place) (Ok b) h read refused = by_straight kind number place h (λ other n q r. absurd ((one_bend_answer words file).not_both (bends_of b) other n q read r))
 first_is words one bends_of file p (layer.Refused kind number place) (Err why) h read refused = earlier_is words one file p kind number place why h refused

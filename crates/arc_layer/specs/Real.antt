@@ -7,7 +7,8 @@ use Rattle.board_shapes.specs.declared.placed.Placed.{Placed}
 use Rattle.arcs.specs.declared.Arc.{Arc}
 use Rattle.file_reading.specs.Reading as reading
 use Rattle.gerber_layer.specs.CommandEffects.{Place}
-use Rattle.gerber_layer.specs.Straight.{IsReadStraight, IsRefusedStraight}
+use Rattle.gerber_layer.specs.Dialect.{IsReadBy, IsRefusedBy}
+use Rattle.gerber_layer.specs.Layer.{straight as straight_words}
 use Rattle.gerber_layer.specs.declared.kind.GerberKind.{GerberKind}
 use Rattle.gerber_layer.specs.declared.kind.LayerFault.{LayerFault}
 use Rattle.gerber_layer.specs.declared.kind.LayerFault.TheVariants as layer
@@ -65,7 +66,7 @@ real_piece bends p = record { figure = with_bend (bends p.origin.command) p.figu
 pub record IsRealCopper (file : List ℕ) (p : Place) (pieces : List PlainReal) : Type 0 where
   pub straight : List PlainPiece
   pub bends : ℕ → Option Bend
-  pub read : IsReadStraight file p straight
+  pub read : IsReadBy straight_words file p straight
   pub bent : AreBends file bends
   pub are : pieces ≡ map (real_piece bends) straight
 
@@ -74,12 +75,12 @@ abbrev pub NoBendBefore : List ℕ → ℕ → Type 0
 NoBendBefore file number = (kind : RealKind) (n place : ℕ) → IsBendRefused file kind n place → number ≤ n
 
 abbrev pub NoneUpTo : List ℕ → Place → ℕ → Type 0
-NoneUpTo file p number = (kind : GerberKind) (n place : ℕ) → IsRefusedStraight file p kind n place → number < n
+NoneUpTo file p number = (kind : GerberKind) (n place : ℕ) → IsRefusedBy straight_words file p kind n place → number < n
 
 -- Either reading refuses the file, and this is its refusal; the other has none at a lesser command, and where both refuse the same command, the straight
 -- reading's counts.
 pub data IsRealRefused (file : List ℕ) (p : Place) : RealKind → ℕ → ℕ → Type 0 where
-  by_straight : (kind : GerberKind) (number place : ℕ) → IsRefusedStraight file p kind number place → NoBendBefore file number → IsRealRefused file p (Gerber kind) number place
+  by_straight : (kind : GerberKind) (number place : ℕ) → IsRefusedBy straight_words file p kind number place → NoBendBefore file number → IsRealRefused file p (Gerber kind) number place
   by_bend : (kind : RealKind) (number place : ℕ) → IsBendRefused file kind number place → NoneUpTo file p number → IsRealRefused file p kind number place
 
 -- Each file has one answer: its real copper, or its refusal.

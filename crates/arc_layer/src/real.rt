@@ -17,7 +17,7 @@ use arcs::{Arc, RealPiece, RealShape};
 use board_shapes::{MOST_LAYERS, Piece, Placed, Room, Shape};
 use contact::Capsule;
 use gerber_layer::laws::one_straight_answer;
-use gerber_layer::{GerberKind, LayerFault, read_straight};
+use gerber_layer::{GerberKind, LayerFault, Straight, read_layer_by};
 use gerber_words::laws::words_lie_ahead;
 use std::alloc::Global;
 use texts::MOST_BYTES;
@@ -134,9 +134,10 @@ fn first_fault(straight: LayerFault, bends: Result<Bends, RealFault>) -> RealFau
 }
 
 /// The real copper of a layer, in the order of the commands that make it; all lengths are in u, a tenth of
-/// a nanometre. A draw under `G02` or `G03` is its arc, each other piece what `read_straight` has.
+/// a nanometre. A draw under `G02` or `G03` is its arc, each other piece what `read_layer_by` has of
+/// `Straight` words.
 ///
-/// `layer`, `file_number` and `room` are as for `read_straight`. `Refused` is the first command with a
+/// `layer`, `file_number` and `room` are as for `read_layer`. `Refused` is the first command with a
 /// fault, also of an arc, and the first condition of its row that holds; want of memory is `NoMemory`.
 /// The file has at most `MOST_BYTES` bytes.
 pub fn read_real(
@@ -155,7 +156,7 @@ pub fn read_real(
 {
     words_lie_ahead();
     one_straight_answer();
-    let straight = read_straight(alloc, file, layer, file_number, room);
+    let straight = read_layer_by::<Straight>(alloc, file, layer, file_number, room);
     let bends = read_bends(alloc, file);
     match straight {
         Ok(pieces) => match bends {

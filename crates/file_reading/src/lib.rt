@@ -8,3 +8,13 @@
 mod halt;
 
 pub use halt::Halt;
+
+/// The name of a kind of refusal: its variant's.
+#[macro_export]
+macro_rules! name_of {
+    ($kind:expr, $of:ident: $($name:ident)*) => {
+        match $kind {
+            $($of::$name => stringify!($name),)*
+        }
+    };
+}

@@ -37,3 +37,7 @@ IsRefusedBy d file p kind number place = (items : List (Item Command)) × AreIte
 abbrev pub IsHaltBy : {W : Type 0} → Dialect W → List ℕ → Place → Halt W → ℕ → ℕ → Type 0
 IsHaltBy d file p (halt.Fault kind) number place = IsRefusedBy d file p kind number place
 IsHaltBy d file p halt.NoMemory number place = Unit {0}
+
+-- Each file has one answer: the pieces, or the first fault.
+abbrev pub HasOneAnswerBy : {W : Type 0} → Dialect W → List ℕ → Place → Type 0
+HasOneAnswerBy d file p = reading.HasOneAnswer (IsReadBy d file p) (IsRefusedBy d file p)

@@ -3,10 +3,9 @@ use Rattle.std.specs.Prelude.{ℕ, List}
 use Rattle.board_shapes.specs.Pieces.{PlainPiece}
 use Rattle.board_shapes.specs.declared.TheConstants.{MOST_PIECES}
 use Rattle.gerber_layer.specs.declared.TheConstants.{MOST_FLAT_EDGES}
-use Rattle.file_reading.specs.Reading as reading
 use Rattle.file_reading.specs.declared.halt.Halt.{Halt}
 use Rattle.file_reading.specs.declared.halt.Halt.TheVariants as halt
-use Rattle.gerber_layer.specs.Dialect.{Dialect, IsReadBy, IsRefusedBy}
+use Rattle.gerber_layer.specs.Dialect.{Dialect, HasOneAnswerBy, IsReadBy, IsRefusedBy}
 use Rattle.gerber_layer.specs.declared.macro_kind.FlattenKind.{FlattenKind}
 use Rattle.gerber_layer.specs.declared.macro_kind.FlattenFault.{FlattenFault}
 use Rattle.gerber_layer.specs.declared.macro_kind.FlattenFault.TheVariants as fault
@@ -40,6 +39,5 @@ abbrev pub macro_fault_at : Halt FlattenKind → ℕ → ℕ → FlattenFault
 macro_fault_at (halt.Fault kind) number at = fault.Refused kind number at
 macro_fault_at halt.NoMemory number at = fault.NoMemory
 
--- Each file has one answer: the pieces, or the first fault.
 abbrev pub HasOneMacroAnswer : List ℕ → Type 0
-HasOneMacroAnswer file = reading.HasOneAnswer (IsReadWithMacros file) (IsRefusedWithMacros file)
+HasOneMacroAnswer file = HasOneAnswerBy with_macros file flat_place

@@ -1,9 +1,10 @@
 //! Reads a layer.
 ghost use Rattle.std.specs.Prelude.{◌≡◌, ◌≤◌, length, All, IfOk, IfErr};
 ghost use Rattle.board_shapes.specs.Pieces.{plain_pieces};
-ghost use Rattle.gerber_layer.specs.Layer.{IsFault, IsRead, fault_at};
+ghost use Rattle.gerber_layer.specs.Dialect.{IsReadBy};
+ghost use Rattle.gerber_layer.specs.Layer.{IsFault, IsFaultBy, IsRead, fault_at, in_words};
 
-use crate::dialect::Standard;
+use crate::dialect::{Plain, Standard, Wording};
 use crate::file::read_by;
 use crate::kind::{GerberKind, LayerFault};
 use board_shapes::{MOST_LAYERS, Piece, Room};
@@ -12,7 +13,7 @@ use std::alloc::Global;
 use texts::MOST_BYTES;
 
 /// What stopped the reader, as the fault of the file.
-pub fn fault_at(halt: Halt<GerberKind>, command: u32, at: usize) -> LayerFault
+fn fault_at(halt: Halt<GerberKind>, command: u32, at: usize) -> LayerFault
     ensures { result ≡ fault_at halt command at }
 {
     match halt {
@@ -42,7 +43,25 @@ pub fn read_layer(
     ensures layers { IfOk result (λ pieces. All (λ piece. (piece.top ≡ layer) × (piece.bottom ≡ layer)) pieces.items) }
     ensures fault { IfErr result (IsFault file.now (record { layer = layer; file = file_number; room = room })) }
 {
-    read_by::<Standard>(alloc, file, layer, file_number, room).map_err(|why| fault_at(
+    read_layer_by::<Standard>(alloc, file, layer, file_number, room)
+}
+
+/// As `read_layer`, but `W` says how words are read: `Standard`, as they stand, or `Straight`.
+pub fn read_layer_by<W: Wording>(
+    alloc: Global,
+    file: &[u8],
+    layer: u8,
+    file_number: u32,
+    room: Room,
+) -> Result<Vec<Piece>, LayerFault>
+    requires layer { (1 ≤ layer) × (layer ≤ MOST_LAYERS) }
+    requires size { length file.now ≤ MOST_BYTES }
+    ensures ok { IfOk result (λ pieces. IsReadBy (in_words W.command) file.now (record { layer = layer; file = file_number; room = room }) (plain_pieces pieces.items)) }
+    ensures few { IfOk result (λ pieces. length pieces.items ≤ room.pieces) }
+    ensures layers { IfOk result (λ pieces. All (λ piece. (piece.top ≡ layer) × (piece.bottom ≡ layer)) pieces.items) }
+    ensures fault { IfErr result (IsFaultBy (in_words W.command) file.now (record { layer = layer; file = file_number; room = room })) }
+{
+    read_by::<Plain<W>>(alloc, file, layer, file_number, room).map_err(|why| fault_at(
         why.halt,
         why.command,
         why.at,

@@ -1,5 +1,5 @@
 //! The rows of the table of commands where a file may have macros.
-ghost use Rattle.std.specs.Prelude.{◌≡◌, ◌+◌, ◌^◌, ◌<◌, true, IfErr, IfOk, Ok, OnOk, Some};
+ghost use Rattle.std.specs.Prelude.{◌≡◌, true, IfErr, IfOk, Ok, Some};
 ghost use Rattle.board_shapes.specs.Pieces.{plain_pieces};
 ghost use Rattle.gerber_layer.specs.Command.{view};
 ghost use Rattle.gerber_layer.specs.Lawful.{IsLawfulCommand};
@@ -71,7 +71,7 @@ fn judge(
 }
 
 impl<'a> Reader<'a> {
-    ghost use Rattle.gerber_layer.specs.Reader.{IsFit, IsLawfulReader, Obeys, known_of, macros_in, shown};
+    ghost use Rattle.gerber_layer.specs.Reader.{IsFit, IsLawfulReader, known_of, macros_in, shown};
     ghost use Rattle.gerber_layer.specs.MacroReader.{showing_any};
 
     // `AM`.
@@ -225,9 +225,9 @@ impl<'a> Reader<'a> {
             .map_err(|kind| Halt::Fault(FlattenKind::Gerber(kind)))
     }
 
-    // What a command does where the file may have macros, or its fault.
+    /// What a command does where the file may have macros, or its fault.
     #[tactic(auto, unfolding(crate::specs::MacroTable::effect_with_macros))]
-    fn effect_with_macros(
+    pub fn effect_with_macros(
         &self,
         alloc: Global,
         command: &Command<'a>,
@@ -248,8 +248,8 @@ impl<'a> Reader<'a> {
         }
     }
 
-    // The pieces have at most `MOST_APERTURES` radii.
-    fn has_few_radii(&self, alloc: Global) -> Result<(), Halt<FlattenKind>>
+    /// The pieces have at most `MOST_APERTURES` radii.
+    pub fn has_few_radii(&self, alloc: Global) -> Result<(), Halt<FlattenKind>>
         ensures ok { IfOk result (λ _. spec.few_radii (concludes (plain_pieces self.now.pieces.items)) ≡ Ok (concludes (plain_pieces self.now.pieces.items))) }
         ensures halt { IfErr result (Stops (spec.few_radii (concludes (plain_pieces self.now.pieces.items)))) }
     {
@@ -261,36 +261,10 @@ impl<'a> Reader<'a> {
         }
         Ok(())
     }
-
-    /// Obeys a command where the file may have macros. An `Err` leaves a reader that is of no more
-    /// use.
-    pub fn obey_with_macros(
-        &mut self,
-        alloc: Global,
-        command: &Command<'a>,
-    ) -> Result<(), Halt<FlattenKind>>
-        requires lawful { IsLawfulReader self.old }
-        requires command { IsLawfulCommand (view command.now) }
-        requires few { self.old.commands + 1 < 2 ^ 32 }
-        ensures ok { OnOk result (Obeys self.old (view command.now) (spec.effect_with_macros (known_of self.old) (view command.now)) self.new) }
-        ensures lawful { OnOk result (IsLawfulReader self.new) }
-        ensures halt { IfErr result (Stops (spec.effect_with_macros (known_of self.old) (view command.now))) }
-    {
-        let effect = self.effect_with_macros(alloc, command)?;
-        let ends = effect.is_end();
-        if let Err(halt) = self.go_on(alloc, command, effect) {
-            return Err(any_halt(halt));
-        }
-        if ends {
-            self.has_few_radii(alloc)
-        } else {
-            Ok(())
-        }
-    }
 }
 
-// What stops the reader at a row that is the same without macros.
-fn any_halt(halt: Halt<GerberKind>) -> Halt<FlattenKind>
+/// What stops the reader at a row that is the same without macros.
+pub fn any_halt(halt: Halt<GerberKind>) -> Halt<FlattenKind>
     ensures { result ≡ any_halt halt }
 {
     match halt {

@@ -2,6 +2,7 @@
 ghost use Rattle.std.specs.Prelude.{◌≡◌};
 ghost use Rattle.ipc356_records.specs.Kind.{name_of_kind, number_of_kind};
 
+use file_reading::name_of;
 use thiserror::Error;
 
 /// Why a netlist is refused.
@@ -57,20 +58,9 @@ impl RecordKind {
     pub fn name(self) -> &'static str
         ensures name { result.now ≡ name_of_kind self }
     {
-        match self {
-            RecordKind::UnknownCode => "UnknownCode",
-            RecordKind::Continuation => "Continuation",
-            RecordKind::MissingUnits => "MissingUnits",
-            RecordKind::UnitsTwice => "UnitsTwice",
-            RecordKind::BadUnits => "BadUnits",
-            RecordKind::BadAccess => "BadAccess",
-            RecordKind::BadNumber => "BadNumber",
-            RecordKind::BadName => "BadName",
-            RecordKind::OutOfRange => "OutOfRange",
-            RecordKind::NotEnded => "NotEnded",
-            RecordKind::AfterEnd => "AfterEnd",
-            RecordKind::TooManyRecords => "TooManyRecords",
-        }
+        name_of!(self, RecordKind:
+            UnknownCode Continuation MissingUnits UnitsTwice BadUnits BadAccess BadNumber BadName
+            OutOfRange NotEnded AfterEnd TooManyRecords)
     }
 }
 

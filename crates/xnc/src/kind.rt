@@ -2,6 +2,7 @@
 ghost use Rattle.std.specs.Prelude.{◌≡◌};
 ghost use Rattle.xnc.specs.Kind.{name_of_kind, number_of_kind};
 
+use file_reading::name_of;
 use lengths::decimal::GridFault;
 use thiserror::Error;
 
@@ -76,25 +77,10 @@ impl DrillKind {
     pub fn name(self) -> &'static str
         ensures name { result.now ≡ name_of_kind self }
     {
-        match self {
-            DrillKind::NoHeader => "NoHeader",
-            DrillKind::BadLine => "BadLine",
-            DrillKind::MissingUnit => "MissingUnit",
-            DrillKind::NoTool => "NoTool",
-            DrillKind::ToolTwice => "ToolTwice",
-            DrillKind::ImpliedDecimals => "ImpliedDecimals",
-            DrillKind::OffGrid => "OffGrid",
-            DrillKind::OutOfRange => "OutOfRange",
-            DrillKind::ArcRout => "ArcRout",
-            DrillKind::WrongMode => "WrongMode",
-            DrillKind::WrongSpan => "WrongSpan",
-            DrillKind::NotPlated => "NotPlated",
-            DrillKind::MixedPlating => "MixedPlating",
-            DrillKind::NotEnded => "NotEnded",
-            DrillKind::AfterEnd => "AfterEnd",
-            DrillKind::TooManyPieces => "TooManyPieces",
-            DrillKind::TooManyTools => "TooManyTools",
-        }
+        name_of!(self, DrillKind:
+            NoHeader BadLine MissingUnit NoTool ToolTwice ImpliedDecimals OffGrid OutOfRange
+            ArcRout WrongMode WrongSpan NotPlated MixedPlating NotEnded AfterEnd TooManyPieces
+            TooManyTools)
     }
 }
 

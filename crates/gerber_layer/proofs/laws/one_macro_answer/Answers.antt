@@ -1,5 +1,6 @@
-use Rattle.gerber_layer.proofs.OneAnswer.{one_macro_answer}
+use Rattle.gerber_layer.proofs.OneAnswer.{one_answer}
+use Rattle.gerber_layer.specs.MacroLayer.{flat_place, with_macros}
 use Rattle.gerber_layer.proofs.laws.one_macro_answer.Goals as goal
 
 pub returns : goal.returns
-returns c = one_macro_answer c.words_lie_ahead.ensures
+returns c file = one_answer c.words_lie_ahead.ensures with_macros file flat_place

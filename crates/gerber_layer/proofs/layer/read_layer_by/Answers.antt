@@ -1,0 +1,10 @@
+use Rattle.std.proofs.Common.{rules}
+use Rattle.gerber_layer.proofs.Outcome.{outcome}
+use Rattle.gerber_layer.proofs.Placing.{layer_read}
+use Rattle.gerber_layer.proofs.layer.read_layer_by.Goals as goal
+
+pub read_by-requires-clause-outcomes : goal.read_by-requires-clause-outcomes
+read_by-requires-clause-outcomes g c = outcome
+
+pub returns-clause-layers : goal.returns-clause-layers
+returns-clause-layers g c = layer_read g.W.Wording.command (λ v. v.items) c.map_err.result c.args.file.now (record { layer = c.args.layer; file = c.args.file_number; room = c.args.room }) (search rules)
