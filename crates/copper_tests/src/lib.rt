@@ -2,10 +2,10 @@
 #![tactic(auto)]
 
 #[cfg(test)]
-mod aperture_macros;
+mod flattened;
 #[cfg(test)]
-mod arc_layer;
+mod layers;
 #[cfg(test)]
-mod gerber_layer;
+mod macro_words;
 #[cfg(test)]
-mod macro_flatten;
+mod real_copper;

@@ -2,8 +2,8 @@
 #![tactic(auto)]
 
 #[cfg(test)]
-mod board_package;
+mod drill_files;
 #[cfg(test)]
-mod ipc356_records;
+mod netlists;
 #[cfg(test)]
-mod xnc;
+mod packages;

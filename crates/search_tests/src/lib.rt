@@ -2,12 +2,12 @@
 #![tactic(auto)]
 
 #[cfg(test)]
-mod arcs;
+mod areas;
 #[cfg(test)]
-mod area_contact;
+mod chains;
 #[cfg(test)]
-mod cell_index;
+mod fields;
 #[cfg(test)]
-mod gaps;
+mod grown;
 #[cfg(test)]
-mod verdict;
+mod reports;

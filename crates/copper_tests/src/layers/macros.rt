@@ -1,5 +1,5 @@
 // Files with macros, and what they are read as.
-use crate::gerber_layer::image;
+use crate::layers::image;
 use gerber_layer::{FlattenFault, read_flat};
 use std::alloc::{AllocError, Global};
 use std::fmt::Write;

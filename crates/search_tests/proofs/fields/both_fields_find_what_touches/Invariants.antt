@@ -1,4 +1,4 @@
-use Rattle.search_tests.proofs.cell_index.both_fields_find_what_touches.Given as goal
+use Rattle.search_tests.proofs.fields.both_fields_find_what_touches.Given as goal
 
 abbrev pub ghosts-answers : goal.ghosts-answers
 ghosts-answers g a = record { name = a.blank.name; parts = a.blank.parts }

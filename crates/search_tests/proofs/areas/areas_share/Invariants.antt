@@ -1,4 +1,4 @@
-use Rattle.search_tests.proofs.gaps.fats_share.Given as goal
+use Rattle.search_tests.proofs.areas.areas_share.Given as goal
 
 abbrev pub ghosts-share : goal.ghosts-share
 ghosts-share a = record { name = a.blank.name; parts = a.blank.parts }

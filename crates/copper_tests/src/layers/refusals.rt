@@ -1,5 +1,5 @@
 // Files of layer 1 that are refused: the number and the name of the kind, the command, and its place.
-use crate::gerber_layer::told;
+use crate::layers::told;
 use std::alloc::{AllocError, Global};
 use std::test::Fail;
 

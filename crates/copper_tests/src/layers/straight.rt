@@ -1,5 +1,5 @@
 // Files in which draws may be arcs, and what they are read as where these are straight.
-use crate::gerber_layer::{ROOM, image};
+use crate::layers::{ROOM, image};
 use gerber_layer::{LayerFault, Straight, read_layer_by};
 use std::alloc::{AllocError, Global};
 use std::test::Fail;

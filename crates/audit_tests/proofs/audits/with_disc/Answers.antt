@@ -3,7 +3,7 @@ use Rattle.std.proofs.lemmas.List.Elements.{All-push}
 use Rattle.board_shapes.specs.Lawful.{IsOnLayers}
 use Rattle.board_shapes.specs.declared.placed.Placed.{Placed}
 use Rattle.board_shapes.specs.declared.shape.Shape.{Shape}
-use Rattle.audit_tests.proofs.witness_check.with_disc.Goals as goal
+use Rattle.audit_tests.proofs.audits.with_disc.Goals as goal
 
 pub returns-clause-spans : goal.returns-clause-spans
 returns-clause-spans c =
