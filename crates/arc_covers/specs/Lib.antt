@@ -1,4 +1,6 @@
 pub mod Bounds
+pub mod Counts
+pub mod CountsReading
 pub mod Faults
 pub mod Laws
 pub mod Links

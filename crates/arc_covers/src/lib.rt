@@ -6,6 +6,7 @@
 //! - `side`: the boards below and above a real one, and what a chain has to be there.
 //! - `rows`: whether pieces are a figure, or the capsules of a chain.
 //! - `between`: the check over whole boards.
+//! - `counts`: the file of counts.
 //! - `laws`: what follows of every board whose copper the real pieces allow.
 #![tactic(auto)]
 
@@ -15,12 +16,14 @@ ghost use Rattle.covers.specs.Covering.{IsCovered};
 ghost use Rattle.std.specs.Prelude.{IsTrue, length, pos, ℕ, ◌+◌, ◌<◌, ◌≤◌};
 
 mod between;
+mod counts;
 pub mod laws;
 mod rows;
 mod side;
 
 use arcs::{Arc, Spot, is_above, is_below};
 pub use between::{BoundsFault, check_between};
+pub use counts::{Counts, CountsFault, read_counts};
 use covers::Copper;
 pub use side::Side;
 
