@@ -3,5 +3,5 @@ pub mod Counts
 pub mod CountsReading
 pub mod Faults
 pub mod Laws
-pub mod Links
 pub mod RealBoards
+pub mod Taken

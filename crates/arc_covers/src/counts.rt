@@ -1,8 +1,8 @@
 //! The file of counts: how many pieces stand for each piece of a real board, below it and above.
-ghost use Rattle.arc_covers.specs.Counts.{AreCounts, IsCountsFault};
+ghost use Rattle.arc_covers.specs.Counts.{AreCounts, IsCountsFault, first_line};
 ghost use Rattle.arc_covers.specs.CountsReading.{both_at};
 ghost use Rattle.std.specs.Option.{option_map};
-ghost use Rattle.std.specs.Prelude.{IfErr, IfOk, [], true, ◌∷◌, ◌≡◌};
+ghost use Rattle.std.specs.Prelude.{IfErr, IfOk, true, ◌++◌, ◌≡◌};
 ghost use Rattle.std.specs.List.{list_all};
 ghost use Rattle.texts.specs.Digits.{is_decimal_digit};
 ghost use Rattle.verdict.specs.ReportReading as reading;
@@ -87,12 +87,12 @@ fn number(bytes: &[u8]) -> Option<(u32, &[u8])>
     }
 }
 
-/// What stands behind the byte, if it stands in front.
+/// What stands behind the text, if it stands in front.
 #[tactic(auto, unfolding(verdict::specs::ReportReading::behind))]
-fn behind(bytes: &[u8], byte: u8) -> Option<&[u8]>
-    ensures { option_map (λ rest. rest.now) result ≡ reading.behind (byte ∷ []) bytes.now }
+fn behind<'a>(bytes: &'a [u8], front: &[u8]) -> Option<&'a [u8]>
+    ensures { option_map (λ rest. rest.now) result ≡ reading.behind front.now bytes.now }
 {
-    bytes.strip_prefix(&[byte])
+    bytes.strip_prefix(front)
 }
 
 /// A blank, such a number, and what stands behind it.
@@ -100,7 +100,7 @@ fn behind(bytes: &[u8], byte: u8) -> Option<&[u8]>
 fn word(bytes: &[u8]) -> Option<(u32, &[u8])>
     ensures { option_map (λ x. (x.0, x.1.now)) result ≡ reading.word_at bytes.now }
 {
-    let rest = behind(bytes, b' ')?;
+    let rest = behind(bytes, b" ")?;
     number(rest)
 }
 
@@ -111,8 +111,31 @@ fn both(bytes: &[u8]) -> Option<((u32, u32), &[u8])>
 {
     let (below, rest) = number(bytes)?;
     let (above, rest) = word(rest)?;
-    let rest = behind(rest, b'\n')?;
+    let rest = behind(rest, b"\n")?;
     Some(((below, above), rest))
+}
+
+/// The counts of lines that stand behind the first, which are numbered from 2.
+fn read_lines(alloc: Global, lines: &[u8]) -> Result<Counts, CountsFault>
+    ensures ok { IfOk result (λ counts. AreCounts (first_line ++ lines.now) counts.lower counts.upper) }
+    ensures fault { IfErr result (IsCountsFault (first_line ++ lines.now)) }
+{
+    let mut lower = Rows::new(alloc);
+    let mut upper = Rows::new(alloc);
+    let mut rest = lines;
+    let mut line = 2;
+    while !rest.is_empty() {
+        match both(rest) {
+            Some(((below, above), after)) => {
+                lower.push(below)?;
+                upper.push(above)?;
+                rest = after;
+                line += 1;
+            }
+            None => return Err(CountsFault::Line(line)),
+        }
+    }
+    Ok(Counts { lower, upper })
 }
 
 /// The counts that the bytes spell: `boardnet-bounds 1`, and a line for each real piece. As many lines are
@@ -122,21 +145,8 @@ pub fn read_counts(alloc: Global, bytes: &[u8]) -> Result<Counts, CountsFault>
     ensures ok { IfOk result (λ counts. AreCounts bytes.now counts.lower counts.upper) }
     ensures fault { IfErr result (IsCountsFault bytes.now) }
 {
-    let Some(lines) = bytes.strip_prefix(b"boardnet-bounds 1\n") else {
-        return Err(CountsFault::Line(1));
-    };
-    let mut lower = Rows::new(alloc);
-    let mut upper = Rows::new(alloc);
-    let mut rest = lines;
-    let mut line = 2;
-    while !rest.is_empty() {
-        let Some(((below, above), after)) = both(rest) else {
-            return Err(CountsFault::Line(line));
-        };
-        lower.push(below)?;
-        upper.push(above)?;
-        rest = after;
-        line += 1;
+    match behind(bytes, b"boardnet-bounds 1\n") {
+        Some(lines) => read_lines(alloc, lines),
+        None => Err(CountsFault::Line(1)),
     }
-    Ok(Counts { lower, upper })
 }
