@@ -7,7 +7,8 @@ use Rattle.ipc356_records.specs.NetlistFile.{Netlist}
 use Rattle.serde_json.specs.Data.{Data}
 use Rattle.board_package.specs.Laws.{HasOneOutcome, FilesHaveOneAnswer}
 use Rattle.board_package.specs.Manifest.{IsManifest, IsNotJson, IsOther, IsValueOf, manifest_of}
-use Rattle.board_package.specs.PackageBoard.{Stop, absent, longer, not_json, bad_manifest, refused, frame_too_large, IsHeld, IsHeldWith, Goes, IsRefusedFor, StopsAt, StopsAtManifest, StopsAtFrame, StopsAmong, IsManifestFile, IsBoardOf, IsFirstStop, IsFrameStop, Walks, most_bytes}
+use Rattle.board_package.specs.PackageBoard.{Stop, absent, longer, not_json, bad_manifest, refused, frame_too_large, IsHeld, IsHeldWith, Goes, IsRefusedFor, StopsAt, StopsAtManifest, StopsAtFrame, StopsAmong, IsManifestFile, IsBoardOf, IsFirstStop, IsFrameStop, Walks}
+use Rattle.texts.specs.declared.TheConstants.{MOST_BYTES}
 use Rattle.board_package.specs.Parts.{with_pieces, empty_board}
 use Rattle.board_package.specs.Contents.{Reads, Refuses, layer_place, drill_place}
 use Rattle.board_package.specs.declared.entry.Entry.{Entry}
@@ -61,14 +62,14 @@ held_not_absent files name a h e = apart (h.held)
     apart : files name ≡ Some a → ⊥
     apart p = cc
 
-long_of : (o : Option (List ℕ)) (a : List ℕ) → o ≡ Some a → IsSomeAnd o (λ bytes. most_bytes < length bytes) → most_bytes < length a
-long_of o a e h = subst (λ (p : Option (List ℕ)). IsSomeAnd p (λ bytes. most_bytes < length bytes)) e h
+long_of : (o : Option (List ℕ)) (a : List ℕ) → o ≡ Some a → IsSomeAnd o (λ bytes. MOST_BYTES < length bytes) → MOST_BYTES < length a
+long_of o a e h = subst (λ (p : Option (List ℕ)). IsSomeAnd p (λ bytes. MOST_BYTES < length bytes)) e h
 
-pub held_not_longer : (files : Files) (name a : List ℕ) → IsHeld files name a → IsSomeAnd (files name) (λ bytes. most_bytes < length bytes) → ⊥
+pub held_not_longer : (files : Files) (name a : List ℕ) → IsHeld files name a → IsSomeAnd (files name) (λ bytes. MOST_BYTES < length bytes) → ⊥
 held_not_longer files name a h long = let l = long_of (files name) a h.held long in let s = h.short in omega arith
 
-absent_not_longer : (o : Option (List ℕ)) → o ≡ None → IsSomeAnd o (λ bytes. most_bytes < length bytes) → ⊥
-absent_not_longer o e h = subst (λ (p : Option (List ℕ)). IsSomeAnd p (λ bytes. most_bytes < length bytes)) e h
+absent_not_longer : (o : Option (List ℕ)) → o ≡ None → IsSomeAnd o (λ bytes. MOST_BYTES < length bytes) → ⊥
+absent_not_longer o e h = subst (λ (p : Option (List ℕ)). IsSomeAnd p (λ bytes. MOST_BYTES < length bytes)) e h
 
 pub same_name : (name a b : List ℕ) → a ≡ name → b ≡ name → a ≡ b
 same_name name a b p q = p ∙ sym q

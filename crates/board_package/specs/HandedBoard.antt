@@ -5,7 +5,8 @@ use Rattle.std.specs.Prelude.{◌≡◌, ◌⊎◌, ℕ, ◌≤◌, List, length
 use Rattle.board_io.specs.Handed.{Handed, with_file, with_long}
 use Rattle.board_shapes.specs.Plain.{PlainBoard, common_box, Fits}
 use Rattle.board_package.specs.Manifest.{IsManifest, IsNotJson, IsOther}
-use Rattle.board_package.specs.PackageBoard.{AtOneBy, Stop, StopsAtFrame, WalksBy, longer, not_json, bad_manifest, refused, most_bytes, order_of}
+use Rattle.board_package.specs.PackageBoard.{AtOneBy, Stop, StopsAtFrame, WalksBy, longer, not_json, bad_manifest, refused, order_of}
+use Rattle.texts.specs.declared.TheConstants.{MOST_BYTES}
 use Rattle.board_package.specs.Parts.{empty_board}
 use Rattle.board_package.specs.Contents.{Reads, Refuses}
 use Rattle.board_package.specs.declared.entry.Entry.{Entry}
@@ -17,7 +18,7 @@ use Rattle.board_package.specs.declared.contents.Refusal.{Refusal}
 -- the file of this name was handed over next, with these bytes, and is not too long
 pub record IsHanded (before after : List Handed) (name bytes : List ℕ) : Type 0 where
   pub next : after ≡ with_file before name bytes
-  pub short : length bytes ≤ most_bytes
+  pub short : length bytes ≤ MOST_BYTES
 
 -- the same, and P holds of its bytes
 pub record IsHandedWith (before after : List Handed) (name : List ℕ) (P : List ℕ → Type 0) : Type 0 where
@@ -27,7 +28,7 @@ pub record IsHandedWith (before after : List Handed) (name : List ℕ) (P : List
 
 -- the file of this name came next, and was too long
 abbrev pub StopsHanding : List Handed → List Handed → List ℕ → Stop → Type 0
-StopsHanding before after name (longer other) = (other ≡ name) × (after ≡ with_long before name most_bytes)
+StopsHanding before after name (longer other) = (other ≡ name) × (after ≡ with_long before name MOST_BYTES)
 StopsHanding before after name stop = ⊥
 
 -- the file of this name comes next, and is not handed over

@@ -13,10 +13,6 @@ use Rattle.board_package.specs.declared.contents.Refusal.{Refusal}
 use Rattle.board_shapes.specs.declared.TheConstants.{MOST_LAYERS, MOST_PIECES}
 use Rattle.texts.specs.declared.TheConstants.{MOST_BYTES}
 
--- the most bytes of a file
-abbrev pub most_bytes : ℕ
-most_bytes = MOST_BYTES
-
 -- the files of a package after its manifest, in the order in which they are taken
 abbrev pub order_of : Manifest → List Entry
 order_of m = m.files
@@ -35,12 +31,12 @@ pub data Stop : Type 0 where
 -- the file is held and not too long
 pub record IsHeld (files : Files) (name bytes : List ℕ) : Type 0 where
   pub held : files name ≡ Some bytes
-  pub short : length bytes ≤ most_bytes
+  pub short : length bytes ≤ MOST_BYTES
 
 -- the file is not there to be judged: it is not held, or too long
 abbrev pub StopsTaking : Files → List ℕ → Stop → Type 0
 StopsTaking files name (absent other) = (other ≡ name) × (files name ≡ None)
-StopsTaking files name (longer other) = (other ≡ name) × IsSomeAnd (files name) (λ bytes. most_bytes < length bytes)
+StopsTaking files name (longer other) = (other ≡ name) × IsSomeAnd (files name) (λ bytes. MOST_BYTES < length bytes)
 StopsTaking files name stop = ⊥
 
 -- the file is read and takes the board on

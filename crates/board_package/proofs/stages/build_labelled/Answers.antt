@@ -13,7 +13,7 @@ use Rattle.board_package.specs.declared.fault.LabelledFault.TheVariants as fault
 use Rattle.x2_nets.specs.declared.label_table.Label.{Label}
 use Rattle.board_package.proofs.LabelCauses.{files_labelled_cause, frame_labelled_cause, kept_labelled, kept_labelled_after, labelled_board_is, manifest_labelled_cause, needed, nothing_yet}
 use Rattle.board_package.proofs.Lift.{climbs, faultless_both, leaves_on}
-use Rattle.board_package.proofs.labelled.build_labelled.Goals as goal
+use Rattle.board_package.proofs.stages.build_labelled.Goals as goal
 
 -- ---- The manifest
 
