@@ -1,5 +1,5 @@
 -- Exactly which pieces the check takes for those of a real board.
-use Rattle.std.specs.Prelude.{ℕ, ℤ, pos, ◌≡◌, ◌⊎◌, ◌<◌, List, [], ◌∷◌, Some, length, slice_get, All}
+use Rattle.std.specs.Prelude.{ℕ, pos, ◌≡◌, ◌⊎◌, ◌<◌, List, [], ◌∷◌, Some, length, slice_get, All}
 use Rattle.planar.specs.declared.Spot.{Spot}
 use Rattle.board_shapes.specs.Figures.{Figure, figure_of}
 use Rattle.board_shapes.specs.Pieces.{PlainPiece}
