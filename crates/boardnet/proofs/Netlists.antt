@@ -4,7 +4,8 @@ use Rattle.std.proofs.lemmas.List.Elements.{recursion_from_All}
 use Rattle.std.specs.List.{AllByRecursion}
 use Rattle.board_io.specs.Package.{Files}
 use Rattle.board_package.specs.Laws.{HasOneOutcome}
-use Rattle.board_package.specs.PackageBoard.{IsBoardOf, Walks, most_bytes}
+use Rattle.board_package.specs.PackageBoard.{IsBoardOf, Walks}
+use Rattle.texts.specs.declared.TheConstants.{MOST_BYTES}
 use Rattle.board_package.specs.Parts.{empty_board}
 use Rattle.board_package.specs.Contents.{Reads}
 use Rattle.board_package.specs.declared.entry.Entry.{Entry}
@@ -25,7 +26,7 @@ use Rattle.verdict.specs.declared.verdict.Verdict.{Verdict}
 -- a text that can be taken, and is read as these probes and names
 record IsNetlist (after : Files) (name text : List ℕ) (layers : ℕ) (probes : List Probe) (names : List (List ℕ)) : Type 0 where
   held : after name ≡ Some text
-  short : length text ≤ most_bytes
+  short : length text ≤ MOST_BYTES
   read : IsRead text layers probes names
 
 -- the last file sets the probes and the names
@@ -51,7 +52,7 @@ walks_after before after (f ∷ front) e text start board probes names role stil
 )
 
 board_after : (before after : Files) (manifest text : List ℕ) (board : PlainBoard) (probes : List Probe) (names : List (List ℕ)) → (is : IsBoardOf before manifest board)
-    → (h : HasNetlist before after manifest is.listed text) → length text ≤ most_bytes → IsRead text board.layers probes names → IsBoardOf after manifest (with_netlist board probes names)
+    → (h : HasNetlist before after manifest is.listed text) → length text ≤ MOST_BYTES → IsRead text board.layers probes names → IsBoardOf after manifest (with_netlist board probes names)
 board_after before after manifest text board probes names is h short read = record {
   listed = is.listed;
   manifest = h.still_listed;
@@ -75,7 +76,7 @@ written_netlists_pass one writable reads short agrees before after manifest text
     let names : List (List ℕ) = names_written b.layers w.netlist.verdict.nets b.pieces in
     let own : IsRead (written_netlist_of b.layers w.netlist.verdict.nets b.pieces) b.layers probes names = (reads b.layers w.netlist.verdict.nets b.pieces can).read in
     let read : IsRead text b.layers probes names = subst (λ (t : List ℕ). IsRead t b.layers probes names) (sym w.netlist.text_is) own in
-    let few : length text ≤ most_bytes = subst (λ (t : List ℕ). length t ≤ most_bytes) (sym w.netlist.text_is) (short b.layers w.netlist.verdict.nets b.pieces can) in
+    let few : length text ≤ MOST_BYTES = subst (λ (t : List ℕ). length t ≤ MOST_BYTES) (sym w.netlist.text_is) (short b.layers w.netlist.verdict.nets b.pieces can) in
     let is : IsBoardOf after manifest (with_netlist b probes names) = board_after before after manifest text b probes names w.board_is h few read in
     record {
       fits = (with_netlist b probes names, is);

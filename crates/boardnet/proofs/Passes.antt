@@ -1,7 +1,8 @@
 -- A report that was written passes the audit of a package that also holds it.
 use Rattle.std.proofs.Common.{◌≤◌, inl, ℕ, List, [], ◌∷◌, length, refl}
 use Rattle.board_io.specs.Package.{Files}
-use Rattle.board_package.specs.PackageBoard.{IsBoardOf, IsHeld, Walks, most_bytes}
+use Rattle.board_package.specs.PackageBoard.{IsBoardOf, IsHeld, Walks}
+use Rattle.texts.specs.declared.TheConstants.{MOST_BYTES}
 use Rattle.board_package.specs.declared.entry.Entry.{Entry}
 use Rattle.board_shapes.specs.Plain.{PlainBoard}
 use Rattle.boardnet.specs.Laws.{CanBeTaken, FirstReportsAreShort, HoldsReport, ReportsPass}
@@ -27,7 +28,7 @@ still_board before after report text manifest board h b = record {
 }
 
 -- a report that was written can be taken
-taken : FirstReportsAreShort → (before : Files) (version : Version) (manifest text line : List ℕ) (status : ℕ) → CheckOutcome (Held before) version manifest (Told text status line) → CanBeTaken version text → length text ≤ most_bytes
+taken : FirstReportsAreShort → (before : Files) (version : Version) (manifest text line : List ℕ) (status : ℕ) → CheckOutcome (Held before) version manifest (Told text status line) → CanBeTaken version text → length text ≤ MOST_BYTES
 taken law before One manifest text line status r can = law before manifest text line status r
 taken law before Two manifest text line status r can = can
 

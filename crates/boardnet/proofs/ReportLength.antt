@@ -19,7 +19,8 @@ use Rattle.boardnet.proofs.SmallNetlists.{IsCounted, IsSmallNetlist, small_netli
 use Rattle.boardnet.specs.Laws.{FirstReportsAreShort, IsSmallBoard, IsSmallPoint, RightVerdictsAreSmall}
 use Rattle.tables.specs.Tables.{Tables, TestPoint}
 use Rattle.verdict.specs.Laws.{ReportsAreShort}
-use Rattle.verdict.specs.Limits.{IsRecordName, most_bytes}
+use Rattle.verdict.specs.Limits.{IsRecordName}
+use Rattle.texts.specs.declared.TheConstants.{MOST_BYTES}
 
 -- ---- The netlist of a package
 
@@ -71,4 +72,4 @@ first_reports_are_short small short files manifest text line status r =
     let netlist = walked_small files (order_of r.board_is.listed) (empty_board r.board_is.listed.layers) r.board none r.board_is.walked in
     let board = small_board r.board r.good.right.tables r.limits netlist r.good.right.tables_are in
     let parts = small r.good.right.tables r.good.verdict board r.good.right.right in
-    subst (λ (t : List ℕ). length t ≤ most_bytes) (sym r.good.text_is) (short r.good.verdict parts.small parts.few r.good.version_is)
+    subst (λ (t : List ℕ). length t ≤ MOST_BYTES) (sym r.good.text_is) (short r.good.verdict parts.small parts.few r.good.version_is)

@@ -7,7 +7,7 @@ use Rattle.board_io.specs.Causes.{Rose}
 use Rattle.board_io.specs.Memory.{HoldsAlso}
 use Rattle.board_io.specs.Package.{Files}
 use Rattle.board_io.specs.Sink.{Gains}
-use Rattle.board_package.specs.PackageBoard.{most_bytes}
+use Rattle.texts.specs.declared.TheConstants.{MOST_BYTES}
 use Rattle.boardnet.specs.Laws.{CanBeTaken, HoldsReport, ReportsPass}
 use Rattle.boardnet.specs.Outcome.{Held, IsAnswer, IsReport}
 use Rattle.boardnet.specs.Words.{IsAudit, IsCheck}
@@ -29,7 +29,7 @@ holds_report before mid after report bytes m free also = record {
 }
 
 -- what is no longer than a file may be can be taken
-can_be_taken : (version : Version) (text : List ℕ) → length text ≤ most_bytes → CanBeTaken version text
+can_be_taken : (version : Version) (text : List ℕ) → length text ≤ MOST_BYTES → CanBeTaken version text
 can_be_taken One text short = tt
 can_be_taken Two text short = short
 
@@ -50,7 +50,7 @@ Rules files words status A B = (manifest report : List ℕ) → IsAudit words ma
 
 pub passes : (before mid after : Files) (checking auditing : List (String Global)) (report got bytes : List ℕ) (checked status : ℕ) (A B : Type 0) → ReportsPass
     → (version : Version) (manifest : List ℕ) → IsCheck checking version manifest → IsAudit auditing manifest report → before report ≡ None → mid ≡ before
-    → Wrote before checking checked got → bytes ≡ got → HoldsAlso mid report bytes after → length bytes ≤ most_bytes → Rules after auditing status A B
+    → Wrote before checking checked got → bytes ≡ got → HoldsAlso mid report bytes after → length bytes ≤ MOST_BYTES → Rules after auditing status A B
     → (A → ⊥) → (B → ⊥) → (status ≡ 0) ⊎ (status ≡ 6)
 passes before mid after checking auditing report got bytes checked status A B law version manifest check audit free m wrote same also short rules calm quiet =
     let (text, line, is, all) = wrote version manifest check in

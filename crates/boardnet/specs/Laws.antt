@@ -1,7 +1,8 @@
 -- The laws of the program.
 use Rattle.std.specs.Prelude.{◌≡◌, ◌*◌, ◌<◌, ◌≤◌, ℕ, List, [], ◌∷◌, ◌++◌, length, All, Some, codes}
 use Rattle.board_io.specs.Package.{Files}
-use Rattle.board_package.specs.PackageBoard.{IsBoardOf, IsManifestFile, most_bytes, order_of}
+use Rattle.board_package.specs.PackageBoard.{IsBoardOf, IsManifestFile, order_of}
+use Rattle.texts.specs.declared.TheConstants.{MOST_BYTES}
 use Rattle.board_package.specs.declared.entry.Entry.{Entry}
 use Rattle.board_package.specs.declared.entry.Role.TheVariants.{Netlist}
 use Rattle.board_package.specs.declared.manifest.Manifest.{Manifest}
@@ -45,7 +46,7 @@ RightVerdictsAreSmall = (board : Tables) (verdict : Verdict) → IsSmallBoard bo
 
 -- The report of version 1 that `check` writes can be taken as a file.
 abbrev pub FirstReportsAreShort : Type 0
-FirstReportsAreShort = (files : Files) (manifest text line : List ℕ) (status : ℕ) → CheckOutcome (Held files) One manifest (Told text status line) → length text ≤ most_bytes
+FirstReportsAreShort = (files : Files) (manifest text line : List ℕ) (status : ℕ) → CheckOutcome (Held files) One manifest (Told text status line) → length text ≤ MOST_BYTES
 
 -- A package holds what it held before, and this text under the name of a report.
 pub record HoldsReport (before after : Files) (report text : List ℕ) : Type 0 where
@@ -55,7 +56,7 @@ pub record HoldsReport (before after : Files) (report text : List ℕ) : Type 0 
 -- What is asked of the length of a report: nothing of version 1, and of version 2 that it can be taken as a file.
 abbrev pub CanBeTaken : Version → List ℕ → Type 0
 CanBeTaken One text = Unit {0}
-CanBeTaken Two text = length text ≤ most_bytes
+CanBeTaken Two text = length text ≤ MOST_BYTES
 
 -- The report that `check` writes passes the audit: where the package also holds it, and it can be taken, the outcome of the
 -- audit is `audit true`.

@@ -2,7 +2,7 @@
 ghost use Rattle.board_io.specs.Causes.{Rose};
 ghost use Rattle.board_io.specs.Memory.{faults_of, files_of};
 ghost use Rattle.board_io.specs.MemorySink.{faults_of as sink_faults_of, got_of};
-ghost use Rattle.board_package.specs.PackageBoard.{IsBoardOf, most_bytes};
+ghost use Rattle.board_package.specs.PackageBoard.{IsBoardOf};
 ghost use Rattle.board_shapes.specs.Plain.{PlainBoard};
 ghost use Rattle.boardnet.specs.Words.{IsAudit, IsCheck};
 ghost use Rattle.boardnet.specs.declared.words.Version.{Version};
@@ -41,10 +41,10 @@ pub fn certify<N: Sink>(
     ruling: &mut MemorySink,
     notes: &mut N,
 ) -> Certified
-    ensures unreported { (status : ℕ) → result ≡ Certified.Unreported status → (2 ≤ status) ⊎ (most_bytes < length (got_of out.new)) }
+    ensures unreported { (status : ℕ) → result ≡ Certified.Unreported status → (2 ≤ status) ⊎ (MOST_BYTES < length (got_of out.new)) }
     ensures complete { (version : Version) (manifest : List ℕ) → IsCheck checking.now version manifest → (board : PlainBoard) → IsBoardOf (files_of «package».old) manifest board
         → (Rose (faults_of «package».old) (faults_of «package».new) → ⊥) → (Rose (sink_faults_of out.old) (sink_faults_of out.new) → ⊥)
-        → (status : ℕ) → result ≡ Certified.Unreported status → (status ≡ 6) ⊎ (most_bytes < length (got_of out.new)) }
+        → (status : ℕ) → result ≡ Certified.Unreported status → (status ≡ 6) ⊎ (MOST_BYTES < length (got_of out.new)) }
     ensures passes { (version : Version) (manifest : List ℕ) → IsCheck checking.now version manifest → IsAudit auditing.now manifest report.now → files_of «package».old report.now ≡ None → got_of out.old ≡ []
         → (Rose (faults_of «package».old) (faults_of «package».new) → ⊥) → (Rose (sink_faults_of ruling.old) (sink_faults_of ruling.new) → ⊥)
         → (status : ℕ) → result ≡ Certified.Audited status → (status ≡ 0) ⊎ (status ≡ 6) }

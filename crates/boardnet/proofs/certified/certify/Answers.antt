@@ -2,7 +2,7 @@ use Rattle.std.proofs.Common.{◌≡◌, ◌≤◌, inl, inr, length, rules, ari
 use Rattle.board_io.specs.Causes.{Rose}
 use Rattle.board_io.specs.Memory.{HoldsAlso, faults_of, files_of}
 use Rattle.board_io.specs.MemorySink.{faults_of as sink_faults_of, got_of}
-use Rattle.board_package.specs.PackageBoard.{most_bytes}
+use Rattle.texts.specs.declared.TheConstants.{MOST_BYTES}
 use Rattle.boardnet.proofs.TwoCalls.{Wrote, all_got, passes, rose_from}
 use Rattle.boardnet.proofs.certified.certify.Goals.{then-status-gt1-via-then-status-gt1, then-status-gt1-via-else-status-gt1+then-bytes-gt-MOST_BYTES}
 use Rattle.boardnet.proofs.certified.certify.Goals as goal
@@ -29,7 +29,7 @@ returns-clause-passes g c = λ version manifest check audit free empty calm quie
     let also : HoldsAlso (files_of c.run-status.new.package) c.args.report.now c.bytes-2.result.now (files_of c.hold.new.self) = search rules in
     let long = ap length c.bytes.ensures in
     let held = ap length c.bytes-2.ensures in
-    let short : length c.bytes-2.result.now ≤ most_bytes = omega (arith, long, held, c.if-bytes-gt-MOST_BYTES.false) in
+    let short : length c.bytes-2.result.now ≤ MOST_BYTES = omega (arith, long, held, c.if-bytes-gt-MOST_BYTES.false) in
     let later : faults_of c.args.package.now ≤ faults_of c.hold.new.self = omega (arith, c.run-status.ensures.kept.later, c.hold.ensures.others.faults) in
     let found = passes (files_of c.args.package.now) (files_of c.run-status.new.package) (files_of c.hold.new.self) c.args.checking.now c.args.auditing.now c.args.report.now (got_of c.run-status.new.out) c.bytes-2.result.now
     c.run-status.result c.run.result (Rose (faults_of c.hold.new.self) (faults_of c.run.new.package)) (Rose (sink_faults_of c.args.ruling.now) (sink_faults_of c.run.new.out))
