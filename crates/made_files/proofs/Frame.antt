@@ -112,12 +112,12 @@ near_cell : (part : Part) (seed size i : ℕ) → i < 10_000 → AreNear (copper
 near_cell Top seed size i low =
     let at = over_cell i low in
     let aside = over_beside i low in
-    (near_stroke (cell_at i) (cell_at i) 5_000_000 (omega arith) at at, (near_square (beside i) aside,
-    near_if (is_broken seed i) [] (track_between (cell_at i) (beside i) ∷ []) tt (near_stroke (cell_at i) (beside i) 1_000_000 (omega arith) at aside, tt)))
+    (near_stroke (cell_at i) (cell_at i) _ (omega arith) at at, (near_square (beside i) aside,
+    near_if (is_broken seed i) [] (track_between (cell_at i) (beside i) ∷ []) tt (near_stroke (cell_at i) (beside i) _ (omega arith) at aside, tt)))
 near_cell Bottom seed size i low =
     let at = over_cell i low in
-    (near_stroke (cell_at i) (cell_at i) 5_000_000 (omega arith) at at,
-    near_if (is_bridged seed size i) (track_between (cell_at i) (next_to i) ∷ []) [] (near_stroke (cell_at i) (next_to i) 1_000_000 (omega arith) at (over_next i low), tt) tt)
+    (near_stroke (cell_at i) (cell_at i) _ (omega arith) at at,
+    near_if (is_bridged seed size i) (track_between (cell_at i) (next_to i) ∷ []) [] (near_stroke (cell_at i) (next_to i) _ (omega arith) at (over_next i low), tt) tt)
 near_cell Holes seed size i low = tt
 near_cell Points seed size i low = tt
 
@@ -127,7 +127,7 @@ near_copper part seed size (suc i) few = near_both (copper part seed size i) (co
 
 pub near_bores : (n : ℕ) → n ≤ 10_000 → AreNear (bores n)
 near_bores zero few = tt
-near_bores (suc i) few = near_both (bores i) (bore i ∷ []) (near_bores i (omega (arith, few))) (near_stroke (cell_at i) (cell_at i) 2_000_000 (omega arith) (over_cell i (omega (arith, few))) (over_cell i (omega (arith, few))), tt)
+near_bores (suc i) few = near_both (bores i) (bore i ∷ []) (near_bores i (omega (arith, few))) (near_stroke (cell_at i) (cell_at i) _ (omega arith) (over_cell i (omega (arith, few))) (over_cell i (omega (arith, few))), tt)
 
 -- ---- The frame
 
