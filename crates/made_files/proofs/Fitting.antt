@@ -74,8 +74,8 @@ small part seed size pieces are =
     record { many = omega (arith, most, long, same); edges = omega (arith, edges, sum, total) }
 
 -- the next copper file has room behind these pieces
-layer_room : (size layer number : ℕ) (b : PlainBoard) → size ≤ 10_000 → length b.pieces ≤ 3 * size → edges_in b.pieces ≤ 4 * size → HasRoom size (layer_place layer number b)
-layer_room size layer number b few many edges = record { pieces = omega (arith, few, many); edges = omega (arith, few, edges) }
+layer_room : (size layer file : ℕ) (b : PlainBoard) → size ≤ 10_000 → length b.pieces ≤ 3 * size → edges_in b.pieces ≤ 4 * size → HasRoom size (layer_place layer file b)
+layer_room size layer file b few many edges = record { pieces = omega (arith, few, many); edges = omega (arith, few, edges) }
 
 -- ---- The files
 
@@ -112,17 +112,24 @@ made_packages_fit short seed size few =
     let board : PlainBoard = with_netlist three (points size) (names size) in
     let are : map (λ (q : PlainPiece). q.figure) board.pieces ≡ copper Top seed size size ++ copper Bottom seed size size ++ bores size = figures_are top.pieces bottom.pieces (holes place size) (copper Top seed size size) (copper Bottom seed size size) (bores size) top.are bottom.are (bores_are place size) in
     let near : AreNear (copper Top seed size size ++ copper Bottom seed size size ++ bores size) =
-        near_both (copper Top seed size size ++ copper Bottom seed size size) (bores size) (near_both (copper Top seed size size) (copper Bottom seed size size) (near_copper Top seed size size few) (near_copper Bottom seed size size few)) (near_bores size few) in
+    near_both (copper Top seed size size ++ copper Bottom seed size size) (bores size) (near_both (copper Top seed size size) (copper Bottom seed size size) (near_copper Top seed size size few) (near_copper Bottom seed size size few)) (near_bores size few) in
     record {
       board = board;
       is = record {
         listed = made_manifest;
         manifest = record { bytes = manifest_text; held = held_at short seed size (codes "m.json") manifest_text few refl; good = manifest_is };
         walked = (
-          one, record { bytes = part_text Top seed size; held = held_at short seed size (codes "top.gbr") (part_text Top seed size) few refl; read = (top.pieces, top.read, refl) },
-          (two, record { bytes = part_text Bottom seed size; held = held_at short seed size (codes "bot.gbr") (part_text Bottom seed size) few refl; read = (bottom.pieces, bottom.read, refl) },
-          (three, record { bytes = part_text Holes seed size; held = held_at short seed size (codes "pth.drl") (part_text Holes seed size) few refl; read = (holes place size, drilled, refl) },
-          (board, record { bytes = part_text Points seed size; held = held_at short seed size (codes "n.ipc") (part_text Points seed size) few refl; read = (points size, names size, listed, refl) }, refl))),
+          one,
+          record { bytes = part_text Top seed size; held = held_at short seed size (codes "top.gbr") (part_text Top seed size) few refl; read = (top.pieces, top.read, refl) },
+          (
+            two,
+            record { bytes = part_text Bottom seed size; held = held_at short seed size (codes "bot.gbr") (part_text Bottom seed size) few refl; read = (bottom.pieces, bottom.read, refl) },
+            (
+              three,
+              record { bytes = part_text Holes seed size; held = held_at short seed size (codes "pth.drl") (part_text Holes seed size) few refl; read = (holes place size, drilled, refl) },
+              (board, record { bytes = part_text Points seed size; held = held_at short seed size (codes "n.ipc") (part_text Points seed size) few refl; read = (points size, names size, listed, refl) }, refl),
+            ),
+          ),
         );
         frame = near_fits board.pieces (subst AreNear (sym are) near);
       };

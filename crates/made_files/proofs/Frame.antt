@@ -111,13 +111,18 @@ near_stroke a b r few h k = near_round a b (pos r) h k (omega (arith, ints)) (om
 near_cell : (part : Part) (seed size i : ℕ) → i < 10_000 → AreNear (copper_of part seed size i)
 near_cell Top seed size i low =
     let at = over_cell i low in
-    let aside = over_beside i low in
-    (near_stroke (cell_at i) (cell_at i) _ (omega arith) at at, (near_square (beside i) aside,
-    near_if (is_broken seed i) [] (track_between (cell_at i) (beside i) ∷ []) tt (near_stroke (cell_at i) (beside i) _ (omega arith) at aside, tt)))
+    let aside = over_beside i low in (
+      near_stroke (cell_at i) (cell_at i) _ (omega arith) at at,
+      (
+        near_square (beside i) aside,
+        near_if (is_broken seed i) [] (track_between (cell_at i) (beside i) ∷ []) tt (near_stroke (cell_at i) (beside i) _ (omega arith) at aside, tt),
+      ),
+    )
 near_cell Bottom seed size i low =
-    let at = over_cell i low in
-    (near_stroke (cell_at i) (cell_at i) _ (omega arith) at at,
-    near_if (is_bridged seed size i) (track_between (cell_at i) (next_to i) ∷ []) [] (near_stroke (cell_at i) (next_to i) _ (omega arith) at (over_next i low), tt) tt)
+    let at = over_cell i low in (
+      near_stroke (cell_at i) (cell_at i) _ (omega arith) at at,
+      near_if (is_bridged seed size i) (track_between (cell_at i) (next_to i) ∷ []) [] (near_stroke (cell_at i) (next_to i) _ (omega arith) at (over_next i low), tt) tt,
+    )
 near_cell Holes seed size i low = tt
 near_cell Points seed size i low = tt
 
