@@ -1,8 +1,6 @@
 -- The package of a made board fits.
-use Rattle.std.proofs.Common.{◌≡◌, ℕ, zero, suc, ◌+◌, ◌-◌, ◌*◌, ◌≤◌, List, [], ◌∷◌, ◌++◌, length, map, Some, codes, refl, sym, ap, ◌∙◌, subst, arith, append_assoc}
+use Rattle.std.proofs.Common.{◌≡◌, ℕ, zero, suc, ◌*◌, ◌≤◌, List, [], ◌∷◌, ◌++◌, length, map, Some, codes, refl, sym, ap, ◌∙◌, subst, arith}
 use Rattle.std.proofs.lemmas.List.{length-append, length-map, map-append}
-use Rattle.std.proofs.lemmas.List.Sums.{sum_by-append}
-use Rattle.board_io.specs.Package.{Files}
 use Rattle.board_maker.specs.Laws.{MadeFilesAreShort}
 use Rattle.board_maker.specs.MadeBoard.{manifest_text, part_text}
 use Rattle.board_maker.specs.MadePackage.{made_files}
@@ -10,25 +8,23 @@ use Rattle.board_maker.specs.declared.files.Part.{Part}
 use Rattle.board_maker.specs.declared.files.Part.TheVariants.{Top, Bottom, Holes, Points}
 use Rattle.board_package.specs.Contents.{drill_place, layer_place}
 use Rattle.board_package.specs.Manifest.{IsManifest, manifest_of}
-use Rattle.board_package.specs.PackageBoard.{Goes, IsBoardOf, IsHeld, most_bytes}
+use Rattle.board_package.specs.PackageBoard.{Goes, IsHeld}
 use Rattle.board_package.specs.Parts.{empty_board, with_pieces}
 use Rattle.board_package.specs.declared.entry.Entry.{Entry}
 use Rattle.board_package.specs.declared.entry.Role.TheVariants.{Copper, Drill, Netlist}
 use Rattle.board_package.specs.declared.manifest.Manifest.{Manifest}
-use Rattle.board_shapes.specs.CommonBox.{Fits, common_box}
-use Rattle.board_shapes.specs.Figures.{Figure, figure_edges}
+use Rattle.board_shapes.specs.Figures.{Figure}
 use Rattle.board_shapes.specs.Pieces.{PlainPiece, edges_in}
 use Rattle.board_shapes.specs.Plain.{PlainBoard, with_netlist}
-use Rattle.gerber_layer.specs.CommandEffects.{Place}
 use Rattle.serde_json.proofs.OnLiterals.{serde_json_on_literals}
 use Rattle.serde_json.specs.Data.{Data, array, item, member, no_items, no_members, number, object, string, unsigned}
 use Rattle.xnc.specs.FaultPlace.{Place as DrillPlace}
 use Rattle.made_files.proofs.Frame.{AreNear, near_bores, near_both, near_copper, near_fits}
 use Rattle.made_files.proofs.MadeCopper.{edges_are, edges_in as copper_edges, few_so_far, made_copper_is_read}
-use Rattle.made_files.proofs.MadeHoles.{holes_many, made_holes_are_read}
+use Rattle.made_files.proofs.MadeHoles.{made_holes_are_read}
 use Rattle.made_files.proofs.MadePoints.{made_points_are_read}
 use Rattle.made_files.specs.MadeFiles.{HasRoom, IsReadAs, bore, bores, copper, hole_of, holes, names, points}
-use Rattle.made_files.specs.MadePackages.{HasBoard, MadePackagesFit}
+use Rattle.made_files.specs.MadePackages.{MadePackagesFit}
 
 -- ---- The manifest
 

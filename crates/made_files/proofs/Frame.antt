@@ -1,5 +1,5 @@
 -- The copper and the holes of a made board fit in a frame.
-use Rattle.std.proofs.Common.{◌≡◌, ℕ, zero, suc, ◌+◌, ◌*◌, ◌<◌, ◌≤◌, ◌≤ℤ◌, Bool, true, false, if◌then◌else◌, List, [], ◌∷◌, ◌++◌, map, ℤ, pos, refl, arith}
+use Rattle.std.proofs.Common.{ℕ, zero, suc, ◌+◌, ◌*◌, ◌<◌, ◌≤◌, ◌≤ℤ◌, Bool, true, false, if◌then◌else◌, List, [], ◌∷◌, ◌++◌, map, ℤ, pos, arith}
 use Rattle.std.proofs.lemmas.Int.{clamps, ints}
 use Rattle.std.specs.Prelude.{◌+ℤ◌}
 use Rattle.area_contact.specs.Contour.{area_box, box_of_spot}
@@ -14,7 +14,7 @@ use Rattle.contact.specs.Round.{box_of}
 use Rattle.contact.specs.Solid.{joined}
 use Rattle.contact.specs.declared.Bounds.{Bounds}
 use Rattle.planar.specs.declared.Spot.{Spot}
-use Rattle.made_files.specs.MadeFiles.{beside, bore, bores, cell_at, copper, copper_of, next_to, round_pad, square_pad, track_between}
+use Rattle.made_files.specs.MadeFiles.{beside, bore, bores, cell_at, copper, copper_of, next_to, square_pad, track_between}
 
 -- a box between -10 mm and 260 mm
 pub record IsNear (b : Bounds) : Type 0 where

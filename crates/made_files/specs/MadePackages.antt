@@ -1,5 +1,5 @@
 -- The board of a made package.
-use Rattle.std.specs.Prelude.{◌≡◌, ℕ, ◌≤◌, List, ◌++◌, map, codes}
+use Rattle.std.specs.Prelude.{◌≡◌, ℕ, ◌≤◌, ◌++◌, map, codes}
 use Rattle.board_maker.specs.MadePackage.{made_files}
 use Rattle.board_maker.specs.declared.files.Part.TheVariants.{Top, Bottom}
 use Rattle.board_package.specs.PackageBoard.{IsBoardOf}
