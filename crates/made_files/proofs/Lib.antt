@@ -3,3 +3,5 @@ pub mod LineTexts
 pub mod MadeHoles
 pub mod MadePoints
 pub mod MadeCopper
+pub mod Frame
+pub mod Fitting

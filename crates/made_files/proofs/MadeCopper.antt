@@ -296,10 +296,10 @@ operated_then p square figures more h x y to code s e = record {
 }
 
 -- how much there is so far
-abbrev edges_in : List Figure → ℕ
+abbrev pub edges_in : List Figure → ℕ
 edges_in figures = sum_by figure_edges figures
 
-edges_are : (pieces : List PlainPiece) → edges_of pieces ≡ edges_in (map figure_in pieces)
+pub edges_are : (pieces : List PlainPiece) → edges_of pieces ≡ edges_in (map figure_in pieces)
 edges_are [] = refl
 edges_are (q ∷ pieces) =
     let more = edges_are pieces in
@@ -551,7 +551,7 @@ few_in_cell Bottom seed size i = by (is_bridged seed size i)
 few_in_cell Holes seed size i = (omega arith, omega arith)
 few_in_cell Points seed size i = (omega arith, omega arith)
 
-few_so_far : (part : Part) (seed size n : ℕ) → (length (copper part seed size n) ≤ 3 * n) × (edges_in (copper part seed size n) ≤ 4 * n)
+pub few_so_far : (part : Part) (seed size n : ℕ) → (length (copper part seed size n) ≤ 3 * n) × (edges_in (copper part seed size n) ≤ 4 * n)
 few_so_far part seed size zero = (omega arith, omega arith)
 few_so_far part seed size (suc i) =
     let more = few_so_far part seed size i in

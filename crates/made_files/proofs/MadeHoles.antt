@@ -251,7 +251,7 @@ record IsReady (p : Place) (n : ℕ) : Type 0 where
   barrels : barrels_at p (behind n) ≡ holes p n
   clean : Clean (effect_at p) (behind n)
 
-holes_many : (p : Place) (n : ℕ) → length (holes p n) ≡ n
+pub holes_many : (p : Place) (n : ℕ) → length (holes p n) ≡ n
 holes_many p zero = refl
 holes_many p (suc i) = let more = holes_many p i in let one = length-append (holes p i) (hole_of p i ∷ []) in omega (arith, more, one)
 

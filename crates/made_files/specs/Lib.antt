@@ -1,1 +1,2 @@
 pub mod MadeFiles
+pub mod MadePackages

@@ -18,14 +18,23 @@ use Rattle.xnc.specs.FaultPlace.{Place}
 abbrev pub cell_at : ℕ → Spot
 cell_at i = record { x = pos (25_000_000 * column i); y = pos (25_000_000 * row i) }
 
--- The hole of cell i: a round barrel of 0.4 mm at its place. It stands in the line behind the six of the head and of the cells before.
+-- the hole of a cell: round, of 0.4 mm, at its place
+abbrev pub bore : ℕ → Figure
+bore i = round (record { a = cell_at i; b = cell_at i; r = pos 2_000_000 })
+
+-- The barrel of cell i. It stands in the line behind the six of the head and of the cells before.
 abbrev pub hole_of : Place → ℕ → PlainPiece
-hole_of p i = record { figure = round (record { a = cell_at i; b = cell_at i; r = pos 2_000_000 }); top = p.from; bottom = p.to; origin = record { file = p.file; command = i + 6; copy = 0 } }
+hole_of p i = record { figure = bore i; top = p.from; bottom = p.to; origin = record { file = p.file; command = i + 6; copy = 0 } }
 
 -- the holes of the cells from 0 up to a number of them
 abbrev pub holes : Place → ℕ → List PlainPiece
 holes p zero = []
 holes p (suc i) = holes p i ++ hole_of p i ∷ []
+
+-- their figures
+abbrev pub bores : ℕ → List Figure
+bores zero = []
+bores (suc i) = bores i ++ bore i ∷ []
 
 -- The drill file of a made board is read where there is room, as a hole in each cell.
 abbrev pub MadeHolesAreRead : Type 0
