@@ -15,7 +15,7 @@ pub enum Role {
 }
 
 /// Where the names of the nets come from.
-#[derive(Clone, Copy, Debug, PartialEq, Eq)]
+#[derive(Clone, Copy)]
 pub enum Naming {
     /// The netlist, which is taken last.
     ByNetlist,
@@ -38,7 +38,7 @@ impl Naming {
 }
 
 /// A file of a package.
-#[derive(Debug, Drop)]
+#[derive(Drop)]
 pub struct Entry {
     pub name: Text,
     /// Its number, from 0 through the copper files, then the drill files, and then the netlist.
