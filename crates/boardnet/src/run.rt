@@ -5,7 +5,7 @@ ghost use Rattle.boardnet.specs.Ends.{Ends, HasNames};
 ghost use Rattle.boardnet.specs.HandedOutcome.{EndsHanded};
 ghost use Rattle.boardnet.specs.Kept.{Keeps, Leaves};
 ghost use Rattle.boardnet.specs.Lines.{Gains, GainsFrontOf, Rose, Says, file_line, plain_line};
-ghost use Rattle.boardnet.specs.Outcome.{ComesFor, Fits, HandedOver, Held, IsAnswer, IsBoardOf, IsFlatText, IsGapped, IsHeld, IsLabelledBoardOf, IsLabelledReport, IsReadWithMacros, IsReport, IsTrialReport, IsWritten, OfFilesRead, OutcomeOf, PlainBoard, PlainPiece, Refused, Told, grown_common, made_files, made_manifest};
+ghost use Rattle.boardnet.specs.Outcome.{ComesFor, Fits, HandedOver, Held, IsAnswer, IsBoardOf, IsFlatText, IsGapped, IsHeld, IsLabelledBoardOf, IsLabelledReport, IsReadWithMacros, IsReport, IsTrialReport, IsWritten, OfFilesRead, OutcomeOf, PlainBoard, PlainPiece, Refused, Told, grown_common};
 ghost use Rattle.boardnet.specs.Words.{Asks, Command as Asked, IsAudit, IsCheck, IsFlatten, IsGaps, IsTrial, IsUnderstood, IsWrite, IsX2, Trial, Version, Write, Flatten};
 ghost use Rattle.std.specs.Prelude.{IfSome, List, Some, [], codes, ◌++◌, ◌∷◌, pos, ℕ, ◌*◌, ◌↔◌, ◌≡◌, ◌≢◌, ◌≤◌, ◌⊎◌};
 
@@ -16,6 +16,7 @@ use crate::words::command_of;
 use board_io::{Package, Sink};
 use board_package::laws as packages;
 use gerber_layer::laws as layers;
+use made_files::made_packages_fit;
 use std::alloc::Global;
 use verdict::laws as verdicts;
 
@@ -179,8 +180,8 @@ pub fn run<P: Package, S: Sink, N: Sink>(
     ensures rewritten { IfSome (P.held «package».old) (λ files. (name : List ℕ) → IsFlatten words.now name → (bytes : List ℕ) → IsHeld files name bytes → (pieces : List PlainPiece) → IsReadWithMacros bytes pieces
         → (Rose (P.faults «package».old) (P.faults «package».new) → ⊥) → (Rose (S.faults out.old) (S.faults out.new) → ⊥) → (result ≤ 1) ⊎ (result ≡ 6)) }
 
-    // A made package that fits has its summary, unless writing fails or memory is wanted.
-    ensures summarized { (seed size : ℕ) → IsTrial words.now seed size → size ≤ 10000 → (board : PlainBoard) → IsBoardOf (made_files seed size) made_manifest board
+    // A trial of at most 10,000 cells has its summary, unless writing fails or memory is wanted: every made package fits.
+    ensures summarized { (seed size : ℕ) → IsTrial words.now seed size → size ≤ 10000
         → (Rose (S.faults out.old) (S.faults out.new) → ⊥) → (result ≤ 1) ⊎ (result ≡ 6) }
 
     // A report that is the text of a verdict has its ruling, unless reading or writing fails or memory is wanted.
@@ -190,6 +191,7 @@ pub fn run<P: Package, S: Sink, N: Sink>(
 {
     verdicts::report_text_is_injective();
     packages::one_outcome();
+    made_packages_fit();
     match command_of(words) {
         None => {
             lines::plain(notes, b"words not understood");

@@ -110,10 +110,11 @@ returns-in-Some-clause-named g c =
     c.in-Some.ensures.some c.perform.ensures.ends.complete)
 
 pub returns-in-Some-clause-summarized : goal.returns-in-Some-clause-summarized
-returns-in-Some-clause-summarized g c = λ seed size is small board fits quiet.
+returns-in-Some-clause-summarized g c = λ seed size is small quiet.
+    let fit = c.made_packages_fit.ensures seed size small in
     under_command (g.P.Package.held c.args.package.now) c.args.words.now (asked c.in-Some.command)
     (λ files command. HasText (Held files) command → (TakesFiles command → Rose (g.P.Package.faults c.args.package.now) (g.P.Package.faults c.perform.new.package) → ⊥) → (Rose (g.S.Sink.faults c.args.out.now) (g.S.Sink.faults c.perform.new.out) → ⊥) → (c.perform.result ≤ 1) ⊎ (c.perform.result ≡ 6))
-    c.in-Some.ensures.some c.perform.ensures.ends.complete (Trial seed size) is (small, board, fits)
+    c.in-Some.ensures.some c.perform.ensures.ends.complete (Trial seed size) is (small, fit.board, fit.is)
     (λ takes. absurd takes) quiet
 
 pub returns-in-Some-clause-answered : goal.returns-in-Some-clause-answered
