@@ -16,7 +16,7 @@ use xnc::{DrillFault, DrillKind, Span, read_drill};
 
 /// Why a file is refused: the first faulty command, line or record, by its kind, its number and its place in the file; a
 /// record has a line and no place.
-#[derive(Clone, Copy)]
+#[derive(Clone, Copy, Debug)]
 pub enum Refusal {
     Layer {
         kind: GerberKind,

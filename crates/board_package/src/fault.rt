@@ -52,7 +52,7 @@ pub enum BuildFault {
 }
 
 /// Why a package gives no labelled board: as `build` has it, or a label that is amiss.
-#[derive(Drop)]
+#[derive(Debug, Drop)]
 pub enum LabelledFault {
     /// What stops it without its netlist, so never a netlist's refusal; or a fault of reading; or want of memory.
     Build(BuildFault),
