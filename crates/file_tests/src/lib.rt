@@ -7,3 +7,5 @@ mod drill_files;
 mod netlists;
 #[cfg(test)]
 mod packages;
+#[cfg(test)]
+mod real_packages;

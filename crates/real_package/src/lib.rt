@@ -15,6 +15,3 @@ pub use arcs::RealPiece;
 pub use board::{RealBoard, has_its_netlist};
 pub use fault::RealBuildFault;
 pub use stages::build_real;
-
-#[cfg(test)]
-mod tests;
