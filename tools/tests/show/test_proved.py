@@ -107,7 +107,7 @@ class Taken(made.Case):
         ("two distances", ["X1000000Y0D02*", "G03X-1000001Y3I-1000000J0D01*", "G02X1000000Y0I1000001J-3D01*"], [A, B], "agrees"),
         ("past a half turn, two distances", ["X1000000Y0D02*", "G03X0Y-1000002I-1000000J0D01*"], [A, B], "agrees"),
         ("in one direction, two distances", ["X1000000Y0D02*", "G03X1000001Y0I-1000000J0D01*"], [A, record("A", "J1.2", 1.05, 0)], "undecided"),
-        ("tiny", ["X1000000Y0D02*", "G03X1000000Y0I1J0D01*", "G02X1000000Y-3I-1J1D01*"], [A, record("A", "J1.2", 1.05, 0)], "agrees"),
+        ("tiny", ["X1000000Y0D02*", "G03X1000000Y0I1J0D01*", "G02X999999Y-1I-1J0D01*"], [A, record("A", "J1.2", 1.05, 0)], "agrees"),
         ("a thin pen and none", ["D13*", *HALF, "%ADD14C,0*%", "D14*", *HALF], [A, B], "undecided"),
         ("a short", [*HALF, "D11*", "X9000000Y0D03*"], [record("B", "J1.1", 1, 0), B, C], "differs"),
         ("a point without copper", HALF, [A, B, C], "differs"),
@@ -121,7 +121,7 @@ class Taken(made.Case):
         for name, lines, records, word in self.ROWS:
             text = "\n".join([*HEAD, *lines, "M02*", ""])
             text = text.replace("46Y46", "26Y26").replace("MM", "IN").replace("000000", "039370") if name == "inches" else text
-            self.board({"m.json": manifest(drills=[("d.drl", 1, 1)]), "top.gbr": text, "n.ipc": netlist(*records), "d.drl": drill((20, 0), (21, 0))}, name)
+            self.board({"m.json": manifest(drills=[("d.drl", 1, 1)]), "top.gbr": text, "n.ipc": netlist(*records), "d.drl": drill((20.0, 0.0), (21.0, 0.0))}, name)
             status, out, notes = self.show(name, program=program)
             with self.subTest(name):
                 self.assertEqual((status, out.split(" (lower")[0].split(":")[1], notes), (statuses[word], f" {word}, between two bounds, proved", ""), out)
