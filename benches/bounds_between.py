@@ -34,12 +34,12 @@ class Layer:
         self.lines += ["G01*", "M02*"]
 
     def apertures(self):
-        size = lambda: f"{2 * int(10 ** self.rng.uniform(0, 7)) * self.step() / self.scale:.9f}".rstrip("0").rstrip(".")
+        size = lambda: f"{2 * self.step() * max(1, int(10 ** self.rng.uniform(0, 7)) // self.step()) / self.scale:.7f}"
         yield from (f"%ADD{10 + k}C,{size()}*%" for k in range(20))
         yield from (f"%ADD{30 + k}{name},{size()}X{size()}*%" for k, name in enumerate("RO"))
 
     def step(self):
-        """Of inches a size is counted by 127 u, which have nine decimals at most."""
+        """Of inches a size is counted by 254 u, which have six decimals at most."""
         return 127 if self.scale % 127 == 0 else 1
 
     def text(self):
@@ -56,7 +56,7 @@ class Layer:
 
     def block(self):
         gap = self.rng.randrange(1, 10 ** 7) * self.step() / self.scale
-        self.lines.append(f"%SRX{self.rng.randrange(1, 4)}Y{self.rng.randrange(1, 3)}I{gap:.9f}J{-gap:.9f}*%")
+        self.lines.append(f"%SRX{self.rng.randrange(1, 4)}Y{self.rng.randrange(1, 3)}I{gap:.7f}J{-gap:.7f}*%")
         for _ in range(self.rng.randrange(1, 4)):
             self.object()
         self.lines.append("%SR*%")
