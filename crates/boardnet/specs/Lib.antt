@@ -1,4 +1,6 @@
 pub mod Answers
+pub mod BetweenText
+pub mod Bounded
 pub mod Command
 pub mod Common
 pub mod Ends

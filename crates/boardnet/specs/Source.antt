@@ -8,6 +8,9 @@ use Rattle.board_package.specs.HandedLabelled.{IsFirstLabelledStopHanded, IsLabe
 use Rattle.board_package.specs.LabelledBoard.{IsFirstLabelledStop, IsLabelledBoardOf, LabelledComes, LabelledStop}
 use Rattle.board_package.specs.PackageBoard.{Comes, IsBoardOf, IsFirstStop, IsHeld, IsWithinLimits, Stop, StopsTaking}
 use Rattle.board_shapes.specs.Plain.{PlainBoard}
+use Rattle.real_package.specs.HandedReal.{IsFirstRealStopHanded, IsRealBoardHanded, RealComesHanded}
+use Rattle.real_package.specs.RealBoards.{PlainRealBoard}
+use Rattle.real_package.specs.RealPackage.{IsFirstRealStop, IsRealBoardOf, RealComes, RealStop}
 
 pub data Source : Type 0 where
   Held : Files → Source
@@ -60,6 +63,28 @@ IsFirstLabelledStopBy (HandedOver before after) manifest stop = IsFirstLabelledS
 abbrev pub LabelledComesBy : Source → List ℕ → List ℕ → Type 0
 LabelledComesBy (Held files) manifest name = LabelledComes files manifest name
 LabelledComesBy (HandedOver before after) manifest name = LabelledComesHanded before after manifest name
+
+-- ---- A package whose draws may be arcs
+
+abbrev pub IsRealBoardBy : Source → List ℕ → PlainRealBoard → Type 0
+IsRealBoardBy (Held files) manifest board = IsRealBoardOf files manifest board
+IsRealBoardBy (HandedOver before after) manifest board = IsRealBoardHanded before after manifest board
+
+abbrev pub IsFirstRealStopBy : Source → List ℕ → RealStop → Type 0
+IsFirstRealStopBy (Held files) manifest stop = IsFirstRealStop files manifest stop
+IsFirstRealStopBy (HandedOver before after) manifest stop = IsFirstRealStopHanded before after manifest stop
+
+abbrev pub RealComesBy : Source → List ℕ → List ℕ → Type 0
+RealComesBy (Held files) manifest name = RealComes files manifest name
+RealComesBy (HandedOver before after) manifest name = RealComesHanded before after manifest name
+
+abbrev pub FitsRealBefore : Source → List ℕ → PlainRealBoard → (Source → Type 0) → Type 0
+FitsRealBefore (Held files) manifest board Then = IsRealBoardOf files manifest board × Then (Held files)
+FitsRealBefore (HandedOver before after) manifest board Then = (built : List Handed) × IsRealBoardHanded before built manifest board × Then (HandedOver built after)
+
+pub record FitsRealThen (source : Source) (manifest : List ℕ) (Then : Source → Type 0) : Type 0 where
+  pub board : PlainRealBoard
+  pub behind : FitsRealBefore source manifest board Then
 
 -- ---- One file
 

@@ -9,6 +9,7 @@ ghost use Rattle.boardnet.specs.Words.{CanAsk, Command as Asked, Flatten, Spelle
 ghost use Rattle.std.specs.Prelude.{IfNone, IfOk, IfSome, List, [], ℕ, ◌∷◌, ◌≡◌, ◌⊎◌};
 
 pub mod audit;
+pub mod between;
 pub mod check;
 pub mod flatten;
 pub mod gap;
@@ -17,6 +18,7 @@ pub mod write;
 pub mod x2;
 
 use self::audit::ruling;
+use self::between::decision;
 use self::check::report;
 use self::flatten::flat_text;
 use self::gap::gap_list;
@@ -46,6 +48,13 @@ pub enum Command<'a> {
     X2 { manifest: &'a str },
     /// `flatten FILE`: rewrite the copper file without macros.
     Flatten { file: &'a str },
+    /// `between REAL LOWER UPPER COUNTS`: judge the package of REAL, whose draws may be arcs, by those of LOWER and UPPER.
+    Between {
+        real: &'a str,
+        lower: &'a str,
+        upper: &'a str,
+        counts: &'a str,
+    },
 }
 
 impl<'a> Command<'a> {
@@ -63,15 +72,17 @@ impl<'a> Command<'a> {
             Command::Gaps { manifest, .. } => manifest,
             Command::X2 { manifest } => manifest,
             Command::Flatten { file } => file,
+            Command::Between { real, .. } => real,
         }
     }
 
-    /// The name of its report; empty where it has none.
+    /// The name of its report, or of its file of counts; empty where it has none.
     pub fn report(self) -> &'a str
         ensures { result.now ≡ report_of (asked self.entry) }
     {
         match self {
             Command::Audit { report, .. } => report,
+            Command::Between { counts, .. } => counts,
             _ => "",
         }
     }
@@ -113,6 +124,23 @@ pub fn of_two<'a>(command: &str, first: &'a str, second: &'a str) -> Option<Comm
     }
 }
 
+/// The command of a word and four more.
+pub fn of_four<'a>(
+    command: &str,
+    first: &'a str,
+    second: &'a str,
+    third: &'a str,
+    fourth: &'a str,
+) -> Option<Command<'a>>
+    ensures some { IfSome result (λ given. SpelledAsk (command.now ∷ first.now ∷ second.now ∷ third.now ∷ fourth.now ∷ []) (asked given)) }
+    ensures none { IfNone result ((given : Asked) → CanAsk (command.now ∷ first.now ∷ second.now ∷ third.now ∷ fourth.now ∷ []) given → ⊥) }
+{
+    match command {
+        "between" => between::of_words(first, second, third, fourth),
+        _ => None,
+    }
+}
+
 /// The answer to a command, or why it has none.
 pub fn answer_to<P: Package>(alloc: Global, command: Command, package: &mut P) -> Answered
     requires { HasNames (asked command) }
@@ -133,5 +161,11 @@ pub fn answer_to<P: Package>(alloc: Global, command: Command, package: &mut P) -
         } => gap_list(alloc, manifest, nanometres, package),
         Command::X2 { manifest } => labelled_report(alloc, manifest, package),
         Command::Flatten { file } => flat_text(alloc, file, package),
+        Command::Between {
+            real,
+            lower,
+            upper,
+            counts,
+        } => decision(alloc, real, lower, upper, counts, package),
     }
 }

@@ -9,6 +9,7 @@ ghost use Rattle.std.specs.Prelude.{IfErr, IfOk, ◌≡◌, ◌≤◌};
 use crate::answer::Unanswered;
 use crate::commands::Command;
 use crate::lines::{self, Kind};
+use crate::unbound::{arc_kind_name, arc_kind_number};
 use board_io::Sink;
 use board_package::{BuildFault, Refusal};
 use lengths::text::Text;
@@ -45,6 +46,32 @@ pub fn refuse<N: Sink>(command: Command, why: &Unanswered, notes: &mut N) -> u8
                 name: kind.name(),
             };
             lines::refused_at_byte(notes, file.as_bytes(), kind, b"command", *command, *at);
+            3
+        }
+        Unanswered::Bent {
+            file,
+            kind,
+            command,
+            at,
+        } => {
+            let kind = Kind {
+                form: "arc",
+                number: arc_kind_number(*kind),
+                name: arc_kind_name(*kind),
+            };
+            lines::refused_at_byte(notes, file.as_bytes(), kind, b"command", *command, *at);
+            3
+        }
+        Unanswered::NotJson(file) => {
+            lines::about_file(notes, file.as_bytes(), b"not JSON");
+            3
+        }
+        Unanswered::NotAManifest(file) => {
+            lines::about_file(notes, file.as_bytes(), b"not a manifest");
+            3
+        }
+        Unanswered::Unbound(why) => {
+            why.put(file, command.report(), notes);
             3
         }
     }
