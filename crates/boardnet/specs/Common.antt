@@ -1,14 +1,13 @@
 -- What the commands share: the status of a verdict, the lines of refusals, and what an outcome is.
 use Rattle.std.specs.Prelude.{◌≡◌, ◌⊎◌, ℕ, List, length, codes}
+use Rattle.arc_layer.specs.Kinds.{real_name, real_number}
 use Rattle.arc_layer.specs.declared.kind.RealKind.{RealKind}
-use Rattle.arc_layer.specs.declared.kind.RealKind.TheVariants as bend
 use Rattle.board_package.specs.PackageBoard.{Stop, absent, longer, not_json, bad_manifest, refused, frame_too_large}
 use Rattle.board_package.specs.Refusals.{refusal_number, refusal_name}
 use Rattle.board_package.specs.declared.contents.Refusal.{Refusal}
 use Rattle.board_package.specs.declared.contents.Refusal.TheVariants.{Layer, Drill, Netlist}
 use Rattle.boardnet.specs.Lines.{at_byte, at_item, plain_line, file_line, frame_line, kind_line, differs_line}
 use Rattle.boardnet.specs.Source.{Source, IsFirstStopBy}
-use Rattle.gerber_layer.specs.Kinds.{kind_name, kind_number}
 use Rattle.verdict.specs.ReportText.{Agrees}
 use Rattle.verdict.specs.declared.verdict.Verdict.{Verdict}
 
@@ -34,24 +33,9 @@ place_of (Netlist kind line) = at_item (codes "line") line
 abbrev pub refusal_line : List ℕ → Refusal → List ℕ
 refusal_line name why = kind_line name (form_of why) (refusal_number why) (refusal_name why) (place_of why)
 
--- the number and the name of a refusal that only arcs have; any other is numbered and named as where no draw is an arc
-abbrev pub arc_number : RealKind → ℕ
-arc_number (bend.Gerber kind) = kind_number kind
-arc_number bend.NoOffsets = 31
-arc_number bend.OffsetsAmiss = 32
-arc_number bend.NoQuadrants = 33
-arc_number bend.NoCentre = 34
-
-abbrev pub arc_name : RealKind → List ℕ
-arc_name (bend.Gerber kind) = kind_name kind
-arc_name bend.NoOffsets = codes "NoOffsets"
-arc_name bend.OffsetsAmiss = codes "OffsetsAmiss"
-arc_name bend.NoQuadrants = codes "NoQuadrants"
-arc_name bend.NoCentre = codes "NoCentre"
-
 -- The line of a copper file that is refused for an arc.
 abbrev pub arc_line : List ℕ → RealKind → ℕ → ℕ → List ℕ
-arc_line name kind command byte = kind_line name (codes "arc") (arc_number kind) (arc_name kind) (at_byte (codes "command") command byte)
+arc_line name kind command byte = kind_line name (codes "Gerber") (real_number kind) (real_name kind) (at_byte (codes "command") command byte)
 
 -- The line of a stop that is a refusal. A file that is not held is none.
 abbrev pub IsLineOf : List ℕ → Stop → List ℕ → Type 0

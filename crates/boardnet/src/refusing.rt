@@ -9,7 +9,6 @@ ghost use Rattle.std.specs.Prelude.{IfErr, IfOk, ◌≡◌, ◌≤◌};
 use crate::answer::Unanswered;
 use crate::commands::Command;
 use crate::lines::{self, Kind};
-use crate::unbound::{arc_kind_name, arc_kind_number};
 use board_io::Sink;
 use board_package::{BuildFault, Refusal};
 use lengths::text::Text;
@@ -55,9 +54,9 @@ pub fn refuse<N: Sink>(command: Command, why: &Unanswered, notes: &mut N) -> u8
             at,
         } => {
             let kind = Kind {
-                form: "arc",
-                number: arc_kind_number(*kind),
-                name: arc_kind_name(*kind),
+                form: "Gerber",
+                number: kind.number(),
+                name: kind.name(),
             };
             lines::refused_at_byte(notes, file.as_bytes(), kind, b"command", *command, *at);
             3

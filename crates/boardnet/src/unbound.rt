@@ -1,13 +1,11 @@
 //! Why two boards are no bounds of a real one, and the line of each reason.
 ghost use Rattle.arc_covers.specs.Faults.{on_side};
 ghost use Rattle.boardnet.specs.Bounded.{piece_line, unbound_line};
-ghost use Rattle.boardnet.specs.Common.{arc_name, arc_number};
 ghost use Rattle.boardnet.specs.Lines.{Says};
 ghost use Rattle.std.specs.Prelude.{codes, ◌≡◌};
 
 use crate::lines;
 use arc_covers::Side;
-use arc_layer::RealKind;
 use board_io::Sink;
 use board_shapes::Origin;
 use texts::Numeral;
@@ -87,30 +85,4 @@ fn put_piece<N: Sink>(real: &[u8], side: Side, origin: Origin, notes: &mut N)
             b"\n",
         ],
     );
-}
-
-/// The number of a refusal that only arcs have.
-pub fn arc_kind_number(kind: RealKind) -> u32
-    ensures { result ≡ arc_number kind }
-{
-    match kind {
-        RealKind::Gerber(kind) => kind.number(),
-        RealKind::NoOffsets => 31,
-        RealKind::OffsetsAmiss => 32,
-        RealKind::NoQuadrants => 33,
-        RealKind::NoCentre => 34,
-    }
-}
-
-/// Its name.
-pub fn arc_kind_name(kind: RealKind) -> &'static str
-    ensures { result.now ≡ arc_name kind }
-{
-    match kind {
-        RealKind::Gerber(kind) => kind.name(),
-        RealKind::NoOffsets => "NoOffsets",
-        RealKind::OffsetsAmiss => "OffsetsAmiss",
-        RealKind::NoQuadrants => "NoQuadrants",
-        RealKind::NoCentre => "NoCentre",
-    }
 }
