@@ -11,6 +11,9 @@ pub record BoundNames : Type 0 where
   pub upper : List ℕ
   pub counts : List ℕ
 
+abbrev pub bound_names : (real lower upper counts : List ℕ) → BoundNames
+bound_names real lower upper counts = record { real = real; lower = lower; upper = upper; counts = counts }
+
 -- What is asked for: to check the package of a manifest with a report of a version, to audit a report on it, to check the
 -- made board of two numbers, to write a netlist of the package, to list its gaps at so many nanometres, to check it by the
 -- net names in its copper files, to rewrite a copper file without macros, or to judge a package by two that bound it.
@@ -33,4 +36,4 @@ asked (given.Write manifest) = Write manifest.now
 asked (given.Gaps manifest nanometres) = Gaps manifest.now nanometres
 asked (given.X2 manifest) = X2 manifest.now
 asked (given.Flatten file) = Flatten file.now
-asked (given.Between real lower upper counts) = Between (record { real = real.now; lower = lower.now; upper = upper.now; counts = counts.now })
+asked (given.Between real lower upper counts) = Between (bound_names real.now lower.now upper.now counts.now)

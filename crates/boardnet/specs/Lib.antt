@@ -17,5 +17,6 @@ pub mod Right
 pub mod Task
 pub mod commands
 pub mod Trials
+pub mod Unbounded
 pub mod Words
 pub mod Written

@@ -1,7 +1,7 @@
 -- What a command read: the files that a package holds, or those that it handed over between two points of the call, whether it
 -- tells what it holds or not. Each relation here is that of `board_package` for the one or for the other.
 use Rattle.std.specs.Prelude.{◌≡◌, ℕ, List}
-use Rattle.board_io.specs.Handed.{Handed}
+use Rattle.board_io.specs.Handed.{Grows, Handed}
 use Rattle.board_io.specs.Package.{Files}
 use Rattle.board_package.specs.HandedBoard.{ComesHanded, ComesNext, IsBoardHanded, IsFirstStopHanded, IsHanded, StopsHanding}
 use Rattle.board_package.specs.HandedLabelled.{IsFirstLabelledStopHanded, IsLabelledBoardHanded, LabelledComesHanded}
@@ -66,10 +66,6 @@ LabelledComesBy (HandedOver before after) manifest name = LabelledComesHanded be
 
 -- ---- A package whose draws may be arcs
 
-abbrev pub IsRealBoardBy : Source → List ℕ → PlainRealBoard → Type 0
-IsRealBoardBy (Held files) manifest board = IsRealBoardOf files manifest board
-IsRealBoardBy (HandedOver before after) manifest board = IsRealBoardHanded before after manifest board
-
 abbrev pub IsFirstRealStopBy : Source → List ℕ → RealStop → Type 0
 IsFirstRealStopBy (Held files) manifest stop = IsFirstRealStop files manifest stop
 IsFirstRealStopBy (HandedOver before after) manifest stop = IsFirstRealStopHanded before after manifest stop
@@ -78,13 +74,24 @@ abbrev pub RealComesBy : Source → List ℕ → List ℕ → Type 0
 RealComesBy (Held files) manifest name = RealComes files manifest name
 RealComesBy (HandedOver before after) manifest name = RealComesHanded before after manifest name
 
+-- The package fits as one whose draws may be arcs, with this board, and Then holds of what was read behind it. What was handed over there
+-- stands behind what the package handed over.
 abbrev pub FitsRealBefore : Source → List ℕ → PlainRealBoard → (Source → Type 0) → Type 0
 FitsRealBefore (Held files) manifest board Then = IsRealBoardOf files manifest board × Then (Held files)
-FitsRealBefore (HandedOver before after) manifest board Then = (built : List Handed) × IsRealBoardHanded before built manifest board × Then (HandedOver built after)
+FitsRealBefore (HandedOver before after) manifest board Then = (built : List Handed) × (Grows before built × Grows built after) × IsRealBoardHanded before built manifest board × Then (HandedOver built after)
 
 pub record FitsRealThen (source : Source) (manifest : List ℕ) (Then : Source → Type 0) : Type 0 where
   pub board : PlainRealBoard
   pub behind : FitsRealBefore source manifest board Then
+
+-- the same of a package without arcs
+abbrev pub FitsNext : Source → List ℕ → PlainBoard → (Source → Type 0) → Type 0
+FitsNext (Held files) manifest board Then = IsBoardOf files manifest board × Then (Held files)
+FitsNext (HandedOver before after) manifest board Then = (built : List Handed) × (Grows before built × Grows built after) × IsBoardHanded before built manifest board × Then (HandedOver built after)
+
+pub record FitsNextThen (source : Source) (manifest : List ℕ) (Then : Source → Type 0) : Type 0 where
+  pub board : PlainBoard
+  pub behind : FitsNext source manifest board Then
 
 -- ---- One file
 

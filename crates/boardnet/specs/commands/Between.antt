@@ -5,10 +5,10 @@ use Rattle.arc_layer.specs.declared.kind.RealKind.{RealKind}
 use Rattle.board_package.specs.PackageBoard.{Stop, not_json, bad_manifest}
 use Rattle.board_shapes.specs.Plain.{PlainBoard}
 use Rattle.boardnet.specs.Bounded.{AreBoundedBy, IsDecisionOn, IsUnboundBy, unbound_line}
-use Rattle.boardnet.specs.Command.{BoundNames, Command, Between}
+use Rattle.boardnet.specs.Command.{BoundNames, Command, Between, bound_names}
 use Rattle.boardnet.specs.Common.{IsLineOf, Outcome, Told, Refused, arc_line}
 use Rattle.boardnet.specs.Lines.{file_line}
-use Rattle.boardnet.specs.Source.{Source, ComesBy, FitsBefore, FitsRealBefore, FitsRealThen, FitsThen, IsFileBy, IsFirstRealStopBy, IsFirstStopBy, NextBy, RealComesBy, StopsFileBy}
+use Rattle.boardnet.specs.Source.{Source, ComesBy, FitsNext, FitsNextThen, FitsRealBefore, FitsRealThen, IsFileBy, IsFirstRealStopBy, IsFirstStopBy, NextBy, RealComesBy, StopsFileBy}
 use Rattle.boardnet.specs.Task.{Task, on_package}
 use Rattle.boardnet.specs.declared.answer.Unanswered.{Unanswered}
 use Rattle.boardnet.specs.declared.answer.Unanswered.TheVariants as why
@@ -18,11 +18,8 @@ use Rattle.real_package.specs.RealBoards.{PlainRealBoard}
 use Rattle.real_package.specs.RealPackage.{RealStop, unbuilt, bent}
 
 -- the names are texts
-pub record AreTexts (names : BoundNames) : Type 0 where
-  pub real : IsText names.real
-  pub lower : IsText names.lower
-  pub upper : IsText names.upper
-  pub counts : IsText names.counts
+abbrev pub AreTexts : BoundNames → Type 0
+AreTexts names = IsText names.real × IsText names.lower × IsText names.upper × IsText names.counts
 
 -- `between`, the names of three manifests, and that of a file of counts
 pub record IsBetween (words : List (String Global)) (names : BoundNames) : Type 0 where
@@ -35,17 +32,17 @@ pub record IsBetween (words : List (String Global)) (names : BoundNames) : Type 
 -- behind them.
 abbrev pub AreRead : Source → BoundNames → PlainRealBoard → PlainBoard → PlainBoard → List ℕ → Type 0
 AreRead source names real lower upper bytes =
-    FitsRealBefore source names.real real (λ rest. FitsBefore rest names.lower lower (λ more. FitsBefore more names.upper upper (λ last. IsFileBy last names.counts bytes)))
+    FitsRealBefore source names.real real (λ rest. FitsNext rest names.lower lower (λ more. FitsNext more names.upper upper (λ last. IsFileBy last names.counts bytes)))
 
 -- the real package fits, and the lower one, and the upper one, and Then holds of what was read behind
 abbrev pub BehindReal : Source → BoundNames → (Source → Type 0) → Type 0
 BehindReal source names Then = FitsRealThen source names.real Then
 
 abbrev pub BehindLower : Source → BoundNames → (Source → Type 0) → Type 0
-BehindLower source names Then = BehindReal source names (λ rest. FitsThen rest names.lower Then)
+BehindLower source names Then = BehindReal source names (λ rest. FitsNextThen rest names.lower Then)
 
 abbrev pub BehindUpper : Source → BoundNames → (Source → Type 0) → Type 0
-BehindUpper source names Then = BehindLower source names (λ rest. FitsThen rest names.upper Then)
+BehindUpper source names Then = BehindLower source names (λ rest. FitsNextThen rest names.upper Then)
 
 -- where reading stops: at one of the packages, or at the file of counts
 pub data ReadStop : Type 0 where
@@ -157,5 +154,5 @@ between names = record (on_package names.real (λ words. IsBetween words names) 
 
 -- the command that words behind its name can ask for; whether they are texts is for `IsBetween` to say
 abbrev pub between_by : List (List ℕ) → Option Command
-between_by (real ∷ lower ∷ upper ∷ counts ∷ []) = Some (Between (record { real = real; lower = lower; upper = upper; counts = counts }))
+between_by (real ∷ lower ∷ upper ∷ counts ∷ []) = Some (Between (bound_names real lower upper counts))
 between_by other = None
