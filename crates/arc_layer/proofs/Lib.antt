@@ -1,3 +1,4 @@
+pub mod Numbers
 pub mod OnLayer
 pub mod OneAnswer
 pub mod Products

@@ -1,5 +1,6 @@
 pub mod Bends
 pub mod Centres
+pub mod Kinds
 pub mod Reading
 pub mod Real
 pub mod State

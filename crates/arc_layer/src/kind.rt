@@ -1,4 +1,7 @@
 //! Why copper with arcs is refused.
+ghost use Rattle.arc_layer.specs.Kinds.{real_name, real_number};
+ghost use Rattle.std.specs.Prelude.{◌≡◌};
+
 use gerber_layer::GerberKind;
 
 /// Why a command of a copper file with arcs is refused. Sections are those of the Gerber Layer Format
@@ -15,6 +18,34 @@ pub enum RealKind {
     NoQuadrants,
     /// An arc of a single quadrant with no centre, or with two that are as good.
     NoCentre,
+}
+
+impl RealKind {
+    /// Its number, from 1 to 41; none is that of another kind of a copper file, also of one with macros.
+    pub fn number(self) -> u32
+        ensures { result ≡ real_number self }
+    {
+        match self {
+            RealKind::Gerber(kind) => kind.number(),
+            RealKind::NoOffsets => 38,
+            RealKind::OffsetsAmiss => 39,
+            RealKind::NoQuadrants => 40,
+            RealKind::NoCentre => 41,
+        }
+    }
+
+    /// Its name.
+    pub fn name(self) -> &'static str
+        ensures { result.now ≡ real_name self }
+    {
+        match self {
+            RealKind::Gerber(kind) => kind.name(),
+            RealKind::NoOffsets => "NoOffsets",
+            RealKind::OffsetsAmiss => "OffsetsAmiss",
+            RealKind::NoQuadrants => "NoQuadrants",
+            RealKind::NoCentre => "NoCentre",
+        }
+    }
 }
 
 /// Why a copper file with arcs is not read: its first faulty command, by its number from 1 and the place of

@@ -1,4 +1,5 @@
 //! Laws over the definitions alone.
+ghost use Rattle.arc_layer.specs.Kinds.{RealKindsHaveOwnNumbers};
 ghost use Rattle.arc_layer.specs.Real.{HasOneRealAnswer};
 ghost use Rattle.gerber_layer.specs.CommandEffects.{Place};
 ghost use Rattle.std.specs.Prelude.{ℕ, List};
@@ -13,3 +14,8 @@ pub fn one_real_answer()
     words_lie_ahead();
     one_straight_answer();
 }
+
+/// Each kind of refusal has a number of its own, which no other kind of a copper file has.
+pub fn real_kinds_have_own_numbers()
+    ensures { RealKindsHaveOwnNumbers }
+{}

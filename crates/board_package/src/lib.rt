@@ -20,10 +20,11 @@ mod values;
 
 pub use contents::Refusal;
 pub use entry::{Entry, Role};
-pub use fault::{BuildFault, LabelledFault};
+pub use fault::{BuildFault, LabelledFault, refused};
 pub use labelled::build_labelled;
 pub use manifest::{Manifest, ManifestFault, read_manifest};
-pub use stages::{build, take_file};
+pub use parts::MOST_EDGES;
+pub use stages::{build, take_file, take_manifest};
 
 #[cfg(test)]
 mod tests;

@@ -1,0 +1,48 @@
+-- Why a package gives no real board.
+use Rattle.std.specs.Prelude.{◌≡◌, ◌⊎◌, ℕ, List, Option, Some, None, IfSome, MatchResult, Result}
+use Rattle.arc_layer.specs.declared.kind.RealKind.{RealKind}
+use Rattle.arc_layer.specs.declared.kind.RealKind.TheVariants.{Gerber}
+use Rattle.board_io.specs.Handed.{Handed}
+use Rattle.board_io.specs.Package.{Files, IsFaultless}
+use Rattle.board_package.specs.Causes.{HasCause, HasRefusal, KeepsFaults}
+use Rattle.board_package.specs.declared.contents.Refusal.{Refusal}
+use Rattle.board_package.specs.declared.entry.Entry.{Entry}
+use Rattle.board_package.specs.declared.fault.BuildFault.{BuildFault}
+use Rattle.board_package.specs.declared.fault.BuildFault.TheVariants as build
+use Rattle.real_package.specs.HandedReal.{IsFirstRealStopHanded, IsRealBoardHanded, RealComesHanded}
+use Rattle.real_package.specs.RealBoards.{PlainRealBoard, plain_real_board}
+use Rattle.real_package.specs.RealFiles.{RefusesArc, RefusesReal}
+use Rattle.real_package.specs.RealPackage.{IsFirstRealStop, IsRealBoardOf, RealComes, RealStop, bent, unbuilt}
+use Rattle.real_package.specs.declared.board.RealBoard.{RealBoard}
+use Rattle.real_package.specs.declared.fault.RealBuildFault.{RealBuildFault}
+use Rattle.real_package.specs.declared.fault.RealBuildFault.TheVariants as fault
+
+-- Why there is no real board: as without arcs, or an arc that is refused, where the package tells.
+abbrev pub HasRealCause : Option Files → (Files → RealStop → Type 0) → (Files → List ℕ → Type 0) → ℕ → ℕ → List ℕ → RealBuildFault → Type 0
+HasRealCause held Stops Comes before now lost (fault.Build why) = HasCause held (λ files stop. Stops files (unbuilt stop)) Comes before now lost why
+HasRealCause held Stops Comes before now lost (fault.Arc name kind command at) = IfSome held (λ files. Stops files (bent name kind command at))
+
+-- The same by stops and names that speak of no files, but of what was handed over.
+abbrev pub HandedRealCause : (RealStop → Type 0) → (List ℕ → Type 0) → ℕ → ℕ → List ℕ → RealBuildFault → Type 0
+HandedRealCause Stops Comes before now lost given = HasRealCause (Some (λ name. None)) (λ files stop. Stops stop) (λ files name. Comes name) before now lost given
+
+-- Neither the count of faults nor the lost name changed, but where a file could not be read or memory was wanted.
+abbrev pub KeepsRealFaults : ℕ → List ℕ → ℕ → List ℕ → RealBuildFault → Type 0
+KeepsRealFaults count lost count' lost' (fault.Build why) = KeepsFaults count lost count' lost' why
+KeepsRealFaults count lost count' lost' (fault.Arc name kind command at) = IsFaultless count lost count' lost'
+
+-- why the file of an entry is not read: its refusal, or want of memory
+abbrev pub HaltsReal : Entry → List ℕ → PlainRealBoard → RealBuildFault → Type 0
+HaltsReal e bytes before (fault.Build why) = (why ≡ build.NoMemory) ⊎ ((refusal : Refusal) × RefusesReal e.role e.number bytes before refusal × HasRefusal e.name refusal why)
+HaltsReal e bytes before (fault.Arc name kind command at) = (name ≡ e.name) × RefusesArc e.role e.number bytes before kind command at
+
+-- ---- What the building of a real board gives
+
+-- the real board, or why there is none: where the package tells, and by what it handed over
+abbrev pub BuildsReal : {P : Type 0} → (P → Option Files) → (P → ℕ) → (P → List ℕ) → List ℕ → P → P → Result RealBoard RealBuildFault → Type 0
+BuildsReal files faults lost manifest old new result = MatchResult result (λ board. IfSome (files old) (λ f. IsRealBoardOf f manifest (plain_real_board board)))
+    (HasRealCause (files old) (λ f stop. IsFirstRealStop f manifest stop) (λ f name. RealComes f manifest name) (faults old) (faults new) (lost new))
+
+abbrev pub BuildsRealHanded : {P : Type 0} → (P → List Handed) → (P → ℕ) → (P → List ℕ) → List ℕ → P → P → Result RealBoard RealBuildFault → Type 0
+BuildsRealHanded handed faults lost manifest old new result = MatchResult result (λ board. IsRealBoardHanded (handed old) (handed new) manifest (plain_real_board board))
+    (HandedRealCause (λ stop. IsFirstRealStopHanded (handed old) (handed new) manifest stop) (λ name. RealComesHanded (handed old) (handed new) manifest name) (faults old) (faults new) (lost new))

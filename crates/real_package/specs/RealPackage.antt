@@ -1,0 +1,70 @@
+-- The real board of a package, and its first stop. Each definition is the one of board_package's PackageBoard that it is named after, where draws may be arcs and
+-- no frame is judged.
+use Rattle.std.specs.Prelude.{◌≡◌, ◌⊎◌, ℕ, List}
+use Rattle.arc_layer.specs.declared.kind.RealKind.{RealKind}
+use Rattle.board_io.specs.Package.{Files}
+use Rattle.board_package.specs.PackageBoard.{AtOneBy, IsHeldWith, IsManifestFile, Stop, StopsAtManifest, StopsTaking, WalksBy, order_of, refused}
+use Rattle.board_package.specs.declared.entry.Entry.{Entry}
+use Rattle.board_package.specs.declared.manifest.Manifest.{Manifest}
+use Rattle.real_package.specs.RealBoards.{PlainRealBoard, empty_real}
+use Rattle.real_package.specs.RealFiles.{ReadsReal, RefusesArc, RefusesReal}
+
+-- why a package is no real board: a stop that one without arcs may have, or an arc of the copper file of this name, by kind, command and place
+pub data RealStop : Type 0 where
+  unbuilt : Stop → RealStop
+  bent : List ℕ → RealKind → ℕ → ℕ → RealStop
+
+-- a stop that one without arcs may have, of which P holds
+abbrev pub OfUnbuilt : (Stop → Type 0) → RealStop → Type 0
+OfUnbuilt P (unbuilt stop) = P stop
+OfUnbuilt P (bent name kind command at) = ⊥
+
+-- ---- One file
+
+-- the file is held and read, and takes the board on
+abbrev pub GoesReal : Files → Entry → PlainRealBoard → PlainRealBoard → Type 0
+GoesReal files e before after = IsHeldWith files e.name (λ bytes. ReadsReal e.role e.number bytes before after)
+
+-- the first file to be taken stops the package
+abbrev pub StopsRealAt : Files → Entry → PlainRealBoard → RealStop → Type 0
+StopsRealAt files e before (unbuilt (refused name why)) = (name ≡ e.name) × IsHeldWith files e.name (λ bytes. RefusesReal e.role e.number bytes before why)
+StopsRealAt files e before (unbuilt stop) = StopsTaking files e.name stop
+StopsRealAt files e before (bent name kind command at) = (name ≡ e.name) × IsHeldWith files e.name (λ bytes. RefusesArc e.role e.number bytes before kind command at)
+
+-- ---- The files in their order
+
+-- one of the files stops the package, and all before it are read
+abbrev pub StopsRealAmong : Files → List Entry → PlainRealBoard → RealStop → Type 0
+StopsRealAmong files entries before stop = AtOneBy (GoesReal files) entries before (λ e b. StopsRealAt files e b stop)
+
+-- one of the files has this name, and all before it are read
+abbrev pub ComesRealAmong : Files → List Entry → PlainRealBoard → List ℕ → Type 0
+ComesRealAmong files entries before name = AtOneBy (GoesReal files) entries before (λ e b. e.name ≡ name)
+
+-- ---- The package
+
+-- the manifest is read, and then a file stops the package
+pub record IsLaterRealStop (files : Files) (name : List ℕ) (stop : RealStop) : Type 0 where
+  pub listed : Manifest
+  pub manifest : IsManifestFile files name listed
+  pub stops : StopsRealAmong files (order_of listed) (empty_real listed.layers) stop
+
+-- The first stop of the package under the name of a manifest: the manifest's, or that of the first file with one.
+abbrev pub IsFirstRealStop : Files → List ℕ → RealStop → Type 0
+IsFirstRealStop files name stop = OfUnbuilt (StopsAtManifest files name) stop ⊎ IsLaterRealStop files name stop
+
+-- The real board of the package under the name of a manifest: there is no stop.
+pub record IsRealBoardOf (files : Files) (name : List ℕ) (board : PlainRealBoard) : Type 0 where
+  pub listed : Manifest
+  pub manifest : IsManifestFile files name listed
+  pub walked : WalksBy (GoesReal files) (order_of listed) (empty_real listed.layers) board
+
+-- the manifest is read, and a file of the order has this name, with all before it read
+pub record RealComesLater (files : Files) (manifest name : List ℕ) : Type 0 where
+  pub listed : Manifest
+  pub manifest_file : IsManifestFile files manifest listed
+  pub comes : ComesRealAmong files (order_of listed) (empty_real listed.layers) name
+
+-- the name is that of the manifest or of a file of its order, and every file before it is held and has no refusal
+abbrev pub RealComes : Files → List ℕ → List ℕ → Type 0
+RealComes files manifest name = (name ≡ manifest) ⊎ RealComesLater files manifest name

@@ -1,0 +1,90 @@
+//! What the files of a package are read as.
+ghost use Rattle.std.specs.Prelude.{◌≡◌, ◌≤◌, length, All, OnOk, IfErr};
+ghost use Rattle.board_package.specs.Manifest.{IsOnBoard};
+ghost use Rattle.board_package.specs.declared.entry.Role.TheVariants as role;
+ghost use Rattle.real_package.specs.RealBoards.{IsLawfulReal, plain_real_board};
+ghost use Rattle.real_package.specs.RealCauses.{HaltsReal};
+ghost use Rattle.real_package.specs.RealFiles.{ReadsReal};
+
+use crate::board::{RealBoard, as_real_pieces, room_left};
+use crate::fault::RealBuildFault;
+use arc_layer::{RealFault, RealKind, read_real};
+use board_package::{BuildFault, Entry, Refusal, Role, refused};
+use ipc356_records::{RecordFault, read_netlist};
+use lengths::text::Text;
+use std::alloc::Global;
+use texts::MOST_BYTES;
+use xnc::{DrillFault, Span, read_drill};
+
+/// The fault of a copper file that is refused, or want of memory for its name.
+fn refused_copper(name: &Text, kind: RealKind, command: u32, at: usize) -> RealBuildFault {
+    let RealKind::Gerber(plain) = kind else {
+        let Ok(file) = name.clone() else {
+            return RealBuildFault::Build(BuildFault::NoMemory);
+        };
+        return RealBuildFault::Arc {
+            file,
+            kind,
+            command,
+            at,
+        };
+    };
+    let refusal = Refusal::Layer {
+        kind: plain,
+        command,
+        at,
+    };
+    RealBuildFault::Build(refused(name, refusal))
+}
+
+/// Reads the file of an entry, and adds what it gives.
+pub fn read_file(
+    alloc: Global,
+    entry: &Entry,
+    file: &[u8],
+    board: &mut RealBoard,
+) -> Result<(), RealBuildFault>
+    requires short { length file.now ≤ MOST_BYTES }
+    requires lawful { IsLawfulReal board.old }
+    requires role { IsOnBoard board.old.layers entry.now.role }
+    ensures ok { OnOk result (ReadsReal entry.now.role entry.now.number file.now (plain_real_board board.old) (plain_real_board board.new)) }
+    ensures lawful { OnOk result (IsLawfulReal board.new) }
+    ensures layers { OnOk result (board.new.layers ≡ board.old.layers) }
+    ensures fault { IfErr result (HaltsReal entry.now file.now (plain_real_board board.old)) }
+{
+    let room = room_left(board.pieces.as_slice());
+    match entry.role {
+        Role::Copper { layer } => match read_real(alloc, file, layer, entry.number, room) {
+            Ok(pieces) => Ok(board.add(pieces)?),
+            Err(RealFault::Refused { kind, command, at }) => {
+                Err(refused_copper(&entry.name, kind, command, at))
+            }
+            Err(RealFault::NoMemory) => Err(RealBuildFault::Build(BuildFault::NoMemory)),
+        },
+        Role::Drill { from, to } => {
+            match read_drill(alloc, file, Span { from, to }, entry.number, room) {
+                Ok(pieces) => {
+                    let barrels = as_real_pieces(alloc, pieces)?;
+                    Ok(board.add(barrels)?)
+                }
+                Err(DrillFault::Refused { kind, line, at }) => {
+                    let refusal = Refusal::Drill { kind, line, at };
+                    Err(RealBuildFault::Build(refused(&entry.name, refusal)))
+                }
+                Err(DrillFault::NoMemory) => Err(RealBuildFault::Build(BuildFault::NoMemory)),
+            }
+        }
+        Role::Netlist => match read_netlist(alloc, file, board.layers) {
+            Ok(netlist) => {
+                board.probes = netlist.probes;
+                board.names = netlist.names;
+                Ok(())
+            }
+            Err(RecordFault::Refused { kind, line }) => {
+                let refusal = Refusal::Netlist { kind, line };
+                Err(RealBuildFault::Build(refused(&entry.name, refusal)))
+            }
+            Err(RecordFault::NoMemory) => Err(RealBuildFault::Build(BuildFault::NoMemory)),
+        },
+    }
+}

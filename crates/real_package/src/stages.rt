@@ -1,0 +1,87 @@
+//! The real board of a package.
+ghost use Rattle.std.specs.Prelude.{◌≡◌, All, IfSome, IfOk, IfErr, OnOk};
+ghost use Rattle.board_package.specs.Causes.{Leaves, Spares};
+ghost use Rattle.board_package.specs.HandedBoard.{ComesNext};
+ghost use Rattle.board_package.specs.Manifest.{IsOnBoard};
+ghost use Rattle.board_package.specs.PackageBoard.{WalksBy};
+ghost use Rattle.real_package.specs.HandedReal.{ComesRealAmongHanded, GoesRealHanded, StopsRealAmongHanded, StopsRealAtHanded, real_course};
+ghost use Rattle.real_package.specs.RealBoards.{IsLawfulReal, plain_real_board};
+ghost use Rattle.real_package.specs.RealCauses.{BuildsReal, BuildsRealHanded, HandedRealCause, HasRealCause, KeepsRealFaults};
+ghost use Rattle.real_package.specs.RealPackage.{ComesRealAmong, GoesReal, StopsRealAmong, StopsRealAt};
+
+use crate::board::RealBoard;
+use crate::contents::read_file;
+use crate::fault::RealBuildFault;
+use board_io::Package;
+use board_package::{Entry, take_file, take_manifest};
+use lengths::text::Text;
+use std::alloc::Global;
+
+/// The real board of a package under the name of its manifest: the pieces of its copper files, in which draws may be arcs,
+/// and then its drill files', the probes and names of its netlist, and as many layers as copper files.
+///
+/// It takes the manifest, each copper file, each drill file and the netlist, in this order. Each is judged before the
+/// next is taken, and after a refusal nothing more is taken. No frame is judged.
+pub fn build_real<P: Package>(
+    alloc: Global,
+    manifest: &Text,
+    package: &mut P,
+) -> Result<RealBoard, RealBuildFault>
+    ensures leaves { Leaves P.held P.handed P.faults «package».old «package».new }
+    ensures spared { Spares KeepsRealFaults P.faults P.lost «package».old «package».new result }
+    ensures told { BuildsReal P.held P.faults P.lost manifest.now «package».old «package».new result }
+    ensures handed { BuildsRealHanded P.handed P.faults P.lost manifest.now «package».old «package».new result }
+    ensures limits { IfOk result (λ board. IsLawfulReal board) }
+{
+    let listed = take_manifest(alloc, manifest, package)?;
+    let mut board = RealBoard::new(alloc, listed.layers);
+    take_files(alloc, package, listed.files.as_slice(), &mut board)?;
+    Ok(board)
+}
+
+/// Takes the files of the order, and adds what they give.
+fn take_files<P: Package>(
+    alloc: Global,
+    package: &mut P,
+    entries: &[Entry],
+    board: &mut RealBoard,
+) -> Result<(), RealBuildFault>
+    requires lawful { IsLawfulReal board.old }
+    requires roles { All (λ e. IsOnBoard board.old.layers e.role) entries.now }
+    ensures leaves { Leaves P.held P.handed P.faults «package».old «package».new }
+    ensures spared { Spares KeepsRealFaults P.faults P.lost «package».old «package».new result }
+    ensures found { OnOk result (IfSome (P.held «package».old) (λ files. WalksBy (GoesReal files) entries.now (plain_real_board board.old) (plain_real_board board.new))) }
+    ensures handed { OnOk result (WalksBy GoesRealHanded entries.now (real_course (P.handed «package».old) (plain_real_board board.old)) (real_course (P.handed «package».new) (plain_real_board board.new))) }
+    ensures lawful { OnOk result (IsLawfulReal board.new) }
+    ensures cause { IfErr result (HasRealCause (P.held «package».old) (λ files stop. StopsRealAmong files entries.now (plain_real_board board.old) stop) (λ files name. ComesRealAmong files entries.now (plain_real_board board.old) name) (P.faults «package».old) (P.faults «package».new) (P.lost «package».new)) }
+    ensures handed_cause { IfErr result (HandedRealCause (λ stop. StopsRealAmongHanded entries.now (real_course (P.handed «package».old) (plain_real_board board.old)) (P.handed «package».new) stop) (λ name. ComesRealAmongHanded entries.now (real_course (P.handed «package».old) (plain_real_board board.old)) (P.handed «package».new) name) (P.faults «package».old) (P.faults «package».new) (P.lost «package».new)) }
+{
+    let mut file = Vec::new(alloc);
+    for entry in entries {
+        take_entry(alloc, package, entry, board, &mut file)?;
+    }
+    Ok(())
+}
+
+/// Takes one file of the order into `file`, and adds what it gives.
+fn take_entry<P: Package>(
+    alloc: Global,
+    package: &mut P,
+    entry: &Entry,
+    board: &mut RealBoard,
+    file: &mut Vec<u8>,
+) -> Result<(), RealBuildFault>
+    requires lawful { IsLawfulReal board.old }
+    requires role { IsOnBoard board.old.layers entry.now.role }
+    ensures leaves { Leaves P.held P.handed P.faults «package».old «package».new }
+    ensures spared { Spares KeepsRealFaults P.faults P.lost «package».old «package».new result }
+    ensures found { OnOk result (IfSome (P.held «package».old) (λ files. GoesReal files entry.now (plain_real_board board.old) (plain_real_board board.new))) }
+    ensures handed { OnOk result (GoesRealHanded entry.now (real_course (P.handed «package».old) (plain_real_board board.old)) (real_course (P.handed «package».new) (plain_real_board board.new))) }
+    ensures lawful { OnOk result (IsLawfulReal board.new) }
+    ensures layers { OnOk result (board.new.layers ≡ board.old.layers) }
+    ensures cause { IfErr result (HasRealCause (P.held «package».old) (λ files stop. StopsRealAt files entry.now (plain_real_board board.old) stop) (λ files name. entry.now.name ≡ name) (P.faults «package».old) (P.faults «package».new) (P.lost «package».new)) }
+    ensures handed_cause { IfErr result (HandedRealCause (λ stop. StopsRealAtHanded entry.now (real_course (P.handed «package».old) (plain_real_board board.old)) (P.handed «package».new) stop) (λ name. ComesNext (P.handed «package».old) (P.handed «package».new) entry.now.name name) (P.faults «package».old) (P.faults «package».new) (P.lost «package».new)) }
+{
+    take_file(alloc, &entry.name, package, file)?;
+    read_file(alloc, entry, file.as_slice(), board)
+}
