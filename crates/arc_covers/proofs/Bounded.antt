@@ -15,13 +15,12 @@ use Rattle.covers.specs.Plain.{InPiece, layout_of, span_of}
 use Rattle.arc_covers.specs.Bounds.{AreBounds, IsOn, StandFor, capsules_from, capsules_of, figures_of, share_of}
 use Rattle.covers.specs.Laws as covers
 use Rattle.verdict.specs.declared.verdict.Verdict.{Verdict}
-use Rattle.arc_covers.specs.Laws.{AreBoundsOf, AreJudged, IsBetween}
-use Rattle.arc_covers.specs.Links.{AreChain, AreLinks}
+use Rattle.arc_covers.specs.Laws.{AreBoundsOf, AreJudged, LiesBetween}
 use Rattle.arc_covers.specs.RealBoards.{IsCopperOf, IsReal, real_span}
 use Rattle.arcs.specs.declared.real_shape.RealShape.{RealShape}
 use Rattle.arcs.specs.declared.real_shape.RealShape.TheVariants.{Plain, ArcDraw}
 use Rattle.arc_covers.specs.declared.side.Side.TheVariants.{Below, Above}
-use Rattle.arc_covers.proofs.Covered.{by_piece, covered, linked}
+use Rattle.arc_covers.proofs.Covered.{AreChain, AreLinks, by_piece, covered, linked}
 use Rattle.arc_covers.proofs.Shares.{IsAt, placed, share_at, share_length}
 
 -- ---- pieces of a board of figures
@@ -144,11 +143,11 @@ module _ (holds : ℕ → Point → Type 0) (real : Layout) (pieces : List (Plac
       cases : (j n : ℕ) → (j < n) ⊎ (n ≤ j)
       cases j n = grind arith
 
-pub between : (holds : ℕ → Point → Type 0) (lower upper : PlainBoard) (real : Layout) → AreBoundsOf lower upper holds real → IsBetween lower holds real upper
+pub between : (holds : ℕ → Point → Type 0) (lower upper : PlainBoard) (real : Layout) → AreBoundsOf lower upper holds real → LiesBetween lower holds real upper
 between holds lower upper real is = record {
   below = record { probes = sym is.lower_netlist.probes; names = sym is.lower_netlist.names; layers = sym is.lower_netlist.layers; pieces = below holds real is.pieces is.real_is is.lower_counts lower is.below };
   above = record { probes = is.upper_netlist.probes; names = is.upper_netlist.names; layers = is.upper_netlist.layers; pieces = above holds real is.pieces is.real_is is.upper_counts upper is.above };
 }
 
-pub judged : (holds : ℕ → Point → Type 0) (lower upper : PlainBoard) (v w : Verdict) (real : Layout) → IsBetween lower holds real upper → AreJudged lower upper v w → covers.IsBetween lower upper v w holds real
+pub judged : (holds : ℕ → Point → Type 0) (lower upper : PlainBoard) (v w : Verdict) (real : Layout) → LiesBetween lower holds real upper → AreJudged lower upper v w → covers.IsBetween lower upper v w holds real
 judged holds lower upper v w real is by = record { lower_lawful = by.lower_lawful; upper_lawful = by.upper_lawful; below = is.below; above = is.above; lower_right = by.lower_right; upper_right = by.upper_right }

@@ -1,7 +1,8 @@
 -- A chain that holds a piece covers it.
-use Rattle.std.proofs.Common.{◌≡◌, ◌⊎◌, inl, inr, ℕ, zero, suc, ◌+◌, ◌≤◌, ◌<◌, ℤ, List, [], ◌∷◌, length, Some, slice_get, Contains, refl, sym, ◌∙◌, subst, arith}
+use Rattle.std.proofs.Common.{◌≡◌, ◌↔◌, ◌⊎◌, inl, inr, ℕ, zero, suc, ◌+◌, ◌≤◌, ◌<◌, ℤ, List, [], ◌∷◌, length, Some, slice_get, Contains, refl, sym, ◌∙◌, subst, arith}
 use Rattle.std.proofs.lemmas.Option.{same_Some}
-use Rattle.planar.specs.Plane.{Point, at}
+use Rattle.std.specs.Bool.{⊤}
+use Rattle.planar.specs.Plane.{InCapsule, Point, at}
 use Rattle.planar.specs.declared.Spot.{Spot}
 use Rattle.planar.proofs.Meet.{holds_start, holds_end}
 use Rattle.tables.specs.Chains.{IsChain}
@@ -9,7 +10,15 @@ use Rattle.board_shapes.specs.Spans.{InSpan}
 use Rattle.arcs.specs.Copper.{InChain, InFrom}
 use Rattle.covers.specs.Boards.{Joined, Layout, Span, TouchAt}
 use Rattle.covers.specs.Covering.{HasAt, IsCovered}
-use Rattle.arc_covers.specs.Links.{AreChain, AreLinks}
+
+-- the pieces from number `first` on are the capsules of the chain, each on the layers of the span
+abbrev pub AreLinks : (ℕ → Point → Type 0) → Layout → Span → ℕ → Spot → List Spot → ℤ → Type 0
+AreLinks holds b span first a [] r = ⊤
+AreLinks holds b span first a (d ∷ rest) r = (slice_get b.spans first ≡ Some span) × ((p : Point) → InCapsule a d r p ↔ holds first p) × AreLinks holds b span (suc first) d rest r
+
+abbrev pub AreChain : (ℕ → Point → Type 0) → Layout → Span → ℕ → List Spot → ℤ → Type 0
+AreChain holds b span first [] r = ⊤
+AreChain holds b span first (a ∷ rest) r = AreLinks holds b span first a rest r
 
 abbrev numbers : ℕ → List Spot → List ℕ
 numbers first [] = []

@@ -37,6 +37,22 @@ pub whole_row : (chain : List Spot) (pieces : List (Placed Shape)) (from : Spot)
 whole_row chain pieces from r i past row =
     ap (λ (ps : List (Placed Shape)). figures_of (plain_pieces ps)) (sym (take_all i pieces past)) ∙ sym (append-nil (figures_of (plain_pieces (take i pieces)))) ∙ sym (row []) ∙ ap (λ (spots : List Spot). capsules_of spots r) (append-nil chain)
 
+-- ---- capsules and their chain
+
+round_parts : (a b c d : Spot) (r s : ℤ) → round (record { a = a; b = b; r = r }) ≡ round (record { a = c; b = d; r = s }) → (a ≡ c) × (b ≡ d) × (r ≡ s)
+round_parts a b c d r s e = (ap (λ (f : Figure). (stroke_in f).a) e, ap (λ (f : Figure). (stroke_in f).b) e, ap (λ (f : Figure). (stroke_in f).r) e)
+
+cons_parts : {X : Type 0} (x y : X) (xs ys : List X) → x ∷ xs ≡ y ∷ ys → (x ≡ y) × (xs ≡ ys)
+cons_parts x y xs ys e = (cc, cc)
+
+one_rest : (a b : Spot) (rest other : List Spot) (r s : ℤ) → a ≡ b → capsules_from a rest r ≡ capsules_from b other s → rest ≡ other
+one_rest a b [] [] r s same e = refl
+one_rest a b [] (d ∷ other) r s same e = absurd cc
+one_rest a b (c ∷ rest) [] r s same e = absurd cc
+one_rest a b (c ∷ rest) (d ∷ other) r s same e =
+    let parts = cons_parts _ _ (capsules_from c rest r) (capsules_from d other s) e in
+    let head = round_parts a c b d r s parts.0 in
+    cons_is head.1 (one_rest c d rest other r s head.1 parts.1)
 -- ---- what stands for a real piece
 
 pub figure_stands : (side : Side) (real : Placed RealShape) (shape : Shape) (pieces : List (Placed Shape)) → real.shape ≡ Plain shape → figures_of (plain_pieces pieces) ≡ figure_of shape ∷ [] → All (λ (p : Placed Shape). IsOn real.top real.bottom (plain_piece p)) pieces → PiecesStandFor side real (plain_pieces pieces)

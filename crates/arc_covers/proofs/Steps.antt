@@ -6,7 +6,8 @@ use Rattle.std.proofs.lemmas.Option.{same_Some, slice_get-get_or}
 use Rattle.board_shapes.specs.Pieces.{PlainPiece, plain_piece, plain_pieces}
 use Rattle.board_shapes.specs.declared.placed.Placed.{Placed}
 use Rattle.board_shapes.specs.declared.shape.Shape.{Shape}
-use Rattle.arc_covers.specs.Bounds.{AddUp, FirstStand, PiecesStandFor, share_of}
+use Rattle.arc_covers.specs.Bounds.{AddUp, share_of}
+use Rattle.arc_covers.specs.Taken.{FirstTaken, PiecesAreTaken}
 use Rattle.arcs.specs.declared.real_shape.RealShape.{RealShape}
 use Rattle.arc_covers.specs.declared.side.Side.{Side}
 
@@ -16,11 +17,11 @@ cut_out counts pieces part i start from is =
     ap plain_pieces is ∙ sym (take-map plain_piece (get_or counts i 0) (drop start pieces)) ∙ ap (λ (xs : List PlainPiece). take (get_or counts i 0) xs) (sym (drop-map plain_piece start pieces)) ∙
     ap (λ (k : ℕ). take (get_or counts i 0) (drop k (plain_pieces pieces))) from
 
-pub shared : (side : Side) (piece : Placed RealShape) (counts : List ℕ) (pieces part : List (Placed Shape)) (i start : ℕ) → start ≡ sum (take i counts) → part ≡ take (get_or counts i 0) (drop start pieces) → PiecesStandFor side piece (plain_pieces part) → PiecesStandFor side piece (share_of counts (plain_pieces pieces) i)
-shared side piece counts pieces part i start from is = subst (PiecesStandFor side piece) (cut_out counts pieces part i start from is)
+pub shared : (side : Side) (piece : Placed RealShape) (counts : List ℕ) (pieces part : List (Placed Shape)) (i start : ℕ) → start ≡ sum (take i counts) → part ≡ take (get_or counts i 0) (drop start pieces) → PiecesAreTaken side piece (plain_pieces part) → PiecesAreTaken side piece (share_of counts (plain_pieces pieces) i)
+shared side piece counts pieces part i start from is = subst (PiecesAreTaken side piece) (cut_out counts pieces part i start from is)
 
-pub unshared : (side : Side) (piece : Placed RealShape) (counts : List ℕ) (pieces part : List (Placed Shape)) (i start : ℕ) → start ≡ sum (take i counts) → part ≡ take (get_or counts i 0) (drop start pieces) → PiecesStandFor side piece (share_of counts (plain_pieces pieces) i) → PiecesStandFor side piece (plain_pieces part)
-unshared side piece counts pieces part i start from is = subst (PiecesStandFor side piece) (sym (cut_out counts pieces part i start from is))
+pub unshared : (side : Side) (piece : Placed RealShape) (counts : List ℕ) (pieces part : List (Placed Shape)) (i start : ℕ) → start ≡ sum (take i counts) → part ≡ take (get_or counts i 0) (drop start pieces) → PiecesAreTaken side piece (share_of counts (plain_pieces pieces) i) → PiecesAreTaken side piece (plain_pieces part)
+unshared side piece counts pieces part i start from is = subst (PiecesAreTaken side piece) (sym (cut_out counts pieces part i start from is))
 
 pub item_there : {X : Type 0} (xs : List X) (i : ℕ) (x : X) → i < length xs → x ≡ get_or xs i x → slice_get xs i ≡ Some x
 item_there xs i x below is = slice_get-get_or xs i x below ∙ ap Some (sym is)
@@ -43,13 +44,13 @@ further real counts pieces i start up below from =
     let more = sum_by_more (λ (x : ℕ). x) counts i 0 (omega arith) in
     omega arith
 
--- one more stands
-pub first_more : (side : Side) (i : ℕ) (real : List (Placed RealShape)) (counts : List ℕ) (pieces : List PlainPiece) (piece : Placed RealShape) → slice_get real i ≡ Some piece → FirstStand side i real counts pieces → PiecesStandFor side piece (share_of counts pieces i) → FirstStand side (i + 1) real counts pieces
+-- one more is taken
+pub first_more : (side : Side) (i : ℕ) (real : List (Placed RealShape)) (counts : List ℕ) (pieces : List PlainPiece) (piece : Placed RealShape) → slice_get real i ≡ Some piece → FirstTaken side i real counts pieces → PiecesAreTaken side piece (share_of counts pieces i) → FirstTaken side (i + 1) real counts pieces
 first_more side i real counts pieces piece is before here j other below there = elim (cases j i below) [
   | inl less ↦ before j other less there
   | inr same ↦
       let one : piece ≡ other = same_Some piece other (sym is ∙ ap (λ (k : ℕ). slice_get real k) (sym same) ∙ there) in
-      subst (λ (k : ℕ). PiecesStandFor side other (share_of counts pieces k)) (sym same) (subst (λ (p : Placed RealShape). PiecesStandFor side p (share_of counts pieces i)) one here)
+      subst (λ (k : ℕ). PiecesAreTaken side other (share_of counts pieces k)) (sym same) (subst (λ (p : Placed RealShape). PiecesAreTaken side p (share_of counts pieces i)) one here)
 ]
   where
     cases : (j i : ℕ) → j < i + 1 → (j < i) ⊎ (j ≡ i)

@@ -1,7 +1,8 @@
--- Laws over real boards between two that the program can read.
+-- Laws over real boards between two that the program can read, and over files of counts.
 use Rattle.std.specs.Prelude.{ℕ, ◌≡◌, List, []}
 use Rattle.planar.specs.Plane.{Point}
 use Rattle.board_shapes.specs.LawfulBoard.{IsLawfulBoard}
+use Rattle.board_shapes.specs.Pieces.{PlainPiece}
 use Rattle.board_shapes.specs.Plain.{PlainBoard}
 use Rattle.board_shapes.specs.declared.placed.Placed.{Placed}
 use Rattle.verdict.specs.declared.verdict.Verdict.{Verdict}
@@ -12,12 +13,19 @@ use Rattle.covers.specs.Covering.{Covers}
 use Rattle.covers.specs.Laws.{Decides}
 use Rattle.covers.specs.Plain.{InPiece, layout_of}
 use Rattle.arc_covers.specs.Bounds.{AreBounds}
+use Rattle.arc_covers.specs.Counts.{AreCounts, IsFirstOther}
 use Rattle.arc_covers.specs.RealBoards.{IsReal}
+use Rattle.arc_covers.specs.Taken.{AreTaken}
 use Rattle.arcs.specs.declared.real_shape.RealShape.{RealShape}
+use Rattle.arc_covers.specs.declared.side.Side.{Side}
 use Rattle.arc_covers.specs.declared.side.Side.TheVariants.{Below, Above}
 
+-- Pieces that are taken stand for the real ones
+abbrev pub TakenAreBounds : Type 0
+TakenAreBounds = (side : Side) (real : List (Placed RealShape)) (counts : List ℕ) (pieces : List PlainPiece) → AreTaken side real counts pieces → AreBounds side real counts pieces
+
 -- the board is covered by the real one, and this by the board above
-pub record IsBetween (lower : PlainBoard) (holds : ℕ → Point → Type 0) (real : Layout) (upper : PlainBoard) : Type 0 where
+pub record LiesBetween (lower : PlainBoard) (holds : ℕ → Point → Type 0) (real : Layout) (upper : PlainBoard) : Type 0 where
   pub below : Covers (InPiece lower) (layout_of lower) holds real
   pub above : Covers holds real (InPiece upper) (layout_of upper)
 
@@ -40,7 +48,7 @@ pub record AreBoundsOf (lower upper : PlainBoard) (holds : ℕ → Point → Typ
 
 -- A board of figures and arc draws lies between two whose pieces stand for its own, whatever copper it has of those that its pieces may have
 abbrev pub BoundsLieBetween : (ℕ → Point → Type 0) → Type 0
-BoundsLieBetween holds = (lower upper : PlainBoard) (real : Layout) → AreBoundsOf lower upper holds real → IsBetween lower holds real upper
+BoundsLieBetween holds = (lower upper : PlainBoard) (real : Layout) → AreBoundsOf lower upper holds real → LiesBetween lower holds real upper
 
 -- the verdicts are right for the boards
 pub record AreJudged (lower upper : PlainBoard) (v w : Verdict) : Type 0 where
@@ -56,3 +64,15 @@ RealBoardAgrees holds = (lower upper : PlainBoard) (v w : Verdict) (real : Layou
 -- And what the verdicts say of nets is certain of it
 abbrev pub RealBoardIsDecided : (ℕ → Point → Type 0) → Type 0
 RealBoardIsDecided holds = (lower upper : PlainBoard) (v w : Verdict) (real : Layout) → AreBoundsOf lower upper holds real → AreJudged lower upper v w → Decides v w holds real
+
+-- Bytes spell at most one pair of lists of counts
+abbrev pub CountsAreOne : Type 0
+CountsAreOne = (bytes lower upper lower' upper' : List ℕ) → AreCounts bytes lower upper → AreCounts bytes lower' upper' → (lower ≡ lower') × (upper ≡ upper')
+
+-- Of bytes that spell one no line is of another form
+abbrev pub CountsHaveNoOther : Type 0
+CountsHaveNoOther = (bytes lower upper : List ℕ) (n : ℕ) → AreCounts bytes lower upper → ¬ IsFirstOther bytes n
+
+-- One line at most is the first that is
+abbrev pub FirstOtherIsOne : Type 0
+FirstOtherIsOne = (bytes : List ℕ) (n m : ℕ) → IsFirstOther bytes n → IsFirstOther bytes m → n ≡ m

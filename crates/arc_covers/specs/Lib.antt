@@ -1,5 +1,7 @@
 pub mod Bounds
+pub mod Counts
+pub mod CountsReading
 pub mod Faults
 pub mod Laws
-pub mod Links
 pub mod RealBoards
+pub mod Taken

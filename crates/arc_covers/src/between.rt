@@ -1,13 +1,13 @@
 //! Whether a real board lies between two boards of figures.
-ghost use Rattle.arc_covers.specs.Bounds.{AddUp, AreBounds, PiecesStandFor};
+ghost use Rattle.arc_covers.specs.Bounds.{AddUp, AreBounds};
 ghost use Rattle.arc_covers.specs.Faults.{IsBoundsFault};
-ghost use Rattle.arcs.specs.declared.real_shape.RealShape.TheVariants.{Plain};
+ghost use Rattle.arc_covers.specs.Taken.{AreTaken, PiecesAreTaken};
 ghost use Rattle.arc_covers.specs.declared.side.Side.TheVariants.{Above, Below};
 ghost use Rattle.board_shapes.specs.Pieces.{plain_pieces};
-ghost use Rattle.board_shapes.specs.declared.shape.Shape.{Shape};
 ghost use Rattle.std.specs.Prelude.{IfErr, IfOk, IsTrue, drop, length, sum, take, ◌+◌, ◌≡◌, ◌≤◌, ◌↔◌};
 
-use crate::rows::{are_bound, are_on, is_itself};
+use crate::laws::taken_are_bounds;
+use crate::rows::{are_chain, are_on, is_itself};
 use crate::side::Side;
 use arcs::{RealPiece, RealShape};
 use board_shapes::Piece;
@@ -18,10 +18,11 @@ use thiserror::Error;
 /// Why two boards are no bounds of a real one.
 #[derive(Clone, Copy, Debug, PartialEq, Eq)]
 pub enum BoundsFault {
-    /// The counts of that side are not as many as the real pieces, or do not sum to the pieces of its board.
+    /// The counts of that side are not as many as the real pieces, or do not sum to the pieces of its
+    /// board. Those below come first.
     Counts(Side),
-    /// What is counted to the real piece of that number, from 0, does not stand for it on that side, or
-    /// is a chain that is refused. Those before it are between their bounds.
+    /// What is counted to the real piece of that number, from 0, is not taken for it on that side. What is
+    /// counted to those before it is, and to itself below, where the side is above.
     Piece(Side, usize),
     NoMemory,
 }
@@ -67,28 +68,26 @@ fn part(pieces: &[Piece], start: usize, count: u32) -> &[Piece]
     &rest[..count as usize]
 }
 
-/// Whether the pieces stand for the real piece on that side: they are its figure, or the capsules of
-/// a chain that bounds its arc draw, on its layers. A chain that does may be refused. `NoMemory` where
-/// memory is wanted.
+/// Whether the pieces are taken for the real piece on that side: they are its figure, or the capsules of
+/// a chain that the checks take for its arc draw, on its layers. `NoMemory` where memory is wanted.
 fn stand(alloc: Global, side: Side, real: &RealPiece, pieces: &[Piece]) -> Result<bool, NoMemory>
-    ensures stand { IfOk result (λ yes. IsTrue yes → PiecesStandFor side real.now (plain_pieces pieces.now)) }
-    ensures figure { IfOk result (λ yes. (shape : Shape) → real.now.shape ≡ Plain shape → PiecesStandFor side real.now (plain_pieces pieces.now) → IsTrue yes) }
+    ensures { IfOk result (λ yes. IsTrue yes ↔ PiecesAreTaken side real.now (plain_pieces pieces.now)) }
 {
     if !are_on(pieces, real.top, real.bottom) {
         return Ok(false);
     }
     match &real.shape {
         RealShape::Plain(shape) => Ok(is_itself(shape, pieces)),
-        RealShape::ArcDraw(arc) => are_bound(alloc, side, arc, pieces),
+        RealShape::ArcDraw(arc) => are_chain(alloc, side, arc, pieces),
     }
 }
 
 /// Whether the pieces of two boards stand for those of a real one, the lower on the side below, the
-/// upper above. The counts say how many stand, in order, for each real piece; nobody needs to trust
-/// them.
+/// upper above, and the checks take them. The counts say how many stand, in order, for each real piece;
+/// nobody needs to trust them.
 ///
-/// `Counts` where they do not add up; `Piece` with the first real piece that is not between its
-/// bounds; `NoMemory` where memory is wanted for the spots of a chain.
+/// `Counts` where they do not add up; `Piece` with the first real piece for which what is counted to it is
+/// not taken, though it may bound it; `NoMemory` where memory is wanted for the spots of a chain.
 pub fn check_between(
     alloc: Global,
     real: &[RealPiece],
@@ -99,8 +98,11 @@ pub fn check_between(
 ) -> Result<(), BoundsFault>
     ensures below { IfOk result (λ _. AreBounds Below real.now lower_counts.now (plain_pieces lower.now)) }
     ensures above { IfOk result (λ _. AreBounds Above real.now upper_counts.now (plain_pieces upper.now)) }
+    ensures taken_below { IfOk result (λ _. AreTaken Below real.now lower_counts.now (plain_pieces lower.now)) }
+    ensures taken_above { IfOk result (λ _. AreTaken Above real.now upper_counts.now (plain_pieces upper.now)) }
     ensures fault { IfErr result (IsBoundsFault real.now lower_counts.now (plain_pieces lower.now) upper_counts.now (plain_pieces upper.now)) }
 {
+    taken_are_bounds();
     if !add_up(real, lower_counts, lower) {
         return Err(BoundsFault::Counts(Side::Below));
     }

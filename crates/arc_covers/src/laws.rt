@@ -1,8 +1,16 @@
-//! Laws over real boards between two others. Their calls do nothing.
-ghost use Rattle.arc_covers.specs.Laws.{BoundsLieBetween, RealBoardAgrees, RealBoardIsDecided};
+//! Laws over real boards between two others, and over files of counts. Their calls do nothing.
+ghost use Rattle.arc_covers.specs.Laws.{BoundsLieBetween, CountsAreOne, CountsHaveNoOther, FirstOtherIsOne, RealBoardAgrees, RealBoardIsDecided, TakenAreBounds};
 
+use arcs::laws::taken_is_between;
 use covers::Copper;
 use covers::laws::verdicts_decide;
+
+/// Pieces that are taken for those of a real board stand for them.
+pub fn taken_are_bounds()
+    ensures { TakenAreBounds }
+{
+    taken_is_between();
+}
 
 /// A board of figures and arc draws lies between two whose pieces stand for its own, whatever copper
 /// it has of those that its pieces may have.
@@ -20,3 +28,11 @@ pub fn real_board_is_decided<R: Copper>()
     bounds_lie_between::<R>();
     verdicts_decide::<R>();
 }
+
+/// Bytes spell at most one pair of lists of counts. Then no line is of another form, and else one is the
+/// first.
+pub fn counts_are_one()
+    ensures one { CountsAreOne }
+    ensures apart { CountsHaveNoOther }
+    ensures first { FirstOtherIsOne }
+{}

@@ -1,11 +1,13 @@
 //! Rows of pieces: chains of capsules, and single figures.
-ghost use Rattle.arc_covers.specs.Bounds.{IsOn, StandFor, capsules_of, figures_of};
+ghost use Rattle.arc_covers.specs.Bounds.{IsOn, capsules_from, capsules_of, figures_of};
+ghost use Rattle.arc_covers.specs.Taken.{StandTaken};
 ghost use Rattle.arcs.specs.declared.real_shape.RealShape.TheVariants.{ArcDraw, Plain};
 ghost use Rattle.board_shapes.specs.Figures.{area_figure, capsule_figure, figure_of, round};
 ghost use Rattle.board_shapes.specs.Pieces.{plain_piece, plain_pieces};
-ghost use Rattle.std.specs.Prelude.{All, IfOk, IfSome, IsTrue, length, pos, ◌≡◌, ◌↔◌, ◌∷◌, []};
+ghost use Rattle.planar.specs.declared.Spot.{Spot};
+ghost use Rattle.std.specs.Prelude.{All, IfNone, IfOk, IfSome, IsTrue, List, length, pos, ◌≡◌, ◌↔◌, ◌∷◌, []};
 
-use crate::side::{Side, is_bound};
+use crate::side::{Side, is_taken};
 use arcs::{Arc, Spot};
 use area_contact::Area;
 use board_shapes::{Piece, Shape};
@@ -70,7 +72,8 @@ pub fn is_itself(shape: &Shape, pieces: &[Piece]) -> bool
 
 /// Where the capsule leads that begins at `from` with radius `r`, if the shape is one.
 fn next_spot(shape: &Shape, from: Spot, r: u64) -> Option<Spot>
-    ensures { IfSome result (λ to. figure_of shape.now ≡ round (record { a = from; b = to; r = pos r })) }
+    ensures some { IfSome result (λ to. figure_of shape.now ≡ round (record { a = from; b = to; r = pos r })) }
+    ensures none { IfNone result ((to : Spot) → ¬ (figure_of shape.now ≡ round (record { a = from; b = to; r = pos r }))) }
 {
     let Shape::Round(capsule) = shape else {
         return None;
@@ -90,7 +93,8 @@ fn chain_of(
     start: Spot,
     r: u64,
 ) -> Result<Option<Vec<Spot>>, NoMemory>
-    ensures { IfOk result (λ found. IfSome found (λ chain. figures_of (plain_pieces pieces.now) ≡ capsules_of chain.items (pos r))) }
+    ensures some { IfOk result (λ found. IfSome found (λ chain. figures_of (plain_pieces pieces.now) ≡ capsules_of chain.items (pos r))) }
+    ensures none { IfOk result (λ found. IfNone found ((rest : List Spot) → ¬ (figures_of (plain_pieces pieces.now) ≡ capsules_from start rest (pos r)))) }
 {
     let mut chain = Vec::new(alloc);
     chain.push(start)?;
@@ -105,20 +109,20 @@ fn chain_of(
     Ok(Some(chain))
 }
 
-/// Whether the pieces are capsules of one radius, each of which begins where the one before ended,
-/// and a bound of the arc draw. `NoMemory` where memory is wanted.
-pub fn are_bound(alloc: Global, side: Side, arc: &Arc, pieces: &[Piece]) -> Result<bool, NoMemory>
-    ensures { IfOk result (λ yes. IsTrue yes → StandFor side (ArcDraw arc.now) (figures_of (plain_pieces pieces.now))) }
+/// Whether the pieces are the capsules of a chain that is taken for the arc draw. `NoMemory` where memory
+/// is wanted.
+pub fn are_chain(alloc: Global, side: Side, arc: &Arc, pieces: &[Piece]) -> Result<bool, NoMemory>
+    ensures { IfOk result (λ yes. IsTrue yes ↔ StandTaken side (ArcDraw arc.now) (figures_of (plain_pieces pieces.now))) }
 {
     let Some(first) = pieces.first() else {
-        return Ok(is_bound(side, arc, &[], 0));
+        return Ok(is_taken(side, arc, &[], 0));
     };
     let Shape::Round(capsule) = &first.shape else {
         return Ok(false);
     };
     let r = capsule.r.unsigned_abs();
     match chain_of(alloc, pieces, capsule.a, r)? {
-        Some(chain) => Ok(is_bound(side, arc, &chain, r)),
+        Some(chain) => Ok(is_taken(side, arc, &chain, r)),
         None => Ok(false),
     }
 }

@@ -1,6 +1,6 @@
 //! The board below a real one, and the board above.
-ghost use Rattle.arc_covers.specs.Bounds.{IsBound};
-ghost use Rattle.std.specs.Prelude.{IsTrue, pos};
+ghost use Rattle.arc_covers.specs.Taken.{IsTaken};
+ghost use Rattle.std.specs.Prelude.{IsTrue, ◌↔◌};
 
 use arcs::{Arc, Spot, is_above, is_below};
 
@@ -13,10 +13,9 @@ pub enum Side {
     Above,
 }
 
-/// Whether the capsules of radius `r` from each spot of the chain to the next are a bound of the arc
-/// draw. Where it says so, they are; it may refuse a chain that is. Below, no capsules are one.
-pub fn is_bound(side: Side, arc: &Arc, chain: &[Spot], r: u64) -> bool
-    ensures { IsTrue result → IsBound side arc.now chain.now (pos r) }
+/// Whether the chain of radius `r` is taken as a bound of the arc draw. Below, that without a spot is.
+pub fn is_taken(side: Side, arc: &Arc, chain: &[Spot], r: u64) -> bool
+    ensures { IsTrue result ↔ IsTaken side arc.now chain.now r }
 {
     match side {
         Side::Below => chain.is_empty() || is_below(arc, chain, r),

@@ -1,7 +1,7 @@
 //! A pad and a quarter circle that touches it in one point, between pads and chains, in u.
 ghost use Rattle.planar.specs.Plane.{IsPlaced};
 
-use crate::{BoundsFault, Side, check_between};
+use crate::{BoundsFault, CountsFault, Side, check_between, read_counts};
 use arcs::{Arc, RealPiece, RealShape, Spot};
 use board_shapes::{Origin, Piece, Placed, Shape};
 use contact::Capsule;
@@ -119,6 +119,14 @@ fn checked(
     check_between(alloc, &real, &lower, lower_counts, &upper, upper_counts)
 }
 
+fn sum(counts: &[u32]) -> u64 {
+    let mut all = 0u64;
+    for count in counts {
+        all = all.saturating_add(u64::from(*count));
+    }
+    all
+}
+
 /// Chains at their limits, and one u beyond; counts one off.
 #[test]
 fn a_quarter_circle(rt: HostRuntime) {
@@ -221,5 +229,40 @@ fn nothing_below(rt: HostRuntime) -> Result<(), Fail> {
     assert!(rt; found == Ok(()));
     let other = check_between(alloc, &real, &lower, &[1, 0], &lower, &[1, 0]);
     assert!(rt; other == Err(BoundsFault::Piece(Side::Above, 1)));
+    Ok(())
+}
+
+/// The file's forms, and the first line of another.
+#[test]
+fn files_of_counts(rt: HostRuntime) -> Result<(), Fail> {
+    let alloc = rt.alloc();
+    for (file, told) in [
+        (b"boardnet-bounds 1\n".as_slice(), Ok((0, 0))),
+        (b"boardnet-bounds 1\n1 1\n6 17\n", Ok((7, 18))),
+        (b"boardnet-bounds 1\n0 4294967295\n", Ok((0, 4_294_967_295))),
+        (
+            b"boardnet-bounds 1\n1 4294967296\n",
+            Err(CountsFault::Line(2)),
+        ),
+        (b"boardnet-bounds 1\n1 1\n01 6\n", Err(CountsFault::Line(3))),
+        (b"boardnet-bounds 1\n1 1\n1 +6\n", Err(CountsFault::Line(3))),
+        (b"boardnet-bounds 1\n1 1\n1  6\n", Err(CountsFault::Line(3))),
+        (b"boardnet-bounds 1\n1 1\n1 6 \n", Err(CountsFault::Line(3))),
+        (
+            b"boardnet-bounds 1\n1 1\n1 6\r\n",
+            Err(CountsFault::Line(3)),
+        ),
+        (b"boardnet-bounds 1\n1 1\n\n", Err(CountsFault::Line(3))),
+        (b"boardnet-bounds 1\n1 1\n1 6", Err(CountsFault::Line(3))),
+        (b"boardnet-bounds 1\r\n1 1\n", Err(CountsFault::Line(1))),
+        (b"boardnet-bounds 2\n1 1\n", Err(CountsFault::Line(1))),
+        (b"", Err(CountsFault::Line(1))),
+    ] {
+        let found = match read_counts(alloc, file) {
+            Ok(counts) => Ok((sum(counts.lower.as_slice()), sum(counts.upper.as_slice()))),
+            Err(fault) => Err(fault),
+        };
+        assert!(rt; found == told);
+    }
     Ok(())
 }

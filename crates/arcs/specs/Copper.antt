@@ -108,8 +108,8 @@ pub record HasPlace (a : Arc) (k : ℤ) (p : Point) : Type 0 where
 abbrev pub Possibly : Arc → Point → Type 0
 Possibly a p = IsMeant a → (k : ℤ) → pos 1 ≤ℤ k → HasPlace a k p
 
--- the points are the copper of an arc draw: of one curve from start to end that turns one way, and whose distances from the centre are those of the ends,
--- between them (our reading of 4.7.2, where they are two) or, past a half turn, as far off them as `spread` says
+-- The points are a copper of the arc draw: any set between what is surely copper and what may be. Meant is that of one curve from start to end that turns one way,
+-- and whose distances from the centre are those of the ends, between them (our reading of 4.7.2, where they are two) or, past a half turn, as far off them as `spread` says
 pub record IsCopper (a : Arc) (holds : Point → Type 0) : Type 0 where
   pub least : (p : Point) → Surely a p → holds p
   pub most : (p : Point) → holds p → Possibly a p

@@ -1,0 +1,38 @@
+-- Exactly which pieces the check takes for those of a real board.
+use Rattle.std.specs.Prelude.{ℕ, ℤ, pos, ◌≡◌, ◌⊎◌, ◌<◌, List, [], ◌∷◌, Some, length, slice_get, All}
+use Rattle.planar.specs.declared.Spot.{Spot}
+use Rattle.board_shapes.specs.Figures.{Figure, figure_of}
+use Rattle.board_shapes.specs.Pieces.{PlainPiece}
+use Rattle.board_shapes.specs.declared.placed.Placed.{Placed}
+use Rattle.arcs.specs.Taken.{TakenAbove, TakenBelow}
+use Rattle.arcs.specs.declared.Arc.{Arc}
+use Rattle.arcs.specs.declared.real_shape.RealShape.{RealShape}
+use Rattle.arcs.specs.declared.real_shape.RealShape.TheVariants.{Plain, ArcDraw}
+use Rattle.arc_covers.specs.Bounds.{AddUp, IsOn, capsules_of, figures_of, share_of}
+use Rattle.arc_covers.specs.declared.side.Side.{Side}
+use Rattle.arc_covers.specs.declared.side.Side.TheVariants.{Below, Above}
+
+-- the checks of `arcs` take the chain; below, that without a spot is taken too
+abbrev pub IsTaken : Side → Arc → List Spot → ℕ → Type 0
+IsTaken Below arc chain r = (chain ≡ []) ⊎ TakenBelow arc chain r
+IsTaken Above arc chain r = TakenAbove arc chain r
+
+-- For a figure that figure, for an arc draw the capsules of one chain of one radius that is taken. Capsules have one chain; no capsules are those of none and of each single
+-- spot, of which the former is taken below and nothing above
+abbrev pub StandTaken : Side → RealShape → List Figure → Type 0
+StandTaken side (Plain shape) figures = figures ≡ figure_of shape ∷ []
+StandTaken side (ArcDraw arc) figures = (chain : List Spot) × (r : ℕ) × (figures ≡ capsules_of chain (pos r)) × IsTaken side arc chain r
+
+-- the pieces are taken for the real piece, all on its layers
+pub record PiecesAreTaken (side : Side) (real : Placed RealShape) (pieces : List PlainPiece) : Type 0 where
+  pub figures : StandTaken side real.shape (figures_of pieces)
+  pub layers : All (IsOn real.top real.bottom) pieces
+
+-- for each of the first n real pieces those that are counted to it are taken
+abbrev pub FirstTaken : Side → ℕ → List (Placed RealShape) → List ℕ → List PlainPiece → Type 0
+FirstTaken side n real counts pieces = (i : ℕ) (piece : Placed RealShape) → i < n → slice_get real i ≡ Some piece → PiecesAreTaken side piece (share_of counts pieces i)
+
+-- the pieces, as they are counted, are taken for the real ones
+pub record AreTaken (side : Side) (real : List (Placed RealShape)) (counts : List ℕ) (pieces : List PlainPiece) : Type 0 where
+  pub counted : AddUp real counts pieces
+  pub taken : FirstTaken side (length real) real counts pieces
