@@ -22,3 +22,4 @@ pub mod Ways
 pub mod SmallParts
 pub mod SmallNetlists
 pub mod ReportLength
+pub mod Readings

@@ -30,6 +30,15 @@ use lengths::text::{Text, is_text};
 use real_package::{RealBoard, build_real, has_its_netlist};
 use std::alloc::Global;
 
+// The names of the three manifests, and of the file of counts.
+#[derive(Drop)]
+struct Names {
+    real: Text,
+    lower: Text,
+    upper: Text,
+    counts: Text,
+}
+
 // The boards of the three packages.
 #[derive(Drop)]
 struct Boards {
@@ -84,7 +93,8 @@ pub fn decision<P: Package>(
     ensures spared { Spares LeftBy P.faults P.lost «package».old «package».new result }
 {
     let mut file = Vec::new(alloc);
-    let boards = taken(alloc, real, lower, upper, counts, package, &mut file)?;
+    let names = names_of(alloc, real, lower, upper, counts)?;
+    let boards = taken(alloc, names, package, &mut file)?;
     bounded(alloc, &boards, file.as_slice())?;
     Ok(decided(alloc, &boards)?)
 }
@@ -114,34 +124,50 @@ fn bound<P: Package>(alloc: Global, name: Text, package: &mut P) -> Result<Board
     }
 }
 
-// Builds the three boards, and then takes the file of counts.
-fn taken<P: Package>(
+// The names as texts. The one fault is want of memory.
+fn names_of(
     alloc: Global,
     real: &str,
     lower: &str,
     upper: &str,
     counts: &str,
-    package: &mut P,
-    file: &mut Vec<u8>,
-) -> Result<Boards, Unanswered>
+) -> Result<Names, BuildFault>
     requires real { IsText real.now }
     requires lower { IsText lower.now }
     requires upper { IsText upper.now }
     requires counts { IsText counts.now }
-    ensures leaves { Leaves P.held P.handed P.faults «package».old «package».new }
-    ensures spared { Spares LeftBy P.faults P.lost «package».old «package».new result }
-    ensures handed { IfOk result (λ boards. AreRead (HandedOver (P.handed «package».old) (P.handed «package».new)) (bound_names real.now lower.now upper.now counts.now) (plain_real_board boards.real) (plain_board boards.lower) (plain_board boards.upper) file.new.items) }
-    ensures reason { IfErr result (HasHandedReason (HandedOver (P.handed «package».old) (P.handed «package».new)) (Between (bound_names real.now lower.now upper.now counts.now)) (P.faults «package».old) (P.faults «package».new) (P.lost «package».new)) }
-    ensures limits { IfOk result (λ boards. IsLawfulBoard (plain_board boards.lower) × IsLawfulBoard (plain_board boards.upper)) }
+    ensures ok { IfOk result (λ names. bound_names names.real names.lower names.upper names.counts ≡ bound_names real.now lower.now upper.now counts.now) }
+    ensures fault { IfErr result (λ fault. fault ≡ BuildFault.NoMemory) }
 {
     let real = name_of(alloc, real)?;
     let lower = name_of(alloc, lower)?;
     let upper = name_of(alloc, upper)?;
     let counts = name_of(alloc, counts)?;
-    let real = build_real(alloc, &real, package)?;
-    let lower = bound(alloc, lower, package)?;
-    let upper = bound(alloc, upper, package)?;
-    take_file(alloc, &counts, package, file)?;
+    Ok(Names {
+        real,
+        lower,
+        upper,
+        counts,
+    })
+}
+
+// Builds the three boards, and then takes the file of counts.
+fn taken<P: Package>(
+    alloc: Global,
+    names: Names,
+    package: &mut P,
+    file: &mut Vec<u8>,
+) -> Result<Boards, Unanswered>
+    ensures leaves { Leaves P.held P.handed P.faults «package».old «package».new }
+    ensures spared { Spares LeftBy P.faults P.lost «package».old «package».new result }
+    ensures handed { IfOk result (λ boards. AreRead (HandedOver (P.handed «package».old) (P.handed «package».new)) (bound_names names.real names.lower names.upper names.counts) (plain_real_board boards.real) (plain_board boards.lower) (plain_board boards.upper) file.new.items) }
+    ensures reason { IfErr result (HasHandedReason (HandedOver (P.handed «package».old) (P.handed «package».new)) (Between (bound_names names.real names.lower names.upper names.counts)) (P.faults «package».old) (P.faults «package».new) (P.lost «package».new)) }
+    ensures limits { IfOk result (λ boards. IsLawfulBoard (plain_board boards.lower) × IsLawfulBoard (plain_board boards.upper)) }
+{
+    let real = build_real(alloc, &names.real, package)?;
+    let lower = bound(alloc, names.lower, package)?;
+    let upper = bound(alloc, names.upper, package)?;
+    take_file(alloc, &names.counts, package, file)?;
     Ok(Boards { real, lower, upper })
 }
 
