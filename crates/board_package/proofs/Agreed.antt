@@ -17,17 +17,17 @@ use Rattle.board_package.specs.declared.entry.Naming.TheVariants.{ByLabels}
 abbrev held : (f : Files) (a b : List Handed) (name bytes : List ℕ) → AgreeWith f a b → IsHanded a b name bytes → IsHeld f name bytes
 held f a b name bytes w h = record { held = agree_file f a b name bytes h.next w; short = h.short }
 
-held_with : (f : Files) (a b : List Handed) (name : List ℕ) (P : List ℕ → Type 0) → AgreeWith f a b → IsHandedWith a b name P → IsHeldWith f name P
+pub held_with : (f : Files) (a b : List Handed) (name : List ℕ) (P : List ℕ → Type 0) → AgreeWith f a b → IsHandedWith a b name P → IsHeldWith f name P
 held_with f a b name P w h = record { bytes = h.bytes; held = held f a b name h.bytes w h.handed; good = h.good }
 
-grows_handed : (a b : List Handed) (name bytes : List ℕ) → IsHanded a b name bytes → Grows a b
+pub grows_handed : (a b : List Handed) (name bytes : List ℕ) → IsHanded a b name bytes → Grows a b
 grows_handed a b name bytes h = grows_file a b name bytes h.next
 
-untaken : (f : Files) (a b : List Handed) (name : List ℕ) (stop : Stop) → AgreeWith f a b → StopsHanding a b name stop → StopsTaking f name stop
+pub untaken : (f : Files) (a b : List Handed) (name : List ℕ) (stop : Stop) → AgreeWith f a b → StopsHanding a b name stop → StopsTaking f name stop
 untaken f a b name (longer other) w s = (s.0, agree_long f a b name _ s.1 w)
 untaken f a b name other w s = absurd s
 
-grows_stop : (a b : List Handed) (name : List ℕ) (stop : Stop) → StopsHanding a b name stop → Grows a b
+pub grows_stop : (a b : List Handed) (name : List ℕ) (stop : Stop) → StopsHanding a b name stop → Grows a b
 grows_stop a b name (longer other) s = grows_long a b name _ s.1
 grows_stop a b name other s = absurd s
 
@@ -51,11 +51,11 @@ pub record Follows {S T : Type 0} (f : Files) (handed : S → List Handed) (plai
   pub grows : (e : Entry) (c d : S) → Step e c d → Grows (handed c) (handed d)
   pub goes : (e : Entry) (c d : S) → AgreeWith f (handed c) (handed d) → Step e c d → Held e (plain c) (plain d)
 
-grows_walk : {S T : Type 0} (f : Files) (handed : S → List Handed) (plain : S → T) (Step : Entry → S → S → Type 0) (Held : Entry → T → T → Type 0) → Follows f handed plain Step Held → (entries : List Entry) (c d : S) → WalksBy Step entries c d → Grows (handed c) (handed d)
+pub grows_walk : {S T : Type 0} (f : Files) (handed : S → List Handed) (plain : S → T) (Step : Entry → S → S → Type 0) (Held : Entry → T → T → Type 0) → Follows f handed plain Step Held → (entries : List Entry) (c d : S) → WalksBy Step entries c d → Grows (handed c) (handed d)
 grows_walk f handed plain Step Held k [] c d w = grows_none (handed c) (handed d) (ap handed (sym w))
 grows_walk f handed plain Step Held k (e ∷ rest) c d (n, s, w) = grows_on (handed c) (handed n) (handed d) (k.grows e c n s) (grows_walk f handed plain Step Held k rest n d w)
 
-walks : {S T : Type 0} (f : Files) (handed : S → List Handed) (plain : S → T) (Step : Entry → S → S → Type 0) (Held : Entry → T → T → Type 0) → Follows f handed plain Step Held → (entries : List Entry) (c d : S) → AgreeWith f (handed c) (handed d) → WalksBy Step entries c d → WalksBy Held entries (plain c) (plain d)
+pub walks : {S T : Type 0} (f : Files) (handed : S → List Handed) (plain : S → T) (Step : Entry → S → S → Type 0) (Held : Entry → T → T → Type 0) → Follows f handed plain Step Held → (entries : List Entry) (c d : S) → AgreeWith f (handed c) (handed d) → WalksBy Step entries c d → WalksBy Held entries (plain c) (plain d)
 walks f handed plain Step Held k [] c d a w = ap plain w
 walks f handed plain Step Held k (e ∷ rest) c d a (n, s, w) =
     let g = k.grows e c n s in
@@ -67,13 +67,13 @@ pub record EndsIn {S T : Type 0} (f : Files) (handed : S → List Handed) (plain
   pub grows : (e : Entry) (c : S) → P e c → Grows (handed c) b
   pub is : (e : Entry) (c : S) → AgreeWith f (handed c) b → P e c → Q e (plain c)
 
-grows_one : {S T : Type 0} (f : Files) (handed : S → List Handed) (plain : S → T) (Step : Entry → S → S → Type 0) (Held : Entry → T → T → Type 0) (b : List Handed) (P : Entry → S → Type 0) (Q : Entry → T → Type 0) → Follows f handed plain Step Held → EndsIn f handed plain b P Q
+pub grows_one : {S T : Type 0} (f : Files) (handed : S → List Handed) (plain : S → T) (Step : Entry → S → S → Type 0) (Held : Entry → T → T → Type 0) (b : List Handed) (P : Entry → S → Type 0) (Q : Entry → T → Type 0) → Follows f handed plain Step Held → EndsIn f handed plain b P Q
     → (entries : List Entry) (c : S) → AtOneBy Step entries c P → Grows (handed c) b
 grows_one f handed plain Step Held b P Q k l [] c h = absurd h
 grows_one f handed plain Step Held b P Q k l (e ∷ rest) c (inl h) = l.grows e c h
 grows_one f handed plain Step Held b P Q k l (e ∷ rest) c (inr (n, s, h)) = grows_on (handed c) (handed n) b (k.grows e c n s) (grows_one f handed plain Step Held b P Q k l rest n h)
 
-at_one : {S T : Type 0} (f : Files) (handed : S → List Handed) (plain : S → T) (Step : Entry → S → S → Type 0) (Held : Entry → T → T → Type 0) (b : List Handed) (P : Entry → S → Type 0) (Q : Entry → T → Type 0) → Follows f handed plain Step Held → EndsIn f handed plain b P Q
+pub at_one : {S T : Type 0} (f : Files) (handed : S → List Handed) (plain : S → T) (Step : Entry → S → S → Type 0) (Held : Entry → T → T → Type 0) (b : List Handed) (P : Entry → S → Type 0) (Q : Entry → T → Type 0) → Follows f handed plain Step Held → EndsIn f handed plain b P Q
     → (entries : List Entry) (c : S) → AgreeWith f (handed c) b → AtOneBy Step entries c P → AtOneBy Held entries (plain c) Q
 at_one f handed plain Step Held b P Q k l [] c a h = absurd h
 at_one f handed plain Step Held b P Q k l (e ∷ rest) c a (inl h) = inl (l.is e c a h)
@@ -93,7 +93,7 @@ comes_in f b name = record { grows = λ e c h. grows_none c.handed b h.1; is = �
 
 -- ---- The package
 
-manifest_stop : (f : Files) (a b : List Handed) (name : List ℕ) (stop : Stop) → AgreeWith f a b → StopsAtManifestHanded a b name stop → StopsAtManifest f name stop
+pub manifest_stop : (f : Files) (a b : List Handed) (name : List ℕ) (stop : Stop) → AgreeWith f a b → StopsAtManifestHanded a b name stop → StopsAtManifest f name stop
 manifest_stop f a b name (longer other) w s = untaken f a b name (longer other) w s
 manifest_stop f a b name not_json w s = held_with f a b name _ w s
 manifest_stop f a b name bad_manifest w s = held_with f a b name _ w s

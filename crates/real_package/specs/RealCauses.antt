@@ -6,6 +6,7 @@ use Rattle.board_io.specs.Handed.{Handed}
 use Rattle.board_io.specs.Package.{Files, IsFaultless}
 use Rattle.board_package.specs.Causes.{HasCause, HasRefusal, KeepsFaults}
 use Rattle.board_package.specs.declared.contents.Refusal.{Refusal}
+use Rattle.board_package.specs.declared.contents.Refusal.TheVariants as refusal
 use Rattle.board_package.specs.declared.entry.Entry.{Entry}
 use Rattle.board_package.specs.declared.fault.BuildFault.{BuildFault}
 use Rattle.board_package.specs.declared.fault.BuildFault.TheVariants as build
@@ -31,9 +32,14 @@ abbrev pub KeepsRealFaults : ℕ → List ℕ → ℕ → List ℕ → RealBuild
 KeepsRealFaults count lost count' lost' (fault.Build why) = KeepsFaults count lost count' lost' why
 KeepsRealFaults count lost count' lost' (fault.Arc name kind command at) = IsFaultless count lost count' lost'
 
+-- the fault of a copper file of this name, refused as one without arcs may be, or for an arc; or want of memory
+abbrev pub IsCopperRefusal : List ℕ → RealKind → ℕ → ℕ → RealBuildFault → Type 0
+IsCopperRefusal name (Gerber kind) command at given = (why : BuildFault) × (given ≡ fault.Build why) × HasRefusal name (refusal.Layer kind command at) why
+IsCopperRefusal name kind command at given = (given ≡ fault.Arc name kind command at) ⊎ (given ≡ fault.Build build.NoMemory)
+
 -- why the file of an entry is not read: its refusal, or want of memory
 abbrev pub HaltsReal : Entry → List ℕ → PlainRealBoard → RealBuildFault → Type 0
-HaltsReal e bytes before (fault.Build why) = (why ≡ build.NoMemory) ⊎ ((refusal : Refusal) × RefusesReal e.role e.number bytes before refusal × HasRefusal e.name refusal why)
+HaltsReal e bytes before (fault.Build given) = (given ≡ build.NoMemory) ⊎ ((why : Refusal) × RefusesReal e.role e.number bytes before why × HasRefusal e.name why given)
 HaltsReal e bytes before (fault.Arc name kind command at) = (name ≡ e.name) × RefusesArc e.role e.number bytes before kind command at
 
 -- ---- What the building of a real board gives

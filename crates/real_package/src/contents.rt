@@ -1,10 +1,11 @@
 //! What the files of a package are read as.
-ghost use Rattle.std.specs.Prelude.{◌≡◌, ◌≤◌, length, All, OnOk, IfErr};
+ghost use Rattle.std.specs.Prelude.{◌≡◌, ◌⊎◌, ◌≤◌, length, OnOk, IfErr};
 ghost use Rattle.board_package.specs.Manifest.{IsOnBoard};
-ghost use Rattle.board_package.specs.declared.entry.Role.TheVariants as role;
+ghost use Rattle.board_package.specs.declared.fault.BuildFault.TheVariants as build;
 ghost use Rattle.real_package.specs.RealBoards.{IsLawfulReal, plain_real_board};
-ghost use Rattle.real_package.specs.RealCauses.{HaltsReal};
+ghost use Rattle.real_package.specs.RealCauses.{HaltsReal, IsCopperRefusal};
 ghost use Rattle.real_package.specs.RealFiles.{ReadsReal};
+ghost use Rattle.real_package.specs.declared.fault.RealBuildFault.TheVariants as fault;
 
 use crate::board::{RealBoard, as_real_pieces, room_left};
 use crate::fault::RealBuildFault;
@@ -17,24 +18,31 @@ use texts::MOST_BYTES;
 use xnc::{DrillFault, Span, read_drill};
 
 /// The fault of a copper file that is refused, or want of memory for its name.
-fn refused_copper(name: &Text, kind: RealKind, command: u32, at: usize) -> RealBuildFault {
-    let RealKind::Gerber(plain) = kind else {
-        let Ok(file) = name.clone() else {
-            return RealBuildFault::Build(BuildFault::NoMemory);
-        };
-        return RealBuildFault::Arc {
-            file,
-            kind,
-            command,
-            at,
-        };
+fn refused_copper(name: &Text, kind: RealKind, command: u32, at: usize) -> RealBuildFault
+    ensures { IsCopperRefusal name.now kind command at result }
+{
+    match kind {
+        RealKind::Gerber(kind) => {
+            let refusal = Refusal::Layer { kind, command, at };
+            RealBuildFault::Build(refused(name, refusal))
+        }
+        own => refused_arc(name, own, command, at),
+    }
+}
+
+/// The fault of one that is refused for an arc.
+fn refused_arc(name: &Text, kind: RealKind, command: u32, at: usize) -> RealBuildFault
+    ensures { (result ≡ fault.Arc name.now kind command at) ⊎ (result ≡ fault.Build build.NoMemory) }
+{
+    let Ok(file) = name.clone() else {
+        return RealBuildFault::Build(BuildFault::NoMemory);
     };
-    let refusal = Refusal::Layer {
-        kind: plain,
+    RealBuildFault::Arc {
+        file,
+        kind,
         command,
         at,
-    };
-    RealBuildFault::Build(refused(name, refusal))
+    }
 }
 
 /// Reads the file of an entry, and adds what it gives.

@@ -1,0 +1,6 @@
+pub mod Agreed
+pub mod Carried
+pub mod Halted
+pub mod OneOutcome
+pub mod Staged
+pub mod Walked
