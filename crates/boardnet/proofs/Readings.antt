@@ -1,9 +1,14 @@
 -- From what the stages of a reading give to what `between` reads, and to why it does not.
-use Rattle.std.proofs.Common.{◌≡◌, ◌≤◌, inl, inr, ℕ, List, refl, sym, subst, arith}
+use Rattle.std.proofs.Common.{◌≡◌, ◌≤◌, inl, inr, ℕ, List, length, Some, slice_get, option_map, ap, refl, sym, subst, ◌∙◌, arith}
+use Rattle.std.proofs.lemmas.Option.{slice_get-map, slice_get_within}
+use Rattle.arc_covers.specs.Faults.{IsBoundsFault}
 use Rattle.arc_covers.specs.declared.between.BoundsFault.{BoundsFault}
+use Rattle.arc_covers.specs.declared.between.BoundsFault.TheVariants as bounds
+use Rattle.arc_layer.specs.Real.{PlainReal, plain_real, plain_reals}
+use Rattle.arcs.specs.declared.real_shape.RealShape.{RealShape}
 use Rattle.board_io.specs.Handed.{Grows, Handed}
 use Rattle.board_io.specs.Package.{IsFaultless}
-use Rattle.board_package.proofs.Lift.{faultless_both, kept_after}
+use Rattle.board_package.proofs.Lift.{faultless_both, kept, kept_after}
 use Rattle.board_package.proofs.Staging.{carry}
 use Rattle.board_package.specs.Causes.{HandedCause, KeepsFaults}
 use Rattle.board_package.specs.HandedBoard.{ComesHanded, ComesNext, IsBoardHanded, IsFirstStopHanded, IsHanded, StopsHanding}
@@ -11,18 +16,22 @@ use Rattle.board_package.specs.PackageBoard.{Stop, absent, longer, not_json, bad
 use Rattle.board_package.specs.declared.fault.BuildFault.{BuildFault}
 use Rattle.board_package.specs.declared.fault.BuildFault.TheVariants as build
 use Rattle.board_package.specs.declared.contents.Refusal.TheVariants as refusal
+use Rattle.board_shapes.specs.Pieces.{PlainPiece}
 use Rattle.board_shapes.specs.Plain.{PlainBoard}
+use Rattle.board_shapes.specs.declared.placed.Placed.{Placed}
 use Rattle.boardnet.specs.Answers.{behind_of, unreal_of}
+use Rattle.boardnet.specs.Bounded.{AreBoundedBy, AreCounted, ComesFrom, IsDecisionOn, IsUnboundBy}
 use Rattle.boardnet.specs.Command.{BoundNames}
 use Rattle.boardnet.specs.Ends.{StopsFor}
 use Rattle.boardnet.specs.HandedOutcome.{HasHandedReason}
 use Rattle.boardnet.specs.Kept.{LeftBy}
-use Rattle.boardnet.specs.Outcome.{ComesFor, HandedOver}
-use Rattle.boardnet.specs.Unbounded.{IsBehindReason}
+use Rattle.boardnet.specs.Outcome.{ComesFor, HandedOver, IsDecided, Source}
+use Rattle.boardnet.specs.Unbounded.{IsBehindReason, IsInRange, IsNoCounts, IsNotTaken, IsUnboundedBy}
 use Rattle.boardnet.specs.Words.{Between}
 use Rattle.boardnet.specs.commands.Between.{AreRead, IsOfFile, at_counts, at_lower, at_real, at_upper}
 use Rattle.boardnet.specs.declared.answer.Unanswered.{Unanswered}
-use Rattle.boardnet.specs.declared.answer.Unanswered.TheVariants.{Stopped, NotJson, NotAManifest}
+use Rattle.boardnet.specs.declared.answer.Unanswered.TheVariants.{Stopped, NotJson, NotAManifest, Unbound}
+use Rattle.boardnet.specs.declared.unbound.Unbound.TheVariants.{NotCounts}
 use Rattle.real_package.specs.HandedReal.{IsFirstRealStopHanded, IsRealBoardHanded, RealComesHanded}
 use Rattle.real_package.specs.RealBoards.{PlainRealBoard}
 use Rattle.real_package.specs.RealCauses.{HandedRealCause, KeepsRealFaults}
@@ -102,3 +111,48 @@ counts_reason names a b c d e r l u before mid now lost why le g h i j far near 
       stops = λ stop x. (at_counts stop, record { board = r; behind = (b, (g, far), is, record { board = l; behind = (c, (h, near), it, record { board = u; behind = (d, (i, j), at, x) }) }) }, refl);
       comes = λ name x. inr (inr (inr (record { board = r; behind = (b, (g, far), is, record { board = l; behind = (c, (h, near), it, record { board = u; behind = (d, (i, j), at, x) }) }) })));
     }) le s
+
+-- what is left where nothing changed, whatever the reason
+pub left_calm : (a : ℕ) (l : List ℕ) (b : ℕ) (m : List ℕ) (why : Unanswered) → IsFaultless a l b m → LeftBy a l b m why
+left_calm a l b m (Stopped why) h = kept a l b m why h
+left_calm a l b m other h = h
+
+-- ---- Why the boards are no bounds
+
+-- a fault of bounds is of a real piece
+pub in_range : (pieces : List (Placed RealShape)) (lower upper : List PlainPiece) (lc uc : List ℕ) (why : BoundsFault) → IsBoundsFault pieces lc lower uc upper why → IsInRange (length pieces) why
+in_range pieces lower upper lc uc (bounds.Counts side) h = tt
+in_range pieces lower upper lc uc (bounds.Piece side n) h = slice_get_within pieces n h.piece h.there
+in_range pieces lower upper lc uc bounds.NoMemory h = tt
+
+-- the real piece of a number comes from its origin
+pub comes_from : (real : PlainRealBoard) (pieces : List (Placed RealShape)) (n : ℕ) (piece : Placed RealShape) → plain_reals pieces ≡ real.pieces → slice_get pieces n ≡ Some piece → ComesFrom real n piece.origin
+comes_from real pieces n piece e at =
+    (plain_real piece, ap (λ (xs : List PlainReal). slice_get xs n) (sym e) ∙ (slice_get-map plain_real pieces n ∙ ap (option_map plain_real) at), refl)
+
+pub no_counts : (r : PlainRealBoard) (l u : PlainBoard) (bytes : List ℕ) (why : Unanswered) → IsNoCounts bytes why → IsUnboundedBy r l u bytes why
+no_counts r l u bytes (Unbound (NotCounts line)) h = h
+no_counts r l u bytes (Unbound other) h = absurd h
+no_counts r l u bytes (Stopped why) h = h
+no_counts r l u bytes other h = absurd h
+
+pub not_taken : (r : PlainRealBoard) (l u : PlainBoard) (bytes : List ℕ) (c : AreCounted r l u bytes) (why : BoundsFault) (given : Unanswered)
+    → IsBoundsFault c.pieces c.lower_counts l.pieces c.upper_counts u.pieces why → IsNotTaken r why given → IsUnboundedBy r l u bytes given
+not_taken r l u bytes c (bounds.Counts side) given h is = subst (IsUnboundedBy r l u bytes) (sym is) (record { counted = c; off = h })
+not_taken r l u bytes c (bounds.Piece side n) given h (origin, is, from) = subst (IsUnboundedBy r l u bytes) (sym is) (n, record { counted = c; off = h }, from)
+not_taken r l u bytes c bounds.NoMemory given h is = subst (IsUnboundedBy r l u bytes) (sym is) refl
+
+-- ---- What is answered
+
+pub unbounded_reason : (source : Source) (names : BoundNames) (r : PlainRealBoard) (l u : PlainBoard) (bytes text : List ℕ) (before now : ℕ) (lost : List ℕ) (why : Unanswered)
+    → AreRead source names r l u bytes → text ≡ bytes → IsUnboundedBy r l u text why → HasHandedReason source (Between names) before now lost why
+unbounded_reason source names r l u bytes text before now lost (Unbound reason) is e h = record { real = r; lower = l; upper = u; bytes = bytes; read = is; unbound = subst (λ (z : List ℕ). IsUnboundBy r l u z reason) e h }
+unbounded_reason source names r l u bytes text before now lost (Stopped why) is e h = subst (λ (w : BuildFault). HasHandedReason source (Between names) before now lost (Stopped w)) (sym h) tt
+unbounded_reason source names r l u bytes text before now lost other is e h = absurd h
+
+pub decided_is : (source : Source) (names : BoundNames) (r : PlainRealBoard) (l u : PlainBoard) (bytes seen text line : List ℕ) (status : ℕ)
+    → AreRead source names r l u bytes → seen ≡ bytes → AreBoundedBy r l u seen → IsDecisionOn r l u text status line → IsDecided source names text status line
+decided_is source names r l u bytes seen text line status is e b d = record {
+  bounds = record { real = r; lower = l; upper = u; bytes = bytes; read = is; bounded = subst (AreBoundedBy r l u) e b };
+  decision = d;
+}

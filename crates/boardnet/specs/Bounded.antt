@@ -69,10 +69,10 @@ IsUnboundBy real lower upper bytes (Piece side origin) = (n : ℕ) × AreNotTake
 
 -- ---- Their lines
 
--- a real piece that is not bounded on a side
-abbrev pub piece_line : List ℕ → Side → Origin → List ℕ
-piece_line real side origin =
-    concat (begin ∷ real ∷ codes ": file " ∷ decimal origin.file ∷ codes ", command " ∷ decimal origin.command ∷ codes ", copy " ∷ decimal origin.copy ∷ on_side side (codes ": not bounded below") (codes ": not bounded above") ∷ end ∷ [])
+-- where a real piece comes from, and what is said of it
+abbrev pub piece_line : List ℕ → List ℕ → Origin → List ℕ
+piece_line real what origin =
+    concat (begin ∷ real ∷ codes ": file " ∷ decimal origin.file ∷ codes ", command " ∷ decimal origin.command ∷ codes ", copy " ∷ decimal origin.copy ∷ what ∷ end ∷ [])
 
 -- a file of counts that is none, at the number of a line
 abbrev pub not_counts_line : List ℕ → ℕ → List ℕ
@@ -83,7 +83,7 @@ abbrev pub unbound_line : (real counts : List ℕ) → Unbound → List ℕ
 unbound_line real counts (NotCounts line) = not_counts_line counts line
 unbound_line real counts (Netlist side) = file_line real (on_side side (codes "lower board has another netlist") (codes "upper board has another netlist"))
 unbound_line real counts (Counts side) = file_line counts (on_side side (codes "counts below do not add up") (codes "counts above do not add up"))
-unbound_line real counts (Piece side origin) = piece_line real side origin
+unbound_line real counts (Piece side origin) = piece_line real (on_side side (codes ": not bounded below") (codes ": not bounded above")) origin
 
 -- ---- What is decided
 

@@ -1,16 +1,15 @@
 //! The text of `between`, and what is decided by two verdicts of a board between theirs.
 ghost use Rattle.boardnet.specs.BetweenText as spec;
 ghost use Rattle.boardnet.specs.BetweenText.{NoneFound, between_text, findings_part, point_line, probe_text};
-ghost use Rattle.std.specs.Prelude.{IfOk, IsTrue, OnOk, Option, ◌++◌, ◌∷◌, ◌≡◌, ◌↔◌};
-ghost use Rattle.std.specs.Option.{option_copied};
-ghost use Rattle.verdict.specs.ReportText.{count_line, word};
+ghost use Rattle.std.specs.Prelude.{IfOk, IsTrue, OnOk, Some, [], slice_index_or, ◌++◌, ◌≡◌, ◌↔◌};
+ghost use Rattle.verdict.specs.ReportText.{count_line, signed_word};
 
 use board_shapes::Probe;
 use lengths::rows::NoMemory;
 use lengths::text::Text;
 use std::alloc::{AllocError, Global};
 use texts::{put, put_blank_number, put_signed};
-use verdict::{Branch, Open, Short, Verdict};
+use verdict::{Open, Short, Verdict};
 
 /// Whether there is no finding.
 pub fn none_found(opens: &[Open], shorts: &[Short], bare: &[u32]) -> bool
@@ -83,8 +82,8 @@ fn push_opens(
     ensures { OnOk result (out.new.items ≡ out.old.items ++ spec.opens_part probes.now names.now opens.now) }
 {
     push_count(out, b"opens", opens.len())?;
-    for open in opens {
-        push_point(out, b"open", probes, names, open.probe)?;
+    for entry in opens {
+        push_point(out, b"open", probes, names, entry.probe)?;
     }
     Ok(())
 }

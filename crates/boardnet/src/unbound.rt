@@ -34,7 +34,7 @@ impl Unbound {
             Unbound::NotCounts(line) => lines::not_counts(notes, counts, line),
             Unbound::Netlist(side) => lines::about_file(notes, real, other_netlist(side)),
             Unbound::Counts(side) => lines::about_file(notes, counts, other_counts(side)),
-            Unbound::Piece { side, origin } => put_piece(real, side, origin, notes),
+            Unbound::Piece { side, origin } => put_piece(real, not_bounded(side), origin, notes),
         }
     }
 }
@@ -66,9 +66,9 @@ fn not_bounded(side: Side) -> &'static [u8]
     }
 }
 
-// Puts the line of a real piece that is not bounded on that side.
-fn put_piece<N: Sink>(real: &[u8], side: Side, origin: Origin, notes: &mut N)
-    ensures { Says N.got N.faults notes.old notes.new (piece_line real.now side origin) }
+// Puts the line of a real piece, with what is said of it.
+fn put_piece<'a, N: Sink>(real: &'a [u8], what: &'a [u8], origin: Origin, notes: &mut N)
+    ensures { Says N.got N.faults notes.old notes.new (piece_line real.now what.now origin) }
 {
     lines::put_all(
         notes,
@@ -81,7 +81,7 @@ fn put_piece<N: Sink>(real: &[u8], side: Side, origin: Origin, notes: &mut N)
             Numeral::of(u64::from(origin.command)).as_bytes(),
             b", copy ",
             Numeral::of(u64::from(origin.copy)).as_bytes(),
-            not_bounded(side),
+            what,
             b"\n",
         ],
     );
