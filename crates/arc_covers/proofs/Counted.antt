@@ -88,34 +88,34 @@ cons_is : {A : Type 0} {a b : A} {xs ys : List A} → a ≡ b → xs ≡ ys → 
 cons_is p q = cc
 
 first_of : (b a c d : ℕ) (l u m v r s : List ℕ) → IsEven (b ∷ l) (a ∷ u) → IsEven (c ∷ m) (d ∷ v) → count_lines (b ∷ l) (a ∷ u) ++ r ≡ count_lines (c ∷ m) (d ∷ v) ++ s → (b ≡ c) × (a ≡ d) × (count_lines l u ++ r ≡ count_lines m v ++ s)
-first_of b a c d l u m v r s is as e =
-    line_one b a c d (count_lines l u ++ r) (count_lines m v ++ s) (All-head IsCount b l is.below) (All-head IsCount a u is.above) (All-head IsCount c m as.below) (All-head IsCount d v as.above)
+first_of b a c d l u m v r s is at e =
+    line_one b a c d (count_lines l u ++ r) (count_lines m v ++ s) (All-head IsCount b l is.below) (All-head IsCount a u is.above) (All-head IsCount c m at.below) (All-head IsCount d v at.above)
     (sym (append_assoc (count_line b a) (count_lines l u) r) ∙ (e ∙ append_assoc (count_line c d) (count_lines m v) s))
 
 -- lines of one number
 as_long : (l u m v r s : List ℕ) → IsEven l u → IsEven m v → length l ≡ length m → count_lines l u ++ r ≡ count_lines m v ++ s → (l ≡ m) × (u ≡ v) × (r ≡ s)
-as_long [] [] [] [] r s is as n e = (refl, refl, e)
-as_long [] [] [] (d ∷ v) r s is as n e = let even = as.even in absurd (omega arith)
-as_long [] [] (c ∷ m) v r s is as n e = absurd (omega arith)
-as_long [] (a ∷ u) m v r s is as n e = let even = is.even in absurd (omega arith)
-as_long (b ∷ l) [] m v r s is as n e = let even = is.even in absurd (omega arith)
-as_long (b ∷ l) (a ∷ u) [] v r s is as n e = absurd (omega arith)
-as_long (b ∷ l) (a ∷ u) (c ∷ m) [] r s is as n e = let even = as.even in absurd (omega arith)
-as_long (b ∷ l) (a ∷ u) (c ∷ m) (d ∷ v) r s is as n e =
-    let head = first_of b a c d l u m v r s is as e in
-    let tail = as_long l u m v r s (rest_even b a l u is) (rest_even c d m v as) (omega arith) head.2 in
+as_long [] [] [] [] r s is at n e = (refl, refl, e)
+as_long [] [] [] (d ∷ v) r s is at n e = let even = at.even in absurd (omega arith)
+as_long [] [] (c ∷ m) v r s is at n e = absurd (omega arith)
+as_long [] (a ∷ u) m v r s is at n e = let even = is.even in absurd (omega arith)
+as_long (b ∷ l) [] m v r s is at n e = let even = is.even in absurd (omega arith)
+as_long (b ∷ l) (a ∷ u) [] v r s is at n e = absurd (omega arith)
+as_long (b ∷ l) (a ∷ u) (c ∷ m) [] r s is at n e = let even = at.even in absurd (omega arith)
+as_long (b ∷ l) (a ∷ u) (c ∷ m) (d ∷ v) r s is at n e =
+    let head = first_of b a c d l u m v r s is at e in
+    let tail = as_long l u m v r s (rest_even b a l u is) (rest_even c d m v at) (omega arith) head.2 in
     (cons_is head.0 tail.0, cons_is head.1 tail.1, tail.2)
 
 -- of more lines than stood here, the next stands behind them
 fewer : (l u m v r s : List ℕ) → IsEven l u → IsEven m v → length l < length m → count_lines l u ++ r ≡ count_lines m v ++ s → Begins r
-fewer [] [] [] v r s is as n e = absurd (omega arith)
-fewer [] [] (c ∷ m) [] r s is as n e = let even = as.even in absurd (omega arith)
-fewer [] [] (c ∷ m) (d ∷ v) r s is as n e = (c, d, count_lines m v ++ s, All-head IsCount c m as.below, All-head IsCount d v as.above, e ∙ append_assoc (count_line c d) (count_lines m v) s)
-fewer [] (a ∷ u) m v r s is as n e = let even = is.even in absurd (omega arith)
-fewer (b ∷ l) [] m v r s is as n e = let even = is.even in absurd (omega arith)
-fewer (b ∷ l) (a ∷ u) [] v r s is as n e = absurd (omega arith)
-fewer (b ∷ l) (a ∷ u) (c ∷ m) [] r s is as n e = let even = as.even in absurd (omega arith)
-fewer (b ∷ l) (a ∷ u) (c ∷ m) (d ∷ v) r s is as n e = fewer l u m v r s (rest_even b a l u is) (rest_even c d m v as) (omega arith) (first_of b a c d l u m v r s is as e).2
+fewer [] [] [] v r s is at n e = absurd (omega arith)
+fewer [] [] (c ∷ m) [] r s is at n e = let even = at.even in absurd (omega arith)
+fewer [] [] (c ∷ m) (d ∷ v) r s is at n e = (c, d, count_lines m v ++ s, All-head IsCount c m at.below, All-head IsCount d v at.above, e ∙ append_assoc (count_line c d) (count_lines m v) s)
+fewer [] (a ∷ u) m v r s is at n e = let even = is.even in absurd (omega arith)
+fewer (b ∷ l) [] m v r s is at n e = let even = is.even in absurd (omega arith)
+fewer (b ∷ l) (a ∷ u) [] v r s is at n e = absurd (omega arith)
+fewer (b ∷ l) (a ∷ u) (c ∷ m) [] r s is at n e = let even = at.even in absurd (omega arith)
+fewer (b ∷ l) (a ∷ u) (c ∷ m) (d ∷ v) r s is at n e = fewer l u m v r s (rest_even b a l u is) (rest_even c d m v at) (omega arith) (first_of b a c d l u m v r s is at e).2
 
 -- ---- files
 
@@ -127,9 +127,9 @@ evenly : (bytes lower upper : List ℕ) → AreCounts bytes lower upper → IsEv
 evenly bytes lower upper is = record { even = is.even; below = is.below; above = is.above }
 
 -- two fronts of the same bytes
-module _ (bytes f l u r g m v s : List ℕ) (is : AreCounts f l u) (as : AreCounts g m v) (e : bytes ≡ f ++ r) (d : bytes ≡ g ++ s) where
+module _ (bytes f l u r g m v s : List ℕ) (is : AreCounts f l u) (at : AreCounts g m v) (e : bytes ≡ f ++ r) (d : bytes ≡ g ++ s) where
   lines_same : count_lines l u ++ r ≡ count_lines m v ++ s
-  lines_same = cancel first_line (count_lines l u ++ r) (count_lines m v ++ s) (sym (whole f l u r is) ∙ (sym e ∙ (d ∙ whole g m v s as)))
+  lines_same = cancel first_line (count_lines l u ++ r) (count_lines m v ++ s) (sym (whole f l u r is) ∙ (sym e ∙ (d ∙ whole g m v s at)))
     where
       whole : (f l u r : List ℕ) → AreCounts f l u → f ++ r ≡ first_line ++ (count_lines l u ++ r)
       whole f l u r is = ap (λ (t : List ℕ). t ++ r) is.spelled ∙ append_assoc first_line (count_lines l u) r
@@ -140,13 +140,13 @@ module _ (bytes f l u r g m v s : List ℕ) (is : AreCounts f l u) (as : AreCoun
   -- behind the fewer stands a line, or both are one
   fronts : Begins r ⊎ (((l ≡ m) × (u ≡ v) × (r ≡ s)) ⊎ Begins s)
   fronts = elim (cases (length l) (length m)) [
-    | inl less ↦ inl (fewer l u m v r s (evenly f l u is) (evenly g m v as) less lines_same)
-    | inr (inl same) ↦ inr (inl (as_long l u m v r s (evenly f l u is) (evenly g m v as) same lines_same))
-    | inr (inr more) ↦ inr (inr (fewer m v l u s r (evenly g m v as) (evenly f l u is) more (sym lines_same)))
+    | inl less ↦ inl (fewer l u m v r s (evenly f l u is) (evenly g m v at) less lines_same)
+    | inr (inl same) ↦ inr (inl (as_long l u m v r s (evenly f l u is) (evenly g m v at) same lines_same))
+    | inr (inr more) ↦ inr (inr (fewer m v l u s r (evenly g m v at) (evenly f l u is) more (sym lines_same)))
   ]
 
 pub one : (bytes lower upper lower' upper' : List ℕ) → AreCounts bytes lower upper → AreCounts bytes lower' upper' → (lower ≡ lower') × (upper ≡ upper')
-one bytes l u m v is as = elim (fronts bytes bytes l u [] bytes m v [] is as (sym (append-nil bytes)) (sym (append-nil bytes))) [
+one bytes l u m v is at = elim (fronts bytes bytes l u [] bytes m v [] is at (sym (append-nil bytes)) (sym (append-nil bytes))) [
   | inl here ↦ absurd (none_begins here)
   | inr (inl same) ↦ (same.0, same.1)
   | inr (inr there) ↦ absurd (none_begins there)
@@ -186,6 +186,21 @@ first bytes (suc (suc k)) (suc (suc j)) o p = elim (fronts bytes o.front o.lower
 
 -- ---- what the code finds
 
+pub none_some : {A : Type 0} (x : A) → None ≡ Some x → ⊥
+none_some x e = absurd cc
+
+pub longer : (xs ys : List ℕ) (x : ℕ) → ys ≡ xs ++ x ∷ [] → length ys ≡ length xs + 1
+longer xs ys x e = ap length e ∙ length-append xs (x ∷ [])
+
+pub all_more : (xs ys : List ℕ) (x : ℕ) → ys ≡ xs ++ x ∷ [] → All IsCount xs → IsCount x → All IsCount ys
+all_more xs ys x e all one = subst (λ (t : List ℕ). All IsCount t) (sym e) (All-append IsCount xs (x ∷ []) all (All-cons IsCount x [] one (All-nil IsCount)))
+
+pub lines_next : (lines lower upper rest lower' upper' : List ℕ) (below above : ℕ) (after : List ℕ) → length lower ≡ length upper → lower' ≡ lower ++ below ∷ [] → upper' ≡ upper ++ above ∷ [] → rest ≡ count_line below above ++ after → lines ≡ count_lines lower upper ++ rest
+    → lines ≡ count_lines lower' upper' ++ after
+lines_next lines lower upper rest lower' upper' below above after even low up is whole =
+    whole ∙ (ap (λ (t : List ℕ). count_lines lower upper ++ t) is ∙ (sym (lines_more lower upper below above after even) ∙
+    (ap (λ (t : List ℕ). count_lines t (upper ++ above ∷ []) ++ after) (sym low) ∙ ap (λ (t : List ℕ). count_lines lower' t ++ after) (sym up))))
+
 pub other_line : (bytes rest lower upper : List ℕ) (line : ℕ) → line ≡ length lower + 2 → length lower ≡ length upper → All IsCount lower → All IsCount upper → bytes ≡ count_lines lower upper ++ rest → (rest ≡ [] → ⊥) → both_at rest ≡ None → IsFirstOther (first_line ++ bytes) line
 other_line bytes rest lower upper line n even below above whole some none = subst (IsFirstOther (first_line ++ bytes)) (sym number) found
   where
@@ -202,11 +217,8 @@ other_line bytes rest lower upper line n even below above whole some none = subs
       rest = rest;
       whole = ap (λ (t : List ℕ). first_line ++ t) whole ∙ sym (append_assoc first_line (count_lines lower upper) rest);
       some = some;
-      other = λ b a more few many e. no_some ((b, a), more) (sym none ∙ (ap both_at e ∙ both_again b a more few many));
+      other = λ b a more few many e. none_some ((b, a), more) (sym none ∙ (ap both_at e ∙ both_again b a more few many));
     }
-      where
-        no_some : {A : Type 0} (x : A) → None ≡ Some x → ⊥
-        no_some x e = absurd cc
 
 pub all_lines : (bytes rest lower upper : List ℕ) → length lower ≡ length upper → All IsCount lower → All IsCount upper → bytes ≡ count_lines lower upper ++ rest → rest ≡ [] → AreCounts (first_line ++ bytes) lower upper
 all_lines bytes rest lower upper even below above whole none = record {

@@ -1,4 +1,5 @@
 mod Bounded
+mod Counted
 mod Covered
 mod Figures
 mod Shares

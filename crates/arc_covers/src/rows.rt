@@ -2,7 +2,7 @@
 ghost use Rattle.arc_covers.specs.Bounds.{IsOn, capsules_from, capsules_of, figures_of};
 ghost use Rattle.arc_covers.specs.Taken.{StandTaken};
 ghost use Rattle.arcs.specs.declared.real_shape.RealShape.TheVariants.{ArcDraw, Plain};
-ghost use Rattle.board_shapes.specs.Figures.{area_figure, capsule_figure, figure_of, round};
+ghost use Rattle.board_shapes.specs.Figures.{Figure, area_figure, capsule_figure, figure_of, round};
 ghost use Rattle.board_shapes.specs.Pieces.{plain_piece, plain_pieces};
 ghost use Rattle.planar.specs.declared.Spot.{Spot};
 ghost use Rattle.std.specs.Prelude.{All, IfNone, IfOk, IfSome, IsTrue, List, length, pos, ◌≡◌, ◌↔◌, ◌∷◌, []};
@@ -100,13 +100,33 @@ fn chain_of(
     chain.push(start)?;
     let mut from = start;
     for piece in pieces {
-        let Some(to) = next_spot(&piece.shape, from, r) else {
-            return Ok(None);
-        };
-        chain.push(to)?;
-        from = to;
+        match next_spot(&piece.shape, from, r) {
+            Some(to) => {
+                chain.push(to)?;
+                from = to;
+            }
+            None => return Ok(None),
+        }
     }
     Ok(Some(chain))
+}
+
+/// Whether the pieces, of which the first is this capsule, are the capsules of a chain that is taken.
+fn begin_chain(
+    alloc: Global,
+    side: Side,
+    arc: &Arc,
+    pieces: &[Piece],
+    first: &Capsule,
+) -> Result<bool, NoMemory>
+    requires { (figures : List Figure) × (figures_of (plain_pieces pieces.now) ≡ capsule_figure first.now ∷ figures) }
+    ensures { IfOk result (λ yes. IsTrue yes ↔ StandTaken side (ArcDraw arc.now) (figures_of (plain_pieces pieces.now))) }
+{
+    let r = first.r.unsigned_abs();
+    match chain_of(alloc, pieces, first.a, r)? {
+        Some(chain) => Ok(is_taken(side, arc, &chain, r)),
+        None => Ok(false),
+    }
 }
 
 /// Whether the pieces are the capsules of a chain that is taken for the arc draw. `NoMemory` where memory
@@ -114,15 +134,11 @@ fn chain_of(
 pub fn are_chain(alloc: Global, side: Side, arc: &Arc, pieces: &[Piece]) -> Result<bool, NoMemory>
     ensures { IfOk result (λ yes. IsTrue yes ↔ StandTaken side (ArcDraw arc.now) (figures_of (plain_pieces pieces.now))) }
 {
-    let Some(first) = pieces.first() else {
-        return Ok(is_taken(side, arc, &[], 0));
-    };
-    let Shape::Round(capsule) = &first.shape else {
-        return Ok(false);
-    };
-    let r = capsule.r.unsigned_abs();
-    match chain_of(alloc, pieces, capsule.a, r)? {
-        Some(chain) => Ok(is_taken(side, arc, &chain, r)),
-        None => Ok(false),
+    match pieces.first() {
+        None => Ok(is_taken(side, arc, &[], 0)),
+        Some(first) => match &first.shape {
+            Shape::Round(capsule) => begin_chain(alloc, side, arc, pieces, capsule),
+            Shape::Filled(_) => Ok(false),
+        },
     }
 }
