@@ -1,5 +1,5 @@
 -- Each kind of refusal of copper files with arcs has a number of its own.
-use Rattle.std.proofs.Common.{◌≡◌, ℕ, List, [], ◌∷◌, get_or, refl, sym, ap, ◌∙◌}
+use Rattle.std.proofs.Common.{◌≡◌, ℕ, List, [], ◌∷◌, get_or, refl, sym, ap, ◌∙◌, arith}
 use Rattle.gerber_layer.specs.MacroKinds.{flatten_number}
 use Rattle.gerber_layer.specs.declared.kind.GerberKind.TheVariants as kind
 use Rattle.gerber_layer.specs.declared.macro_kind.FlattenKind.{FlattenKind}
@@ -57,10 +57,10 @@ last_of a n same is = let last : a ≡ NoCentre = sym (at_its_number a) ∙ (ap 
 
 pub apart : (a : RealKind) (b : FlattenKind) → real_number a ≡ flatten_number b → AreOneGerber a b
 apart a (flatten.Gerber kind) same = (kind, one_number a (Gerber kind) same, refl)
-apart a flatten.BadMacro same = absurd (last_of a 31 same refl)
-apart a flatten.MacroTwice same = absurd (last_of a 32 same refl)
-apart a flatten.NoMacro same = absurd (last_of a 33 same refl)
-apart a flatten.ExposureOff same = absurd (last_of a 34 same refl)
-apart a flatten.Turn same = absurd (last_of a 35 same refl)
-apart a flatten.Slanted same = absurd (last_of a 36 same refl)
-apart a flatten.TooManyRadii same = absurd (last_of a 37 same refl)
+apart a flatten.BadMacro same = let e = last_of a 31 same refl in absurd (omega (arith, e))
+apart a flatten.MacroTwice same = let e = last_of a 32 same refl in absurd (omega (arith, e))
+apart a flatten.NoMacro same = let e = last_of a 33 same refl in absurd (omega (arith, e))
+apart a flatten.ExposureOff same = let e = last_of a 34 same refl in absurd (omega (arith, e))
+apart a flatten.Turn same = let e = last_of a 35 same refl in absurd (omega (arith, e))
+apart a flatten.Slanted same = let e = last_of a 36 same refl in absurd (omega (arith, e))
+apart a flatten.TooManyRadii same = let e = last_of a 37 same refl in absurd (omega (arith, e))
