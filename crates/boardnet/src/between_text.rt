@@ -195,11 +195,8 @@ fn last(below: &Verdict, above: &Verdict) -> &'static [u8]
 pub fn nothing_possible(below: &Verdict, above: &Verdict) -> bool
     ensures { IsTrue result ↔ spec.NothingPossible below.now above.now }
 {
-    none_found(
-        below.opens.as_slice(),
-        above.shorts.as_slice(),
-        below.bare.as_slice(),
-    )
+    let shorts = above.shorts.as_slice();
+    none_found(below.opens.as_slice(), shorts, below.bare.as_slice())
 }
 
 /// Whether nothing is amiss in each of them.
