@@ -1,6 +1,6 @@
 -- A refusal of a reader is why the file of an entry is not read.
 use Rattle.std.proofs.Common.{◌≡◌, ◌⊎◌, inl, inr, ℕ, List, refl, sym, subst}
-use Rattle.arc_layer.specs.Real.{IsRealFault, IsRealRefused}
+use Rattle.arc_layer.specs.Real.{IsRealCopper, IsRealFault, IsRealRefused, PlainReal}
 use Rattle.arc_layer.specs.declared.kind.RealFault.{RealFault}
 use Rattle.arc_layer.specs.declared.kind.RealFault.TheVariants as real_fault
 use Rattle.arc_layer.specs.declared.kind.RealKind.{RealKind}
@@ -9,11 +9,9 @@ use Rattle.board_shapes.specs.declared.placed.Room.{Room}
 use Rattle.ipc356_records.specs.NetlistFile as netlist_file
 use Rattle.ipc356_records.specs.declared.kind.RecordFault.{RecordFault}
 use Rattle.ipc356_records.specs.declared.kind.RecordFault.TheVariants as record_fault
-use Rattle.ipc356_records.specs.declared.kind.RecordKind.{RecordKind}
 use Rattle.xnc.specs.DrillFile as drill_file
 use Rattle.xnc.specs.declared.kind.DrillFault.{DrillFault}
 use Rattle.xnc.specs.declared.kind.DrillFault.TheVariants as drill_fault
-use Rattle.xnc.specs.declared.kind.DrillKind.{DrillKind}
 use Rattle.board_package.specs.Causes.{HasRefusal}
 use Rattle.board_package.specs.declared.contents.Refusal.{Refusal}
 use Rattle.board_package.specs.declared.contents.Refusal.TheVariants as refusal
@@ -22,9 +20,9 @@ use Rattle.board_package.specs.declared.entry.Role.{Role}
 use Rattle.board_package.specs.declared.entry.Role.TheVariants as role
 use Rattle.board_package.specs.declared.fault.BuildFault.{BuildFault}
 use Rattle.board_package.specs.declared.fault.BuildFault.TheVariants as build
-use Rattle.real_package.specs.RealBoards.{PlainRealBoard, room_left}
-use Rattle.real_package.specs.RealCauses.{HaltsReal, IsCopperRefusal}
-use Rattle.real_package.specs.RealFiles.{IsOfArcs, RefusesArc, RefusesReal, copper_place}
+use Rattle.real_package.specs.RealBoards.{PlainRealBoard, room_left, with_reals}
+use Rattle.real_package.specs.RealCauses.{HaltsReal, IsCopperFault, IsCopperRefusal, IsDrillFault, IsNetlistFault}
+use Rattle.real_package.specs.RealFiles.{IsOfArcs, ReadsReal, RefusesArc, RefusesReal, copper_place}
 use Rattle.real_package.specs.declared.fault.RealBuildFault.{RealBuildFault}
 use Rattle.real_package.specs.declared.fault.RealBuildFault.TheVariants as fault
 
@@ -47,23 +45,31 @@ copper_as e layer bytes before kinds.OffsetsAmiss command at given is refuses ha
 copper_as e layer bytes before kinds.NoQuadrants command at given is refuses has = copper_by e layer bytes before kinds.NoQuadrants command at given is refuses tt has
 copper_as e layer bytes before kinds.NoCentre command at given is refuses has = copper_by e layer bytes before kinds.NoCentre command at given is refuses tt has
 
-pub copper_halts : (e : Entry) (layer : ℕ) (bytes : List ℕ) (before : PlainRealBoard) (room : Room) (why : RealFault) (kind : RealKind) (command at : ℕ) (given : RealBuildFault) → e.role ≡ role.Copper layer → room ≡ room_left before.pieces
-    → IsRealFault bytes (record { layer = layer; file = e.number; room = room }) why → why ≡ real_fault.Refused kind command at → IsCopperRefusal e.name kind command at given → HaltsReal e bytes before given
-copper_halts e layer bytes before room why kind command at given is left refuses same has =
-    copper_as e layer bytes before kind command at given is
-    (subst (λ (q : Room). IsRealRefused bytes (record { layer = layer; file = e.number; room = q }) kind command at) left
-    (subst (λ (f : RealFault). IsRealFault bytes (record { layer = layer; file = e.number; room = room }) f) same refuses))
-    has
+no_memory : (e : Entry) (bytes : List ℕ) (before : PlainRealBoard) (given : RealBuildFault) → given ≡ fault.Build build.NoMemory → HaltsReal e bytes before given
+no_memory e bytes before given g = subst (λ (f : RealBuildFault). HaltsReal e bytes before f) (sym g) (inl refl)
 
-pub drill_halts : (e : Entry) (from to : ℕ) (bytes : List ℕ) (before : PlainRealBoard) (room : Room) (why : DrillFault) (kind : DrillKind) (line at : ℕ) (given : BuildFault) → e.role ≡ role.Drill from to → room ≡ room_left before.pieces
-    → drill_file.IsFault bytes (record { from = from; to = to; file = e.number; room = room.pieces }) why → why ≡ drill_fault.Refused kind line at → HasRefusal e.name (refusal.Drill kind line at) given → HaltsReal e bytes before (fault.Build given)
-drill_halts e from to bytes before room why kind line at given is left refuses same has =
-    halts_as e (role.Drill from to) bytes before (refusal.Drill kind line at) given is
-    (subst (λ (q : Room). drill_file.IsRefused bytes (record { from = from; to = to; file = e.number; room = q.pieces }) kind line at) left
-    (subst (λ (f : DrillFault). drill_file.IsFault bytes (record { from = from; to = to; file = e.number; room = room.pieces }) f) same refuses))
-    has
+pub copper_halts : (e : Entry) (layer : ℕ) (bytes : List ℕ) (before : PlainRealBoard) (room : Room) (why : RealFault) (given : RealBuildFault) → e.role ≡ role.Copper layer → room ≡ room_left before.pieces
+    → IsRealFault bytes (record { layer = layer; file = e.number; room = room }) why → IsCopperFault e.name why given → HaltsReal e bytes before given
+copper_halts e layer bytes before room (real_fault.Refused kind command at) given is left refuses has =
+    copper_as e layer bytes before kind command at given is (subst (λ (q : Room). IsRealRefused bytes (record { layer = layer; file = e.number; room = q }) kind command at) left refuses) has
+copper_halts e layer bytes before room real_fault.NoMemory given is left refuses g = no_memory e bytes before given g
 
-pub netlist_halts : (e : Entry) (bytes : List ℕ) (before : PlainRealBoard) (why : RecordFault) (kind : RecordKind) (line : ℕ) (given : BuildFault) → e.role ≡ role.Netlist
-    → netlist_file.IsFault bytes before.layers why → why ≡ record_fault.Refused kind line → HasRefusal e.name (refusal.Netlist kind line) given → HaltsReal e bytes before (fault.Build given)
-netlist_halts e bytes before why kind line given is refuses same has =
-    halts_as e role.Netlist bytes before (refusal.Netlist kind line) given is (subst (λ (f : RecordFault). netlist_file.IsFault bytes before.layers f) same refuses) has
+pub drill_halts : (e : Entry) (from to : ℕ) (bytes : List ℕ) (before : PlainRealBoard) (room : Room) (why : DrillFault) (given : RealBuildFault) → e.role ≡ role.Drill from to → room ≡ room_left before.pieces
+    → drill_file.IsFault bytes (record { from = from; to = to; file = e.number; room = room.pieces }) why → IsDrillFault e.name why given → HaltsReal e bytes before given
+drill_halts e from to bytes before room (drill_fault.Refused kind line at) given is left refuses (own, g, has) =
+    subst (λ (f : RealBuildFault). HaltsReal e bytes before f) (sym g)
+    (halts_as e (role.Drill from to) bytes before (refusal.Drill kind line at) own is
+    (subst (λ (q : Room). drill_file.IsRefused bytes (record { from = from; to = to; file = e.number; room = q.pieces }) kind line at) left refuses) has)
+drill_halts e from to bytes before room drill_fault.NoMemory given is left refuses g = no_memory e bytes before given g
+
+pub netlist_halts : (e : Entry) (bytes : List ℕ) (before : PlainRealBoard) (why : RecordFault) (given : RealBuildFault) → e.role ≡ role.Netlist
+    → netlist_file.IsFault bytes before.layers why → IsNetlistFault e.name why given → HaltsReal e bytes before given
+netlist_halts e bytes before (record_fault.Refused kind line) given is refuses (own, g, has) =
+    subst (λ (f : RealBuildFault). HaltsReal e bytes before f) (sym g) (halts_as e role.Netlist bytes before (refusal.Netlist kind line) own is refuses has)
+netlist_halts e bytes before record_fault.NoMemory given is refuses g = no_memory e bytes before given g
+
+-- a copper file that is read takes the board on
+pub copper_reads : (e : Entry) (layer : ℕ) (bytes : List ℕ) (before after : PlainRealBoard) (room : Room) (pieces : List PlainReal) → e.role ≡ role.Copper layer → room ≡ room_left before.pieces
+    → IsRealCopper bytes (record { layer = layer; file = e.number; room = room }) pieces → after ≡ with_reals before pieces → ReadsReal e.role e.number bytes before after
+copper_reads e layer bytes before after room pieces is left read made =
+    subst (λ (x : Role). ReadsReal x e.number bytes before after) (sym is) (pieces, subst (λ (q : Room). IsRealCopper bytes (record { layer = layer; file = e.number; room = q }) pieces) left read, made)

@@ -1,6 +1,7 @@
 pub mod Agreed
 pub mod Carried
 pub mod Halted
+pub mod OnSpans
 pub mod OneOutcome
 pub mod Staged
 pub mod Walked

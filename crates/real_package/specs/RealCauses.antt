@@ -2,6 +2,8 @@
 use Rattle.std.specs.Prelude.{◌≡◌, ◌⊎◌, ℕ, List, Option, Some, None, IfSome, MatchResult, Result}
 use Rattle.arc_layer.specs.declared.kind.RealKind.{RealKind}
 use Rattle.arc_layer.specs.declared.kind.RealKind.TheVariants.{Gerber}
+use Rattle.arc_layer.specs.declared.kind.RealFault.{RealFault}
+use Rattle.arc_layer.specs.declared.kind.RealFault.TheVariants as copper
 use Rattle.board_io.specs.Handed.{Handed}
 use Rattle.board_io.specs.Package.{Files, IsFaultless}
 use Rattle.board_package.specs.Causes.{HasCause, HasRefusal, KeepsFaults}
@@ -10,6 +12,10 @@ use Rattle.board_package.specs.declared.contents.Refusal.TheVariants as refusal
 use Rattle.board_package.specs.declared.entry.Entry.{Entry}
 use Rattle.board_package.specs.declared.fault.BuildFault.{BuildFault}
 use Rattle.board_package.specs.declared.fault.BuildFault.TheVariants as build
+use Rattle.ipc356_records.specs.declared.kind.RecordFault.{RecordFault}
+use Rattle.ipc356_records.specs.declared.kind.RecordFault.TheVariants as netlist
+use Rattle.xnc.specs.declared.kind.DrillFault.{DrillFault}
+use Rattle.xnc.specs.declared.kind.DrillFault.TheVariants as drill
 use Rattle.real_package.specs.HandedReal.{IsFirstRealStopHanded, IsRealBoardHanded, RealComesHanded}
 use Rattle.real_package.specs.RealBoards.{PlainRealBoard, plain_real_board}
 use Rattle.real_package.specs.RealFiles.{RefusesArc, RefusesReal}
@@ -36,6 +42,19 @@ KeepsRealFaults count lost count' lost' (fault.Arc name kind command at) = IsFau
 abbrev pub IsCopperRefusal : List ℕ → RealKind → ℕ → ℕ → RealBuildFault → Type 0
 IsCopperRefusal name (Gerber kind) command at given = (why : BuildFault) × (given ≡ fault.Build why) × HasRefusal name (refusal.Layer kind command at) why
 IsCopperRefusal name kind command at given = (given ≡ fault.Arc name kind command at) ⊎ (given ≡ fault.Build build.NoMemory)
+
+-- the fault of a file of this name whose reader gave this
+abbrev pub IsCopperFault : List ℕ → RealFault → RealBuildFault → Type 0
+IsCopperFault name (copper.Refused kind command at) given = IsCopperRefusal name kind command at given
+IsCopperFault name copper.NoMemory given = given ≡ fault.Build build.NoMemory
+
+abbrev pub IsDrillFault : List ℕ → DrillFault → RealBuildFault → Type 0
+IsDrillFault name (drill.Refused kind line at) given = (why : BuildFault) × (given ≡ fault.Build why) × HasRefusal name (refusal.Drill kind line at) why
+IsDrillFault name drill.NoMemory given = given ≡ fault.Build build.NoMemory
+
+abbrev pub IsNetlistFault : List ℕ → RecordFault → RealBuildFault → Type 0
+IsNetlistFault name (netlist.Refused kind line) given = (why : BuildFault) × (given ≡ fault.Build why) × HasRefusal name (refusal.Netlist kind line) why
+IsNetlistFault name netlist.NoMemory given = given ≡ fault.Build build.NoMemory
 
 -- why the file of an entry is not read: its refusal, or want of memory
 abbrev pub HaltsReal : Entry → List ℕ → PlainRealBoard → RealBuildFault → Type 0

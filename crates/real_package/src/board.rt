@@ -110,5 +110,17 @@ pub fn has_its_netlist(real: &RealBoard, board: &Board) -> bool
 fn has_its_points(real: &RealBoard, board: &Board) -> bool
     ensures { IsTrue result ↔ (((plain_board board.now).probes ≡ real.now.probes) × ((plain_board board.now).names ≡ real.now.names)) }
 {
-    board.probes() == real.probes.as_slice() && board.names() == real.names.as_slice()
+    has_its_probes(real, board) && has_its_names(real, board)
+}
+
+fn has_its_probes(real: &RealBoard, board: &Board) -> bool
+    ensures { IsTrue result ↔ ((plain_board board.now).probes ≡ real.now.probes) }
+{
+    board.probes() == real.probes.as_slice()
+}
+
+fn has_its_names(real: &RealBoard, board: &Board) -> bool
+    ensures { IsTrue result ↔ ((plain_board board.now).names ≡ real.now.names) }
+{
+    board.names() == real.names.as_slice()
 }

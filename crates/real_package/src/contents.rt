@@ -3,7 +3,7 @@ ghost use Rattle.std.specs.Prelude.{◌≡◌, ◌⊎◌, ◌≤◌, length, OnO
 ghost use Rattle.board_package.specs.Manifest.{IsOnBoard};
 ghost use Rattle.board_package.specs.declared.fault.BuildFault.TheVariants as build;
 ghost use Rattle.real_package.specs.RealBoards.{IsLawfulReal, plain_real_board};
-ghost use Rattle.real_package.specs.RealCauses.{HaltsReal, IsCopperRefusal};
+ghost use Rattle.real_package.specs.RealCauses.{HaltsReal, IsCopperFault, IsCopperRefusal, IsDrillFault, IsNetlistFault};
 ghost use Rattle.real_package.specs.RealFiles.{ReadsReal};
 ghost use Rattle.real_package.specs.declared.fault.RealBuildFault.TheVariants as fault;
 
@@ -17,14 +17,24 @@ use std::alloc::Global;
 use texts::MOST_BYTES;
 use xnc::{DrillFault, Span, read_drill};
 
+/// The fault of a copper file that is not read.
+fn copper_fault(name: &Text, why: RealFault) -> RealBuildFault
+    ensures { IsCopperFault name.now why result }
+{
+    match why {
+        RealFault::Refused { kind, command, at } => refused_copper(name, kind, command, at),
+        RealFault::NoMemory => RealBuildFault::Build(BuildFault::NoMemory),
+    }
+}
+
 /// The fault of a copper file that is refused, or want of memory for its name.
 fn refused_copper(name: &Text, kind: RealKind, command: u32, at: usize) -> RealBuildFault
     ensures { IsCopperRefusal name.now kind command at result }
 {
     match kind {
         RealKind::Gerber(kind) => {
-            let refusal = Refusal::Layer { kind, command, at };
-            RealBuildFault::Build(refused(name, refusal))
+            let why = refused(name, Refusal::Layer { kind, command, at });
+            RealBuildFault::Build(why)
         }
         own => refused_arc(name, own, command, at),
     }
@@ -42,6 +52,32 @@ fn refused_arc(name: &Text, kind: RealKind, command: u32, at: usize) -> RealBuil
         kind,
         command,
         at,
+    }
+}
+
+/// The fault of a drill file that is not read.
+fn drill_fault(name: &Text, why: DrillFault) -> RealBuildFault
+    ensures { IsDrillFault name.now why result }
+{
+    match why {
+        DrillFault::Refused { kind, line, at } => {
+            let own = refused(name, Refusal::Drill { kind, line, at });
+            RealBuildFault::Build(own)
+        }
+        DrillFault::NoMemory => RealBuildFault::Build(BuildFault::NoMemory),
+    }
+}
+
+/// The fault of a netlist that is not read.
+fn netlist_fault(name: &Text, why: RecordFault) -> RealBuildFault
+    ensures { IsNetlistFault name.now why result }
+{
+    match why {
+        RecordFault::Refused { kind, line } => {
+            let own = refused(name, Refusal::Netlist { kind, line });
+            RealBuildFault::Build(own)
+        }
+        RecordFault::NoMemory => RealBuildFault::Build(BuildFault::NoMemory),
     }
 }
 
@@ -64,10 +100,7 @@ pub fn read_file(
     match entry.role {
         Role::Copper { layer } => match read_real(alloc, file, layer, entry.number, room) {
             Ok(pieces) => Ok(board.add(pieces)?),
-            Err(RealFault::Refused { kind, command, at }) => {
-                Err(refused_copper(&entry.name, kind, command, at))
-            }
-            Err(RealFault::NoMemory) => Err(RealBuildFault::Build(BuildFault::NoMemory)),
+            Err(why) => Err(copper_fault(&entry.name, why)),
         },
         Role::Drill { from, to } => {
             match read_drill(alloc, file, Span { from, to }, entry.number, room) {
@@ -75,11 +108,7 @@ pub fn read_file(
                     let barrels = as_real_pieces(alloc, pieces)?;
                     Ok(board.add(barrels)?)
                 }
-                Err(DrillFault::Refused { kind, line, at }) => {
-                    let refusal = Refusal::Drill { kind, line, at };
-                    Err(RealBuildFault::Build(refused(&entry.name, refusal)))
-                }
-                Err(DrillFault::NoMemory) => Err(RealBuildFault::Build(BuildFault::NoMemory)),
+                Err(why) => Err(drill_fault(&entry.name, why)),
             }
         }
         Role::Netlist => match read_netlist(alloc, file, board.layers) {
@@ -88,11 +117,7 @@ pub fn read_file(
                 board.names = netlist.names;
                 Ok(())
             }
-            Err(RecordFault::Refused { kind, line }) => {
-                let refusal = Refusal::Netlist { kind, line };
-                Err(RealBuildFault::Build(refused(&entry.name, refusal)))
-            }
-            Err(RecordFault::NoMemory) => Err(RealBuildFault::Build(BuildFault::NoMemory)),
+            Err(why) => Err(netlist_fault(&entry.name, why)),
         },
     }
 }

@@ -1,22 +1,32 @@
 use Rattle.std.proofs.Common.{◌∙◌, ap}
 use Rattle.arc_layer.specs.Real.{plain_reals}
 use Rattle.real_package.specs.RealBoards.{plain_real_board, room_left}
-use Rattle.real_package.proofs.Halted.{copper_halts, drill_halts, netlist_halts}
+use Rattle.real_package.proofs.Halted.{copper_halts, copper_reads, drill_halts, netlist_halts}
+use Rattle.real_package.proofs.OnSpans.{on_spans}
 use Rattle.real_package.proofs.contents.read_file.Goals as goal
 
-pub returns-in-Err-Refused-clause-fault : goal.returns-in-Err-Refused-clause-fault
-returns-in-Err-Refused-clause-fault c =
+pub returns-in-Err-clause-fault : goal.returns-in-Err-clause-fault
+returns-in-Err-clause-fault c =
     let room = c.room_left-room.ensures ∙ ap (λ l. room_left (plain_reals l)) c.as_slice.ensures.value in
-    copper_halts c.args.entry.now c.in-Copper.layer c.args.file.now (plain_real_board c.args.board.now) c.room_left-room.result c.in-Err-Refused.field-0 c.in-Err-Refused.kind c.in-Err-Refused.command c.in-Err-Refused.at c.refused_copper.result
-    c.in-Copper.is room c.in-Err-Refused.ensures.fault c.in-Err-Refused.field-0-is c.refused_copper.ensures
+    copper_halts c.args.entry.now c.in-Copper.layer c.args.file.now (plain_real_board c.args.board.now) c.room_left-room.result c.in-Err.why c.copper_fault.result
+    c.in-Copper.is room c.in-Err.ensures.fault c.copper_fault.ensures
 
-pub returns-in-Err-Refused-read_drill-clause-fault : goal.returns-in-Err-Refused-read_drill-clause-fault
-returns-in-Err-Refused-read_drill-clause-fault c =
+pub returns-in-Err-read_drill-clause-fault : goal.returns-in-Err-read_drill-clause-fault
+returns-in-Err-read_drill-clause-fault c =
     let room = c.room_left-room.ensures ∙ ap (λ l. room_left (plain_reals l)) c.as_slice.ensures.value in
-    drill_halts c.args.entry.now c.in-Drill.from c.in-Drill.to c.args.file.now (plain_real_board c.args.board.now) c.room_left-room.result c.in-Err-Refused-read_drill.field-0 c.in-Err-Refused-read_drill.kind c.in-Err-Refused-read_drill.line c.in-Err-Refused-read_drill.at c.refused.result
-    c.in-Drill.is room c.in-Err-Refused-read_drill.ensures.fault c.in-Err-Refused-read_drill.field-0-is c.refused.ensures
+    drill_halts c.args.entry.now c.in-Drill.from c.in-Drill.to c.args.file.now (plain_real_board c.args.board.now) c.room_left-room.result c.in-Err-read_drill.why c.drill_fault.result
+    c.in-Drill.is room c.in-Err-read_drill.ensures.fault c.drill_fault.ensures
 
-pub returns-in-Err-Refused-read_netlist-clause-fault : goal.returns-in-Err-Refused-read_netlist-clause-fault
-returns-in-Err-Refused-read_netlist-clause-fault c =
-    netlist_halts c.args.entry.now c.args.file.now (plain_real_board c.args.board.now) c.in-Err-Refused-read_netlist.field-0 c.in-Err-Refused-read_netlist.kind c.in-Err-Refused-read_netlist.line c.refused-in-Err-Refused-read_netlist.result
-    c.in-Netlist.is c.in-Err-Refused-read_netlist.ensures.fault c.in-Err-Refused-read_netlist.field-0-is c.refused-in-Err-Refused-read_netlist.ensures
+pub returns-in-Err-read_netlist-clause-fault : goal.returns-in-Err-read_netlist-clause-fault
+returns-in-Err-read_netlist-clause-fault c =
+    netlist_halts c.args.entry.now c.args.file.now (plain_real_board c.args.board.now) c.in-Err-read_netlist.why c.netlist_fault.result
+    c.in-Netlist.is c.in-Err-read_netlist.ensures.fault c.netlist_fault.ensures
+
+pub add-requires-in-Ok-read_drill-clause-spans : goal.add-requires-in-Ok-read_drill-clause-spans
+add-requires-in-Ok-read_drill-clause-spans c =
+    on_spans c.args.board.now.layers c.in-Drill.from c.in-Drill.to c.args.entry.now.role c.in-Ok-read_drill.pieces.items c.in_ok-barrels-in-Ok-read_drill.barrels.items c.requires.role c.in-Drill.is c.in-Ok-read_drill.ensures.layers c.in_ok-barrels-in-Ok-read_drill.ensures
+
+pub returns-in_ok-add-in-Ok-clause-ok : goal.returns-in_ok-add-in-Ok-clause-ok
+returns-in_ok-add-in-Ok-clause-ok c =
+    let room = c.room_left-room.ensures ∙ ap (λ l. room_left (plain_reals l)) c.as_slice.ensures.value in
+    copper_reads c.args.entry.now c.in-Copper.layer c.args.file.now (plain_real_board c.args.board.now) _ c.room_left-room.result (plain_reals c.in-Ok.pieces.items) c.in-Copper.is room c.in-Ok.ensures.ok c.in_ok-add-in-Ok.ensures.ok
