@@ -13,14 +13,14 @@ use Rattle.boardnet.proofs.Decisions.{same_decision}
 use Rattle.boardnet.proofs.Named.{Completes}
 use Rattle.boardnet.proofs.Sound.{HandedLaws, HoldsHanded, Laws, OneOutcome, Sound}
 use Rattle.boardnet.specs.Answers.{reason_line}
-use Rattle.boardnet.specs.Bounded.{unbound_line}
+use Rattle.boardnet.specs.Bounded.{IsUnboundBy, unbound_line}
 use Rattle.boardnet.specs.Command.{BoundNames}
 use Rattle.boardnet.specs.Lines.{file_line}
 use Rattle.boardnet.specs.OneOutcome.{AreAlike}
 use Rattle.boardnet.specs.Outcome.{HandedOver, Held, IsLineOf, OfFilesRead, Outcome, Refused, Source, Told}
 use Rattle.boardnet.specs.Source.{ComesBy, FitsNext, FitsNextThen, FitsRealBefore, FitsRealThen, IsFirstStopBy, NextBy, StopsFileBy}
 use Rattle.boardnet.specs.Words.{Asks, Command, Between, IsBetween}
-use Rattle.boardnet.specs.commands.Between.{AreBounded, AreRead, AreUnbound, BetweenOutcome, BetweenRefuses, ComesReading, IsDecided, IsPlainStop, IsReadLine, IsReadRefusal, IsUnboundRefusal, ReadStop, StopsManifest, StopsReading, at_counts, at_lower, at_real, at_upper}
+use Rattle.boardnet.specs.commands.Between.{AreBounded, AreRead, AreUnbound, BetweenOutcome, BetweenRefuses, ComesReading, IsDecided, IsOfFile, IsPlainStop, IsReadLine, IsReadRefusal, IsUnboundRefusal, ReadStop, StopsManifest, StopsReading, at_counts, at_lower, at_real, at_upper}
 use Rattle.boardnet.specs.declared.answer.Unanswered.{Unanswered}
 use Rattle.boardnet.specs.declared.answer.Unanswered.TheVariants.{Bent, NotJson, NotAManifest, Unbound}
 use Rattle.boardnet.specs.declared.unbound.Unbound.{Unbound as NoBounds}
