@@ -1,5 +1,6 @@
 pub mod Agreed
 pub mod Carried
+pub mod Equal
 pub mod Halted
 pub mod OnSpans
 pub mod OneOutcome

@@ -22,7 +22,10 @@ fn package_of(alloc: Global, words: &str, barrels: &[u8]) -> Result<MemoryPackag
     package.hold("m.json", MANIFEST)?;
     let top = format!(in alloc; "%FSLAX46Y46*%%MOMM*%%ADD10C,1.0*%D10*{words}M02*")?;
     package.hold("t.gbr", top.as_bytes())?;
-    package.hold("b.gbr", b"%FSLAX46Y46*%%MOMM*%%ADD10C,1.0*%D10*X0Y0D03*M02*")?;
+    package.hold(
+        "b.gbr",
+        b"%FSLAX46Y46*%%MOMM*%%ADD10C,1.0*%D10*X0Y0D03*M02*",
+    )?;
     package.hold("d.drl", barrels)?;
     package.hold("n.ipc", NETLIST)?;
     Ok(package)
@@ -36,7 +39,11 @@ fn outcome(alloc: Global, package: &mut MemoryPackage) -> Result<String, Fail> {
             let bent = |piece: &&RealPiece| matches!(piece.shape, RealShape::ArcDraw(_));
             let arcs = real.pieces.iter().filter(bent).count();
             let probes = real.probes.as_slice().len();
-            format!(in alloc; "layers {} pieces {} arcs {arcs} probes {probes}", real.layers, real.pieces.len())?
+            format!(in alloc;
+                "layers {} pieces {} arcs {arcs} probes {probes}",
+                real.layers,
+                real.pieces.len()
+            )?
         }
         Err(RealBuildFault::Build(fault)) => format!(in alloc; "{fault:?}")?,
         Err(
@@ -47,7 +54,12 @@ fn outcome(alloc: Global, package: &mut MemoryPackage) -> Result<String, Fail> {
                 at,
             },
         ) => {
-            format!(in alloc; "{} {} {} {command} {at}", file.as_str(), kind.number(), kind.name())?
+            format!(in alloc;
+                "{} {} {} {command} {at}",
+                file.as_str(),
+                kind.number(),
+                kind.name()
+            )?
         }
     };
     Ok(format!(in alloc; "{given}, {} files", package.calls())?)
