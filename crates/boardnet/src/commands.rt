@@ -35,19 +35,37 @@ use std::alloc::Global;
 #[derive(Clone, Copy)]
 pub enum Command<'a> {
     /// `check MANIFEST`: check the package of the manifest, with a report of version 2; `check MANIFEST 1`: of version 1.
-    Check { version: Version, manifest: &'a str },
+    Check {
+        version: Version,
+        manifest: &'a str,
+    },
     /// `audit MANIFEST REPORT`: audit the report on the package of the manifest.
-    Audit { manifest: &'a str, report: &'a str },
+    Audit {
+        manifest: &'a str,
+        report: &'a str,
+    },
     /// `trial SEED SIZE`: check the made board of so many cells.
-    Trial { seed: u64, size: u32 },
+    Trial {
+        seed: u64,
+        size: u32,
+    },
     /// `write MANIFEST`: write a netlist of the package of the manifest.
-    Write { manifest: &'a str },
+    Write {
+        manifest: &'a str,
+    },
     /// `gaps MANIFEST NANOMETRES`: list the nets of the package that come that close.
-    Gaps { manifest: &'a str, nanometres: u32 },
+    Gaps {
+        manifest: &'a str,
+        nanometres: u32,
+    },
     /// `x2 MANIFEST`: check the package of the manifest by the net names in its copper files.
-    X2 { manifest: &'a str },
+    X2 {
+        manifest: &'a str,
+    },
     /// `flatten FILE`: rewrite the copper file without macros.
-    Flatten { file: &'a str },
+    Flatten {
+        file: &'a str,
+    },
     /// `between REAL LOWER UPPER COUNTS`: judge the package of REAL, whose draws may be arcs, by those of LOWER and UPPER.
     Between {
         real: &'a str,
