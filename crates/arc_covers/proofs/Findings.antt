@@ -26,7 +26,8 @@ use Rattle.arc_covers.proofs.Listed.{bare_said, opens_said, shorts_said}
 
 name_of_line : (nets : List (List Twig)) (beneath : List (List ℕ)) (points : List TestPoint) (lines : List PointLine) (k : ℕ) (line : PointLine) → AreLines nets beneath points lines → slice_get lines k ≡ Some line → (point : TestPoint) × (slice_get points k ≡ Some point) × (point.name ≡ line.name)
 name_of_line nets beneath points [] k line all here = cc
-name_of_line nets beneath [] (l ∷ lines) k line all here = absurd all
+name_of_line nets [] [] (l ∷ lines) k line all here = absurd all
+name_of_line nets (u ∷ beneath) [] (l ∷ lines) k line all here = absurd all
 name_of_line nets [] (p ∷ points) (l ∷ lines) k line all here = absurd all
 name_of_line nets (u ∷ beneath) (p ∷ points) (l ∷ lines) zero line (first, rest) here = (p, refl, sym first.name ∙ ap (λ (x : PointLine). x.name) (same_Some l line here))
 name_of_line nets (u ∷ beneath) (p ∷ points) (l ∷ lines) (suc k) line (first, rest) here = name_of_line nets beneath points lines k line rest here
@@ -117,6 +118,9 @@ module _ (v w : Verdict) (holds : ℕ → Point → Type 0) (real : Layout) (dec
 
   branches_differ : (s : Short) (branches : List Branch) → s.branches ≡ branches → IsShort holds real s → AgreesWithNames holds real → ⊥
   branches_differ s branches same is agrees = by branches same where
+    each : (x : Branch) → Contains s.branches x → HasName real x.probe x.name
+    each x (i, below, same) = subst (λ (y : Branch). HasName real y.probe y.name) same (is.named i x below)
+
     by : (xs : List Branch) → s.branches ≡ xs → ⊥
     by [] e = let long = is.several in let n : length s.branches ≡ 0 = ap (λ (ys : List Branch). length ys) e in omega arith
     by (x ∷ []) e = let long = is.several in let n : length s.branches ≡ 1 = ap (λ (ys : List Branch). length ys) e in omega arith
@@ -125,9 +129,6 @@ module _ (v w : Verdict) (holds : ℕ → Point → Type 0) (real : Layout) (dec
         let two : Contains s.branches y = subst (λ (ys : List Branch). Contains ys y) (sym e) (1, omega arith, refl) in
         let less = is.rise 0 1 x y (omega arith) (ap (λ (ys : List Branch). slice_get ys 0) e) (ap (λ (ys : List Branch). slice_get ys 1) e) in
         agrees.shorts x.probe y.probe x.name y.name (each x one) (each y two) (λ equal. (omega arith)) (is.joined x y one two)
-
-    each : (x : Branch) → Contains s.branches x → HasName real x.probe x.name
-    each x (i, below, same) = subst (λ (y : Branch). HasName real y.probe y.name) same (is.named i x below)
 
   some_in : {X : Type 0} (P : X → Type 0) (xs : List X) → xs ≢ [] → ((x : X) → Contains xs x → P x) → ((x : X) → P x → AgreesWithNames holds real → ⊥) → AgreesWithNames holds real → ⊥
   some_in P [] some all differs agrees = some refl

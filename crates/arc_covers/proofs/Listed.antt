@@ -7,7 +7,8 @@ use Rattle.std.proofs.lemmas.List.Elements.{All-append, All-cons, All-contains, 
 use Rattle.std.proofs.lemmas.List.Folds.{list_any-append}
 use Rattle.std.proofs.lemmas.Option.{same_Some, slice_get-map}
 use Rattle.tables.specs.Tables.{Tables}
-use Rattle.verdict.specs.Right.{AreBranches, Bare, Branches, IsRight, Opens, Outline, Shorts, all_opens, all_shorts, bare_from, first_from, first_on, fresh, is_on, is_unconnected, marks, names_on, opens_against, opens_of, outline, seats_from, short_of, where_some}
+use Rattle.verdict.specs.Right.{AreBranches, Bare, BeginsBeneath, Branches, HasBranches, IsRight, Opens, Outline, Shorts, all_opens, all_shorts, bare_from, first_from, first_on, fresh, is_on, is_unconnected, marks, names_on, opens_against, opens_of, outline, seats_from, short_of, where_some}
+use Rattle.verdict.specs.Forest.{first_piece}
 use Rattle.verdict.specs.declared.verdict.Branch.{Branch}
 use Rattle.verdict.specs.declared.verdict.Open.{Open}
 use Rattle.verdict.specs.declared.verdict.PointLine.{PointLine}
@@ -228,7 +229,7 @@ rise_step (Some p) n rest above rise (suc i) (suc j) a b below one two = rise i 
 
 names_rise : (net n : ℕ) (names : List (List ℕ)) (lines : List PointLine) → DoRise (names_on net n names lines)
 names_rise net n [] lines i j a b below one two = cc
-names_rise net n (t ∷ names) lines = rise_step (first_on net n lines) n (names_on net (n + 1) names lines) (names_above net (n + 1) names lines) (names_rise net (n + 1) names lines)
+names_rise net n (t ∷ names) lines i j a b below one two = rise_step (first_on net n lines) n (names_on net (n + 1) names lines) (names_above net (n + 1) names lines) (names_rise net (n + 1) names lines) i j a b below one two
 
 -- two names or more, those that have a point on the net
 abbrev IsOutline : List (List ℕ) → List PointLine → Outline → Type 0
@@ -291,14 +292,14 @@ pub shorts_said : (board : Tables) (v : Verdict) → IsRight board v → (s : Sh
 shorts_said board v right s inside =
     let all : All (IsOutline board.names v.points) (map outline v.shorts) = subst (λ (xs : List Outline). All (IsOutline board.names v.points) xs) (sym (right Shorts)) (outlines board.names v.points 0 v.nets) in
     let mine = All-contains (λ s. IsOutline board.names v.points (outline s)) v.shorts s (unmap board.names v.points v.shorts all) inside in
-    let has = All-contains _ v.shorts s (right Branches) inside in
+    let has : HasBranches v.nets (BeginsBeneath board.beneath) v.points s = All-contains (HasBranches v.nets (BeginsBeneath board.beneath) v.points) v.shorts s (right Branches) inside in
     let two = mine.0 in
     let long = length-map s.branches (λ (b : Branch). b.name) in
     record {
       several = omega arith;
       rise = λ i j x y below one two. names_rise s.net 0 board.names v.points i j x.name y.name below (name_of i x one mine.1) (name_of j y two mine.1);
       seated = λ x listed. (
-          let r = first_at s.net x.name 0 v.points x.probe (branch_probe has.net _ v.points s.net _ s.branches has.branches x listed) in
+          let r = first_at s.net x.name 0 v.points x.probe (branch_probe has.net (BeginsBeneath board.beneath) v.points s.net (first_piece has.net ∷ []) s.branches has.branches x listed) in
           let at = r.1 in
           let same : r.0 ≡ x.probe = omega arith in
           subst (λ (k : ℕ). IsAt v.points x.name s.net k) same r.2
