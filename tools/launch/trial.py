@@ -36,6 +36,8 @@ def files_of(words, folder):
     names = []
     if words[0] in OF_MANIFEST and len(words) > 1:
         names = [words[1], *names_of(os.path.join(folder, words[1]))]
+    elif words[0] == "between":
+        names = [*words[1:5], *(it for word in words[1:4] for it in names_of(os.path.join(folder, word)))]
     elif words[0] == "flatten":
         names = words[1:2]
     return [(name, os.path.join(folder, name)) for name in names if isinstance(name, str)]

@@ -10,11 +10,10 @@ from .exact import ceil_root, floor_root
 from .spots import cross, dot
 
 SAGITTA = 3600      # a chord leaves its arc by about 0.36 micrometres at most
-LEAST = 1000        # arcs of a smaller radius are one chord with a wide allowance
 
 
-def directions(centre, start, end):
-    """start, the axis directions strictly between, end; counterclockwise. Equal ends are the whole circle."""
+def directions(centre, start, end, is_whole):
+    """The axis directions strictly between start and end, or all but that of the start; counterclockwise."""
     a = (start[0] - centre[0], start[1] - centre[1])
     rel = lambda d: (a[0] * d[0] + a[1] * d[1], a[0] * d[1] - a[1] * d[0])
     half = lambda v: 0 if v[1] > 0 or (v[1] == 0 and v[0] > 0) else 1
@@ -27,7 +26,7 @@ def directions(centre, start, end):
         return -1 if turn > 0 else 1 if turn < 0 else 0
 
     b = (end[0] - centre[0], end[1] - centre[1])
-    axes = [d for d in ((1, 0), (0, 1), (-1, 0), (0, -1)) if order(d, a) > 0 and (start == end or order(d, b) < 0)]
+    axes = [d for d in ((1, 0), (0, 1), (-1, 0), (0, -1)) if order(d, a) > 0 and (is_whole or order(d, b) < 0)]
     return sorted(axes, key=cmp_to_key(order))
 
 
@@ -41,10 +40,17 @@ def rounded(a, b):
     return (2 * a + b) // (2 * b)
 
 
-def arc_points(centre, start, end, radius):
-    """A chain of spots near the circle from start to end, neighbours at most about two sagittas' chord apart. A guess."""
-    axes = [scaled(centre, d, radius) for d in directions(centre, start, end)]
-    keys = [start] + [p for p in axes if min(dot(p, start, start), dot(p, end, end)) > radius * SAGITTA] + [end]
+def axis_points(centre, start, end, radius, is_whole):
+    """start, spots on the axes between, end: neighbours are at most a right angle apart."""
+    return [start, *(scaled(centre, d, radius) for d in directions(centre, start, end, is_whole or start == end)), end]
+
+
+def arc_points(centre, start, end, radius, is_whole=False):
+    """A chain of spots near the circle from start to end, neighbours at most about two sagittas' chord apart. A guess. Equal ends are
+    the whole circle."""
+    apart = min(radius * SAGITTA, radius * radius // 4)
+    axes = axis_points(centre, start, end, radius, is_whole)
+    keys = [p for k, p in enumerate(axes) if k in (0, len(axes) - 1) or min(dot(p, start, start), dot(p, end, end)) > apart]
     out = [start]
     for p, q in zip(keys, keys[1:]):
         halve(centre, p, q, radius, out, 0)
@@ -71,12 +77,12 @@ def goes_once(turn, chain):
     """Counterclockwise all along, by a cross product about the centre, and not past the direction of its first spot."""
     first, last = chain[0], len(chain) - 2
     for k, (p, q) in enumerate(zip(chain, chain[1:])):
-        if turn(p, q) <= 0 or turn(first, p) < 0 <= turn(first, q) and not (k == last and q == first):
+        if turn(p, q) <= 0 or turn(first, p) < 0 <= turn(first, q) and not (k == last and turn(first, q) == 0):
             return False
     return True
 
 
-def arc_chain(centre, start, end):
+def arc_chain(centre, start, end, is_whole=False):
     """(spots, most): at each angle of the sweep chain and arc are at most `most` apart, for every curve whose distance from
     the centre stays between those of its ends; past half a turn its square may leave theirs by their difference, times one more than
     the centre's distance from the line through both, told in distances of the ends and rounded down. So the circle through both ends
@@ -84,15 +90,17 @@ def arc_chain(centre, start, end):
     is the whole disc about the centre."""
     near, far = sorted((dot(centre, start, start), dot(centre, end, end)))
     least, most = isqrt(near), ceil_root(far)
-    if least < LEAST:
+    if not least:
         return [start, end], 2 * most + 1
-    chain = arc_points(centre, start, end, (least + most) // 2)
+    turn = lambda p, q: cross(centre, p, q)
+    chain = arc_points(centre, start, end, (least + most) // 2, is_whole)
+    chain = chain if goes_once(turn, chain) else axis_points(centre, start, end, most, is_whole)
     swing = cross(centre, start, end)
     if swing < 0:
         spread = (far - near) * (-swing // dot(start, end, end) + 1)
         least, most = isqrt(max(near - spread, 0)), ceil_root(far + spread)
     inner, outer = least, most
-    if len(chain) < 2 or not goes_once(lambda p, q: cross(centre, p, q), chain):
+    if not goes_once(turn, chain):
         return [start, end], 2 * most + 1
     for p, q in zip(chain, chain[1:]):
         inner = min(inner, isqrt(cross(centre, p, q) ** 2 // dot(p, q, q)))
@@ -105,6 +113,16 @@ def chain_bounds(chain, most, radius):
     low, high = radius.__floor__() - most, radius.__ceil__() + most
     pairs = list(zip(chain, chain[1:]))
     return [("capsule", a, b, low) for a, b in pairs if low > 0], [("capsule", a, b, high) for a, b in pairs if radius > 0]
+
+
+def draw_bounds(centre, start, end, radius):
+    """(chain, draws below and above) of a draw counterclockwise; as the checks of the crate `arcs` take them. Ends in one direction
+    at two distances may be a whole turn apart or none: above is a whole turn, below nothing, and there is no chain."""
+    unlike = dot(centre, start, start) != dot(centre, end, end)
+    if unlike and cross(centre, start, end) == 0 <= dot(centre, start, end):
+        return None, ([], chain_bounds(*arc_chain(centre, start, end, True), radius)[1])
+    chain, most = arc_chain(centre, start, end)
+    return chain, chain_bounds(chain, most, radius)
 
 
 class Arc:

@@ -4,8 +4,8 @@ Each piece of the lower board lies in copper of the board, joined in itself, and
 drills, netlist and names are the same. So what is joined below is joined on the board, and what is joined there is joined above
 (the law `verdicts_decide` of the crate `covers`): no opens and no missing points below and no shorts above make the board agree;
 shorts below, and opens and missing points above, are the board's (a point of such an open may be missing there). What only one of
-them has is undecided. That the two boards are such bounds is not proved: this script makes them, by whole numbers, and its tests
-compare them with fractions.
+them has is undecided. That the two boards are such bounds is not proved, but where the program says so (`proved`): this script makes
+them, by whole numbers, and its tests compare them with fractions.
 """
 import os
 import re
@@ -23,6 +23,7 @@ from .words import counted
 # NoOperation: what copper files hold that bounds may be given for.
 OUTSIDE = re.compile(r"(.*): Gerber (1[0-6]|18|19|23|26|28|29) |(.*): flatten ")
 SIDES = ("lower", "upper")
+BETWEEN = ", between two bounds"
 
 
 class Bounded(NamedTuple):
@@ -38,11 +39,13 @@ class Bounded(NamedTuple):
 
 
 class Sides(NamedTuple):
-    """The two packages of a board, with the words' sources by side and file, and what is left out below."""
+    """The two packages of a board, with the words' sources by side and file, and what is left out below. `arcs` are the commands of
+    arc draws by file, None where a file has other copper outside the profile."""
 
     packages: tuple
     sources: tuple
     left_out: list
+    arcs: dict
 
 
 def is_outside(line):
@@ -69,11 +72,12 @@ def sides_of(package, name):
 
 def of_package(package):
     """Both sides of each copper file that holds something outside the profile; the others are the same files."""
-    files, sources, left_out, replaced = ({}, {}), ({}, {}), [], 0
+    files, sources, left_out, arcs, replaced = ({}, {}), ({}, {}), [], {}, 0
     for name in dict.fromkeys(package.manifest.copper):
         copper = sides_of(package, name)
         left_out += [f"{name}: {what}" for what in copper.lost]
         replaced += copper.replaced
+        arcs[name] = set(copper.bent) if copper.replaced == len(copper.bent) else None
         for side, data, origin in zip(copper.sides, files, sources):
             if copper.replaced:
                 data[name], origin[name] = side.text().encode("latin-1"), side.sources
@@ -82,7 +86,7 @@ def of_package(package):
     if not replaced:
         raise Refused("nothing in the copper files is of a kind that has bounds")
     made = tuple(package.changed(beside(package, side), data) for side, data in zip(SIDES, files))
-    return Sides(made, sources, left_out)
+    return Sides(made, sources, left_out, arcs)
 
 
 def both_judged(program, sides):
@@ -112,7 +116,7 @@ def answered(program, package, sides, low, high, ties):
     told = [f"{counted(certain, 'finding')} that both have"] if certain else []
     told += [f"{counted(doubt, 'finding')} that only one of them has"] if doubt else []
     word += ties.words(len(ties.ties) - len(ties.parted(low.report))) if ties.ties else ""
-    line = f"{word}, between two bounds" + (f": {', '.join(told)}" if told else "") + f" (lower {low.line}; upper {high.line})"
+    line = word + BETWEEN + (f": {', '.join(told)}" if told else "") + f" (lower {low.line}; upper {high.line})"
     return Bounded(status, line, [it[:4] for it in findings], sides.left_out, tuple(it[4] for it in findings), sides.sources)
 
 

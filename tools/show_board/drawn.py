@@ -2,7 +2,7 @@
 import re
 
 from . import apertures
-from .arcs import arc_chain, chain_bounds
+from .arcs import chain_bounds, draw_bounds
 from .clear import moved
 from .exact import Refused
 from .rounds import ring
@@ -14,8 +14,10 @@ STRAIGHT, ANTICLOCKWISE = 1, 3
 
 
 class Operations:
+    """`bent` are the commands of arc draws that are written as chains."""
+
     def __init__(self):
-        self.spot, self.mode, self.quadrants, self.last = (0, 0), STRAIGHT, None, None
+        self.spot, self.mode, self.quadrants, self.last, self.bent = (0, 0), STRAIGHT, None, None, []
 
     def operation(self, mode, x, y, i, j, operation):
         if mode:
@@ -74,12 +76,12 @@ class Operations:
         if self.passes():
             return
         self.replaced += 1
-        chain, most = arc_chain(centre, *((start, self.spot) if anticlockwise else (self.spot, start))) if centre is not None else ([start, start], 0)
-        both = chain_bounds(chain if anticlockwise else chain[::-1], most, radius)
+        self.bent.append(self.number)
+        ends = (start, self.spot) if anticlockwise else (self.spot, start)
+        chain, both = draw_bounds(centre, *ends, radius) if centre is not None else (None, chain_bounds(ends, 0, radius))
         if radius > 0 and not both[0]:
             self.lose(f"an arc at command {self.number}")
-        areas = ring(centre, chain, radius.__ceil__()) if self.cuts and centre is not None else None
-        self.write_pieces(both, areas)
+        self.write_pieces(both, ring(centre, chain, radius.__ceil__()) if self.cuts and chain else None)
 
     def pen_radius(self):
         made = self.aperture()

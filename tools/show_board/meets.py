@@ -188,7 +188,7 @@ class Net:
         tail = cuts.way(self.graph, [q], self.with_points.get(names[1], ()), self.of_name.get(names[1], ()))
         inner = cuts.way(self.graph, [into], {out}, set(part)) if part else []
         inner = [piece for piece in inner if piece not in (head[-1], tail[0])]
-        place, layer = self.place(p, q, inner or part)
+        place, layer = self.place(p, q, inner or ([into] if part else []))
         return Meet(names, sorted(part), (p, q), place, layer, list(dict.fromkeys([*head, *inner, *tail])), len(head) - 1, len(head) + len(inner))
 
     def place(self, p, q, inner):

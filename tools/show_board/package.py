@@ -3,7 +3,6 @@ import os
 import shutil
 
 from manifest_files import Refused
-from manifest_files import package as gathered
 
 from . import UNCLEAR, Stop, manifest
 
@@ -127,6 +126,7 @@ def of_manifest(path, scratch):
 
 def of_folder(home, asked, scratch):
     """The package of a folder without a manifest, by what the files say of themselves."""
+    from manifest_files import package as gathered      # most boards have a manifest
     found = gathered.gather(home)
     try:
         plan = gathered.Plan(found, asked.netlist, asked.no_drills, may_lack_netlist=True)

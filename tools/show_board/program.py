@@ -84,6 +84,10 @@ class Program:
         package.put("report.txt", report)
         return self.run(package, "audit", package.name, "report.txt")
 
+    def between(self, package, lower, upper, counts):
+        self.progress.begin("proving the bounds")
+        return self.run(package, "between", package.name, lower, upper, counts)
+
     def flatten(self, package, name):
         self.progress.begin(f"flattening {name}")
         return self.run(package, "flatten", name)

@@ -151,6 +151,8 @@ def outside(program, told, shown, asked):
     if told.status == 3:
         shown.bounds = bounds.bounded(program, told, shown.ties)
         if shown.bounds:
+            from . import proved
+            shown.bounds = proved.told(program, told.package, shown.bounds, shown.ties)
             shown.status, shown.line = shown.bounds.status, shown.bounds.line
             if shown.bounds.sides:
                 look_between(program, *told.package.between, shown, asked)

@@ -140,7 +140,7 @@ class Launcher(common.Case):
     def test_help(self):
         status, out, _ = self.launch("--help")
         self.assertEqual(status, 0)
-        for command in ("check", "audit", "trial", "write", "flatten", "x2", "gaps", "manifest", "show", "install", "package"):
+        for command in ("check", "audit", "trial", "write", "flatten", "x2", "gaps", "between", "manifest", "show", "install", "package"):
             self.assertIn(f"  boardnet {command} ", out)
             for words in ([command, "--help"], ["help", command], [command, "-h"]):
                 status, page, _ = self.launch(*words)

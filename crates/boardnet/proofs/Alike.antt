@@ -32,7 +32,7 @@ on_one b d v w e r s =
 pub same_verdicts : Laws → (b d : PlainBoard) (v w : Verdict) → b ≡ d → IsRightOn b v → IsRightOn d w → DifferInWitnessesOnly v w
 same_verdicts law b d v w e r s = law.witnesses s.tables v w (tables_are_consistent d s.tables s.tables_are) (on_one b d v w e r s) s.right
 
-same_differs : (a b c x y z : ℕ) → a ≡ x → b ≡ y → c ≡ z → differs_line a b c ≡ differs_line x y z
+pub same_differs : (a b c x y z : ℕ) → a ≡ x → b ≡ y → c ≡ z → differs_line a b c ≡ differs_line x y z
 same_differs a b c x y z p q r = rw (p, q, r) refl
 
 pub same_status : (v w : Verdict) (s t : ℕ) (l k : List ℕ) → DifferInWitnessesOnly v w → HasStatus v s l → HasStatus w t k → (s ≡ t) × (l ≡ k)

@@ -30,6 +30,16 @@ spelled_three (w ∷ v ∷ []) a b d x y z least most p q r e f h = absurd (omeg
 spelled_three (w ∷ v ∷ u ∷ []) a b d x y z least most p q r e f h = cc (p, q, r, e, f, h)
 spelled_three (w ∷ v ∷ u ∷ t ∷ rest) a b d x y z least most p q r e f h = absurd (omega (arith, most))
 
+pub spelled_five : (words : List (String Global)) (a b d e f : String Global) (x y z u v : List ℕ) → 5 ≤ length words → length words < 6 → a ≡ get_or words 0 a → b ≡ get_or words 1 b → d ≡ get_or words 2 d → e ≡ get_or words 3 e → f ≡ get_or words 4 f
+    → x ≡ string_bytes a → y ≡ string_bytes b → z ≡ string_bytes d → u ≡ string_bytes e → v ≡ string_bytes f → map string_bytes words ≡ x ∷ y ∷ z ∷ u ∷ v ∷ []
+spelled_five [] a b d e f x y z u v least most p q r s t h i j k l = absurd (omega (arith, least))
+spelled_five (w1 ∷ []) a b d e f x y z u v least most p q r s t h i j k l = absurd (omega (arith, least))
+spelled_five (w1 ∷ w2 ∷ []) a b d e f x y z u v least most p q r s t h i j k l = absurd (omega (arith, least))
+spelled_five (w1 ∷ w2 ∷ w3 ∷ []) a b d e f x y z u v least most p q r s t h i j k l = absurd (omega (arith, least))
+spelled_five (w1 ∷ w2 ∷ w3 ∷ w4 ∷ []) a b d e f x y z u v least most p q r s t h i j k l = absurd (omega (arith, least))
+spelled_five (w1 ∷ w2 ∷ w3 ∷ w4 ∷ w5 ∷ []) a b d e f x y z u v least most p q r s t h i j k l = cc (p, q, r, s, t, h, i, j, k, l)
+spelled_five (w1 ∷ w2 ∷ w3 ∷ w4 ∷ w5 ∷ w6 ∷ rest) a b d e f x y z u v least most p q r s t h i j k l = absurd (omega (arith, most))
+
 -- the command that words ask for is the one that they are read as
 pub asked_by : (words : List (String Global)) (c : Command) → Asks words c → command_of_words (map string_bytes words) ≡ Some c
 asked_by words c is = ap command_of_words ((sound c).spelled words is) ∙ (sound c).read ((sound c).names words is)

@@ -8,7 +8,9 @@ pub mod Says
 pub mod Sound
 pub mod Soundness
 pub mod Audits
+pub mod Bounds
 pub mod ByLabels
+pub mod Decisions
 pub mod Asking
 pub mod Named
 pub mod Netlists
@@ -20,3 +22,4 @@ pub mod Ways
 pub mod SmallParts
 pub mod SmallNetlists
 pub mod ReportLength
+pub mod Readings

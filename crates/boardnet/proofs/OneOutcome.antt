@@ -4,9 +4,8 @@ use Rattle.std.proofs.Math.Seq.{drop-append_seam}
 use Rattle.std.specs.List.{AllByRecursion}
 use Rattle.board_io.specs.Handed.{AgreeWith, Agrees, Handed}
 use Rattle.board_io.specs.Package.{Files}
-use Rattle.board_package.specs.HandedLaw.{HandedIsHeld}
 use Rattle.boardnet.proofs.Agreeable.{files_agree}
-use Rattle.boardnet.proofs.Sound.{Laws}
+use Rattle.boardnet.proofs.Sound.{HandedLaws, Laws}
 use Rattle.boardnet.proofs.Soundness.{sound}
 use Rattle.boardnet.specs.OneOutcome.{OneHandedOutcome, OneOutcome}
 
@@ -21,7 +20,7 @@ agree_behind files first second gained w =
     subst (λ (xs : List Handed). AllByRecursion (Agrees files) xs) (sym (drop-append_seam second gained))
     (subst (λ (xs : List Handed). AllByRecursion (Agrees files) xs) (drop-append_seam first gained) w)
 
-pub one_handed_outcome : OneOutcome → HandedIsHeld → OneHandedOutcome
+pub one_handed_outcome : OneOutcome → HandedLaws → OneHandedOutcome
 one_handed_outcome one law first second gained c o p names x y =
     let found = files_agree first gained names in
     let files : Files = found.0 in

@@ -12,7 +12,7 @@ use Rattle.ipc356_records.specs.Columns.{line_to, name_from, name_to, part, word
 use Rattle.ipc356_records.specs.Line.{RecordLine, TestFields, blank, unread, units, ends, continues, tests, unknown, finishes}
 use Rattle.ipc356_records.specs.Names.{index_of, is_name}
 use Rattle.ipc356_records.specs.NetlistFile.{IsRead, Netlist, effect_at, item_of, items, probes_in, probes_of}
-use Rattle.ipc356_records.specs.RecordEffects.{Effect, Known, stays, sets, closes, adds, ◌>>=◌, behind, effect, layers_of, needed, placed, probe_at, probes_of_effect, row, set_unit, test, within}
+use Rattle.ipc356_records.specs.RecordEffects.{Effect, Known, stays, sets, closes, adds, ◌>>=◌, behind, effect, layers_of, needed, placed, probe_at, probes_of_effect, row, set_unit, test_record, within}
 use Rattle.ipc356_records.specs.RecordLines.{coded, fields_in, form_of, is_graphic, is_other, name_of, parameter, unit_of}
 use Rattle.ipc356_records.specs.Settings.{known_at, name_in, names_of, records_before, with_name_if}
 use Rattle.ipc356_records.specs.declared.TheConstants.{MOST_RECORDS}
@@ -128,8 +128,8 @@ past true why r y h = absurd cc
 past false why r y h = refl
 
 -- a test record without a fault has room
-room : (k : Known) (f : TestFields) (e : Effect) → test k f ≡ Ok e → k.records < MOST_RECORDS
-unfolding test
+room : (k : Known) (f : TestFields) (e : Effect) → test_record k f ≡ Ok e → k.records < MOST_RECORDS
+unfolding test_record
 room k f e h =
     let unit = bound (needed kind.MissingUnits k.unit) _ e h in
     let name = bound (needed kind.BadName f.name) _ e unit.1 in

@@ -4,6 +4,7 @@ use Rattle.std.proofs.lemmas.Fmt.{decimal_is_IsNumeral}
 use Rattle.std.specs.Prelude.{map, string_bytes}
 use Rattle.std.specs.Str.Parse.{digits_value}
 use Rattle.std.specs.declared.alloc.Global.{Global}
+use Rattle.arc_covers.specs.Laws.{CountsAreOne, CountsHaveNoOther, FirstOtherIsOne}
 use Rattle.board_io.specs.Handed.{AgreeWith, Handed}
 use Rattle.board_io.specs.Package.{Files}
 use Rattle.board_package.specs.HandedLaw.{HandedIsHeld, HoldsWhatWasHanded}
@@ -20,6 +21,7 @@ use Rattle.boardnet.specs.Source.{FitsWith}
 use Rattle.boardnet.specs.commands.{command_of_words, task_of}
 use Rattle.boardnet.specs.Words.{Asks, Command}
 use Rattle.boardnet.specs.declared.answer.Unanswered.{Unanswered}
+use Rattle.real_package.specs.Laws.{HandedIsHeld as RealIsHeld, HasOneRealOutcome}
 use Rattle.tables.specs.Consistent.{AreConsistent}
 use Rattle.tables.specs.Tables.{Tables}
 use Rattle.verdict.specs.Laws.{ReportTextIsInjective}
@@ -27,11 +29,20 @@ use Rattle.verdict.specs.Right.{IsRight}
 use Rattle.verdict.specs.declared.verdict.Verdict.{Verdict}
 use Rattle.witness_check.specs.Laws.{DifferInWitnessesOnly}
 
--- each package has one outcome, with its netlist and by its labels, and each copper file that may have macros one answer
+-- each package has one outcome, with its netlist, by its labels and with arcs, each copper file that may have macros one answer, and each file of counts
 pub record OneOutcome : Type 0 where
   pub listed : (files : Files) (manifest : List ℕ) → HasOneOutcome files manifest
   pub labelled : (files : Files) (manifest : List ℕ) → HasOneLabelledOutcome files manifest
   pub flat : (file : List ℕ) → HasOneMacroAnswer file
+  pub real : (files : Files) (manifest : List ℕ) → HasOneRealOutcome files manifest
+  pub counts : CountsAreOne
+  pub no_other : CountsHaveNoOther
+  pub first_other : FirstOtherIsOne
+
+-- what is said of what was handed over holds of the files: of packages, and of those whose draws may be arcs
+pub record HandedLaws : Type 0 where
+  pub listed : HandedIsHeld
+  pub real : RealIsHeld
 
 -- what lower laws say: that outcomes of packages and files are one, and what is the same in all right verdicts of one board
 pub record Laws : Type 0 where
@@ -66,7 +77,7 @@ pub record Sound (c : Command) : Type 0 where
   -- over the same files it has one status and one line
   pub alike : Laws → (f : Files) (o p : Outcome) → OfFilesRead c (Some f) (λ g. OutcomeOf (Held g) c o) → OfFilesRead c (Some f) (λ g. OutcomeOf (Held g) c p) → AreAlike o p
   -- what it comes to by what was handed over it comes to by all files that agree with that
-  pub agrees : HandedIsHeld → (held : Option Files) (a b : List Handed) → IfSome held (λ f. AgreeWith f a b) → HoldsHanded c held a b
+  pub agrees : HandedLaws → (held : Option Files) (a b : List Handed) → IfSome held (λ f. AgreeWith f a b) → HoldsHanded c held a b
 
 -- the number that a decimal spells
 pub value : (n : ℕ) → n < 2 ^ 64 → digits_value 10 (decimal n) ≡ n

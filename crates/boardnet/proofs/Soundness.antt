@@ -9,6 +9,7 @@ use Rattle.boardnet.proofs.Soundness.Write.{sound_write}
 use Rattle.boardnet.proofs.Soundness.Gaps.{sound_gaps}
 use Rattle.boardnet.proofs.Soundness.X2.{sound_x2}
 use Rattle.boardnet.proofs.Soundness.Flatten.{sound_flatten}
+use Rattle.boardnet.proofs.Soundness.Between.{sound_between}
 pub mod Check
 pub mod Audit
 pub mod Trial
@@ -16,6 +17,7 @@ pub mod Write
 pub mod Gaps
 pub mod X2
 pub mod Flatten
+pub mod Between
 
 pub sound : (c : Command) → Sound c
 sound (command.Check version manifest) = sound_check version manifest
@@ -25,3 +27,4 @@ sound (command.Write manifest) = sound_write manifest
 sound (command.Gaps manifest nanometres) = sound_gaps manifest nanometres
 sound (command.X2 manifest) = sound_x2 manifest
 sound (command.Flatten file) = sound_flatten file
+sound (command.Between names) = sound_between names

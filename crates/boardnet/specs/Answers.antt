@@ -9,19 +9,23 @@ use Rattle.board_shapes.specs.Plain.{PlainBoard}
 use Rattle.board_shapes.specs.Tables.{IsTables}
 use Rattle.board_maker.specs.declared.made.MakeFault.{MakeFault}
 use Rattle.board_maker.specs.declared.made.MakeFault.TheVariants as made
+use Rattle.boardnet.specs.Bounded.{unbound_line}
+use Rattle.boardnet.specs.Common.{arc_line}
 use Rattle.boardnet.specs.Gapped.{IsTooWide}
 use Rattle.gerber_layer.specs.declared.macro_kind.FlattenFault.{FlattenFault}
 use Rattle.gerber_layer.specs.declared.macro_kind.FlattenFault.TheVariants as flat
 use Rattle.gaps.specs.declared.listing.GapFault.{GapFault}
 use Rattle.gaps.specs.declared.listing.GapFault.TheVariants as gap
-use Rattle.boardnet.specs.Lines.{counted_line, plain_line, file_line, differs_line, frame_line, label_line, end}
+use Rattle.boardnet.specs.Lines.{counted_line, plain_line, file_line, differs_line, frame_line, label_line, undecided_line, end}
 use Rattle.boardnet.specs.Outcome.{OutcomeOf, Source, Told, flatten_line, refusal_line, IsNoReport, IsTextOf}
 use Rattle.boardnet.specs.Words.{Command, task_of}
 use Rattle.boardnet.specs.declared.answer.Answer.{Answer}
 use Rattle.boardnet.specs.declared.answer.Note.{Note}
 use Rattle.boardnet.specs.declared.answer.Note.TheVariants as note
 use Rattle.boardnet.specs.declared.answer.Unanswered.{Unanswered}
-use Rattle.boardnet.specs.declared.answer.Unanswered.TheVariants.{Stopped, NotAReport, SizeTooLarge, GrownTooLarge, Mislabelled, Unflat}
+use Rattle.boardnet.specs.declared.answer.Unanswered.TheVariants.{Stopped, NotAReport, SizeTooLarge, GrownTooLarge, Mislabelled, Unflat, Bent, NotJson, NotAManifest, Unbound}
+use Rattle.real_package.specs.declared.fault.RealBuildFault.{RealBuildFault}
+use Rattle.real_package.specs.declared.fault.RealBuildFault.TheVariants as real
 use Rattle.tables.specs.Tables.{Tables}
 use Rattle.verdict.specs.declared.verdict.Verdict.{Verdict}
 use Rattle.witness_check.specs.Ruled.{Rules}
@@ -39,6 +43,7 @@ is_good note.NetlistWritten = true
 is_good note.NoGaps = true
 is_good (note.Gaps count) = false
 is_good note.Flattened = true
+is_good (note.Undecided opens shorts missing) = false
 
 -- the status of an answer
 abbrev pub status_of : Note → ℕ
@@ -55,6 +60,7 @@ line_of note.NetlistWritten = plain_line (codes "netlist written")
 line_of note.NoGaps = plain_line (codes "no gaps")
 line_of (note.Gaps count) = counted_line (codes "gaps ") count
 line_of note.Flattened = plain_line (codes "flattened")
+line_of (note.Undecided opens shorts missing) = undecided_line opens shorts missing
 
 -- an answer is the outcome of a command
 abbrev pub IsAnswerTo : Source → Command → Answer → Type 0
@@ -80,6 +86,17 @@ ungapped_of gap.NoMemory = Stopped fault.NoMemory
 abbrev pub unlabelled_of : LabelledFault → Unanswered
 unlabelled_of (labelled.Build why) = Stopped why
 unlabelled_of (labelled.Label name command byte) = Mislabelled name command byte
+
+-- why there is no answer where no board is made whose draws may be arcs
+abbrev pub unreal_of : RealBuildFault → Unanswered
+unreal_of (real.Build why) = Stopped why
+unreal_of (real.Arc name kind command byte) = Bent name kind command byte
+
+-- why there is no answer where a manifest behind the first, of this name, gives no board: its line names it
+abbrev pub behind_of : List ℕ → BuildFault → Unanswered
+behind_of name fault.NotJson = NotJson name
+behind_of name fault.BadManifest = NotAManifest name
+behind_of name other = Stopped other
 
 -- why a board has no list of gaps
 abbrev pub IsUngapped : PlainBoard → ℕ → GapFault → Type 0
@@ -134,6 +151,10 @@ reason_line subject report SizeTooLarge = plain_line (codes "trial size too larg
 reason_line subject report (GrownTooLarge box) = frame_line box
 reason_line subject report (Mislabelled name number byte) = label_line name number byte
 reason_line subject report (Unflat kind number byte) = flatten_line subject kind number byte
+reason_line subject report (Bent name kind number byte) = arc_line name kind number byte
+reason_line subject report (NotJson name) = file_line name (codes "not JSON")
+reason_line subject report (NotAManifest name) = file_line name (codes "not a manifest")
+reason_line subject report (Unbound why) = unbound_line subject report why
 
 -- the status is the reason's, and `Line` holds of its line
 abbrev pub RefusesFor : Command → Unanswered → ℕ → (List ℕ → Type 0) → Type 0

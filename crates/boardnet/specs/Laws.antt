@@ -8,7 +8,17 @@ use Rattle.board_package.specs.declared.entry.Role.TheVariants.{Netlist}
 use Rattle.board_package.specs.declared.manifest.Manifest.{Manifest}
 use Rattle.board_shapes.specs.Plain.{PlainBoard}
 use Rattle.boardnet.specs.Lines.{end, plain_line}
-use Rattle.boardnet.specs.Outcome.{AuditOutcome, CheckOutcome, Held, IsWritten, Told}
+use Rattle.boardnet.specs.Outcome.{AuditOutcome, CheckOutcome, Held, IsDecided, IsWritten, Source, Told}
+use Rattle.boardnet.specs.Command.{BoundNames}
+use Rattle.covers.specs.Agreeing.{AgreesWithNames}
+use Rattle.covers.specs.Boards.{Layout}
+use Rattle.covers.specs.Laws.{Decides}
+use Rattle.planar.specs.Plane.{Point}
+use Rattle.real_package.specs.RealBoards.{PlainRealBoard}
+use Rattle.arc_covers.specs.RealBoards.{IsReal}
+use Rattle.arc_layer.specs.Real.{plain_reals}
+use Rattle.arcs.specs.declared.real_shape.RealShape.{RealShape}
+use Rattle.board_shapes.specs.declared.placed.Placed.{Placed}
 use Rattle.boardnet.specs.declared.words.Version.{Version}
 use Rattle.boardnet.specs.declared.words.Version.TheVariants.{One, Two}
 use Rattle.board_shapes.specs.declared.TheConstants.{MOST_PIECES}
@@ -63,6 +73,26 @@ CanBeTaken Two text = length text ≤ MOST_BYTES
 abbrev pub ReportsPass : Type 0
 ReportsPass = (before after : Files) (version : Version) (manifest report text line : List ℕ) (status : ℕ) → CheckOutcome (Held before) version manifest (Told text status line) → HoldsReport before after report text → CanBeTaken version text
     → AuditOutcome (Held after) manifest report (Told (codes "audit true" ++ end) 0 (plain_line (codes "audit true")))
+
+-- ---- Boards between two others
+
+-- The layout has the test points, names and layers of the real board, and its pieces, each with some copper that its figure or its arc draw may have.
+pub record IsLaidOut (real : PlainRealBoard) (holds : ℕ → Point → Type 0) (b : Layout) : Type 0 where
+  pub probes : b.probes ≡ real.probes
+  pub names : b.names ≡ real.names
+  pub layers : b.layers ≡ real.layers
+  pub pieces : List (Placed RealShape)
+  pub are : plain_reals pieces ≡ real.pieces
+  pub real_is : IsReal pieces holds b
+
+-- Where `between` answers 0, the real package agrees with its names, whatever copper it has of those that its files allow.
+abbrev pub BoundedBoardsAgree : (ℕ → Point → Type 0) → Type 0
+BoundedBoardsAgree holds = (source : Source) (names : BoundNames) (text line : List ℕ) (d : IsDecided source names text 0 line) (b : Layout) → IsLaidOut d.bounds.real holds b → AgreesWithNames holds b
+
+-- And what the verdicts below and above say is certain of it: points of one net below are joined, those that are joined are of one net above, and one without
+-- a net above has no copper.
+abbrev pub BoundedBoardsAreDecided : (ℕ → Point → Type 0) → Type 0
+BoundedBoardsAreDecided holds = (source : Source) (names : BoundNames) (text line : List ℕ) (status : ℕ) (d : IsDecided source names text status line) (b : Layout) → IsLaidOut d.bounds.real holds b → Decides d.decision.below d.decision.above holds b
 
 -- ---- Written netlists
 

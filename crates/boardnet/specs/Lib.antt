@@ -1,4 +1,6 @@
 pub mod Answers
+pub mod BetweenText
+pub mod Bounded
 pub mod Command
 pub mod Common
 pub mod Ends
@@ -15,5 +17,6 @@ pub mod Right
 pub mod Task
 pub mod commands
 pub mod Trials
+pub mod Unbounded
 pub mod Words
 pub mod Written

@@ -49,6 +49,10 @@ label_line file command byte = concat (begin ∷ file ∷ codes ": label at comm
 abbrev pub differs_line : ℕ → ℕ → ℕ → List ℕ
 differs_line opens shorts missing = concat (begin ∷ codes "differs, opens " ∷ decimal opens ∷ codes ", shorts " ∷ decimal shorts ∷ codes ", missing " ∷ decimal missing ∷ end ∷ [])
 
+-- how many are possible, where none is certain
+abbrev pub undecided_line : ℕ → ℕ → ℕ → List ℕ
+undecided_line opens shorts missing = concat (begin ∷ codes "undecided, opens " ∷ decimal opens ∷ codes ", shorts " ∷ decimal shorts ∷ codes ", missing " ∷ decimal missing ∷ end ∷ [])
+
 -- the box that fits in no frame: its left, low, right and high side, in u
 abbrev pub frame_line : Bounds → List ℕ
 frame_line b = concat (begin ∷ codes "frame too large: " ∷ signed_decimal b.left ∷ codes " " ∷ signed_decimal b.low ∷ codes " " ∷ signed_decimal b.right ∷ codes " " ∷ signed_decimal b.high ∷ end ∷ [])

@@ -16,6 +16,7 @@ pub use Rattle.boardnet.specs.commands.Write.{IsWritten}
 pub use Rattle.boardnet.specs.commands.Gaps.{IsGapped}
 pub use Rattle.boardnet.specs.commands.X2.{JoinsPieces, IsLabelledReport}
 pub use Rattle.boardnet.specs.commands.Flatten.{IsFlatText, flatten_line}
+pub use Rattle.boardnet.specs.commands.Between.{AreBounded, IsDecided}
 use Rattle.boardnet.specs.Words.{Command, task_of}
 
 -- Each command has its own outcome, by the files that a package holds or by what it handed over.

@@ -1,13 +1,16 @@
 -- What a command read: the files that a package holds, or those that it handed over between two points of the call, whether it
 -- tells what it holds or not. Each relation here is that of `board_package` for the one or for the other.
 use Rattle.std.specs.Prelude.{◌≡◌, ℕ, List}
-use Rattle.board_io.specs.Handed.{Handed}
+use Rattle.board_io.specs.Handed.{Grows, Handed}
 use Rattle.board_io.specs.Package.{Files}
 use Rattle.board_package.specs.HandedBoard.{ComesHanded, ComesNext, IsBoardHanded, IsFirstStopHanded, IsHanded, StopsHanding}
 use Rattle.board_package.specs.HandedLabelled.{IsFirstLabelledStopHanded, IsLabelledBoardHanded, LabelledComesHanded}
 use Rattle.board_package.specs.LabelledBoard.{IsFirstLabelledStop, IsLabelledBoardOf, LabelledComes, LabelledStop}
 use Rattle.board_package.specs.PackageBoard.{Comes, IsBoardOf, IsFirstStop, IsHeld, IsWithinLimits, Stop, StopsTaking}
 use Rattle.board_shapes.specs.Plain.{PlainBoard}
+use Rattle.real_package.specs.HandedReal.{IsFirstRealStopHanded, IsRealBoardHanded, RealComesHanded}
+use Rattle.real_package.specs.RealBoards.{PlainRealBoard}
+use Rattle.real_package.specs.RealPackage.{IsFirstRealStop, IsRealBoardOf, RealComes, RealStop}
 
 pub data Source : Type 0 where
   Held : Files → Source
@@ -60,6 +63,35 @@ IsFirstLabelledStopBy (HandedOver before after) manifest stop = IsFirstLabelledS
 abbrev pub LabelledComesBy : Source → List ℕ → List ℕ → Type 0
 LabelledComesBy (Held files) manifest name = LabelledComes files manifest name
 LabelledComesBy (HandedOver before after) manifest name = LabelledComesHanded before after manifest name
+
+-- ---- A package whose draws may be arcs
+
+abbrev pub IsFirstRealStopBy : Source → List ℕ → RealStop → Type 0
+IsFirstRealStopBy (Held files) manifest stop = IsFirstRealStop files manifest stop
+IsFirstRealStopBy (HandedOver before after) manifest stop = IsFirstRealStopHanded before after manifest stop
+
+abbrev pub RealComesBy : Source → List ℕ → List ℕ → Type 0
+RealComesBy (Held files) manifest name = RealComes files manifest name
+RealComesBy (HandedOver before after) manifest name = RealComesHanded before after manifest name
+
+-- The package fits as one whose draws may be arcs, with this board, and Then holds of what was read behind it. What was handed over there
+-- stands behind what the package handed over.
+abbrev pub FitsRealBefore : Source → List ℕ → PlainRealBoard → (Source → Type 0) → Type 0
+FitsRealBefore (Held files) manifest board Then = IsRealBoardOf files manifest board × Then (Held files)
+FitsRealBefore (HandedOver before after) manifest board Then = (built : List Handed) × (Grows before built × Grows built after) × IsRealBoardHanded before built manifest board × Then (HandedOver built after)
+
+pub record FitsRealThen (source : Source) (manifest : List ℕ) (Then : Source → Type 0) : Type 0 where
+  pub board : PlainRealBoard
+  pub behind : FitsRealBefore source manifest board Then
+
+-- the same of a package without arcs
+abbrev pub FitsNext : Source → List ℕ → PlainBoard → (Source → Type 0) → Type 0
+FitsNext (Held files) manifest board Then = IsBoardOf files manifest board × Then (Held files)
+FitsNext (HandedOver before after) manifest board Then = (built : List Handed) × (Grows before built × Grows built after) × IsBoardHanded before built manifest board × Then (HandedOver built after)
+
+pub record FitsNextThen (source : Source) (manifest : List ℕ) (Then : Source → Type 0) : Type 0 where
+  pub board : PlainBoard
+  pub behind : FitsNext source manifest board Then
 
 -- ---- One file
 

@@ -11,6 +11,7 @@ use Rattle.boardnet.specs.commands.Write.{write, write_by}
 use Rattle.boardnet.specs.commands.Gaps.{gaps, gaps_by}
 use Rattle.boardnet.specs.commands.X2.{x2, x2_by}
 use Rattle.boardnet.specs.commands.Flatten.{flatten, flatten_by}
+use Rattle.boardnet.specs.commands.Between.{between, between_by}
 pub mod Check
 pub mod Audit
 pub mod Trial
@@ -18,6 +19,7 @@ pub mod Write
 pub mod Gaps
 pub mod X2
 pub mod Flatten
+pub mod Between
 
 -- what is told of each
 abbrev pub task_of : Command → Task
@@ -28,6 +30,7 @@ task_of (command.Write manifest) = write manifest
 task_of (command.Gaps manifest nanometres) = gaps manifest nanometres
 task_of (command.X2 manifest) = x2 manifest
 task_of (command.Flatten file) = flatten file
+task_of (command.Between names) = between names
 
 -- the name of each, with what stands behind it
 abbrev names : List (List ℕ × (List (List ℕ) → Option Command))
@@ -39,6 +42,7 @@ names =
     ∷ (codes "gaps", gaps_by)
     ∷ (codes "x2", x2_by)
     ∷ (codes "flatten", flatten_by)
+    ∷ (codes "between", between_by)
     ∷ []
 
 -- the first of the names that is the word

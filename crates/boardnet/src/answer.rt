@@ -1,13 +1,17 @@
 //! What a command answers, and why it has no answer.
 ghost use Rattle.board_package.specs.declared.fault.BuildFault.TheVariants as build;
-ghost use Rattle.boardnet.specs.Answers.{line_of, status_of, unflat_of, ungapped_of, unlabelled_of, unmade_of};
+ghost use Rattle.boardnet.specs.Answers.{line_of, status_of, unflat_of, ungapped_of, unlabelled_of, unmade_of, unreal_of};
+ghost use Rattle.boardnet.specs.BetweenText.{IsDecision};
 ghost use Rattle.boardnet.specs.Gapped.{IsGapStatus};
 ghost use Rattle.boardnet.specs.Lines.{Says};
 ghost use Rattle.boardnet.specs.Outcome.{HasStatus};
 ghost use Rattle.boardnet.specs.declared.answer.Unanswered.TheVariants as unanswered;
 ghost use Rattle.std.specs.Prelude.{◌≡◌};
 
+use crate::between_text::{nothing_certain, nothing_possible};
 use crate::lines;
+use crate::unbound::Unbound;
+use arc_layer::RealKind;
 use board_io::Sink;
 use board_maker::MakeFault;
 use board_package::{BuildFault, LabelledFault};
@@ -16,6 +20,7 @@ use gaps::GapFault;
 use gerber_layer::{FlattenFault, FlattenKind};
 use lengths::rows::NoMemory;
 use lengths::text::Text;
+use real_package::RealBuildFault;
 use verdict::Verdict;
 
 /// What a command answers: the text for the output, and what the line about it says.
@@ -47,6 +52,11 @@ pub enum Note {
         count: usize,
     },
     Flattened,
+    Undecided {
+        opens: usize,
+        shorts: usize,
+        missing: usize,
+    },
 }
 
 impl Note {
@@ -61,6 +71,27 @@ impl Note {
             opens: verdict.opens.as_slice().len(),
             shorts: verdict.shorts.as_slice().len(),
             missing: verdict.bare.as_slice().len(),
+        }
+    }
+
+    /// What the line about a board between those of two verdicts says.
+    pub fn between(below: &Verdict, above: &Verdict) -> Note
+        ensures { IsDecision below.now above.now (status_of result) (line_of result) }
+    {
+        if nothing_possible(below, above) {
+            return Note::Agrees;
+        }
+        if nothing_certain(below, above) {
+            return Note::Undecided {
+                opens: below.opens.as_slice().len(),
+                shorts: above.shorts.as_slice().len(),
+                missing: below.bare.as_slice().len(),
+            };
+        }
+        Note::Differs {
+            opens: above.opens.as_slice().len(),
+            shorts: below.shorts.as_slice().len(),
+            missing: above.bare.as_slice().len(),
         }
     }
 
@@ -88,6 +119,7 @@ impl Note {
             Note::NoGaps => 0,
             Note::Gaps { .. } => 1,
             Note::Flattened => 0,
+            Note::Undecided { .. } => 1,
         }
     }
 
@@ -111,6 +143,11 @@ impl Note {
             Note::NoGaps => lines::plain(notes, b"no gaps"),
             Note::Gaps { count } => lines::counted(notes, b"gaps ", count as u64),
             Note::Flattened => lines::plain(notes, b"flattened"),
+            Note::Undecided {
+                opens,
+                shorts,
+                missing,
+            } => lines::undecided(notes, opens, shorts, missing),
         }
     }
 }
@@ -139,6 +176,19 @@ pub enum Unanswered {
         command: u32,
         at: usize,
     },
+    /// The copper file is refused for an arc, by its first faulty command, from 1, and the place of its first byte, from 0.
+    Bent {
+        file: Text,
+        kind: RealKind,
+        command: u32,
+        at: usize,
+    },
+    /// The manifest of this name, behind the first, is not JSON.
+    NotJson(Text),
+    /// It is JSON and no manifest.
+    NotAManifest(Text),
+    /// Two boards are no bounds of a real one.
+    Unbound(Unbound),
 }
 
 /// What a command comes to on the package: its answer, or why it has none.
@@ -160,6 +210,29 @@ impl From<LabelledFault> for Unanswered {
             LabelledFault::Build(why) => Unanswered::Stopped(why),
             LabelledFault::Label { file, command, at } => {
                 Unanswered::Mislabelled { file, command, at }
+            }
+        }
+    }
+}
+
+impl From<RealBuildFault> for Unanswered {
+    ghost from_gives = { λ fault u. u ≡ unreal_of fault };
+
+    fn from(fault: RealBuildFault) -> Unanswered {
+        match fault {
+            RealBuildFault::Build(why) => Unanswered::Stopped(why),
+            RealBuildFault::Arc {
+                file,
+                kind,
+                command,
+                at,
+            } => {
+                Unanswered::Bent {
+                    file,
+                    kind,
+                    command,
+                    at,
+                }
             }
         }
     }

@@ -9,6 +9,7 @@ ghost use Rattle.boardnet.specs.Words.{CanAsk, Command as Asked, Flatten, Spelle
 ghost use Rattle.std.specs.Prelude.{IfNone, IfOk, IfSome, List, [], ℕ, ◌∷◌, ◌≡◌, ◌⊎◌};
 
 pub mod audit;
+pub mod between;
 pub mod check;
 pub mod flatten;
 pub mod gap;
@@ -17,6 +18,7 @@ pub mod write;
 pub mod x2;
 
 use self::audit::ruling;
+use self::between::decision;
 use self::check::report;
 use self::flatten::flat_text;
 use self::gap::gap_list;
@@ -33,19 +35,44 @@ use std::alloc::Global;
 #[derive(Clone, Copy)]
 pub enum Command<'a> {
     /// `check MANIFEST`: check the package of the manifest, with a report of version 2; `check MANIFEST 1`: of version 1.
-    Check { version: Version, manifest: &'a str },
+    Check {
+        version: Version,
+        manifest: &'a str,
+    },
     /// `audit MANIFEST REPORT`: audit the report on the package of the manifest.
-    Audit { manifest: &'a str, report: &'a str },
+    Audit {
+        manifest: &'a str,
+        report: &'a str,
+    },
     /// `trial SEED SIZE`: check the made board of so many cells.
-    Trial { seed: u64, size: u32 },
+    Trial {
+        seed: u64,
+        size: u32,
+    },
     /// `write MANIFEST`: write a netlist of the package of the manifest.
-    Write { manifest: &'a str },
+    Write {
+        manifest: &'a str,
+    },
     /// `gaps MANIFEST NANOMETRES`: list the nets of the package that come that close.
-    Gaps { manifest: &'a str, nanometres: u32 },
+    Gaps {
+        manifest: &'a str,
+        nanometres: u32,
+    },
     /// `x2 MANIFEST`: check the package of the manifest by the net names in its copper files.
-    X2 { manifest: &'a str },
+    X2 {
+        manifest: &'a str,
+    },
     /// `flatten FILE`: rewrite the copper file without macros.
-    Flatten { file: &'a str },
+    Flatten {
+        file: &'a str,
+    },
+    /// `between REAL LOWER UPPER COUNTS`: judge the package of REAL, whose draws may be arcs, by those of LOWER and UPPER.
+    Between {
+        real: &'a str,
+        lower: &'a str,
+        upper: &'a str,
+        counts: &'a str,
+    },
 }
 
 impl<'a> Command<'a> {
@@ -63,15 +90,17 @@ impl<'a> Command<'a> {
             Command::Gaps { manifest, .. } => manifest,
             Command::X2 { manifest } => manifest,
             Command::Flatten { file } => file,
+            Command::Between { real, .. } => real,
         }
     }
 
-    /// The name of its report; empty where it has none.
+    /// The name of its report, or of its file of counts; empty where it has none.
     pub fn report(self) -> &'a str
         ensures { result.now ≡ report_of (asked self.entry) }
     {
         match self {
             Command::Audit { report, .. } => report,
+            Command::Between { counts, .. } => counts,
             _ => "",
         }
     }
@@ -113,6 +142,23 @@ pub fn of_two<'a>(command: &str, first: &'a str, second: &'a str) -> Option<Comm
     }
 }
 
+/// The command of a word and four more.
+pub fn of_four<'a>(
+    command: &str,
+    first: &'a str,
+    second: &'a str,
+    third: &'a str,
+    fourth: &'a str,
+) -> Option<Command<'a>>
+    ensures some { IfSome result (λ given. SpelledAsk (command.now ∷ first.now ∷ second.now ∷ third.now ∷ fourth.now ∷ []) (asked given)) }
+    ensures none { IfNone result ((given : Asked) → CanAsk (command.now ∷ first.now ∷ second.now ∷ third.now ∷ fourth.now ∷ []) given → ⊥) }
+{
+    match command {
+        "between" => between::of_words(first, second, third, fourth),
+        _ => None,
+    }
+}
+
 /// The answer to a command, or why it has none.
 pub fn answer_to<P: Package>(alloc: Global, command: Command, package: &mut P) -> Answered
     requires { HasNames (asked command) }
@@ -133,5 +179,11 @@ pub fn answer_to<P: Package>(alloc: Global, command: Command, package: &mut P) -
         } => gap_list(alloc, manifest, nanometres, package),
         Command::X2 { manifest } => labelled_report(alloc, manifest, package),
         Command::Flatten { file } => flat_text(alloc, file, package),
+        Command::Between {
+            real,
+            lower,
+            upper,
+            counts,
+        } => decision(alloc, real, lower, upper, counts, package),
     }
 }

@@ -1,12 +1,16 @@
 //! Laws over the outcomes. Their calls do nothing.
 ghost use Rattle.boardnet.specs.FilesAgree.{FilesAgree, OutcomesAgree};
-ghost use Rattle.boardnet.specs.Laws.{FirstReportsAreShort, ReportsPass, RightVerdictsAreSmall, WrittenNetlistsPass};
+ghost use Rattle.boardnet.specs.Laws.{BoundedBoardsAgree, BoundedBoardsAreDecided, FirstReportsAreShort, ReportsPass, RightVerdictsAreSmall, WrittenNetlistsPass};
 ghost use Rattle.boardnet.specs.OneOutcome.{OneHandedOutcome, OneOutcome};
 
+use arc_covers::laws as bounds;
 use board_package::laws as packages;
+use board_shapes::laws as shapes;
+use covers::Copper;
 use gaps::laws as lists;
 use gerber_layer::laws as layers;
 use netlist_writer::laws as netlists;
+use real_package::laws as reals;
 use verdict::laws as reports;
 use witness_check::laws as verdicts;
 
@@ -21,6 +25,7 @@ pub fn outcomes_agree()
     ensures { OutcomesAgree }
 {
     packages::handed_is_held();
+    reals::handed_is_held();
 }
 
 /// Two outcomes of a command over the same files have one status and one line, or are refusals with one line. Of their
@@ -30,7 +35,9 @@ pub fn one_outcome()
 {
     packages::one_outcome();
     packages::one_labelled_outcome();
+    reals::one_real_outcome();
     layers::one_macro_answer();
+    bounds::counts_are_one();
     lists::gap_lists_are_one();
     reports::report_text_is_injective();
     verdicts::verdicts_differ_in_witnesses_only();
@@ -42,6 +49,7 @@ pub fn one_handed_outcome()
 {
     one_outcome();
     packages::handed_is_held();
+    reals::handed_is_held();
 }
 
 /// A right verdict on a board of at most 200,000 pieces, 400,000 points and 200,000 names lists no more than that, in all paths
@@ -66,6 +74,18 @@ pub fn reports_pass()
     ensures { ReportsPass }
 {
     first_reports_are_short();
+}
+
+/// Whatever copper the real package of a `between` has, of those that its files allow: under 0 it agrees with its names, and
+/// what the verdicts below and above say of nets is certain of it. A caller picks the copper, as any set of points for
+/// each piece; `between` of `run` gives the bounds and the verdicts.
+pub fn bounded_boards_are_decided<R: Copper>()
+    ensures agrees { BoundedBoardsAgree R.holds }
+    ensures decides { BoundedBoardsAreDecided R.holds }
+{
+    shapes::tables_are_unique();
+    bounds::taken_are_bounds();
+    bounds::real_board_is_decided::<R>();
 }
 
 /// The netlist that `write` puts agrees with the copper: a package that holds it in place of its own netlist fits, and where

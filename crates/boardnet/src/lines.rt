@@ -1,5 +1,6 @@
 //! The line to the notes, put in pieces and without memory.
-ghost use Rattle.boardnet.specs.Lines.{Gains, Rose, Says, at_byte, at_item, counted_line, differs_line, file_line, frame_line, kind_line, label_line, plain_line};
+ghost use Rattle.boardnet.specs.Lines.{Gains, Rose, Says, at_byte, at_item, counted_line, differs_line, file_line, frame_line, kind_line, label_line, plain_line, undecided_line};
+ghost use Rattle.boardnet.specs.Bounded.{not_counts_line};
 ghost use Rattle.std.specs.List.{flat_map};
 ghost use Rattle.std.specs.Prelude.{false, true, ◌≡◌};
 
@@ -37,6 +38,25 @@ pub fn differs<N: Sink>(notes: &mut N, opens: usize, shorts: usize, missing: usi
         &[
             b"boardnet: ",
             b"differs, opens ",
+            Numeral::of(opens as u64).as_bytes(),
+            b", shorts ",
+            Numeral::of(shorts as u64).as_bytes(),
+            b", missing ",
+            Numeral::of(missing as u64).as_bytes(),
+            b"\n",
+        ],
+    );
+}
+
+/// Puts the line of a board between two others that is not decided.
+pub fn undecided<N: Sink>(notes: &mut N, opens: usize, shorts: usize, missing: usize)
+    ensures { Says N.got N.faults notes.old notes.new (undecided_line opens shorts missing) }
+{
+    put_all(
+        notes,
+        &[
+            b"boardnet: ",
+            b"undecided, opens ",
             Numeral::of(opens as u64).as_bytes(),
             b", shorts ",
             Numeral::of(shorts as u64).as_bytes(),
@@ -146,6 +166,22 @@ pub fn mislabelled<N: Sink>(notes: &mut N, file: &[u8], command: u32, byte: usiz
             Numeral::of(u64::from(command)).as_bytes(),
             b", byte ",
             Numeral::of(byte as u64).as_bytes(),
+            b"\n",
+        ],
+    );
+}
+
+/// Puts the line of a file of counts that is none, at the number of a line.
+pub fn not_counts<N: Sink>(notes: &mut N, file: &[u8], line: usize)
+    ensures { Says N.got N.faults notes.old notes.new (not_counts_line file.now line) }
+{
+    put_all(
+        notes,
+        &[
+            b"boardnet: ",
+            file,
+            b": not counts at line ",
+            Numeral::of(line as u64).as_bytes(),
             b"\n",
         ],
     );

@@ -47,6 +47,32 @@ pub fn refuse<N: Sink>(command: Command, why: &Unanswered, notes: &mut N) -> u8
             lines::refused_at_byte(notes, file.as_bytes(), kind, b"command", *command, *at);
             3
         }
+        Unanswered::Bent {
+            file,
+            kind,
+            command,
+            at,
+        } => {
+            let kind = Kind {
+                form: "Gerber",
+                number: kind.number(),
+                name: kind.name(),
+            };
+            lines::refused_at_byte(notes, file.as_bytes(), kind, b"command", *command, *at);
+            3
+        }
+        Unanswered::NotJson(file) => {
+            lines::about_file(notes, file.as_bytes(), b"not JSON");
+            3
+        }
+        Unanswered::NotAManifest(file) => {
+            lines::about_file(notes, file.as_bytes(), b"not a manifest");
+            3
+        }
+        Unanswered::Unbound(why) => {
+            why.put(file, command.report(), notes);
+            3
+        }
     }
 }
 

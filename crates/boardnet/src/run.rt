@@ -5,18 +5,20 @@ ghost use Rattle.boardnet.specs.Ends.{Ends, HasNames};
 ghost use Rattle.boardnet.specs.HandedOutcome.{EndsHanded};
 ghost use Rattle.boardnet.specs.Kept.{Keeps, Leaves};
 ghost use Rattle.boardnet.specs.Lines.{Gains, GainsFrontOf, Rose, Says, file_line, plain_line};
-ghost use Rattle.boardnet.specs.Outcome.{ComesFor, Fits, HandedOver, Held, IsAnswer, IsBoardOf, IsFlatText, IsGapped, IsHeld, IsLabelledBoardOf, IsLabelledReport, IsReadWithMacros, IsReport, IsTrialReport, IsWritten, OfFilesRead, OutcomeOf, PlainBoard, PlainPiece, Refused, Told, grown_common};
-ghost use Rattle.boardnet.specs.Words.{Asks, Command as Asked, IsAudit, IsCheck, IsFlatten, IsGaps, IsTrial, IsUnderstood, IsWrite, IsX2, Trial, Version, Write, Flatten};
+ghost use Rattle.boardnet.specs.Outcome.{ComesFor, Fits, HandedOver, Held, AreBounded, IsAnswer, IsBoardOf, IsDecided, IsFlatText, IsGapped, IsHeld, IsLabelledBoardOf, IsLabelledReport, IsReadWithMacros, IsReport, IsTrialReport, IsWritten, OfFilesRead, OutcomeOf, PlainBoard, PlainPiece, Refused, Told, grown_common};
+ghost use Rattle.boardnet.specs.Words.{Asks, BoundNames, Command as Asked, IsAudit, IsBetween, IsCheck, IsFlatten, IsGaps, IsTrial, IsUnderstood, IsWrite, IsX2, Trial, Version, Write, Flatten};
 ghost use Rattle.std.specs.Prelude.{IfSome, List, Some, [], codes, ◌++◌, ◌∷◌, pos, ℕ, ◌*◌, ◌↔◌, ◌≡◌, ◌≢◌, ◌≤◌, ◌⊎◌};
 
 use crate::commands::{Command, answer_to};
 use crate::lines;
 use crate::putting::conclude;
 use crate::words::command_of;
+use arc_covers::laws as bounds;
 use board_io::{Package, Sink};
 use board_package::laws as packages;
 use gerber_layer::laws as layers;
 use made_files::made_packages_fit;
+use real_package::laws as reals;
 use std::alloc::Global;
 use verdict::laws as verdicts;
 
@@ -30,14 +32,16 @@ use verdict::laws as verdicts;
 /// package. `write MANIFEST` builds the board and puts a netlist of its nets. `gaps MANIFEST NANOMETRES` builds the board
 /// and lists the nets that come that close. `x2 MANIFEST` checks the package as `check` does, by the net names in its
 /// copper files in place of its netlist, which it does not take. `flatten FILE` takes one copper file, which may have
-/// aperture macros, and puts a copper file without them that every layer reads as exactly the same shapes.
+/// aperture macros, and puts a copper file without them that every layer reads as exactly the same shapes. `between REAL
+/// LOWER UPPER COUNTS` builds the board of REAL, whose draws may be arcs, those of LOWER and UPPER, checks by the counts that
+/// they bound it, judges both, and puts what is certain of the real board and what is possible.
 ///
 /// | Status | When |
 /// |---|---|
-/// | 0 | `check`, `trial`, `x2`: the copper joins exactly what the netlist, or the net names in the files, join; `audit`: the report is the text of a right verdict; `write`: the netlist is written; `flatten`: the file is; `gaps`: no two nets come that close |
-/// | 1 | `check`, `trial`, `x2`: there are opens, shorts or points without copper; `audit`: the report is the text of another verdict; `gaps`: some do |
+/// | 0 | `check`, `trial`, `x2`: the copper joins exactly what the netlist, or the net names in the files, join; `audit`: the report is the text of a right verdict; `write`: the netlist is written; `flatten`: the file is; `gaps`: no two nets come that close; `between`: nothing is possible that differs, so the real board agrees, whatever its copper is of those that its files allow |
+/// | 1 | `check`, `trial`, `x2`: there are opens, shorts or points without copper; `audit`: the report is the text of another verdict; `gaps`: some do; `between`: something certain differs, or it is undecided, and the line says which |
 /// | 2 | the words are no command; nothing was taken |
-/// | 3 | the first refusal of the package or of the copper file, or of the report behind it; the line names its kind, file and place. `x2`: also a net name that is no text; `gaps`: also grown pieces of which the box is over 1 m; `trial`: there is no board of the size |
+/// | 3 | the first refusal of the package or of the copper file, or of the report behind it; the line names its kind, file and place. `x2`: also a net name that is no text; `gaps`: also grown pieces of which the box is over 1 m; `trial`: there is no board of the size; `between`: the boards are no bounds, and the line says why |
 /// | 4 | a fault of reading the file in the line |
 /// | 5 | a fault of writing; `out` got a front of the text |
 /// | 6 | want of memory |
@@ -85,6 +89,10 @@ pub fn run<P: Package, S: Sink, N: Sink>(
         → (text line : List ℕ) × IsFlatText (HandedOver (P.handed «package».old) (P.handed «package».new)) name text result line
         × (S.handed out.new ≡ S.handed out.old ++ text ∷ []) × Gains (S.got out.old) text (S.got out.new) × Says N.got N.faults notes.old notes.new line }
 
+    ensures handed_between { result ≤ 1 → (names : BoundNames) → IsBetween words.now names
+        → (text line : List ℕ) × IsDecided (HandedOver (P.handed «package».old) (P.handed «package».new)) names text result line
+        × (S.handed out.new ≡ S.handed out.old ++ text ∷ []) × Gains (S.got out.old) text (S.got out.new) × Says N.got N.faults notes.old notes.new line }
+
     // It follows that what is said above and below of the files that the package tells holds of all files that agree with what it
     // handed over in this call. On `check`, and of each command by its outcome.
     ensures agreed_right { result ≤ 1 → IfAgreed (P.handed «package».old) (P.handed «package».new) (λ files. (version : Version) (name : List ℕ) → IsCheck words.now version name
@@ -129,6 +137,14 @@ pub fn run<P: Package, S: Sink, N: Sink>(
     // 0 and 1 on `flatten`, which is 0: `out` got the text of the file's image, which every layer reads as the same copper.
     ensures flattened { result ≤ 1 → IfSome (P.held «package».old) (λ files. (name : List ℕ) → IsFlatten words.now name
         → (text line : List ℕ) × IsFlatText (Held files) name text result line
+        × Gains (S.got out.old) text (S.got out.new) × Says N.got N.faults notes.old notes.new line) }
+
+    // 0 and 1 on `between`: the packages fit, the boards of LOWER and UPPER bound that of REAL, and `out` got what right verdicts on
+    // both decide. Under 0 each board with the pieces of REAL, whatever copper they have of those that its files allow, agrees with
+    // its names, and under both what the verdicts say of nets is certain of each: by `laws::bounded_boards_are_decided`, which
+    // takes this `IsDecided`, of whatever copper its caller picks.
+    ensures between { result ≤ 1 → IfSome (P.held «package».old) (λ files. (names : BoundNames) → IsBetween words.now names
+        → (text line : List ℕ) × IsDecided (Held files) names text result line
         × Gains (S.got out.old) text (S.got out.new) × Says N.got N.faults notes.old notes.new line) }
 
     // `write` and `flatten` judge nothing: 1 never comes.
@@ -180,6 +196,10 @@ pub fn run<P: Package, S: Sink, N: Sink>(
     ensures rewritten { IfSome (P.held «package».old) (λ files. (name : List ℕ) → IsFlatten words.now name → (bytes : List ℕ) → IsHeld files name bytes → (pieces : List PlainPiece) → IsReadWithMacros bytes pieces
         → (Rose (P.faults «package».old) (P.faults «package».new) → ⊥) → (Rose (S.faults out.old) (S.faults out.new) → ⊥) → (result ≤ 1) ⊎ (result ≡ 6)) }
 
+    // Packages whose bounds the checks take have what is decided, unless reading or writing fails or memory is wanted.
+    ensures bounded { IfSome (P.held «package».old) (λ files. (names : BoundNames) → IsBetween words.now names → AreBounded (Held files) names
+        → (Rose (P.faults «package».old) (P.faults «package».new) → ⊥) → (Rose (S.faults out.old) (S.faults out.new) → ⊥) → (result ≤ 1) ⊎ (result ≡ 6)) }
+
     // A trial of at most 10,000 cells has its summary, unless writing fails or memory is wanted: every made package fits.
     ensures summarized { (seed size : ℕ) → IsTrial words.now seed size → size ≤ 10000
         → (Rose (S.faults out.old) (S.faults out.new) → ⊥) → (result ≤ 1) ⊎ (result ≡ 6) }
@@ -222,6 +242,9 @@ fn perform<P: Package, S: Sink, N: Sink>(
     packages::one_outcome();
     packages::one_labelled_outcome();
     layers::one_macro_answer();
+    reals::handed_is_held();
+    reals::one_real_outcome();
+    bounds::counts_are_one();
     let given = answer_to(alloc, command, package);
     conclude(command, given, out, notes)
 }

@@ -7,7 +7,7 @@ use Rattle.ipc356_records.specs.declared.line.Coordinate.{Coordinate}
 use Rattle.ipc356_records.specs.declared.kind.RecordKind.{RecordKind}
 use Rattle.ipc356_records.specs.declared.kind.RecordKind.TheVariants as kind
 use Rattle.ipc356_records.specs.Line.{TestFields}
-use Rattle.ipc356_records.specs.RecordEffects.{Known, Effect, adds, ◌>>=◌, needed, within, placed, test}
+use Rattle.ipc356_records.specs.RecordEffects.{Known, Effect, adds, ◌>>=◌, needed, within, placed, test_record}
 use Rattle.ipc356_records.specs.declared.TheConstants.{MOST_RECORDS}
 
 pub bind_ok : {A B : Type 0} (r : Result A RecordKind) (f : A → Result B RecordKind) (y : B) → (r >>= f) ≡ Ok y → (x : A) × (r ≡ Ok x) × (f x ≡ Ok y)
@@ -49,8 +49,8 @@ pub record Tested (k : Known) (f : TestFields) (e : Effect) : Type 0 where
   pub room : nat_le MOST_RECORDS k.records ≡ false
   pub is : e ≡ adds name access at
 
-pub tested : (k : Known) (f : TestFields) (e : Effect) → test k f ≡ Ok e → Tested k f e
-unfolding test
+pub tested : (k : Known) (f : TestFields) (e : Effect) → test_record k f ≡ Ok e → Tested k f e
+unfolding test_record
 tested k f e h =
     let u = bind_ok (needed kind.MissingUnits k.unit) _ e h in
     let n = bind_ok (needed kind.BadName f.name) _ e u.2 in

@@ -45,8 +45,8 @@ unfoldable pub placed : Measure → Coordinate → Result ℤ RecordKind
 placed unit c = unless (nat_lt METRE (c.steps * step_of unit)) kind.OutOfRange (Ok (signed c.negative (c.steps * step_of unit)))
 
 -- a test record, by its conditions in order
-unfoldable pub test : Known → TestFields → Result Effect RecordKind
-test k f = do
+unfoldable pub test_record : Known → TestFields → Result Effect RecordKind
+test_record k f = do
   unit ← needed kind.MissingUnits k.unit
   name ← needed kind.BadName f.name
   access ← needed kind.BadAccess (within k.layers f.access)
@@ -69,7 +69,7 @@ row k unread = Ok stays
 row k (units unit) = set_unit k.unit unit
 row k ends = Ok closes
 row k continues = Err kind.Continuation
-row k (tests fields) = test k fields
+row k (tests fields) = test_record k fields
 row k unknown = Err kind.UnknownCode
 row k finishes = Err kind.NotEnded
 

@@ -15,7 +15,7 @@ pub enum RecordKind {
     #[error("a continuation record")]
     Continuation = 2,
     /// A test record before the `UNITS` parameter.
-    #[error("a test record before the units")]
+    #[error("a record before the units")]
     MissingUnits = 3,
     /// A second `UNITS` parameter.
     #[error("units given twice")]
@@ -42,7 +42,7 @@ pub enum RecordKind {
     #[error("a line after 999")]
     AfterEnd = 11,
     /// A test record after `MOST_RECORDS` others.
-    #[error("too many test records")]
+    #[error("too many records")]
     TooManyRecords = 12,
 }
 

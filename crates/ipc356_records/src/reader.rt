@@ -52,10 +52,10 @@ impl<'a> Reader<'a> {
     }
 
     // A test record, by its conditions in order.
-    #[tactic(auto, unfolding(crate::specs::RecordEffects::test))]
-    fn test(&self, fields: TestFields<'a>) -> Result<Effect<'a>, RecordKind>
+    #[tactic(auto, unfolding(crate::specs::RecordEffects::test_record))]
+    fn test_record(&self, fields: TestFields<'a>) -> Result<Effect<'a>, RecordKind>
         requires lawful { IsName (option_copied fields.name) }
-        ensures value { showing result ≡ spec.test (known_of self.now) (view_fields fields.entry) }
+        ensures value { showing result ≡ spec.test_record (known_of self.now) (view_fields fields.entry) }
         ensures fit { IfOk result (λ e. IsFit self.now (shown e)) }
     {
         let unit = needed(RecordKind::MissingUnits, self.unit)?;
@@ -83,7 +83,7 @@ impl<'a> Reader<'a> {
             RecordLine::Units(unit) => set_unit(self.unit, unit),
             RecordLine::End => Ok(Effect::Closes),
             RecordLine::Continuation => Err(RecordKind::Continuation),
-            RecordLine::Test(fields) => self.test(fields),
+            RecordLine::Test(fields) => self.test_record(fields),
             RecordLine::Unknown => Err(RecordKind::UnknownCode),
             RecordLine::Finish => Err(RecordKind::NotEnded),
         }

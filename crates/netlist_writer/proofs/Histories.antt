@@ -16,7 +16,7 @@ use Rattle.file_reading.specs.Reading.{Clean}
 use Rattle.ipc356_records.specs.NetlistFile.{effect_at, probes_in, probes_of}
 use Rattle.ipc356_records.specs.Settings.{has_ended, known_at, names_of, records_before, unit_before}
 use Rattle.ipc356_records.specs.RecordLines.{form_of, coded, parameter, unit_of}
-use Rattle.ipc356_records.specs.RecordEffects.{Known, Effect, stays, sets, closes, adds, effect, row, test, placed, set_unit, layers_of, probe_at, probes_of_effect}
+use Rattle.ipc356_records.specs.RecordEffects.{Known, Effect, stays, sets, closes, adds, effect, row, test_record, placed, set_unit, layers_of, probe_at, probes_of_effect}
 use Rattle.netlist_writer.specs.TestLine.{in_steps, net_name, sign_of, steps_of}
 use Rattle.netlist_writer.specs.WrittenNetlist.{TestPlace, netlist_lines, place_line, place_lines}
 use Rattle.netlist_writer.specs.Laws.{names_after, present, probes_after}
@@ -80,7 +80,7 @@ pub record IsWritablePlace (layers : ℕ) (t : TestPlace) : Type 0 where
   pub y : IsInSteps t.at.y
 
 adds_record : (k : Known) (name : List ℕ) (access : ℕ) (at : Spot) → k.ended ≡ false → k.unit ≡ Some Mm → k.records < MOST_RECORDS → access ≤ k.layers → IsInSteps at.x → IsInSteps at.y → effect k (tests (fields_of name access at)) ≡ Ok (adds name access at)
-unfolding effect row test
+unfolding effect row test_record
 adds_record k name access at ongoing unit few known x y = rw (ongoing, unit, le-leb _ _ known, place_back at.x x, place_back at.y y, lt-leb _ _ few) refl
 
 passes_over : (k : Known) → k.ended ≡ false → effect k unread ≡ Ok stays

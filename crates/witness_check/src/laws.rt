@@ -7,6 +7,7 @@ ghost use Rattle.tables.specs.Tables.{Tables};
 ghost use Rattle.verdict.specs.Right.{IsRight};
 ghost use Rattle.verdict.specs.declared.verdict.Verdict.{Verdict};
 ghost use Rattle.witness_check.specs.BoardLaws.{IsRightFor, NetNumbersJoinProbes, OpensCoverNamesOf, ShortsHavePathsOn};
+ghost use Rattle.witness_check.specs.Meetings.{PairsComeTogetherOnce};
 ghost use Rattle.witness_check.specs.Laws.{DifferInWitnessesOnly, NetNumbersAreJoins, OpensCoverSplitNames, ShortsHavePaths};
 
 use board_shapes::laws as shapes;
@@ -49,3 +50,9 @@ pub fn boards_have_the_laws()
     shapes::tables_are_unique();
     shapes::tables_tell_joins();
 }
+
+/// In the strips of a board each two pieces come together at most once, and none with itself: so the sweep asks each pair of
+/// pieces at most once.
+pub fn pairs_come_together_once()
+    ensures { PairsComeTogetherOnce }
+{}

@@ -1,9 +1,10 @@
 """The chains of tools/show_board/arcs.py, by the arithmetic of the checks in crates/arcs, written anew from their definitions."""
 import random
 import unittest
+from fractions import Fraction as Q
 from math import atan2, cos, hypot, isqrt, pi, sin
 
-from show_board.arcs import arc_chain
+from show_board.arcs import arc_chain, draw_bounds
 from show_board.spots import cross, dot
 
 
@@ -62,30 +63,53 @@ def is_above(centre, start, end, width, chain, r):
     return all(is_chord(centre, near, far, a, b) for a, b in zip(chain, chain[1:]))
 
 
+def is_loop(centre, start, end):
+    return dot(centre, start, start) != dot(centre, end, end) and cross(centre, start, end) == 0 <= dot(centre, start, end)
+
+
 def arcs(count):
-    """Arcs of 1 um to 79 mm: ends at one distance (mirror images of a spot), at two up to nearly a whole turn, and whole turns."""
+    """Arcs of a tenth of a nanometre to 79 cm: ends at one distance (mirror images of a spot), at two by a rounding or by more, in one
+    line with the centre, and whole turns."""
     for k in range(count):
-        radius, angle = int(10 ** random.uniform(4, 8.9)), random.uniform(0, 2 * pi)
+        radius, angle = int(10 ** random.uniform(0, 8.9 if k % 2 else 3)), random.choice((random.uniform(0, 2 * pi), random.randrange(4) * pi / 2))
         centre = (random.randint(-10 ** 8, 10 ** 8), random.randint(-10 ** 8, 10 ** 8))
-        place = lambda t: (round(radius * cos(t)), round(radius * sin(t)))
+        place = lambda t, far=1: (round(far * radius * cos(t)), round(far * radius * sin(t)))
         u, v = place(angle)
-        mirrored = [(u, v), (-v, u), (-u, -v), (v, -u), (u, -v), (v, u), (-u, v), (-v, -u)]
-        start = (u, v)
-        end = (random.choice(mirrored), place(angle + random.uniform(0.01, 6.25)), start)[k % 3]
-        yield centre, *((centre[0] + x, centre[1] + y) for x, y in (start, end))
+        mirrored, n = [(u, v), (-v, u), (-u, -v), (v, -u), (u, -v), (v, u), (-u, v), (-v, -u)], random.choice((-2, -1, 2, 3))
+        further = random.choice((random.uniform(0.01, 6.25), 10 ** random.uniform(-6, 0), -10 ** random.uniform(-6, 0)))
+        x, y = (random.choice(mirrored), place(angle + further), (u, v), place(angle + further, random.uniform(.7, 1.4)), (n * u, n * v))[k % 5]
+        start, end = ((centre[0] + p, centre[1] + q) for p, q in ((u, v), (x, y)))
+        if centre not in (start, end) and is_meant(centre, start, end):
+            yield centre, start, end
+
+
+def chain_of(draws):
+    """The spots and the radius of draws that each begin where the one before ended."""
+    (radius,) = {draw[3] for draw in draws}
+    if any(one[2] != other[1] for one, other in zip(draws, draws[1:])):
+        raise AssertionError("no chain")
+    return [draws[0][1], *(draw[2] for draw in draws)], radius
 
 
 class TestArcChains(unittest.TestCase):
     def test_the_chains_are_taken(self):
-        """For pens of even and of odd width."""
+        """What is drawn for an arc, below and above; below it may be nothing, where the pen is thin or the arc is a whole turn or none."""
         random.seed(62)
-        for centre, start, end in arcs(300):
-            chain, most = arc_chain(centre, start, end)
-            width = 2 * most + random.randint(2, 6000000)
-            low, high = width // 2 - most, width - width // 2 + most
-            with self.subTest(centre=centre, start=start, end=end, width=width):
-                self.assertTrue(is_below(centre, start, end, width, chain, low))
-                self.assertTrue(is_above(centre, start, end, width, chain, high))
+        for centre, start, end in arcs(3000):
+            half = random.choice((random.randint(1, 3_000_000), random.randint(1, 3_000)))
+            _, (below, above) = draw_bounds(centre, start, end, Q(half))
+            with self.subTest(centre=centre, start=start, end=end, half=half):
+                self.assertTrue(not below or is_below(centre, start, end, 2 * half, *chain_of(below)))
+                self.assertTrue(is_above(centre, start, end, 2 * half, *chain_of(above)))
+                self.assertEqual(bool(below), half > above[0][3] - half and not is_loop(centre, start, end))
+
+    def test_pens_of_odd_widths(self):
+        random.seed(64)
+        for centre, start, end in arcs(100):
+            _, (below, above) = draw_bounds(centre, start, end, Q(3_000_001, 2))
+            with self.subTest(centre=centre, start=start, end=end):
+                self.assertTrue(not below or is_below(centre, start, end, 3_000_001, *chain_of(below)))
+                self.assertTrue(is_above(centre, start, end, 3_000_001, *chain_of(above)))
 
     def test_one_u_more_is_refused(self):
         """Where both ends are at one whole distance the allowance is the least that the checks take."""

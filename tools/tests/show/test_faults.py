@@ -111,6 +111,11 @@ class Faults(made.Case):
         points = [record("A", "J1.1", 0, 0), record("B", "J1.2", 0.1, 0)]
         it = self.one(one_layer(*flash(10, (0, 0)), points=points), "short")
         self.assertEqual([(meet["names"], self.place(meet), len(meet["between"])) for meet in it["meets"]], [(["A", "B"], (0, 0, 1), 1)])
+        # Other copper of the net comes first in the file, and does not touch the pad.
+        tracks = [*flash(10, (10, 0)), *draw(11, (10, 0), (5, 0), (0, 0))]
+        points = [record("A", "J1.1", -0.4, 0.1), record("B", "J1.2", -0.4, -0.1)]
+        it = self.one(one_layer(*tracks, *flash(10, (0, 0)), points=points), "short")
+        self.assertEqual([(meet["names"], self.place(meet), len(meet["between"])) for meet in it["meets"]], [(["A", "B"], (0, 0, 1), 4)])
 
     def test_labels_say_where(self):
         # The bridge is labelled as B's: so the fault is where it touches A's pad.

@@ -120,7 +120,7 @@ sound_audit manifest report = record {
   no_refused_text = λ law f why m t. no_ruling f manifest report why m t.0 t.1 t.2 t.3;
   alike = λ law f o p x y. one_audit law f manifest report o p x y;
   takes_what_comes = λ f name comes. tt;
-  agrees = λ law held a b w. agreed_audit law manifest report held a b w;
+  agrees = λ law held a b w. agreed_audit law.listed manifest report held a b w;
 }
 
 -- What `run` says of it, by its words. An audit that has an answer answers its status.

@@ -54,7 +54,7 @@ sound_check version manifest = record {
   no_refused_text = λ law f why m t. absurd m;
   alike = λ law f o p x y. one_check law f version manifest o p x y;
   takes_what_comes = λ f name comes. tt;
-  agrees = λ law held a b w. agreed_check law version manifest held a b w;
+  agrees = λ law held a b w. agreed_check law.listed version manifest held a b w;
 }
 
 -- What `run` says of it, by its words.

@@ -87,7 +87,7 @@ sound_flatten file = record {
   no_refused_text = λ law f why m t. no_flat_text law f file why m t.0 t.1 t.2 t.3;
   alike = λ law f o p x y. one_flatten law f file o p x y;
   takes_what_comes = λ f name comes. tt;
-  agrees = λ law held a b w. agreed_flatten law file held a b w;
+  agrees = λ law held a b w. agreed_flatten law.listed file held a b w;
 }
 
 -- What `run` says of it, by its words.

@@ -78,7 +78,7 @@ sound_gaps manifest nanometres = record {
   no_refused_text = λ law f why m t. no_list law f manifest nanometres why m t.0 t.1 t.2;
   alike = λ law f o p x y. one_gaps law f manifest nanometres o p x y;
   takes_what_comes = λ f name comes. tt;
-  agrees = λ law held a b w. agreed_gaps law manifest nanometres held a b w;
+  agrees = λ law held a b w. agreed_gaps law.listed manifest nanometres held a b w;
 }
 
 -- What `run` says of it, by its words.

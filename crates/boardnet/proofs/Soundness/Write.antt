@@ -47,7 +47,7 @@ sound_write manifest = record {
   no_refused_text = λ law f why m t. absurd m;
   alike = λ law f o p x y. one_write law f manifest o p x y;
   takes_what_comes = λ f name comes. tt;
-  agrees = λ law held a b w. agreed_write law manifest held a b w;
+  agrees = λ law held a b w. agreed_write law.listed manifest held a b w;
 }
 
 -- What `run` says of it, by its words.

@@ -65,7 +65,7 @@ sound_x2 manifest = record {
   no_refused_text = λ law f why m t. no_report law f manifest why m t.0 t.1;
   alike = λ law f o p x y. one_x2 law f manifest o p x y;
   takes_what_comes = λ f name comes. tt;
-  agrees = λ law held a b w. agreed_x2 law manifest held a b w;
+  agrees = λ law held a b w. agreed_x2 law.listed manifest held a b w;
 }
 
 -- What `run` says of it, by its words.

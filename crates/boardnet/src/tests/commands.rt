@@ -1,5 +1,6 @@
 // One file of tests for each command.
 mod audit;
+mod between;
 pub mod check;
 mod flatten;
 mod gap;

@@ -4,6 +4,7 @@ use Rattle.board_io.specs.Sink.{Gains, GainsFrontOf}
 use Rattle.boardnet.proofs.Asking.{one_command, under_asked, under_command}
 use Rattle.boardnet.proofs.Soundness.{sound}
 use Rattle.boardnet.proofs.Soundness.Audit.{answered_named, of_audit}
+use Rattle.boardnet.proofs.Soundness.Between.{bounded_named, of_between}
 use Rattle.boardnet.proofs.Soundness.Check.{checked_named, of_check}
 use Rattle.boardnet.proofs.Soundness.Flatten.{of_flatten, rewritten_named}
 use Rattle.boardnet.proofs.Soundness.Gaps.{listed_named, of_gaps}
@@ -14,7 +15,7 @@ use Rattle.boardnet.specs.Ends.{Ends, HasText, TakesFiles}
 use Rattle.boardnet.specs.Lines.{Says}
 use Rattle.boardnet.specs.Outcome.{HandedOver, Held, OutcomeOf, Refused, Told}
 use Rattle.boardnet.specs.HandedOutcome.{EndsHanded}
-use Rattle.boardnet.specs.Words.{Audit, Check, Flatten, Gaps, Trial, Write, X2}
+use Rattle.boardnet.specs.Words.{Audit, Between, Check, Flatten, Gaps, Trial, Write, X2}
 use Rattle.boardnet.proofs.run.run.Goals as goal
 
 pub perform-requires : goal.perform-requires
@@ -147,6 +148,24 @@ returns-in-Some-clause-rewritten g c =
     (λ files command. HasText (Held files) command → (TakesFiles command → Rose (g.P.Package.faults c.args.package.now) (g.P.Package.faults c.perform.new.package) → ⊥) → (Rose (g.S.Sink.faults c.args.out.now) (g.S.Sink.faults c.perform.new.out) → ⊥) → (c.perform.result ≤ 1) ⊎ (c.perform.result ≡ 6))
     c.in-Some.ensures.some c.perform.ensures.ends.complete)
 
+pub returns-in-None-clause-bounded : goal.returns-in-None-clause-bounded
+returns-in-None-clause-bounded g c = bounded_named _ _ _ _ _ (λ command is. absurd (c.in-None.ensures.none command is))
+
+pub returns-in-Some-clause-between : goal.returns-in-Some-clause-between
+returns-in-Some-clause-between g c = λ few.
+    of_between (g.P.Package.held c.args.package.now) c.args.words.now
+    (λ files command. (text line : List ℕ) × OutcomeOf (Held files) command (Told text c.perform.result line) × Gains (g.S.Sink.got c.args.out.now) text (g.S.Sink.got c.perform.new.out) × Says g.N.Sink.got g.N.Sink.faults c.args.notes.now c.perform.new.notes line)
+    (under_command (g.P.Package.held c.args.package.now) c.args.words.now (asked c.in-Some.command)
+    (λ files command. (text line : List ℕ) × OutcomeOf (Held files) command (Told text c.perform.result line) × Gains (g.S.Sink.got c.args.out.now) text (g.S.Sink.got c.perform.new.out) × Says g.N.Sink.got g.N.Sink.faults c.args.notes.now c.perform.new.notes line)
+    c.in-Some.ensures.some (c.perform.ensures.ends.told few))
+
+pub returns-in-Some-clause-bounded : goal.returns-in-Some-clause-bounded
+returns-in-Some-clause-bounded g c =
+    bounded_named (g.P.Package.held c.args.package.now) c.args.words.now (Rose (g.P.Package.faults c.args.package.now) (g.P.Package.faults c.perform.new.package)) (Rose (g.S.Sink.faults c.args.out.now) (g.S.Sink.faults c.perform.new.out)) c.perform.result
+    (under_command (g.P.Package.held c.args.package.now) c.args.words.now (asked c.in-Some.command)
+    (λ files command. HasText (Held files) command → (TakesFiles command → Rose (g.P.Package.faults c.args.package.now) (g.P.Package.faults c.perform.new.package) → ⊥) → (Rose (g.S.Sink.faults c.args.out.now) (g.S.Sink.faults c.perform.new.out) → ⊥) → (c.perform.result ≤ 1) ⊎ (c.perform.result ≡ 6))
+    c.in-Some.ensures.some c.perform.ensures.ends.complete)
+
 pub returns-in-None-clause-unjudged : goal.returns-in-None-clause-unjudged
 returns-in-None-clause-unjudged g c = λ name h. elim h [
   | inl is ↦ absurd (c.in-None.ensures.none (Write name) is)
@@ -232,4 +251,11 @@ returns-in-Some-clause-agreed_right g c = λ few files w version name is.
     let ends = under_asked c.args.words.now (asked c.in-Some.command)
     (λ command. Ends (λ p. Some files) g.P.Package.faults g.P.Package.lost g.S.Sink.got g.S.Sink.faults g.N.Sink.got g.N.Sink.faults command c.args.package.now c.perform.new.package c.args.out.now c.perform.new.out c.args.notes.now c.perform.new.notes c.perform.result)
     c.in-Some.ensures.some (c.perform.ensures.agreed files w) (Check version name) is in
+    ends.told few
+
+pub returns-in-Some-clause-handed_between : goal.returns-in-Some-clause-handed_between
+returns-in-Some-clause-handed_between g c = λ few names is.
+    let ends = under_asked c.args.words.now (asked c.in-Some.command)
+    (λ command. EndsHanded (HandedOver (g.P.Package.handed c.args.package.now) (g.P.Package.handed c.perform.new.package)) command (g.P.Package.lost c.perform.new.package) g.S.Sink.handed g.S.Sink.got g.N.Sink.got g.N.Sink.faults c.args.out.now c.perform.new.out c.args.notes.now c.perform.new.notes c.perform.result)
+    c.in-Some.ensures.some c.perform.ensures.handed (Between names) is in
     ends.told few

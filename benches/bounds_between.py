@@ -1,0 +1,162 @@
+"""Made packages whose copper outside the profile is arc draws alone, and how many of them `between` takes, by what `show` says."""
+import json
+import math
+import os
+import random
+import subprocess
+import sys
+import tempfile
+
+from bounds_files import FORMATS
+
+TOP = os.path.dirname(os.path.dirname(os.path.abspath(__file__)))
+METRE = 10 ** 10
+KINDS = ("like", "whole", "any turn", "two radii", "one line", "small", "large", "quadrant")
+PROVED = ", between two bounds, proved"
+
+
+def is_meant(centre, start, end):
+    """Whether an arc has a place: neither end is its centre, and ends at two distances are not too unlike."""
+    (a, b), (c, d) = ((p[0] - centre[0], p[1] - centre[1]) for p in (start, end))
+    turn, unlike = a * d - b * c, abs(a * a + b * b - c * c - d * d)
+    return (a, b) != (0, 0) != (c, d) and (turn == 0 or unlike <= max((a - c) ** 2 + (b - d) ** 2, 2 * abs(turn)))
+
+
+class Layer:
+    """A copper file: figures, arc draws of every kind, blocks. `arcs` counts these draws; lengths are counted in the file's units."""
+
+    def __init__(self, rng, arcs, most=METRE // 20):
+        self.rng, self.arcs, (digits, unit, self.unit) = rng, 0, rng.choice(FORMATS)
+        self.scale, self.most = 254 * 10 ** 6 if unit == "IN" else 10 ** 7, most // self.unit
+        self.lines = [f"%FSLAX{digits}Y{digits}*%", f"%MO{unit}*%", *self.apertures(), "G01*"]
+        while self.arcs < arcs:
+            self.block() if rng.random() < .03 else self.object()
+        self.lines += ["G01*", "M02*"]
+
+    def apertures(self):
+        size = lambda: f"{2 * self.step() * max(1, int(10 ** self.rng.uniform(0, 7)) // self.step()) / self.scale:.7f}"
+        yield from (f"%ADD{10 + k}C,{size()}*%" for k in range(20))
+        yield from (f"%ADD{30 + k}{name},{size()}X{size()}*%" for k, name in enumerate("RO"))
+
+    def step(self):
+        """Of inches a size is counted by 254 u, which have six decimals at most."""
+        return 127 if self.scale % 127 == 0 else 1
+
+    def text(self):
+        return "\n".join(self.lines) + "\n"
+
+    def place(self):
+        return tuple(self.rng.randint(-self.most, self.most) for _ in "xy")
+
+    def go(self, spot, code, before="", behind=""):
+        self.lines.append(f"{before}X{spot[0]}Y{spot[1]}{behind}D0{code}*")
+
+    def object(self):
+        self.rng.choice((self.arc, self.arc, self.arc, self.arc, self.draw, self.flash, self.area))()
+
+    def block(self):
+        gap = self.rng.randrange(1, 10 ** 7) * self.step() / self.scale
+        self.lines.append(f"%SRX{self.rng.randrange(1, 4)}Y{self.rng.randrange(1, 3)}I{gap:.7f}J{-gap:.7f}*%")
+        for _ in range(self.rng.randrange(1, 4)):
+            self.object()
+        self.lines.append("%SR*%")
+
+    def pick(self, first, last):
+        self.lines.append(f"D{self.rng.randint(first, last)}*")
+
+    def draw(self):
+        self.pick(10, 29)
+        self.go(self.place(), 2)
+        self.go(self.place(), 1, "G01")
+
+    def flash(self):
+        self.pick(10, 31)
+        self.go(self.place(), 3)
+
+    def area(self):
+        first, *rest = [self.place() for _ in range(self.rng.randrange(3, 7))]
+        self.lines += ["G01*", "G36*"]
+        self.go(first, 2)
+        for spot in [*rest, first]:
+            self.go(spot, 1)
+        self.lines.append("G37*")
+
+    # ---- arcs
+
+    def ends(self, kind):
+        """The places of both ends about the centre."""
+        rng = self.rng
+        most = 3 if kind == "small" else math.log10(self.most) - 1 if kind != "large" else math.log10(self.most)
+        r, t = 10 ** rng.uniform(0 if kind == "small" else 2, most), rng.choice((rng.uniform(0, 7), rng.randrange(4) * math.pi / 2))
+        at = lambda turn, far=r: (round(far * math.cos(turn)), round(far * math.sin(turn)))
+        (x, y), further = at(t), rng.choice((rng.uniform(0, 6.28), 10 ** rng.uniform(-4, 0), -10 ** rng.uniform(-4, 0)))
+        if kind == "whole":
+            return (x, y), (x, y)
+        if kind == "one line":
+            k = rng.choice((-3, -2, -1, 2, 3))
+            return (x, y), (k * x, k * y)
+        if kind == "two radii":
+            return (x, y), at(t + further, r * rng.uniform(.7, 1.4) if rng.random() < .5 else r + rng.randint(-9, 9))
+        return (x, y), rng.choice((at(t + further), rng.choice(((-y, x), (-x, -y), (y, -x), (x, -y), (-x, y), (y, x)))))
+
+    def arc(self):
+        kind, centre, way = self.rng.choice(KINDS), self.place(), self.rng.random() < .5
+        if kind == "quadrant":
+            self.quadrant(centre, way)
+            return
+        a, b = ((centre[0] + x, centre[1] + y) for x, y in self.ends(kind))
+        if not is_meant(centre, *((a, b) if way else (b, a))) or max(map(abs, (*a, *b))) > 4 * self.most:
+            self.arc()
+            return
+        self.put(centre, a, b, 3 if way else 2, "G75*")
+
+    def quadrant(self, centre, way):
+        """At most a right angle, told without signs."""
+        r, (sx, sy) = self.rng.randrange(1, self.most), (self.rng.choice((-1, 1)) for _ in "xy")
+        a, b = (centre[0] + sx * r, centre[1]), (centre[0], centre[1] + sy * r)
+        self.put(centre, *((a, b) if way == (sx * sy > 0) else (b, a)), 3 if way else 2, "G74*")
+
+    def put(self, centre, a, b, code, quadrants):
+        """The words of an arc from a to b, in one of their forms."""
+        i, j = (c - s if quadrants == "G75*" else abs(c - s) for c, s in zip(centre, a))
+        offsets = "".join(f"{letter}{v}" for letter, v in (("I", i), ("J", j)) if v or not i and not j)
+        self.pick(10, 29)
+        self.lines.append(quadrants)
+        self.go(a, 2)
+        if self.rng.random() < .5:
+            self.lines.append(f"G0{code}*")
+            self.go(b, 1, "", offsets)
+        else:
+            self.go(b, 1, f"G0{code}", offsets)
+        self.lines.append("G01*")
+        self.arcs += 1
+
+
+def package(rng, folder, arcs):
+    """A package of two layers, a through drill file and two points; how many arc draws it has."""
+    layers = [Layer(rng, arcs // 2) for _ in "tb"]
+    files = {f"{k}.gbr": its.text() for k, its in enumerate(layers)}
+    files["d.drl"] = "\n".join(["M48", "METRIC", "T1C0.3", "%", "T1", *(f"X{rng.uniform(-40, 40):.4f}Y{rng.uniform(-40, 40):.4f}" for _ in range(9)), "M30", ""])
+    points = [f"327{name}                J1    -{k + 1}          A01X+{k:06}Y+000000" for k, name in enumerate("AB")]
+    files["n.ipc"] = "\n".join(["P  UNITS CUST 1", *points, "999", ""])
+    files["m.json"] = json.dumps({"copper": ["0.gbr", "1.gbr"], "drills": [{"file": "d.drl", "from": 1, "to": 2}], "netlist": "n.ipc"})
+    for name, text in files.items():
+        with open(os.path.join(folder, name), "w", encoding="ascii") as file:
+            file.write(text)
+    return sum(its.arcs for its in layers)
+
+
+def tried(packages, seed, arcs=100):
+    """Prints how many packages are taken; 1 where one is not."""
+    taken, count = 0, 0
+    for number in range(packages):
+        with tempfile.TemporaryDirectory() as folder:
+            count += package(random.Random(f"{seed} {number}"), folder, arcs)
+            told = subprocess.run([sys.executable, os.path.join(TOP, "tools", "show"), folder, "-q"], stdout=subprocess.PIPE, check=False)
+            said = told.stdout.decode().strip().split("\n")[-1].replace(folder, "board")
+        if PROVED in said:
+            taken += 1
+        else:
+            print(f"not taken: package {number} of seed {seed}: {said}")
+    print(f"{taken} of {packages} packages taken, {count} arc draws")
+    return 0 if taken == packages else 1

@@ -1,0 +1,8 @@
+use Rattle.boardnet.proofs.Decisions.{bounded_boards_agree, bounded_boards_are_decided}
+use Rattle.boardnet.proofs.laws.bounded_boards_are_decided.Goals as goal
+
+pub returns-clause-agrees : goal.returns-clause-agrees
+returns-clause-agrees g c = bounded_boards_agree g.R.Copper.holds c.taken_are_bounds.ensures c.real_board_is_decided.ensures.agrees
+
+pub returns-clause-decides : goal.returns-clause-decides
+returns-clause-decides g c = bounded_boards_are_decided g.R.Copper.holds c.taken_are_bounds.ensures c.real_board_is_decided.ensures.decides

@@ -1,0 +1,239 @@
+// The command `between`: a pad over a quarter circle, between chains of capsules.
+use crate::tests::{answer, gerber, netlist, shown, wants};
+use board_io::MemoryPackage;
+use lengths::rows::NoMemory;
+use std::alloc::Global;
+use std::test::Fail;
+
+const BETWEEN: &[&str] = &["between", "r.json", "l.json", "u.json", "c.txt"];
+
+const COUNTS: &str = "boardnet-bounds 1\n1 1\n6 6\n";
+
+/// The points of the pad and of the start of the arc: of one name, and of two.
+const ONE_NAME: &[&str] = &[
+    "327A                                  A01X+000000Y+000007",
+    "327A                                  A01X+000003Y+000004",
+];
+
+const TWO_NAMES: &[&str] = &[
+    "327A                                  A01X+000000Y+000007",
+    "327B                                  A01X+000003Y+000004",
+];
+
+/// The pad's aperture, the pens of the chains below and above, the points, the counts; the status and the line.
+type Row = (
+    &'static str,
+    &'static str,
+    &'static str,
+    &'static [&'static str],
+    &'static str,
+    u8,
+    &'static str,
+);
+
+const PAD: &str = "%ADD11C,0.0020*%";
+
+const THIN: &str = "%ADD10C,0.00187*%";
+
+const THICK: &str = "%ADD10C,0.00213*%";
+
+const UNDECIDED: &str = "boardnet: undecided, opens 1, shorts 0, missing 0\n";
+
+fn real(alloc: Global, pad: &str) -> Result<Vec<u8>, NoMemory> {
+    gerber(
+        alloc,
+        &[
+            "%ADD10C,0.002*%",
+            pad,
+            "D11*",
+            "X0Y7000D03*",
+            "D10*",
+            "G75*",
+            "X3000Y4000D02*",
+            "G03*",
+            "X-4000Y3000I-3000J-4000D01*",
+        ],
+    )
+}
+
+fn chain(alloc: Global, pad: &str, pen: &str) -> Result<Vec<u8>, NoMemory> {
+    gerber(
+        alloc,
+        &[
+            pen,
+            pad,
+            "D11*",
+            "X0Y7000D03*",
+            "D10*",
+            "X3000Y4000D02*",
+            "X1581Y4743D01*",
+            "X0Y5000D01*",
+            "X-1149Y4866D01*",
+            "X-2236Y4472D01*",
+            "X-3204Y3839D01*",
+            "X-4000Y3000D01*",
+        ],
+    )
+}
+
+fn row_package(alloc: Global, row: &Row) -> Result<MemoryPackage, NoMemory> {
+    let mut package = MemoryPackage::new(alloc);
+    for (name, manifest) in [
+        (
+            "r.json",
+            "{\"copper\":[\"r.gbr\"],\"drills\":[],\"netlist\":\"n.ipc\"}",
+        ),
+        (
+            "l.json",
+            "{\"copper\":[\"l.gbr\"],\"drills\":[],\"netlist\":\"n.ipc\"}",
+        ),
+        (
+            "u.json",
+            "{\"copper\":[\"u.gbr\"],\"drills\":[],\"netlist\":\"n.ipc\"}",
+        ),
+    ] {
+        package.hold(name, manifest.as_bytes())?;
+    }
+    package.hold("r.gbr", real(alloc, row.0)?.as_slice())?;
+    package.hold("l.gbr", chain(alloc, row.0, row.1)?.as_slice())?;
+    package.hold("u.gbr", chain(alloc, row.0, row.2)?.as_slice())?;
+    package.hold("n.ipc", netlist(alloc, row.3)?.as_slice())?;
+    package.hold("c.txt", row.4.as_bytes())?;
+    Ok(package)
+}
+
+fn rows() -> [Row; 11] {
+    [
+        // touches in one point, and misses by one u
+        (PAD, THIN, THICK, ONE_NAME, COUNTS, 1, UNDECIDED),
+        (
+            "%ADD11C,0.0019998*%",
+            THIN,
+            THICK,
+            ONE_NAME,
+            COUNTS,
+            1,
+            UNDECIDED,
+        ),
+        // touches the chain below, and misses the one above
+        (
+            "%ADD11C,0.0022*%",
+            THIN,
+            THICK,
+            ONE_NAME,
+            COUNTS,
+            0,
+            "boardnet: agrees\n",
+        ),
+        (
+            "%ADD11C,0.0018*%",
+            THIN,
+            THICK,
+            ONE_NAME,
+            COUNTS,
+            1,
+            "boardnet: differs, opens 1, shorts 0, missing 0\n",
+        ),
+        // the same of two names
+        (
+            PAD,
+            THIN,
+            THICK,
+            TWO_NAMES,
+            COUNTS,
+            1,
+            "boardnet: undecided, opens 0, shorts 1, missing 0\n",
+        ),
+        (
+            "%ADD11C,0.0022*%",
+            THIN,
+            THICK,
+            TWO_NAMES,
+            COUNTS,
+            1,
+            "boardnet: differs, opens 0, shorts 1, missing 0\n",
+        ),
+        (
+            "%ADD11C,0.0018*%",
+            THIN,
+            THICK,
+            TWO_NAMES,
+            COUNTS,
+            0,
+            "boardnet: agrees\n",
+        ),
+        // a chain that is too thick, or too thin; counts
+        (
+            PAD,
+            THICK,
+            THICK,
+            ONE_NAME,
+            COUNTS,
+            3,
+            "boardnet: r.json: file 0, command 11, copy 0: not bounded below\n",
+        ),
+        (
+            PAD,
+            THIN,
+            THIN,
+            ONE_NAME,
+            COUNTS,
+            3,
+            "boardnet: r.json: file 0, command 11, copy 0: not bounded above\n",
+        ),
+        (
+            PAD,
+            THIN,
+            THICK,
+            ONE_NAME,
+            "boardnet-bounds 1\n1 1\n6 5\n",
+            3,
+            "boardnet: c.txt: counts above do not add up\n",
+        ),
+        (
+            PAD,
+            THIN,
+            THICK,
+            ONE_NAME,
+            "boardnet-bounds 1\n1 1\n6\n",
+            3,
+            "boardnet: c.txt: not counts at line 3\n",
+        ),
+    ]
+}
+
+#[test]
+fn a_quarter_circle_between_chains(rt: HostRuntime) -> Result<(), Fail> {
+    let alloc = rt.alloc();
+    for row in rows() {
+        let mut package = row_package(alloc, &row)?;
+        let (status, out, notes) = answer(alloc, BETWEEN, &mut package)?;
+        assert_eq!(rt; (status, shown(&notes)), (row.5, row.6));
+        assert_eq!(rt; out.bytes().is_empty(), status == 3);
+    }
+    Ok(())
+}
+
+const TEXT: &str =
+    "boardnet-between 1\nreal 2\nlower 7 2 1 0 0\nupper 7 1 0 0 0\ncertain\nopens 0\nshorts 0\nmissing 0\npossible\nopens 1\nopen 2 1 30000 40000 A\nshorts 0\nmissing 0\nundecided\n";
+
+// The text, and what is read in order: a manifest that is none, another netlist, a file that is not there.
+#[test]
+fn the_text_and_the_order(rt: HostRuntime) -> Result<(), Fail> {
+    let alloc = rt.alloc();
+    let row = (PAD, THIN, THICK, ONE_NAME, COUNTS, 1, UNDECIDED);
+    let mut package = row_package(alloc, &row)?;
+    wants(alloc, BETWEEN, &mut package, 1, UNDECIDED, TEXT)?;
+    let swapped = &["between", "r.json", "c.txt", "u.json", "x.txt"];
+    let line = "boardnet: c.txt: not JSON\n";
+    wants(alloc, swapped, &mut package, 3, line, "")?;
+    let missing = &["between", "r.json", "l.json", "u.json", "x.txt"];
+    let line = "boardnet: x.txt: cannot be read\n";
+    wants(alloc, missing, &mut package, 4, line, "")?;
+    let other = "{\"copper\":[\"l.gbr\"],\"drills\":[],\"netlist\":\"o.ipc\"}";
+    package.hold("o.json", other.as_bytes())?;
+    package.hold("o.ipc", netlist(alloc, TWO_NAMES)?.as_slice())?;
+    let renamed = &["between", "r.json", "o.json", "u.json", "c.txt"];
+    let line = "boardnet: r.json: lower board has another netlist\n";
+    wants(alloc, renamed, &mut package, 3, line, "")
+}

@@ -1,0 +1,68 @@
+"""Whether the program takes both boards of a board as its bounds: its command `between`, where all copper outside the profile is arc draws.
+
+It reads the user's files with their arcs, and tests of each piece of the board that it lies between those that stand for it. A
+file of counts says how many stand for each; nothing trusts it.
+"""
+import copy
+from collections import Counter
+
+from . import UNDECIDED, UNJUDGED, Stop
+from .between import own_commands
+from .bounds import BETWEEN
+from .package import beside
+
+PROVED = f"{BETWEEN}, proved"
+ANSWERS = {0: "agrees", 1: "differs", UNDECIDED: "undecided"}
+FIRST_LINE = "boardnet-bounds 1\n"
+
+
+def counts(manifest, sides, low, high):
+    """How many pieces of both boards stand for each piece of the board: of an arc draw, and each copy of it, those of its command."""
+    arcs = [sides.arcs[name] for name in manifest.copper] + [()] * len(manifest.drills)
+    below, above = (own_commands(its.report, manifest, origin).sources for its, origin in zip((low, high), sides.sources))
+    lower, told, last = Counter(source[:3] for source in below), [], None
+    for key in (source[:3] for source in above):
+        is_arc = key[1] in arcs[key[0]]
+        if is_arc and key == last:
+            told[-1][1] += 1
+        else:
+            told.append([lower[key] if is_arc else 1, 1])
+        last = key
+    return FIRST_LINE + "".join(f"{one} {other}\n" for one, other in told)
+
+
+def side_manifest(files, side, package, changed):
+    """The manifest of one of both boards among the files of the board, with links to those that it has of its own."""
+    told, names = copy.copy(files.manifest), {}
+    for name in changed:
+        names[name] = files.free_name(side, ".gbr")
+        files.link(names[name], package.path(name))
+    told.copper = [names.get(name, name) for name in told.copper]
+    name = files.free_name(side, ".json")
+    files.put(name, told.text().encode())
+    return name
+
+
+def asked(program, package, low, high):
+    """What the program answers on the board between both."""
+    files, sides = package.changed(beside(package, "proved")), package.sides
+    words = [side_manifest(files, side, its, origin) for side, its, origin in zip(("lower", "upper"), sides.packages, sides.sources)]
+    name = files.free_name("counts", ".txt")
+    files.put(name, counts(package.manifest, sides, low, high).encode())
+    return program.between(files, *words, name)
+
+
+def told(program, package, answer, ties):
+    """The answer on a board between two bounds, with the word where the program takes them."""
+    if not answer.sides or answer.status not in ANSWERS or None in package.sides.arcs.values():
+        return answer
+    _, low, high = package.between
+    if low.report.sources is None or high.report.sources is None:
+        return answer
+    its = asked(program, package, low, high)
+    if its.status not in (0, 1):
+        return answer
+    said = its.out.decode("ascii", "replace").split("\n")[-2:][0]
+    if said != ANSWERS[answer.status] and not ties.ties:
+        raise Stop(UNJUDGED, f"NOTHING WAS JUDGED: `between` says {said} of a board that {ANSWERS[answer.status]} by its bounds")
+    return answer._replace(line=answer.line.replace(BETWEEN, PROVED, 1))

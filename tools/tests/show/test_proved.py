@@ -1,0 +1,139 @@
+"""Bounds that the program takes: what `show` asks of `between` where all copper outside the profile is arc draws, and what it says then."""
+import os
+import subprocess
+import unittest
+from unittest import mock
+
+import made
+from made import STAND_IN, drill, flash, manifest, netlist, record
+from show_board import Stop, bounds, judged, proved
+from show_board.manifest import of_text
+from show_board.package import Package
+from show_board.program import Answer, Program
+from show_board.progress import Progress
+from show_board.ties import Ties, tie
+
+HEAD = ["%FSLAX46Y46*%", "%MOMM*%", "G75*", "%ADD10C,0.2*%", "%ADD11C,1.0*%", "%ADD12R,1.0X0.4*%", "%ADD13C,0.0002*%", "D10*"]
+HALF = ["X1000000Y0D02*", "G03X-1000000Y0I-1000000J0D01*", "G01*"]
+A, B = record("A", "J1.1", 1, 0), record("A", "J1.2", -1, 0)
+
+
+class Recorder(Program):
+    """The stand-in, with an answer of `between` that is given; `texts` are the files that it was asked about."""
+
+    def __init__(self, answer=None):
+        super().__init__(STAND_IN, Progress(quiet=True))
+        self.given, self.texts = answer, None
+
+    def between(self, package, *names):
+        self.texts = [package.read(name).decode() for name in (package.name, *names)]
+        return self.given
+
+
+class Asked(made.Case):
+    def told(self, program, lines, records, files=(), ties=Ties()):
+        names = {"m.json": manifest(), "top.gbr": "\n".join([*HEAD, *lines, "M02*", ""]), "n.ipc": netlist(*records), **dict(files)}
+        for name, text in names.items():
+            self.write(f"board/{name}", text)
+        package = Package(of_text(names["m.json"].encode()), self.path("board"))
+        with mock.patch.dict(os.environ, {"STAND_IN_LACKS": ""}):
+            self.bounded = bounds.bounded(program, judged.judge(program, package), ties)
+            return proved.told(program, package, self.bounded, ties)
+
+    def test_counts(self):
+        """A line for each piece of the board, in its order: copies of arcs, arcs without copper below, figures, holes."""
+        program = Recorder(Answer(3, b"", "no"))
+        lines = ["D11*", "X9000000Y0D03*", "%SRX2Y1I5.0J0*%", "D10*", *HALF, "D12*", "X0Y5000000D03*", "%SR*%", *made.region((0, 7), (1, 7), (0, 8)), "D13*", *HALF, "D10*",
+                 "X0Y9000000D02*", "G02X0Y9000000I0J500000D01*"]
+        more = {"m.json": manifest(["top.gbr", "bot.gbr", "top.gbr"], [("d.drl", 1, 3)]), "bot.gbr": made.gerber(*flash(10, (0, 0))), "d.drl": drill((0, 0), (3, 3))}
+        self.told(program, lines, [A, B], more)
+        lower, upper = ([self.links(side, number) for number in (14, 27, 31)] for side in ("lower", "upper"))
+        self.assertEqual((lower[1], upper[1] > 8, lower[0] > 8, lower[2] > 8), (0, True, True, True))
+        half, thin, whole = (f"{one} {other}" for one, other in zip(lower, upper))
+        top = ["1 1", half, "1 1", half, "1 1", "1 1", thin, whole]
+        self.assertEqual(program.texts[3], "\n".join(["boardnet-bounds 1", *top, "1 1", *top, "1 1", "1 1", ""]))
+        self.assertEqual([program.texts[0], *program.texts[1:3]], [
+            of_text(more["m.json"].encode()).text(), *(of_text(more["m.json"].replace("top.gbr", f"{side}.gbr").encode()).text() for side in ("lower", "upper"))])
+
+    def links(self, side, number):
+        """How many draws of a side are of a command of the top."""
+        copper = bounds.sides_of(Package(None, self.path("board")), "top.gbr")
+        its = copper.sides[side == "upper"]
+        return sum(line.endswith("D01*") and source == number for line, source in zip(its.lines, its.sources))
+
+    def test_said(self):
+        """`proved` is said where the program takes the bounds, and only then; its answer is that of the bounds."""
+        said = "agrees, between two bounds, proved (lower agrees; upper agrees)"
+        for status, out, line in ((0, b"agrees\n", said), (1, b"agrees\n", said), (2, b"", ""), (3, b"", ""), (4, b"", ""), (6, b"", "")):
+            told = self.told(Recorder(Answer(status, out, "")), HALF, [A, B])
+            self.assertEqual(told, self.bounded._replace(line=line or "agrees, between two bounds (lower agrees; upper agrees)"))
+        with self.assertRaisesRegex(Stop, "NOTHING WAS JUDGED: `between` says differs of a board that agrees"):
+            self.told(Recorder(Answer(1, b"boardnet-between 1\ndiffers\n", "")), HALF, [A, B])
+        told = self.told(Recorder(Answer(1, b"boardnet-between 1\nundecided\n", "")), HALF, [record("A", "J1.1", 0, 1.1), B])
+        self.assertEqual((told.status, told.line[:70]), (11, "undecided, between two bounds, proved: 1 finding that only one of them"))
+        told = self.told(Recorder(Answer(1, b"boardnet-between 1\ndiffers\n", "")), HALF, [record("C", "J1.1", 1, 0), B], ties=Ties([tie("A=C", "--tie")]))
+        self.assertEqual((told.status, told.line[:59]), (0, "agrees, with 1 declared tie, between two bounds, proved (lo"))
+
+    def test_not_asked(self):
+        """Where other copper is outside the profile, in any file; and where there is nothing to ask."""
+        rows = [["%ADD14C,0.0000003*%"], ["%LPC*%", "D11*", "X9000000Y0D03*"], ["D12*", "X0Y5000000D02*", "X1Y5000001D01*"], ["%LR90*%", "D11*", "X9000000Y0D03*"],
+                ["G36*", "X9000000Y0D02*", "G03X9000000Y0I1000000J0D01*", "G37*"], ["X0Y0D03*", "X5Y5*"],
+                ["%ADD14C,1X0.2*%", "D14*", "X0Y5000000D03*"], ["%ABD15*%", "D11*", "X9000000Y0D03*", "%AB*%", "D15*", "X0Y0D03*"]]
+        for lines in rows:
+            program = Recorder()
+            self.assertEqual((self.told(program, [*HALF, *lines], [A, B]), program.texts), (self.bounded, None), lines)
+        program, other = Recorder(), "\n".join([*HEAD, *HALF, *rows[0], "M02*", ""])
+        self.assertEqual((self.told(program, HALF, [A, B], {"m.json": manifest(["top.gbr", "bot.gbr"]), "bot.gbr": other}), program.texts), (self.bounded, None))
+        self.assertEqual((self.told(program, HALF, []), program.texts), (self.bounded, None))
+
+
+def having_between():
+    """The built program, where it has the command."""
+    path = made.built()
+    if not path or subprocess.run([path, "between", *"abcd"], stdout=subprocess.DEVNULL, stderr=subprocess.DEVNULL, stdin=subprocess.DEVNULL).returncode == 2:
+        raise unittest.SkipTest("there is no built program with `between`; BOARDNET names one")
+    return path
+
+
+class Taken(made.Case):
+    """Rows: lines, records, and what `show` says, by the program itself."""
+
+    C = record("B", "J2.1", 9, 0)
+    ROWS = [
+        ("both ways", [*HALF, "G02X1000000Y0I1000000J0D01*"], [A, B], "agrees"),
+        ("a word of its own", ["G02*", "X1000000Y0D02*", "X-1000000Y0I-1000000J0D01*"], [A, B], "agrees"),
+        ("whole turns", ["X1000000Y0D02*", "G03X1000000Y0I-1000000J0D01*", "G02I-1000000J0D01*"], [A, B], "agrees"),
+        ("a quarter", ["G74*", "X1000000Y0D02*", "G02X0Y-1000000I1000000J0D01*", "G02X-1000000Y0I0J1000000D01*", "G02X-1000000Y0I5J5D01*"], [A, B], "agrees"),
+        ("two distances", ["X1000000Y0D02*", "G03X-1000001Y3I-1000000J0D01*", "G02X1000000Y0I1000001J-3D01*"], [A, B], "agrees"),
+        ("past a half turn, two distances", ["X1000000Y0D02*", "G03X0Y-1000002I-1000000J0D01*"], [A, B], "agrees"),
+        ("in one direction, two distances", ["X1000000Y0D02*", "G03X1000001Y0I-1000000J0D01*"], [A, record("A", "J1.2", 1.05, 0)], "undecided"),
+        ("tiny", ["X1000000Y0D02*", "G03X1000000Y0I1J0D01*", "G02X999999Y-1I-1J0D01*"], [A, record("A", "J1.2", 1.05, 0)], "agrees"),
+        ("a thin pen and none", ["D13*", *HALF, "%ADD14C,0*%", "D14*", *HALF], [A, B], "undecided"),
+        ("a short", [*HALF, "D11*", "X9000000Y0D03*"], [record("B", "J1.1", 1, 0), B, C], "differs"),
+        ("a point without copper", HALF, [A, B, C], "differs"),
+        ("nearer than the bounds", [*HALF, "D11*", "X0Y1600200D03*"], [A, B, record("B", "J2.1", 0, 1.6002)], "undecided"),
+        ("copies, figures", ["%SRX2Y2I0.5J0*%", *HALF, "D12*", "X0Y5000000D03*", "%SR*%", *made.region((0, 7), (1, 7), (0, 8))], [A, B], "agrees"),
+        ("inches", ["%LPD*%", *HALF], [A, B], "agrees"),
+    ]
+
+    def test_rows(self):
+        program, statuses = having_between(), {"agrees": 0, "differs": 1, "undecided": 11}
+        for name, lines, records, word in self.ROWS:
+            text = "\n".join([*HEAD, *lines, "M02*", ""])
+            text = text.replace("46Y46", "26Y26").replace("MM", "IN").replace("000000", "039370") if name == "inches" else text
+            self.board({"m.json": manifest(drills=[("d.drl", 1, 1)]), "top.gbr": text, "n.ipc": netlist(*records), "d.drl": drill((20.0, 0.0), (21.0, 0.0))}, name)
+            status, out, notes = self.show(name, program=program)
+            with self.subTest(name):
+                self.assertEqual((status, out.split(" (lower")[0].split(":")[1], notes), (statuses[word], f" {word}, between two bounds, proved", ""), out)
+
+    def test_kept_out(self):
+        """What is not taken, and said without the word: an arc that has no place, and one that `show` alone reads."""
+        program = having_between()
+        for lines in (["X1000000Y0D02*", "G03X-1000000Y0I0J0D01*"], ["X1000000Y0D02*", "G03X-1000000Y0I-1000000J0D01*", "I1J1*"]):
+            self.board({"m.json": manifest(), "top.gbr": "\n".join([*HEAD, *lines, "M02*", ""]), "n.ipc": netlist(A, B)})
+            _, out, _ = self.show("board", program=program)
+            self.assertEqual(("between two bounds" in out, "proved" in out), (True, False), out)
+
+
+if __name__ == "__main__":
+    unittest.main()
