@@ -2,5 +2,7 @@ mod Bounded
 mod Counted
 mod Covered
 mod Figures
+mod Findings
+mod Listed
 mod Shares
 mod Steps

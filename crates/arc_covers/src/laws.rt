@@ -1,7 +1,8 @@
 //! Laws over real boards between two others, and over files of counts. Their calls do nothing.
-ghost use Rattle.arc_covers.specs.Laws.{BoundsLieBetween, CountsAreOne, CountsHaveNoOther, FirstOtherIsOne, RealBoardAgrees, RealBoardIsDecided, TakenAreBounds};
+ghost use Rattle.arc_covers.specs.Laws.{BoundsLieBetween, CountsAreOne, CountsHaveNoOther, FindingsAreCertain, FirstOtherIsOne, RealBoardAgrees, RealBoardIsDecided, TakenAreBounds};
 
 use arcs::laws::taken_is_between;
+use board_shapes::laws::tables_are_unique;
 use covers::Copper;
 use covers::laws::verdicts_decide;
 
@@ -27,6 +28,15 @@ pub fn real_board_is_decided<R: Copper>()
 {
     bounds_lie_between::<R>();
     verdicts_decide::<R>();
+}
+
+/// What they list is certain of it: each open and each missing point that the verdict above lists, and
+/// each short that the one below does. A board with one of these does not agree with its names.
+pub fn findings_are_certain<R: Copper>()
+    ensures { FindingsAreCertain R.holds }
+{
+    tables_are_unique();
+    real_board_is_decided::<R>();
 }
 
 /// Bytes spell at most one pair of lists of counts. Then no line is of another form, and else one is the

@@ -1,7 +1,7 @@
 -- What two verdicts decide of a board between theirs: once, and of every copper that the real board may have.
 use Rattle.std.proofs.Common.{◌≡◌, ◌⊎◌, inl, inr, ℕ, List, [], length, ap, refl, subst, sym, ◌∙◌}
 use Rattle.std.proofs.lemmas.List.{nil_from_length}
-use Rattle.arc_covers.specs.Laws.{AreBoundsOf, AreJudged, RealBoardAgrees, RealBoardIsDecided, TakenAreBounds}
+use Rattle.arc_covers.specs.Laws.{AreBoundsOf, AreJudged, FindingsAreCertain, RealBoardAgrees, RealBoardIsDecided, TakenAreBounds}
 use Rattle.arc_covers.specs.declared.side.Side.TheVariants.{Below, Above}
 use Rattle.board_shapes.proofs.BoardTables.{tables_are_one}
 use Rattle.board_shapes.specs.LawfulBoard.{IsLawfulBoard}
@@ -12,7 +12,7 @@ use Rattle.boardnet.proofs.Sound.{Laws}
 use Rattle.boardnet.specs.BetweenText.{IsDecision, NoneFound, NothingCertain, NothingPossible}
 use Rattle.boardnet.specs.Bounded.{IsDecisionOn}
 use Rattle.boardnet.specs.Command.{BoundNames}
-use Rattle.boardnet.specs.Laws.{BoundedBoardsAgree, BoundedBoardsAreDecided, IsLaidOut}
+use Rattle.boardnet.specs.Laws.{BoundedBoardsAgree, BoundedBoardsAreDecided, BoundedFindingsAreCertain, IsLaidOut}
 use Rattle.boardnet.specs.Lines.{undecided_line}
 use Rattle.boardnet.specs.Outcome.{IsDecided, Source}
 use Rattle.boardnet.specs.Right.{IsRightOn}
@@ -97,4 +97,8 @@ bounded_boards_agree holds taken law source names text line d b laid =
 
 pub bounded_boards_are_decided : (holds : ℕ → Point → Type 0) → TakenAreBounds → RealBoardIsDecided holds → BoundedBoardsAreDecided holds
 bounded_boards_are_decided holds taken law source names text line status d b laid =
+    law d.bounds.lower d.bounds.upper d.decision.below d.decision.above b (bounds_of taken holds source names d.bounds b laid) (judged source names text line status d)
+
+pub bounded_findings_are_certain : (holds : ℕ → Point → Type 0) → TakenAreBounds → FindingsAreCertain holds → BoundedFindingsAreCertain holds
+bounded_findings_are_certain holds taken law source names text line status d b laid =
     law d.bounds.lower d.bounds.upper d.decision.below d.decision.above b (bounds_of taken holds source names d.bounds b laid) (judged source names text line status d)

@@ -48,11 +48,13 @@ pub record NoneFound (opens : List Open) (shorts : List Short) (bare : List ℕ)
   pub shorts_none : shorts ≡ []
   pub bare_none : bare ≡ []
 
--- Certain, whatever copper lies between: the opens and points without copper of the board above, and the shorts of the one below.
+-- Certain, whatever copper lies between: the opens and points without copper of the board above, and the shorts of the one below. Of an open it is certain that
+-- its point is not joined; one of the two may be without copper.
 abbrev pub NothingCertain : (below above : Verdict) → Type 0
 NothingCertain below above = NoneFound above.opens below.shorts above.bare
 
--- Possible: the opens and points without copper of the board below, and the shorts of the one above.
+-- Possible: the opens and points without copper of the board below, and the shorts of the one above. Where there are none the board agrees. Else a point that
+-- is missing here may be open there, shorts may be parts of one, and the counts are no bounds.
 abbrev pub NothingPossible : (below above : Verdict) → Type 0
 NothingPossible below above = NoneFound below.opens above.shorts below.bare
 

@@ -15,6 +15,7 @@ use Rattle.covers.specs.Boards.{Layout}
 use Rattle.covers.specs.Laws.{Decides}
 use Rattle.planar.specs.Plane.{Point}
 use Rattle.real_package.specs.RealBoards.{PlainRealBoard}
+use Rattle.arc_covers.specs.Laws.{CertainFindings}
 use Rattle.arc_covers.specs.RealBoards.{IsReal}
 use Rattle.arc_layer.specs.Real.{plain_reals}
 use Rattle.arcs.specs.declared.real_shape.RealShape.{RealShape}
@@ -93,6 +94,10 @@ BoundedBoardsAgree holds = (source : Source) (names : BoundNames) (text line : L
 -- a net above has no copper.
 abbrev pub BoundedBoardsAreDecided : (ℕ → Point → Type 0) → Type 0
 BoundedBoardsAreDecided holds = (source : Source) (names : BoundNames) (text line : List ℕ) (status : ℕ) (d : IsDecided source names text status line) (b : Layout) → IsLaidOut d.bounds.real holds b → Decides d.decision.below d.decision.above holds b
+
+-- So is each finding that its text says to be certain.
+abbrev pub BoundedFindingsAreCertain : (ℕ → Point → Type 0) → Type 0
+BoundedFindingsAreCertain holds = (source : Source) (names : BoundNames) (text line : List ℕ) (status : ℕ) (d : IsDecided source names text status line) (b : Layout) → IsLaidOut d.bounds.real holds b → CertainFindings d.decision.below d.decision.above holds b
 
 -- ---- Written netlists
 

@@ -49,7 +49,7 @@ label_line file command byte = concat (begin ∷ file ∷ codes ": label at comm
 abbrev pub differs_line : ℕ → ℕ → ℕ → List ℕ
 differs_line opens shorts missing = concat (begin ∷ codes "differs, opens " ∷ decimal opens ∷ codes ", shorts " ∷ decimal shorts ∷ codes ", missing " ∷ decimal missing ∷ end ∷ [])
 
--- how many are possible, where none is certain
+-- how many findings the part "possible" lists, where none is certain
 abbrev pub undecided_line : ℕ → ℕ → ℕ → List ℕ
 undecided_line opens shorts missing = concat (begin ∷ codes "undecided, opens " ∷ decimal opens ∷ codes ", shorts " ∷ decimal shorts ∷ codes ", missing " ∷ decimal missing ∷ end ∷ [])
 
