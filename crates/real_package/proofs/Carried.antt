@@ -2,7 +2,7 @@
 use Rattle.std.proofs.Common.{◌≡◌, inl, inr, ℕ, ◌≤◌, List, Option, IfSome, Result, Ok, Err, OnOk, refl, sym, subst, arith}
 use Rattle.board_io.specs.Package.{Files, IsFaultless}
 use Rattle.board_package.specs.Causes.{HasCause}
-use Rattle.board_package.specs.PackageBoard.{IsHeld, IsHeldWith, IsManifestFile, Stop, StopsAtManifest, StopsTaking, WalksBy, absent, longer, refused}
+use Rattle.board_package.specs.PackageBoard.{IsHeld, IsManifestFile, Stop, StopsAtManifest, StopsTaking, WalksBy, absent, longer, refused}
 use Rattle.board_package.specs.declared.entry.Entry.{Entry}
 use Rattle.board_package.specs.declared.fault.BuildFault.{BuildFault}
 use Rattle.board_package.specs.declared.manifest.Manifest.{Manifest}

@@ -1,5 +1,5 @@
 -- The barrels of a drill file stand on the layers of the board, also as real pieces.
-use Rattle.std.proofs.Common.{◌≡◌, ℕ, ◌≤◌, List, All, sym, subst, arith}
+use Rattle.std.proofs.Common.{◌≡◌, ℕ, List, All, sym, subst}
 use Rattle.std.proofs.lemmas.List.{length-map, get_or-map}
 use Rattle.std.proofs.lemmas.List.Elements.{All-map}
 use Rattle.arc_layer.specs.Real.{PlainReal, plain_real, plain_reals}

@@ -1,17 +1,16 @@
 -- A package has one real outcome.
-use Rattle.std.proofs.Common.{◌≡◌, ◌⊎◌, inl, inr, ℕ, List, refl, sym, ap, subst, ◌∙◌}
-use Rattle.arc_layer.specs.Real.{HasOneRealAnswer, IsRealCopper, IsRealRefused, PlainReal}
+use Rattle.std.proofs.Common.{◌≡◌, inl, inr, ℕ, List, refl, sym, ap, subst, ◌∙◌}
+use Rattle.arc_layer.specs.Real.{HasOneRealAnswer}
 use Rattle.arc_layer.specs.declared.kind.RealKind.{RealKind}
 use Rattle.arc_layer.specs.declared.kind.RealKind.TheVariants.{Gerber}
 use Rattle.board_io.specs.Package.{Files}
 use Rattle.board_shapes.specs.Pieces.{PlainPiece}
 use Rattle.gerber_layer.specs.CommandEffects.{Place as LayerPlace}
-use Rattle.gerber_layer.specs.declared.kind.GerberKind.{GerberKind}
 use Rattle.ipc356_records.specs.NetlistFile as netlist_file
 use Rattle.ipc356_records.specs.NetlistFile.{Netlist}
 use Rattle.xnc.specs.DrillFile as drill_file
 use Rattle.xnc.specs.FaultPlace.{Place as DrillPlace}
-use Rattle.board_package.specs.PackageBoard.{IsHeld, IsHeldWith, Stop, StopsAtManifest, StopsTaking, WalksBy, absent, longer, refused}
+use Rattle.board_package.specs.PackageBoard.{IsHeldWith, Stop, StopsAtManifest, StopsTaking, WalksBy, absent, longer, refused}
 use Rattle.board_package.specs.declared.contents.Refusal.{Refusal}
 use Rattle.board_package.specs.declared.contents.Refusal.TheVariants as refusal
 use Rattle.board_package.specs.declared.entry.Entry.{Entry}

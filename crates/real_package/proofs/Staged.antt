@@ -1,9 +1,9 @@
 -- The stages of the taking, by what was handed over.
-use Rattle.std.proofs.Common.{◌≡◌, inl, inr, ℕ, ◌+◌, ◌<◌, ◌≤◌, List, length, take, get_or, Some, None, refl, sym, subst, arith}
+use Rattle.std.proofs.Common.{◌≡◌, inl, inr, ℕ, ◌<◌, ◌≤◌, List, length, take, get_or, Some, None, refl, sym, subst, arith}
 use Rattle.board_io.specs.Handed.{Handed}
 use Rattle.board_package.specs.Causes.{HandedCause}
 use Rattle.board_package.specs.HandedBoard.{ComesNext, IsHanded, IsManifestHanded, StopsAtManifestHanded, StopsHanding}
-use Rattle.board_package.specs.PackageBoard.{Stop, WalksBy, longer, refused}
+use Rattle.board_package.specs.PackageBoard.{Stop, WalksBy, longer}
 use Rattle.board_package.specs.declared.entry.Entry.{Entry}
 use Rattle.board_package.specs.declared.fault.BuildFault.{BuildFault}
 use Rattle.board_package.specs.declared.manifest.Manifest.{Manifest}

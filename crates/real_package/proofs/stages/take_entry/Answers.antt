@@ -1,4 +1,3 @@
-use Rattle.std.proofs.Common.{IfErr, OnOk, subst}
 use Rattle.board_package.proofs.Lift.{climbs, if_err, spared}
 use Rattle.board_package.proofs.Staging.{handed_with}
 use Rattle.board_package.proofs.Taking.{held_with}
