@@ -70,7 +70,7 @@ def files():
         for kind in COMMENT:
             for path in glob.glob(os.path.join(CRATES, "*", part, "**", f"*{kind}"), recursive=True):
                 name = os.path.relpath(path, CRATES)
-                if "tests" not in re.split(r"[/.]", name):
+                if "tests" not in re.split(r"[/._]", name):
                     yield name
 
 
