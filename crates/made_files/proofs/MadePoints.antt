@@ -22,7 +22,7 @@ use Rattle.ipc356_records.specs.Columns.{words}
 use Rattle.ipc356_records.specs.Line.{RecordLine, TestFields, units, ends, tests, finishes}
 use Rattle.ipc356_records.specs.Names.{index_of, is_name, with_name}
 use Rattle.ipc356_records.specs.NetlistFile.{Netlist, effect_at, item_of, items, probes_in, probes_of}
-use Rattle.ipc356_records.specs.RecordEffects.{Effect, Known, stays, closes, adds, effect, layers_of, placed, probe_at, probes_of_effect, row as row_of, set_unit, test_record}
+use Rattle.ipc356_records.specs.RecordEffects.{Effect, Known, stays, closes, adds, effect, layers_of, placed, probe_at, probes_of_effect, row as row_of, set_unit, test_record as conditions}
 use Rattle.ipc356_records.specs.Settings.{has_ended, known_at, names_of, records_before, unit_before}
 use Rattle.ipc356_records.specs.declared.TheConstants.{MOST_RECORDS}
 use Rattle.ipc356_records.specs.declared.kind.RecordKind.{RecordKind}
@@ -337,7 +337,7 @@ placed_at n few = let near : nat_lt METRE (n * 10_000) ≡ false = le-ltb METRE 
 
 adds_point : (k : Known) (i access x y : ℕ) → k.ended ≡ false → k.unit ≡ Some Mm → nat_le access k.layers ≡ true → x ≤ 300_000 → y ≤ 300_000 → nat_le MOST_RECORDS k.records ≡ false
     → effect k (tests (cell_fields i access x y)) ≡ Ok (adds (cell_name i) access (record { x = pos (x * 10_000); y = pos (y * 10_000) }))
-unfolding effect row_of test_record
+unfolding effect row_of conditions
 adds_point k i access x y ongoing unit known left up room = rw (ongoing, unit, known, placed_at x left, placed_at y up, room) refl
 
 closes_all : (k : Known) → k.ended ≡ false → effect k ends ≡ Ok closes
