@@ -1,5 +1,5 @@
 -- Findings of the verdicts on two boards that a real one between them has.
-use Rattle.std.proofs.Common.{◌≡◌, ◌≢◌, ◌⊎◌, inl, inr, ℕ, zero, suc, ◌+◌, ◌<◌, List, [], ◌∷◌, length, map, All, Contains, option_map, Some, None, slice_get, refl, sym, ap, ◌∙◌, subst, arith}
+use Rattle.std.proofs.Common.{◌≡◌, ◌≢◌, inl, inr, ℕ, zero, suc, ◌<◌, List, [], ◌∷◌, length, map, Contains, option_map, Some, None, slice_get, refl, sym, ap, ◌∙◌, subst, arith}
 use Rattle.std.proofs.lemmas.List.Elements.{Contains-get_or}
 use Rattle.std.proofs.lemmas.Option.{same_Some, slice_get-map, slice_get_cases, slice_get_within}
 use Rattle.planar.specs.Plane.{Point}
@@ -18,7 +18,7 @@ use Rattle.witness_check.specs.Laws.{IsSeated}
 use Rattle.covers.specs.Agreeing.{AgreesWithNames, HasName}
 use Rattle.covers.specs.Boards.{Layout}
 use Rattle.covers.specs.Laws.{Decides}
-use Rattle.arc_covers.specs.Findings.{IsMissing, IsOpen, IsShort}
+use Rattle.arc_covers.specs.Findings.{HasOpen, HasShort, IsWithoutCopper}
 use Rattle.arc_covers.specs.Laws.{CertainFindings, HasItsNetlist}
 use Rattle.arc_covers.proofs.Listed.{bare_said, opens_said, shorts_said}
 
@@ -73,7 +73,7 @@ within real k name (probe, there, is_named) = slice_get_within real.probes k pro
 -- ---- The findings
 
 module _ (v w : Verdict) (holds : ℕ → Point → Type 0) (real : Layout) (decides : Decides v w holds real) where
-  open_is : (upper : PlainBoard) (u : Tables) → IsTables upper u → IsRight u w → HasItsNetlist upper real → (o : Open) → Contains w.opens o → IsOpen holds real o
+  open_is : (upper : PlainBoard) (u : Tables) → IsTables upper u → IsRight u w → HasItsNetlist upper real → (o : Open) → Contains w.opens o → HasOpen holds real o
   open_is upper u is right netlist o inside =
       let said = opens_said u w right o inside in
       let at = said.at in
@@ -93,7 +93,7 @@ module _ (v w : Verdict) (holds : ℕ → Point → Type 0) (real : Layout) (dec
             );
       }
 
-  short_is : (lower : PlainBoard) (t : Tables) → IsTables lower t → IsRight t v → HasItsNetlist lower real → (s : Short) → Contains v.shorts s → IsShort holds real s
+  short_is : (lower : PlainBoard) (t : Tables) → IsTables lower t → IsRight t v → HasItsNetlist lower real → (s : Short) → Contains v.shorts s → HasShort holds real s
   short_is lower t is right netlist s inside =
       let said = shorts_said t v right s inside in
       record {
@@ -103,20 +103,20 @@ module _ (v w : Verdict) (holds : ℕ → Point → Type 0) (real : Layout) (dec
         joined = λ x y one two. decides.shorts x.probe y.probe (s.net, on_of v x.probe x.name s.net (said.seated x one), on_of v y.probe y.name s.net (said.seated y two));
       }
 
-  missing_is : (upper : PlainBoard) (u : Tables) → IsTables upper u → IsRight u w → HasItsNetlist upper real → (k : ℕ) → Contains w.bare k → IsMissing holds real k
+  missing_is : (upper : PlainBoard) (u : Tables) → IsTables upper u → IsRight u w → HasItsNetlist upper real → (k : ℕ) → Contains w.bare k → IsWithoutCopper holds real k
   missing_is upper u is right netlist k inside =
       let bare = bare_said u w right k inside in
       (within real k bare.0.name (named upper u w is right real netlist k bare.0 bare.1), decides.missing k bare)
 
-  open_differs : (o : Open) → IsOpen holds real o → AgreesWithNames holds real → ⊥
+  open_differs : (o : Open) → HasOpen holds real o → AgreesWithNames holds real → ⊥
   open_differs o is agrees =
       let k = is.earlier in
       is.apart k.0 k.1 k.2 (agrees.opens k.0 o.probe o.name is.text is.text_is is.connected k.2 is.named (agrees.missing k.0 (within real k.0 o.name k.2)) (agrees.missing o.probe (within real o.probe o.name is.named)))
 
-  missing_differs : (k : ℕ) → IsMissing holds real k → AgreesWithNames holds real → ⊥
+  missing_differs : (k : ℕ) → IsWithoutCopper holds real k → AgreesWithNames holds real → ⊥
   missing_differs k is agrees = is.1 (agrees.missing k is.0)
 
-  branches_differ : (s : Short) (branches : List Branch) → s.branches ≡ branches → IsShort holds real s → AgreesWithNames holds real → ⊥
+  branches_differ : (s : Short) (branches : List Branch) → s.branches ≡ branches → HasShort holds real s → AgreesWithNames holds real → ⊥
   branches_differ s branches same is agrees = by branches same where
     each : (x : Branch) → Contains s.branches x → HasName real x.probe x.name
     each x (i, below, same) = subst (λ (y : Branch). HasName real y.probe y.name) same (is.named i x below)
@@ -144,10 +144,10 @@ module _ (v w : Verdict) (holds : ℕ → Point → Type 0) (real : Layout) (dec
         shorts = λ i d at. shorts _ (Contains-get_or v.shorts i d at);
         missing = λ i d at. missing _ (Contains-get_or w.bare i d at);
         differs = λ some agrees. elim some [
-          | inl open_some ↦ some_in (IsOpen holds real) w.opens open_some opens open_differs agrees
+          | inl open_some ↦ some_in (HasOpen holds real) w.opens open_some opens open_differs agrees
           | inr other ↦ elim other [
-            | inl short_some ↦ some_in (IsShort holds real) v.shorts short_some shorts (λ s. branches_differ s s.branches refl) agrees
-            | inr bare_some ↦ some_in (IsMissing holds real) w.bare bare_some missing missing_differs agrees
+            | inl short_some ↦ some_in (HasShort holds real) v.shorts short_some shorts (λ s. branches_differ s s.branches refl) agrees
+            | inr bare_some ↦ some_in (IsWithoutCopper holds real) w.bare bare_some missing missing_differs agrees
           ]
         ];
       }

@@ -103,7 +103,7 @@ first_seat name n (l ∷ lines) seen s inside = by (l.name == name) refl l.net r
       later_seat name n l lines seen seen s (λ named on. not_both (sym old ∙ (ap (λ (y : ℕ). list_any (λ x. x == y) seen) (same_Some m s.net (sym f ∙ on)) ∙ g.new))) g.new g
   on_net m e f more false new h = elim (Contains-append_cases (record { net = m; probe = n } ∷ []) (fresh (seen ++ m ∷ []) tail) s (subst (λ (xs : List Seat). Contains xs s) (fresh_new seen (record { net = m; probe = n }) tail new) h)) [
     | inl here ↦ subst (IsFirstSeat name n (l ∷ lines) seen) (one_of (record { net = m; probe = n }) s here)
-      (record { place = 0; line = l; at = omega arith; there = refl; named = eqb-true l.name name e; net = f; new = new; before = λ j x below there named on. absurd (omega arith) })
+        (record { place = 0; line = l; at = omega arith; there = refl; named = eqb-true l.name name e; net = f; new = new; before = λ j x below there named on. absurd (omega arith) })
     | inr further ↦ (
         let g = more (seen ++ m ∷ []) s further in
         let both = unseen seen m s.net g.new in
@@ -173,12 +173,15 @@ open_at name lines (home ∷ rest) e o inside =
     let mine = first_seat name 0 lines [] s (subst (λ (xs : List Seat). Contains xs s) e (Contains-append_right (home ∷ []) rest s r.1)) in
     let its = first_seat name 0 lines [] home (subst (λ (xs : List Seat). Contains xs home) e (0, omega arith, refl)) in
     let at = mine.at in
-    subst (λ (x : Open). (x.name ≡ name) × IsListed lines x) r.2 (refl, record {
-      net = s.net;
-      seated = seat_at name lines s mine;
-      earlier = (home.probe, home.net, after_home name 0 lines [] home rest (sym e) s r.1, seat_at name lines home its);
-      before = λ k below is. mine.before k is.0 (omega arith) is.1 is.2 is.3;
-    })
+    subst (λ (x : Open). (x.name ≡ name) × IsListed lines x) r.2 (
+      refl,
+      record {
+        net = s.net;
+        seated = seat_at name lines s mine;
+        earlier = (home.probe, home.net, after_home name 0 lines [] home rest (sym e) s r.1, seat_at name lines home its);
+        before = λ k below is. mine.before k is.0 (omega arith) is.1 is.2 is.3;
+      },
+    )
 
 -- The open is of a name other than `N/C`, of names from name n on.
 pub record IsOfName (names : List (List ℕ)) (n : ℕ) (lines : List PointLine) (o : Open) : Type 0 where

@@ -8,8 +8,8 @@ use Rattle.verdict.specs.declared.verdict.Short.{Short}
 use Rattle.covers.specs.Agreeing.{HasName}
 use Rattle.covers.specs.Boards.{HasCopper, Layout, PointsJoined}
 
--- the point of the open has its name, which is not `N/C`; an earlier point has that name too, and none such is joined with it
-pub record IsOpen (holds : ℕ → Point → Type 0) (real : Layout) (o : Open) : Type 0 where
+-- the board has the open: its point has its name, not `N/C`; an earlier point has that name too, and none such is joined with it
+pub record HasOpen (holds : ℕ → Point → Type 0) (real : Layout) (o : Open) : Type 0 where
   pub text : List ℕ
   pub text_is : slice_get real.names o.name ≡ Some text
   pub connected : is_unconnected text ≡ false
@@ -17,13 +17,13 @@ pub record IsOpen (holds : ℕ → Point → Type 0) (real : Layout) (o : Open) 
   pub earlier : (k : ℕ) × (k < o.probe) × HasName real k o.name
   pub apart : (k : ℕ) → k < o.probe → HasName real k o.name → PointsJoined holds real k o.probe → ⊥
 
--- the short has branches of two names or more, which rise, and the points of any two, each of its branch's name, are joined
-pub record IsShort (holds : ℕ → Point → Type 0) (real : Layout) (s : Short) : Type 0 where
+-- the board has the short: its branches are of two names or more, which rise; their points have these, and any two are joined
+pub record HasShort (holds : ℕ → Point → Type 0) (real : Layout) (s : Short) : Type 0 where
   pub several : 2 ≤ length s.branches
   pub rise : (i j : ℕ) (x y : Branch) → i < j → slice_get s.branches i ≡ Some x → slice_get s.branches j ≡ Some y → x.name < y.name
   pub named : All (λ x. HasName real x.probe x.name) s.branches
   pub joined : (x y : Branch) → Contains s.branches x → Contains s.branches y → PointsJoined holds real x.probe y.probe
 
--- the board has the test point, and no copper for it
-abbrev pub IsMissing : (ℕ → Point → Type 0) → Layout → ℕ → Type 0
-IsMissing holds real k = (k < length real.probes) × (HasCopper holds real k → ⊥)
+-- the board has the test point, and no copper there
+abbrev pub IsWithoutCopper : (ℕ → Point → Type 0) → Layout → ℕ → Type 0
+IsWithoutCopper holds real k = (k < length real.probes) × (HasCopper holds real k → ⊥)

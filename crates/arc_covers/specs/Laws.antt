@@ -14,8 +14,8 @@ use Rattle.covers.specs.Laws.{Decides}
 use Rattle.covers.specs.Plain.{InPiece, layout_of}
 use Rattle.arc_covers.specs.Bounds.{AreBounds}
 use Rattle.arc_covers.specs.Counts.{AreCounts, IsFirstOther}
+use Rattle.arc_covers.specs.Findings.{HasOpen, HasShort, IsWithoutCopper}
 use Rattle.arc_covers.specs.RealBoards.{IsReal}
-use Rattle.arc_covers.specs.Findings.{IsMissing, IsOpen, IsShort}
 use Rattle.arc_covers.specs.Taken.{AreTaken}
 use Rattle.arcs.specs.declared.real_shape.RealShape.{RealShape}
 use Rattle.arc_covers.specs.declared.side.Side.{Side}
@@ -66,18 +66,18 @@ RealBoardAgrees holds = (lower upper : PlainBoard) (v w : Verdict) (real : Layou
 abbrev pub RealBoardIsDecided : (ℕ → Point → Type 0) → Type 0
 RealBoardIsDecided holds = (lower upper : PlainBoard) (v w : Verdict) (real : Layout) → AreBoundsOf lower upper holds real → AreJudged lower upper v w → Decides v w holds real
 
--- What is certain of a real board by the verdict v below it and w above.
+-- What the lists of a verdict v below the board and w above it say of it for certain.
 pub record CertainFindings (v w : Verdict) (holds : ℕ → Point → Type 0) (real : Layout) : Type 0 where
   -- Each open listed above is the board's.
-  pub opens : All (IsOpen holds real) w.opens
+  pub opens : All (HasOpen holds real) w.opens
   -- Each short listed below is the board's.
-  pub shorts : All (IsShort holds real) v.shorts
+  pub shorts : All (HasShort holds real) v.shorts
   -- Each point listed above without a net is without copper.
-  pub missing : All (IsMissing holds real) w.bare
+  pub missing : All (IsWithoutCopper holds real) w.bare
   -- A board with one of these does not agree with its names.
   pub differs : (w.opens ≢ []) ⊎ (v.shorts ≢ []) ⊎ (w.bare ≢ []) → AgreesWithNames holds real → ⊥
 
--- And so is each finding that the verdict above lists of opens and missing points, and that below of shorts
+-- And certain of it are the opens and missing points that the verdict above lists, and the shorts that the one below does
 abbrev pub FindingsAreCertain : (ℕ → Point → Type 0) → Type 0
 FindingsAreCertain holds = (lower upper : PlainBoard) (v w : Verdict) (real : Layout) → AreBoundsOf lower upper holds real → AreJudged lower upper v w → CertainFindings v w holds real
 

@@ -2,6 +2,7 @@
 use Rattle.std.specs.Prelude.{◌≡◌, ◌⊎◌, ℕ, List, [], ◌∷◌, ◌++◌, length, Option, Some, None, codes, slice_get, slice_index_or}
 use Rattle.std.specs.List.{flat_map}
 use Rattle.board_shapes.specs.declared.probe.Probe.{Probe}
+use Rattle.planar.specs.declared.Spot.{Spot}
 use Rattle.boardnet.specs.Lines.{differs_line, plain_line, undecided_line}
 use Rattle.verdict.specs.ReportText.{count_line, end, signed_word, word}
 use Rattle.verdict.specs.declared.verdict.Branch.{Branch}
@@ -11,10 +12,18 @@ use Rattle.verdict.specs.declared.verdict.Verdict.{Verdict}
 
 -- ---- Test points
 
--- the record of a test point, its layer, its place in u, and its name
+-- a place in u
+abbrev pub place_text : Spot → List ℕ
+place_text at = signed_word at.x ++ signed_word at.y
+
+-- a blank and a name
+abbrev pub name_text : List (List ℕ) → ℕ → List ℕ
+name_text names name = 32 ∷ slice_index_or names name []
+
+-- the record of a test point, its layer, its place, and its name
 abbrev pub probe_text : List (List ℕ) → Option Probe → List ℕ
 probe_text names None = []
-probe_text names (Some p) = word p.number ++ word p.layer ++ signed_word p.at.x ++ signed_word p.at.y ++ 32 ∷ slice_index_or names p.name []
+probe_text names (Some p) = word p.number ++ word p.layer ++ place_text p.at ++ name_text names p.name
 
 -- a title and test point k
 abbrev pub point_line : List ℕ → List Probe → List (List ℕ) → ℕ → List ℕ
@@ -22,20 +31,29 @@ point_line title probes names k = title ++ probe_text names (slice_get probes k)
 
 -- ---- Findings
 
+abbrev pub open_line : List Probe → List (List ℕ) → Open → List ℕ
+open_line probes names o = point_line (codes "open") probes names o.probe
+
+abbrev pub branch_line : List Probe → List (List ℕ) → Branch → List ℕ
+branch_line probes names b = point_line (codes "point") probes names b.probe
+
+abbrev pub bare_line : List Probe → List (List ℕ) → ℕ → List ℕ
+bare_line probes names k = point_line (codes "bare") probes names k
+
 -- of an open the first point on its further net: it is joined to no point of its name before it
 abbrev pub opens_part : List Probe → List (List ℕ) → List Open → List ℕ
-opens_part probes names opens = count_line (codes "opens") (length opens) ++ flat_map (λ (o : Open). point_line (codes "open") probes names o.probe) opens
+opens_part probes names opens = count_line (codes "opens") (length opens) ++ flat_map (open_line probes names) opens
 
 -- of a short the first point of each name on its net
 abbrev pub short_part : List Probe → List (List ℕ) → Short → List ℕ
-short_part probes names s = count_line (codes "short") (length s.branches) ++ flat_map (λ (b : Branch). point_line (codes "point") probes names b.probe) s.branches
+short_part probes names s = count_line (codes "short") (length s.branches) ++ flat_map (branch_line probes names) s.branches
 
 abbrev pub shorts_part : List Probe → List (List ℕ) → List Short → List ℕ
 shorts_part probes names shorts = count_line (codes "shorts") (length shorts) ++ flat_map (short_part probes names) shorts
 
 -- the points without copper
 abbrev pub bare_part : List Probe → List (List ℕ) → List ℕ → List ℕ
-bare_part probes names bare = count_line (codes "missing") (length bare) ++ flat_map (point_line (codes "bare") probes names) bare
+bare_part probes names bare = count_line (codes "missing") (length bare) ++ flat_map (bare_line probes names) bare
 
 abbrev pub findings_part : List Probe → List (List ℕ) → List Open → List Short → List ℕ → List ℕ
 findings_part probes names opens shorts bare = opens_part probes names opens ++ shorts_part probes names shorts ++ bare_part probes names bare
@@ -76,13 +94,16 @@ board_line title v = title ++ word v.pieces ++ word (length v.nets) ++ word (len
 abbrev pub boards_part : ℕ → (below above : Verdict) → List ℕ
 boards_part count below above = codes "boardnet-between 1" ++ end ++ count_line (codes "real") count ++ board_line (codes "lower") below ++ board_line (codes "upper") above
 
+abbrev pub certain_part : List Probe → List (List ℕ) → (below above : Verdict) → List ℕ
+certain_part probes names below above = (codes "certain" ++ end) ++ findings_part probes names above.opens below.shorts above.bare
+
+abbrev pub possible_part : List Probe → List (List ℕ) → (below above : Verdict) → List ℕ
+possible_part probes names below above = (codes "possible" ++ end) ++ findings_part probes names below.opens above.shorts below.bare
+
 -- of a real board of so many pieces, with these test points and names, between boards with these verdicts
 abbrev pub between_text : ℕ → List Probe → List (List ℕ) → (below above : Verdict) → List ℕ
 between_text count probes names below above =
-    boards_part count below above
-    ++ (codes "certain" ++ end ++ findings_part probes names above.opens below.shorts above.bare)
-    ++ (codes "possible" ++ end ++ findings_part probes names below.opens above.shorts below.bare)
-    ++ last_part below above
+    boards_part count below above ++ certain_part probes names below above ++ possible_part probes names below above ++ last_part below above
 
 -- 0: nothing is possible, so the board agrees. 1: something is certain, so it does not; or it is undecided. The line has the counts of what is certain,
 -- or of what is possible.

@@ -1,15 +1,17 @@
 //! The text of `between`, and what is decided by two verdicts of a board between theirs.
 ghost use Rattle.boardnet.specs.BetweenText as spec;
 ghost use Rattle.boardnet.specs.BetweenText.{NoneFound, between_text, findings_part, point_line, probe_text};
+ghost use Rattle.std.specs.List.{flat_map};
 ghost use Rattle.std.specs.Prelude.{IfOk, IsTrue, OnOk, Some, [], slice_index_or, ◌++◌, ◌≡◌, ◌↔◌};
 ghost use Rattle.verdict.specs.ReportText.{count_line, signed_word};
 
 use board_shapes::Probe;
 use lengths::rows::NoMemory;
 use lengths::text::Text;
+use planar::Spot;
 use std::alloc::{AllocError, Global};
 use texts::{put, put_blank_number, put_signed};
-use verdict::{Open, Short, Verdict};
+use verdict::{Branch, Open, Short, Verdict};
 
 /// Whether there is no finding.
 pub fn none_found(opens: &[Open], shorts: &[Short], bare: &[u32]) -> bool
@@ -44,16 +46,30 @@ fn push_signed(out: &mut Vec<u8>, z: i64) -> Result<(), AllocError>
     put_signed(out, z)
 }
 
+// A place.
+fn push_place(out: &mut Vec<u8>, at: Spot) -> Result<(), AllocError>
+    ensures { OnOk result (out.new.items ≡ out.old.items ++ spec.place_text at) }
+{
+    push_signed(out, at.x)?;
+    push_signed(out, at.y)
+}
+
+// A blank and a name.
+fn push_name(out: &mut Vec<u8>, names: &[Text], name: u32) -> Result<(), AllocError>
+    ensures { OnOk result (out.new.items ≡ out.old.items ++ spec.name_text names.now name) }
+{
+    put(out, b" ")?;
+    put(out, name_at(names, name))
+}
+
 // A test point.
 fn push_probe(out: &mut Vec<u8>, names: &[Text], probe: &Probe) -> Result<(), AllocError>
     ensures { OnOk result (out.new.items ≡ out.old.items ++ probe_text names.now (Some probe.now)) }
 {
     put_blank_number(out, u64::from(probe.number))?;
     put_blank_number(out, u64::from(probe.layer))?;
-    push_signed(out, probe.at.x)?;
-    push_signed(out, probe.at.y)?;
-    put(out, b" ")?;
-    put(out, name_at(names, probe.name))
+    push_place(out, probe.at)?;
+    push_name(out, names, probe.name)
 }
 
 // A title and the test point of that number.
@@ -82,6 +98,17 @@ fn push_opens(
     ensures { OnOk result (out.new.items ≡ out.old.items ++ spec.opens_part probes.now names.now opens.now) }
 {
     push_count(out, b"opens", opens.len())?;
+    each_open(out, probes, names, opens)
+}
+
+fn each_open(
+    out: &mut Vec<u8>,
+    probes: &[Probe],
+    names: &[Text],
+    opens: &[Open],
+) -> Result<(), AllocError>
+    ensures { OnOk result (out.new.items ≡ out.old.items ++ flat_map (spec.open_line probes.now names.now) opens.now) }
+{
     for entry in opens {
         push_point(out, b"open", probes, names, entry.probe)?;
     }
@@ -98,6 +125,17 @@ fn push_short(
 {
     let branches = short.branches.as_slice();
     push_count(out, b"short", branches.len())?;
+    each_branch(out, probes, names, branches)
+}
+
+fn each_branch(
+    out: &mut Vec<u8>,
+    probes: &[Probe],
+    names: &[Text],
+    branches: &[Branch],
+) -> Result<(), AllocError>
+    ensures { OnOk result (out.new.items ≡ out.old.items ++ flat_map (spec.branch_line probes.now names.now) branches.now) }
+{
     for branch in branches {
         push_point(out, b"point", probes, names, branch.probe)?;
     }
@@ -113,6 +151,17 @@ fn push_shorts(
     ensures { OnOk result (out.new.items ≡ out.old.items ++ spec.shorts_part probes.now names.now shorts.now) }
 {
     push_count(out, b"shorts", shorts.len())?;
+    each_short(out, probes, names, shorts)
+}
+
+fn each_short(
+    out: &mut Vec<u8>,
+    probes: &[Probe],
+    names: &[Text],
+    shorts: &[Short],
+) -> Result<(), AllocError>
+    ensures { OnOk result (out.new.items ≡ out.old.items ++ flat_map (spec.short_part probes.now names.now) shorts.now) }
+{
     for short in shorts {
         push_short(out, probes, names, short)?;
     }
@@ -128,6 +177,17 @@ fn push_bare(
     ensures { OnOk result (out.new.items ≡ out.old.items ++ spec.bare_part probes.now names.now bare.now) }
 {
     push_count(out, b"missing", bare.len())?;
+    each_bare(out, probes, names, bare)
+}
+
+fn each_bare(
+    out: &mut Vec<u8>,
+    probes: &[Probe],
+    names: &[Text],
+    bare: &[u32],
+) -> Result<(), AllocError>
+    ensures { OnOk result (out.new.items ≡ out.old.items ++ flat_map (spec.bare_line probes.now names.now) bare.now) }
+{
     for number in bare {
         push_point(out, b"bare", probes, names, *number)?;
     }
@@ -223,24 +283,38 @@ pub fn write_between(
 {
     let mut out = Vec::new(alloc);
     push_boards(&mut out, count, below, above)?;
-    push_findings(
-        &mut out,
-        b"certain\n",
-        probes,
-        names,
-        above.opens.as_slice(),
-        below.shorts.as_slice(),
-        above.bare.as_slice(),
-    )?;
-    push_findings(
-        &mut out,
-        b"possible\n",
-        probes,
-        names,
-        below.opens.as_slice(),
-        above.shorts.as_slice(),
-        below.bare.as_slice(),
-    )?;
+    push_certain(&mut out, probes, names, below, above)?;
+    push_possible(&mut out, probes, names, below, above)?;
     put(&mut out, last(below, above))?;
     Ok(out)
+}
+
+fn push_certain(
+    out: &mut Vec<u8>,
+    probes: &[Probe],
+    names: &[Text],
+    below: &Verdict,
+    above: &Verdict,
+) -> Result<(), AllocError>
+    ensures { OnOk result (out.new.items ≡ out.old.items ++ spec.certain_part probes.now names.now below.now above.now) }
+{
+    let opens = above.opens.as_slice();
+    let shorts = below.shorts.as_slice();
+    let bare = above.bare.as_slice();
+    push_findings(out, b"certain\n", probes, names, opens, shorts, bare)
+}
+
+fn push_possible(
+    out: &mut Vec<u8>,
+    probes: &[Probe],
+    names: &[Text],
+    below: &Verdict,
+    above: &Verdict,
+) -> Result<(), AllocError>
+    ensures { OnOk result (out.new.items ≡ out.old.items ++ spec.possible_part probes.now names.now below.now above.now) }
+{
+    let opens = below.opens.as_slice();
+    let others = above.shorts.as_slice();
+    let bare = below.bare.as_slice();
+    push_findings(out, b"possible\n", probes, names, opens, others, bare)
 }

@@ -1,0 +1,7 @@
+use Rattle.std.proofs.Common.{◌≡◌, ◌++◌, take}
+use Rattle.std.specs.List.{flat_map}
+use Rattle.boardnet.specs.BetweenText.{short_part}
+use Rattle.boardnet.proofs.between_text.each_short.Given as goal
+
+abbrev pub invariant-loop-short : goal.invariant-loop-short
+invariant-loop-short l = l.out.items ≡ l.initial.out.items ++ flat_map (short_part l.probes l.names) (take l.short-index l.shorts)
