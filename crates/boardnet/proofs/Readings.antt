@@ -20,6 +20,8 @@ use Rattle.board_shapes.specs.Pieces.{PlainPiece}
 use Rattle.board_shapes.specs.Plain.{PlainBoard}
 use Rattle.board_shapes.specs.declared.placed.Placed.{Placed}
 use Rattle.boardnet.specs.Answers.{behind_of, unreal_of}
+use Rattle.board_shapes.specs.declared.probe.Probe.{Probe}
+use Rattle.boardnet.specs.BetweenText.{between_text}
 use Rattle.boardnet.specs.Bounded.{AreBoundedBy, AreCounted, ComesFrom, IsDecisionOn, IsUnboundBy}
 use Rattle.boardnet.specs.Command.{BoundNames}
 use Rattle.boardnet.specs.Ends.{StopsFor}
@@ -32,6 +34,7 @@ use Rattle.boardnet.specs.commands.Between.{AreRead, IsOfFile, at_counts, at_low
 use Rattle.boardnet.specs.declared.answer.Unanswered.{Unanswered}
 use Rattle.boardnet.specs.declared.answer.Unanswered.TheVariants.{Stopped, NotJson, NotAManifest, Unbound}
 use Rattle.boardnet.specs.declared.unbound.Unbound.TheVariants.{NotCounts}
+use Rattle.verdict.specs.declared.verdict.Verdict.{Verdict}
 use Rattle.real_package.specs.HandedReal.{IsFirstRealStopHanded, IsRealBoardHanded, RealComesHanded}
 use Rattle.real_package.specs.RealBoards.{PlainRealBoard}
 use Rattle.real_package.specs.RealCauses.{HandedRealCause, KeepsRealFaults}
@@ -156,3 +159,6 @@ decided_is source names r l u bytes seen text line status is e b d = record {
   bounds = record { real = r; lower = l; upper = u; bytes = bytes; read = is; bounded = subst (AreBoundedBy r l u) e b };
   decision = d;
 }
+
+pub text_alike : (n m : ℕ) (p q : List Probe) (a b : List (List ℕ)) (v w : Verdict) → n ≡ m → p ≡ q → a ≡ b → between_text n p a v w ≡ between_text m q b v w
+text_alike n m p q a b v w e f h = ap (λ (k : ℕ). between_text k p a v w) e ∙ (ap (λ (k : List Probe). between_text m k a v w) f ∙ ap (λ (k : List (List ℕ)). between_text m q k v w) h)

@@ -8,5 +8,5 @@ use Rattle.boardnet.proofs.commands.between.bounded.Goals as goal
 
 pub returns-in_err-counts-clause-fault : goal.returns-in_err-counts-clause-fault
 returns-in_err-counts-clause-fault c =
-    climbs _ _ c.from_residual.result c.in_err-counts.field-0.0 c.from_residual-in_err-counts.ensures.1
+    climbs _ _ c.from_residual.result c.in_err-counts.field-0.0 c.from_residual.ensures.1
     (no_counts (plain_real_board c.args.boards.now.real) (plain_board c.args.boards.now.lower) (plain_board c.args.boards.now.upper) c.args.bytes.now c.in_err-counts.field-0.0 c.in_err-counts.ensures.fault)
