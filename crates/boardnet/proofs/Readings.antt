@@ -2,6 +2,8 @@
 use Rattle.std.proofs.Common.{◌≡◌, ◌≤◌, inl, inr, ℕ, List, length, Some, slice_get, option_map, ap, refl, sym, subst, ◌∙◌, arith}
 use Rattle.std.proofs.lemmas.Option.{slice_get-map, slice_get_within}
 use Rattle.arc_covers.specs.Faults.{IsBoundsFault}
+use Rattle.arc_covers.specs.Taken.{AreTaken}
+use Rattle.arc_covers.specs.declared.side.Side.{Side}
 use Rattle.arc_covers.specs.declared.between.BoundsFault.{BoundsFault}
 use Rattle.arc_covers.specs.declared.between.BoundsFault.TheVariants as bounds
 use Rattle.arc_layer.specs.Real.{PlainReal, plain_real, plain_reals}
@@ -20,6 +22,8 @@ use Rattle.board_shapes.specs.Pieces.{PlainPiece}
 use Rattle.board_shapes.specs.Plain.{PlainBoard}
 use Rattle.board_shapes.specs.declared.placed.Placed.{Placed}
 use Rattle.boardnet.specs.Answers.{behind_of, unreal_of}
+use Rattle.board_shapes.specs.declared.probe.Probe.{Probe}
+use Rattle.boardnet.specs.BetweenText.{between_text}
 use Rattle.boardnet.specs.Bounded.{AreBoundedBy, AreCounted, ComesFrom, IsDecisionOn, IsUnboundBy}
 use Rattle.boardnet.specs.Command.{BoundNames}
 use Rattle.boardnet.specs.Ends.{StopsFor}
@@ -32,6 +36,7 @@ use Rattle.boardnet.specs.commands.Between.{AreRead, IsOfFile, at_counts, at_low
 use Rattle.boardnet.specs.declared.answer.Unanswered.{Unanswered}
 use Rattle.boardnet.specs.declared.answer.Unanswered.TheVariants.{Stopped, NotJson, NotAManifest, Unbound}
 use Rattle.boardnet.specs.declared.unbound.Unbound.TheVariants.{NotCounts}
+use Rattle.verdict.specs.declared.verdict.Verdict.{Verdict}
 use Rattle.real_package.specs.HandedReal.{IsFirstRealStopHanded, IsRealBoardHanded, RealComesHanded}
 use Rattle.real_package.specs.RealBoards.{PlainRealBoard}
 use Rattle.real_package.specs.RealCauses.{HandedRealCause, KeepsRealFaults}
@@ -156,3 +161,15 @@ decided_is source names r l u bytes seen text line status is e b d = record {
   bounds = record { real = r; lower = l; upper = u; bytes = bytes; read = is; bounded = subst (AreBoundedBy r l u) e b };
   decision = d;
 }
+
+pub text_alike : (n m : ℕ) (p q : List Probe) (a b : List (List ℕ)) (v w : Verdict) → n ≡ m → p ≡ q → a ≡ b → between_text n p a v w ≡ between_text m q b v w
+text_alike n m p q a b v w e f h = ap (λ (k : ℕ). between_text k p a v w) e ∙ (ap (λ (k : List Probe). between_text m k a v w) f ∙ ap (λ (k : List (List ℕ)). between_text m q k v w) h)
+
+-- what is taken of the same pieces by the same counts
+pub taken_moved : (side : Side) (xs ys : List (Placed RealShape)) (c d : List ℕ) (p q : List PlainPiece) → xs ≡ ys → c ≡ d → p ≡ q → AreTaken side xs c p → AreTaken side ys d q
+taken_moved side xs ys c d p q e f h t = subst (λ (z : List PlainPiece). AreTaken side ys d z) h (subst (λ (z : List ℕ). AreTaken side ys z p) f (subst (λ (z : List (Placed RealShape)). AreTaken side z c p) e t))
+
+pub fault_moved : (xs ys : List (Placed RealShape)) (c d : List ℕ) (p q : List PlainPiece) (c' d' : List ℕ) (p' q' : List PlainPiece) (why : BoundsFault) → xs ≡ ys → c ≡ d → p ≡ q → c' ≡ d' → p' ≡ q' → IsBoundsFault xs c p c' p' why → IsBoundsFault ys d q d' q' why
+fault_moved xs ys c d p q c' d' p' q' why e f h f' h' t =
+    subst (λ (z : List PlainPiece). IsBoundsFault ys d q d' z why) h' (subst (λ (z : List ℕ). IsBoundsFault ys d q z p' why) f'
+    (subst (λ (z : List PlainPiece). IsBoundsFault ys d z c' p' why) h (subst (λ (z : List ℕ). IsBoundsFault ys z p c' p' why) f (subst (λ (z : List (Placed RealShape)). IsBoundsFault z c p c' p' why) e t))))

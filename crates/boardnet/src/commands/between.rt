@@ -242,9 +242,10 @@ fn decided(alloc: Global, boards: &Boards) -> Result<Answer, NoMemory>
 {
     let below = verdict_on(alloc, &boards.lower)?;
     let above = verdict_on(alloc, &boards.upper)?;
+    let count = boards.real.pieces.as_slice().len();
     let text = write_between(
         alloc,
-        boards.real.pieces.len(),
+        count,
         boards.lower.probes(),
         boards.lower.names(),
         &below,

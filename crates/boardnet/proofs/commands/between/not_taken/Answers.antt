@@ -12,4 +12,4 @@ returns-in-Piece c =
     let pieces = c.args.real.now.pieces.items in
     let below = subst (λ f. IsInRange (length pieces) f) c.in-Piece.is c.requires in
     subst (λ f. IsNotTaken (plain_real_board c.args.real.now) f (Unbound (Piece c.in-Piece.side c.index.result.now.origin))) (sym c.in-Piece.is)
-    (c.index.result.now.origin, (refl, comes_from (plain_real_board c.args.real.now) pieces c.in-Piece.number c.index.result.now refl (slice_get_read pieces (length pieces) c.in-Piece.number c.index.result.now refl below c.index.ensures)))
+    (c.index.result.now.origin, refl, comes_from (plain_real_board c.args.real.now) pieces c.in-Piece.number c.index.result.now refl (slice_get_read pieces (length pieces) c.in-Piece.number c.index.result.now refl below c.index.ensures))

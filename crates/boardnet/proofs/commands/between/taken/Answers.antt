@@ -87,22 +87,5 @@ returns-clause-handed g c =
     let d = g.P.Package.handed c.bound.new.package in
     let e = g.P.Package.handed c.bound-2.new.package in
     let f = g.P.Package.handed c.take_file.new.package in
-    let near = grows_on d e f c.bound-2.ensures.leaves.grows c.take_file.ensures.leaves.grows in (
-      b,
-      (
-        (c.build_real.ensures.leaves.grows, grows_on b d f c.bound.ensures.leaves.grows near),
-        (
-          c.in_ok-real.ensures.handed,
-          (
-            d,
-            (
-              (c.bound.ensures.leaves.grows, near),
-              (
-                c.in_ok-lower.ensures.handed,
-                (e, ((c.bound-2.ensures.leaves.grows, c.take_file.ensures.leaves.grows), (c.in_ok-upper.ensures.handed, c.in_ok-take_file.ensures.handed))),
-              ),
-            ),
-          ),
-        ),
-      ),
-    )
+    let near = grows_on d e f c.bound-2.ensures.leaves.grows c.take_file.ensures.leaves.grows in
+    (b, (c.build_real.ensures.leaves.grows, grows_on b d f c.bound.ensures.leaves.grows near), c.in_ok-real.ensures.handed, (d, (c.bound.ensures.leaves.grows, near), c.in_ok-lower.ensures.handed, (e, (c.bound-2.ensures.leaves.grows, c.take_file.ensures.leaves.grows), c.in_ok-upper.ensures.handed, c.in_ok-take_file.ensures.handed)))

@@ -1,0 +1,17 @@
+use Rattle.std.proofs.Common.{ap, length, sym, ◌∙◌}
+use Rattle.std.proofs.lemmas.List.{length-map}
+use Rattle.arc_layer.specs.Real.{plain_real}
+use Rattle.boardnet.proofs.Readings.{text_alike}
+use Rattle.boardnet.proofs.commands.between.decided.Goals as goal
+
+pub returns : goal.returns
+returns c = record {
+  below = c.in_ok-below.below;
+  above = c.in_ok-above.above;
+  lower_lawful = c.requires.lower;
+  upper_lawful = c.requires.upper;
+  lower_right = c.in_ok-below.ensures.right;
+  upper_right = c.in_ok-above.ensures.right;
+  text_is = c.in_ok-text.ensures ∙ text_alike _ _ _ _ _ _ c.in_ok-below.below c.in_ok-above.above (c.len-count.ensures ∙ (ap length c.as_slice.ensures.value ∙ sym (length-map c.args.boards.now.real.pieces.items plain_real))) c.probes.ensures.items c.names.ensures.items;
+  status_is = c.between-note.ensures;
+}
