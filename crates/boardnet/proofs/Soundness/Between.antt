@@ -192,7 +192,7 @@ module _ (law : HandedLaws) (f : Files) (names : BoundNames) where
   held_unbound : (a b : List Handed) → AgreeWith f a b → (reason : NoBounds) → AreUnbound (HandedOver a b) names reason → AreUnbound (Held f) names reason
   held_unbound a b w reason x = record { real = x.real; lower = x.lower; upper = x.upper; bytes = x.bytes; read = held_read a b x.real x.lower x.upper x.bytes w x.read; unbound = x.unbound }
 
-  held_bounded : (a b : List Handed) → AgreeWith f a b → AreBounded (HandedOver a b) names → AreBounded (Held f) names
+  abbrev held_bounded : (a b : List Handed) → AgreeWith f a b → AreBounded (HandedOver a b) names → AreBounded (Held f) names
   held_bounded a b w x = record { real = x.real; lower = x.lower; upper = x.upper; bytes = x.bytes; read = held_read a b x.real x.lower x.upper x.bytes w x.read; bounded = x.bounded }
 
   held_between : (a b : List Handed) → AgreeWith f a b → (o : Outcome) → BetweenOutcome (HandedOver a b) names o → BetweenOutcome (Held f) names o
