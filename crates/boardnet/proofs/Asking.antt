@@ -1,12 +1,14 @@
 -- What holds under the command that the words ask for holds under each that they ask for.
-use Rattle.std.proofs.Common.{◌≡◌, ◌<◌, ◌≤◌, ℕ, List, [], ◌∷◌, length, Option, Some, None, IfNone, String, subst, sym, ap, ◌∙◌, get_or, arith}
+use Rattle.std.proofs.Common.{◌≡◌, ◌<◌, ◌≤◌, ℕ, List, [], ◌∷◌, length, Option, Some, None, IfNone, IfSome, String, subst, sym, ap, ◌∙◌, get_or, arith}
 use Rattle.std.specs.Prelude.{map, string_bytes}
 use Rattle.std.specs.declared.alloc.Global.{Global}
 use Rattle.board_io.specs.Package.{Files}
 use Rattle.boardnet.proofs.Soundness.{sound}
 use Rattle.boardnet.specs.Outcome.{OfFilesRead}
 use Rattle.boardnet.specs.commands.{command_of_words}
-use Rattle.boardnet.specs.Words.{Asks, CanAsk, Command}
+use Rattle.boardnet.specs.Command.{asked}
+use Rattle.boardnet.specs.Words.{Asks, CanAsk, Command, SpelledAsk}
+use Rattle.boardnet.specs.declared.commands.Command.{Command as Given}
 
 -- where no command can be asked for by words that are spelled so, these ask for none
 pub none_asks : {A : Type 0} (found : Option A) (words : List (String Global)) (spelled : List (List ℕ)) → map string_bytes words ≡ spelled
@@ -14,7 +16,13 @@ pub none_asks : {A : Type 0} (found : Option A) (words : List (String Global)) (
 none_asks None words spelled same none = λ c asks. none c (words, same, asks)
 none_asks (Some given) words spelled same none = tt
 
--- how two words are spelled, and three
+-- what all words that are spelled so ask for these ask for
+pub some_asks : (found : Option Given) (words : List (String Global)) (spelled : List (List ℕ)) → map string_bytes words ≡ spelled
+    → IfSome found (λ given. SpelledAsk spelled (asked given)) → IfSome found (λ given. Asks words (asked given))
+some_asks None words spelled same h = tt
+some_asks (Some given) words spelled same h = h words same
+
+-- how two words are spelled, three and five
 pub spelled_two : (words : List (String Global)) (a b : String Global) (x y : List ℕ) → 2 ≤ length words → length words < 3 → a ≡ get_or words 0 a → b ≡ get_or words 1 b → x ≡ string_bytes a → y ≡ string_bytes b
     → map string_bytes words ≡ x ∷ y ∷ []
 spelled_two [] a b x y least most p q e f = absurd (omega (arith, least))

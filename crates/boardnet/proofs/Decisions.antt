@@ -1,5 +1,5 @@
 -- What two verdicts decide of a board between theirs: once, and of every copper that the real board may have.
-use Rattle.std.proofs.Common.{◌≡◌, ◌⊎◌, inl, inr, ℕ, List, [], length, ap, refl, subst, sym, ◌∙◌}
+use Rattle.std.proofs.Common.{◌≡◌, ◌⊎◌, inl, inr, ℕ, List, [], length, ap, refl, subst, sym, ◌∙◌, arith}
 use Rattle.std.proofs.lemmas.List.{nil_from_length}
 use Rattle.arc_covers.specs.Laws.{AreBoundsOf, AreJudged, FindingsAreCertain, RealBoardAgrees, RealBoardIsDecided, TakenAreBounds}
 use Rattle.arc_covers.specs.declared.side.Side.TheVariants.{Below, Above}
@@ -42,13 +42,13 @@ same_undecided a b c x y z p q r = rw (p, q, r) refl
 
 same_decisions : (v v' w w' : Verdict) (s t : ℕ) (l k : List ℕ) → DifferInWitnessesOnly v v' → DifferInWitnessesOnly w w' → IsDecision v w s l → IsDecision v' w' t k → (s ≡ t) × (l ≡ k)
 same_decisions v v' w w' s t l k d e (inl (none, is, said)) (inl (none', is', said')) = (is ∙ sym is', said ∙ sym said')
-same_decisions v v' w w' s t l k d e (inl (none, is, said)) (inr (inl (some, rest))) = absurd (some (none_alike v.opens v'.opens w.shorts w'.shorts v.bare v'.bare d.opens e.short_count d.bare none))
-same_decisions v v' w w' s t l k d e (inl (none, is, said)) (inr (inr (some, rest))) = absurd (some (none_alike v.opens v'.opens w.shorts w'.shorts v.bare v'.bare d.opens e.short_count d.bare none))
-same_decisions v v' w w' s t l k d e (inr (inl (some, rest))) (inl (none, is, said)) = absurd (some (none_alike v'.opens v.opens w'.shorts w.shorts v'.bare v.bare (sym d.opens) (sym e.short_count) (sym d.bare) none))
+same_decisions v v' w w' s t l k d e (inl (none, is, said)) (inr (inl (some, a, b, e'))) = absurd (some (none_alike v.opens v'.opens w.shorts w'.shorts v.bare v'.bare d.opens e.short_count d.bare none))
+same_decisions v v' w w' s t l k d e (inl (none, is, said)) (inr (inr (some, a, b, e'))) = absurd (some (none_alike v.opens v'.opens w.shorts w'.shorts v.bare v'.bare d.opens e.short_count d.bare none))
+same_decisions v v' w w' s t l k d e (inr (inl (some, a, b, e'))) (inl (none, is, said)) = absurd (some (none_alike v'.opens v.opens w'.shorts w.shorts v'.bare v.bare (sym d.opens) (sym e.short_count) (sym d.bare) none))
 same_decisions v v' w w' s t l k d e (inr (inl (some, sure, is, said))) (inr (inl (some', sure', is', said'))) =
     (is ∙ sym is', said ∙ (same_differs (length w.opens) (length v.shorts) (length w.bare) (length w'.opens) (length v'.shorts) (length w'.bare) e.open_count d.short_count e.bare_count ∙ sym said'))
 same_decisions v v' w w' s t l k d e (inr (inl (some, sure, is, said))) (inr (inr (some', none, is', said'))) = absurd (sure (none_alike w'.opens w.opens v'.shorts v.shorts w'.bare w.bare (sym e.opens) (sym d.short_count) (sym e.bare) none))
-same_decisions v v' w w' s t l k d e (inr (inr (some, rest))) (inl (none, is, said)) = absurd (some (none_alike v'.opens v.opens w'.shorts w.shorts v'.bare v.bare (sym d.opens) (sym e.short_count) (sym d.bare) none))
+same_decisions v v' w w' s t l k d e (inr (inr (some, a, b, e'))) (inl (none, is, said)) = absurd (some (none_alike v'.opens v.opens w'.shorts w.shorts v'.bare v.bare (sym d.opens) (sym e.short_count) (sym d.bare) none))
 same_decisions v v' w w' s t l k d e (inr (inr (some, none, is, said))) (inr (inl (some', sure, is', said'))) = absurd (sure (none_alike w.opens w'.opens v.shorts v'.shorts w.bare w'.bare e.opens d.short_count e.bare none))
 same_decisions v v' w w' s t l k d e (inr (inr (some, none, is, said))) (inr (inr (some', none', is', said'))) =
     (is ∙ sym is', said ∙ (same_undecided (length v.opens) (length w.shorts) (length v.bare) (length v'.opens) (length w'.shorts) (length v'.bare) d.open_count e.short_count d.bare_count ∙ sym said'))
@@ -86,9 +86,9 @@ judged source names text line status d = record {
 
 -- under 0 nothing is possible
 nothing : (v w : Verdict) (line : List ℕ) → IsDecision v w 0 line → NothingPossible v w
-nothing v w line (inl (none, rest)) = none
-nothing v w line (inr (inl (some, sure, is, said))) = absurd cc
-nothing v w line (inr (inr (some, none, is, said))) = absurd cc
+nothing v w line (inl (none, is, said)) = none
+nothing v w line (inr (inl (some, sure, is, said))) = absurd (omega (arith, is))
+nothing v w line (inr (inr (some, none, is, said))) = absurd (omega (arith, is))
 
 pub bounded_boards_agree : (holds : ℕ → Point → Type 0) → TakenAreBounds → RealBoardAgrees holds → BoundedBoardsAgree holds
 bounded_boards_agree holds taken law source names text line d b laid =

@@ -1,5 +1,5 @@
 -- That what is told of the command `between` is sound.
-use Rattle.std.proofs.Common.{◌≡◌, ◌≤◌, ℕ, List, [], Option, Some, None, IfSome, String, ◌⊎◌, inl, inr, refl, ap, subst, sym, ◌∙◌}
+use Rattle.std.proofs.Common.{◌≡◌, ◌≤◌, ℕ, List, [], Option, Some, None, IfSome, String, ◌⊎◌, inl, inr, refl, ap, codes, subst, sym, ◌∙◌}
 use Rattle.std.specs.declared.alloc.Global.{Global}
 use Rattle.board_io.proofs.Agreeing.{agree_back, agree_front}
 use Rattle.board_io.specs.Handed.{AgreeWith, Handed}
@@ -18,7 +18,7 @@ use Rattle.boardnet.specs.Command.{BoundNames}
 use Rattle.boardnet.specs.Lines.{file_line}
 use Rattle.boardnet.specs.OneOutcome.{AreAlike}
 use Rattle.boardnet.specs.Outcome.{HandedOver, Held, IsLineOf, OfFilesRead, Outcome, Refused, Source, Told}
-use Rattle.boardnet.specs.Source.{ComesBy, FitsNext, FitsNextThen, FitsRealBefore, FitsRealThen, IsFirstStopBy, NextBy, StopsFileBy}
+use Rattle.boardnet.specs.Source.{ComesBy, FitsNext, FitsNextThen, FitsRealBefore, FitsRealThen, IsFileBy, IsFirstStopBy, NextBy, StopsFileBy}
 use Rattle.boardnet.specs.Words.{Asks, Command, Between, IsBetween}
 use Rattle.boardnet.specs.commands.Between.{AreBounded, AreRead, AreUnbound, BetweenOutcome, BetweenRefuses, ComesReading, IsDecided, IsOfFile, IsPlainStop, IsReadLine, IsReadRefusal, IsUnboundRefusal, ReadStop, StopsManifest, StopsReading, at_counts, at_lower, at_real, at_upper}
 use Rattle.boardnet.specs.declared.answer.Unanswered.{Unanswered}
@@ -35,8 +35,8 @@ json_line source names stop line name is (inr (e, s)) = record { stop = at_upper
 
 refuses : (source : Source) (names : BoundNames) (why : Unanswered) → BetweenRefuses source names why → BetweenOutcome source names (Refused (reason_line names.real names.counts why))
 refuses source names (Bent name kind command byte) m = inl (record { stop = at_real (bent name kind command byte); first = m; line_is = refl })
-refuses source names (NotJson name) m = inl (json_line source names not_json _ name (λ manifest e. ap (λ (z : List ℕ). file_line z _) e) m)
-refuses source names (NotAManifest name) m = inl (json_line source names bad_manifest _ name (λ manifest e. ap (λ (z : List ℕ). file_line z _) e) m)
+refuses source names (NotJson name) m = inl (json_line source names not_json (file_line name (codes "not JSON")) name (λ manifest e. ap (λ (z : List ℕ). file_line z (codes "not JSON")) e) m)
+refuses source names (NotAManifest name) m = inl (json_line source names bad_manifest (file_line name (codes "not a manifest")) name (λ manifest e. ap (λ (z : List ℕ). file_line z (codes "not a manifest")) e) m)
 refuses source names (Unbound reason) m = inr (record { reason = reason; unbound = m; line_is = refl })
 refuses source names other m = absurd m
 
@@ -173,7 +173,9 @@ module _ (law : HandedLaws) (f : Files) (names : BoundNames) where
 
   held_read : (a b : List Handed) (r : PlainRealBoard) (l u : PlainBoard) (x : List ℕ) → AgreeWith f a b → AreRead (HandedOver a b) names r l u x → AreRead (Held f) names r l u x
   held_read a b r l u x w h =
-      held_real law f a b names.real r _ w (λ c v y. held_next law f c b names.lower l _ v (λ d t z. held_next law f d b names.upper u _ t (λ e s i. (law.listed.holds f e b names.counts s).held x i) z) y) h
+      held_real law f a b names.real r (λ rest. FitsNext rest names.lower l (λ more. FitsNext more names.upper u (λ last. IsFileBy last names.counts x))) w
+      (λ c v y. held_next law f c b names.lower l (λ more. FitsNext more names.upper u (λ last. IsFileBy last names.counts x)) v
+      (λ d t z. held_next law f d b names.upper u (λ last. IsFileBy last names.counts x) t (λ e s i. (law.listed.holds f e b names.counts s).held x i) z) y) h
 
   held_stop : (a b : List Handed) → AgreeWith f a b → (stop : ReadStop) → StopsReading (HandedOver a b) names stop → StopsReading (Held f) names stop
   held_stop a b w (at_real stop) s = (law.real f a b names.real w).stop stop s
@@ -190,7 +192,7 @@ module _ (law : HandedLaws) (f : Files) (names : BoundNames) where
   held_unbound : (a b : List Handed) → AgreeWith f a b → (reason : NoBounds) → AreUnbound (HandedOver a b) names reason → AreUnbound (Held f) names reason
   held_unbound a b w reason x = record { real = x.real; lower = x.lower; upper = x.upper; bytes = x.bytes; read = held_read a b x.real x.lower x.upper x.bytes w x.read; unbound = x.unbound }
 
-  held_bounded : (a b : List Handed) → AgreeWith f a b → AreBounded (HandedOver a b) names → AreBounded (Held f) names
+  abbrev held_bounded : (a b : List Handed) → AgreeWith f a b → AreBounded (HandedOver a b) names → AreBounded (Held f) names
   held_bounded a b w x = record { real = x.real; lower = x.lower; upper = x.upper; bytes = x.bytes; read = held_read a b x.real x.lower x.upper x.bytes w x.read; bounded = x.bounded }
 
   held_between : (a b : List Handed) → AgreeWith f a b → (o : Outcome) → BetweenOutcome (HandedOver a b) names o → BetweenOutcome (Held f) names o

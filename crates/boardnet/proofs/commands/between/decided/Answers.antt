@@ -12,6 +12,6 @@ returns c = record {
   upper_lawful = c.requires.upper;
   lower_right = c.in_ok-below.ensures.right;
   upper_right = c.in_ok-above.ensures.right;
-  text_is = c.in_ok-text.ensures ∙ text_alike _ _ _ _ _ _ c.in_ok-below.below c.in_ok-above.above (c.len-count.ensures ∙ (ap length c.as_slice.ensures.value ∙ sym (length-map c.args.boards.now.real.pieces.items plain_real))) c.probes.ensures.items c.names.ensures.items;
+  text_is = c.in_ok-text.ensures ∙ text_alike _ _ _ _ _ _ c.in_ok-below.below c.in_ok-above.above (ap length c.as_slice-count.ensures.value ∙ sym (length-map c.args.boards.now.real.pieces.items plain_real)) c.probes.ensures.items c.names.ensures.items;
   status_is = c.between-note.ensures;
 }
