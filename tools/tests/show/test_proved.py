@@ -120,7 +120,7 @@ class Taken(made.Case):
         program, statuses = having_between(), {"agrees": 0, "differs": 1, "undecided": 11}
         for name, lines, records, word in self.ROWS:
             text = "\n".join([*HEAD, *lines, "M02*", ""])
-            text = text.replace("46Y46", "26Y26").replace("MM", "IN").replace("000000", "039370") if name == "inches" else text
+            text = text.replace("46Y46", "26Y26").replace("MM", "IN").replace("1000000", "39370") if name == "inches" else text
             self.board({"m.json": manifest(drills=[("d.drl", 1, 1)]), "top.gbr": text, "n.ipc": netlist(*records), "d.drl": drill((20.0, 0.0), (21.0, 0.0))}, name)
             status, out, notes = self.show(name, program=program)
             with self.subTest(name):
