@@ -1,0 +1,5 @@
+mod Corners
+mod Fan
+mod Halves
+mod Quadrilateral
+mod Sides

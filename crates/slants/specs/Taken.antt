@@ -5,7 +5,7 @@ use Rattle.planar.specs.declared.Spot.{Spot}
 use Rattle.area_contact.specs.Contour.{IsClosed}
 use Rattle.slants.specs.Copper.{InSlant}
 use Rattle.slants.specs.declared.Slant.{Slant}
-use Rattle.slants.specs.declared.TheConstants.{FINE}
+use Rattle.slants.specs.declared.measures.TheConstants.{FINE}
 
 -- what is said of a spot holds of each of the list
 abbrev pub Each : (Spot → Type 0) → List Spot → Type 0
