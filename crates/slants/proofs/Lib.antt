@@ -2,4 +2,5 @@ mod Corners
 mod Fan
 mod Halves
 mod Quadrilateral
+mod Read
 mod Sides

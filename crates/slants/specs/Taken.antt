@@ -1,5 +1,5 @@
 -- Exactly which contours the checks take.
-use Rattle.std.specs.Prelude.{ℕ, ◌*◌, ◌<◌, ◌^◌, ℤ, pos, unsigned_abs, ◌-ℤ◌, ◌*ℤ◌, ◌≤ℤ◌, ◌<ℤ◌, ◌≡◌, ⊤, List, [], ◌∷◌, All}
+use Rattle.std.specs.Prelude.{ℕ, ◌*◌, ◌<◌, ◌^◌, ℤ, pos, unsigned_abs, ◌-ℤ◌, ◌*ℤ◌, ◌≤ℤ◌, ◌<ℤ◌, ◌≡◌, ⊤, Option, None, Some, List, [], ◌∷◌, All}
 use Rattle.planar.specs.Plane.{IsPlaced, at, cross_of, dot_of, square}
 use Rattle.planar.specs.declared.Spot.{Spot}
 use Rattle.area_contact.specs.Contour.{IsClosed}
@@ -24,9 +24,15 @@ pub record ArePlaced (a : Slant) (points : List Spot) : Type 0 where
 abbrev pub band : Slant → ℤ
 band a = square (pos a.width) *ℤ dot_of a.start a.end a.end
 
--- a closed contour whose corners lie in the rectangle; the band has 128 bits
+-- that number; none where it does not fit in 128 bits
+abbrev pub IsBand : Option ℕ → ℤ → Type 0
+IsBand None z = pos (2 ^ 128) ≤ℤ z
+IsBand (Some n) z = pos n ≡ z
+
+-- a closed contour whose corners lie in the rectangle, where start and end are two spots and the band has 128 bits
 pub record TakenBelow (a : Slant) (points : List Spot) : Type 0 where
   pub placed : ArePlaced a points
+  pub apart : pos 1 ≤ℤ dot_of a.start a.end a.end
   pub closed : IsClosed points
   pub fits : band a <ℤ pos (2 ^ 128)
   pub corners : Each (λ q. InSlant a (at q)) points

@@ -2,7 +2,7 @@
 ghost use Rattle.board_shapes.specs.Figures.{InFigure, filled};
 ghost use Rattle.planar.specs.Plane.{IsPlaced, Point, cross_of, dot_of};
 ghost use Rattle.slants.specs.Copper.{InSlant};
-ghost use Rattle.slants.specs.Taken.{IsOff, HasRoot, Keeps, TakenAbove, reach, rise};
+ghost use Rattle.slants.specs.Taken.{HasRoot, Keeps, KeepsAll, TakenAbove, TurnsLeft, reach};
 ghost use Rattle.std.specs.Prelude.{IsTrue, SomeIff, pos, unsigned_abs, ◌*◌, ◌<◌, ◌^◌, ◌≡◌, ◌≤◌, ◌*ℤ◌, ◌≤ℤ◌, ◌↔◌};
 
 use super::Slant;
@@ -65,7 +65,22 @@ fn keeps(slant: &Slant, root: u128, b: Spot, c: Spot) -> bool
 }
 
 /// Whether each of the four edges does.
-fn keeps_all(slant: &Slant, b: Spot, c: Spot, d: Spot, e: Spot) -> bool
+fn keeps_all(slant: &Slant, root: u128, b: Spot, c: Spot, d: Spot, e: Spot) -> bool
+    requires start { IsPlaced slant.now.start }
+    requires end { IsPlaced slant.now.end }
+    requires b_placed { IsPlaced b }
+    requires c_placed { IsPlaced c }
+    requires d_placed { IsPlaced d }
+    requires e_placed { IsPlaced e }
+    ensures { IsTrue result ↔ KeepsAll slant.now (pos root) b c d e }
+{
+    let near = keeps(slant, root, b, c) && keeps(slant, root, c, d);
+    let far = keeps(slant, root, d, e) && keeps(slant, root, e, b);
+    near && far
+}
+
+/// Whether they do so for some root.
+fn has_root(slant: &Slant, b: Spot, c: Spot, d: Spot, e: Spot) -> bool
     requires start { IsPlaced slant.now.start }
     requires end { IsPlaced slant.now.end }
     requires b_placed { IsPlaced b }
@@ -74,10 +89,21 @@ fn keeps_all(slant: &Slant, b: Spot, c: Spot, d: Spot, e: Spot) -> bool
     requires e_placed { IsPlaced e }
     ensures { IsTrue result ↔ HasRoot slant.now b c d e }
 {
-    let root = root_of(slant);
-    let near = keeps(slant, root, b, c) && keeps(slant, root, c, d);
-    let far = keeps(slant, root, d, e) && keeps(slant, root, e, b);
-    near && far
+    keeps_all(slant, root_of(slant), b, c, d, e)
+}
+
+/// Whether four corners that turn left at each have the rectangle on the left of each edge, and `last`
+/// is the first.
+fn go_round(slant: &Slant, b: Spot, c: Spot, d: Spot, e: Spot, last: Spot) -> bool
+    requires start { IsPlaced slant.now.start }
+    requires end { IsPlaced slant.now.end }
+    requires b_placed { IsPlaced b }
+    requires c_placed { IsPlaced c }
+    requires d_placed { IsPlaced d }
+    requires e_placed { IsPlaced e }
+    ensures { IsTrue result ↔ (b ≡ last) × TurnsLeft b c d e × HasRoot slant.now b c d e }
+{
+    is_same(b, last) && is_convex(b, c, d, e) && has_root(slant, b, c, d, e)
 }
 
 /// Whether the polygon of four corners and the first again holds the rectangle. It has to turn left
@@ -93,9 +119,5 @@ pub fn is_above(slant: &Slant, points: &[Spot]) -> bool
     if points.len() != 5 {
         return false;
     }
-    let (b, c, d, e) = (points[0], points[1], points[2], points[3]);
-    if !(is_same(b, points[4]) && is_convex(b, c, d, e)) {
-        return false;
-    }
-    keeps_all(slant, b, c, d, e)
+    go_round(slant, points[0], points[1], points[2], points[3], points[4])
 }

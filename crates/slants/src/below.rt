@@ -1,25 +1,23 @@
 //! Whether a polygon lies in a slanted rectangle.
 ghost use Rattle.board_shapes.specs.Figures.{InFigure, filled};
-ghost use Rattle.planar.specs.Plane.{IsPlaced, Point, at, cross_of, dot_of};
+ghost use Rattle.planar.specs.Plane.{IsPlaced, Point, at, cross_of, dot_of, square};
 ghost use Rattle.slants.specs.Copper.{InSlant};
 ghost use Rattle.slants.specs.Taken.{Each, TakenBelow, band};
-ghost use Rattle.std.specs.Prelude.{All, IsTrue, pos, unsigned_abs, ◌*◌, ◌≡◌, ◌≤◌, ◌≤ℤ◌, ◌↔◌};
+ghost use Rattle.std.specs.Prelude.{All, IsTrue, pos, ◌*◌, ◌≡◌, ◌≤◌, ◌*ℤ◌, ◌≤ℤ◌, ◌↔◌};
 
 use super::Slant;
 use super::contours::is_closed;
-use super::measures::band_of;
+use super::measures::{band_of, length_squared};
 use planar::{Spot, are_placed, cross, dot, is_placed};
 
-/// Whether start and end are two spots and the corner is between both, along the line.
-fn is_between(slant: &Slant, q: Spot) -> bool
-    requires start { IsPlaced slant.now.start }
-    requires end { IsPlaced slant.now.end }
-    requires placed { IsPlaced q }
-    ensures { IsTrue result ↔ (pos 1 ≤ℤ dot_of slant.now.start slant.now.end slant.now.end) × (pos 0 ≤ℤ dot_of slant.now.start slant.now.end q) × (dot_of slant.now.start slant.now.end q ≤ℤ dot_of slant.now.start slant.now.end slant.now.end) }
+/// Whether the spot is not behind `o`, on the way from there to `a`.
+fn is_ahead(o: Spot, a: Spot, q: Spot) -> bool
+    requires o_placed { IsPlaced o }
+    requires a_placed { IsPlaced a }
+    requires q_placed { IsPlaced q }
+    ensures { IsTrue result ↔ pos 0 ≤ℤ dot_of o a q }
 {
-    let whole = dot(slant.start, slant.end, slant.end);
-    let along = dot(slant.start, slant.end, q);
-    whole > 0 && along >= 0 && along <= whole
+    dot(o, a, q) >= 0
 }
 
 /// Whether the square of twice `off` is at most `band`.
@@ -32,24 +30,49 @@ fn is_within(off: u128, band: u128) -> bool
     }
 }
 
+/// Whether the spot is at most half the width from the line through both ends.
+fn is_beside(slant: &Slant, most: u128, q: Spot) -> bool
+    requires start { IsPlaced slant.now.start }
+    requires end { IsPlaced slant.now.end }
+    requires placed { IsPlaced q }
+    requires is { pos most ≡ band slant.now }
+    ensures { IsTrue result ↔ square (pos 2 *ℤ cross_of slant.now.start slant.now.end q) ≤ℤ band slant.now }
+{
+    is_within(cross(slant.start, slant.end, q).unsigned_abs(), most)
+}
+
+/// Whether it is so, and between the lines across both ends.
+fn is_about(slant: &Slant, most: u128, q: Spot) -> bool
+    requires start { IsPlaced slant.now.start }
+    requires end { IsPlaced slant.now.end }
+    requires placed { IsPlaced q }
+    requires is { pos most ≡ band slant.now }
+    ensures { IsTrue result ↔ (pos 0 ≤ℤ dot_of slant.now.start slant.now.end q) × (pos 0 ≤ℤ dot_of slant.now.end slant.now.start q) × (square (pos 2 *ℤ cross_of slant.now.start slant.now.end q) ≤ℤ band slant.now) }
+{
+    is_ahead(slant.start, slant.end, q)
+        && is_ahead(slant.end, slant.start, q)
+        && is_beside(slant, most, q)
+}
+
 /// Whether the corner lies in the rectangle.
 fn has_corner(slant: &Slant, most: u128, q: Spot) -> bool
     requires start { IsPlaced slant.now.start }
     requires end { IsPlaced slant.now.end }
+    requires apart { pos 1 ≤ℤ dot_of slant.now.start slant.now.end slant.now.end }
     requires placed { IsPlaced q }
-    requires is { most ≡ unsigned_abs (band slant.now) }
+    requires is { pos most ≡ band slant.now }
     ensures { IsTrue result ↔ InSlant slant.now (at q) }
 {
-    let off = cross(slant.start, slant.end, q).unsigned_abs();
-    is_between(slant, q) && is_within(off, most)
+    is_about(slant, most, q)
 }
 
 /// Whether each of the corners does.
 fn has_corners(slant: &Slant, most: u128, points: &[Spot]) -> bool
     requires start { IsPlaced slant.now.start }
     requires end { IsPlaced slant.now.end }
+    requires apart { pos 1 ≤ℤ dot_of slant.now.start slant.now.end slant.now.end }
     requires placed { All IsPlaced points.now }
-    requires is { most ≡ unsigned_abs (band slant.now) }
+    requires is { pos most ≡ band slant.now }
     ensures { IsTrue result ↔ Each (λ q. InSlant slant.now (at q)) points.now }
 {
     for q in points {
@@ -70,7 +93,7 @@ pub fn is_below(slant: &Slant, points: &[Spot]) -> bool
     if !(is_placed(slant.start) && is_placed(slant.end) && are_placed(points)) {
         return false;
     }
-    if !is_closed(points) {
+    if length_squared(slant) == 0 || !is_closed(points) {
         return false;
     }
     match band_of(slant) {

@@ -1,7 +1,7 @@
 //! Whole numbers for the length and the width.
 ghost use Rattle.planar.specs.Plane.{IsPlaced, dot_of, square};
-ghost use Rattle.slants.specs.Taken.{band};
-ghost use Rattle.std.specs.Prelude.{IsTrue, SomeIff, pos, unsigned_abs, ◌*◌, ◌+◌, ◌<◌, ◌^◌, ◌≡◌, ◌≤◌, ◌↔◌};
+ghost use Rattle.slants.specs.Taken.{IsBand, band};
+ghost use Rattle.std.specs.Prelude.{pos, ◌*◌, ◌+◌, ◌≡◌, ◌≤◌, ◌*ℤ◌, ◌<ℤ◌, ◌≤ℤ◌};
 
 use super::Slant;
 use planar::dot;
@@ -23,7 +23,7 @@ pub fn length_squared(slant: &Slant) -> u128
 pub fn band_of(slant: &Slant) -> Option<u128>
     requires start { IsPlaced slant.now.start }
     requires end { IsPlaced slant.now.end }
-    ensures { SomeIff result (unsigned_abs (band slant.now) < 2 ^ 128) (unsigned_abs (band slant.now)) }
+    ensures { IsBand result (band slant.now) }
 {
     let width = slant.width as u128;
     (width * width).checked_mul(length_squared(slant))
@@ -33,8 +33,8 @@ pub fn band_of(slant: &Slant) -> Option<u128>
 pub fn root_of(slant: &Slant) -> u128
     requires start { IsPlaced slant.now.start }
     requires end { IsPlaced slant.now.end }
-    ensures under { result * result ≤ 2 * FINE * (2 * FINE) * unsigned_abs (dot_of slant.now.start slant.now.end slant.now.end) }
-    ensures over { 2 * FINE * (2 * FINE) * unsigned_abs (dot_of slant.now.start slant.now.end slant.now.end) < (result + 1) * (result + 1) }
+    ensures under { square (pos result) ≤ℤ (square (pos (2 * FINE)) *ℤ dot_of slant.now.start slant.now.end slant.now.end) }
+    ensures over { (square (pos (2 * FINE)) *ℤ dot_of slant.now.start slant.now.end slant.now.end) <ℤ square (pos (result + 1)) }
 {
     (2 * FINE * (2 * FINE) * length_squared(slant)).isqrt()
 }
