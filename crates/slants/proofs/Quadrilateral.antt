@@ -93,9 +93,9 @@ module _ (d a b c : Spot) (p : Point) (bend : pos 1 ≤ℤ cross_of d a b) (turn
     to_end = not_past;
     positive = over_zero p.n k p.positive some;
     near = rw (
-        on_place k i p.x a.x (b.x -ℤ a.x) p.n (along_x (a.x -ℤ d.x) (a.y -ℤ d.y) (b.x -ℤ a.x) (b.y -ℤ a.y) (p.x -ℤ p.n *ℤ a.x) (p.y -ℤ p.n *ℤ a.y) none),
-        on_place k i p.y a.y (b.y -ℤ a.y) p.n (along_y (a.x -ℤ d.x) (a.y -ℤ d.y) (b.x -ℤ a.x) (b.y -ℤ a.y) (p.x -ℤ p.n *ℤ a.x) (p.y -ℤ p.n *ℤ a.y) none),
-      ) (nothing_off p.n (p.n *ℤ k));
+      on_place k i p.x a.x (b.x -ℤ a.x) p.n (along_x (a.x -ℤ d.x) (a.y -ℤ d.y) (b.x -ℤ a.x) (b.y -ℤ a.y) (p.x -ℤ p.n *ℤ a.x) (p.y -ℤ p.n *ℤ a.y) none),
+      on_place k i p.y a.y (b.y -ℤ a.y) p.n (along_y (a.x -ℤ d.x) (a.y -ℤ d.y) (b.x -ℤ a.x) (b.y -ℤ a.y) (p.x -ℤ p.n *ℤ a.x) (p.y -ℤ p.n *ℤ a.y) none),
+    ) (nothing_off p.n (p.n *ℤ k));
   }
 
 -- ---- a point on the left of each edge
