@@ -147,10 +147,10 @@ module _ (a : Slant) where
         let from : pos 0 ≤ℤ band a = times_from_zero (square (pos a.width)) whole (square_from_zero (pos a.width)) (omega (arith, linear, first.apart)) in
         record { apart = first.apart; from_start = starts; to_end = ends; beside = near (most_of (b ∷ rest) from (each_as corner_near (b ∷ rest) (first, others))) }
 
+pub corners_lie : (a : Slant) (points : List Spot) (p : Point) → IsClosed points → Each (λ q. InSlant a (at q)) points → InFigure (filled points) p → InSlant a p
+corners_lie a [] p closed all (inl k) = absurd k
+corners_lie a [] p closed all (inr k) = absurd k
+corners_lie a (b ∷ rest) p closed all k = inside_slant a b rest p closed all.0 all.1 k
+
 pub below_lies : (a : Slant) (points : List Spot) (p : Point) → TakenBelow a points → InFigure (filled points) p → InSlant a p
-below_lies a points p t k = by points t.closed t.corners k
-  where
-    by : (points : List Spot) → IsClosed points → Each (λ q. InSlant a (at q)) points → InFigure (filled points) p → InSlant a p
-    by [] closed all (inl k) = absurd k
-    by [] closed all (inr k) = absurd k
-    by (b ∷ rest) closed all k = inside_slant a b rest p closed all.0 all.1 k
+below_lies a points p t k = corners_lie a points p t.closed t.corners k
