@@ -1,5 +1,6 @@
 //! Whole numbers for the length and the width.
 ghost use Rattle.planar.specs.Plane.{IsPlaced, dot_of, square};
+ghost use Rattle.planar.specs.declared.TheConstants.{TWO_METRES};
 ghost use Rattle.slants.specs.Taken.{IsBand, band};
 ghost use Rattle.std.specs.Prelude.{pos, ◌*◌, ◌+◌, ◌≡◌, ◌≤◌, ◌*ℤ◌, ◌<ℤ◌, ◌≤ℤ◌};
 
@@ -14,7 +15,7 @@ pub fn length_squared(slant: &Slant) -> u128
     requires start { IsPlaced slant.now.start }
     requires end { IsPlaced slant.now.end }
     ensures value { pos result ≡ dot_of slant.now.start slant.now.end slant.now.end }
-    ensures small { result ≤ 800000000000000000000 }
+    ensures small { result ≤ 2 * TWO_METRES * TWO_METRES }
 {
     dot(slant.start, slant.end, slant.end).unsigned_abs()
 }
