@@ -1,5 +1,5 @@
 -- A closed contour whose corners lie in the rectangle lies in it.
-use Rattle.std.proofs.Common.{◌≡◌, ◌⊎◌, inl, inr, ℤ, pos, neg_ℤ, ◌+ℤ◌, ◌-ℤ◌, ◌*ℤ◌, ◌≤ℤ◌, ◌<ℤ◌, List, [], ◌∷◌, arith}
+use Rattle.std.proofs.Common.{◌≡◌, inl, inr, ℤ, pos, neg_ℤ, ◌+ℤ◌, ◌-ℤ◌, ◌*ℤ◌, ◌≤ℤ◌, List, [], ◌∷◌, arith}
 use Rattle.planar.specs.declared.Spot.{Spot}
 use Rattle.planar.specs.Plane.{Point, at, dot_of, square}
 use Rattle.planar.proofs.Ring.{ring, linear, le_or_lt, times_from_zero, times_mono, square_from_zero, square-neg, one-times, mul-neg, mul-add_right}

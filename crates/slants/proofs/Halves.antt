@@ -1,9 +1,9 @@
 -- An area whose corners lie on one side of a line lies there.
-use Rattle.std.proofs.Common.{Bool, true, false, not, IsTrue, ◌&&◌, ◌||◌, ◌≡◌, ◌⊎◌, inl, inr, ℤ, pos, neg_ℤ, ◌+ℤ◌, ◌-ℤ◌, ◌*ℤ◌, ◌≤ℤ◌, ◌<ℤ◌, List, [], ◌∷◌, arith, refl, sym, ◌∙◌}
-use lib.Signed.{lt_z, le_z}
+use Rattle.std.proofs.Common.{Bool, true, false, IsTrue, ◌≡◌, inl, inr, ℤ, pos, neg_ℤ, ◌+ℤ◌, ◌-ℤ◌, ◌*ℤ◌, ◌≤ℤ◌, ◌<ℤ◌, List, [], ◌∷◌, arith, refl, sym, ◌∙◌}
+use lib.Signed.{lt_z}
 use Rattle.planar.specs.declared.Spot.{Spot}
 use Rattle.planar.specs.Plane.{Point}
-use Rattle.planar.proofs.Ring.{ring, linear, le_or_lt, times_from_zero, times_mono, times_cancel, over_zero, mul-neg, times-zero}
+use Rattle.planar.proofs.Ring.{ring, linear, le_or_lt, times_from_zero, times_mono, times_cancel, over_zero, mul-neg}
 use Rattle.planar.proofs.EdgeLaw.{xor}
 use Rattle.area_contact.specs.declared.Edge.{Edge}
 use Rattle.area_contact.specs.Contour.{InArea, OnEdge, SomeEdge, edges_from, end_from}

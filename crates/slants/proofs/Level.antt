@@ -1,5 +1,5 @@
 -- A line back, and a level line.
-use Rattle.std.proofs.Common.{◌≡◌, ◌↔◌, ℕ, ◌+◌, ◌≤◌, ℤ, pos, neg_ℤ, ◌+ℤ◌, ◌-ℤ◌, ◌*ℤ◌, ◌≤ℤ◌, ◌<ℤ◌, List, [], ◌∷◌, arith, refl, sym, subst, ◌∙◌}
+use Rattle.std.proofs.Common.{◌≡◌, ◌↔◌, ℕ, ◌+◌, ◌≤◌, ℤ, pos, neg_ℤ, ◌+ℤ◌, ◌-ℤ◌, ◌*ℤ◌, ◌≤ℤ◌, arith, refl, sym, subst, ◌∙◌}
 use Rattle.std.proofs.lemmas.Int.{ints}
 use Rattle.planar.specs.declared.Spot.{Spot}
 use Rattle.planar.specs.Plane.{Point, at, dot_of, square}
@@ -7,7 +7,7 @@ use Rattle.planar.proofs.Ring.{ring, linear, times_from_zero, times_mono, times_
 use Rattle.board_shapes.specs.Figures.{InFigure, filled}
 use Rattle.board_shapes.specs.Rectangles.{rectangle}
 use Rattle.slants.specs.Copper.{InSlant}
-use Rattle.slants.specs.Laws.{LevelIsRectangle, OtherWayIsSame, other_way}
+use Rattle.slants.specs.Laws.{LevelIsRectangle, OtherWayIsSame}
 use Rattle.slants.specs.Taken.{TurnsLeft}
 use Rattle.slants.specs.declared.Slant.{Slant}
 use Rattle.slants.proofs.Corners.{corners_lie, square_between}

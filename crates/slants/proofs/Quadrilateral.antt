@@ -1,13 +1,11 @@
 -- A point that is not on the right of any edge of a convex quadrilateral lies in its area.
-use Rattle.std.proofs.Common.{Bool, true, false, not, IsTrue, ◌&&◌, ◌||◌, ◌≡◌, ◌⊎◌, inl, inr, ℤ, pos, neg_ℤ, ◌+ℤ◌, ◌-ℤ◌, ◌*ℤ◌, ◌≤ℤ◌, ◌<ℤ◌, List, [], ◌∷◌, arith, refl, sym, ◌∙◌}
-use lib.Signed.{lt_z, le_z}
+use Rattle.std.proofs.Common.{Bool, true, false, not, ◌&&◌, ◌≡◌, inl, inr, ℤ, pos, neg_ℤ, ◌+ℤ◌, ◌-ℤ◌, ◌*ℤ◌, ◌≤ℤ◌, ◌<ℤ◌, [], ◌∷◌, arith, refl, sym, ◌∙◌}
+use lib.Signed.{lt_z}
 use Rattle.planar.specs.declared.Spot.{Spot}
 use Rattle.planar.specs.Plane.{InCapsule, Point, cross_of, square}
 use Rattle.planar.proofs.Ring.{ring, linear, le_or_lt, times_from_zero, times_cancel, over_zero, times-zero}
-use Rattle.planar.proofs.EdgeLaw.{xor}
-use Rattle.area_contact.specs.declared.Edge.{Edge}
 use Rattle.area_contact.specs.Contour.{InArea, edges_of}
-use Rattle.area_contact.specs.Parity.{crossed, is_le, is_lt, not_le, not_lt, odd, odd_is, or-false, side_of}
+use Rattle.area_contact.specs.Parity.{crossed, is_le, is_lt, not_le, not_lt, odd, odd_is, side_of}
 use Rattle.slants.specs.Taken.{TurnsLeft}
 use Rattle.slants.proofs.Fan.{not_all_down, not_all_up, not_by_turns, rises}
 

@@ -1,14 +1,13 @@
 -- An edge that keeps the rectangle on its left has each point of it there.
-use Rattle.std.proofs.Common.{◌≡◌, ◌⊎◌, inl, inr, ℕ, ◌*◌, ℤ, pos, negsuc, neg_ℤ, unsigned_abs, ◌+ℤ◌, ◌-ℤ◌, ◌*ℤ◌, ◌≤ℤ◌, ◌<ℤ◌, List, [], ◌∷◌, arith, refl}
+use Rattle.std.proofs.Common.{◌≡◌, ℕ, ◌*◌, ℤ, pos, negsuc, neg_ℤ, unsigned_abs, ◌+ℤ◌, ◌-ℤ◌, ◌*ℤ◌, ◌≤ℤ◌, List, arith, refl}
 use Rattle.std.proofs.lemmas.Int.{ints}
 use Rattle.planar.specs.declared.Spot.{Spot}
 use Rattle.planar.specs.Plane.{Point, cross_of, dot_of, square}
-use Rattle.planar.proofs.Ring.{ring, linear, le_or_lt, times_from_zero, times_mono, times_cancel, square_from_zero, square_mono, square_cancel, over_zero, times-zero}
+use Rattle.planar.proofs.Ring.{ring, linear, times_from_zero, times_mono, times_cancel, square_from_zero, square_mono, square_cancel, over_zero, times-zero}
 use Rattle.board_shapes.specs.Figures.{InFigure, filled}
-use Rattle.area_contact.specs.Contour.{InArea, edges_of}
 use Rattle.area_contact.specs.Parity.{side_of}
 use Rattle.slants.specs.Copper.{InSlant, along_of}
-use Rattle.slants.specs.Taken.{HasRoot, IsOff, Keeps, TakenAbove, reach, rise}
+use Rattle.slants.specs.Taken.{IsOff, Keeps, TakenAbove, rise}
 use Rattle.slants.specs.declared.Slant.{Slant}
 use Rattle.slants.specs.declared.measures.TheConstants.{FINE}
 use Rattle.slants.proofs.Quadrilateral.{lies_inside, own_is}
