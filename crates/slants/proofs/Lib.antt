@@ -1,0 +1,7 @@
+mod Corners
+mod Fan
+mod Halves
+mod Level
+mod Quadrilateral
+mod Read
+mod Sides

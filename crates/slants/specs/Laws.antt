@@ -1,0 +1,30 @@
+-- Laws over the definitions.
+use Rattle.std.specs.Prelude.{ℕ, ◌+◌, ◌≤◌, List, pos, ◌+ℤ◌, ◌-ℤ◌, ◌<ℤ◌, ◌≡◌, ◌↔◌}
+use Rattle.planar.specs.Plane.{Point}
+use Rattle.planar.specs.declared.Spot.{Spot}
+use Rattle.board_shapes.specs.Figures.{InFigure, filled}
+use Rattle.board_shapes.specs.Rectangles.{rectangle}
+use Rattle.slants.specs.Copper.{InSlant}
+use Rattle.slants.specs.Taken.{TakenAbove, TakenBelow}
+use Rattle.slants.specs.declared.Slant.{Slant}
+
+-- A contour that is taken below lies in the rectangle, and one that is taken above holds it
+abbrev pub TakenIsBetween : Type 0
+TakenIsBetween = (a : Slant) (points : List Spot) (p : Point) → (TakenBelow a points → InFigure (filled points) p → InSlant a p) × (TakenAbove a points → InSlant a p → InFigure (filled points) p)
+
+-- What lies in a contour that is taken below lies in each that is taken above
+abbrev pub BelowIsAbove : Type 0
+BelowIsAbove = (a : Slant) (lower upper : List Spot) (p : Point) → TakenBelow a lower → TakenAbove a upper → InFigure (filled lower) p → InFigure (filled upper) p
+
+-- The line from end to start
+abbrev pub other_way : Slant → Slant
+other_way a = record { start = a.end; end = a.start; width = a.width }
+
+-- has the same copper
+abbrev pub OtherWayIsSame : Type 0
+OtherWayIsSame = (a : Slant) (p : Point) → InSlant a p → InSlant (other_way a) p
+
+-- A level line to the right whose width is 2 h has the copper of the rectangle between the lower left corner and the upper right one
+abbrev pub LevelIsRectangle : Type 0
+LevelIsRectangle = (a : Slant) (h : ℕ) (p : Point) → a.start.x <ℤ a.end.x → a.end.y ≡ a.start.y → a.width ≡ h + h → 1 ≤ h →
+    InSlant a p ↔ InFigure (filled (rectangle (record { x = a.start.x; y = a.start.y -ℤ pos h }) (record { x = a.end.x; y = a.start.y +ℤ pos h }))) p

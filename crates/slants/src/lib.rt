@@ -1,0 +1,34 @@
+//! Bounds of slanted rectangles.
+//!
+//! Whoever makes a polygon with whole corners, the checks here say whether it lies in a rectangle
+//! along any whole direction, or holds it.
+//!
+//! - `below`: whether a polygon lies in a slanted rectangle.
+//! - `above`: whether a polygon of four corners holds one.
+//! - `contours`: closed contours, and turns.
+//! - `measures`: whole numbers for the length and the width.
+//! - `laws`: laws over the definitions alone.
+#![tactic(auto)]
+
+mod above;
+mod below;
+mod contours;
+pub mod laws;
+mod measures;
+
+pub use above::is_above;
+pub use below::is_below;
+pub use measures::FINE;
+pub use planar::Spot;
+
+/// A rectangle of the whole width `width`, in u, about the line from `start` to `end`, which runs in
+/// any direction: it ends where the line does.
+#[derive(Clone, Copy)]
+pub struct Slant {
+    pub start: Spot,
+    pub end: Spot,
+    pub width: u64,
+}
+
+#[cfg(test)]
+mod tests;

@@ -1,0 +1,260 @@
+//! Lines and polygons. The answers were reckoned by whole squares of any size. The polygons of the
+//! script are the bounds of `tools/show_board`.
+use super::*;
+
+/// Start and end, the width, four corners, and whether the polygon is taken below and above.
+type Row = ([i64; 4], u64, [i64; 8], (bool, bool));
+
+fn rows() -> [Row; 24] {
+    [
+        // along 3, 4, 5, with whole corners
+        (
+            [0, 0, 3000, 4000],
+            1000,
+            [400, -300, 3400, 3700, 2600, 4300, -400, 300],
+            (true, true),
+        ),
+        // one u less in width
+        (
+            [0, 0, 3000, 4000],
+            999,
+            [400, -300, 3400, 3700, 2600, 4300, -400, 300],
+            (false, true),
+        ),
+        // one u more
+        (
+            [0, 0, 3000, 4000],
+            1001,
+            [400, -300, 3400, 3700, 2600, 4300, -400, 300],
+            (true, false),
+        ),
+        // the other way
+        (
+            [3000, 4000, 0, 0],
+            1000,
+            [400, -300, 3400, 3700, 2600, 4300, -400, 300],
+            (true, true),
+        ),
+        // from another corner
+        (
+            [0, 0, 3000, 4000],
+            1000,
+            [3400, 3700, 2600, 4300, -400, 300, 400, -300],
+            (true, true),
+        ),
+        // clockwise
+        (
+            [0, 0, 3000, 4000],
+            1000,
+            [400, -300, -400, 300, 2600, 4300, 3400, 3700],
+            (true, false),
+        ),
+        // a corner one u too far
+        (
+            [0, 0, 3000, 4000],
+            1000,
+            [400, -300, 3400, 3700, 2601, 4300, -400, 300],
+            (false, false),
+        ),
+        // a corner one u too near
+        (
+            [0, 0, 3000, 4000],
+            1000,
+            [400, -300, 3399, 3700, 2600, 4300, -400, 300],
+            (true, false),
+        ),
+        // corners that cross
+        (
+            [0, 0, 3000, 4000],
+            1000,
+            [400, -300, 2600, 4300, 3400, 3700, -400, 300],
+            (true, false),
+        ),
+        // a corner twice
+        (
+            [0, 0, 3000, 4000],
+            1000,
+            [400, -300, 3400, 3700, 3400, 3700, -400, 300],
+            (true, false),
+        ),
+        // longer by one u
+        (
+            [0, 0, 3003, 4004],
+            1000,
+            [400, -300, 3400, 3700, 2600, 4300, -400, 300],
+            (true, false),
+        ),
+        // a level line
+        (
+            [0, 0, 1000, 0],
+            200,
+            [0, -100, 1000, -100, 1000, 100, 0, 100],
+            (true, true),
+        ),
+        // of an odd width
+        (
+            [0, 0, 1000, 0],
+            201,
+            [0, -100, 1000, -100, 1000, 100, 0, 100],
+            (true, false),
+        ),
+        // and so held
+        (
+            [0, 0, 1000, 0],
+            201,
+            [0, -101, 1000, -101, 1000, 101, 0, 101],
+            (false, true),
+        ),
+        // an upright line down
+        (
+            [7, 1000, 7, 0],
+            200,
+            [-93, 0, 107, 0, 107, 1000, -93, 1000],
+            (true, true),
+        ),
+        // no way
+        (
+            [0, 0, 0, 0],
+            1000,
+            [400, -300, 3400, 3700, 2600, 4300, -400, 300],
+            (false, true),
+        ),
+        // no way and no polygon
+        ([0, 0, 0, 0], 1000, [0, 0, 0, 0, 0, 0, 0, 0], (false, false)),
+        // a line of 1.2 mm, below, as the script makes it
+        (
+            [-2_540_000, 1_270_000, 8_140_001, -4_330_007],
+            2_000_001,
+            [
+                -3_004_378, 384_363, 7_675_622, -5_215_643, 8_604_379, -3_444_370, -2_075_621,
+                2_155_636,
+            ],
+            (true, false),
+        ),
+        // a line of 1.2 mm, above
+        (
+            [-2_540_000, 1_270_000, 8_140_001, -4_330_007],
+            2_000_001,
+            [
+                -3_004_380, 384_363, 7_675_622, -5_215_645, 8_604_381, -3_444_370, -2_075_621,
+                2_155_638,
+            ],
+            (false, true),
+        ),
+        // half a metre, below, as the script makes it
+        (
+            [-4_999_999_999, 13, 17, 4_999_999_998],
+            9_999_999,
+            [
+                -4_996_464_465,
+                -3_535_520,
+                3_535_550,
+                4_996_464_464,
+                -3_535_517,
+                5_003_535_531,
+                -5_003_535_532,
+                3_535_547,
+            ],
+            (true, false),
+        ),
+        // half a metre, above
+        (
+            [-4_999_999_999, 13, 17, 4_999_999_998],
+            9_999_999,
+            [
+                -4_996_464_465,
+                -3_535_522,
+                3_535_552,
+                4_996_464_464,
+                -3_535_517,
+                5_003_535_533,
+                -5_003_535_534,
+                3_535_547,
+            ],
+            (false, true),
+        ),
+        // short and wide, below, as the script makes it
+        (
+            [0, 0, 7, -5],
+            3_000_001,
+            [
+                -871_857, -1_220_601, -871_851, -1_220_605, 871_864, 1_220_596, 871_858, 1_220_600,
+            ],
+            (true, false),
+        ),
+        // short and wide, above
+        (
+            [0, 0, 7, -5],
+            3_000_001,
+            [
+                -871_859, -1_220_601, -871_851, -1_220_607, 871_866, 1_220_596, 871_858, 1_220_602,
+            ],
+            (false, true),
+        ),
+        // beyond a metre
+        (
+            [0, 0, 6_000_000_000, 8_000_000_000],
+            10_000_000_000,
+            [
+                4_000_000_000,
+                -3_000_000_000,
+                10_000_000_000,
+                5_000_000_000,
+                2_000_000_000,
+                11_000_000_000,
+                -4_000_000_000,
+                3_000_000_000,
+            ],
+            (false, false),
+        ),
+    ]
+}
+
+fn spot(x: i64, y: i64) -> Spot {
+    Spot { x, y }
+}
+
+fn slant(line: [i64; 4], width: u64) -> Slant {
+    Slant {
+        start: spot(line[0], line[1]),
+        end: spot(line[2], line[3]),
+        width,
+    }
+}
+
+/// The corners and the first again, or a spot beside it.
+fn contour(p: [i64; 8], open: bool) -> [Spot; 5] {
+    let first = spot(p[0], p[1]);
+    let last = if open { spot(401, -300) } else { first };
+    [
+        first,
+        spot(p[2], p[3]),
+        spot(p[4], p[5]),
+        spot(p[6], p[7]),
+        last,
+    ]
+}
+
+/// Whether the checks answer as the row says.
+fn is_told(row: &Row) -> bool {
+    let (line, width, p, answers) = *row;
+    let slant = slant(line, width);
+    let points = contour(p, false);
+    is_below(&slant, &points) == answers.0 && is_above(&slant, &points) == answers.1
+}
+
+#[test]
+fn rows_are_told(rt: HostRuntime) {
+    for row in rows() {
+        assert!(rt; is_told(&row));
+    }
+}
+
+/// A contour that does not end where it begins is none.
+#[test]
+fn open_contours_are_refused(rt: HostRuntime) {
+    let slant = slant([0, 0, 3000, 4000], 1000);
+    let points = contour([400, -300, 3400, 3700, 2600, 4300, -400, 300], true);
+    assert!(rt; !is_below(&slant, &points) && !is_above(&slant, &points));
+    assert!(rt; is_below(&slant, &points[..0]) && !is_above(&slant, &points[..4]));
+}
