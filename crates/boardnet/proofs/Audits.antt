@@ -1,5 +1,5 @@
 -- From what the parts of an audit give to its outcome.
-use Rattle.std.proofs.Common.{◌≡◌, ◌≤◌, inl, inr, ℕ, List, Some, codes, ap, subst, sym, ◌∙◌, arith}
+use Rattle.std.proofs.Common.{◌≡◌, ◌≤◌, ◌⊎◌, inl, inr, ℕ, List, Some, codes, ap, subst, sym, ◌∙◌, arith}
 use Rattle.board_io.specs.Handed.{Handed}
 use Rattle.board_io.specs.Package.{Files, IsFaultless}
 use Rattle.board_package.proofs.OneOutcome.{held_not_absent, held_not_longer}
@@ -7,7 +7,7 @@ use Rattle.board_package.proofs.Staging.{carry}
 use Rattle.board_package.specs.Causes.{HandedCause}
 use Rattle.board_package.specs.HandedBoard.{ComesHanded, ComesNext, IsBoardHanded, IsFirstStopHanded, StopsHanding}
 use Rattle.board_package.specs.Laws.{HasOneOutcome}
-use Rattle.board_package.specs.PackageBoard.{IsHeld, StopsTaking, Stop, absent, longer}
+use Rattle.board_package.specs.PackageBoard.{IsBoardOf, IsHeld, StopsTaking, Stop, absent, longer}
 use Rattle.board_package.specs.declared.fault.BuildFault.{BuildFault}
 use Rattle.board_shapes.proofs.BoardTables.{tables_are_one}
 use Rattle.board_shapes.specs.Laws.{HasOneTables}
@@ -17,7 +17,7 @@ use Rattle.boardnet.specs.Answers.{Answers, IsAnswerTo, IsRuledOn, IsUnruled, li
 use Rattle.boardnet.specs.HandedOutcome.{HasHandedReason}
 use Rattle.boardnet.specs.Kept.{LeftBy}
 use Rattle.boardnet.specs.Lines.{counted_line}
-use Rattle.boardnet.specs.Outcome.{ComesFor, HandedOver, HasRuling, Held, IsAnswer, IsAuditStop, IsNoReport, IsTextOf, Source}
+use Rattle.boardnet.specs.Outcome.{ComesFor, HandedOver, HasRuling, Held, IsAnswer, IsAuditStop, IsNoReport, IsReadAs, IsTextOf, Source}
 use Rattle.boardnet.specs.Source.{FitsBefore, IsFileBy, IsFileWith}
 use Rattle.boardnet.specs.Words.{Audit}
 use Rattle.boardnet.specs.commands.Audit.{IsNoText}
@@ -76,16 +76,22 @@ no_stop_taking files name bytes (absent other) h s = held_not_absent files name 
 no_stop_taking files name bytes (longer other) h s = held_not_longer files name bytes h s.1
 no_stop_taking files name bytes other h s = absurd s
 
--- an audit that has an answer has no stop
-pub no_stop : (files : Files) (manifest report text line : List ℕ) (status : ℕ) (stop : Stop) → HasOneOutcome files manifest → IsAnswer (Held files) manifest report text status line → IsAuditStop (Held files) manifest report stop → ⊥
-no_stop files manifest report text line status stop law a (inl first) = law.not_both a.board stop a.read.0 first
-no_stop files manifest report text line status stop law a (inr s) = no_stop_taking files report a.read.1.bytes stop a.read.1.file s.behind.1
+-- an audit that reads a verdict has no stop
+pub no_stop : (files : Files) (manifest report : List ℕ) (board : PlainBoard) (verdict : Verdict) (stop : Stop) → HasOneOutcome files manifest → IsReadAs (Held files) manifest report board verdict → IsAuditStop (Held files) manifest report stop → ⊥
+no_stop files manifest report board verdict stop law read (inl first) = law.not_both board stop read.0 first
+no_stop files manifest report board verdict stop law read (inr s) = no_stop_taking files report read.1.bytes stop read.1.file s.behind.1
 
--- a report that is the text of no verdict has no answer
-pub no_misread : (files : Files) (manifest report text line : List ℕ) (status : ℕ) → IsNoText (Held files) manifest report → IsAnswer (Held files) manifest report text status line → ⊥
-no_misread files manifest report text line status h a =
-    let bytes : a.read.1.bytes ≡ h.behind.1.bytes = one_file files report a.read.1.bytes h.behind.1.bytes a.read.1.file.held h.behind.1.file.held in
-    h.behind.1.good a.verdict (subst (λ (z : List ℕ). IsTextOf z a.verdict) bytes a.read.1.good)
+-- Where the package fits and the report is the text of a verdict, a ruling follows, unless reading (A) or writing (B) fails or memory is wanted.
+abbrev pub Ruled : Files → List ℕ → List ℕ → (A B : Type 0) → ℕ → Type 0
+Ruled files manifest report A B status =
+    (board : PlainBoard) (bytes : List ℕ) (verdict : Verdict) → IsBoardOf files manifest board → IsHeld files report bytes → IsTextOf bytes verdict → (A → ⊥) → (B → ⊥)
+    → ((text line : List ℕ) × IsAnswer (Held files) manifest report text status line) ⊎ (status ≡ 6)
+
+-- a report that is the text of no verdict is read as none
+pub no_misread : (files : Files) (manifest report : List ℕ) (board : PlainBoard) (verdict : Verdict) → IsNoText (Held files) manifest report → IsReadAs (Held files) manifest report board verdict → ⊥
+no_misread files manifest report board verdict h read =
+    let bytes : read.1.bytes ≡ h.behind.1.bytes = one_file files report read.1.bytes h.behind.1.bytes read.1.file.held h.behind.1.file.held in
+    h.behind.1.good verdict (subst (λ (z : List ℕ). IsTextOf z verdict) bytes read.1.good)
 
 -- ---- The way to a ruling, by what is held or was handed over
 

@@ -10,7 +10,7 @@ pub use Rattle.gerber_layer.specs.MacroLayer.{IsReadWithMacros}
 pub use Rattle.boardnet.specs.Common.{HasStatus, form_of, place_of, refusal_line, IsLineOf, IsRefusal, Outcome, Told, Refused}
 pub use Rattle.boardnet.specs.Source.{Source, Held, HandedOver}
 pub use Rattle.boardnet.specs.commands.Check.{IsReport, CheckOutcome}
-pub use Rattle.boardnet.specs.commands.Audit.{IsTextOf, IsNoReport, HasRuling, IsAnswer, IsAuditStop, AuditOutcome}
+pub use Rattle.boardnet.specs.commands.Audit.{IsTextOf, IsNoReport, HasRuling, IsAnswer, IsReadAs, IsAuditStop, AuditOutcome}
 pub use Rattle.boardnet.specs.commands.Trial.{made_manifest, summary_text, IsTrialReport}
 pub use Rattle.boardnet.specs.commands.Write.{IsWritten}
 pub use Rattle.boardnet.specs.commands.Gaps.{IsGapped}

@@ -11,8 +11,10 @@ ghost use Rattle.std.specs.Prelude.{List, None, [], length, ℕ, ◌<◌, ◌≡
 use crate::laws::reports_pass;
 use crate::run::run;
 use board_io::{MemoryPackage, MemorySink, Sink};
+use board_package::laws::one_outcome;
 use std::alloc::Global;
 use texts::MOST_BYTES;
+use verdict::laws::report_text_is_injective;
 
 /// What a check and the audit of its report come to.
 #[derive(Clone, Copy, Debug, PartialEq, Eq)]
@@ -56,6 +58,8 @@ pub fn certify<N: Sink>(
     if package.hold(report, out.bytes()).is_err() {
         return Certified::NoMemory;
     }
+    one_outcome();
+    report_text_is_injective();
     reports_pass();
     Certified::Audited(run(alloc, auditing, package, ruling, notes))
 }

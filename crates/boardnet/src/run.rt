@@ -5,8 +5,9 @@ ghost use Rattle.boardnet.specs.Ends.{Ends, HasNames};
 ghost use Rattle.boardnet.specs.HandedOutcome.{EndsHanded};
 ghost use Rattle.boardnet.specs.Kept.{Keeps, Leaves};
 ghost use Rattle.boardnet.specs.Lines.{Gains, GainsFrontOf, Rose, Says, file_line, plain_line};
-ghost use Rattle.boardnet.specs.Outcome.{ComesFor, Fits, HandedOver, Held, AreBounded, IsAnswer, IsBoardOf, IsDecided, IsFlatText, IsGapped, IsHeld, IsLabelledBoardOf, IsLabelledReport, IsReadWithMacros, IsReport, IsTrialReport, IsWritten, OfFilesRead, OutcomeOf, PlainBoard, PlainPiece, Refused, Told, grown_common};
+ghost use Rattle.boardnet.specs.Outcome.{ComesFor, Fits, HandedOver, Held, AreBounded, IsAnswer, IsBoardOf, IsDecided, IsFlatText, IsGapped, IsHeld, IsLabelledBoardOf, IsLabelledReport, IsReadWithMacros, IsReport, IsTextOf, IsTrialReport, IsWritten, OfFilesRead, OutcomeOf, PlainBoard, PlainPiece, Refused, Told, grown_common};
 ghost use Rattle.boardnet.specs.Words.{Asks, BoundNames, Command as Asked, IsAudit, IsBetween, IsCheck, IsFlatten, IsGaps, IsTrial, IsUnderstood, IsWrite, IsX2, Trial, Version, Write, Flatten};
+ghost use Rattle.verdict.specs.declared.verdict.Verdict.{Verdict};
 ghost use Rattle.std.specs.Prelude.{IfSome, List, Some, [], codes, ◌++◌, ◌∷◌, pos, ℕ, ◌*◌, ◌↔◌, ◌≡◌, ◌≢◌, ◌≤◌, ◌⊎◌};
 
 use crate::commands::{Command, answer_to};
@@ -20,7 +21,6 @@ use gerber_layer::laws as layers;
 use made_files::made_packages_fit;
 use real_package::laws as reals;
 use std::alloc::Global;
-use verdict::laws as verdicts;
 
 /// Does what the words ask for, and answers the status.
 ///
@@ -204,13 +204,13 @@ pub fn run<P: Package, S: Sink, N: Sink>(
     ensures summarized { (seed size : ℕ) → IsTrial words.now seed size → size ≤ 10000
         → (Rose (S.faults out.old) (S.faults out.new) → ⊥) → (result ≤ 1) ⊎ (result ≡ 6) }
 
-    // A report that is the text of a verdict has its ruling, unless reading or writing fails or memory is wanted.
+    // Where the package fits and the report is the text of a verdict, its ruling follows, unless reading or writing fails or
+    // memory is wanted.
     ensures answered { IfSome (P.held «package».old) (λ files. (manifest report : List ℕ) → IsAudit words.now manifest report
-        → (text line : List ℕ) (status : ℕ) → IsAnswer (Held files) manifest report text status line
-        → (Rose (P.faults «package».old) (P.faults «package».new) → ⊥) → (Rose (S.faults out.old) (S.faults out.new) → ⊥) → (result ≡ status) ⊎ (result ≡ 6)) }
+        → (board : PlainBoard) (bytes : List ℕ) (verdict : Verdict) → IsBoardOf files manifest board → IsHeld files report bytes → IsTextOf bytes verdict
+        → (Rose (P.faults «package».old) (P.faults «package».new) → ⊥) → (Rose (S.faults out.old) (S.faults out.new) → ⊥)
+        → ((text line : List ℕ) × IsAnswer (Held files) manifest report text result line) ⊎ (result ≡ 6)) }
 {
-    verdicts::report_text_is_injective();
-    packages::one_outcome();
     made_packages_fit();
     match command_of(words) {
         None => {

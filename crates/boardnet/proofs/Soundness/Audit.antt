@@ -6,30 +6,29 @@ use Rattle.board_io.specs.Handed.{AgreeWith, Grows, Handed}
 use Rattle.board_io.specs.Package.{Files}
 use Rattle.board_package.specs.HandedLaw.{HandedIsHeld, HoldsWhatWasHanded}
 use Rattle.board_package.specs.HandedBoard.{StopsHanding}
-use Rattle.board_package.specs.Laws.{HasOneOutcome}
 use Rattle.board_package.specs.PackageBoard.{Stop, longer}
 use Rattle.board_shapes.specs.Plain.{PlainBoard}
-use Rattle.boardnet.proofs.Audits.{one_answer, no_misread, no_stop, no_stop_taking}
+use Rattle.boardnet.proofs.Audits.{Ruled, one_answer, no_misread, no_stop, no_stop_taking}
 use Rattle.boardnet.proofs.Named.{Completes}
 use Rattle.boardnet.proofs.Alike.{line_of_one, same_taking}
 use Rattle.boardnet.specs.OneOutcome.{AreAlike}
 use Rattle.boardnet.proofs.Sound.{Sound, HoldsHanded, Laws}
 use Rattle.boardnet.specs.Answers.{reason_line}
-use Rattle.boardnet.specs.Outcome.{AuditOutcome, ComesFor, HandedOver, Held, IsAnswer, IsAuditStop, IsTextOf, OfFilesRead, Outcome, OutcomeOf, Refused, Source, Told, IsLineOf}
+use Rattle.boardnet.specs.Outcome.{AuditOutcome, ComesFor, HandedOver, Held, IsAnswer, IsAuditStop, IsReadAs, IsTextOf, OfFilesRead, Outcome, OutcomeOf, Refused, Source, Told, IsLineOf}
 use Rattle.boardnet.specs.Source.{FitsBefore, IsFileWith, NextBy, StopsFileBy}
 use Rattle.boardnet.specs.commands.Audit.{AuditRefuses, IsNoReport, IsNoText}
 use Rattle.boardnet.specs.Words.{Asks, Command, Audit, IsAudit}
 use Rattle.boardnet.specs.declared.answer.Unanswered.{Unanswered}
 use Rattle.boardnet.specs.declared.answer.Unanswered.TheVariants.{NotAReport}
-use Rattle.verdict.specs.Laws.{ReportTextIsInjective}
+use Rattle.verdict.specs.declared.verdict.Verdict.{Verdict}
 
 misread : (source : Source) (manifest report : List ℕ) (why : Unanswered) → AuditRefuses source manifest report why → AuditOutcome source manifest report (Refused (reason_line manifest report why))
 misread source manifest report NotAReport m = inr (m, refl)
 misread source manifest report other m = absurd m
 
-no_ruling : (f : Files) (manifest report : List ℕ) (why : Unanswered) → AuditRefuses (Held f) manifest report why → (text line : List ℕ) (status : ℕ) → IsAnswer (Held f) manifest report text status line → ⊥
-no_ruling f manifest report NotAReport m text line status a = no_misread f manifest report text line status m a
-no_ruling f manifest report other m text line status a = absurd m
+no_ruling : (f : Files) (manifest report : List ℕ) (why : Unanswered) → AuditRefuses (Held f) manifest report why → (board : PlainBoard) (verdict : Verdict) → IsReadAs (Held f) manifest report board verdict → ⊥
+no_ruling f manifest report NotAReport m board verdict read = no_misread f manifest report board verdict m read
+no_ruling f manifest report other m board verdict read = absurd m
 
 -- ---- Of files that agree with what was handed over: the package, and the report behind it
 
@@ -99,10 +98,10 @@ same_audit_stop law f manifest report stop other l k (inr s) (inr t) p q = same_
 
 one_audit : Laws → (f : Files) (manifest report : List ℕ) (o p : Outcome) → AuditOutcome (Held f) manifest report o → AuditOutcome (Held f) manifest report p → AreAlike o p
 one_audit law f manifest report (Told text s l) (Told said t k) x y = one_answer f manifest report text l said k s t (law.one.listed f manifest) law.texts x y
-one_audit law f manifest report (Told text s l) (Refused k) x (inl y) = no_stop f manifest report text l s y.stop (law.one.listed f manifest) x y.first
-one_audit law f manifest report (Told text s l) (Refused k) x (inr (y, is)) = no_misread f manifest report text l s y x
-one_audit law f manifest report (Refused l) (Told said t k) (inl x) y = no_stop f manifest report said k t x.stop (law.one.listed f manifest) y x.first
-one_audit law f manifest report (Refused l) (Told said t k) (inr (x, is)) y = no_misread f manifest report said k t x y
+one_audit law f manifest report (Told text s l) (Refused k) x (inl y) = no_stop f manifest report x.board x.verdict y.stop (law.one.listed f manifest) x.read y.first
+one_audit law f manifest report (Told text s l) (Refused k) x (inr (y, is)) = no_misread f manifest report x.board x.verdict y x.read
+one_audit law f manifest report (Refused l) (Told said t k) (inl x) y = no_stop f manifest report y.board y.verdict x.stop (law.one.listed f manifest) y.read x.first
+one_audit law f manifest report (Refused l) (Told said t k) (inr (x, is)) y = no_misread f manifest report y.board y.verdict x y.read
 one_audit law f manifest report (Refused l) (Refused k) (inl x) (inl y) = same_audit_stop law f manifest report x.stop y.stop l k x.first y.first x.line_is y.line_is
 one_audit law f manifest report (Refused l) (Refused k) (inl x) (inr (y, is)) = absurd (stop_or_text law f manifest report x.stop x.first y)
 one_audit law f manifest report (Refused l) (Refused k) (inr (x, is)) (inl y) = absurd (stop_or_text law f manifest report y.stop y.first x)
@@ -116,29 +115,26 @@ sound_audit manifest report = record {
   read = λ fits. refl;
   stop_outcome = λ source stop line s l. inl (record { stop = stop; first = s; line_is = l });
   refusal = λ source why m. misread source manifest report why m;
-  no_text = λ law f stop s t. no_stop f manifest report t.0 t.1 t.2 stop (law.listed f manifest) t.3 s;
-  no_refused_text = λ law f why m t. no_ruling f manifest report why m t.0 t.1 t.2 t.3;
+  no_text = λ law f stop s t. no_stop f manifest report t.0 t.1 stop (law.listed f manifest) t.2 s;
+  no_refused_text = λ law f why m t. no_ruling f manifest report why m t.0 t.1 t.2;
   alike = λ law f o p x y. one_audit law f manifest report o p x y;
   takes_what_comes = λ f name comes. tt;
   agrees = λ law held a b w. agreed_audit law.listed manifest report held a b w;
 }
 
--- What `run` says of it, by its words. An audit that has an answer answers its status.
+-- What `run` says of it, by its words. An audit that reads a verdict has its ruling.
 pub of_audit : (held : Option Files) (words : List (String Global)) (P : Files → Command → Type 0) → ((c : Command) → Asks words c → OfFilesRead c held (λ files. P files c))
     → IfSome held (λ files. (manifest report : List ℕ) → IsAudit words manifest report → P files (Audit manifest report))
 of_audit None words P h = tt
 of_audit (Some files) words P h = λ manifest report is. h (Audit manifest report) is
 
 pub answered_named : (held : Option Files) (words : List (String Global)) (A B : Type 0) (status : ℕ) (G L : List ℕ → Type 0)
-    → ((files : Files) (manifest : List ℕ) → HasOneOutcome files manifest) → ReportTextIsInjective
     → (status ≤ 1 → (c : Command) → Asks words c → OfFilesRead c held (λ f. (text line : List ℕ) × OutcomeOf (Held f) c (Told text status line) × G text × L line)) → Completes held words A B status
-    → IfSome held (λ files. (manifest report : List ℕ) → IsAudit words manifest report → (text line : List ℕ) (s : ℕ) → IsAnswer (Held files) manifest report text s line → (A → ⊥) → (B → ⊥) → (status ≡ s) ⊎ (status ≡ 6))
-answered_named None words A B status G L law one told h = tt
-answered_named (Some files) words A B status G L law one told h = λ manifest report is text line s answer calm quiet.
-    by_status manifest report is text line s answer (h (Audit manifest report) is (text, line, s, answer) (λ takes. calm) quiet)
+    → IfSome held (λ files. (manifest report : List ℕ) → IsAudit words manifest report → Ruled files manifest report A B status)
+answered_named None words A B status G L told h = tt
+answered_named (Some files) words A B status G L told h = λ manifest report is board bytes verdict fits held text calm quiet.
+    by_status manifest report is (h (Audit manifest report) is (board, verdict, (fits, record { bytes = bytes; file = held; good = text })) (λ takes. calm) quiet)
   where
-    by_status : (manifest report : List ℕ) → IsAudit words manifest report → (text line : List ℕ) (s : ℕ) → IsAnswer (Held files) manifest report text s line → (status ≤ 1) ⊎ (status ≡ 6) → (status ≡ s) ⊎ (status ≡ 6)
-    by_status manifest report is text line s answer (inr six) = inr six
-    by_status manifest report is text line s answer (inl few) =
-        let mine = told few (Audit manifest report) is in
-        inl (one_answer files manifest report mine.0 mine.1 text line status s (law files manifest) one mine.2 answer).0
+    by_status : (manifest report : List ℕ) → IsAudit words manifest report → (status ≤ 1) ⊎ (status ≡ 6) → ((text line : List ℕ) × IsAnswer (Held files) manifest report text status line) ⊎ (status ≡ 6)
+    by_status manifest report is (inr six) = inr six
+    by_status manifest report is (inl few) = let mine = told few (Audit manifest report) is in inl (mine.0, mine.1, mine.2)

@@ -39,13 +39,17 @@ HasRuling tables v text status line =
     (IsRight tables v × (text ≡ codes "audit true" ++ end) × (status ≡ 0) × (line ≡ plain_line (codes "audit true")))
     ⊎ ((n : ℕ) × FailsFirst tables v n × (text ≡ codes "audit untrue " ++ decimal n ++ end) × (status ≡ 1) × (line ≡ counted_line (codes "audit untrue ") n))
 
--- The package fits, the report behind it is the text of a verdict, and this is what its audit answers.
+-- The package fits, with this board, and the report behind it is the text of this verdict.
+abbrev pub IsReadAs : Source → List ℕ → List ℕ → PlainBoard → Verdict → Type 0
+IsReadAs source manifest report board verdict = FitsBefore source manifest board (λ rest. IsFileWith rest report (λ bytes. IsTextOf bytes verdict))
+
+-- So they are read, and this is what the audit answers.
 pub record IsAnswer (source : Source) (manifest report text : List ℕ) (status : ℕ) (line : List ℕ) : Type 0 where
   pub board : PlainBoard
   pub tables : Tables
   pub tables_are : IsTables board tables
   pub verdict : Verdict
-  pub read : FitsBefore source manifest board (λ rest. IsFileWith rest report (λ bytes. IsTextOf bytes verdict))
+  pub read : IsReadAs source manifest report board verdict
   pub ruling : HasRuling tables verdict text status line
 
 -- The package fits, and the report, which comes next, is not there to be read.
@@ -87,7 +91,7 @@ audit manifest report = record (on_package manifest (λ words. IsAudit words man
   comes = λ source name. ComesBy source manifest name ⊎ IsReportNext source manifest report name;
   stops = λ source stop. IsAuditStop source manifest report stop;
   refuses = λ source why. AuditRefuses source manifest report why;
-  has_text = λ source. (text line : List ℕ) × (status : ℕ) × IsAnswer source manifest report text status line;
+  has_text = λ source. (board : PlainBoard) × (verdict : Verdict) × IsReadAs source manifest report board verdict;
 }
 
 -- the command that words behind its name can ask for; whether they are texts, and in range, is for `IsAudit` to say

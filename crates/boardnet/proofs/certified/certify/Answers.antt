@@ -33,7 +33,7 @@ returns-clause-passes g c = λ version manifest check audit free empty calm quie
     let later : faults_of c.args.package.now ≤ faults_of c.hold.new.self = omega (arith, c.run-status.ensures.kept.later, c.hold.ensures.others.faults) in
     let found = passes (files_of c.args.package.now) (files_of c.run-status.new.package) (files_of c.hold.new.self) c.args.checking.now c.args.auditing.now c.args.report.now (got_of c.run-status.new.out) c.bytes-2.result.now
     c.run-status.result c.run.result (Rose (faults_of c.hold.new.self) (faults_of c.run.new.package)) (Rose (sink_faults_of c.args.ruling.now) (sink_faults_of c.run.new.out))
-    c.reports_pass.ensures version manifest check audit free kept wrote c.bytes-2.ensures also short c.run.ensures.answered (λ rose. calm (rose_from _ _ _ later rose)) quiet in
+    c.reports_pass.ensures c.one_outcome.ensures c.report_text_is_injective.ensures version manifest check audit free kept wrote c.bytes-2.ensures also short c.run.ensures.answered (λ rose. calm (rose_from _ _ _ later rose)) quiet in
     elim found [
       | inl none ↦ inl (sym same ∙ none)
       | inr six ↦ inr (sym same ∙ six)

@@ -38,7 +38,7 @@ returns-in-None-clause-summarized g c = λ seed size is. absurd (c.in-None.ensur
 
 pub returns-in-None-clause-answered : goal.returns-in-None-clause-answered
 returns-in-None-clause-answered g c =
-    answered_named _ _ _ _ _ (λ text. Unit {0}) (λ line. Unit {0}) c.one_outcome.ensures c.report_text_is_injective.ensures (λ few command is. absurd (c.in-None.ensures.none command is)) (λ command is. absurd (c.in-None.ensures.none command is))
+    answered_named _ _ _ _ _ (λ text. Unit {0}) (λ line. Unit {0}) (λ few command is. absurd (c.in-None.ensures.none command is)) (λ command is. absurd (c.in-None.ensures.none command is))
 
 pub returns-in-Some-clause-untouched : goal.returns-in-Some-clause-untouched
 returns-in-Some-clause-untouched g c = λ h. elim h [
@@ -122,7 +122,6 @@ pub returns-in-Some-clause-answered : goal.returns-in-Some-clause-answered
 returns-in-Some-clause-answered g c =
     answered_named (g.P.Package.held c.args.package.now) c.args.words.now (Rose (g.P.Package.faults c.args.package.now) (g.P.Package.faults c.perform.new.package)) (Rose (g.S.Sink.faults c.args.out.now) (g.S.Sink.faults c.perform.new.out)) c.perform.result
     (λ text. Gains (g.S.Sink.got c.args.out.now) text (g.S.Sink.got c.perform.new.out)) (λ line. Says g.N.Sink.got g.N.Sink.faults c.args.notes.now c.perform.new.notes line)
-    c.one_outcome.ensures c.report_text_is_injective.ensures
     (λ few. under_command (g.P.Package.held c.args.package.now) c.args.words.now (asked c.in-Some.command)
     (λ files command. (text line : List ℕ) × OutcomeOf (Held files) command (Told text c.perform.result line) × Gains (g.S.Sink.got c.args.out.now) text (g.S.Sink.got c.perform.new.out) × Says g.N.Sink.got g.N.Sink.faults c.args.notes.now c.perform.new.notes line)
     c.in-Some.ensures.some (c.perform.ensures.ends.told few))
