@@ -89,12 +89,7 @@ simple_on p n pieces (concludes all) simple h = absurd simple
 simple_on p n pieces (performs to figures) simple h = All-append (OnLayer p) pieces (made p n figures) h (made_on p n figures)
 simple_on p n pieces (closes to figure) simple h = All-append (OnLayer p) pieces (made p n (listed figure)) h (made_on p n (listed figure))
 simple_on p n pieces (leaves figure) simple h = All-append (OnLayer p) pieces (made p n (listed figure)) h (made_on p n (listed figure))
-simple_on p n pieces stays simple h = h
-simple_on p n pieces (makes m tool) simple h = h
-simple_on p n pieces (begins_macro name) simple h = h
-simple_on p n pieces (fills_macro primitive) simple h = h
-simple_on p n pieces (extends to) simple h = h
-simple_on p n pieces opens simple h = h
+simple_on p n pieces other simple h = h
 
 pub simple_by : (e made' : Effect) → e ≡ made' → IsSimple made' → IsSimple e
 simple_by e made' same simple = subst IsSimple (sym same) simple
