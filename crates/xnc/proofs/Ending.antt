@@ -35,27 +35,8 @@ abbrev has_ended : List DrillLine → Bool
 has_ended earlier = is_ended (stage_at earlier)
 
 ends_of : (f : DrillLine) → is_end f ≡ true → f ≡ form.End
-ends_of form.Blank h = cc
-ends_of (form.Misfit kind) h = cc
-ends_of form.Start h = cc
-ends_of form.Format h = cc
-ends_of form.Absolute h = cc
-ends_of (form.Unit unit) h = cc
-ends_of (form.Tool n d) h = cc
-ends_of form.HeaderEnd h = cc
-ends_of form.Arc h = cc
-ends_of form.NoTool h = cc
-ends_of (form.Select n) h = cc
-ends_of form.Drill h = cc
-ends_of (form.Rout to) h = cc
-ends_of form.Lower h = cc
-ends_of form.Raise h = cc
-ends_of (form.Straight to) h = cc
-ends_of (form.Hit at) h = cc
-ends_of (form.Slot from to) h = cc
 ends_of form.End h = refl
-ends_of form.Unknown h = cc
-ends_of form.Finish h = cc
+ends_of other h = cc
 
 -- what the table says of the end
 staged_ended : (s : Stage) (k : Known) (f : DrillLine) → is_ended s ≡ true → IsOk (staged s k f) → ⊥
@@ -66,51 +47,17 @@ staged_ended Body k f h ok = cc
 staged_ended Ended k f h ok = cc
 
 still : (earlier : List DrillLine) (f : DrillLine) → is_end f ≡ false → has_ended earlier ≡ false → has_ended (f ∷ earlier) ≡ false
-still earlier form.Blank h not = not
-still earlier (form.Misfit kind) h not = not
 still earlier form.Start h not = refl
-still earlier form.Format h not = not
-still earlier form.Absolute h not = not
-still earlier (form.Unit unit) h not = not
-still earlier (form.Tool n d) h not = not
 still earlier form.HeaderEnd h not = refl
-still earlier form.Arc h not = not
-still earlier form.NoTool h not = not
-still earlier (form.Select n) h not = not
-still earlier form.Drill h not = not
-still earlier (form.Rout to) h not = not
-still earlier form.Lower h not = not
-still earlier form.Raise h not = not
-still earlier (form.Straight to) h not = not
-still earlier (form.Hit at) h not = not
-still earlier (form.Slot from to) h not = not
 still earlier form.End h not = cc
-still earlier form.Unknown h not = not
-still earlier form.Finish h not = not
+still earlier other h not = not
 
 keeps_ended : (p : Place) (earlier : List DrillLine) (f : DrillLine) → has_ended earlier ≡ true → IsOk (effect_at p earlier f) → has_ended (f ∷ earlier) ≡ true
 unfolding effect
-keeps_ended p earlier form.Blank h ok = h
-keeps_ended p earlier (form.Misfit kind) h ok = h
 keeps_ended p earlier form.Start h ok = absurd (staged_ended (stage_at earlier) (known_at p earlier) form.Start h ok)
-keeps_ended p earlier form.Format h ok = h
-keeps_ended p earlier form.Absolute h ok = h
-keeps_ended p earlier (form.Unit unit) h ok = h
-keeps_ended p earlier (form.Tool n d) h ok = h
 keeps_ended p earlier form.HeaderEnd h ok = absurd (staged_ended (stage_at earlier) (known_at p earlier) form.HeaderEnd h ok)
-keeps_ended p earlier form.Arc h ok = h
-keeps_ended p earlier form.NoTool h ok = h
-keeps_ended p earlier (form.Select n) h ok = h
-keeps_ended p earlier form.Drill h ok = h
-keeps_ended p earlier (form.Rout to) h ok = h
-keeps_ended p earlier form.Lower h ok = h
-keeps_ended p earlier form.Raise h ok = h
-keeps_ended p earlier (form.Straight to) h ok = h
-keeps_ended p earlier (form.Hit at) h ok = h
-keeps_ended p earlier (form.Slot from to) h ok = h
 keeps_ended p earlier form.End h ok = refl
-keeps_ended p earlier form.Unknown h ok = h
-keeps_ended p earlier form.Finish h ok = h
+keeps_ended p earlier other h ok = h
 
 once : (p : Place) (earlier : List DrillLine) (f : DrillLine) → has_ended earlier ≡ true → is_end f ≡ true → IsOk (effect_at p earlier f) → ⊥
 unfolding effect
