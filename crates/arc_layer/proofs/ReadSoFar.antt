@@ -4,13 +4,10 @@ use mathlib.Core.Path.{fun_ext}
 use Rattle.std.proofs.lemmas.List.{length-map}
 use Rattle.file_reading.specs.Reading.{Item, IsReadTo, IsRefused, said}
 use Rattle.file_reading.proofs.Turning.{read-start, read-more, read-fault}
-use Rattle.file_reading.specs.declared.halt.Halt.{Halt}
-use Rattle.file_reading.specs.declared.halt.Halt.TheVariants as halt
 use Rattle.gerber_words.specs.Words.{Ahead, Entry, Stop, ended, broken, HasWords, start}
 use Rattle.gerber_words.specs.Items.{word_item, stop_item, items_with}
 use Rattle.gerber_words.specs.Laws.{HasOneReadingAhead}
-use Rattle.gerber_layer.specs.Reader.{Stops}
-use Rattle.arc_layer.specs.Bends.{AreBends, AreSayings, AreShort, IsShort, IsBendFault, bend_behind, bend_of, bends_in, fault_at, ok_bend}
+use Rattle.arc_layer.specs.Bends.{AreBends, AreSayings, AreShort, IsShort, IsBendRefused, bend_behind, bend_of, bends_in, ok_bend}
 use Rattle.arc_layer.specs.Reading.{Takes, bends_so_far}
 use Rattle.arc_layer.specs.State.{state_before, state_behind}
 use Rattle.arc_layer.specs.Words.{Saying, saying, stop_saying}
@@ -87,9 +84,8 @@ word-read file old new w r r' s next t = record {
 }
 
 -- a word that stops the reader
-pub word-fault : ((a : Ahead) → HasOneReadingAhead a) → (file : List ℕ) (old new : Ahead) (w : Entry) (r : Reader) (why : Halt RealKind) (number : ℕ) → ReadSoFar file old r → ((words : List Entry) (stop : Stop) → HasWords new words stop → HasWords old (w ∷ words) stop) → number ≡ r.commands + 1 → Stops (bend_of r.state (saying w)) why → IsBendFault file (fault_at why number w.at)
-word-fault one file old new w r halt.NoMemory number s next is h = tt
-word-fault one file old new w r (halt.Fault kind) number s next is h =
+pub word-fault : ((a : Ahead) → HasOneReadingAhead a) → (file : List ℕ) (old new : Ahead) (w : Entry) (r : Reader) (kind : RealKind) (number : ℕ) → ReadSoFar file old r → ((words : List Entry) (stop : Stop) → HasWords new words stop → HasWords old (w ∷ words) stop) → number ≡ r.commands + 1 → bend_of r.state (saying w) ≡ Err kind → IsBendRefused file kind number w.at
+word-fault one file old new w r kind number s next is h =
     let more = one new in
     let x = s.extends (w ∷ more.words) more.stop (next more.words more.stop more.is) in
     let why : bend_behind (said s.earlier) (saying w) ≡ Err kind = subst (λ (t : State). bend_of t (saying w) ≡ Err kind) s.knows.state h in

@@ -22,8 +22,6 @@ use Rattle.arc_layer.specs.declared.centres.Draw.{Draw as Sought}
 use Rattle.arc_layer.specs.declared.draws.Bend.{Bend}
 use Rattle.arc_layer.specs.declared.kind.RealFault.{RealFault}
 use Rattle.arc_layer.specs.declared.kind.RealFault.TheVariants as fault
-use Rattle.file_reading.specs.declared.halt.Halt.{Halt}
-use Rattle.file_reading.specs.declared.halt.Halt.TheVariants as halt
 use Rattle.arc_layer.specs.declared.kind.RealKind.{RealKind}
 use Rattle.arc_layer.specs.declared.kind.RealKind.TheVariants.{Gerber, NoOffsets, OffsetsAmiss, NoQuadrants, NoCentre}
 use Rattle.arc_layer.specs.declared.state.State.{State}
@@ -87,20 +85,21 @@ arc_of s w clockwise =
 abbrev pub no_bend : Saying → Result (Option Bend) RealKind
 no_bend w = unless (is_some w.i || (is_some w.j || w.more)) OffsetsAmiss (Ok None)
 
--- a draw by its curve, and an operation by its code
-abbrev pub draw_by : Curve → State → Saying → Result (Option Bend) RealKind
-draw_by Line s w = no_bend w
-draw_by Clockwise s w = arc_of s w true
-draw_by Counterclockwise s w = arc_of s w false
+-- the curve of an operation: only a draw has another than a line
+abbrev pub curve_of : Code → State → Saying → Curve
+curve_of Draw s w = curve_at s w
+curve_of Move s w = Line
+curve_of Flash s w = Line
 
-abbrev pub operation_by : Code → State → Saying → Result (Option Bend) RealKind
-operation_by Draw s w = draw_by (curve_at s w) s w
-operation_by Move s w = no_bend w
-operation_by Flash s w = no_bend w
+-- an operation by its curve
+abbrev pub operation_by : Curve → State → Saying → Result (Option Bend) RealKind
+operation_by Line s w = no_bend w
+operation_by Clockwise s w = arc_of s w true
+operation_by Counterclockwise s w = arc_of s w false
 
 -- the bend of a word, if it has one, or why it is refused
 abbrev pub command_bend : Command → State → Saying → Result (Option Bend) RealKind
-command_bend (operates x y code) s w = operation_by (code_of code) s w
+command_bend (operates x y code) s w = operation_by (curve_of (code_of code) s w) s w
 command_bend other s w = Ok None
 
 abbrev pub bend_of : State → Saying → Result (Option Bend) RealKind
@@ -142,8 +141,3 @@ AreShort bends = (n : ℕ) → IsShort (bends n)
 abbrev pub IsBendFault : List ℕ → RealFault → Type 0
 IsBendFault file (fault.Refused kind number place) = IsBendRefused file kind number place
 IsBendFault file fault.NoMemory = Unit {0}
-
--- what stops the reader, as the fault of the file at the command of this number and place
-abbrev pub fault_at : Halt RealKind → ℕ → ℕ → RealFault
-fault_at (halt.Fault kind) number at = fault.Refused kind number at
-fault_at halt.NoMemory number at = fault.NoMemory

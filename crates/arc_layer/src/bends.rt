@@ -1,5 +1,5 @@
 //! The bends of a file.
-ghost use Rattle.arc_layer.specs.Bends.{AreBends, AreShort, IsBendFault, bend_of as bend_spec, fault_at};
+ghost use Rattle.arc_layer.specs.Bends.{AreBends, AreShort, IsBendFault, bend_of as bend_spec};
 ghost use Rattle.arc_layer.specs.Reading.{Takes, bends_of, bends_so_far};
 ghost use Rattle.arc_layer.specs.State.{IsLawfulState, state_before};
 ghost use Rattle.arc_layer.specs.Words.{saying_of};
@@ -80,15 +80,6 @@ impl Reader {
     }
 }
 
-fn fault_at(halt: Halt<RealKind>, command: u32, at: usize) -> RealFault
-    ensures { result ≡ fault_at halt command at }
-{
-    match halt {
-        Halt::Fault(kind) => RealFault::Refused { kind, command, at },
-        Halt::NoMemory => RealFault::NoMemory,
-    }
-}
-
 /// The bends of a file, or why an arc of it is refused first. The file has at most `MOST_BYTES` bytes.
 pub fn read_bends(alloc: Global, file: &[u8]) -> Result<Bends, RealFault>
     requires size { length file.now ≤ MOST_BYTES }
@@ -105,7 +96,12 @@ pub fn read_bends(alloc: Global, file: &[u8]) -> Result<Bends, RealFault>
                 let command = reader.commands + 1;
                 match reader.take(&read_word(word)) {
                     Ok(()) => (),
-                    Err(halt) => return Err(fault_at(halt, command, word.at)),
+                    Err(Halt::Fault(kind)) => return Err(RealFault::Refused {
+                        kind,
+                        command,
+                        at: word.at,
+                    }),
+                    Err(Halt::NoMemory) => return Err(RealFault::NoMemory),
                 }
             },
             Step::End => return Ok(Bends {

@@ -150,29 +150,27 @@ fn no_bend(word: &Saying) -> Result<Option<Bend>, RealKind>
     }
 }
 
-fn draw_by(curve: Curve, state: &State, word: &Saying) -> Result<Option<Bend>, RealKind>
+// The curve of an operation: only a draw has another than a line.
+fn curve_of(code: Option<Code>, state: &State, word: &Saying) -> Curve
+    ensures { result ≡ spec.curve_of (effects.code_of code) state.now (saying_of word.now) }
+{
+    match code_of(code) {
+        Code::Draw => state.curve_at(word),
+        Code::Move => Curve::Line,
+        Code::Flash => Curve::Line,
+    }
+}
+
+fn operation_by(curve: Curve, state: &State, word: &Saying) -> Result<Option<Bend>, RealKind>
     requires lawful { IsLawfulState state.now }
     requires command { IsLawfulCommand (view word.now.command) }
-    ensures value { result ≡ spec.draw_by curve state.now (saying_of word.now) }
+    ensures value { result ≡ spec.operation_by curve state.now (saying_of word.now) }
     ensures short { IfOk result IsShort }
 {
     match curve {
         Curve::Line => no_bend(word),
         Curve::Clockwise => arc_of(state, word, true),
         Curve::Counterclockwise => arc_of(state, word, false),
-    }
-}
-
-fn operation_by(code: Code, state: &State, word: &Saying) -> Result<Option<Bend>, RealKind>
-    requires lawful { IsLawfulState state.now }
-    requires command { IsLawfulCommand (view word.now.command) }
-    ensures value { result ≡ spec.operation_by code state.now (saying_of word.now) }
-    ensures short { IfOk result IsShort }
-{
-    match code {
-        Code::Draw => draw_by(state.curve_at(word), state, word),
-        Code::Move => no_bend(word),
-        Code::Flash => no_bend(word),
     }
 }
 
@@ -184,7 +182,7 @@ pub fn bend_of(state: &State, word: &Saying) -> Result<Option<Bend>, RealKind>
     ensures short { IfOk result IsShort }
 {
     match word.command {
-        Command::Operate(_, _, code) => operation_by(code_of(code), state, word),
+        Command::Operate(_, _, code) => operation_by(curve_of(code, state, word), state, word),
         _ => Ok(None),
     }
 }

@@ -4,7 +4,7 @@ ghost use Rattle.arc_layer.specs.Real.{HasOneRealAnswer};
 ghost use Rattle.gerber_layer.specs.CommandEffects.{Place};
 ghost use Rattle.std.specs.Prelude.{ℕ, List};
 
-use gerber_layer::laws::one_straight_answer;
+use gerber_layer::laws::{kinds_have_own_numbers, one_straight_answer};
 use gerber_words::laws::words_lie_ahead;
 
 /// Each file has one answer: its real copper, or the first fault.
@@ -18,4 +18,6 @@ pub fn one_real_answer()
 /// Each kind of refusal has a number of its own, which no other kind of a copper file has.
 pub fn real_kinds_have_own_numbers()
     ensures { RealKindsHaveOwnNumbers }
-{}
+{
+    kinds_have_own_numbers();
+}

@@ -36,25 +36,11 @@ simple_keeps p n start pieces (concludes all) simple h = absurd simple
 simple_keeps p n start pieces (performs to figures) simple h = kept_before start pieces (made p n figures) h
 simple_keeps p n start pieces (closes to figure) simple h = kept_before start pieces (made p n (listed figure)) h
 simple_keeps p n start pieces (leaves figure) simple h = kept_before start pieces (made p n (listed figure)) h
-simple_keeps p n start pieces stays simple h = kept start pieces h
-simple_keeps p n start pieces (makes m tool) simple h = kept start pieces h
-simple_keeps p n start pieces (begins_macro name) simple h = kept start pieces h
-simple_keeps p n start pieces (fills_macro primitive) simple h = kept start pieces h
-simple_keeps p n start pieces (extends to) simple h = kept start pieces h
-simple_keeps p n start pieces opens simple h = kept start pieces h
+simple_keeps p n start pieces other simple h = kept start pieces h
 
 simple_start : (start : ℕ) (e : Effect) → IsSimple e → start_after start e ≡ start
 simple_start start (steps next all) simple = absurd simple
-simple_start start (concludes all) simple = refl
-simple_start start (performs to figure) simple = refl
-simple_start start (closes to figure) simple = refl
-simple_start start (leaves figure) simple = refl
-simple_start start stays simple = refl
-simple_start start (makes m tool) simple = refl
-simple_start start (begins_macro name) simple = refl
-simple_start start (fills_macro primitive) simple = refl
-simple_start start (extends to) simple = refl
-simple_start start opens simple = refl
+simple_start start other simple = refl
 
 -- a block ends, and the pieces before it stay
 joined : (start : ℕ) (pieces : List PlainPiece) (copies : Result (List PlainPiece) Refusal) (all : List PlainPiece) → start ≤ length pieces → as_copies (take start pieces) copies ≡ Ok all → Keeps start pieces all

@@ -44,24 +44,11 @@ point_is p earlier ps x y code e o =
 
 -- the settings behind a command are found by looking back from the next
 settings-push : (p : Place) (earlier : List Command) (ps : Image) (c : Command) (e : Effect) → Outcome (known_with p earlier ps) c e → after (settings_before earlier) c (heads e) (opened e) ≡ settings_before (c ∷ earlier)
-settings-push p earlier ps nothing e o = refl
-settings-push p earlier ps (refused why) e o = refl
 settings-push p earlier ps (repeats text) e o = rw (ap opened o.is, ap ok_block o.next_is) refl
-settings-push p earlier ps (functions function layer) e o = refl
-settings-push p earlier ps (formats format) e o = refl
-settings-push p earlier ps (counts_in unit) e o = refl
-settings-push p earlier ps (defines text) e o = refl
-settings-push p earlier ps (selects m) e o = refl
-settings-push p earlier ps opens_region e o = refl
-settings-push p earlier ps closes_region e o = refl
 settings-push p earlier ps (operates x y code) e o =
     let there = point_is p earlier ps x y code e o in
     rw (heads_is (region_open earlier) (code_of code) o.to e o.is, there) refl
-settings-push p earlier ps ends e o = refl
-settings-push p earlier ps (names_macro name) e o = refl
-settings-push p earlier ps (body_word text) e o = refl
-settings-push p earlier ps (breaks fault) e o = refl
-settings-push p earlier ps finishes e o = refl
+settings-push p earlier ps other e o = refl
 
 -- so is the contour
 keeps : (e f : Effect) (contour : List Spot) (from : Spot) → e ≡ f → contour_after f contour from ≡ contour → contour_after e contour from ≡ contour
@@ -86,18 +73,11 @@ contour-push p earlier ps (operates x y code) e o =
 contour-push p earlier ps opens_region e o = ap (λ (f : Effect). contour_after f (contour_before earlier) (point_before earlier)) o
 contour-push p earlier ps closes_region e o = ap (λ (f : Effect). contour_after f (contour_before earlier) (point_before earlier)) o.1
 contour-push p earlier ps (defines text) e o = keeps e (makes o.n o.tool) (contour_before earlier) (point_before earlier) o.is refl
-contour-push p earlier ps nothing e o = keeps e stays (contour_before earlier) (point_before earlier) o refl
-contour-push p earlier ps (refused why) e o = keeps e stays (contour_before earlier) (point_before earlier) o refl
 contour-push p earlier ps (repeats text) e o = keeps e (steps o.next o.pieces) (contour_before earlier) (point_before earlier) o.is refl
-contour-push p earlier ps (functions function layer) e o = keeps e stays (contour_before earlier) (point_before earlier) o refl
-contour-push p earlier ps (formats format) e o = keeps e stays (contour_before earlier) (point_before earlier) o refl
-contour-push p earlier ps (counts_in unit) e o = keeps e stays (contour_before earlier) (point_before earlier) o refl
-contour-push p earlier ps (selects m) e o = keeps e stays (contour_before earlier) (point_before earlier) o refl
 contour-push p earlier ps ends e o = keeps e (concludes o.0) (contour_before earlier) (point_before earlier) o.1 refl
 contour-push p earlier ps (names_macro name) e o = keeps e (begins_macro name) (contour_before earlier) (point_before earlier) o refl
 contour-push p earlier ps (body_word text) e o = filled_keeps (primitive_at text) e (contour_before earlier) (point_before earlier) o
-contour-push p earlier ps (breaks fault) e o = keeps e stays (contour_before earlier) (point_before earlier) o refl
-contour-push p earlier ps finishes e o = keeps e stays (contour_before earlier) (point_before earlier) o refl
+contour-push p earlier ps other e o = keeps e stays (contour_before earlier) (point_before earlier) o refl
 
 -- an operation and the end of a region leave the dictionary as it was
 operation_keeps : (old new : Dictionary) (inside : Bool) (code : Code) (to : Spot) (e : Effect) → IsEffect inside code to e → Turns old e new → new ≡ old
@@ -118,18 +98,10 @@ keeps_dictionary old new k (defines text) e o t = tt
 keeps_dictionary old new k (names_macro name) e o t = tt
 keeps_dictionary old new k (body_word text) e o t = tt
 keeps_dictionary old new k (operates x y code) e o t = operation_keeps old new k.settings.region (code_of code) o.to e o.is t
-keeps_dictionary old new k opens_region e o t = subst (λ (f : Effect). Turns old f new) o t
 keeps_dictionary old new k closes_region e o t = subst (λ (f : Effect). Turns old f new) o.1 t
-keeps_dictionary old new k nothing e o t = subst (λ (f : Effect). Turns old f new) o t
-keeps_dictionary old new k (refused why) e o t = subst (λ (f : Effect). Turns old f new) o t
 keeps_dictionary old new k (repeats text) e o t = subst (λ (f : Effect). Turns old f new) o.is t
-keeps_dictionary old new k (functions function layer) e o t = subst (λ (f : Effect). Turns old f new) o t
-keeps_dictionary old new k (formats format) e o t = subst (λ (f : Effect). Turns old f new) o t
-keeps_dictionary old new k (counts_in unit) e o t = subst (λ (f : Effect). Turns old f new) o t
-keeps_dictionary old new k (selects m) e o t = subst (λ (f : Effect). Turns old f new) o t
 keeps_dictionary old new k ends e o t = subst (λ (f : Effect). Turns old f new) o.1 t
-keeps_dictionary old new k (breaks fault) e o t = subst (λ (f : Effect). Turns old f new) o t
-keeps_dictionary old new k finishes e o t = subst (λ (f : Effect). Turns old f new) o t
+keeps_dictionary old new k other e o t = subst (λ (f : Effect). Turns old f new) o t
 
 -- The aperture dictionary and the macros are found by looking back.
 pub record Found (new : Dictionary) (earlier : List Command) : Type 0 where
@@ -184,21 +156,9 @@ dictionary-push old new p earlier ps (defines text) e h o t u =
     by : (b : Bool) (m : ℕ) → cond b (Some o.tool) (defined_before earlier m) ≡ option_or (cond b (Some o.tool) None) (defined_before earlier m)
     by true m = refl
     by false m = refl
-dictionary-push old new p earlier ps (operates x y code) e h o t u = let f = same_found old new earlier h u in record { defined = f.defined; size = f.size; latest = f.latest; others = f.others }
 dictionary-push old new p earlier ps (names_macro name) e h o t u = begun-push old new earlier name h (subst (λ (f : Effect). Turns old f new) o t)
 dictionary-push old new p earlier ps (body_word text) e h o t u = let f = filled-push old new earlier (primitive_at text) e h o t in record { defined = f.defined; size = f.size; latest = f.latest; others = f.others }
-dictionary-push old new p earlier ps opens_region e h o t u = let f = same_found old new earlier h u in record { defined = f.defined; size = f.size; latest = f.latest; others = f.others }
-dictionary-push old new p earlier ps closes_region e h o t u = let f = same_found old new earlier h u in record { defined = f.defined; size = f.size; latest = f.latest; others = f.others }
-dictionary-push old new p earlier ps nothing e h o t u = let f = same_found old new earlier h u in record { defined = f.defined; size = f.size; latest = f.latest; others = f.others }
-dictionary-push old new p earlier ps (refused why) e h o t u = let f = same_found old new earlier h u in record { defined = f.defined; size = f.size; latest = f.latest; others = f.others }
-dictionary-push old new p earlier ps (repeats text) e h o t u = let f = same_found old new earlier h u in record { defined = f.defined; size = f.size; latest = f.latest; others = f.others }
-dictionary-push old new p earlier ps (functions function layer) e h o t u = let f = same_found old new earlier h u in record { defined = f.defined; size = f.size; latest = f.latest; others = f.others }
-dictionary-push old new p earlier ps (formats format) e h o t u = let f = same_found old new earlier h u in record { defined = f.defined; size = f.size; latest = f.latest; others = f.others }
-dictionary-push old new p earlier ps (counts_in unit) e h o t u = let f = same_found old new earlier h u in record { defined = f.defined; size = f.size; latest = f.latest; others = f.others }
-dictionary-push old new p earlier ps (selects m) e h o t u = let f = same_found old new earlier h u in record { defined = f.defined; size = f.size; latest = f.latest; others = f.others }
-dictionary-push old new p earlier ps ends e h o t u = let f = same_found old new earlier h u in record { defined = f.defined; size = f.size; latest = f.latest; others = f.others }
-dictionary-push old new p earlier ps (breaks fault) e h o t u = let f = same_found old new earlier h u in record { defined = f.defined; size = f.size; latest = f.latest; others = f.others }
-dictionary-push old new p earlier ps finishes e h o t u = let f = same_found old new earlier h u in record { defined = f.defined; size = f.size; latest = f.latest; others = f.others }
+dictionary-push old new p earlier ps other e h o t u = let f = same_found old new earlier h u in record { defined = f.defined; size = f.size; latest = f.latest; others = f.others }
 
 -- the reader has obeyed these commands
 pub record State {W : Type 0} (f : Profile W) (p : Place) (earlier : List Command) (r : Reader) : Type 0 where

@@ -1,5 +1,5 @@
--- Each kind of refusal of copper files has a number of its own.
-use Rattle.std.proofs.Common.{◌≡◌, ℕ, List, [], ◌∷◌, get_or, refl, sym, ap, ◌∙◌}
+-- Each kind of refusal of copper files has a number of its own, from 1 to 37.
+use Rattle.std.proofs.Common.{◌≡◌, ℕ, ◌≤◌, List, [], ◌∷◌, get_or, refl, sym, ap, ◌∙◌, arith}
 use Rattle.gerber_layer.specs.Kinds.{kind_number}
 use Rattle.gerber_layer.specs.MacroKinds.{flatten_number}
 use Rattle.gerber_layer.specs.declared.kind.GerberKind.{GerberKind}
@@ -13,42 +13,8 @@ numbered = BadMacro ∷ Gerber kind.BadWord ∷ Gerber kind.LineBreakInWord ∷ 
 
 at_its_number : (a : FlattenKind) → get_or numbered (flatten_number a) BadMacro ≡ a
 at_its_number (Gerber kind.BadWord) = refl
-at_its_number (Gerber kind.LineBreakInWord) = refl
-at_its_number (Gerber kind.NotEnded) = refl
-at_its_number (Gerber kind.AfterEnd) = refl
-at_its_number (Gerber kind.MissingFormat) = refl
-at_its_number (Gerber kind.MissingUnit) = refl
-at_its_number (Gerber kind.BadFormat) = refl
-at_its_number (Gerber kind.UnitConflict) = refl
-at_its_number (Gerber kind.Incremental) = refl
-at_its_number (Gerber kind.ClearPolarity) = refl
-at_its_number (Gerber kind.Arc) = refl
-at_its_number (Gerber kind.Macro) = refl
-at_its_number (Gerber kind.Block) = refl
-at_its_number (Gerber kind.Polygon) = refl
-at_its_number (Gerber kind.Hole) = refl
-at_its_number (Gerber kind.Transform) = refl
-at_its_number (Gerber kind.NoAperture) = refl
-at_its_number (Gerber kind.ApertureTwice) = refl
-at_its_number (Gerber kind.PenNotCircle) = refl
-at_its_number (Gerber kind.NotInRegion) = refl
-at_its_number (Gerber kind.OpenContour) = refl
-at_its_number (Gerber kind.ShortContour) = refl
-at_its_number (Gerber kind.OffGrid) = refl
-at_its_number (Gerber kind.OutOfRange) = refl
-at_its_number (Gerber kind.WrongLayer) = refl
-at_its_number (Gerber kind.NegativeFile) = refl
-at_its_number (Gerber kind.TooManyPieces) = refl
-at_its_number (Gerber kind.TooManyVertices) = refl
-at_its_number (Gerber kind.NoOperation) = refl
-at_its_number (Gerber kind.TooManyApertures) = refl
-at_its_number BadMacro = refl
-at_its_number MacroTwice = refl
-at_its_number NoMacro = refl
-at_its_number ExposureOff = refl
-at_its_number Turn = refl
-at_its_number Slanted = refl
-at_its_number TooManyRadii = refl
+at_its_number (Gerber other) = refl
+at_its_number other = refl
 
 pub one_number : (a b : FlattenKind) → flatten_number a ≡ flatten_number b → a ≡ b
 one_number a b same = sym (at_its_number a) ∙ (ap (λ (n : ℕ). get_or numbered n BadMacro) same ∙ at_its_number b)
@@ -56,3 +22,8 @@ one_number a b same = sym (at_its_number a) ∙ (ap (λ (n : ℕ). get_or number
 -- those without macros alone
 pub one_kind : (a b : GerberKind) → kind_number a ≡ kind_number b → a ≡ b
 one_kind a b same = let both : Gerber a ≡ Gerber b = one_number (Gerber a) (Gerber b) same in cc
+
+pub in_range : (a : FlattenKind) → (1 ≤ flatten_number a) × (flatten_number a ≤ 37)
+in_range (Gerber kind.BadWord) = (omega arith, omega arith)
+in_range (Gerber other) = (omega arith, omega arith)
+in_range other = (omega arith, omega arith)

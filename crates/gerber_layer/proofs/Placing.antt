@@ -21,6 +21,7 @@ use Rattle.gerber_layer.specs.CommandEffects.{Place, Known, Effect, stays, makes
 use Rattle.gerber_layer.specs.Image.{image_by, image_of, pieces_of, known_before, made, piece_of, pieces_after, with_effect}
 use Rattle.gerber_words.specs.Words.{Entry}
 use Rattle.gerber_layer.specs.Dialect.{IsReadBy}
+use Rattle.gerber_layer.specs.Layer.{in_words}
 use Rattle.gerber_layer.proofs.Outcome.{bind_ok, not_body, past_test, outcome, IsEffect}
 
 -- the piece is on the layer
@@ -88,12 +89,7 @@ simple_on p n pieces (concludes all) simple h = absurd simple
 simple_on p n pieces (performs to figures) simple h = All-append (OnLayer p) pieces (made p n figures) h (made_on p n figures)
 simple_on p n pieces (closes to figure) simple h = All-append (OnLayer p) pieces (made p n (listed figure)) h (made_on p n (listed figure))
 simple_on p n pieces (leaves figure) simple h = All-append (OnLayer p) pieces (made p n (listed figure)) h (made_on p n (listed figure))
-simple_on p n pieces stays simple h = h
-simple_on p n pieces (makes m tool) simple h = h
-simple_on p n pieces (begins_macro name) simple h = h
-simple_on p n pieces (fills_macro primitive) simple h = h
-simple_on p n pieces (extends to) simple h = h
-simple_on p n pieces opens simple h = h
+simple_on p n pieces other simple h = h
 
 pub simple_by : (e made' : Effect) → e ≡ made' → IsSimple made' → IsSimple e
 simple_by e made' same simple = subst IsSimple (sym same) simple
@@ -149,9 +145,8 @@ each_piece : (p : Place) (pieces : List (Placed Shape)) → All (OnLayer p) (pla
 each_piece p pieces h = λ i d below. subst (OnLayer p) (get_or-map plain_piece pieces i d (plain_piece d) below) (h i (plain_piece d) (rw (length-map pieces plain_piece) below))
 
 -- also whatever words are read as
-pub layer_read : {E V : Type 0} (command : Entry → Command) (items : V → List (Placed Shape)) (r : Result V E) (file : List ℕ) (p : Place) → IfOk r (λ v. IsReadBy (record { command = command; table = effect }) file p (plain_pieces (items v))) → IfOk r (λ v. All (λ q. (q.top ≡ p.layer) × (q.bottom ≡ p.layer)) (items v))
-layer_read command items (Ok v) file p read = each_piece p (items v) (subst (λ xs. All (OnLayer p) xs) (sym read.2.is) (pieces_on p (said read.2.earlier)))
-layer_read command items (Err why) file p read = tt
+pub layer_read : (command : Entry → Command) (file : List ℕ) (p : Place) (pieces : List (Placed Shape)) → IsReadBy (in_words command) file p (plain_pieces pieces) → All (λ q. (q.top ≡ p.layer) × (q.bottom ≡ p.layer)) pieces
+layer_read command file p pieces read = each_piece p pieces (subst (λ xs. All (OnLayer p) xs) (sym read.2.is) (pieces_on p (said read.2.earlier)))
 
 -- the room of a place is the reader's
 pub same_room : {E V : Type 0} (items : V → List (Placed Shape)) (r : Result V E) (room other : Room) → other ≡ room → IfOk r (λ v. length (items v) ≤ other.pieces) → IfOk r (λ v. length (items v) ≤ room.pieces)

@@ -1,7 +1,5 @@
 -- Files with macros.
 use Rattle.std.proofs.Common.{◌≡◌, ℕ, ◌+◌, false, List, [], ◌∷◌, Some, Result, Ok, Err, refl, ap, ◌∙◌, subst, sym}
-use Rattle.file_reading.specs.declared.halt.Halt.{Halt}
-use Rattle.file_reading.specs.declared.halt.Halt.TheVariants as halt
 use Rattle.gerber_layer.specs.Command.{Command}
 use Rattle.gerber_layer.specs.declared.kind.GerberKind.{GerberKind}
 use Rattle.gerber_layer.specs.declared.macro_kind.FlattenKind.{FlattenKind}
@@ -12,17 +10,10 @@ use Rattle.board_shapes.specs.Figures.{figure_of}
 use Rattle.gerber_layer.specs.declared.effect.Effect.{Effect as Seen}
 use Rattle.gerber_layer.specs.declared.effect.Effect.TheVariants as seen
 use Rattle.gerber_layer.specs.CommandEffects.{Known, Effect, stays, makes, begins_macro, fills_macro, performs, extends, closes, opens, leaves, steps, room_for, ◌>>=◌}
-use Rattle.gerber_layer.specs.Dialect.{IsHaltBy}
 use Rattle.gerber_layer.specs.MacroTable.{few_radii, gerber}
-use Rattle.gerber_layer.specs.MacroLayer.{flat_place, IsMacroFault, macro_fault_at, with_macros}
 use Rattle.gerber_layer.specs.MacroReader.{is_end}
 use Rattle.gerber_layer.specs.Reader.{Obeys, shown, tool_of}
 use Rattle.gerber_layer.proofs.Outcome.{then_goes, flash_goes, extend_is, close_is, area_left, steps_is}
-
--- what stops the reader is the file's fault
-pub as_macro_fault : (file : List ℕ) (why : Halt FlattenKind) (number at : ℕ) → IsHaltBy with_macros file flat_place why number at → IsMacroFault file (macro_fault_at why number at)
-as_macro_fault file (halt.Fault kind) number at h = h
-as_macro_fault file halt.NoMemory number at h = tt
 
 -- ---- The end of a file
 

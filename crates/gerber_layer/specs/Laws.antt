@@ -108,6 +108,7 @@ MacroPrefixesAreRefused file = PrefixesAreRefusedBy with_macros (Gerber kind.Not
 
 -- ---- Kinds of refusal
 
--- Each kind of both tables of copper files has a number of its own; those without macros keep theirs where there may be some.
+-- Each kind of both tables of copper files has a number of its own, from 1 to 37; those without macros keep theirs where there may
+-- be some.
 abbrev pub KindsHaveOwnNumbers : Type 0
-KindsHaveOwnNumbers = ((a b : FlattenKind) → flatten_number a ≡ flatten_number b → a ≡ b) × ((a b : GerberKind) → kind_number a ≡ kind_number b → a ≡ b)
+KindsHaveOwnNumbers = ((a b : FlattenKind) → flatten_number a ≡ flatten_number b → a ≡ b) × ((a b : GerberKind) → kind_number a ≡ kind_number b → a ≡ b) × ((a : FlattenKind) → (1 ≤ flatten_number a) × (flatten_number a ≤ 37))

@@ -3,8 +3,6 @@ use Rattle.std.specs.Prelude.{ℕ, List}
 use Rattle.board_shapes.specs.Pieces.{PlainPiece}
 use Rattle.board_shapes.specs.declared.TheConstants.{MOST_PIECES}
 use Rattle.gerber_layer.specs.declared.TheConstants.{MOST_FLAT_EDGES}
-use Rattle.file_reading.specs.declared.halt.Halt.{Halt}
-use Rattle.file_reading.specs.declared.halt.Halt.TheVariants as halt
 use Rattle.gerber_layer.specs.Dialect.{Dialect, HasOneAnswerBy, IsReadBy, IsRefusedBy}
 use Rattle.gerber_layer.specs.declared.macro_kind.FlattenKind.{FlattenKind}
 use Rattle.gerber_layer.specs.declared.macro_kind.FlattenFault.{FlattenFault}
@@ -29,15 +27,11 @@ IsReadWithMacros file pieces = IsReadBy with_macros file flat_place pieces
 abbrev pub IsRefusedWithMacros : List ℕ → FlattenKind → ℕ → ℕ → Type 0
 IsRefusedWithMacros file kind number place = IsRefusedBy with_macros file flat_place kind number place
 
--- why there are no pieces
+-- why there are no pieces: the file is refused, or memory is wanted
 abbrev pub IsMacroFault : List ℕ → FlattenFault → Type 0
 IsMacroFault file (fault.Refused kind number place) = IsRefusedWithMacros file kind number place
 IsMacroFault file fault.NoMemory = Unit {0}
 
--- what stops the reader, as the fault of the file at the command of this number and place
-abbrev pub macro_fault_at : Halt FlattenKind → ℕ → ℕ → FlattenFault
-macro_fault_at (halt.Fault kind) number at = fault.Refused kind number at
-macro_fault_at halt.NoMemory number at = fault.NoMemory
-
+-- Each file has one answer: the pieces, or the first fault.
 abbrev pub HasOneMacroAnswer : List ℕ → Type 0
 HasOneMacroAnswer file = HasOneAnswerBy with_macros file flat_place

@@ -278,16 +278,6 @@ abbrev pub Stops : {A W : Type 0} → Result A W → Halt W → Type 0
 Stops what (halt.Fault fault) = what ≡ Err fault
 Stops what halt.NoMemory = Unit {0}
 
--- The reader has a piece more, if there is a figure.
-pub record Places (old : Reader) (figure : Option Figure) (new : Reader) : Type 0 where
-  pub settings : new.settings ≡ old.settings
-  pub dictionary : new.dictionary ≡ old.dictionary
-  pub contour : new.contour ≡ old.contour
-  pub pieces : plain_pieces new.pieces.items ≡ plain_pieces old.pieces.items ++ made (place_of old) (old.commands + 1) (listed figure)
-  pub start : new.start ≡ old.start
-  pub counts : new.commands ≡ old.commands
-  pub place : place_of new ≡ place_of old
-
 -- The reader has these pieces more.
 pub record TakesOn (old : Reader) (more : List PlainPiece) (new : Reader) : Type 0 where
   pub settings : new.settings ≡ old.settings
@@ -297,6 +287,10 @@ pub record TakesOn (old : Reader) (more : List PlainPiece) (new : Reader) : Type
   pub start : new.start ≡ old.start
   pub counts : new.commands ≡ old.commands
   pub place : place_of new ≡ place_of old
+
+-- The reader has a piece more, if there is a figure.
+abbrev pub Places : Reader → Option Figure → Reader → Type 0
+Places old figure new = TakesOn old (made (place_of old) (old.commands + 1) (listed figure)) new
 
 -- pieces are what the command of this number makes of the figures of a flash
 pub record FlashesAll (what : Result (List Figure) GerberKind) (p : Place) (number : ℕ) (pieces : List (Placed Shape)) : Type 0 where

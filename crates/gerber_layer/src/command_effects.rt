@@ -5,12 +5,12 @@ ghost use Rattle.lengths.specs.Decimal.{is_whole, over_power};
 ghost use Rattle.lengths.specs.Grid.{position_of};
 ghost use Rattle.std.specs.Option.{option_copied};
 ghost use Rattle.step_repeat.specs.Repeats.{IsLawful as IsLawfulRepeat};
+ghost use Rattle.file_reading.specs.LookingBack.{keep_first};
 ghost use Rattle.gerber_layer.specs.After.{after};
 ghost use Rattle.gerber_layer.specs.Command.{operates, view};
-ghost use Rattle.gerber_layer.specs.Reader.{halt_of_copy, halt_of_flash};
-ghost use Rattle.file_reading.specs.LookingBack.{keep_first};
 ghost use Rattle.gerber_layer.specs.CommandEffects as spec;
 ghost use Rattle.gerber_layer.specs.Lawful.{AreLawfulSettings, IsWhole};
+ghost use Rattle.gerber_layer.specs.Reader.{halt_of_copy, halt_of_flash};
 
 use crate::command::{Code, Command, Format};
 use crate::kind::GerberKind;

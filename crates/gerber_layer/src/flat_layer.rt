@@ -1,25 +1,16 @@
 //! Reads a copper file that may have macros.
 ghost use Rattle.std.specs.Prelude.{◌≡◌, ◌≤◌, length, IfOk, IfErr};
 ghost use Rattle.board_shapes.specs.Pieces.{plain_pieces};
-ghost use Rattle.gerber_layer.specs.MacroLayer.{IsMacroFault, IsReadWithMacros, macro_fault_at};
+ghost use Rattle.gerber_layer.specs.MacroLayer.{IsMacroFault, IsReadWithMacros};
 
 use crate::MOST_FLAT_EDGES;
 use crate::dialect::WithMacros;
-use crate::file::read_by;
-use crate::macro_kind::{FlattenFault, FlattenKind};
+use crate::file::{Stopped, read_by};
+use crate::macro_kind::FlattenFault;
 use board_shapes::{MOST_PIECES, Piece, Room};
 use file_reading::Halt;
 use std::alloc::Global;
 use texts::MOST_BYTES;
-
-fn macro_fault_at(halt: Halt<FlattenKind>, command: u32, at: usize) -> FlattenFault
-    ensures { result ≡ macro_fault_at halt command at }
-{
-    match halt {
-        Halt::Fault(kind) => FlattenFault::Refused { kind, command, at },
-        Halt::NoMemory => FlattenFault::NoMemory,
-    }
-}
 
 /// The pieces of a copper file that may have aperture macros (Gerber Layer Format Specification,
 /// 4.5), in the order of the commands that make them; all lengths are in u, a tenth of a nanometre.
@@ -39,9 +30,11 @@ pub fn read_flat(alloc: Global, file: &[u8]) -> Result<Vec<Piece>, FlattenFault>
         pieces: MOST_PIECES,
         edges: MOST_FLAT_EDGES,
     };
-    read_by::<WithMacros>(alloc, file, 1, 0, room).map_err(|why| macro_fault_at(
-        why.halt,
-        why.command,
-        why.at,
-    ))
+    match read_by::<WithMacros>(alloc, file, 1, 0, room) {
+        Ok(pieces) => Ok(pieces),
+        Err(Stopped { halt, command, at }) => match halt {
+            Halt::Fault(kind) => Err(FlattenFault::Refused { kind, command, at }),
+            Halt::NoMemory => Err(FlattenFault::NoMemory),
+        },
+    }
 }

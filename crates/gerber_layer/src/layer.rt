@@ -2,25 +2,15 @@
 ghost use Rattle.std.specs.Prelude.{◌≡◌, ◌≤◌, length, All, IfOk, IfErr};
 ghost use Rattle.board_shapes.specs.Pieces.{plain_pieces};
 ghost use Rattle.gerber_layer.specs.Dialect.{IsReadBy};
-ghost use Rattle.gerber_layer.specs.Layer.{IsFault, IsFaultBy, IsRead, fault_at, in_words};
+ghost use Rattle.gerber_layer.specs.Layer.{IsFault, IsFaultBy, IsRead, in_words};
 
 use crate::dialect::{Plain, Standard, Wording};
-use crate::file::read_by;
-use crate::kind::{GerberKind, LayerFault};
+use crate::file::{Stopped, read_by};
+use crate::kind::LayerFault;
 use board_shapes::{MOST_LAYERS, Piece, Room};
 use file_reading::Halt;
 use std::alloc::Global;
 use texts::MOST_BYTES;
-
-/// What stopped the reader, as the fault of the file.
-fn fault_at(halt: Halt<GerberKind>, command: u32, at: usize) -> LayerFault
-    ensures { result ≡ fault_at halt command at }
-{
-    match halt {
-        Halt::Fault(kind) => LayerFault::Refused { kind, command, at },
-        Halt::NoMemory => LayerFault::NoMemory,
-    }
-}
 
 /// The pieces of a layer's copper, in the order of the commands that make them; all lengths are in u,
 /// a tenth of a nanometre.
@@ -61,9 +51,11 @@ pub fn read_layer_by<W: Wording>(
     ensures layers { IfOk result (λ pieces. All (λ piece. (piece.top ≡ layer) × (piece.bottom ≡ layer)) pieces.items) }
     ensures fault { IfErr result (IsFaultBy (in_words W.command) file.now (record { layer = layer; file = file_number; room = room })) }
 {
-    read_by::<Plain<W>>(alloc, file, layer, file_number, room).map_err(|why| fault_at(
-        why.halt,
-        why.command,
-        why.at,
-    ))
+    match read_by::<Plain<W>>(alloc, file, layer, file_number, room) {
+        Ok(pieces) => Ok(pieces),
+        Err(Stopped { halt, command, at }) => match halt {
+            Halt::Fault(kind) => Err(LayerFault::Refused { kind, command, at }),
+            Halt::NoMemory => Err(LayerFault::NoMemory),
+        },
+    }
 }

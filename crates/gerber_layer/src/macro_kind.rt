@@ -2,7 +2,6 @@
 ghost use Rattle.std.specs.Prelude.{◌≡◌};
 ghost use Rattle.gerber_layer.specs.MacroKinds.{flatten_name, flatten_number};
 ghost use Rattle.gerber_layer.specs.MacroTable.{kind_of_macro};
-ghost use Rattle.gerber_layer.specs.declared.macro_kind.FlattenKind.TheVariants.{Gerber};
 
 use crate::kind::GerberKind;
 use aperture_macros::MacroFault;
@@ -62,14 +61,6 @@ impl FlattenKind {
             FlattenKind::Slanted => "Slanted",
             FlattenKind::TooManyRadii => "TooManyRadii",
         }
-    }
-}
-
-impl From<GerberKind> for FlattenKind {
-    ghost from_gives = { λ kind refusal. refusal ≡ Gerber kind };
-
-    fn from(kind: GerberKind) -> FlattenKind {
-        FlattenKind::Gerber(kind)
     }
 }
 

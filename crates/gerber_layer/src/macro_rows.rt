@@ -1,5 +1,5 @@
 //! The rows of the table of commands where a file may have macros.
-ghost use Rattle.std.specs.Prelude.{◌≡◌, true, IfErr, IfOk, Ok, Some};
+ghost use Rattle.std.specs.Prelude.{◌≡◌, true, false, IfErr, IfOk, Ok, Some};
 ghost use Rattle.board_shapes.specs.Pieces.{plain_pieces};
 ghost use Rattle.gerber_layer.specs.Command.{view};
 ghost use Rattle.gerber_layer.specs.Lawful.{IsLawfulCommand};
@@ -181,18 +181,40 @@ impl<'a> Reader<'a> {
             .map_err(|kind| Halt::Fault(FlattenKind::Gerber(kind)))
     }
 
-    #[tactic(auto, unfolding(crate::specs::MacroTable::row_with_macros))]
-    fn row_with_macros(
+    // A row that is the same without macros.
+    #[tactic(auto, unfolding(crate::specs::CommandEffects::effect))]
+    fn standard_row(&self, command: &Command<'a>) -> Result<Effect<'a>, Halt<FlattenKind>>
+        requires lawful { IsLawfulReader self.now }
+        requires command { IsLawfulCommand (view command.now) }
+        requires before_end { self.now.settings.ended ≡ false }
+        ensures ok { IfOk result (λ e. gerber (shown (known_of self.now) e) ≡ gerber (row (known_of self.now) (view command.now))) }
+        ensures fit { IfOk result (IsFit self.now.dictionary) }
+        ensures halt { IfErr result (Stops (gerber (row (known_of self.now) (view command.now)))) }
+    {
+        self.effect(command)
+            .map_err(|kind| Halt::Fault(FlattenKind::Gerber(kind)))
+    }
+
+    /// What a command does where the file may have macros, or its fault.
+    #[tactic(auto, unfolding(crate::specs::MacroTable::effect_with_macros, crate::specs::MacroTable::row_with_macros))]
+    pub fn effect_with_macros(
         &self,
         alloc: Global,
         command: &Command<'a>,
     ) -> Result<Effect<'a>, Halt<FlattenKind>>
         requires lawful { IsLawfulReader self.now }
         requires command { IsLawfulCommand (view command.now) }
-        ensures ok { IfOk result (λ e. gerber (shown (known_of self.now) e) ≡ spec.row_with_macros (known_of self.now) (view command.now)) }
+        ensures ok { IfOk result (λ e. spec.with_few_radii (gerber (shown (known_of self.now) e)) ≡ spec.effect_with_macros (known_of self.now) (view command.now)) }
         ensures fit { IfOk result (IsFit self.now.dictionary) }
-        ensures halt { IfErr result (Stops (spec.row_with_macros (known_of self.now) (view command.now))) }
+        ensures halt { IfErr result (Stops (spec.effect_with_macros (known_of self.now) (view command.now))) }
     {
+        if self.settings.ended {
+            return if is_finish(command) {
+                Ok(Effect::Stays)
+            } else {
+                Err(Halt::Fault(FlattenKind::Gerber(GerberKind::AfterEnd)))
+            };
+        }
         match *command {
             Command::Macro(name) => self.name_macro(name).map_err(Halt::Fault),
             Command::Body(text) => self.fill_macro(text).map_err(Halt::Fault),
@@ -210,41 +232,6 @@ impl<'a> Reader<'a> {
             Command::End => self.standard_row(command),
             Command::Broken(_) => self.standard_row(command),
             Command::Finish => self.standard_row(command),
-        }
-    }
-
-    // A row that is the same without macros.
-    fn standard_row(&self, command: &Command<'a>) -> Result<Effect<'a>, Halt<FlattenKind>>
-        requires lawful { IsLawfulReader self.now }
-        requires command { IsLawfulCommand (view command.now) }
-        ensures ok { IfOk result (λ e. gerber (shown (known_of self.now) e) ≡ gerber (row (known_of self.now) (view command.now))) }
-        ensures fit { IfOk result (IsFit self.now.dictionary) }
-        ensures halt { IfErr result (Stops (gerber (row (known_of self.now) (view command.now)))) }
-    {
-        self.row(command)
-            .map_err(|kind| Halt::Fault(FlattenKind::Gerber(kind)))
-    }
-
-    /// What a command does where the file may have macros, or its fault.
-    #[tactic(auto, unfolding(crate::specs::MacroTable::effect_with_macros))]
-    pub fn effect_with_macros(
-        &self,
-        alloc: Global,
-        command: &Command<'a>,
-    ) -> Result<Effect<'a>, Halt<FlattenKind>>
-        requires lawful { IsLawfulReader self.now }
-        requires command { IsLawfulCommand (view command.now) }
-        ensures ok { IfOk result (λ e. spec.with_few_radii (gerber (shown (known_of self.now) e)) ≡ spec.effect_with_macros (known_of self.now) (view command.now)) }
-        ensures fit { IfOk result (IsFit self.now.dictionary) }
-        ensures halt { IfErr result (Stops (spec.effect_with_macros (known_of self.now) (view command.now))) }
-    {
-        if !self.settings.ended {
-            return self.row_with_macros(alloc, command);
-        }
-        if is_finish(command) {
-            Ok(Effect::Stays)
-        } else {
-            Err(Halt::Fault(FlattenKind::Gerber(GerberKind::AfterEnd)))
         }
     }
 

@@ -41,13 +41,8 @@ row_outcome k finishes e h = cc
 
 behind_outcome : (k : Known) (form : RecordLine) (e : Effect) → behind form ≡ Ok e → Outcome k form e
 behind_outcome k blank e h = let f : stays ≡ e = cc in sym f
-behind_outcome k unread e h = cc
-behind_outcome k (units unit) e h = cc
-behind_outcome k ends e h = cc
-behind_outcome k continues e h = cc
-behind_outcome k (tests fields) e h = cc
-behind_outcome k unknown e h = cc
 behind_outcome k finishes e h = let f : stays ≡ e = cc in sym f
+behind_outcome k other e h = cc
 
 pub outcome : (k : Known) (form : RecordLine) (e : Effect) → effect k form ≡ Ok e → Outcome k form e
 unfolding effect

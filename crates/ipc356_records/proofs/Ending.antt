@@ -39,14 +39,8 @@ needs_end k h ok = by k.ended h ok
     by false h ok = cc
 
 ends_of : (form : RecordLine) → is_end form ≡ true → form ≡ ends
-ends_of blank h = cc
-ends_of unread h = cc
-ends_of (units unit) h = cc
 ends_of ends h = refl
-ends_of continues h = cc
-ends_of (tests fields) h = cc
-ends_of unknown h = cc
-ends_of finishes h = cc
+ends_of other h = cc
 
 either : (a b : Bool) → b ≡ true → (a || b) ≡ true
 either true b h = refl
@@ -65,13 +59,8 @@ table_ends layers = record {
 -- behind the end a line without a fault makes nothing
 behind_stays : (form : RecordLine) → IsOk (behind form) → (behind form ≡ Ok stays) × (name_in form ≡ None)
 behind_stays blank ok = (refl, refl)
-behind_stays unread ok = cc
-behind_stays (units unit) ok = cc
-behind_stays ends ok = cc
-behind_stays continues ok = cc
-behind_stays (tests fields) ok = cc
-behind_stays unknown ok = cc
 behind_stays finishes ok = (refl, refl)
+behind_stays other ok = cc
 
 ended_behind : (k : Known) (form : RecordLine) → k.ended ≡ true → effect k form ≡ behind form
 unfolding effect

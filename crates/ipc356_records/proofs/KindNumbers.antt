@@ -10,17 +10,7 @@ numbered = kind.UnknownCode ∷ kind.UnknownCode ∷ kind.Continuation ∷ kind.
 
 at_its_number : (a : RecordKind) → get_or numbered (number_of_kind a) kind.UnknownCode ≡ a
 at_its_number kind.UnknownCode = refl
-at_its_number kind.Continuation = refl
-at_its_number kind.MissingUnits = refl
-at_its_number kind.UnitsTwice = refl
-at_its_number kind.BadUnits = refl
-at_its_number kind.BadAccess = refl
-at_its_number kind.BadNumber = refl
-at_its_number kind.BadName = refl
-at_its_number kind.OutOfRange = refl
-at_its_number kind.NotEnded = refl
-at_its_number kind.AfterEnd = refl
-at_its_number kind.TooManyRecords = refl
+at_its_number other = refl
 
 pub one_number : (a b : RecordKind) → number_of_kind a ≡ number_of_kind b → a ≡ b
 one_number a b same = sym (at_its_number a) ∙ (ap (λ (n : ℕ). get_or numbered n kind.UnknownCode) same ∙ at_its_number b)

@@ -3,46 +3,33 @@ ghost use Rattle.std.specs.Prelude.{◌≡◌};
 ghost use Rattle.ipc356_records.specs.Kind.{name_of_kind, number_of_kind};
 
 use file_reading::name_of;
-use thiserror::Error;
 
 /// Why a netlist is refused.
-#[derive(Clone, Copy, Debug, PartialEq, Eq, Error)]
+#[derive(Clone, Copy, Debug, PartialEq, Eq)]
 pub enum RecordKind {
     /// A line with no known code.
-    #[error("no known code")]
     UnknownCode = 1,
     /// A continuation record, `017` or `027`.
-    #[error("a continuation record")]
     Continuation = 2,
     /// A test record before the `UNITS` parameter.
-    #[error("a record before the units")]
     MissingUnits = 3,
     /// A second `UNITS` parameter.
-    #[error("units given twice")]
     UnitsTwice = 4,
     /// A `UNITS` parameter that is neither `CUST 0` nor `CUST 1`.
-    #[error("units of no known form")]
     BadUnits = 5,
     /// An access code that is no number from 0 to the number of layers.
-    #[error("no access code of this board")]
     BadAccess = 6,
     /// A coordinate that is not its letter, a sign and a number.
-    #[error("a coordinate of no known form")]
     BadNumber = 7,
     /// A net name with a byte that is not from 33 to 126.
-    #[error("a net name with other bytes")]
     BadName = 8,
     /// A place over 1 m from 0.
-    #[error("a place out of range")]
     OutOfRange = 9,
     /// The file's end before `999`.
-    #[error("no 999 at the end")]
     NotEnded = 10,
     /// A line after `999` that is not blank.
-    #[error("a line after 999")]
     AfterEnd = 11,
     /// A test record after `MOST_RECORDS` others.
-    #[error("too many records")]
     TooManyRecords = 12,
 }
 

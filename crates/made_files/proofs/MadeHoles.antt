@@ -23,7 +23,7 @@ use Rattle.texts.specs.Blanks.{is_blank, trimmed, without_back, without_front}
 use Rattle.texts.specs.Lines.{PlainLine, lines_of}
 use Rattle.xnc.specs.DrillEffects.{Effect, Known, stays, drills, barrel, body, define, diameter, diameter_of, effect, header, hit as hit_effect, staged, target, value_of}
 use Rattle.xnc.specs.DrillFile.{item_of, items}
-use Rattle.xnc.specs.DrillLines.{behind_x, body_line, both, command, coordinates_of, form_of, hits, is_g, is_y, place_line, tool_line, tool_number, within_blanks}
+use Rattle.xnc.specs.DrillLines.{behind_x, body_line, both, command, coordinates_of, form_of, line_with, is_g, is_y, place_line, tool_line, tool_number, within_blanks}
 use Rattle.xnc.specs.FaultPlace.{Place}
 use Rattle.xnc.specs.Settings.{barrels_at, defined_at, down_at, effect_at, known_at, mode_at, piece_of, stage_at, tool_at, unit_at}
 use Rattle.xnc.specs.declared.kind.DrillKind.{DrillKind}
@@ -140,7 +140,7 @@ place_back xs ys x y h k =
     let left : list_any is_g xs ≡ false = none_of is_g (λ c mark. mark_is_not 71 c refl mark) xs h.marks in
     let right : list_any is_g ys ≡ false = none_of is_g (λ c mark. mark_is_not 71 c refl mark) ys k.marks in
     let none : list_any is_g (hit_text xs ys) ≡ false = list_any-append is_g xs (89 ∷ ys) ∙ rw (left, right) refl in
-    cond-false (list_any is_g (hit_text xs ys)) _ (hits (coordinates_of (hit_text xs ys))) none ∙ ap hits (x_back xs ys x y h k)
+    cond-false (list_any is_g (hit_text xs ys)) _ (line_with form.Hit (coordinates_of (hit_text xs ys))) none ∙ ap (line_with form.Hit) (x_back xs ys x y h k)
 
 command_back : (rest : List ℕ) → command (88 ∷ rest) ≡ place_line (88 ∷ rest)
 unfolding command body_line

@@ -52,30 +52,12 @@ settings-push p earlier n (form.Rout to) e o = let at = o.goes.there (record { x
 settings-push p earlier n (form.Straight to) e o = let at = o.goes.there (record { x = x_at earlier; y = y_at earlier }) ∙ led earlier to o.to o.leads in rw at refl
 settings-push p earlier n (form.Hit to) e o = let at = o.goes.there (record { x = x_at earlier; y = y_at earlier }) ∙ led earlier to o.to o.leads in rw at refl
 settings-push p earlier n (form.Slot from to) e o = let at = o.goes.there (record { x = x_at earlier; y = y_at earlier }) ∙ crossed p earlier n from to e o in rw at refl
-settings-push p earlier n (form.Tool m d) e o = refl
-settings-push p earlier n form.Blank e o = refl
-settings-push p earlier n (form.Misfit why) e o = refl
-settings-push p earlier n form.Start e o = refl
-settings-push p earlier n form.Format e o = refl
-settings-push p earlier n form.Absolute e o = refl
-settings-push p earlier n (form.Unit unit) e o = refl
-settings-push p earlier n form.HeaderEnd e o = refl
-settings-push p earlier n form.Arc e o = refl
-settings-push p earlier n form.NoTool e o = refl
-settings-push p earlier n (form.Select m) e o = refl
-settings-push p earlier n form.Drill e o = refl
-settings-push p earlier n form.Lower e o = refl
-settings-push p earlier n form.Raise e o = refl
-settings-push p earlier n form.End e o = refl
-settings-push p earlier n form.Unknown e o = refl
-settings-push p earlier n form.Finish e o = refl
+settings-push p earlier n other e o = refl
 
 -- what does not define leaves the tools
 plain_turns : (old new : Tools) (e : Effect) → IsPlain e → Turns old e new → new ≡ old
-plain_turns old new stays h t = t
-plain_turns old new (moves to) h t = t
-plain_turns old new (drills to figure) h t = t
 plain_turns old new (makes n d) h t = absurd h
+plain_turns old new other h t = t
 
 -- the tools of the reader are those that looking back finds
 pub record HasTools (t : Tools) (earlier : List DrillLine) : Type 0 where
@@ -103,22 +85,7 @@ tools-push old new p earlier n (form.Rout to) e h o t = let k = kept old new ear
 tools-push old new p earlier n (form.Straight to) e h o t = let k = kept old new earlier e h o.goes.plain t in record { defined = k.defined; count = k.count }
 tools-push old new p earlier n (form.Hit to) e h o t = let k = kept old new earlier e h o.goes.plain t in record { defined = k.defined; count = k.count }
 tools-push old new p earlier n (form.Slot from to) e h o t = let k = kept old new earlier e h o.goes.plain t in record { defined = k.defined; count = k.count }
-tools-push old new p earlier n form.Blank e h o t = let k = kept old new earlier e h (idle e o) t in record { defined = k.defined; count = k.count }
-tools-push old new p earlier n (form.Misfit why) e h o t = let k = kept old new earlier e h (idle e o) t in record { defined = k.defined; count = k.count }
-tools-push old new p earlier n form.Start e h o t = let k = kept old new earlier e h (idle e o) t in record { defined = k.defined; count = k.count }
-tools-push old new p earlier n form.Format e h o t = let k = kept old new earlier e h (idle e o) t in record { defined = k.defined; count = k.count }
-tools-push old new p earlier n form.Absolute e h o t = let k = kept old new earlier e h (idle e o) t in record { defined = k.defined; count = k.count }
-tools-push old new p earlier n (form.Unit unit) e h o t = let k = kept old new earlier e h (idle e o) t in record { defined = k.defined; count = k.count }
-tools-push old new p earlier n form.HeaderEnd e h o t = let k = kept old new earlier e h (idle e o) t in record { defined = k.defined; count = k.count }
-tools-push old new p earlier n form.Arc e h o t = let k = kept old new earlier e h (idle e o) t in record { defined = k.defined; count = k.count }
-tools-push old new p earlier n form.NoTool e h o t = let k = kept old new earlier e h (idle e o) t in record { defined = k.defined; count = k.count }
-tools-push old new p earlier n (form.Select m) e h o t = let k = kept old new earlier e h (idle e o) t in record { defined = k.defined; count = k.count }
-tools-push old new p earlier n form.Drill e h o t = let k = kept old new earlier e h (idle e o) t in record { defined = k.defined; count = k.count }
-tools-push old new p earlier n form.Lower e h o t = let k = kept old new earlier e h (idle e o) t in record { defined = k.defined; count = k.count }
-tools-push old new p earlier n form.Raise e h o t = let k = kept old new earlier e h (idle e o) t in record { defined = k.defined; count = k.count }
-tools-push old new p earlier n form.End e h o t = let k = kept old new earlier e h (idle e o) t in record { defined = k.defined; count = k.count }
-tools-push old new p earlier n form.Unknown e h o t = let k = kept old new earlier e h (idle e o) t in record { defined = k.defined; count = k.count }
-tools-push old new p earlier n form.Finish e h o t = let k = kept old new earlier e h (idle e o) t in record { defined = k.defined; count = k.count }
+tools-push old new p earlier n other e h o t = let k = kept old new earlier e h (idle e o) t in record { defined = k.defined; count = k.count }
 
 -- the reader has obeyed these lines
 pub record State (p : Place) (earlier : List DrillLine) (r : Reader) : Type 0 where

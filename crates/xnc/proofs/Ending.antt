@@ -20,7 +20,7 @@ use Rattle.xnc.specs.declared.line.DrillLine.TheVariants as form
 use Rattle.xnc.specs.declared.settings.Stage.{Stage}
 use Rattle.xnc.specs.declared.settings.Stage.TheVariants.{Opening, Header, Body, Ended}
 use Rattle.xnc.specs.FaultPlace.{Place}
-use Rattle.xnc.specs.DrillLines.{form_of, within_blanks, comment, file_function, command, body_line, place_line, tool_line, routs, straight, hits, slots, slot_end, defines, selects, coordinates_of, field, further, names_span, is_g, is_c, is_metric, is_inch}
+use Rattle.xnc.specs.DrillLines.{form_of, within_blanks, comment, file_function, command, body_line, place_line, tool_line, line_with, slots, slot_end, defines, coordinates_of, field, further, names_span, is_g, is_c, is_metric, is_inch}
 use Rattle.xnc.specs.DrillEffects.{Known, Effect, stays, unless, effect, staged, header, body, is_ended}
 use Rattle.xnc.specs.Settings.{stage_at, known_at, effect_at, piece_of, barrels_at}
 use Rattle.xnc.specs.DrillFile.{item_of, items, IsRead, IsRefused}
@@ -35,27 +35,8 @@ abbrev has_ended : List DrillLine → Bool
 has_ended earlier = is_ended (stage_at earlier)
 
 ends_of : (f : DrillLine) → is_end f ≡ true → f ≡ form.End
-ends_of form.Blank h = cc
-ends_of (form.Misfit kind) h = cc
-ends_of form.Start h = cc
-ends_of form.Format h = cc
-ends_of form.Absolute h = cc
-ends_of (form.Unit unit) h = cc
-ends_of (form.Tool n d) h = cc
-ends_of form.HeaderEnd h = cc
-ends_of form.Arc h = cc
-ends_of form.NoTool h = cc
-ends_of (form.Select n) h = cc
-ends_of form.Drill h = cc
-ends_of (form.Rout to) h = cc
-ends_of form.Lower h = cc
-ends_of form.Raise h = cc
-ends_of (form.Straight to) h = cc
-ends_of (form.Hit at) h = cc
-ends_of (form.Slot from to) h = cc
 ends_of form.End h = refl
-ends_of form.Unknown h = cc
-ends_of form.Finish h = cc
+ends_of other h = cc
 
 -- what the table says of the end
 staged_ended : (s : Stage) (k : Known) (f : DrillLine) → is_ended s ≡ true → IsOk (staged s k f) → ⊥
@@ -66,51 +47,17 @@ staged_ended Body k f h ok = cc
 staged_ended Ended k f h ok = cc
 
 still : (earlier : List DrillLine) (f : DrillLine) → is_end f ≡ false → has_ended earlier ≡ false → has_ended (f ∷ earlier) ≡ false
-still earlier form.Blank h not = not
-still earlier (form.Misfit kind) h not = not
 still earlier form.Start h not = refl
-still earlier form.Format h not = not
-still earlier form.Absolute h not = not
-still earlier (form.Unit unit) h not = not
-still earlier (form.Tool n d) h not = not
 still earlier form.HeaderEnd h not = refl
-still earlier form.Arc h not = not
-still earlier form.NoTool h not = not
-still earlier (form.Select n) h not = not
-still earlier form.Drill h not = not
-still earlier (form.Rout to) h not = not
-still earlier form.Lower h not = not
-still earlier form.Raise h not = not
-still earlier (form.Straight to) h not = not
-still earlier (form.Hit at) h not = not
-still earlier (form.Slot from to) h not = not
 still earlier form.End h not = cc
-still earlier form.Unknown h not = not
-still earlier form.Finish h not = not
+still earlier other h not = not
 
 keeps_ended : (p : Place) (earlier : List DrillLine) (f : DrillLine) → has_ended earlier ≡ true → IsOk (effect_at p earlier f) → has_ended (f ∷ earlier) ≡ true
 unfolding effect
-keeps_ended p earlier form.Blank h ok = h
-keeps_ended p earlier (form.Misfit kind) h ok = h
 keeps_ended p earlier form.Start h ok = absurd (staged_ended (stage_at earlier) (known_at p earlier) form.Start h ok)
-keeps_ended p earlier form.Format h ok = h
-keeps_ended p earlier form.Absolute h ok = h
-keeps_ended p earlier (form.Unit unit) h ok = h
-keeps_ended p earlier (form.Tool n d) h ok = h
 keeps_ended p earlier form.HeaderEnd h ok = absurd (staged_ended (stage_at earlier) (known_at p earlier) form.HeaderEnd h ok)
-keeps_ended p earlier form.Arc h ok = h
-keeps_ended p earlier form.NoTool h ok = h
-keeps_ended p earlier (form.Select n) h ok = h
-keeps_ended p earlier form.Drill h ok = h
-keeps_ended p earlier (form.Rout to) h ok = h
-keeps_ended p earlier form.Lower h ok = h
-keeps_ended p earlier form.Raise h ok = h
-keeps_ended p earlier (form.Straight to) h ok = h
-keeps_ended p earlier (form.Hit at) h ok = h
-keeps_ended p earlier (form.Slot from to) h ok = h
 keeps_ended p earlier form.End h ok = refl
-keeps_ended p earlier form.Unknown h ok = h
-keeps_ended p earlier form.Finish h ok = h
+keeps_ended p earlier other h ok = h
 
 once : (p : Place) (earlier : List DrillLine) (f : DrillLine) → has_ended earlier ≡ true → is_end f ≡ true → IsOk (effect_at p earlier f) → ⊥
 unfolding effect
@@ -267,7 +214,7 @@ no_place : (rest : List ℕ) → place_line (77 ∷ rest) ≡ form.Unknown
 unfolding place_line coordinates_of
 no_place rest = by (list_any is_g (77 ∷ rest))
   where
-    by : (b : Bool) → (if b then slots (coordinates_of (before_first is_g (77 ∷ rest))) (slot_end (after_first is_g (77 ∷ rest))) else hits (coordinates_of (77 ∷ rest))) ≡ form.Unknown
+    by : (b : Bool) → (if b then slots (coordinates_of (before_first is_g (77 ∷ rest))) (slot_end (after_first is_g (77 ∷ rest))) else line_with form.Hit (coordinates_of (77 ∷ rest))) ≡ form.Unknown
     by true = rw (no_place_before rest) refl
     by false = refl
 
@@ -299,17 +246,9 @@ code_of_end : (b : Bool) (other : DrillLine) → is_end other ≡ false → is_e
 code_of_end true other silent h = refl
 code_of_end false other silent h = cc
 
-no_routs : (at : Option Coordinates) → is_end (routs at) ≡ false
-no_routs None = refl
-no_routs (Some at) = refl
-
-no_straight : (at : Option Coordinates) → is_end (straight at) ≡ false
-no_straight None = refl
-no_straight (Some at) = refl
-
-no_hits : (at : Option Coordinates) → is_end (hits at) ≡ false
-no_hits None = refl
-no_hits (Some at) = refl
+no_line_with : {A : Type 0} (make : A → DrillLine) → ((x : A) → is_end (make x) ≡ false) → (part : Option A) → is_end (line_with make part) ≡ false
+no_line_with make none None = refl
+no_line_with make none (Some x) = none x
 
 no_slots : (from to : Option Coordinates) → is_end (slots from to) ≡ false
 no_slots (Some from) (Some to) = refl
@@ -321,17 +260,13 @@ no_defines (Some n) (Some d) = refl
 no_defines (Some n) None = refl
 no_defines None d = refl
 
-no_selects : (n : Option ℕ) → is_end (selects n) ≡ false
-no_selects None = refl
-no_selects (Some n) = refl
-
 no_place_line : (text : List ℕ) → is_end (place_line text) ≡ false
 unfolding place_line
-no_place_line text = neither (list_any is_g text) _ _ (no_slots _ _) (no_hits _)
+no_place_line text = neither (list_any is_g text) _ _ (no_slots _ _) (no_line_with form.Hit (λ at. refl) _)
 
 no_tool_line : (text : List ℕ) → is_end (tool_line text) ≡ false
 unfolding tool_line
-no_tool_line text = neither (list_any is_c text) _ _ (no_defines _ _) (neither (is_word text (codes "0") || is_word text (codes "00")) _ _ refl (no_selects _))
+no_tool_line text = neither (list_any is_c text) _ _ (no_defines _ _) (neither (is_word text (codes "0") || is_word text (codes "00")) _ _ refl (no_line_with form.Select (λ n. refl) _))
 
 no_comment : (from to : ℕ) (text : List ℕ) → is_end (comment from to text) ≡ false
 unfolding comment file_function
@@ -347,8 +282,8 @@ unfolding body_line
 no_body_line text =
     neither (begins text (codes "G02") || begins text (codes "G03")) _ _ refl
     (neither (is_word text (codes "G05")) _ _ refl
-    (neither (begins text (codes "G00")) _ _ (no_routs _)
-    (neither (begins text (codes "G01")) _ _ (no_straight _)
+    (neither (begins text (codes "G00")) _ _ (no_line_with form.Rout (λ to. refl) _)
+    (neither (begins text (codes "G01")) _ _ (no_line_with form.Straight (λ to. refl) _)
     (neither (is_word text (codes "M15")) _ _ refl
     (neither (is_word text (codes "M16")) _ _ refl (no_place_line text))))))
 

@@ -10,22 +10,7 @@ numbered = kind.NoHeader ∷ kind.NoHeader ∷ kind.BadLine ∷ kind.MissingUnit
 
 at_its_number : (a : DrillKind) → get_or numbered (number_of_kind a) kind.NoHeader ≡ a
 at_its_number kind.NoHeader = refl
-at_its_number kind.BadLine = refl
-at_its_number kind.MissingUnit = refl
-at_its_number kind.NoTool = refl
-at_its_number kind.ToolTwice = refl
-at_its_number kind.ImpliedDecimals = refl
-at_its_number kind.OffGrid = refl
-at_its_number kind.OutOfRange = refl
-at_its_number kind.ArcRout = refl
-at_its_number kind.WrongMode = refl
-at_its_number kind.WrongSpan = refl
-at_its_number kind.NotPlated = refl
-at_its_number kind.MixedPlating = refl
-at_its_number kind.NotEnded = refl
-at_its_number kind.AfterEnd = refl
-at_its_number kind.TooManyPieces = refl
-at_its_number kind.TooManyTools = refl
+at_its_number other = refl
 
 pub one_number : (a b : DrillKind) → number_of_kind a ≡ number_of_kind b → a ≡ b
 one_number a b same = sym (at_its_number a) ∙ (ap (λ (n : ℕ). get_or numbered n kind.NoHeader) same ∙ at_its_number b)

@@ -61,18 +61,4 @@ tool_down p (form.Rout to ∷ earlier) clean down = cc
 tool_down p (form.NoTool ∷ earlier) clean down = let d = done (known_at p earlier) form.NoTool clean.0 in clash (down_at earlier) down (none_up (known_at p earlier) d.0 d.1)
 tool_down p (form.Select n ∷ earlier) clean down = let d = done (known_at p earlier) (form.Select n) clean.0 in clash (down_at earlier) down (select_up (known_at p earlier) n d.0 d.1)
 tool_down p (form.Tool n d ∷ earlier) clean down = defined_more (tool_at earlier) (defined_at earlier) _ (tool_down p earlier clean.1 down)
-tool_down p (form.Blank ∷ earlier) clean down = tool_down p earlier clean.1 down
-tool_down p (form.Misfit why ∷ earlier) clean down = tool_down p earlier clean.1 down
-tool_down p (form.Start ∷ earlier) clean down = tool_down p earlier clean.1 down
-tool_down p (form.Format ∷ earlier) clean down = tool_down p earlier clean.1 down
-tool_down p (form.Absolute ∷ earlier) clean down = tool_down p earlier clean.1 down
-tool_down p (form.Unit unit ∷ earlier) clean down = tool_down p earlier clean.1 down
-tool_down p (form.HeaderEnd ∷ earlier) clean down = tool_down p earlier clean.1 down
-tool_down p (form.Arc ∷ earlier) clean down = tool_down p earlier clean.1 down
-tool_down p (form.Drill ∷ earlier) clean down = tool_down p earlier clean.1 down
-tool_down p (form.Straight to ∷ earlier) clean down = tool_down p earlier clean.1 down
-tool_down p (form.Hit at ∷ earlier) clean down = tool_down p earlier clean.1 down
-tool_down p (form.Slot from to ∷ earlier) clean down = tool_down p earlier clean.1 down
-tool_down p (form.End ∷ earlier) clean down = tool_down p earlier clean.1 down
-tool_down p (form.Unknown ∷ earlier) clean down = tool_down p earlier clean.1 down
-tool_down p (form.Finish ∷ earlier) clean down = tool_down p earlier clean.1 down
+tool_down p (other ∷ earlier) clean down = tool_down p earlier clean.1 down

@@ -65,19 +65,12 @@ unfoldable pub coordinates_of : List ℕ → Option Coordinates
 coordinates_of [] = None
 coordinates_of (c ∷ text) = if c == 88 then behind_x text else (if c == 89 then only_y (decimal text) else None)
 
--- the lines of `G00`, of `G01`, of a hit and of a slot, with their places; a line that lacks one is unknown
-abbrev pub routs : Option Coordinates → DrillLine
-routs None = form.Unknown
-routs (Some to) = form.Rout to
+-- a line that lacks its part is unknown
+abbrev pub line_with : {A : Type 0} → (A → DrillLine) → Option A → DrillLine
+line_with make None = form.Unknown
+line_with make (Some part) = make part
 
-abbrev pub straight : Option Coordinates → DrillLine
-straight None = form.Unknown
-straight (Some to) = form.Straight to
-
-abbrev pub hits : Option Coordinates → DrillLine
-hits None = form.Unknown
-hits (Some at) = form.Hit at
-
+-- a slot's places
 abbrev pub slots : Option Coordinates → Option Coordinates → DrillLine
 slots (Some from) (Some to) = form.Slot from to
 slots (Some from) None = form.Unknown
@@ -94,7 +87,7 @@ slot_end text = if begins text (codes "85") then coordinates_of (drop 2 text) el
 unfoldable pub place_line : List ℕ → DrillLine
 place_line text =
     if list_any is_g text then slots (coordinates_of (before_first is_g text)) (slot_end (after_first is_g text))
-    else hits (coordinates_of text)
+    else line_with form.Hit (coordinates_of text)
 
 -- a tool's number: 1 to 4 digits, not 0
 unfoldable pub tool_number : List ℕ → Option ℕ
@@ -105,22 +98,18 @@ tool_number digits =
 abbrev pub is_c : ℕ → Bool
 is_c b = b == 67
 
--- the definition of a tool, and its selection; a line that lacks a part is unknown
+-- the definition of a tool
 abbrev pub defines : Option ℕ → Option Fraction → DrillLine
 defines (Some n) (Some d) = form.Tool n d
 defines (Some n) None = form.Unknown
 defines None d = form.Unknown
-
-abbrev pub selects : Option ℕ → DrillLine
-selects None = form.Unknown
-selects (Some n) = form.Select n
 
 -- what stands behind the letter T: a number and a diameter, or a number, or zeros for no tool
 unfoldable pub tool_line : List ℕ → DrillLine
 tool_line text =
     if list_any is_c text then defines (tool_number (before_first is_c text)) (decimal (after_first is_c text))
     else (if is_word text (codes "0") || is_word text (codes "00") then form.NoTool
-    else selects (tool_number text))
+    else line_with form.Select (tool_number text))
 
 -- the unit lines, with or without what they say of zeros
 abbrev pub is_metric : List ℕ → Bool
@@ -134,8 +123,8 @@ unfoldable pub body_line : List ℕ → DrillLine
 body_line text =
     if begins text (codes "G02") || begins text (codes "G03") then form.Arc
     else (if is_word text (codes "G05") then form.Drill
-    else (if begins text (codes "G00") then routs (coordinates_of (drop 3 text))
-    else (if begins text (codes "G01") then straight (coordinates_of (drop 3 text))
+    else (if begins text (codes "G00") then line_with form.Rout (coordinates_of (drop 3 text))
+    else (if begins text (codes "G01") then line_with form.Straight (coordinates_of (drop 3 text))
     else (if is_word text (codes "M15") then form.Lower
     else (if is_word text (codes "M16") then form.Raise
     else place_line text)))))

@@ -80,29 +80,19 @@ fn only_y(y: Option<Decimal>) -> Option<Coordinates>
     })
 }
 
-fn both(x: Option<Decimal>, y: Option<Decimal>) -> Option<Coordinates>
-    ensures { result ≡ spec.both x y }
-{
-    let x = x?;
-    let y = y?;
-    Some(Coordinates {
-        x: Some(x),
-        y: Some(y),
-    })
-}
-
 #[tactic(auto, unfolding(crate::specs::DrillLines::behind_x))]
 fn behind_x(text: &[u8]) -> Option<Coordinates>
     ensures { result ≡ spec.behind_x text.now }
 {
-    if has(text, b'Y') {
-        both(
-            read_decimal(before_byte(text, b'Y')),
-            read_decimal(after_byte(text, b'Y')),
-        )
-    } else {
-        only_x(read_decimal(text))
+    if !has(text, b'Y') {
+        return only_x(read_decimal(text));
     }
+    let x = read_decimal(before_byte(text, b'Y'))?;
+    let y = read_decimal(after_byte(text, b'Y'))?;
+    Some(Coordinates {
+        x: Some(x),
+        y: Some(y),
+    })
 }
 
 // A place.
@@ -128,53 +118,22 @@ fn slot_end(text: &[u8]) -> Option<Coordinates>
     }
 }
 
-fn routs(to: Option<Coordinates>) -> DrillLine
-    ensures { result ≡ spec.routs to }
-{
-    match to {
-        None => DrillLine::Unknown,
-        Some(to) => DrillLine::Rout(to),
-    }
-}
-
-fn straight(to: Option<Coordinates>) -> DrillLine
-    ensures { result ≡ spec.straight to }
-{
-    match to {
-        None => DrillLine::Unknown,
-        Some(to) => DrillLine::Straight(to),
-    }
-}
-
-fn hits(at: Option<Coordinates>) -> DrillLine
-    ensures { result ≡ spec.hits at }
-{
-    match at {
-        None => DrillLine::Unknown,
-        Some(at) => DrillLine::Hit(at),
-    }
-}
-
-fn slots(from: Option<Coordinates>, to: Option<Coordinates>) -> DrillLine
-    ensures { result ≡ spec.slots from to }
-{
-    match (from, to) {
-        (Some(from), Some(to)) => DrillLine::Slot(from, to),
-        _ => DrillLine::Unknown,
-    }
-}
-
 #[tactic(auto, unfolding(crate::specs::DrillLines::place_line))]
 fn place_line(text: &[u8]) -> DrillLine
     ensures { result ≡ spec.place_line text.now }
 {
-    if has(text, b'G') {
-        slots(
-            coordinates(before_byte(text, b'G')),
-            slot_end(after_byte(text, b'G')),
-        )
-    } else {
-        hits(coordinates(text))
+    if !has(text, b'G') {
+        return match coordinates(text) {
+            None => DrillLine::Unknown,
+            Some(at) => DrillLine::Hit(at),
+        };
+    }
+    match (
+        coordinates(before_byte(text, b'G')),
+        slot_end(after_byte(text, b'G')),
+    ) {
+        (Some(from), Some(to)) => DrillLine::Slot(from, to),
+        _ => DrillLine::Unknown,
     }
 }
 
@@ -202,15 +161,6 @@ fn defines(number: Option<u32>, diameter: Option<Decimal>) -> DrillLine
     }
 }
 
-fn selects(number: Option<u32>) -> DrillLine
-    ensures { result ≡ spec.selects number }
-{
-    match number {
-        None => DrillLine::Unknown,
-        Some(number) => DrillLine::Select(number),
-    }
-}
-
 #[tactic(auto, unfolding(crate::specs::DrillLines::tool_line))]
 fn tool_line(text: &[u8]) -> DrillLine
     ensures { result ≡ spec.tool_line text.now }
@@ -223,7 +173,10 @@ fn tool_line(text: &[u8]) -> DrillLine
     } else if is_word(text, b"0") || is_word(text, b"00") {
         DrillLine::NoTool
     } else {
-        selects(tool_number(text))
+        match tool_number(text) {
+            None => DrillLine::Unknown,
+            Some(number) => DrillLine::Select(number),
+        }
     }
 }
 
@@ -250,10 +203,16 @@ fn body_line(text: &[u8]) -> DrillLine
         return DrillLine::Drill;
     }
     if begins(text, b"G00") {
-        return routs(coordinates(&text[3..]));
+        return match coordinates(&text[3..]) {
+            None => DrillLine::Unknown,
+            Some(to) => DrillLine::Rout(to),
+        };
     }
     if begins(text, b"G01") {
-        return straight(coordinates(&text[3..]));
+        return match coordinates(&text[3..]) {
+            None => DrillLine::Unknown,
+            Some(to) => DrillLine::Straight(to),
+        };
     }
     if is_word(text, b"M15") {
         return DrillLine::Lower;

@@ -1,7 +1,6 @@
-use Rattle.std.proofs.Common.{◌≡◌, length, refl, sym, ap, subst, arith}
+use Rattle.std.proofs.Common.{◌≡◌, length, Err, refl, sym, ap, subst, arith}
 use Rattle.gerber_words.specs.Words.{Ahead, start, ended, broken}
 use Rattle.gerber_words.specs.Stepping.{ahead, entry_of}
-use Rattle.gerber_layer.specs.Reader.{Stops}
 use Rattle.arc_layer.specs.Bends.{bend_of}
 use Rattle.arc_layer.specs.Reading.{bends_of}
 use Rattle.arc_layer.specs.Words.{Saying}
@@ -31,10 +30,11 @@ loop-word-preserved c =
       few = omega (arith, counts, c.in-Word.ensures.shorter, c.loop-word.invariant.few);
     }
 
-pub returns-in-Err-clause-fault : goal.returns-in-Err-clause-fault
-returns-in-Err-clause-fault c =
-    let stops = subst (λ (w : Saying). Stops (bend_of c.loop-word.reader.state w) c.in-Err.halt) c.read_word.ensures.value c.in-Err.ensures.halt in
-    rw c.fault_at.ensures (word-fault c.words_lie_ahead.ensures c.args.file.now (ahead c.loop-word.words) (ahead c.next_word.new.self) (entry_of c.in-Word.word) c.loop-word.reader c.in-Err.halt _ c.loop-word.invariant.read c.in-Word.ensures.next refl stops)
+pub returns-in-Err-Fault-clause-fault : goal.returns-in-Err-Fault-clause-fault
+returns-in-Err-Fault-clause-fault c =
+    let halts = rw c.in-Err-Fault.field-0-is at c.in-Err-Fault.ensures.halt in
+    let stops = subst (λ (w : Saying). bend_of c.loop-word.reader.state w ≡ Err c.in-Err-Fault.kind) c.read_word.ensures.value halts in
+    rw c.in-Err-Fault.field-0-is (word-fault c.words_lie_ahead.ensures c.args.file.now (ahead c.loop-word.words) (ahead c.next_word.new.self) (entry_of c.in-Word.word) c.loop-word.reader c.in-Err-Fault.kind _ c.loop-word.invariant.read c.in-Word.ensures.next refl stops)
 
 pub returns-in-End-clause-ok : goal.returns-in-End-clause-ok
 returns-in-End-clause-ok c = stop-read c.args.file.now (ahead c.loop-word.words) ended c.loop-word.reader (bends_of (record { bends = c.loop-word.reader.bends })) c.loop-word.invariant.read c.in-End.ensures.next.0 (λ n. refl)
