@@ -4,8 +4,8 @@ use Rattle.std.specs.List.{filter}
 use Rattle.board_io.specs.Handed.{Handed}
 use Rattle.board_io.specs.Package.{Files}
 use Rattle.board_package.specs.Causes.{HandedCause, HasCause}
-use Rattle.board_package.specs.HandedBoard.{ComesAmongHanded, ComesNext, GoesHanded, StopsAmongHanded, StopsAtHanded}
-use Rattle.board_package.specs.HandedLabelled.{GoesLabelledHanded, LabelledComesAmongHanded, LabelledCourse, StopsLabelledAmongHanded, unlabelled}
+use Rattle.board_package.specs.HandedBoard.{ComesAmongHanded, ComesNext, GoesHanded, StopsAmongHanded, StopsAtHanded, Course}
+use Rattle.board_package.specs.HandedLabelled.{GoesLabelledHanded, LabelledComesAmongHanded, StopsLabelledAmongHanded, unlabelled}
 use Rattle.board_package.specs.LabelledBoard.{GoesLabelled, Labelled, LabelledComesAmong, LabelledStop, StopsLabelledAmong, mislabelled, unbuilt}
 use Rattle.board_package.specs.LabelledCauses.{HandedLabelledCause, HasLabelledCause}
 use Rattle.board_package.specs.PackageBoard.{ComesAmong, Goes, StopsAmong, StopsAt, Walks, WalksBy}
@@ -29,7 +29,7 @@ told_plainly held entries listed a b same =
     told_of held (λ files. WalksBy (GoesLabelled ByNetlist files) (filter (needed ByNetlist) entries) a b) (λ files. Walks files listed a.board b.board)
     (λ files w. subst (λ xs. Walks files xs a.board b.board) (all_needed entries ∙ same) (walks_as (λ (s : Labelled). s.board) (GoesLabelled ByNetlist files) (Goes files) (λ e x y g. g.goes) _ a b w))
 
-pub handed_plainly : (entries listed : List Entry) (c d : LabelledCourse) → entries ≡ listed → WalksBy (GoesLabelledHanded ByNetlist) (filter (needed ByNetlist) entries) c d → WalksBy GoesHanded listed (unlabelled c) (unlabelled d)
+pub handed_plainly : (entries listed : List Entry) (c d : Course Labelled) → entries ≡ listed → WalksBy (GoesLabelledHanded ByNetlist) (filter (needed ByNetlist) entries) c d → WalksBy GoesHanded listed (unlabelled c) (unlabelled d)
 handed_plainly entries listed c d same w =
     subst (λ xs. WalksBy GoesHanded xs (unlabelled c) (unlabelled d)) (all_needed entries ∙ same) (walks_as unlabelled (GoesLabelledHanded ByNetlist) GoesHanded (λ e x y g. g.goes) _ c d w)
 
@@ -51,13 +51,13 @@ plain_cause held entries listed start before now lost why given same build cause
     }))
     (omega arith) (subst (λ f. HasLabelledCause held (StopsBy entries start) (ComesBy entries start) before now lost f) build cause)
 
-abbrev StopsHandedBy : List Entry → LabelledCourse → List Handed → LabelledStop → Type 0
+abbrev StopsHandedBy : List Entry → Course Labelled → List Handed → LabelledStop → Type 0
 StopsHandedBy entries start b stop = StopsLabelledAmongHanded ByNetlist (filter (needed ByNetlist) entries) start b stop
 
-abbrev ComesHandedBy : List Entry → LabelledCourse → List Handed → List ℕ → Type 0
+abbrev ComesHandedBy : List Entry → Course Labelled → List Handed → List ℕ → Type 0
 ComesHandedBy entries start b name = LabelledComesAmongHanded ByNetlist (filter (needed ByNetlist) entries) start b name
 
-pub plain_handed : (entries listed : List Entry) (start : LabelledCourse) (b : List Handed) (before now : ℕ) (lost : List ℕ) (why : BuildFault) (given : LabelledFault) → entries ≡ listed → given ≡ fault.Build why
+pub plain_handed : (entries listed : List Entry) (start : Course Labelled) (b : List Handed) (before now : ℕ) (lost : List ℕ) (why : BuildFault) (given : LabelledFault) → entries ≡ listed → given ≡ fault.Build why
     → HandedLabelledCause (StopsHandedBy entries start b) (ComesHandedBy entries start b) before now lost given
     → HandedCause (λ stop. StopsAmongHanded listed (unlabelled start) b stop) (λ name. ComesAmongHanded listed (unlabelled start) b name) before now lost why
 plain_handed entries listed start b before now lost why given same build cause =
@@ -69,12 +69,12 @@ plain_handed entries listed start b before now lost why given same build cause =
     (omega arith) (subst (λ f. HandedLabelledCause (StopsHandedBy entries start b) (ComesHandedBy entries start b) before now lost f) build cause)
 
 -- no label is amiss
-never : (entries : List Entry) (c : LabelledCourse) (b : List Handed) (name : List ℕ) (command at : ℕ) → StopsLabelledAmongHanded ByNetlist entries c b (mislabelled name command at) → ⊥
+never : (entries : List Entry) (c : Course Labelled) (b : List Handed) (name : List ℕ) (command at : ℕ) → StopsLabelledAmongHanded ByNetlist entries c b (mislabelled name command at) → ⊥
 never [] c b name command at h = h
 never (e ∷ rest) c b name command at (inl s) = s.1.amiss
 never (e ∷ rest) c b name command at (inr (n, g, h)) = never rest n b name command at h
 
-pub no_labels : (entries : List Entry) (start : LabelledCourse) (b : List Handed) (before now : ℕ) (lost : List ℕ) (given : LabelledFault) (name : Text) (command at : ℕ) → given ≡ fault.Label name command at
+pub no_labels : (entries : List Entry) (start : Course Labelled) (b : List Handed) (before now : ℕ) (lost : List ℕ) (given : LabelledFault) (name : Text) (command at : ℕ) → given ≡ fault.Label name command at
     → HandedLabelledCause (StopsHandedBy entries start b) (ComesHandedBy entries start b) before now lost given → ⊥
 no_labels entries start b before now lost given name command at amiss cause =
     never _ start b name command at (subst (λ f. HandedLabelledCause (StopsHandedBy entries start b) (ComesHandedBy entries start b) before now lost f) amiss cause)

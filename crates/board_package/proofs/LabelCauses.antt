@@ -26,12 +26,6 @@ needed naming e = is_taken naming e.role
 pub nothing_yet : (board : PlainBoard) (tables : List (List Label)) (layers : ℕ) → board ≡ empty_board layers → tables ≡ [] → record { board = board; tables = tables } ≡ nothing_labelled layers
 nothing_yet board tables layers p q = ap (λ (b : PlainBoard). record { board = b; tables = tables }) p ∙ ap (λ (t : List (List Label)). record { board = empty_board layers; tables = t }) q
 
--- ---- Answers of `?`
-
-pub on_ok : {B : Type 0} (result : Result B LabelledFault) (P Q : Type 0) → (P → Q) → OnOk result P → OnOk result Q
-on_ok (Ok x) P Q k h = k h
-on_ok (Err f) P Q k h = tt
-
 -- ---- What a package leaves
 
 pub kept_labelled : (a : ℕ) (l : List ℕ) (b : ℕ) (m : List ℕ) (why : LabelledFault) → IsFaultless a l b m → KeepsLabelledFaults a l b m why
@@ -144,8 +138,8 @@ files_labelled_cause held after manifest listed start before between now lost wh
     lift_labelled held S T C D before between now lost why
     (told_of held (λ files. IsManifestFile files manifest listed) (λ files. Carries (S files) (T files) (C files) (D files))
     (λ files m. record {
-      stops = λ stop s. inr (record { listed = listed; manifest = m; stops = inl (subst (λ b. StopsLabelledAmong ByLabels files (labelled_order listed) b stop) empty s) });
-      comes = λ name s. inr (record { listed = listed; manifest_file = m; comes = subst (λ b. LabelledComesAmong ByLabels files (labelled_order listed) b name) empty s });
+      stops = λ stop s. inr (record { listed = listed; manifest = m; follows = inl (subst (λ b. StopsLabelledAmong ByLabels files (labelled_order listed) b stop) empty s) });
+      comes = λ name s. inr (record { listed = listed; manifest = m; follows = subst (λ b. LabelledComesAmong ByLabels files (labelled_order listed) b name) empty s });
     }) is)
     later (subst (λ h. HasLabelledCause h S C between now lost why) same cause)
 
@@ -161,7 +155,7 @@ pub frame_labelled_cause : (held after : Option Files) (manifest : List ℕ) (li
 frame_labelled_cause held after manifest listed start end board before now lost why same empty named is walked h =
     frame_cause held (λ files stop. IsFirstLabelledStop files manifest (unbuilt stop)) (λ files name. LabelledComes files manifest name) before now lost board why
     (told held (λ files. IsManifestFile files manifest listed) (λ files. WalksBy (GoesLabelled ByLabels files) (labelled_order listed) start end) (λ files. (stop : Stop) → StopsAtFrame board stop → IsFirstLabelledStop files manifest (unbuilt stop))
-    (λ files m w stop s. inr (record { listed = listed; manifest = m; stops = inr (record { end = end; walked = subst (λ b. WalksBy (GoesLabelled ByLabels files) (labelled_order listed) b end) empty w; frame = frame_of_pieces end.tables end.board stop (subst (λ b. StopsAtFrame b stop) named s) }) }))
+    (λ files m w stop s. inr (record { listed = listed; manifest = m; follows = inr (record { end = end; walked = subst (λ b. WalksBy (GoesLabelled ByLabels files) (labelled_order listed) b end) empty w; frame = frame_of_pieces end.tables end.board stop (subst (λ b. StopsAtFrame b stop) named s) }) }))
     is (subst (λ h. IfSome h (λ files. WalksBy (GoesLabelled ByLabels files) (labelled_order listed) start end)) same walked))
     h
 

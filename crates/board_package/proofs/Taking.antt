@@ -23,7 +23,7 @@ halted_cause held e before bytes seen count now lost given h same (inl none) =
     subst (λ f. HasCause held (λ files stop. StopsAt files e before stop) (λ files name. e.name ≡ name) count now lost f) (sym none) tt
 halted_cause held e before bytes seen count now lost given h same (inr (why, refuses, has)) =
     refusal_cause held (λ files stop. StopsAt files e before stop) (λ files name. e.name ≡ name) count now lost e.name why given
-    (told_of held (λ files. IsHeld files e.name bytes) (λ files. StopsAt files e before (refused e.name why)) (λ files k. (refl, record { bytes = bytes; held = k; refused = subst (λ z. Refuses e.role e.number z before why) same refuses })) h)
+    (told_of held (λ files. IsHeld files e.name bytes) (λ files. StopsAt files e before (refused e.name why)) (λ files k. (refl, record { bytes = bytes; held = k; good = subst (λ z. Refuses e.role e.number z before why) same refuses })) h)
     has
 
 -- a cause of the files is one of the package
@@ -39,8 +39,8 @@ files_cause held after manifest listed start before between now lost why same em
     lift held S T C D before between now lost why
     (told_of held (λ files. IsManifestFile files manifest listed) (λ files. Carries (S files) (T files) (C files) (D files))
     (λ files m. record {
-      stops = λ stop s. inr (record { listed = listed; manifest = m; stops = inl (subst (λ b. StopsAmong files listed.files b stop) empty s) });
-      comes = λ name s. inr (record { listed = listed; manifest_file = m; comes = subst (λ b. ComesAmong files listed.files b name) empty s });
+      stops = λ stop s. inr (record { listed = listed; manifest = m; follows = inl (subst (λ b. StopsAmong files listed.files b stop) empty s) });
+      comes = λ name s. inr (record { listed = listed; manifest = m; follows = subst (λ b. ComesAmong files listed.files b name) empty s });
     }) is)
     later (subst (λ h. HasCause h S C between now lost why) same cause)
 
@@ -51,7 +51,7 @@ pub framed_cause : (held after : Option Files) (manifest : List ℕ) (listed : M
 framed_cause held after manifest listed start board before now lost why same empty is walked fault =
     frame_cause held (λ files stop. IsFirstStop files manifest stop) (λ files name. Comes files manifest name) before now lost board why
     (told held (λ files. IsManifestFile files manifest listed) (λ files. Walks files listed.files start board) (λ files. (stop : Stop) → StopsAtFrame board stop → IsFirstStop files manifest stop)
-    (λ files m w stop s. inr (record { listed = listed; manifest = m; stops = inr (record { board = board; walked = subst (λ b. Walks files listed.files b board) empty w; frame = s }) }))
+    (λ files m w stop s. inr (record { listed = listed; manifest = m; follows = inr (record { board = board; walked = subst (λ b. Walks files listed.files b board) empty w; frame = s }) }))
     is (subst (λ h. IfSome h (λ files. Walks files listed.files start board)) same walked))
     fault
 

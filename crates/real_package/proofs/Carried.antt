@@ -1,5 +1,5 @@
 -- Causes of a real board, carried from one stage to the next.
-use Rattle.std.proofs.Common.{◌≡◌, inl, inr, ℕ, ◌≤◌, List, Option, IfSome, Result, Ok, Err, OnOk, refl, sym, subst, arith}
+use Rattle.std.proofs.Common.{◌≡◌, inl, inr, ℕ, ◌≤◌, List, Option, IfSome, refl, sym, subst, arith}
 use Rattle.board_io.specs.Package.{Files, IsFaultless}
 use Rattle.board_package.specs.Causes.{HasCause}
 use Rattle.board_package.specs.PackageBoard.{IsHeld, IsManifestFile, Stop, StopsAtManifest, StopsTaking, WalksBy, absent, longer, refused}
@@ -13,12 +13,6 @@ use Rattle.real_package.specs.RealFiles.{RefusesArc, RefusesReal}
 use Rattle.real_package.specs.RealPackage.{ComesRealAmong, GoesReal, IsFirstRealStop, IsRealBoardOf, RealComes, RealStop, StopsRealAmong, StopsRealAt, bent, unbuilt}
 use Rattle.real_package.specs.declared.fault.RealBuildFault.{RealBuildFault}
 use Rattle.real_package.specs.declared.fault.RealBuildFault.TheVariants as fault
-
--- ---- Answers of `?`
-
-pub on_ok : {B E : Type 0} (result : Result B E) (P Q : Type 0) → (P → Q) → OnOk result P → OnOk result Q
-on_ok (Ok x) P Q k h = k h
-on_ok (Err f) P Q k h = tt
 
 -- ---- What a package leaves
 
@@ -94,8 +88,8 @@ files_cause held after manifest listed start before between now lost why same em
     lift_real held S T C D before between now lost why
     (told_of held (λ files. IsManifestFile files manifest listed) (λ files. Carries (S files) (T files) (C files) (D files))
     (λ files m. record {
-      stops = λ stop s. inr (record { listed = listed; manifest = m; stops = subst (λ b. StopsRealAmong files listed.files b stop) empty s });
-      comes = λ name s. inr (record { listed = listed; manifest_file = m; comes = subst (λ b. ComesRealAmong files listed.files b name) empty s });
+      stops = λ stop s. inr (record { listed = listed; manifest = m; follows = subst (λ b. StopsRealAmong files listed.files b stop) empty s });
+      comes = λ name s. inr (record { listed = listed; manifest = m; follows = subst (λ b. ComesRealAmong files listed.files b name) empty s });
     }) is)
     later (subst (λ h. HasRealCause h S C between now lost why) same cause)
 
@@ -105,5 +99,5 @@ pub board_is : (held after : Option Files) (manifest : List ℕ) (listed : Manif
     → IfSome held (λ files. IsRealBoardOf files manifest end)
 board_is held after manifest listed start end same empty is walked =
     told held (λ files. IsManifestFile files manifest listed) (λ files. WalksBy (GoesReal files) listed.files start end) (λ files. IsRealBoardOf files manifest end)
-    (λ files m w. record { listed = listed; manifest = m; walked = subst (λ b. WalksBy (GoesReal files) listed.files b end) empty w })
+    (λ files m w. record { listed = listed; manifest = m; follows = subst (λ b. WalksBy (GoesReal files) listed.files b end) empty w })
     is (subst (λ h. IfSome h (λ files. WalksBy (GoesReal files) listed.files start end)) same walked)
