@@ -90,7 +90,7 @@ follows f = record { grows = λ e c d g. grows_handed c.handed d.handed e.name _
 stops_in : (f : Files) (b : List Handed) (stop : Stop) → EndsIn f b (λ e c. StopsAtHanded e c b stop) (λ e board. StopsAt f e board stop)
 stops_in f b stop = record { grows = λ e c h. grows_at e c b stop h; is = λ e c a h. stops_at f e c b stop a h }
 
-comes_in : {S : Type 0} (f : Files) (b : List Handed) (name : List ℕ) → EndsIn {S} f b (λ e c. ComesNext c.handed b e.name name) (λ e s. e.name ≡ name)
+comes_in : {S : Type 0} (f : Files) (b : List Handed) (name : List ℕ) → EndsIn {S = S} f b (λ e c. ComesNext c.handed b e.name name) (λ e s. e.name ≡ name)
 comes_in f b name = record { grows = λ e c h. grows_none c.handed b h.1; is = λ e c a h. sym h.0 }
 
 -- ---- The package

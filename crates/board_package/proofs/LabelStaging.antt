@@ -4,8 +4,8 @@ use Rattle.std.specs.List.{filter}
 use Rattle.board_io.specs.Handed.{Handed}
 use Rattle.board_shapes.specs.Plain.{PlainBoard, common_box, Fits}
 use Rattle.board_package.specs.Causes.{HandedCause, IsFrameFault}
-use Rattle.board_package.specs.HandedBoard.{ComesNext, GoesHanded, IsHanded, IsManifestHanded, StopsAtHanded, StopsAtManifestHanded, course, Course}
-use Rattle.board_package.specs.HandedLabelled.{GoesLabelledHanded, IsFirstLabelledStopHanded, IsLabelledBoardHanded, LabelledComesAmongHanded, LabelledComesHanded, StopsLabelledAmongHanded, unlabelled}
+use Rattle.board_package.specs.HandedBoard.{ComesAlongHanded, ComesNext, Course, GoesHanded, IsHanded, IsManifestHanded, StopsAtHanded, StopsAtManifestHanded, course}
+use Rattle.board_package.specs.HandedLabelled.{GoesLabelledHanded, IsFirstLabelledStopHanded, IsLabelledBoardHanded, LabelledComesHanded, StopsLabelledAmongHanded, unlabelled}
 use Rattle.board_package.specs.LabelledBoard.{Labelled, LabelledStop, Lists, Mislabels, is_taken, labelled_board_of, labelled_order, mislabelled, nothing_labelled, unbuilt}
 use Rattle.board_package.specs.LabelledCauses.{HandedLabelledCause, IsMislabelling}
 use Rattle.board_package.specs.PackageBoard.{StopsAtFrame, WalksBy}
@@ -30,21 +30,21 @@ carry_labelled S T C D before mid now lost why k le h = lift_labelled (Some (λ 
 -- what stops its taking
 pub file_handed : (naming : Naming) (e : Entry) (c : Course Labelled) (b : List Handed) (count now : ℕ) (lost : List ℕ) (why : BuildFault) → is_taken naming e.role ≡ true
     → HandedCause (λ stop. StopsAtHanded e (unlabelled c) b stop) (λ name. ComesNext c.handed b e.name name) count now lost why
-    → HandedLabelledCause (λ stop. StopsLabelledAmongHanded naming (filter (needed naming) (e ∷ [])) c b stop) (λ name. LabelledComesAmongHanded naming (filter (needed naming) (e ∷ [])) c b name) count now lost (fault.Build why)
+    → HandedLabelledCause (λ stop. StopsLabelledAmongHanded naming (filter (needed naming) (e ∷ [])) c b stop) (λ name. ComesAlongHanded (GoesLabelledHanded naming) (filter (needed naming) (e ∷ [])) c b name) count now lost (fault.Build why)
 file_handed naming e c b count now lost why is cause =
-    carry (λ stop. StopsAtHanded e (unlabelled c) b stop) (λ stop. StopsLabelledAmongHanded naming (filter (needed naming) (e ∷ [])) c b (unbuilt stop)) (λ name. ComesNext c.handed b e.name name) (λ name. LabelledComesAmongHanded naming (filter (needed naming) (e ∷ [])) c b name) count count now lost why
+    carry (λ stop. StopsAtHanded e (unlabelled c) b stop) (λ stop. StopsLabelledAmongHanded naming (filter (needed naming) (e ∷ [])) c b (unbuilt stop)) (λ name. ComesNext c.handed b e.name name) (λ name. ComesAlongHanded (GoesLabelledHanded naming) (filter (needed naming) (e ∷ [])) c b name) count count now lost why
     (record {
       stops = λ stop s. subst (λ xs. StopsLabelledAmongHanded naming xs c b (unbuilt stop)) (sym (only naming e is)) (inl s);
-      comes = λ name s. subst (λ xs. LabelledComesAmongHanded naming xs c b name) (sym (only naming e is)) (inl s);
+      comes = λ name s. subst (λ xs. ComesAlongHanded (GoesLabelledHanded naming) xs c b name) (sym (only naming e is)) (inl s);
     })
     (omega arith) cause
 
 -- it is read, and then a label is amiss, or memory is wanted
 pub label_handed : (naming : Naming) (e : Entry) (c : Course Labelled) (b : List Handed) (board : PlainBoard) (bytes : List ℕ) (count now : ℕ) (lost : List ℕ) (why : LabelledFault) → is_taken naming e.role ≡ true
     → GoesHanded e (unlabelled c) (course b board) → IsHanded c.handed b e.name bytes → IsMislabelling naming e.role e.name bytes why
-    → HandedLabelledCause (λ stop. StopsLabelledAmongHanded naming (filter (needed naming) (e ∷ [])) c b stop) (λ name. LabelledComesAmongHanded naming (filter (needed naming) (e ∷ [])) c b name) count now lost why
+    → HandedLabelledCause (λ stop. StopsLabelledAmongHanded naming (filter (needed naming) (e ∷ [])) c b stop) (λ name. ComesAlongHanded (GoesLabelledHanded naming) (filter (needed naming) (e ∷ [])) c b name) count now lost why
 label_handed naming e c b board bytes count now lost (fault.Build why) is goes whole h =
-    subst (λ w. HandedCause (λ stop. StopsLabelledAmongHanded naming (filter (needed naming) (e ∷ [])) c b (unbuilt stop)) (λ name. LabelledComesAmongHanded naming (filter (needed naming) (e ∷ [])) c b name) count now lost w) (sym h) tt
+    subst (λ w. HandedCause (λ stop. StopsLabelledAmongHanded naming (filter (needed naming) (e ∷ [])) c b (unbuilt stop)) (λ name. ComesAlongHanded (GoesLabelledHanded naming) (filter (needed naming) (e ∷ [])) c b name) count now lost w) (sym h) tt
 label_handed naming e c b board bytes count now lost (fault.Label name command at) is goes whole h =
     subst (λ xs. StopsLabelledAmongHanded naming xs c b (mislabelled name command at)) (sym (only naming e is))
     (inl (h.0, record { board = board; goes = goes; amiss = subst (λ bs. Mislabels naming e.role bs command at) (one_handed c.handed e.name bytes goes.bytes (sym whole.next ∙ goes.handed.next)) h.1 }))
@@ -62,10 +62,10 @@ walked_handed naming e c d bytes is goes whole lists =
 -- a cause of a file's stage is one of the files
 pub files_more_handed : (naming : Naming) (entries : List Entry) (i : ℕ) (e : Entry) (start mid : Course Labelled) (b : List Handed) (before between now : ℕ) (lost : List ℕ) (why : LabelledFault) → i < length entries → e ≡ get_or entries i e → before ≤ between
     → WalksBy (GoesLabelledHanded naming) (filter (needed naming) (take i entries)) start mid
-    → HandedLabelledCause (λ stop. StopsLabelledAmongHanded naming (filter (needed naming) (e ∷ [])) mid b stop) (λ name. LabelledComesAmongHanded naming (filter (needed naming) (e ∷ [])) mid b name) between now lost why
-    → HandedLabelledCause (λ stop. StopsLabelledAmongHanded naming (filter (needed naming) entries) start b stop) (λ name. LabelledComesAmongHanded naming (filter (needed naming) entries) start b name) before now lost why
+    → HandedLabelledCause (λ stop. StopsLabelledAmongHanded naming (filter (needed naming) (e ∷ [])) mid b stop) (λ name. ComesAlongHanded (GoesLabelledHanded naming) (filter (needed naming) (e ∷ [])) mid b name) between now lost why
+    → HandedLabelledCause (λ stop. StopsLabelledAmongHanded naming (filter (needed naming) entries) start b stop) (λ name. ComesAlongHanded (GoesLabelledHanded naming) (filter (needed naming) entries) start b name) before now lost why
 files_more_handed naming entries i e start mid b before between now lost why below here later walked cause =
-    carry_labelled (λ stop. StopsLabelledAmongHanded naming (filter (needed naming) (e ∷ [])) mid b stop) (λ stop. StopsLabelledAmongHanded naming (filter (needed naming) entries) start b stop) (λ name. LabelledComesAmongHanded naming (filter (needed naming) (e ∷ [])) mid b name) (λ name. LabelledComesAmongHanded naming (filter (needed naming) entries) start b name) before between now lost why
+    carry_labelled (λ stop. StopsLabelledAmongHanded naming (filter (needed naming) (e ∷ [])) mid b stop) (λ stop. StopsLabelledAmongHanded naming (filter (needed naming) entries) start b stop) (λ name. ComesAlongHanded (GoesLabelledHanded naming) (filter (needed naming) (e ∷ [])) mid b name) (λ name. ComesAlongHanded (GoesLabelledHanded naming) (filter (needed naming) entries) start b name) before between now lost why
     (record {
       stops = λ stop s. passing_at_one (GoesLabelledHanded naming) (needed naming) entries i e start mid _ below here walked s;
       comes = λ name s. passing_at_one (GoesLabelledHanded naming) (needed naming) entries i e start mid _ below here walked s;
@@ -85,13 +85,13 @@ manifest_labelled_handed a b manifest count now lost why cause =
 -- a cause of the files is one of the package
 pub files_labelled_handed : (a f b : List Handed) (manifest : List ℕ) (listed : Manifest) (start : Labelled) (before between now : ℕ) (lost : List ℕ) (why : LabelledFault) → start ≡ nothing_labelled listed.layers → before ≤ between
     → IsManifestHanded a f manifest listed
-    → HandedLabelledCause (λ stop. StopsLabelledAmongHanded ByLabels (labelled_order listed) (course f start) b stop) (λ name. LabelledComesAmongHanded ByLabels (labelled_order listed) (course f start) b name) between now lost why
+    → HandedLabelledCause (λ stop. StopsLabelledAmongHanded ByLabels (labelled_order listed) (course f start) b stop) (λ name. ComesAlongHanded (GoesLabelledHanded ByLabels) (labelled_order listed) (course f start) b name) between now lost why
     → HandedLabelledCause (λ stop. IsFirstLabelledStopHanded a b manifest stop) (λ name. LabelledComesHanded a b manifest name) before now lost why
 files_labelled_handed a f b manifest listed start before between now lost why empty later is cause =
-    carry_labelled (λ stop. StopsLabelledAmongHanded ByLabels (labelled_order listed) (course f start) b stop) (λ stop. IsFirstLabelledStopHanded a b manifest stop) (λ name. LabelledComesAmongHanded ByLabels (labelled_order listed) (course f start) b name) (λ name. LabelledComesHanded a b manifest name) before between now lost why
+    carry_labelled (λ stop. StopsLabelledAmongHanded ByLabels (labelled_order listed) (course f start) b stop) (λ stop. IsFirstLabelledStopHanded a b manifest stop) (λ name. ComesAlongHanded (GoesLabelledHanded ByLabels) (labelled_order listed) (course f start) b name) (λ name. LabelledComesHanded a b manifest name) before between now lost why
     (record {
       stops = λ stop s. inr (record { listed = listed; first = f; manifest = is; follows = inl (subst (λ x. StopsLabelledAmongHanded ByLabels (labelled_order listed) (course f x) b stop) empty s) });
-      comes = λ name s. inr (record { listed = listed; first = f; manifest = is; follows = subst (λ x. LabelledComesAmongHanded ByLabels (labelled_order listed) (course f x) b name) empty s });
+      comes = λ name s. inr (record { listed = listed; first = f; manifest = is; follows = subst (λ x. ComesAlongHanded (GoesLabelledHanded ByLabels) (labelled_order listed) (course f x) b name) empty s });
     })
     later cause
 

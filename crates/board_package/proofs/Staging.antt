@@ -3,7 +3,7 @@ use Rattle.std.proofs.Common.{◌≡◌, inl, inr, ℕ, ◌≤◌, List, [], ◌
 use Rattle.board_io.specs.Handed.{Handed, with_file}
 use Rattle.board_shapes.specs.Plain.{Fits, PlainBoard, common_box}
 use Rattle.board_package.specs.Causes.{Halts, HandedCause, IsFrameFault}
-use Rattle.board_package.specs.HandedBoard.{ComesAmongHanded, ComesHanded, ComesNext, Course, GoesHanded, IsBoardHanded, IsFirstStopHanded, IsHanded, IsHandedWith, IsManifestHanded, StopsAmongHanded, StopsAtHanded, StopsAtManifestHanded, StopsHanding, course}
+use Rattle.board_package.specs.HandedBoard.{ComesAlongHanded, ComesHanded, ComesNext, Course, GoesHanded, IsBoardHanded, IsFirstStopHanded, IsHanded, IsHandedWith, IsManifestHanded, StopsAmongHanded, StopsAtHanded, StopsAtManifestHanded, StopsHanding, course}
 use Rattle.board_package.specs.PackageBoard.{Stop, WalksBy, longer}
 use Rattle.board_package.specs.Parts.{empty_board}
 use Rattle.board_package.specs.Contents.{Refuses}
@@ -70,13 +70,13 @@ manifest_handed a b manifest count now lost why cause =
 -- a cause of the files is one of the package
 pub files_handed : (a f b : List Handed) (manifest : List ℕ) (listed : Manifest) (start : PlainBoard) (before between now : ℕ) (lost : List ℕ) (why : BuildFault) → start ≡ empty_board listed.layers → before ≤ between
     → IsManifestHanded a f manifest listed
-    → HandedCause (λ stop. StopsAmongHanded listed.files (course f start) b stop) (λ name. ComesAmongHanded listed.files (course f start) b name) between now lost why
+    → HandedCause (λ stop. StopsAmongHanded listed.files (course f start) b stop) (λ name. ComesAlongHanded GoesHanded listed.files (course f start) b name) between now lost why
     → HandedCause (λ stop. IsFirstStopHanded a b manifest stop) (λ name. ComesHanded a b manifest name) before now lost why
 files_handed a f b manifest listed start before between now lost why empty later is cause =
-    carry (λ stop. StopsAmongHanded listed.files (course f start) b stop) (λ stop. IsFirstStopHanded a b manifest stop) (λ name. ComesAmongHanded listed.files (course f start) b name) (λ name. ComesHanded a b manifest name) before between now lost why
+    carry (λ stop. StopsAmongHanded listed.files (course f start) b stop) (λ stop. IsFirstStopHanded a b manifest stop) (λ name. ComesAlongHanded GoesHanded listed.files (course f start) b name) (λ name. ComesHanded a b manifest name) before between now lost why
     (record {
       stops = λ stop s. inr (record { listed = listed; first = f; manifest = is; follows = inl (subst (λ x. StopsAmongHanded listed.files (course f x) b stop) empty s) });
-      comes = λ name s. inr (record { listed = listed; first = f; manifest = is; follows = subst (λ x. ComesAmongHanded listed.files (course f x) b name) empty s });
+      comes = λ name s. inr (record { listed = listed; first = f; manifest = is; follows = subst (λ x. ComesAlongHanded GoesHanded listed.files (course f x) b name) empty s });
     })
     later cause
 

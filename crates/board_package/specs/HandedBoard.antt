@@ -58,9 +58,9 @@ StopsAtHanded e before after stop = StopsHanding before.handed after e.name stop
 abbrev pub StopsAmongHanded : List Entry → Course PlainBoard → List Handed → Stop → Type 0
 StopsAmongHanded entries before after stop = AtOneBy GoesHanded entries before (λ e c. StopsAtHanded e c after stop)
 
--- one of the files comes next, and all before it were handed over and read
-abbrev pub ComesAmongHanded : List Entry → Course PlainBoard → List Handed → List ℕ → Type 0
-ComesAmongHanded entries before after name = AtOneBy GoesHanded entries before (λ e c. ComesNext c.handed after e.name name)
+-- one of the files comes next, and all before it are taken on
+abbrev pub ComesAlongHanded : {S : Type 0} → (Entry → Course S → Course S → Type 0) → List Entry → Course S → List Handed → List ℕ → Type 0
+ComesAlongHanded Step entries before after name = AtOneBy Step entries before (λ e c. ComesNext c.handed after e.name name)
 
 -- ---- The package
 
@@ -103,4 +103,4 @@ IsBoardHanded before after name board =
 -- the name is that of the manifest or of a file of its order, which comes next, and every file before it was handed over and
 -- has no refusal
 abbrev pub ComesHanded : List Handed → List Handed → List ℕ → List ℕ → Type 0
-ComesHanded before after manifest name = ComesNext before after manifest name ⊎ BehindManifestHanded before manifest (λ m first. ComesAmongHanded (order_of m) (course first (empty_board m.layers)) after name)
+ComesHanded before after manifest name = ComesNext before after manifest name ⊎ BehindManifestHanded before manifest (λ m first. ComesAlongHanded GoesHanded (order_of m) (course first (empty_board m.layers)) after name)

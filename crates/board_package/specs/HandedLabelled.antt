@@ -3,7 +3,7 @@
 use Rattle.std.specs.Prelude.{◌≡◌, ◌⊎◌, ℕ, List}
 use Rattle.board_io.specs.Handed.{Handed}
 use Rattle.board_shapes.specs.Plain.{PlainBoard, common_box, Fits}
-use Rattle.board_package.specs.HandedBoard.{BehindManifestHanded, ComesNext, Course, GoesHanded, IsManifestHanded, StopsAtHanded, StopsAtManifestHanded, course}
+use Rattle.board_package.specs.HandedBoard.{BehindManifestHanded, ComesAlongHanded, ComesNext, Course, GoesHanded, IsManifestHanded, StopsAtHanded, StopsAtManifestHanded, course}
 use Rattle.board_package.specs.LabelledBoard.{Labelled, LabelledStop, Lists, Mislabels, OfBuild, labelled_board_of, labelled_order, mislabelled, nothing_labelled, unbuilt}
 use Rattle.board_package.specs.PackageBoard.{AtOneBy, StopsAtFrame, WalksBy}
 use Rattle.board_package.specs.declared.entry.Entry.{Entry}
@@ -35,10 +35,6 @@ StopsLabelledAtHanded naming e before after (mislabelled name command at) = (nam
 abbrev pub StopsLabelledAmongHanded : Naming → List Entry → Course Labelled → List Handed → LabelledStop → Type 0
 StopsLabelledAmongHanded naming entries before after stop = AtOneBy (GoesLabelledHanded naming) entries before (λ e c. StopsLabelledAtHanded naming e c after stop)
 
--- one of the files comes next, and all before it were handed over and read
-abbrev pub LabelledComesAmongHanded : Naming → List Entry → Course Labelled → List Handed → List ℕ → Type 0
-LabelledComesAmongHanded naming entries before after name = AtOneBy (GoesLabelledHanded naming) entries before (λ e c. ComesNext c.handed after e.name name)
-
 -- all files were handed over and read, and then the frame is too large
 pub record IsLabelledFrameStopHanded (before after : List Handed) (m : Manifest) (stop : LabelledStop) : Type 0 where
   pub end : Labelled
@@ -66,4 +62,4 @@ pub record IsLabelledBoardHanded (before after : List Handed) (name : List ℕ) 
 
 -- the name is that of the manifest or of a file of its order but the netlist, which comes next
 abbrev pub LabelledComesHanded : List Handed → List Handed → List ℕ → List ℕ → Type 0
-LabelledComesHanded before after manifest name = ComesNext before after manifest name ⊎ BehindManifestHanded before manifest (λ m first. LabelledComesAmongHanded ByLabels (labelled_order m) (course first (nothing_labelled m.layers)) after name)
+LabelledComesHanded before after manifest name = ComesNext before after manifest name ⊎ BehindManifestHanded before manifest (λ m first. ComesAlongHanded (GoesLabelledHanded ByLabels) (labelled_order m) (course first (nothing_labelled m.layers)) after name)

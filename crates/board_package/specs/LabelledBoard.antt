@@ -11,7 +11,7 @@ use Rattle.ipc356_records.specs.Names.{index_of, with_name}
 use Rattle.planar.specs.declared.Spot.{Spot}
 use Rattle.x2_nets.specs.Labels.{IsBad, IsRead, name_at}
 use Rattle.x2_nets.specs.declared.label_table.Label.{Label}
-use Rattle.board_package.specs.PackageBoard.{AtOneBy, BehindManifest, Goes, IsManifestFile, Stop, StopsAt, StopsAtFrame, StopsAtManifest, WalksBy, order_of}
+use Rattle.board_package.specs.PackageBoard.{AtOneBy, BehindManifest, ComesAlong, Goes, IsManifestFile, Stop, StopsAt, StopsAtFrame, StopsAtManifest, WalksBy, order_of}
 use Rattle.board_package.specs.Parts.{empty_board}
 use Rattle.board_package.specs.declared.entry.Entry.{Entry}
 use Rattle.board_package.specs.declared.entry.Naming.{Naming}
@@ -122,10 +122,6 @@ pub record IsLabelledFrameStop (files : Files) (m : Manifest) (stop : LabelledSt
 abbrev pub StopsLabelledAmong : Naming → Files → List Entry → Labelled → LabelledStop → Type 0
 StopsLabelledAmong naming files entries before stop = AtOneBy (GoesLabelled naming files) entries before (λ e b. StopsLabelledAt naming files e b stop)
 
--- one of the files has this name, and all before it are read
-abbrev pub LabelledComesAmong : Naming → Files → List Entry → Labelled → List ℕ → Type 0
-LabelledComesAmong naming files entries before name = AtOneBy (GoesLabelled naming files) entries before (λ e b. e.name ≡ name)
-
 -- a copper or drill file, a name or the frame stops the package
 abbrev pub StopsLabelledLater : Files → Manifest → LabelledStop → Type 0
 StopsLabelledLater files m stop = StopsLabelledAmong ByLabels files (labelled_order m) (nothing_labelled m.layers) stop ⊎ IsLabelledFrameStop files m stop
@@ -147,4 +143,4 @@ pub record IsLabelledBoardOf (files : Files) (name : List ℕ) (board : PlainBoa
 -- the name is that of the manifest or of a file of its order but the netlist, and every file before it is held and has no
 -- refusal
 abbrev pub LabelledComes : Files → List ℕ → List ℕ → Type 0
-LabelledComes files manifest name = (name ≡ manifest) ⊎ BehindManifest files manifest (λ m. LabelledComesAmong ByLabels files (labelled_order m) (nothing_labelled m.layers) name)
+LabelledComes files manifest name = (name ≡ manifest) ⊎ BehindManifest files manifest (λ m. ComesAlong (GoesLabelled ByLabels files) (labelled_order m) (nothing_labelled m.layers) name)

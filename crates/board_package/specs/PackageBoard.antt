@@ -68,6 +68,10 @@ abbrev pub AtOneBy : {S : Type 0} → (Entry → S → S → Type 0) → List En
 AtOneBy Step [] before P = ⊥
 AtOneBy {S = S} Step (e ∷ rest) before P = P e before ⊎ ((next : S) × Step e before next × AtOneBy Step rest next P)
 
+-- one of the files has this name, and all before it are taken on
+abbrev pub ComesAlong : {S : Type 0} → (Entry → S → S → Type 0) → List Entry → S → List ℕ → Type 0
+ComesAlong Step entries before name = AtOneBy Step entries before (λ e s. e.name ≡ name)
+
 -- all files are read, one after another
 abbrev pub Walks : Files → List Entry → PlainBoard → PlainBoard → Type 0
 Walks files entries before after = WalksBy (Goes files) entries before after
@@ -75,10 +79,6 @@ Walks files entries before after = WalksBy (Goes files) entries before after
 -- one of the files stops the package, and all before it are read
 abbrev pub StopsAmong : Files → List Entry → PlainBoard → Stop → Type 0
 StopsAmong files entries before stop = AtOneBy (Goes files) entries before (λ e b. StopsAt files e b stop)
-
--- one of the files has this name, and all before it are read
-abbrev pub ComesAmong : Files → List Entry → PlainBoard → List ℕ → Type 0
-ComesAmong files entries before name = AtOneBy (Goes files) entries before (λ e b. e.name ≡ name)
 
 -- ---- The package
 
@@ -133,4 +133,4 @@ pub record IsWithinLimits (board : PlainBoard) : Type 0 where
 
 -- the name is that of the manifest or of a file of its order, and every file before it is held and has no refusal
 abbrev pub Comes : Files → List ℕ → List ℕ → Type 0
-Comes files manifest name = (name ≡ manifest) ⊎ BehindManifest files manifest (λ m. ComesAmong files (order_of m) (empty_board m.layers) name)
+Comes files manifest name = (name ≡ manifest) ⊎ BehindManifest files manifest (λ m. ComesAlong (Goes files) (order_of m) (empty_board m.layers) name)

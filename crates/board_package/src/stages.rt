@@ -3,12 +3,12 @@ ghost use Rattle.std.specs.Prelude.{◌≡◌, ◌≤◌, [], ◌∷◌, length,
 ghost use Rattle.std.specs.List.{filter};
 ghost use Rattle.board_shapes.specs.Plain.{plain_board, common_box, Fits};
 ghost use Rattle.board_package.specs.Causes.{Builds, BuildsHanded, HandedCause, HasCause, IsFrameFault, KeepsFaults, Leaves, Spares};
-ghost use Rattle.board_package.specs.HandedBoard.{ComesNext, GoesHanded, IsHanded, IsManifestHanded, StopsAtHanded, StopsAtManifestHanded, StopsHanding, course};
-ghost use Rattle.board_package.specs.HandedLabelled.{GoesLabelledHanded, LabelledComesAmongHanded, StopsLabelledAmongHanded, IsFirstLabelledStopHanded, IsLabelledBoardHanded, LabelledComesHanded};
-ghost use Rattle.board_package.specs.LabelledBoard.{GoesLabelled, LabelledComesAmong, StopsLabelledAmong, is_taken, IsFirstLabelledStop, IsLabelledBoardOf, LabelledComes};
+ghost use Rattle.board_package.specs.HandedBoard.{ComesAlongHanded, ComesNext, GoesHanded, IsHanded, IsManifestHanded, StopsAtHanded, StopsAtManifestHanded, StopsHanding, course};
+ghost use Rattle.board_package.specs.HandedLabelled.{GoesLabelledHanded, StopsLabelledAmongHanded, IsFirstLabelledStopHanded, IsLabelledBoardHanded, LabelledComesHanded};
+ghost use Rattle.board_package.specs.LabelledBoard.{GoesLabelled, StopsLabelledAmong, is_taken, IsFirstLabelledStop, IsLabelledBoardOf, LabelledComes};
 ghost use Rattle.board_package.specs.LabelledCauses.{HandedLabelledCause, HasLabelledCause, KeepsLabelledFaults, labelled_so_far};
 ghost use Rattle.board_package.specs.Manifest.{IsLawful, IsOnBoard};
-ghost use Rattle.board_package.specs.PackageBoard.{IsWithinLimits, IsHeld, IsManifestFile, StopsTaking, StopsAtManifest, StopsAt, Goes, WalksBy};
+ghost use Rattle.board_package.specs.PackageBoard.{ComesAlong, Goes, IsHeld, IsManifestFile, IsWithinLimits, StopsAt, StopsAtManifest, StopsTaking, WalksBy};
 ghost use Rattle.board_package.specs.Parts.{board_so_far, IsLawfulParts};
 ghost use Rattle.x2_nets.specs.Labels.{Rise};
 
@@ -124,10 +124,10 @@ pub fn take_files<P: Package>(
     ensures spared { Spares KeepsLabelledFaults P.faults P.lost «package».old «package».new result }
     ensures found { OnOk result (IfSome (P.held «package».old) (λ files. WalksBy (GoesLabelled naming files) (filter (λ e. is_taken naming e.role) entries.now) (labelled_so_far parts.old tables.old) (labelled_so_far parts.new tables.new))) }
     ensures handed { OnOk result (WalksBy (GoesLabelledHanded naming) (filter (λ e. is_taken naming e.role) entries.now) (course (P.handed «package».old) (labelled_so_far parts.old tables.old)) (course (P.handed «package».new) (labelled_so_far parts.new tables.new))) }
-    ensures handed_cause { IfErr result (HandedLabelledCause (λ stop. StopsLabelledAmongHanded naming (filter (λ e. is_taken naming e.role) entries.now) (course (P.handed «package».old) (labelled_so_far parts.old tables.old)) (P.handed «package».new) stop) (λ name. LabelledComesAmongHanded naming (filter (λ e. is_taken naming e.role) entries.now) (course (P.handed «package».old) (labelled_so_far parts.old tables.old)) (P.handed «package».new) name) (P.faults «package».old) (P.faults «package».new) (P.lost «package».new)) }
+    ensures handed_cause { IfErr result (HandedLabelledCause (λ stop. StopsLabelledAmongHanded naming (filter (λ e. is_taken naming e.role) entries.now) (course (P.handed «package».old) (labelled_so_far parts.old tables.old)) (P.handed «package».new) stop) (λ name. ComesAlongHanded (GoesLabelledHanded naming) (filter (λ e. is_taken naming e.role) entries.now) (course (P.handed «package».old) (labelled_so_far parts.old tables.old)) (P.handed «package».new) name) (P.faults «package».old) (P.faults «package».new) (P.lost «package».new)) }
     ensures parts { OnOk result (IsLawfulParts parts.new) }
     ensures rise { OnOk result (All Rise tables.new) }
-    ensures cause { IfErr result (HasLabelledCause (P.held «package».old) (λ files stop. StopsLabelledAmong naming files (filter (λ e. is_taken naming e.role) entries.now) (labelled_so_far parts.old tables.old) stop) (λ files name. LabelledComesAmong naming files (filter (λ e. is_taken naming e.role) entries.now) (labelled_so_far parts.old tables.old) name) (P.faults «package».old) (P.faults «package».new) (P.lost «package».new)) }
+    ensures cause { IfErr result (HasLabelledCause (P.held «package».old) (λ files stop. StopsLabelledAmong naming files (filter (λ e. is_taken naming e.role) entries.now) (labelled_so_far parts.old tables.old) stop) (λ files name. ComesAlong (GoesLabelled naming files) (filter (λ e. is_taken naming e.role) entries.now) (labelled_so_far parts.old tables.old) name) (P.faults «package».old) (P.faults «package».new) (P.lost «package».new)) }
 {
     let mut file = Vec::new(alloc);
     for entry in entries {
@@ -154,11 +154,11 @@ fn take_needed<P: Package>(
     ensures spared { Spares KeepsLabelledFaults P.faults P.lost «package».old «package».new result }
     ensures found { OnOk result (IfSome (P.held «package».old) (λ files. WalksBy (GoesLabelled naming files) (filter (λ e. is_taken naming e.role) (entry.now ∷ [])) (labelled_so_far parts.old tables.old) (labelled_so_far parts.new tables.new))) }
     ensures handed { OnOk result (WalksBy (GoesLabelledHanded naming) (filter (λ e. is_taken naming e.role) (entry.now ∷ [])) (course (P.handed «package».old) (labelled_so_far parts.old tables.old)) (course (P.handed «package».new) (labelled_so_far parts.new tables.new))) }
-    ensures handed_cause { IfErr result (HandedLabelledCause (λ stop. StopsLabelledAmongHanded naming (filter (λ e. is_taken naming e.role) (entry.now ∷ [])) (course (P.handed «package».old) (labelled_so_far parts.old tables.old)) (P.handed «package».new) stop) (λ name. LabelledComesAmongHanded naming (filter (λ e. is_taken naming e.role) (entry.now ∷ [])) (course (P.handed «package».old) (labelled_so_far parts.old tables.old)) (P.handed «package».new) name) (P.faults «package».old) (P.faults «package».new) (P.lost «package».new)) }
+    ensures handed_cause { IfErr result (HandedLabelledCause (λ stop. StopsLabelledAmongHanded naming (filter (λ e. is_taken naming e.role) (entry.now ∷ [])) (course (P.handed «package».old) (labelled_so_far parts.old tables.old)) (P.handed «package».new) stop) (λ name. ComesAlongHanded (GoesLabelledHanded naming) (filter (λ e. is_taken naming e.role) (entry.now ∷ [])) (course (P.handed «package».old) (labelled_so_far parts.old tables.old)) (P.handed «package».new) name) (P.faults «package».old) (P.faults «package».new) (P.lost «package».new)) }
     ensures parts { OnOk result (IsLawfulParts parts.new) }
     ensures layers { OnOk result (parts.new.layers ≡ parts.old.layers) }
     ensures rise { OnOk result (All Rise tables.new) }
-    ensures cause { IfErr result (HasLabelledCause (P.held «package».old) (λ files stop. StopsLabelledAmong naming files (filter (λ e. is_taken naming e.role) (entry.now ∷ [])) (labelled_so_far parts.old tables.old) stop) (λ files name. LabelledComesAmong naming files (filter (λ e. is_taken naming e.role) (entry.now ∷ [])) (labelled_so_far parts.old tables.old) name) (P.faults «package».old) (P.faults «package».new) (P.lost «package».new)) }
+    ensures cause { IfErr result (HasLabelledCause (P.held «package».old) (λ files stop. StopsLabelledAmong naming files (filter (λ e. is_taken naming e.role) (entry.now ∷ [])) (labelled_so_far parts.old tables.old) stop) (λ files name. ComesAlong (GoesLabelled naming files) (filter (λ e. is_taken naming e.role) (entry.now ∷ [])) (labelled_so_far parts.old tables.old) name) (P.faults «package».old) (P.faults «package».new) (P.lost «package».new)) }
 {
     if !naming.takes(entry.role) {
         return Ok(());

@@ -2,14 +2,14 @@
 use Rattle.std.proofs.Common.{◌≡◌, inl, inr, ℕ, ◌<◌, ◌≤◌, List, length, take, get_or, Some, None, refl, sym, subst, arith}
 use Rattle.board_io.specs.Handed.{Handed}
 use Rattle.board_package.specs.Causes.{HandedCause}
-use Rattle.board_package.specs.HandedBoard.{ComesNext, Course, IsHanded, IsManifestHanded, StopsAtManifestHanded, StopsHanding, course}
+use Rattle.board_package.specs.HandedBoard.{ComesAlongHanded, ComesNext, Course, IsHanded, IsManifestHanded, StopsAtManifestHanded, StopsHanding, course}
 use Rattle.board_package.specs.PackageBoard.{Stop, WalksBy, longer}
 use Rattle.board_package.specs.declared.entry.Entry.{Entry}
 use Rattle.board_package.specs.declared.fault.BuildFault.{BuildFault}
 use Rattle.board_package.specs.declared.manifest.Manifest.{Manifest}
 use Rattle.board_package.proofs.Lift.{Carries, refusal_cause}
 use Rattle.board_package.proofs.Staging.{carry}
-use Rattle.real_package.specs.HandedReal.{ComesRealAmongHanded, GoesRealHanded, IsFirstRealStopHanded, IsRealBoardHanded, RealComesHanded, StopsRealAmongHanded, StopsRealAtHanded}
+use Rattle.real_package.specs.HandedReal.{GoesRealHanded, IsFirstRealStopHanded, IsRealBoardHanded, RealComesHanded, StopsRealAmongHanded, StopsRealAtHanded}
 use Rattle.real_package.specs.RealBoards.{PlainRealBoard, empty_real}
 use Rattle.real_package.specs.RealCauses.{HaltsReal, HandedRealCause}
 use Rattle.real_package.specs.RealFiles.{RefusesArc, RefusesReal}
@@ -56,9 +56,9 @@ halted_handed e c b bytes seen count now lost (fault.Arc name kind command at) h
 pub more_handed : (entries : List Entry) (i : ℕ) (e : Entry) (start mid : Course PlainRealBoard) (b : List Handed) (before between now : ℕ) (lost : List ℕ) (why : RealBuildFault) → i < length entries → e ≡ get_or entries i e → before ≤ between
     → WalksBy GoesRealHanded (take i entries) start mid
     → HandedRealCause (λ stop. StopsRealAtHanded e mid b stop) (λ name. ComesNext mid.handed b e.name name) between now lost why
-    → HandedRealCause (λ stop. StopsRealAmongHanded entries start b stop) (λ name. ComesRealAmongHanded entries start b name) before now lost why
+    → HandedRealCause (λ stop. StopsRealAmongHanded entries start b stop) (λ name. ComesAlongHanded GoesRealHanded entries start b name) before now lost why
 more_handed entries i e start mid b before between now lost why below here later walked cause =
-    carry_real (λ stop. StopsRealAtHanded e mid b stop) (λ stop. StopsRealAmongHanded entries start b stop) (λ name. ComesNext mid.handed b e.name name) (λ name. ComesRealAmongHanded entries start b name) before between now lost why
+    carry_real (λ stop. StopsRealAtHanded e mid b stop) (λ stop. StopsRealAmongHanded entries start b stop) (λ name. ComesNext mid.handed b e.name name) (λ name. ComesAlongHanded GoesRealHanded entries start b name) before between now lost why
     (record {
       stops = λ stop s. at_next GoesRealHanded entries i e start mid (λ x c. StopsRealAtHanded x c b stop) below here walked s;
       comes = λ name s. at_next GoesRealHanded entries i e start mid (λ x c. ComesNext c.handed b x.name name) below here walked s;
@@ -78,13 +78,13 @@ manifest_handed a b manifest count now lost why cause =
 -- a cause of the files is one of the package
 pub files_handed : (a f b : List Handed) (manifest : List ℕ) (listed : Manifest) (start : PlainRealBoard) (before between now : ℕ) (lost : List ℕ) (why : RealBuildFault) → start ≡ empty_real listed.layers → before ≤ between
     → IsManifestHanded a f manifest listed
-    → HandedRealCause (λ stop. StopsRealAmongHanded listed.files (course f start) b stop) (λ name. ComesRealAmongHanded listed.files (course f start) b name) between now lost why
+    → HandedRealCause (λ stop. StopsRealAmongHanded listed.files (course f start) b stop) (λ name. ComesAlongHanded GoesRealHanded listed.files (course f start) b name) between now lost why
     → HandedRealCause (λ stop. IsFirstRealStopHanded a b manifest stop) (λ name. RealComesHanded a b manifest name) before now lost why
 files_handed a f b manifest listed start before between now lost why empty later is cause =
-    carry_real (λ stop. StopsRealAmongHanded listed.files (course f start) b stop) (λ stop. IsFirstRealStopHanded a b manifest stop) (λ name. ComesRealAmongHanded listed.files (course f start) b name) (λ name. RealComesHanded a b manifest name) before between now lost why
+    carry_real (λ stop. StopsRealAmongHanded listed.files (course f start) b stop) (λ stop. IsFirstRealStopHanded a b manifest stop) (λ name. ComesAlongHanded GoesRealHanded listed.files (course f start) b name) (λ name. RealComesHanded a b manifest name) before between now lost why
     (record {
       stops = λ stop s. inr (record { listed = listed; first = f; manifest = is; follows = subst (λ x. StopsRealAmongHanded listed.files (course f x) b stop) empty s });
-      comes = λ name s. inr (record { listed = listed; first = f; manifest = is; follows = subst (λ x. ComesRealAmongHanded listed.files (course f x) b name) empty s });
+      comes = λ name s. inr (record { listed = listed; first = f; manifest = is; follows = subst (λ x. ComesAlongHanded GoesRealHanded listed.files (course f x) b name) empty s });
     })
     later cause
 

@@ -2,7 +2,7 @@
 -- with, by what was handed over in place of what is held.
 use Rattle.std.specs.Prelude.{◌≡◌, ◌⊎◌, ℕ, List}
 use Rattle.board_io.specs.Handed.{Handed}
-use Rattle.board_package.specs.HandedBoard.{BehindManifestHanded, ComesNext, Course, IsHandedWith, StopsAtManifestHanded, StopsHanding, course}
+use Rattle.board_package.specs.HandedBoard.{BehindManifestHanded, ComesAlongHanded, ComesNext, Course, IsHandedWith, StopsAtManifestHanded, StopsHanding, course}
 use Rattle.board_package.specs.PackageBoard.{AtOneBy, WalksBy, order_of, refused}
 use Rattle.board_package.specs.declared.entry.Entry.{Entry}
 use Rattle.real_package.specs.RealBoards.{PlainRealBoard, empty_real}
@@ -23,10 +23,6 @@ StopsRealAtHanded e before after (bent name kind command at) = (name ≡ e.name)
 abbrev pub StopsRealAmongHanded : List Entry → Course PlainRealBoard → List Handed → RealStop → Type 0
 StopsRealAmongHanded entries before after stop = AtOneBy GoesRealHanded entries before (λ e c. StopsRealAtHanded e c after stop)
 
--- one of the files comes next, and all before it were handed over and read
-abbrev pub ComesRealAmongHanded : List Entry → Course PlainRealBoard → List Handed → List ℕ → Type 0
-ComesRealAmongHanded entries before after name = AtOneBy GoesRealHanded entries before (λ e c. ComesNext c.handed after e.name name)
-
 -- the first stop of what was handed over under the name of a manifest; nothing was handed over behind it
 abbrev pub IsFirstRealStopHanded : List Handed → List Handed → List ℕ → RealStop → Type 0
 IsFirstRealStopHanded before after name stop = OfUnbuilt (StopsAtManifestHanded before after name) stop ⊎ BehindManifestHanded before name (λ m first. StopsRealAmongHanded (order_of m) (course first (empty_real m.layers)) after stop)
@@ -37,4 +33,4 @@ IsRealBoardHanded before after name board = BehindManifestHanded before name (λ
 
 -- the name is that of the manifest or of a file of its order, which comes next
 abbrev pub RealComesHanded : List Handed → List Handed → List ℕ → List ℕ → Type 0
-RealComesHanded before after manifest name = ComesNext before after manifest name ⊎ BehindManifestHanded before manifest (λ m first. ComesRealAmongHanded (order_of m) (course first (empty_real m.layers)) after name)
+RealComesHanded before after manifest name = ComesNext before after manifest name ⊎ BehindManifestHanded before manifest (λ m first. ComesAlongHanded GoesRealHanded (order_of m) (course first (empty_real m.layers)) after name)

@@ -3,7 +3,7 @@
 use Rattle.std.specs.Prelude.{◌≡◌, ◌⊎◌, ℕ, List}
 use Rattle.arc_layer.specs.declared.kind.RealKind.{RealKind}
 use Rattle.board_io.specs.Package.{Files}
-use Rattle.board_package.specs.PackageBoard.{AtOneBy, BehindManifest, IsHeldWith, Stop, StopsAtManifest, StopsTaking, WalksBy, order_of, refused}
+use Rattle.board_package.specs.PackageBoard.{AtOneBy, BehindManifest, ComesAlong, IsHeldWith, Stop, StopsAtManifest, StopsTaking, WalksBy, order_of, refused}
 use Rattle.board_package.specs.declared.entry.Entry.{Entry}
 use Rattle.real_package.specs.RealBoards.{PlainRealBoard, empty_real}
 use Rattle.real_package.specs.RealFiles.{ReadsReal, RefusesArc, RefusesReal}
@@ -36,10 +36,6 @@ StopsRealAt files e before (bent name kind command at) = (name ≡ e.name) × Is
 abbrev pub StopsRealAmong : Files → List Entry → PlainRealBoard → RealStop → Type 0
 StopsRealAmong files entries before stop = AtOneBy (GoesReal files) entries before (λ e b. StopsRealAt files e b stop)
 
--- one of the files has this name, and all before it are read
-abbrev pub ComesRealAmong : Files → List Entry → PlainRealBoard → List ℕ → Type 0
-ComesRealAmong files entries before name = AtOneBy (GoesReal files) entries before (λ e b. e.name ≡ name)
-
 -- ---- The package
 
 -- The first stop of the package under the name of a manifest: the manifest's, or that of the first file with one.
@@ -52,4 +48,4 @@ IsRealBoardOf files name board = BehindManifest files name (λ m. WalksBy (GoesR
 
 -- the name is that of the manifest or of a file of its order, and every file before it is held and has no refusal
 abbrev pub RealComes : Files → List ℕ → List ℕ → Type 0
-RealComes files manifest name = (name ≡ manifest) ⊎ BehindManifest files manifest (λ m. ComesRealAmong files (order_of m) (empty_real m.layers) name)
+RealComes files manifest name = (name ≡ manifest) ⊎ BehindManifest files manifest (λ m. ComesAlong (GoesReal files) (order_of m) (empty_real m.layers) name)

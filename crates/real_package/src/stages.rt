@@ -1,14 +1,14 @@
 //! The real board of a package.
 ghost use Rattle.std.specs.Prelude.{◌≡◌, All, IfSome, IfOk, IfErr, OnOk, MatchResult};
 ghost use Rattle.board_package.specs.Causes.{Leaves, Spares};
-ghost use Rattle.board_package.specs.HandedBoard.{ComesNext, course};
+ghost use Rattle.board_package.specs.HandedBoard.{ComesAlongHanded, ComesNext, course};
 ghost use Rattle.board_package.specs.Manifest.{IsOnBoard};
-ghost use Rattle.board_package.specs.PackageBoard.{WalksBy};
-ghost use Rattle.real_package.specs.HandedReal.{ComesRealAmongHanded, GoesRealHanded, IsRealBoardHanded, IsFirstRealStopHanded, RealComesHanded, StopsRealAmongHanded, StopsRealAtHanded};
+ghost use Rattle.board_package.specs.PackageBoard.{ComesAlong, WalksBy};
+ghost use Rattle.real_package.specs.HandedReal.{GoesRealHanded, IsRealBoardHanded, IsFirstRealStopHanded, RealComesHanded, StopsRealAmongHanded, StopsRealAtHanded};
 ghost use Rattle.board_package.specs.Parts.{IsLawfulParts};
 ghost use Rattle.real_package.specs.RealBoards.{plain_real_board};
 ghost use Rattle.real_package.specs.RealCauses.{HandedRealCause, HasRealCause, KeepsRealFaults};
-ghost use Rattle.real_package.specs.RealPackage.{ComesRealAmong, GoesReal, IsFirstRealStop, IsRealBoardOf, RealComes, StopsRealAmong, StopsRealAt};
+ghost use Rattle.real_package.specs.RealPackage.{GoesReal, IsFirstRealStop, IsRealBoardOf, RealComes, StopsRealAmong, StopsRealAt};
 
 use crate::board::RealBoard;
 use crate::contents::read_file;
@@ -54,8 +54,8 @@ fn take_files<P: Package>(
     ensures found { OnOk result (IfSome (P.held «package».old) (λ files. WalksBy (GoesReal files) entries.now (plain_real_board board.old) (plain_real_board board.new))) }
     ensures handed { OnOk result (WalksBy GoesRealHanded entries.now (course (P.handed «package».old) (plain_real_board board.old)) (course (P.handed «package».new) (plain_real_board board.new))) }
     ensures lawful { OnOk result (IsLawfulParts board.new) }
-    ensures cause { IfErr result (HasRealCause (P.held «package».old) (λ files stop. StopsRealAmong files entries.now (plain_real_board board.old) stop) (λ files name. ComesRealAmong files entries.now (plain_real_board board.old) name) (P.faults «package».old) (P.faults «package».new) (P.lost «package».new)) }
-    ensures handed_cause { IfErr result (HandedRealCause (λ stop. StopsRealAmongHanded entries.now (course (P.handed «package».old) (plain_real_board board.old)) (P.handed «package».new) stop) (λ name. ComesRealAmongHanded entries.now (course (P.handed «package».old) (plain_real_board board.old)) (P.handed «package».new) name) (P.faults «package».old) (P.faults «package».new) (P.lost «package».new)) }
+    ensures cause { IfErr result (HasRealCause (P.held «package».old) (λ files stop. StopsRealAmong files entries.now (plain_real_board board.old) stop) (λ files name. ComesAlong (GoesReal files) entries.now (plain_real_board board.old) name) (P.faults «package».old) (P.faults «package».new) (P.lost «package».new)) }
+    ensures handed_cause { IfErr result (HandedRealCause (λ stop. StopsRealAmongHanded entries.now (course (P.handed «package».old) (plain_real_board board.old)) (P.handed «package».new) stop) (λ name. ComesAlongHanded GoesRealHanded entries.now (course (P.handed «package».old) (plain_real_board board.old)) (P.handed «package».new) name) (P.faults «package».old) (P.faults «package».new) (P.lost «package».new)) }
 {
     let mut file = Vec::new(alloc);
     for entry in entries {

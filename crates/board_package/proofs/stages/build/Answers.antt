@@ -26,7 +26,7 @@ returns-in-Err-Build-clause-told g c =
     let why = c.in-Err-Build.why in
     files_cause (g.P.Package.held c.args.package.now) held c.args.manifest.now c.in_ok-listed.listed start.board
     (g.P.Package.faults c.args.package.now) (g.P.Package.faults c.take_manifest.new.package) (g.P.Package.faults c.take_files.new.package) (g.P.Package.lost c.take_files.new.package) why
-    c.take_manifest.ensures.leaves.held (is_empty c.new-parts.result _ c.new-parts.ensures.empty) c.take_manifest.ensures.leaves.later c.in_ok-listed.ensures.found
+    c.take_manifest.ensures.leaves.held (is_empty c.new-parts.result c.in_ok-listed.listed.layers c.new-parts.ensures.empty) c.take_manifest.ensures.leaves.later c.in_ok-listed.ensures.found
     (plain_cause held c.as_slice-entries.result.now c.in_ok-listed.listed.files start (g.P.Package.faults c.take_manifest.new.package) (g.P.Package.faults c.take_files.new.package) (g.P.Package.lost c.take_files.new.package) why c.in-Err-Build.field-0 c.as_slice-entries.ensures c.in-Err-Build.field-0-is c.in-Err-Build.ensures.cause)
 
 pub returns-in-Err-Build-clause-handed : goal.returns-in-Err-Build-clause-handed
@@ -37,7 +37,7 @@ returns-in-Err-Build-clause-handed g c =
     let why = c.in-Err-Build.why in
     files_handed (g.P.Package.handed c.args.package.now) mid after c.args.manifest.now c.in_ok-listed.listed (board_so_far c.new-parts.result)
     (g.P.Package.faults c.args.package.now) (g.P.Package.faults c.take_manifest.new.package) (g.P.Package.faults c.take_files.new.package) (g.P.Package.lost c.take_files.new.package) why
-    (is_empty c.new-parts.result _ c.new-parts.ensures.empty) c.take_manifest.ensures.leaves.later c.in_ok-listed.ensures.handed
+    (is_empty c.new-parts.result c.in_ok-listed.listed.layers c.new-parts.ensures.empty) c.take_manifest.ensures.leaves.later c.in_ok-listed.ensures.handed
     (plain_handed c.as_slice-entries.result.now c.in_ok-listed.listed.files start after (g.P.Package.faults c.take_manifest.new.package) (g.P.Package.faults c.take_files.new.package) (g.P.Package.lost c.take_files.new.package) why c.in-Err-Build.field-0 c.as_slice-entries.ensures c.in-Err-Build.field-0-is c.in-Err-Build.ensures.handed_cause)
 
 pub unreachable-requires : goal.unreachable-requires
@@ -54,9 +54,9 @@ returns-in-Ok-clause-told g c =
     let end = labelled_so_far c.take_files.new.parts c.take_files.new.tables in
     let walked = told_plainly held c.as_slice-entries.result.now c.in_ok-listed.listed.files start end c.as_slice-entries.ensures c.in-Ok.ensures.found in
     either c.framed.result _ _ _ (IsFrameFault end.board) _
-    (λ board made fits. board_is (g.P.Package.held c.args.package.now) held c.args.manifest.now c.in_ok-listed.listed start.board end.board (plain_board board) c.take_manifest.ensures.leaves.held (is_empty c.new-parts.result _ c.new-parts.ensures.empty) c.in_ok-listed.ensures.found walked fits made)
+    (λ board made fits. board_is (g.P.Package.held c.args.package.now) held c.args.manifest.now c.in_ok-listed.listed start.board end.board (plain_board board) c.take_manifest.ensures.leaves.held (is_empty c.new-parts.result c.in_ok-listed.listed.layers c.new-parts.ensures.empty) c.in_ok-listed.ensures.found walked fits made)
     (λ why h. framed_cause (g.P.Package.held c.args.package.now) held c.args.manifest.now c.in_ok-listed.listed start.board end.board (g.P.Package.faults c.args.package.now) (g.P.Package.faults c.take_files.new.package) (g.P.Package.lost c.take_files.new.package) why
-    c.take_manifest.ensures.leaves.held (is_empty c.new-parts.result _ c.new-parts.ensures.empty) c.in_ok-listed.ensures.found walked h)
+    c.take_manifest.ensures.leaves.held (is_empty c.new-parts.result c.in_ok-listed.listed.layers c.new-parts.ensures.empty) c.in_ok-listed.ensures.found walked h)
     c.framed.ensures.ok c.framed.ensures.fits c.framed.ensures.fault
 
 pub returns-in-Ok-clause-handed : goal.returns-in-Ok-clause-handed
@@ -66,9 +66,9 @@ returns-in-Ok-clause-handed g c =
     let end = course (g.P.Package.handed c.take_files.new.package) (labelled_so_far c.take_files.new.parts c.take_files.new.tables) in
     let walked = handed_plainly c.as_slice-entries.result.now c.in_ok-listed.listed.files start end c.as_slice-entries.ensures c.in-Ok.ensures.handed in
     either c.framed.result _ _ _ (IsFrameFault end.so_far.board) _
-    (λ board made fits. board_handed a start.handed end.handed c.args.manifest.now c.in_ok-listed.listed start.so_far.board end.so_far.board (plain_board board) (is_empty c.new-parts.result _ c.new-parts.ensures.empty) c.in_ok-listed.ensures.handed walked fits made)
+    (λ board made fits. board_handed a start.handed end.handed c.args.manifest.now c.in_ok-listed.listed start.so_far.board end.so_far.board (plain_board board) (is_empty c.new-parts.result c.in_ok-listed.listed.layers c.new-parts.ensures.empty) c.in_ok-listed.ensures.handed walked fits made)
     (λ why h. framed_handed a start.handed end.handed c.args.manifest.now c.in_ok-listed.listed start.so_far.board end.so_far.board (g.P.Package.faults c.args.package.now) (g.P.Package.faults c.take_files.new.package) (g.P.Package.lost c.take_files.new.package) why
-    (is_empty c.new-parts.result _ c.new-parts.ensures.empty) c.in_ok-listed.ensures.handed walked h)
+    (is_empty c.new-parts.result c.in_ok-listed.listed.layers c.new-parts.ensures.empty) c.in_ok-listed.ensures.handed walked h)
     c.framed.ensures.ok c.framed.ensures.fits c.framed.ensures.fault
 
 -- ---- What is left

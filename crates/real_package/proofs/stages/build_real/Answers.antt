@@ -1,11 +1,11 @@
 use Rattle.std.proofs.Common.{IfSome, subst}
-use Rattle.board_package.specs.PackageBoard.{WalksBy}
+use Rattle.board_package.specs.PackageBoard.{ComesAlong, WalksBy}
 use Rattle.board_package.proofs.Lift.{climbs, faultless_both, leaves_on}
-use Rattle.board_package.specs.HandedBoard.{course}
-use Rattle.real_package.specs.HandedReal.{ComesRealAmongHanded, GoesRealHanded, StopsRealAmongHanded}
+use Rattle.board_package.specs.HandedBoard.{ComesAlongHanded, course}
+use Rattle.real_package.specs.HandedReal.{GoesRealHanded, StopsRealAmongHanded}
 use Rattle.real_package.specs.RealBoards.{plain_real_board}
 use Rattle.real_package.specs.RealCauses.{HandedRealCause, HasRealCause}
-use Rattle.real_package.specs.RealPackage.{ComesRealAmong, GoesReal, StopsRealAmong}
+use Rattle.real_package.specs.RealPackage.{GoesReal, StopsRealAmong}
 use Rattle.real_package.specs.declared.fault.RealBuildFault.TheVariants as fault
 use Rattle.real_package.proofs.Carried.{board_is, files_cause, kept_real_after, manifest_cause}
 use Rattle.real_package.proofs.Staged.{board_handed, files_handed, manifest_handed}
@@ -34,7 +34,7 @@ returns-in_err-take_files-clause-told g c =
     let held = g.P.Package.held c.take_manifest.new.package in
     let start = plain_real_board c.new-board.result in
     let why = c.in_err-take_files.field-0.0 in
-    let cause = subst (λ entries. HasRealCause held (λ files stop. StopsRealAmong files entries start stop) (λ files name. ComesRealAmong files entries start name)
+    let cause = subst (λ entries. HasRealCause held (λ files stop. StopsRealAmong files entries start stop) (λ files name. ComesAlong (GoesReal files) entries start name)
     (g.P.Package.faults c.take_manifest.new.package) (g.P.Package.faults c.take_files.new.package) (g.P.Package.lost c.take_files.new.package) why) c.as_slice.ensures c.in_err-take_files.ensures.cause in
     climbs _ _ c.from_residual-in_err-take_files.result why c.from_residual-in_err-take_files.ensures.1
     (files_cause (g.P.Package.held c.args.package.now) held c.args.manifest.now c.in_ok-listed.listed start
@@ -47,7 +47,7 @@ returns-in_err-take_files-clause-handed g c =
     let mid = g.P.Package.handed c.take_manifest.new.package in
     let after = g.P.Package.handed c.take_files.new.package in
     let why = c.in_err-take_files.field-0.0 in
-    let cause = subst (λ entries. HandedRealCause (λ stop. StopsRealAmongHanded entries (course mid start) after stop) (λ name. ComesRealAmongHanded entries (course mid start) after name)
+    let cause = subst (λ entries. HandedRealCause (λ stop. StopsRealAmongHanded entries (course mid start) after stop) (λ name. ComesAlongHanded GoesRealHanded entries (course mid start) after name)
     (g.P.Package.faults c.take_manifest.new.package) (g.P.Package.faults c.take_files.new.package) (g.P.Package.lost c.take_files.new.package) why) c.as_slice.ensures c.in_err-take_files.ensures.handed_cause in
     climbs _ _ c.from_residual-in_err-take_files.result why c.from_residual-in_err-take_files.ensures.1
     (files_handed (g.P.Package.handed c.args.package.now) mid after c.args.manifest.now c.in_ok-listed.listed start
