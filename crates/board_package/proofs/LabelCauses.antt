@@ -3,12 +3,13 @@ use Rattle.std.proofs.Common.{◌≡◌, inl, inr, ℕ, ◌+◌, ◌<◌, ◌≤
 use Rattle.std.specs.List.{filter}
 use Rattle.board_io.specs.Package.{Files, IsFaultless}
 use Rattle.board_shapes.specs.Plain.{PlainBoard, common_box, Fits}
+use Rattle.board_shapes.specs.declared.shape.Shape.{Shape}
 use Rattle.x2_nets.specs.declared.label_table.Label.{Label}
 use Rattle.board_package.specs.Causes.{HasCause, IsFrameFault}
 use Rattle.board_package.specs.LabelledBoard.{GoesLabelled, IsFirstLabelledStop, IsLabelledBoardOf, Labelled, LabelledComes, LabelledStop, Lists, Mislabels, StopsLabelledAmong, is_taken, labelled_board_of, labelled_order, mislabelled, nothing_labelled, unbuilt}
-use Rattle.board_package.specs.LabelledCauses.{HasLabelledCause, IsMislabelling, KeepsLabelledFaults}
+use Rattle.board_package.specs.LabelledCauses.{HasLabelledCause, IsMislabelling, KeepsLabelledFaults, labelled_so_far}
 use Rattle.board_package.specs.PackageBoard.{ComesAlong, Goes, IsHeld, IsManifestFile, Stop, StopsAt, StopsAtFrame, StopsAtManifest, WalksBy, frame_too_large}
-use Rattle.board_package.specs.Parts.{empty_board}
+use Rattle.board_package.specs.Parts.{Has, empty_board}
 use Rattle.board_package.specs.declared.entry.Entry.{Entry}
 use Rattle.board_package.specs.declared.entry.Naming.{Naming}
 use Rattle.board_package.specs.declared.entry.Naming.TheVariants.{ByLabels}
@@ -16,15 +17,17 @@ use Rattle.board_package.specs.declared.fault.BuildFault.{BuildFault}
 use Rattle.board_package.specs.declared.fault.LabelledFault.{LabelledFault}
 use Rattle.board_package.specs.declared.fault.LabelledFault.TheVariants as fault
 use Rattle.board_package.specs.declared.manifest.Manifest.{Manifest}
+use Rattle.board_package.specs.declared.parts.Parts.{Parts}
 use Rattle.board_package.proofs.Lift.{Carries, faultless_both, frame_cause, kept, kept_after, lift, told, told_all, told_of}
 use Rattle.board_package.proofs.OneOutcome.{held_one}
+use Rattle.board_package.proofs.Seen.{is_empty}
 use Rattle.board_package.proofs.Walking.{passing_at_one, passing_walk_more}
 
 abbrev pub needed : Naming → Entry → Bool
 needed naming e = is_taken naming e.role
 
-pub nothing_yet : (board : PlainBoard) (tables : List (List Label)) (layers : ℕ) → board ≡ empty_board layers → tables ≡ [] → record { board = board; tables = tables } ≡ nothing_labelled layers
-nothing_yet board tables layers p q = ap (λ (b : PlainBoard). record { board = b; tables = tables }) p ∙ ap (λ (t : List (List Label)). record { board = empty_board layers; tables = t }) q
+pub nothing_yet : (parts : Parts Shape) (tables : List (List Label)) (layers : ℕ) → Has parts [] [] [] layers → tables ≡ [] → labelled_so_far parts tables ≡ nothing_labelled layers
+nothing_yet parts tables layers p q = ap (λ (b : PlainBoard). record { board = b; tables = tables }) (is_empty parts layers p) ∙ ap (λ (t : List (List Label)). record { board = empty_board layers; tables = t }) q
 
 -- ---- What a package leaves
 

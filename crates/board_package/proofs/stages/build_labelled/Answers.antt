@@ -14,7 +14,6 @@ use Rattle.board_package.specs.declared.fault.LabelledFault.TheVariants as fault
 use Rattle.x2_nets.specs.declared.label_table.Label.{Label}
 use Rattle.board_package.proofs.LabelCauses.{files_labelled_cause, frame_labelled_cause, kept_labelled, kept_labelled_after, labelled_board_is, manifest_labelled_cause, needed, nothing_yet}
 use Rattle.board_package.proofs.Lift.{climbs, faultless_both, leaves_on}
-use Rattle.board_package.proofs.Seen.{is_empty}
 use Rattle.board_package.proofs.stages.build_labelled.Goals as goal
 
 -- ---- The manifest
@@ -39,7 +38,7 @@ returns-in_err-take_files-clause-told g c =
     climbs _ _ c.from_residual-in_err-take_files.result why c.from_residual-in_err-take_files.ensures.1
     (files_labelled_cause (g.P.Package.held c.args.package.now) held c.args.manifest.now c.in_ok-listed.listed start
     (g.P.Package.faults c.args.package.now) (g.P.Package.faults c.take_manifest.new.package) (g.P.Package.faults c.take_files.new.package) (g.P.Package.lost c.take_files.new.package) why
-    c.take_manifest.ensures.leaves.held (nothing_yet _ _ _ (is_empty c.new-parts.result c.in_ok-listed.listed.layers c.new-parts.ensures.empty) c.new-tables.ensures) c.take_manifest.ensures.leaves.later c.in_ok-listed.ensures.found cause)
+    c.take_manifest.ensures.leaves.held (nothing_yet c.new-parts.result c.new-tables.result c.in_ok-listed.listed.layers c.new-parts.ensures.empty c.new-tables.ensures) c.take_manifest.ensures.leaves.later c.in_ok-listed.ensures.found cause)
 
 pub returns-in_err-take_files-clause-spared : goal.returns-in_err-take_files-clause-spared
 returns-in_err-take_files-clause-spared g c =
@@ -66,7 +65,7 @@ returns-in_err-board-clause-told g c =
     climbs _ _ c.from_residual-in_err-board.result (fault.Build c.in_err-board.field-0.0) c.from_residual-in_err-board.ensures.1
     (frame_labelled_cause (g.P.Package.held c.args.package.now) held c.args.manifest.now c.in_ok-listed.listed start end (board_so_far c.name_pieces.new.parts)
     (g.P.Package.faults c.args.package.now) (g.P.Package.faults c.take_files.new.package) (g.P.Package.lost c.take_files.new.package) c.in_err-board.field-0.0
-    c.take_manifest.ensures.leaves.held (nothing_yet _ _ _ (is_empty c.new-parts.result c.in_ok-listed.listed.layers c.new-parts.ensures.empty) c.new-tables.ensures) named c.in_ok-listed.ensures.found walked c.in_err-board.ensures.fault)
+    c.take_manifest.ensures.leaves.held (nothing_yet c.new-parts.result c.new-tables.result c.in_ok-listed.listed.layers c.new-parts.ensures.empty c.new-tables.ensures) named c.in_ok-listed.ensures.found walked c.in_err-board.ensures.fault)
 
 pub returns-in_err-board-clause-spared : goal.returns-in_err-board-clause-spared
 returns-in_err-board-clause-spared g c =
@@ -86,7 +85,7 @@ returns-clause-told g c =
     let walked = subst (λ entries. IfSome held (λ files. WalksBy (GoesLabelled ByLabels files) (filter (needed ByLabels) entries) start end)) c.as_slice-entries.ensures c.in_ok-take_files.ensures.found in
     let named = c.in_ok-name_pieces.ensures.ok ∙ ap (λ (t : List (List Label)). labelled_board_of t (board_so_far c.take_files.new.parts)) c.as_slice.ensures in
     labelled_board_is (g.P.Package.held c.args.package.now) held c.args.manifest.now c.in_ok-listed.listed start end (board_so_far c.name_pieces.new.parts) _
-    c.take_manifest.ensures.leaves.held (nothing_yet _ _ _ (is_empty c.new-parts.result c.in_ok-listed.listed.layers c.new-parts.ensures.empty) c.new-tables.ensures) named c.in_ok-listed.ensures.found walked c.in_ok-board.ensures.fits c.in_ok-board.ensures.ok
+    c.take_manifest.ensures.leaves.held (nothing_yet c.new-parts.result c.new-tables.result c.in_ok-listed.listed.layers c.new-parts.ensures.empty c.new-tables.ensures) named c.in_ok-listed.ensures.found walked c.in_ok-board.ensures.fits c.in_ok-board.ensures.ok
 
 -- ---- Of what was handed over
 
@@ -106,7 +105,7 @@ returns-in_err-take_files-clause-handed g c =
     climbs _ _ c.from_residual-in_err-take_files.result why c.from_residual-in_err-take_files.ensures.1
     (files_labelled_handed (g.P.Package.handed c.args.package.now) mid after c.args.manifest.now c.in_ok-listed.listed start
     (g.P.Package.faults c.args.package.now) (g.P.Package.faults c.take_manifest.new.package) (g.P.Package.faults c.take_files.new.package) (g.P.Package.lost c.take_files.new.package) why
-    (nothing_yet _ _ _ (is_empty c.new-parts.result c.in_ok-listed.listed.layers c.new-parts.ensures.empty) c.new-tables.ensures) c.take_manifest.ensures.leaves.later c.in_ok-listed.ensures.handed cause)
+    (nothing_yet c.new-parts.result c.new-tables.result c.in_ok-listed.listed.layers c.new-parts.ensures.empty c.new-tables.ensures) c.take_manifest.ensures.leaves.later c.in_ok-listed.ensures.handed cause)
 
 pub returns-in_err-name_pieces-clause-handed : goal.returns-in_err-name_pieces-clause-handed
 returns-in_err-name_pieces-clause-handed g c = climbs _ _ c.from_residual-in_err-name_pieces.result (fault.Build build.NoMemory) c.from_residual-in_err-name_pieces.ensures.1 tt
@@ -122,7 +121,7 @@ returns-in_err-board-clause-handed g c =
     climbs _ _ c.from_residual-in_err-board.result (fault.Build c.in_err-board.field-0.0) c.from_residual-in_err-board.ensures.1
     (frame_labelled_handed (g.P.Package.handed c.args.package.now) mid after c.args.manifest.now c.in_ok-listed.listed start end (board_so_far c.name_pieces.new.parts)
     (g.P.Package.faults c.args.package.now) (g.P.Package.faults c.take_files.new.package) (g.P.Package.lost c.take_files.new.package) c.in_err-board.field-0.0
-    (nothing_yet _ _ _ (is_empty c.new-parts.result c.in_ok-listed.listed.layers c.new-parts.ensures.empty) c.new-tables.ensures) named c.in_ok-listed.ensures.handed walked c.in_err-board.ensures.fault)
+    (nothing_yet c.new-parts.result c.new-tables.result c.in_ok-listed.listed.layers c.new-parts.ensures.empty c.new-tables.ensures) named c.in_ok-listed.ensures.handed walked c.in_err-board.ensures.fault)
 
 pub returns-clause-handed : goal.returns-clause-handed
 returns-clause-handed g c =
@@ -133,7 +132,7 @@ returns-clause-handed g c =
     let walked = subst (λ entries. WalksBy (GoesLabelledHanded ByLabels) (filter (needed ByLabels) entries) (course mid start) (course after end)) c.as_slice-entries.ensures c.in_ok-take_files.ensures.handed in
     let named = c.in_ok-name_pieces.ensures.ok ∙ ap (λ (t : List (List Label)). labelled_board_of t (board_so_far c.take_files.new.parts)) c.as_slice.ensures in
     labelled_board_handed (g.P.Package.handed c.args.package.now) mid after c.args.manifest.now c.in_ok-listed.listed start end (board_so_far c.name_pieces.new.parts) _
-    (nothing_yet _ _ _ (is_empty c.new-parts.result c.in_ok-listed.listed.layers c.new-parts.ensures.empty) c.new-tables.ensures) named c.in_ok-listed.ensures.handed walked c.in_ok-board.ensures.fits c.in_ok-board.ensures.ok
+    (nothing_yet c.new-parts.result c.new-tables.result c.in_ok-listed.listed.layers c.new-parts.ensures.empty c.new-tables.ensures) named c.in_ok-listed.ensures.handed walked c.in_ok-board.ensures.fits c.in_ok-board.ensures.ok
 
 -- ---- What is left
 

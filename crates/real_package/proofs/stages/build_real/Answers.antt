@@ -39,7 +39,7 @@ returns-in_err-take_files-clause-told g c =
     climbs _ _ c.from_residual-in_err-take_files.result why c.from_residual-in_err-take_files.ensures.1
     (files_cause (g.P.Package.held c.args.package.now) held c.args.manifest.now c.in_ok-listed.listed start
     (g.P.Package.faults c.args.package.now) (g.P.Package.faults c.take_manifest.new.package) (g.P.Package.faults c.take_files.new.package) (g.P.Package.lost c.take_files.new.package) why
-    c.take_manifest.ensures.leaves.held (is_empty c.new-board.result _ c.new-board.ensures.empty) c.take_manifest.ensures.leaves.later c.in_ok-listed.ensures.found cause)
+    c.take_manifest.ensures.leaves.held (is_empty c.new-board.result c.in_ok-listed.listed.layers c.new-board.ensures.empty) c.take_manifest.ensures.leaves.later c.in_ok-listed.ensures.found cause)
 
 pub returns-in_err-take_files-clause-handed : goal.returns-in_err-take_files-clause-handed
 returns-in_err-take_files-clause-handed g c =
@@ -52,7 +52,7 @@ returns-in_err-take_files-clause-handed g c =
     climbs _ _ c.from_residual-in_err-take_files.result why c.from_residual-in_err-take_files.ensures.1
     (files_handed (g.P.Package.handed c.args.package.now) mid after c.args.manifest.now c.in_ok-listed.listed start
     (g.P.Package.faults c.args.package.now) (g.P.Package.faults c.take_manifest.new.package) (g.P.Package.faults c.take_files.new.package) (g.P.Package.lost c.take_files.new.package) why
-    (is_empty c.new-board.result _ c.new-board.ensures.empty) c.take_manifest.ensures.leaves.later c.in_ok-listed.ensures.handed cause)
+    (is_empty c.new-board.result c.in_ok-listed.listed.layers c.new-board.ensures.empty) c.take_manifest.ensures.leaves.later c.in_ok-listed.ensures.handed cause)
 
 pub returns-in_err-take_files-clause-spared : goal.returns-in_err-take_files-clause-spared
 returns-in_err-take_files-clause-spared g c =
@@ -70,7 +70,7 @@ returns-clause-told g c =
     let start = plain_real_board c.new-board.result in
     let end = plain_real_board c.take_files.new.board in
     let walked = subst (λ entries. IfSome held (λ files. WalksBy (GoesReal files) entries start end)) c.as_slice.ensures c.in_ok-take_files.ensures.found in
-    board_is (g.P.Package.held c.args.package.now) held c.args.manifest.now c.in_ok-listed.listed start end c.take_manifest.ensures.leaves.held (is_empty c.new-board.result _ c.new-board.ensures.empty) c.in_ok-listed.ensures.found walked
+    board_is (g.P.Package.held c.args.package.now) held c.args.manifest.now c.in_ok-listed.listed start end c.take_manifest.ensures.leaves.held (is_empty c.new-board.result c.in_ok-listed.listed.layers c.new-board.ensures.empty) c.in_ok-listed.ensures.found walked
 
 pub returns-clause-handed : goal.returns-clause-handed
 returns-clause-handed g c =
@@ -79,7 +79,7 @@ returns-clause-handed g c =
     let mid = g.P.Package.handed c.take_manifest.new.package in
     let after = g.P.Package.handed c.take_files.new.package in
     let walked = subst (λ entries. WalksBy GoesRealHanded entries (course mid start) (course after end)) c.as_slice.ensures c.in_ok-take_files.ensures.handed in
-    board_handed (g.P.Package.handed c.args.package.now) mid after c.args.manifest.now c.in_ok-listed.listed start end (is_empty c.new-board.result _ c.new-board.ensures.empty) c.in_ok-listed.ensures.handed walked
+    board_handed (g.P.Package.handed c.args.package.now) mid after c.args.manifest.now c.in_ok-listed.listed start end (is_empty c.new-board.result c.in_ok-listed.listed.layers c.new-board.ensures.empty) c.in_ok-listed.ensures.handed walked
 
 pub returns-clause-spared : goal.returns-clause-spared
 returns-clause-spared g c = faultless_both _ _ _ _ _ _ c.in_ok-listed.ensures.spared c.in_ok-take_files.ensures.spared
