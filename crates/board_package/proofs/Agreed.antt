@@ -4,11 +4,11 @@ use Rattle.board_io.proofs.Agreeing.{agree_back, agree_file, agree_front, agree_
 use Rattle.board_io.specs.Handed.{AgreeWith, Grows, Handed}
 use Rattle.board_io.specs.Package.{Files}
 use Rattle.board_shapes.specs.Plain.{Fits, PlainBoard, common_box}
-use Rattle.board_package.specs.HandedBoard.{BehindManifestHanded, ComesHanded, ComesNext, Course, GoesHanded, IsBoardHanded, IsFirstStopHanded, IsHanded, IsHandedWith, StopsAtHanded, StopsAtManifestHanded, StopsHanding, StopsLaterHanded, course}
-use Rattle.board_package.specs.HandedLabelled.{GoesLabelledHanded, IsFirstLabelledStopHanded, IsLabelledBoardHanded, LabelledComesHanded, StopsLabelledAtHanded, StopsLabelledLaterHanded, unlabelled}
+use Rattle.board_package.specs.HandedBoard.{BehindManifestHanded, ComesNext, Course, GoesHanded, IsBoardHanded, IsFirstStopHanded, IsHanded, IsHandedWith, StopsAtHanded, StopsAtManifestHanded, StopsHanding, StopsLaterHanded, course}
+use Rattle.board_package.specs.HandedLabelled.{GoesLabelledHanded, IsFirstLabelledStopHanded, IsLabelledBoardHanded, StopsLabelledAtHanded, StopsLabelledLaterHanded, unlabelled}
 use Rattle.board_package.specs.HandedLaw.{HandedIsHeld, HoldsWhatWasHanded}
-use Rattle.board_package.specs.LabelledBoard.{GoesLabelled, IsFirstLabelledStop, IsLabelledBoardOf, Labelled, LabelledComes, LabelledStop, OfBuild, StopsLabelledAt, StopsLabelledLater, labelled_order, mislabelled, nothing_labelled, unbuilt}
-use Rattle.board_package.specs.PackageBoard.{AtOneBy, BehindManifest, Comes, Goes, IsBoardOf, IsFirstStop, IsHeld, IsHeldWith, Stop, StopsAt, StopsAtManifest, StopsLater, StopsTaking, Walks, WalksBy, longer, not_json, bad_manifest, order_of, refused}
+use Rattle.board_package.specs.LabelledBoard.{GoesLabelled, IsFirstLabelledStop, IsLabelledBoardOf, Labelled, LabelledStop, OfBuild, StopsLabelledAt, StopsLabelledLater, labelled_order, mislabelled, nothing_labelled, unbuilt}
+use Rattle.board_package.specs.PackageBoard.{AtOneBy, BehindManifest, Goes, IsBoardOf, IsFirstStop, IsHeld, IsHeldWith, Stop, StopsAt, StopsAtManifest, StopsLater, StopsTaking, Walks, WalksBy, longer, not_json, bad_manifest, order_of, refused}
 use Rattle.board_package.specs.Parts.{empty_board}
 use Rattle.board_package.specs.declared.entry.Entry.{Entry}
 use Rattle.board_package.specs.declared.entry.Naming.TheVariants.{ByLabels}

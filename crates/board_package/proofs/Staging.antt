@@ -6,7 +6,6 @@ use Rattle.board_package.specs.Causes.{Halts, HandedCause, IsFrameFault}
 use Rattle.board_package.specs.HandedBoard.{ComesAlongHanded, ComesHanded, ComesNext, Course, GoesHanded, IsBoardHanded, IsFirstStopHanded, IsHanded, IsHandedWith, IsManifestHanded, StopsAmongHanded, StopsAtHanded, StopsAtManifestHanded, StopsHanding, course}
 use Rattle.board_package.specs.PackageBoard.{Stop, WalksBy, longer}
 use Rattle.board_package.specs.Parts.{empty_board}
-use Rattle.board_package.specs.Contents.{Refuses}
 use Rattle.board_package.specs.declared.entry.Entry.{Entry}
 use Rattle.board_package.specs.declared.fault.BuildFault.{BuildFault}
 use Rattle.board_package.specs.declared.manifest.Manifest.{Manifest}

@@ -11,7 +11,6 @@ use Rattle.board_package.specs.Parts.{empty_board}
 use Rattle.board_package.specs.Contents.{Reads, Refuses}
 use Rattle.board_package.specs.declared.entry.Entry.{Entry}
 use Rattle.board_package.specs.declared.manifest.Manifest.{Manifest}
-use Rattle.board_package.specs.declared.contents.Refusal.{Refusal}
 
 -- ---- One file
 
