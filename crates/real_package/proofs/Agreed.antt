@@ -1,5 +1,5 @@
 -- Files that agree with what was handed over make the real board that was handed over.
-use Rattle.std.proofs.Common.{◌≡◌, inl, inr, ℕ, List}
+use Rattle.std.proofs.Common.{inl, inr, ℕ, List}
 use Rattle.board_io.specs.Handed.{AgreeWith, Grows, Handed}
 use Rattle.board_io.specs.Package.{Files}
 use Rattle.board_package.specs.HandedBoard.{Course, StopsAtManifestHanded}
