@@ -75,13 +75,10 @@ pub fn certain(alloc: Global, below: &Verdict, above: &Verdict) -> Result<Findin
     ensures { IfOk result (λ found. found ≡ spec.certain below.now above.now) }
 {
     let opens = above.opens.as_slice();
-    let opens = opens.iter().map(|entry| entry.probe).collect(alloc)?;
-    let shorts = points_of(alloc, below.shorts.as_slice())?;
-    let missing = above.bare.as_slice().iter().copied().collect(alloc)?;
     Ok(Findings {
-        opens,
-        shorts,
-        missing,
+        opens: opens.iter().map(|entry| entry.probe).collect(alloc)?,
+        shorts: points_of(alloc, below.shorts.as_slice())?,
+        missing: above.bare.as_slice().iter().copied().collect(alloc)?,
     })
 }
 

@@ -15,7 +15,7 @@ use Rattle.boardnet.specs.OneOutcome.{AreAlike}
 use Rattle.boardnet.proofs.Sound.{Sound, HoldsHanded, Laws}
 use Rattle.boardnet.specs.Answers.{reason_line}
 use Rattle.boardnet.specs.Outcome.{AuditOutcome, ComesFor, HandedOver, Held, IsAnswer, IsAuditStop, IsTextOf, OfFilesRead, Outcome, OutcomeOf, Refused, Source, Told, IsLineOf}
-use Rattle.boardnet.specs.Source.{FitsBefore, IsFileWith, NextBy, StopsFileBy}
+use Rattle.boardnet.specs.Source.{FitsBefore, IsBoardBy, IsFileWith, NextBy, StopsFileBy}
 use Rattle.boardnet.specs.commands.Audit.{AuditRefuses, IsNoReport, IsNoText}
 use Rattle.boardnet.specs.Words.{Asks, Command, Audit, IsAudit}
 use Rattle.boardnet.specs.declared.answer.Unanswered.{Unanswered}
@@ -35,7 +35,7 @@ no_ruling f manifest report other m text line status a = absurd m
 held_file : HandedIsHeld → (f : Files) (a b : List Handed) (manifest report : List ℕ) (board : PlainBoard) (P : List ℕ → Type 0) → AgreeWith f a b
     → FitsBefore (HandedOver a b) manifest board (λ rest. IsFileWith rest report P) → FitsBefore (Held f) manifest board (λ rest. IsFileWith rest report P)
 held_file law f a b manifest report board P w x =
-    held_fits _ f a b (board_held law f a manifest) (λ rest. IsFileWith rest report P) w
+    held_fits (λ read z. IsBoardBy read manifest z) f a b (board_held law f a manifest) (λ rest. IsFileWith rest report P) w
     (λ built v y. record { bytes = y.bytes; file = (law.holds f built b report v).held y.bytes y.file; good = y.good }) board x
 
 held_stop : HandedIsHeld → (f : Files) (a b : List Handed) (manifest report : List ℕ) → AgreeWith f a b → (stop : Stop) → IsAuditStop (HandedOver a b) manifest report stop → IsAuditStop (Held f) manifest report stop

@@ -18,7 +18,7 @@ use Rattle.boardnet.specs.Command.{BoundNames}
 use Rattle.boardnet.specs.Lines.{file_line}
 use Rattle.boardnet.specs.OneOutcome.{AreAlike}
 use Rattle.boardnet.specs.Outcome.{HandedOver, Held, IsLineOf, OfFilesRead, Outcome, Refused, Source, Told}
-use Rattle.boardnet.specs.Source.{ComesBy, FitsBefore, FitsRealThen, FitsThen, IsFileBy, IsFirstStopBy, IsRealBoardBy, NextBy, StopsFileBy}
+use Rattle.boardnet.specs.Source.{ComesBy, FitsBefore, FitsRealThen, FitsThen, IsBoardBy, IsFileBy, IsFirstStopBy, IsRealBoardBy, NextBy, StopsFileBy}
 use Rattle.boardnet.specs.Words.{Asks, Command, Between, IsBetween}
 use Rattle.boardnet.specs.commands.Between.{AreBounded, AreRead, AreUnbound, BetweenOutcome, BetweenRefuses, ComesReading, IsDecided, IsOfFile, IsPlainStop, IsReadLine, IsReadRefusal, IsUnboundRefusal, ReadStop, StopsManifest, StopsReading, at_counts, at_lower, at_real, at_upper}
 use Rattle.boardnet.specs.declared.answer.Unanswered.{Unanswered}
@@ -163,9 +163,9 @@ module _ (law : HandedLaws) (f : Files) (names : BoundNames) where
 
   held_read : (a b : List Handed) (r : PlainRealBoard) (l u : PlainBoard) (x : List ℕ) → AgreeWith f a b → AreRead (HandedOver a b) names r l u x → AreRead (Held f) names r l u x
   held_read a b r l u x w h =
-      held_fits _ f a b (real_held law f a names.real) (λ rest. FitsBefore rest names.lower l (λ more. FitsBefore more names.upper u (λ last. IsFileBy last names.counts x))) w
-      (λ c v y. held_fits _ f c b (board_held law.listed f c names.lower) (λ more. FitsBefore more names.upper u (λ last. IsFileBy last names.counts x)) v
-      (λ d t z. held_fits _ f d b (board_held law.listed f d names.upper) (λ last. IsFileBy last names.counts x) t (λ e s i. (law.listed.holds f e b names.counts s).held x i) u z) l y) r h
+      held_fits (λ read z. IsRealBoardBy read names.real z) f a b (real_held law f a names.real) (λ rest. FitsBefore rest names.lower l (λ more. FitsBefore more names.upper u (λ last. IsFileBy last names.counts x))) w
+      (λ c v y. held_fits (λ read z. IsBoardBy read names.lower z) f c b (board_held law.listed f c names.lower) (λ more. FitsBefore more names.upper u (λ last. IsFileBy last names.counts x)) v
+      (λ d t z. held_fits (λ read z. IsBoardBy read names.upper z) f d b (board_held law.listed f d names.upper) (λ last. IsFileBy last names.counts x) t (λ e s i. (law.listed.holds f e b names.counts s).held x i) u z) l y) r h
 
   held_stop : (a b : List Handed) → AgreeWith f a b → (stop : ReadStop) → StopsReading (HandedOver a b) names stop → StopsReading (Held f) names stop
   held_stop a b w (at_real stop) s = (law.real f a b names.real w).stop stop s
