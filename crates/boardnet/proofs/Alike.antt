@@ -7,7 +7,7 @@ use Rattle.board_shapes.proofs.BoardTables.{tables_are_consistent, tables_are_on
 use Rattle.board_shapes.specs.Plain.{PlainBoard}
 use Rattle.boardnet.proofs.Sound.{Laws}
 use Rattle.boardnet.specs.Gapped.{IsGapListOn, IsGapStatus, IsTooWide}
-use Rattle.boardnet.specs.Lines.{counted_line, differs_line, file_line}
+use Rattle.boardnet.specs.Lines.{counted_line, file_line, findings_line}
 use Rattle.boardnet.specs.Outcome.{HasStatus, IsLineOf}
 use Rattle.boardnet.specs.Right.{IsReportOn, IsRightOn}
 use Rattle.boardnet.specs.commands.Trial.{IsStatusOf}
@@ -32,7 +32,7 @@ on_one b d v w e r s =
 pub same_verdicts : Laws → (b d : PlainBoard) (v w : Verdict) → b ≡ d → IsRightOn b v → IsRightOn d w → DifferInWitnessesOnly v w
 same_verdicts law b d v w e r s = law.witnesses s.tables v w (tables_are_consistent d s.tables s.tables_are) (on_one b d v w e r s) s.right
 
-pub same_differs : (a b c x y z : ℕ) → a ≡ x → b ≡ y → c ≡ z → differs_line a b c ≡ differs_line x y z
+same_differs : (a b c x y z : ℕ) → a ≡ x → b ≡ y → c ≡ z → findings_line (codes "differs") a b c ≡ findings_line (codes "differs") x y z
 same_differs a b c x y z p q r = rw (p, q, r) refl
 
 pub same_status : (v w : Verdict) (s t : ℕ) (l k : List ℕ) → DifferInWitnessesOnly v w → HasStatus v s l → HasStatus w t k → (s ≡ t) × (l ≡ k)

@@ -1,6 +1,6 @@
 -- From what the parts of an audit give to its outcome.
 use Rattle.std.proofs.Common.{◌≡◌, ◌≤◌, ◌⊎◌, inl, inr, ℕ, List, Some, codes, ap, subst, sym, ◌∙◌, arith}
-use Rattle.board_io.specs.Handed.{Handed}
+use Rattle.board_io.specs.Handed.{Grows, Handed}
 use Rattle.board_io.specs.Package.{Files, IsFaultless}
 use Rattle.board_package.proofs.OneOutcome.{held_not_absent, held_not_longer}
 use Rattle.board_package.proofs.Staging.{carry}
@@ -97,7 +97,7 @@ no_misread files manifest report board verdict h read =
 
 behind : (source : Source) (manifest : List ℕ) (board : PlainBoard) (A B : Source → Type 0) → ((rest : Source) → A rest → B rest) → FitsBefore source manifest board A → FitsBefore source manifest board B
 behind (Held files) manifest board A B f (is, x) = (is, f (Held files) x)
-behind (HandedOver before after) manifest board A B f (built, is, x) = (built, is, f (HandedOver built after) x)
+behind (HandedOver before after) manifest board A B f (built, g, is, x) = (built, g, is, f (HandedOver built after) x)
 
 -- what is put for a ruling is the answer
 pub ruled : (source : Source) (manifest report : List ℕ) (board : PlainBoard) (bytes text : List ℕ) (ruling : Ruling) (answer : Answer)
@@ -138,12 +138,12 @@ package_handed a b manifest report before now lost why h =
     carry (λ stop. IsFirstStopHanded a b manifest stop) (λ stop. IsAuditStop (HandedOver a b) manifest report stop) (λ name. ComesHanded a b manifest name) (λ name. ComesFor (HandedOver a b) (Audit manifest report) name) before before now lost why
     (record { stops = λ stop s. inl s; comes = λ name s. inl s }) (omega arith) h
 
-pub report_handed : (a built b : List Handed) (manifest report second : List ℕ) (board : PlainBoard) (before mid now : ℕ) (lost : List ℕ) (why : BuildFault) → second ≡ report → before ≤ mid
+pub report_handed : (a built b : List Handed) (manifest report second : List ℕ) (board : PlainBoard) (before mid now : ℕ) (lost : List ℕ) (why : BuildFault) → second ≡ report → before ≤ mid → Grows a built → Grows built b
     → IsBoardHanded a built manifest board
     → HandedCause (λ stop. StopsHanding built b second stop) (λ name. ComesNext built b second name) mid now lost why → AuditCause a b manifest report before now lost why
-report_handed a built b manifest report second board before mid now lost why two le is h =
+report_handed a built b manifest report second board before mid now lost why two le front back is h =
     carry (λ stop. StopsHanding built b report stop) (λ stop. IsAuditStop (HandedOver a b) manifest report stop) (λ name. ComesNext built b report name) (λ name. ComesFor (HandedOver a b) (Audit manifest report) name) before mid now lost why
-    (record { stops = λ stop s. inr (record { board = board; behind = (built, is, s) }); comes = λ name s. inr (record { board = board; behind = (built, is, s) }) })
+    (record { stops = λ stop s. inr (record { board = board; behind = (built, (front, back), is, s) }); comes = λ name s. inr (record { board = board; behind = (built, (front, back), is, s) }) })
     le (subst (λ (z : List ℕ). HandedCause (λ stop. StopsHanding built b z stop) (λ name. ComesNext built b z name) mid now lost why) two h)
 
 -- why a report is not ruled on

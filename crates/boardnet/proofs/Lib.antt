@@ -1,4 +1,5 @@
 pub mod Accounts
+pub mod AllListed
 pub mod Agreeable
 pub mod Alike
 pub mod Ending
@@ -8,6 +9,8 @@ pub mod Says
 pub mod Sound
 pub mod Soundness
 pub mod Audits
+pub mod Behind
+pub mod Besides
 pub mod Bounds
 pub mod ByLabels
 pub mod Decisions

@@ -1,5 +1,5 @@
 -- From what the stages of a reading give to what `between` reads, and to why it does not.
-use Rattle.std.proofs.Common.{◌≡◌, ◌≤◌, inl, inr, ℕ, List, length, Some, slice_get, option_map, ap, refl, sym, subst, ◌∙◌, arith}
+use Rattle.std.proofs.Common.{◌≡◌, ◌≤◌, inl, inr, ℕ, List, ◌++◌, length, Some, slice_get, option_map, ap, refl, sym, subst, ◌∙◌, arith}
 use Rattle.std.proofs.lemmas.Option.{slice_get-map, slice_get_within}
 use Rattle.arc_covers.specs.Faults.{IsBoundsFault}
 use Rattle.arc_covers.specs.Taken.{AreTaken}
@@ -23,10 +23,11 @@ use Rattle.board_shapes.specs.Plain.{PlainBoard}
 use Rattle.board_shapes.specs.declared.placed.Placed.{Placed}
 use Rattle.boardnet.specs.Answers.{behind_of, unreal_of}
 use Rattle.board_shapes.specs.declared.probe.Probe.{Probe}
-use Rattle.boardnet.specs.BetweenText.{between_text}
+use Rattle.boardnet.specs.BetweenText.{IsDecision, IsDecisionBy, between_text, boards_part, decision_part}
 use Rattle.boardnet.specs.Bounded.{AreBoundedBy, AreCounted, ComesFrom, IsDecisionOn, IsUnboundBy}
 use Rattle.boardnet.specs.Command.{BoundNames}
 use Rattle.boardnet.specs.Ends.{StopsFor}
+use Rattle.boardnet.specs.Findings.{Findings, certain, undecided}
 use Rattle.boardnet.specs.HandedOutcome.{HasHandedReason}
 use Rattle.boardnet.specs.Kept.{LeftBy}
 use Rattle.boardnet.specs.Outcome.{ComesFor, HandedOver, IsDecided, Source}
@@ -162,8 +163,14 @@ decided_is source names r l u bytes seen text line status is e b d = record {
   decision = d;
 }
 
-pub text_alike : (n m : ℕ) (p q : List Probe) (a b : List (List ℕ)) (v w : Verdict) → n ≡ m → p ≡ q → a ≡ b → between_text n p a v w ≡ between_text m q b v w
-text_alike n m p q a b v w e f h = ap (λ (k : ℕ). between_text k p a v w) e ∙ (ap (λ (k : List Probe). between_text m k a v w) f ∙ ap (λ (k : List (List ℕ)). between_text m q k v w) h)
+pub text_alike : (n m : ℕ) (p q : List Probe) (a b : List (List ℕ)) (v w : Verdict) (sure unsure : Findings) → n ≡ m → p ≡ q → a ≡ b → sure ≡ certain v w → unsure ≡ undecided v w → boards_part n v w ++ decision_part p a sure unsure ≡ between_text m q b v w
+text_alike n m p q a b v w sure unsure e f h c u =
+    ap (λ (k : ℕ). boards_part k v w ++ decision_part p a sure unsure) e ∙ (ap (λ (k : List Probe). boards_part m v w ++ decision_part k a sure unsure) f ∙
+    (ap (λ (k : List (List ℕ)). boards_part m v w ++ decision_part q k sure unsure) h ∙
+    (ap (λ (k : Findings). boards_part m v w ++ decision_part q b k unsure) c ∙ ap (λ (k : Findings). boards_part m v w ++ decision_part q b (certain v w) k) u)))
+
+pub decision_by : (v w : Verdict) (sure unsure : Findings) (status : ℕ) (line : List ℕ) → sure ≡ certain v w → unsure ≡ undecided v w → IsDecisionBy sure unsure status line → IsDecision v w status line
+decision_by v w sure unsure status line c u h = subst (λ (k : Findings). IsDecisionBy (certain v w) k status line) u (subst (λ (k : Findings). IsDecisionBy k unsure status line) c h)
 
 -- what is taken of the same pieces by the same counts
 pub taken_moved : (side : Side) (xs ys : List (Placed RealShape)) (c d : List ℕ) (p q : List PlainPiece) → xs ≡ ys → c ≡ d → p ≡ q → AreTaken side xs c p → AreTaken side ys d q

@@ -16,7 +16,7 @@ use Rattle.gerber_layer.specs.declared.macro_kind.FlattenFault.{FlattenFault}
 use Rattle.gerber_layer.specs.declared.macro_kind.FlattenFault.TheVariants as flat
 use Rattle.gaps.specs.declared.listing.GapFault.{GapFault}
 use Rattle.gaps.specs.declared.listing.GapFault.TheVariants as gap
-use Rattle.boardnet.specs.Lines.{counted_line, plain_line, file_line, differs_line, frame_line, label_line, undecided_line, end}
+use Rattle.boardnet.specs.Lines.{counted_line, plain_line, file_line, findings_line, frame_line, label_line, end}
 use Rattle.boardnet.specs.Outcome.{OutcomeOf, Source, Told, flatten_line, refusal_line, IsNoReport, IsTextOf}
 use Rattle.boardnet.specs.Words.{Command, task_of}
 use Rattle.boardnet.specs.declared.answer.Answer.{Answer}
@@ -52,7 +52,7 @@ status_of n = if is_good n then 0 else 1
 -- the line about an answer
 abbrev pub line_of : Note → List ℕ
 line_of note.Agrees = plain_line (codes "agrees")
-line_of (note.Differs opens shorts missing) = differs_line opens shorts missing
+line_of (note.Differs opens shorts missing) = findings_line (codes "differs") opens shorts missing
 line_of note.AuditTrue = plain_line (codes "audit true")
 line_of (note.AuditUntrue clause) = counted_line (codes "audit untrue ") clause
 line_of (note.TrialDone agrees) = plain_line (codes "trial done")
@@ -60,7 +60,7 @@ line_of note.NetlistWritten = plain_line (codes "netlist written")
 line_of note.NoGaps = plain_line (codes "no gaps")
 line_of (note.Gaps count) = counted_line (codes "gaps ") count
 line_of note.Flattened = plain_line (codes "flattened")
-line_of (note.Undecided opens shorts missing) = undecided_line opens shorts missing
+line_of (note.Undecided opens shorts missing) = findings_line (codes "undecided") opens shorts missing
 
 -- an answer is the outcome of a command
 abbrev pub IsAnswerTo : Source → Command → Answer → Type 0

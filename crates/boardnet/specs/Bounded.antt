@@ -50,7 +50,7 @@ pub record AreNotTaken (real : PlainRealBoard) (lower upper : PlainBoard) (bytes
 abbrev pub HasCounts : List ℕ → Type 0
 HasCounts bytes = (lower upper : List ℕ) × AreCounts bytes lower upper
 
--- a board has another netlist; that of the lower one is judged first
+-- a board has other test points, names or layers; the lower one is judged first
 abbrev pub HasOtherNetlist : Side → PlainRealBoard → PlainBoard → PlainBoard → Type 0
 HasOtherNetlist Below real lower upper = HasNetlistOf real lower → ⊥
 HasOtherNetlist Above real lower upper = HasNetlistOf real lower × (HasNetlistOf real upper → ⊥)
@@ -59,7 +59,7 @@ HasOtherNetlist Above real lower upper = HasNetlistOf real lower × (HasNetlistO
 abbrev pub ComesFrom : PlainRealBoard → ℕ → Origin → Type 0
 ComesFrom real n origin = (piece : PlainReal) × (slice_get real.pieces n ≡ Some piece) × (piece.origin ≡ origin)
 
--- Why the boards are no bounds of the real one by these bytes, in this order: a line of the bytes is none of counts; a board has another netlist; the counts
+-- Why the boards are no bounds of the real one by these bytes, in this order: a line of the bytes is none of counts; a board has other test points, names or layers; the counts
 -- do not add up; the pieces of one side are not taken for a real piece, which is the first.
 abbrev pub IsUnboundBy : PlainRealBoard → PlainBoard → PlainBoard → List ℕ → Unbound → Type 0
 IsUnboundBy real lower upper bytes (NotCounts line) = IsFirstOther bytes line
@@ -81,7 +81,7 @@ not_counts_line counts line = concat (begin ∷ counts ∷ codes ": not counts a
 -- the line, by the names of the real manifest and of the file of counts
 abbrev pub unbound_line : (real counts : List ℕ) → Unbound → List ℕ
 unbound_line real counts (NotCounts line) = not_counts_line counts line
-unbound_line real counts (Netlist side) = file_line real (on_side side (codes "lower board has another netlist") (codes "upper board has another netlist"))
+unbound_line real counts (Netlist side) = file_line real (on_side side (codes "lower board has other test points, names or layers") (codes "upper board has other test points, names or layers"))
 unbound_line real counts (Counts side) = file_line counts (on_side side (codes "counts below do not add up") (codes "counts above do not add up"))
 unbound_line real counts (Piece side origin) = piece_line real (on_side side (codes ": not bounded below") (codes ": not bounded above")) origin
 

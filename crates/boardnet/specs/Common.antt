@@ -6,7 +6,7 @@ use Rattle.board_package.specs.PackageBoard.{Stop, absent, longer, not_json, bad
 use Rattle.board_package.specs.Refusals.{refusal_number, refusal_name}
 use Rattle.board_package.specs.declared.contents.Refusal.{Refusal}
 use Rattle.board_package.specs.declared.contents.Refusal.TheVariants.{Layer, Drill, Netlist}
-use Rattle.boardnet.specs.Lines.{at_byte, at_item, plain_line, file_line, frame_line, kind_line, differs_line}
+use Rattle.boardnet.specs.Lines.{at_byte, at_item, plain_line, file_line, frame_line, kind_line, findings_line}
 use Rattle.boardnet.specs.Source.{Source, IsFirstStopBy}
 use Rattle.verdict.specs.ReportText.{Agrees}
 use Rattle.verdict.specs.declared.verdict.Verdict.{Verdict}
@@ -15,7 +15,7 @@ use Rattle.verdict.specs.declared.verdict.Verdict.{Verdict}
 abbrev pub HasStatus : Verdict → ℕ → List ℕ → Type 0
 HasStatus v status line =
     (Agrees v × (status ≡ 0) × (line ≡ plain_line (codes "agrees")))
-    ⊎ ((Agrees v → ⊥) × (status ≡ 1) × (line ≡ differs_line (length v.opens) (length v.shorts) (length v.bare)))
+    ⊎ ((Agrees v → ⊥) × (status ≡ 1) × (line ≡ findings_line (codes "differs") (length v.opens) (length v.shorts) (length v.bare)))
 
 -- the form of a file that is refused
 abbrev pub form_of : Refusal → List ℕ

@@ -1,5 +1,5 @@
 -- The laws of the program.
-use Rattle.std.specs.Prelude.{◌≡◌, ◌*◌, ◌<◌, ◌≤◌, ℕ, List, [], ◌∷◌, ◌++◌, length, All, Some, codes}
+use Rattle.std.specs.Prelude.{◌≡◌, ◌≢◌, ◌⊎◌, ◌↔◌, ◌*◌, ◌<◌, ◌≤◌, ℕ, false, List, [], ◌∷◌, ◌++◌, length, All, Contains, Some, codes, slice_get}
 use Rattle.board_io.specs.Package.{Files}
 use Rattle.board_package.specs.PackageBoard.{IsBoardOf, IsManifestFile, order_of}
 use Rattle.texts.specs.declared.TheConstants.{MOST_BYTES}
@@ -7,14 +7,16 @@ use Rattle.board_package.specs.declared.entry.Entry.{Entry}
 use Rattle.board_package.specs.declared.entry.Role.TheVariants.{Netlist}
 use Rattle.board_package.specs.declared.manifest.Manifest.{Manifest}
 use Rattle.board_shapes.specs.Plain.{PlainBoard}
+use Rattle.boardnet.specs.Findings.{NoneFound, certain, possible, short_points, undecided}
 use Rattle.boardnet.specs.Lines.{end, plain_line}
 use Rattle.boardnet.specs.Outcome.{AuditOutcome, CheckOutcome, Held, IsDecided, IsWritten, Source, Told}
 use Rattle.boardnet.specs.Command.{BoundNames}
-use Rattle.covers.specs.Agreeing.{AgreesWithNames}
-use Rattle.covers.specs.Boards.{Layout}
+use Rattle.covers.specs.Agreeing.{AgreesWithNames, HasName}
+use Rattle.covers.specs.Boards.{Layout, PointsJoined}
 use Rattle.covers.specs.Laws.{Decides}
 use Rattle.planar.specs.Plane.{Point}
 use Rattle.real_package.specs.RealBoards.{PlainRealBoard}
+use Rattle.arc_covers.specs.Findings.{IsWithoutCopper}
 use Rattle.arc_covers.specs.Laws.{CertainFindings}
 use Rattle.arc_covers.specs.RealBoards.{IsReal}
 use Rattle.arc_layer.specs.Real.{plain_reals}
@@ -26,7 +28,10 @@ use Rattle.board_shapes.specs.declared.TheConstants.{MOST_PIECES}
 use Rattle.ipc356_records.specs.declared.TheConstants.{MOST_RECORDS}
 use Rattle.tables.specs.Tables.{Tables, TestPoint}
 use Rattle.verdict.specs.Limits.{HasFewParts, HasSixDigits, HasSmallParts, IsRecordName}
-use Rattle.verdict.specs.Right.{IsRight}
+use Rattle.verdict.specs.Right.{IsRight, is_unconnected}
+use Rattle.verdict.specs.declared.verdict.Branch.{Branch}
+use Rattle.verdict.specs.declared.verdict.Open.{Open}
+use Rattle.verdict.specs.declared.verdict.Short.{Short}
 use Rattle.verdict.specs.declared.verdict.Verdict.{Verdict}
 
 -- ---- Reports
@@ -98,6 +103,49 @@ BoundedBoardsAreDecided holds = (source : Source) (names : BoundNames) (text lin
 -- So is each finding that its text says to be certain.
 abbrev pub BoundedFindingsAreCertain : (ℕ → Point → Type 0) → Type 0
 BoundedFindingsAreCertain holds = (source : Source) (names : BoundNames) (text line : List ℕ) (status : ℕ) (d : IsDecided source names text status line) (b : Layout) → IsLaidOut d.bounds.real holds b → CertainFindings d.decision.below d.decision.above holds b
+
+-- the one list has the item, or the other
+abbrev pub IsListed : {X : Type 0} → (sure unsure : List X) → X → Type 0
+IsListed sure unsure item = Contains sure item ⊎ Contains unsure item
+
+-- the text lists the test point as missing
+abbrev pub IsListedMissing : (below above : Verdict) → ℕ → Type 0
+IsListedMissing below above k = IsListed (certain below above).missing (undecided below above).missing k
+
+-- it lists an open of the name
+pub record HasListedOpen (below above : Verdict) (name : ℕ) : Type 0 where
+  pub entry : Open
+  pub found : Contains below.opens entry
+  pub named : entry.name ≡ name
+  pub listed : IsListed (certain below above).opens (undecided below above).opens entry.probe
+
+-- a short has a branch of the name
+abbrev pub HasBranch : Short → ℕ → Type 0
+HasBranch s name = (b : Branch) × Contains s.branches b × (b.name ≡ name)
+
+-- it lists a short of both names
+pub record HasListedShort (below above : Verdict) (name other : ℕ) : Type 0 where
+  pub short : Short
+  pub found : Contains above.shorts short
+  pub first : HasBranch short name
+  pub second : HasBranch short other
+  pub listed : IsListed (certain below above).shorts (undecided below above).shorts (short_points short)
+
+-- What the text lists, as certain or as undecided, is all that the board can have amiss.
+pub record AllIsListed (below above : Verdict) (holds : ℕ → Point → Type 0) (real : Layout) : Type 0 where
+  -- A point without copper is listed as missing.
+  pub missing : (k : ℕ) → IsWithoutCopper holds real k → IsListedMissing below above k
+  -- Of two points of a name other than `N/C` that are not joined one is listed as missing, or an open of the name is listed.
+  pub opens : (k l name : ℕ) (text : List ℕ) → slice_get real.names name ≡ Some text → is_unconnected text ≡ false → HasName real k name → HasName real l name → (PointsJoined holds real k l → ⊥)
+      → IsListedMissing below above k ⊎ IsListedMissing below above l ⊎ HasListedOpen below above name
+  -- Of two points of two names that are joined a short of both names is listed.
+  pub shorts : (k l name other : ℕ) → HasName real k name → HasName real l other → name ≢ other → PointsJoined holds real k l → HasListedShort below above name other
+  -- Nothing is possible exactly where nothing is listed.
+  pub none : NoneFound (possible below above) ↔ (NoneFound (certain below above) × NoneFound (undecided below above))
+
+-- And what the text does not list the board has not.
+abbrev pub BoundedFindingsAreListed : (ℕ → Point → Type 0) → Type 0
+BoundedFindingsAreListed holds = (source : Source) (names : BoundNames) (text line : List ℕ) (status : ℕ) (d : IsDecided source names text status line) (b : Layout) → IsLaidOut d.bounds.real holds b → AllIsListed d.decision.below d.decision.above holds b
 
 -- ---- Written netlists
 

@@ -5,6 +5,7 @@ pub mod Command
 pub mod Common
 pub mod Ends
 pub mod FilesAgree
+pub mod Findings
 pub mod Gapped
 pub mod HandedOutcome
 pub mod Kept

@@ -45,13 +45,9 @@ kind_line file form number kind place =
 abbrev pub label_line : List ℕ → ℕ → ℕ → List ℕ
 label_line file command byte = concat (begin ∷ file ∷ codes ": label at command " ∷ decimal command ∷ codes ", byte " ∷ decimal byte ∷ end ∷ [])
 
--- how many opens, shorts and points without copper a verdict lists
-abbrev pub differs_line : ℕ → ℕ → ℕ → List ℕ
-differs_line opens shorts missing = concat (begin ∷ codes "differs, opens " ∷ decimal opens ∷ codes ", shorts " ∷ decimal shorts ∷ codes ", missing " ∷ decimal missing ∷ end ∷ [])
-
--- how many findings the part "possible" lists, where none is certain
-abbrev pub undecided_line : ℕ → ℕ → ℕ → List ℕ
-undecided_line opens shorts missing = concat (begin ∷ codes "undecided, opens " ∷ decimal opens ∷ codes ", shorts " ∷ decimal shorts ∷ codes ", missing " ∷ decimal missing ∷ end ∷ [])
+-- a word, and how many opens, shorts and points without copper are listed
+abbrev pub findings_line : List ℕ → ℕ → ℕ → ℕ → List ℕ
+findings_line what opens shorts missing = concat (begin ∷ what ∷ codes ", opens " ∷ decimal opens ∷ codes ", shorts " ∷ decimal shorts ∷ codes ", missing " ∷ decimal missing ∷ end ∷ [])
 
 -- the box that fits in no frame: its left, low, right and high side, in u
 abbrev pub frame_line : Bounds → List ℕ

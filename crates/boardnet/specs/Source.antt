@@ -40,15 +40,22 @@ pub record FitsWith (source : Source) (manifest : List ℕ) (P : PlainBoard → 
   pub limits : IsWithinLimits board
   pub good : P board
 
--- The package fits, with this board, and Then holds of what was read behind it: of the same files, or of what was handed over
--- after the package.
-abbrev pub FitsBefore : Source → List ℕ → PlainBoard → (Source → Type 0) → Type 0
-FitsBefore (Held files) manifest board Then = IsBoardOf files manifest board × Then (Held files)
-FitsBefore (HandedOver before after) manifest board Then = (built : List Handed) × IsBoardHanded before built manifest board × Then (HandedOver built after)
+-- A package fits, with this board by a relation to what was read, and Then holds of what was read behind it: of the same files, or of what was handed over
+-- there, which stands behind what the package handed over.
+abbrev pub FitsBy : {B : Type 0} → (Source → B → Type 0) → Source → B → (Source → Type 0) → Type 0
+FitsBy Is (Held files) board Then = Is (Held files) board × Then (Held files)
+FitsBy Is (HandedOver before after) board Then = (built : List Handed) × (Grows before built × Grows built after) × Is (HandedOver before built) board × Then (HandedOver built after)
 
-pub record FitsThen (source : Source) (manifest : List ℕ) (Then : Source → Type 0) : Type 0 where
-  pub board : PlainBoard
-  pub behind : FitsBefore source manifest board Then
+-- so it is with some board
+pub record FitsThenBy {B : Type 0} (Is : Source → B → Type 0) (source : Source) (Then : Source → Type 0) : Type 0 where
+  pub board : B
+  pub behind : FitsBy Is source board Then
+
+abbrev pub FitsBefore : Source → List ℕ → PlainBoard → (Source → Type 0) → Type 0
+FitsBefore source manifest board Then = FitsBy (λ read b. IsBoardBy read manifest b) source board Then
+
+abbrev pub FitsThen : Source → List ℕ → (Source → Type 0) → Type 0
+FitsThen source manifest Then = FitsThenBy (λ read b. IsBoardBy read manifest b) source Then
 
 -- ---- A package without its netlist, by the net names in its copper files
 
@@ -74,24 +81,15 @@ abbrev pub RealComesBy : Source → List ℕ → List ℕ → Type 0
 RealComesBy (Held files) manifest name = RealComes files manifest name
 RealComesBy (HandedOver before after) manifest name = RealComesHanded before after manifest name
 
--- The package fits as one whose draws may be arcs, with this board, and Then holds of what was read behind it. What was handed over there
--- stands behind what the package handed over.
+abbrev pub IsRealBoardBy : Source → List ℕ → PlainRealBoard → Type 0
+IsRealBoardBy (Held files) manifest board = IsRealBoardOf files manifest board
+IsRealBoardBy (HandedOver before after) manifest board = IsRealBoardHanded before after manifest board
+
 abbrev pub FitsRealBefore : Source → List ℕ → PlainRealBoard → (Source → Type 0) → Type 0
-FitsRealBefore (Held files) manifest board Then = IsRealBoardOf files manifest board × Then (Held files)
-FitsRealBefore (HandedOver before after) manifest board Then = (built : List Handed) × (Grows before built × Grows built after) × IsRealBoardHanded before built manifest board × Then (HandedOver built after)
+FitsRealBefore source manifest board Then = FitsBy (λ read b. IsRealBoardBy read manifest b) source board Then
 
-pub record FitsRealThen (source : Source) (manifest : List ℕ) (Then : Source → Type 0) : Type 0 where
-  pub board : PlainRealBoard
-  pub behind : FitsRealBefore source manifest board Then
-
--- the same of a package without arcs
-abbrev pub FitsNext : Source → List ℕ → PlainBoard → (Source → Type 0) → Type 0
-FitsNext (Held files) manifest board Then = IsBoardOf files manifest board × Then (Held files)
-FitsNext (HandedOver before after) manifest board Then = (built : List Handed) × (Grows before built × Grows built after) × IsBoardHanded before built manifest board × Then (HandedOver built after)
-
-pub record FitsNextThen (source : Source) (manifest : List ℕ) (Then : Source → Type 0) : Type 0 where
-  pub board : PlainBoard
-  pub behind : FitsNext source manifest board Then
+abbrev pub FitsRealThen : Source → List ℕ → (Source → Type 0) → Type 0
+FitsRealThen source manifest Then = FitsThenBy (λ read b. IsRealBoardBy read manifest b) source Then
 
 -- ---- One file
 

@@ -1,14 +1,14 @@
 //! What a command answers, and why it has no answer.
 ghost use Rattle.board_package.specs.declared.fault.BuildFault.TheVariants as build;
 ghost use Rattle.boardnet.specs.Answers.{line_of, status_of, unflat_of, ungapped_of, unlabelled_of, unmade_of, unreal_of};
-ghost use Rattle.boardnet.specs.BetweenText.{IsDecision};
+ghost use Rattle.boardnet.specs.BetweenText.{IsDecisionBy};
 ghost use Rattle.boardnet.specs.Gapped.{IsGapStatus};
 ghost use Rattle.boardnet.specs.Lines.{Says};
 ghost use Rattle.boardnet.specs.Outcome.{HasStatus};
 ghost use Rattle.boardnet.specs.declared.answer.Unanswered.TheVariants as unanswered;
 ghost use Rattle.std.specs.Prelude.{◌≡◌};
 
-use crate::between_text::{nothing_certain, nothing_possible};
+use crate::findings::Findings;
 use crate::lines;
 use crate::unbound::Unbound;
 use arc_layer::RealKind;
@@ -74,24 +74,24 @@ impl Note {
         }
     }
 
-    /// What the line about a board between those of two verdicts says.
-    pub fn between(below: &Verdict, above: &Verdict) -> Note
-        ensures { IsDecision below.now above.now (status_of result) (line_of result) }
+    /// What the line about a board says of which this is certain and that undecided.
+    pub fn between(sure: &Findings, unsure: &Findings) -> Note
+        ensures { IsDecisionBy sure.now unsure.now (status_of result) (line_of result) }
     {
-        if nothing_possible(below, above) {
-            return Note::Agrees;
-        }
-        if nothing_certain(below, above) {
-            return Note::Undecided {
-                opens: below.opens.as_slice().len(),
-                shorts: above.shorts.as_slice().len(),
-                missing: below.bare.as_slice().len(),
+        if !sure.are_none() {
+            return Note::Differs {
+                opens: sure.opens().len(),
+                shorts: sure.shorts().len(),
+                missing: sure.missing().len(),
             };
         }
-        Note::Differs {
-            opens: above.opens.as_slice().len(),
-            shorts: below.shorts.as_slice().len(),
-            missing: above.bare.as_slice().len(),
+        if unsure.are_none() {
+            return Note::Agrees;
+        }
+        Note::Undecided {
+            opens: unsure.opens().len(),
+            shorts: unsure.shorts().len(),
+            missing: unsure.missing().len(),
         }
     }
 
@@ -133,7 +133,7 @@ impl Note {
                 opens,
                 shorts,
                 missing,
-            } => lines::differs(notes, opens, shorts, missing),
+            } => lines::findings(notes, b"differs", opens, shorts, missing),
             Note::AuditTrue => lines::plain(notes, b"audit true"),
             Note::AuditUntrue { clause } => {
                 lines::counted(notes, b"audit untrue ", u64::from(clause))
@@ -147,7 +147,7 @@ impl Note {
                 opens,
                 shorts,
                 missing,
-            } => lines::undecided(notes, opens, shorts, missing),
+            } => lines::findings(notes, b"undecided", opens, shorts, missing),
         }
     }
 }

@@ -1,24 +1,18 @@
 //! The text of `between`, and what is decided by two verdicts of a board between theirs.
 ghost use Rattle.boardnet.specs.BetweenText as spec;
-ghost use Rattle.boardnet.specs.BetweenText.{NoneFound, between_text, findings_part, point_line, probe_text};
+ghost use Rattle.boardnet.specs.BetweenText.{findings_part, list_part, point_line, probe_text};
 ghost use Rattle.std.specs.List.{flat_map};
-ghost use Rattle.std.specs.Prelude.{IfOk, IsTrue, OnOk, Some, [], slice_index_or, ◌++◌, ◌≡◌, ◌↔◌};
+ghost use Rattle.std.specs.Prelude.{IfOk, OnOk, Some, [], map, slice_index_or, ◌++◌, ◌≡◌};
 ghost use Rattle.verdict.specs.ReportText.{count_line, signed_word};
 
+use crate::findings::Findings;
 use board_shapes::Probe;
 use lengths::rows::NoMemory;
 use lengths::text::Text;
 use planar::Spot;
 use std::alloc::{AllocError, Global};
 use texts::{put, put_blank_number, put_signed};
-use verdict::{Branch, Open, Short, Verdict};
-
-/// Whether there is no finding.
-pub fn none_found(opens: &[Open], shorts: &[Short], bare: &[u32]) -> bool
-    ensures { IsTrue result ↔ NoneFound opens.now shorts.now bare.now }
-{
-    opens.is_empty() && shorts.is_empty() && bare.is_empty()
-}
+use verdict::Verdict;
 
 fn name_at(names: &[Text], name: u32) -> &[u8]
     ensures { result.now ≡ slice_index_or names.now name [] }
@@ -89,55 +83,32 @@ fn push_point(
     put(out, b"\n")
 }
 
-fn push_opens(
+// A count, and a line for each of these test points.
+fn push_list(
     out: &mut Vec<u8>,
+    title: &[u8],
+    item: &[u8],
     probes: &[Probe],
     names: &[Text],
-    opens: &[Open],
+    points: &[u32],
 ) -> Result<(), AllocError>
-    ensures { OnOk result (out.new.items ≡ out.old.items ++ spec.opens_part probes.now names.now opens.now) }
+    ensures { OnOk result (out.new.items ≡ out.old.items ++ list_part title.now item.now probes.now names.now points.now) }
 {
-    push_count(out, b"opens", opens.len())?;
-    each_open(out, probes, names, opens)
+    push_count(out, title, points.len())?;
+    push_points(out, item, probes, names, points)
 }
 
-fn each_open(
+fn push_points(
     out: &mut Vec<u8>,
+    item: &[u8],
     probes: &[Probe],
     names: &[Text],
-    opens: &[Open],
+    points: &[u32],
 ) -> Result<(), AllocError>
-    ensures { OnOk result (out.new.items ≡ out.old.items ++ flat_map (spec.open_line probes.now names.now) opens.now) }
+    ensures { OnOk result (out.new.items ≡ out.old.items ++ flat_map (point_line item.now probes.now names.now) points.now) }
 {
-    for entry in opens {
-        push_point(out, b"open", probes, names, entry.probe)?;
-    }
-    Ok(())
-}
-
-fn push_short(
-    out: &mut Vec<u8>,
-    probes: &[Probe],
-    names: &[Text],
-    short: &Short,
-) -> Result<(), AllocError>
-    ensures { OnOk result (out.new.items ≡ out.old.items ++ spec.short_part probes.now names.now short.now) }
-{
-    let branches = short.branches.as_slice();
-    push_count(out, b"short", branches.len())?;
-    each_branch(out, probes, names, branches)
-}
-
-fn each_branch(
-    out: &mut Vec<u8>,
-    probes: &[Probe],
-    names: &[Text],
-    branches: &[Branch],
-) -> Result<(), AllocError>
-    ensures { OnOk result (out.new.items ≡ out.old.items ++ flat_map (spec.branch_line probes.now names.now) branches.now) }
-{
-    for branch in branches {
-        push_point(out, b"point", probes, names, branch.probe)?;
+    for number in points {
+        push_point(out, item, probes, names, *number)?;
     }
     Ok(())
 }
@@ -146,9 +117,9 @@ fn push_shorts(
     out: &mut Vec<u8>,
     probes: &[Probe],
     names: &[Text],
-    shorts: &[Short],
+    shorts: &[Vec<u32>],
 ) -> Result<(), AllocError>
-    ensures { OnOk result (out.new.items ≡ out.old.items ++ spec.shorts_part probes.now names.now shorts.now) }
+    ensures { OnOk result (out.new.items ≡ out.old.items ++ spec.shorts_part probes.now names.now (map (λ points. points.items) shorts.now)) }
 {
     push_count(out, b"shorts", shorts.len())?;
     each_short(out, probes, names, shorts)
@@ -158,57 +129,30 @@ fn each_short(
     out: &mut Vec<u8>,
     probes: &[Probe],
     names: &[Text],
-    shorts: &[Short],
+    shorts: &[Vec<u32>],
 ) -> Result<(), AllocError>
-    ensures { OnOk result (out.new.items ≡ out.old.items ++ flat_map (spec.short_part probes.now names.now) shorts.now) }
+    ensures { OnOk result (out.new.items ≡ out.old.items ++ flat_map (λ short. spec.short_part probes.now names.now short.items) shorts.now) }
 {
     for short in shorts {
-        push_short(out, probes, names, short)?;
+        push_list(out, b"short", b"point", probes, names, short.as_slice())?;
     }
     Ok(())
 }
 
-fn push_bare(
-    out: &mut Vec<u8>,
-    probes: &[Probe],
-    names: &[Text],
-    bare: &[u32],
-) -> Result<(), AllocError>
-    ensures { OnOk result (out.new.items ≡ out.old.items ++ spec.bare_part probes.now names.now bare.now) }
-{
-    push_count(out, b"missing", bare.len())?;
-    each_bare(out, probes, names, bare)
-}
-
-fn each_bare(
-    out: &mut Vec<u8>,
-    probes: &[Probe],
-    names: &[Text],
-    bare: &[u32],
-) -> Result<(), AllocError>
-    ensures { OnOk result (out.new.items ≡ out.old.items ++ flat_map (spec.bare_line probes.now names.now) bare.now) }
-{
-    for number in bare {
-        push_point(out, b"bare", probes, names, *number)?;
-    }
-    Ok(())
-}
-
+// A title, and what is found.
 fn push_findings(
     out: &mut Vec<u8>,
     title: &[u8],
     probes: &[Probe],
     names: &[Text],
-    opens: &[Open],
-    shorts: &[Short],
-    bare: &[u32],
+    found: &Findings,
 ) -> Result<(), AllocError>
-    ensures { OnOk result (out.new.items ≡ out.old.items ++ (title.now ++ findings_part probes.now names.now opens.now shorts.now bare.now)) }
+    ensures { OnOk result (out.new.items ≡ out.old.items ++ (title.now ++ findings_part probes.now names.now found.now)) }
 {
     put(out, title)?;
-    push_opens(out, probes, names, opens)?;
-    push_shorts(out, probes, names, shorts)?;
-    push_bare(out, probes, names, bare)
+    push_list(out, b"opens", b"open", probes, names, found.opens())?;
+    push_shorts(out, probes, names, found.shorts())?;
+    push_list(out, b"missing", b"bare", probes, names, found.missing())
 }
 
 fn push_board(out: &mut Vec<u8>, title: &[u8], v: &Verdict) -> Result<(), AllocError>
@@ -237,40 +181,37 @@ fn push_boards(
     push_board(out, b"upper", above)
 }
 
-// What both verdicts decide.
-fn last(below: &Verdict, above: &Verdict) -> &'static [u8]
-    ensures { result.now ≡ spec.last_part below.now above.now }
+// What is decided.
+fn last(sure: &Findings, unsure: &Findings) -> &'static [u8]
+    ensures { result.now ≡ spec.last_part sure.now unsure.now }
 {
-    if nothing_possible(below, above) {
-        return b"agrees\n";
+    if !sure.are_none() {
+        return b"differs\n";
     }
-    if nothing_certain(below, above) {
-        b"undecided\n"
+    if unsure.are_none() {
+        b"agrees\n"
     } else {
-        b"differs\n"
+        b"undecided\n"
     }
 }
 
-/// Whether nothing is amiss in any board between those of the verdicts.
-pub fn nothing_possible(below: &Verdict, above: &Verdict) -> bool
-    ensures { IsTrue result ↔ spec.NothingPossible below.now above.now }
+// What is certain, what is undecided, and what is decided.
+fn push_decision(
+    out: &mut Vec<u8>,
+    probes: &[Probe],
+    names: &[Text],
+    sure: &Findings,
+    unsure: &Findings,
+) -> Result<(), AllocError>
+    ensures { OnOk result (out.new.items ≡ out.old.items ++ spec.decision_part probes.now names.now sure.now unsure.now) }
 {
-    let shorts = above.shorts.as_slice();
-    none_found(below.opens.as_slice(), shorts, below.bare.as_slice())
+    push_findings(out, b"certain\n", probes, names, sure)?;
+    push_findings(out, b"undecided\n", probes, names, unsure)?;
+    put(out, last(sure, unsure))
 }
 
-/// Whether nothing is amiss in each of them.
-pub fn nothing_certain(below: &Verdict, above: &Verdict) -> bool
-    ensures { IsTrue result ↔ spec.NothingCertain below.now above.now }
-{
-    none_found(
-        above.opens.as_slice(),
-        below.shorts.as_slice(),
-        above.bare.as_slice(),
-    )
-}
-
-/// The text of the verdicts on two boards that bound a real one of so many pieces, with these test points and names.
+/// The text of what is certain and of what is undecided of a real board of so many pieces, with these test points and names, between boards with these
+/// verdicts.
 pub fn write_between(
     alloc: Global,
     count: usize,
@@ -278,43 +219,13 @@ pub fn write_between(
     names: &[Text],
     below: &Verdict,
     above: &Verdict,
+    sure: &Findings,
+    unsure: &Findings,
 ) -> Result<Vec<u8>, NoMemory>
-    ensures { IfOk result (λ text. text.items ≡ between_text count probes.now names.now below.now above.now) }
+    ensures { IfOk result (λ text. text.items ≡ spec.boards_part count below.now above.now ++ spec.decision_part probes.now names.now sure.now unsure.now) }
 {
     let mut out = Vec::new(alloc);
     push_boards(&mut out, count, below, above)?;
-    push_certain(&mut out, probes, names, below, above)?;
-    push_possible(&mut out, probes, names, below, above)?;
-    put(&mut out, last(below, above))?;
+    push_decision(&mut out, probes, names, sure, unsure)?;
     Ok(out)
-}
-
-fn push_certain(
-    out: &mut Vec<u8>,
-    probes: &[Probe],
-    names: &[Text],
-    below: &Verdict,
-    above: &Verdict,
-) -> Result<(), AllocError>
-    ensures { OnOk result (out.new.items ≡ out.old.items ++ spec.certain_part probes.now names.now below.now above.now) }
-{
-    let opens = above.opens.as_slice();
-    let shorts = below.shorts.as_slice();
-    let bare = above.bare.as_slice();
-    push_findings(out, b"certain\n", probes, names, opens, shorts, bare)
-}
-
-fn push_possible(
-    out: &mut Vec<u8>,
-    probes: &[Probe],
-    names: &[Text],
-    below: &Verdict,
-    above: &Verdict,
-) -> Result<(), AllocError>
-    ensures { OnOk result (out.new.items ≡ out.old.items ++ spec.possible_part probes.now names.now below.now above.now) }
-{
-    let opens = below.opens.as_slice();
-    let others = above.shorts.as_slice();
-    let bare = below.bare.as_slice();
-    push_findings(out, b"possible\n", probes, names, opens, others, bare)
 }

@@ -1,6 +1,6 @@
 //! Laws over the outcomes. Their calls do nothing.
 ghost use Rattle.boardnet.specs.FilesAgree.{FilesAgree, OutcomesAgree};
-ghost use Rattle.boardnet.specs.Laws.{BoundedBoardsAgree, BoundedBoardsAreDecided, BoundedFindingsAreCertain, FirstReportsAreShort, ReportsPass, RightVerdictsAreSmall, WrittenNetlistsPass};
+ghost use Rattle.boardnet.specs.Laws.{BoundedBoardsAgree, BoundedBoardsAreDecided, BoundedFindingsAreCertain, BoundedFindingsAreListed, FirstReportsAreShort, ReportsPass, RightVerdictsAreSmall, WrittenNetlistsPass};
 ghost use Rattle.boardnet.specs.OneOutcome.{OneHandedOutcome, OneOutcome};
 
 use arc_covers::laws as bounds;
@@ -77,17 +77,19 @@ pub fn reports_pass()
 }
 
 /// Whatever copper the real package of a `between` has, of those that its files allow: under 0 it agrees with its names, and
-/// what the verdicts below and above say of nets, and each finding that the text says to be certain, is so. A caller picks the copper, as any set of points for
-/// each piece; `between` of `run` gives the bounds and the verdicts.
+/// what the verdicts below and above say of nets, and each finding that the text says to be certain, is so; and it has no other findings than those that the
+/// text lists as certain or as undecided. A caller picks the copper, as any set of points for each piece; `between` of `run` gives the bounds and the verdicts.
 pub fn bounded_boards_are_decided<R: Copper>()
     ensures agrees { BoundedBoardsAgree R.holds }
     ensures decides { BoundedBoardsAreDecided R.holds }
     ensures certain { BoundedFindingsAreCertain R.holds }
+    ensures listed { BoundedFindingsAreListed R.holds }
 {
     shapes::tables_are_unique();
     bounds::taken_are_bounds();
     bounds::real_board_is_decided::<R>();
     bounds::findings_are_certain::<R>();
+    verdicts::boards_have_the_laws();
 }
 
 /// The netlist that `write` puts agrees with the copper: a package that holds it in place of its own netlist fits, and where

@@ -1,5 +1,5 @@
 //! The line to the notes, put in pieces and without memory.
-ghost use Rattle.boardnet.specs.Lines.{Gains, Rose, Says, at_byte, at_item, counted_line, differs_line, file_line, frame_line, kind_line, label_line, plain_line, undecided_line};
+ghost use Rattle.boardnet.specs.Lines.{Gains, Rose, Says, at_byte, at_item, counted_line, file_line, findings_line, frame_line, kind_line, label_line, plain_line};
 ghost use Rattle.boardnet.specs.Bounded.{not_counts_line};
 ghost use Rattle.std.specs.List.{flat_map};
 ghost use Rattle.std.specs.Prelude.{false, true, ◌≡◌};
@@ -29,34 +29,16 @@ pub fn plain<N: Sink>(notes: &mut N, what: &[u8])
     put_all(notes, &[b"boardnet: ", what, b"\n"]);
 }
 
-/// Puts the line of a verdict that differs.
-pub fn differs<N: Sink>(notes: &mut N, opens: usize, shorts: usize, missing: usize)
-    ensures { Says N.got N.faults notes.old notes.new (differs_line opens shorts missing) }
+/// Puts the line of a word and of how many findings are listed.
+pub fn findings<N: Sink>(notes: &mut N, what: &[u8], opens: usize, shorts: usize, missing: usize)
+    ensures { Says N.got N.faults notes.old notes.new (findings_line what.now opens shorts missing) }
 {
     put_all(
         notes,
         &[
             b"boardnet: ",
-            b"differs, opens ",
-            Numeral::of(opens as u64).as_bytes(),
-            b", shorts ",
-            Numeral::of(shorts as u64).as_bytes(),
-            b", missing ",
-            Numeral::of(missing as u64).as_bytes(),
-            b"\n",
-        ],
-    );
-}
-
-/// Puts the line of a board between two others that is not decided.
-pub fn undecided<N: Sink>(notes: &mut N, opens: usize, shorts: usize, missing: usize)
-    ensures { Says N.got N.faults notes.old notes.new (undecided_line opens shorts missing) }
-{
-    put_all(
-        notes,
-        &[
-            b"boardnet: ",
-            b"undecided, opens ",
+            what,
+            b", opens ",
             Numeral::of(opens as u64).as_bytes(),
             b", shorts ",
             Numeral::of(shorts as u64).as_bytes(),

@@ -34,11 +34,11 @@ use std::alloc::Global;
 /// copper files in place of its netlist, which it does not take. `flatten FILE` takes one copper file, which may have
 /// aperture macros, and puts a copper file without them that every layer reads as exactly the same shapes. `between REAL
 /// LOWER UPPER COUNTS` builds the board of REAL, whose draws may be arcs, those of LOWER and UPPER, checks by the counts that
-/// they bound it, judges both, and puts what is certain of the real board and what is possible.
+/// they bound it, judges both, and puts what is certain of the real board and what is undecided.
 ///
 /// | Status | When |
 /// |---|---|
-/// | 0 | `check`, `trial`, `x2`: the copper joins exactly what the netlist, or the net names in the files, join; `audit`: the report is the text of a right verdict; `write`: the netlist is written; `flatten`: the file is; `gaps`: no two nets come that close; `between`: nothing is possible that differs, so the real board agrees, whatever its copper is of those that its files allow |
+/// | 0 | `check`, `trial`, `x2`: the copper joins exactly what the netlist, or the net names in the files, join; `audit`: the report is the text of a right verdict; `write`: the netlist is written; `flatten`: the file is; `gaps`: no two nets come that close; `between`: nothing is certain or undecided, so the real board agrees, whatever its copper is of those that its files allow |
 /// | 1 | `check`, `trial`, `x2`: there are opens, shorts or points without copper; `audit`: the report is the text of another verdict; `gaps`: some do; `between`: something certain differs, or it is undecided, and the line says which |
 /// | 2 | the words are no command; nothing was taken |
 /// | 3 | the first refusal of the package or of the copper file, or of the report behind it; the line names its kind, file and place. `x2`: also a net name that is no text; `gaps`: also grown pieces of which the box is over 1 m; `trial`: there is no board of the size; `between`: the boards are no bounds, and the line says why |

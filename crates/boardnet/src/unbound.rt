@@ -40,11 +40,11 @@ impl Unbound {
 }
 
 fn other_netlist(side: Side) -> &'static [u8]
-    ensures { result.now ≡ on_side side (codes "lower board has another netlist") (codes "upper board has another netlist") }
+    ensures { result.now ≡ on_side side (codes "lower board has other test points, names or layers") (codes "upper board has other test points, names or layers") }
 {
     match side {
-        Side::Below => b"lower board has another netlist",
-        Side::Above => b"upper board has another netlist",
+        Side::Below => b"lower board has other test points, names or layers",
+        Side::Above => b"upper board has other test points, names or layers",
     }
 }
 

@@ -1,21 +1,20 @@
 -- That what is told of the command `audit` is sound.
 use Rattle.std.proofs.Common.{◌≡◌, ◌≤◌, ℕ, List, Option, Some, None, IfSome, String, ◌⊎◌, inl, inr, refl, sym, ◌∙◌}
 use Rattle.std.specs.declared.alloc.Global.{Global}
-use Rattle.board_io.proofs.Agreeing.{agree_back, agree_front, grows_file, grows_long, grows_none}
-use Rattle.board_io.specs.Handed.{AgreeWith, Grows, Handed}
+use Rattle.board_io.specs.Handed.{AgreeWith, Handed}
 use Rattle.board_io.specs.Package.{Files}
-use Rattle.board_package.specs.HandedLaw.{HandedIsHeld, HoldsWhatWasHanded}
-use Rattle.board_package.specs.HandedBoard.{StopsHanding}
-use Rattle.board_package.specs.PackageBoard.{Stop, longer}
+use Rattle.board_package.specs.HandedLaw.{HandedIsHeld}
+use Rattle.board_package.specs.PackageBoard.{Stop}
 use Rattle.board_shapes.specs.Plain.{PlainBoard}
 use Rattle.boardnet.proofs.Audits.{Ruled, one_answer, no_misread, no_stop, no_stop_taking}
+use Rattle.boardnet.proofs.Behind.{board_held, held_fits, held_then}
 use Rattle.boardnet.proofs.Named.{Completes}
 use Rattle.boardnet.proofs.Alike.{line_of_one, same_taking}
 use Rattle.boardnet.specs.OneOutcome.{AreAlike}
 use Rattle.boardnet.proofs.Sound.{Sound, HoldsHanded, Laws}
 use Rattle.boardnet.specs.Answers.{reason_line}
 use Rattle.boardnet.specs.Outcome.{AuditOutcome, ComesFor, HandedOver, Held, IsAnswer, IsAuditStop, IsReadAs, IsTextOf, OfFilesRead, Outcome, OutcomeOf, Refused, Source, Told, IsLineOf}
-use Rattle.boardnet.specs.Source.{FitsBefore, IsFileWith, NextBy, StopsFileBy}
+use Rattle.boardnet.specs.Source.{FitsBefore, IsBoardBy, IsFileWith, NextBy, StopsFileBy}
 use Rattle.boardnet.specs.commands.Audit.{AuditRefuses, IsNoReport, IsNoText}
 use Rattle.boardnet.specs.Words.{Asks, Command, Audit, IsAudit}
 use Rattle.boardnet.specs.declared.answer.Unanswered.{Unanswered}
@@ -32,30 +31,15 @@ no_ruling f manifest report other m board verdict read = absurd m
 
 -- ---- Of files that agree with what was handed over: the package, and the report behind it
 
-held_before : HandedIsHeld → (f : Files) (a b : List Handed) (manifest report : List ℕ) (board : PlainBoard) (Then : Source → Type 0) → AgreeWith f a b
-    → ((built : List Handed) → Then (HandedOver built b) → Grows built b) → ((built : List Handed) → HoldsWhatWasHanded f built b report → Then (HandedOver built b) → Then (Held f))
-    → FitsBefore (HandedOver a b) manifest board Then → FitsBefore (Held f) manifest board Then
-held_before law f a b manifest report board Then w grows holds (built, is, x) =
-    let first = law.grows a built manifest board is in
-    let g = grows built x in
-    ((law.holds f a built manifest (agree_front f a built b first g w)).board board is, holds built (law.holds f built b report (agree_back f a built b first g w)) x)
-
 held_file : HandedIsHeld → (f : Files) (a b : List Handed) (manifest report : List ℕ) (board : PlainBoard) (P : List ℕ → Type 0) → AgreeWith f a b
     → FitsBefore (HandedOver a b) manifest board (λ rest. IsFileWith rest report P) → FitsBefore (Held f) manifest board (λ rest. IsFileWith rest report P)
 held_file law f a b manifest report board P w x =
-    held_before law f a b manifest report board (λ rest. IsFileWith rest report P) w
-    (λ built y. grows_file built b report y.bytes y.file.next) (λ built h y. record { bytes = y.bytes; file = h.held y.bytes y.file; good = y.good }) x
-
-grows_stop : (built b : List Handed) (report : List ℕ) (stop : Stop) → StopsHanding built b report stop → Grows built b
-grows_stop built b report (longer name) s = grows_long built b report _ s.1
-grows_stop built b report other s = absurd s
+    held_fits (λ read z. IsBoardBy read manifest z) f a b (board_held law f a manifest) (λ rest. IsFileWith rest report P) w
+    (λ built v y. record { bytes = y.bytes; file = (law.holds f built b report v).held y.bytes y.file; good = y.good }) board x
 
 held_stop : HandedIsHeld → (f : Files) (a b : List Handed) (manifest report : List ℕ) → AgreeWith f a b → (stop : Stop) → IsAuditStop (HandedOver a b) manifest report stop → IsAuditStop (Held f) manifest report stop
 held_stop law f a b manifest report w stop (inl s) = inl ((law.holds f a b manifest w).stop stop s)
-held_stop law f a b manifest report w stop (inr s) = inr (record {
-  board = s.board;
-  behind = held_before law f a b manifest report s.board (λ rest. StopsFileBy rest report stop) w (λ built y. grows_stop built b report stop y) (λ built h y. h.untaken stop y) s.behind;
-})
+held_stop law f a b manifest report w stop (inr s) = inr (held_then _ f a b (board_held law f a manifest) (λ rest. StopsFileBy rest report stop) w (λ built v y. (law.holds f built b report v).untaken stop y) s)
 
 held_no_text : HandedIsHeld → (f : Files) (a b : List Handed) (manifest report : List ℕ) → AgreeWith f a b → IsNoText (HandedOver a b) manifest report → IsNoText (Held f) manifest report
 held_no_text law f a b manifest report w x = record { board = x.board; behind = held_file law f a b manifest report x.board IsNoReport w x.behind }
@@ -73,7 +57,7 @@ held_refusal law f a b manifest report w other x = absurd x
 held_next : HandedIsHeld → (f : Files) (a b : List Handed) (manifest report name : List ℕ) → AgreeWith f a b → ComesFor (HandedOver a b) (Audit manifest report) name → ComesFor (Held f) (Audit manifest report) name
 held_next law f a b manifest report name w (inl c) = inl ((law.holds f a b manifest w).comes name c)
 held_next law f a b manifest report name w (inr x) =
-    inr (record { board = x.board; behind = held_before law f a b manifest report x.board (λ rest. NextBy rest report name) w (λ built y. grows_none built b y.1) (λ built h y. y.0) x.behind })
+    inr (held_then _ f a b (board_held law f a manifest) (λ rest. NextBy rest report name) w (λ built v y. y.0) x)
 
 agreed_audit : HandedIsHeld → (manifest report : List ℕ) (held : Option Files) (a b : List Handed) → IfSome held (λ f. AgreeWith f a b) → HoldsHanded (Audit manifest report) held a b
 agreed_audit law manifest report None a b w = record { outcome = λ o x. tt; stops = λ stop s. tt; comes = λ name s. tt; refuses = λ why x. tt }

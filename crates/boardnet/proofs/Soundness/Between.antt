@@ -1,13 +1,13 @@
 -- That what is told of the command `between` is sound.
 use Rattle.std.proofs.Common.{◌≡◌, ◌≤◌, ℕ, List, [], Option, Some, None, IfSome, String, ◌⊎◌, inl, inr, refl, ap, codes, subst, sym, ◌∙◌}
 use Rattle.std.specs.declared.alloc.Global.{Global}
-use Rattle.board_io.proofs.Agreeing.{agree_back, agree_front}
 use Rattle.board_io.specs.Handed.{AgreeWith, Handed}
 use Rattle.board_io.specs.Package.{Files}
 use Rattle.board_package.specs.PackageBoard.{IsBoardOf, Stop, absent, longer, not_json, bad_manifest, refused, frame_too_large}
 use Rattle.board_shapes.specs.Plain.{PlainBoard}
 use Rattle.boardnet.proofs.Audits.{no_stop_taking, one_file}
 use Rattle.boardnet.proofs.Alike.{same_line, same_taking}
+use Rattle.boardnet.proofs.Behind.{board_held, held_fits, held_then}
 use Rattle.boardnet.proofs.Bounds.{no_reason, one_reason}
 use Rattle.boardnet.proofs.Decisions.{same_decision}
 use Rattle.boardnet.proofs.Named.{Completes}
@@ -18,7 +18,7 @@ use Rattle.boardnet.specs.Command.{BoundNames}
 use Rattle.boardnet.specs.Lines.{file_line}
 use Rattle.boardnet.specs.OneOutcome.{AreAlike}
 use Rattle.boardnet.specs.Outcome.{HandedOver, Held, IsLineOf, OfFilesRead, Outcome, Refused, Source, Told}
-use Rattle.boardnet.specs.Source.{ComesBy, FitsNext, FitsNextThen, FitsRealBefore, FitsRealThen, IsFileBy, IsFirstStopBy, NextBy, StopsFileBy}
+use Rattle.boardnet.specs.Source.{ComesBy, FitsBefore, FitsRealThen, FitsThen, IsBoardBy, IsFileBy, IsFirstStopBy, IsRealBoardBy, NextBy, StopsFileBy}
 use Rattle.boardnet.specs.Words.{Asks, Command, Between, IsBetween}
 use Rattle.boardnet.specs.commands.Between.{AreBounded, AreRead, AreUnbound, BetweenOutcome, BetweenRefuses, ComesReading, IsDecided, IsOfFile, IsPlainStop, IsReadLine, IsReadRefusal, IsUnboundRefusal, ReadStop, StopsManifest, StopsReading, at_counts, at_lower, at_real, at_upper}
 use Rattle.boardnet.specs.declared.answer.Unanswered.{Unanswered}
@@ -151,41 +151,31 @@ one_between law f names (Refused l) (Refused k) (inr x) (inr y) =
 
 -- ---- Of files that agree with what was handed over
 
-held_real : HandedLaws → (f : Files) (a b : List Handed) (name : List ℕ) (board : PlainRealBoard) (Then : Source → Type 0) → AgreeWith f a b → ((built : List Handed) → AgreeWith f built b → Then (HandedOver built b) → Then (Held f)) → FitsRealBefore (HandedOver a b) name board Then → FitsRealBefore (Held f) name board Then
-held_real law f a b name board Then w k (built, (g, h), is, x) = ((law.real f a built name (agree_front f a built b g h w)).board board is, k built (agree_back f a built b g h w) x)
-
-held_next : HandedLaws → (f : Files) (a b : List Handed) (name : List ℕ) (board : PlainBoard) (Then : Source → Type 0) → AgreeWith f a b → ((built : List Handed) → AgreeWith f built b → Then (HandedOver built b) → Then (Held f)) → FitsNext (HandedOver a b) name board Then → FitsNext (Held f) name board Then
-held_next law f a b name board Then w k (built, (g, h), is, x) = ((law.listed.holds f a built name (agree_front f a built b g h w)).board board is, k built (agree_back f a built b g h w) x)
-
--- behind the packages
-held_behind_real : HandedLaws → (f : Files) (a b : List Handed) (names : BoundNames) (Then : Source → Type 0) → AgreeWith f a b → ((built : List Handed) → AgreeWith f built b → Then (HandedOver built b) → Then (Held f)) → FitsRealThen (HandedOver a b) names.real Then → FitsRealThen (Held f) names.real Then
-held_behind_real law f a b names Then w k x = record { board = x.board; behind = held_real law f a b names.real x.board Then w k x.behind }
-
-held_behind : HandedLaws → (f : Files) (a b : List Handed) (name : List ℕ) (Then : Source → Type 0) → AgreeWith f a b → ((built : List Handed) → AgreeWith f built b → Then (HandedOver built b) → Then (Held f)) → FitsNextThen (HandedOver a b) name Then → FitsNextThen (Held f) name Then
-held_behind law f a b name Then w k x = record { board = x.board; behind = held_next law f a b name x.board Then w k x.behind }
+real_held : HandedLaws → (f : Files) (a : List Handed) (name : List ℕ) (built : List Handed) (board : PlainRealBoard) → AgreeWith f a built → IsRealBoardBy (HandedOver a built) name board → IsRealBoardBy (Held f) name board
+real_held law f a name built board w is = (law.real f a built name w).board board is
 
 module _ (law : HandedLaws) (f : Files) (names : BoundNames) where
-  held_lower : (a b : List Handed) (Then : Source → Type 0) → AgreeWith f a b → ((built : List Handed) → AgreeWith f built b → Then (HandedOver built b) → Then (Held f)) → FitsRealThen (HandedOver a b) names.real (λ rest. FitsNextThen rest names.lower Then) → FitsRealThen (Held f) names.real (λ rest. FitsNextThen rest names.lower Then)
-  held_lower a b Then w k x = held_behind_real law f a b names (λ rest. FitsNextThen rest names.lower Then) w (λ c v y. held_behind law f c b names.lower Then v k y) x
+  held_lower : (a b : List Handed) (Then : Source → Type 0) → AgreeWith f a b → ((built : List Handed) → AgreeWith f built b → Then (HandedOver built b) → Then (Held f)) → FitsRealThen (HandedOver a b) names.real (λ rest. FitsThen rest names.lower Then) → FitsRealThen (Held f) names.real (λ rest. FitsThen rest names.lower Then)
+  held_lower a b Then w k x = held_then _ f a b (real_held law f a names.real) (λ rest. FitsThen rest names.lower Then) w (λ c v y. held_then _ f c b (board_held law.listed f c names.lower) Then v k y) x
 
-  held_upper : (a b : List Handed) (Then : Source → Type 0) → AgreeWith f a b → ((built : List Handed) → AgreeWith f built b → Then (HandedOver built b) → Then (Held f)) → FitsRealThen (HandedOver a b) names.real (λ rest. FitsNextThen rest names.lower (λ more. FitsNextThen more names.upper Then)) → FitsRealThen (Held f) names.real (λ rest. FitsNextThen rest names.lower (λ more. FitsNextThen more names.upper Then))
-  held_upper a b Then w k x = held_lower a b (λ more. FitsNextThen more names.upper Then) w (λ c v y. held_behind law f c b names.upper Then v k y) x
+  held_upper : (a b : List Handed) (Then : Source → Type 0) → AgreeWith f a b → ((built : List Handed) → AgreeWith f built b → Then (HandedOver built b) → Then (Held f)) → FitsRealThen (HandedOver a b) names.real (λ rest. FitsThen rest names.lower (λ more. FitsThen more names.upper Then)) → FitsRealThen (Held f) names.real (λ rest. FitsThen rest names.lower (λ more. FitsThen more names.upper Then))
+  held_upper a b Then w k x = held_lower a b (λ more. FitsThen more names.upper Then) w (λ c v y. held_then _ f c b (board_held law.listed f c names.upper) Then v k y) x
 
   held_read : (a b : List Handed) (r : PlainRealBoard) (l u : PlainBoard) (x : List ℕ) → AgreeWith f a b → AreRead (HandedOver a b) names r l u x → AreRead (Held f) names r l u x
   held_read a b r l u x w h =
-      held_real law f a b names.real r (λ rest. FitsNext rest names.lower l (λ more. FitsNext more names.upper u (λ last. IsFileBy last names.counts x))) w
-      (λ c v y. held_next law f c b names.lower l (λ more. FitsNext more names.upper u (λ last. IsFileBy last names.counts x)) v
-      (λ d t z. held_next law f d b names.upper u (λ last. IsFileBy last names.counts x) t (λ e s i. (law.listed.holds f e b names.counts s).held x i) z) y) h
+      held_fits (λ read z. IsRealBoardBy read names.real z) f a b (real_held law f a names.real) (λ rest. FitsBefore rest names.lower l (λ more. FitsBefore more names.upper u (λ last. IsFileBy last names.counts x))) w
+      (λ c v y. held_fits (λ read z. IsBoardBy read names.lower z) f c b (board_held law.listed f c names.lower) (λ more. FitsBefore more names.upper u (λ last. IsFileBy last names.counts x)) v
+      (λ d t z. held_fits (λ read z. IsBoardBy read names.upper z) f d b (board_held law.listed f d names.upper) (λ last. IsFileBy last names.counts x) t (λ e s i. (law.listed.holds f e b names.counts s).held x i) u z) l y) r h
 
   held_stop : (a b : List Handed) → AgreeWith f a b → (stop : ReadStop) → StopsReading (HandedOver a b) names stop → StopsReading (Held f) names stop
   held_stop a b w (at_real stop) s = (law.real f a b names.real w).stop stop s
-  held_stop a b w (at_lower stop) s = held_behind_real law f a b names (λ rest. IsFirstStopBy rest names.lower stop) w (λ c v y. (law.listed.holds f c b names.lower v).stop stop y) s
+  held_stop a b w (at_lower stop) s = held_then _ f a b (real_held law f a names.real) (λ rest. IsFirstStopBy rest names.lower stop) w (λ c v y. (law.listed.holds f c b names.lower v).stop stop y) s
   held_stop a b w (at_upper stop) s = held_lower a b (λ rest. IsFirstStopBy rest names.upper stop) w (λ c v y. (law.listed.holds f c b names.upper v).stop stop y) s
   held_stop a b w (at_counts stop) s = held_upper a b (λ rest. StopsFileBy rest names.counts stop) w (λ c v y. (law.listed.holds f c b names.counts v).untaken stop y) s
 
   held_comes : (a b : List Handed) → AgreeWith f a b → (name : List ℕ) → ComesReading (HandedOver a b) names name → ComesReading (Held f) names name
   held_comes a b w name (inl s) = inl ((law.real f a b names.real w).comes name s)
-  held_comes a b w name (inr (inl s)) = inr (inl (held_behind_real law f a b names (λ rest. ComesBy rest names.lower name) w (λ c v y. (law.listed.holds f c b names.lower v).comes name y) s))
+  held_comes a b w name (inr (inl s)) = inr (inl (held_then _ f a b (real_held law f a names.real) (λ rest. ComesBy rest names.lower name) w (λ c v y. (law.listed.holds f c b names.lower v).comes name y) s))
   held_comes a b w name (inr (inr (inl s))) = inr (inr (inl (held_lower a b (λ rest. ComesBy rest names.upper name) w (λ c v y. (law.listed.holds f c b names.upper v).comes name y) s)))
   held_comes a b w name (inr (inr (inr s))) = inr (inr (inr (held_upper a b (λ rest. NextBy rest names.counts name) w (λ c v y. y.0) s)))
 

@@ -8,7 +8,7 @@ use Rattle.boardnet.specs.Bounded.{AreBoundedBy, IsDecisionOn, IsUnboundBy, unbo
 use Rattle.boardnet.specs.Command.{BoundNames, Command, Between, bound_names}
 use Rattle.boardnet.specs.Common.{IsLineOf, Outcome, Told, Refused, arc_line}
 use Rattle.boardnet.specs.Lines.{file_line}
-use Rattle.boardnet.specs.Source.{Source, ComesBy, FitsNext, FitsNextThen, FitsRealBefore, FitsRealThen, IsFileBy, IsFirstRealStopBy, IsFirstStopBy, NextBy, RealComesBy, StopsFileBy}
+use Rattle.boardnet.specs.Source.{Source, ComesBy, FitsBefore, FitsRealBefore, FitsRealThen, FitsThen, IsFileBy, IsFirstRealStopBy, IsFirstStopBy, NextBy, RealComesBy, StopsFileBy}
 use Rattle.boardnet.specs.Task.{Task, on_package}
 use Rattle.boardnet.specs.declared.answer.Unanswered.{Unanswered}
 use Rattle.boardnet.specs.declared.answer.Unanswered.TheVariants as why
@@ -32,17 +32,17 @@ pub record IsBetween (words : List (String Global)) (names : BoundNames) : Type 
 -- behind them.
 abbrev pub AreRead : Source → BoundNames → PlainRealBoard → PlainBoard → PlainBoard → List ℕ → Type 0
 AreRead source names real lower upper bytes =
-    FitsRealBefore source names.real real (λ rest. FitsNext rest names.lower lower (λ more. FitsNext more names.upper upper (λ last. IsFileBy last names.counts bytes)))
+    FitsRealBefore source names.real real (λ rest. FitsBefore rest names.lower lower (λ more. FitsBefore more names.upper upper (λ last. IsFileBy last names.counts bytes)))
 
 -- the real package fits, and the lower one, and the upper one, and Then holds of what was read behind
 abbrev pub BehindReal : Source → BoundNames → (Source → Type 0) → Type 0
 BehindReal source names Then = FitsRealThen source names.real Then
 
 abbrev pub BehindLower : Source → BoundNames → (Source → Type 0) → Type 0
-BehindLower source names Then = BehindReal source names (λ rest. FitsNextThen rest names.lower Then)
+BehindLower source names Then = BehindReal source names (λ rest. FitsThen rest names.lower Then)
 
 abbrev pub BehindUpper : Source → BoundNames → (Source → Type 0) → Type 0
-BehindUpper source names Then = BehindLower source names (λ rest. FitsNextThen rest names.upper Then)
+BehindUpper source names Then = BehindLower source names (λ rest. FitsThen rest names.upper Then)
 
 -- where reading stops: at one of the packages, or at the file of counts
 pub data ReadStop : Type 0 where

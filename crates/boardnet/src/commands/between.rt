@@ -18,6 +18,7 @@ ghost use Rattle.std.specs.Prelude.{IfErr, IfNone, IfOk, IfSome, IsTrue, length,
 use crate::answer::{Answer, Answered, Note, Unanswered};
 use crate::between_text::write_between;
 use crate::commands::Command;
+use crate::findings::{certain, undecided};
 use crate::judged::verdict_on;
 use crate::refusing::name_of;
 use crate::unbound::Unbound;
@@ -183,7 +184,7 @@ fn counted(alloc: Global, bytes: &[u8]) -> Result<Counts, Unanswered>
     }
 }
 
-// The side whose board has another netlist than the real one.
+// The side whose board has other test points, names or layers than the real one.
 fn other_netlist(boards: &Boards) -> Option<Side>
     ensures some { IfSome result (λ side. HasOtherNetlist side (plain_real_board boards.now.real) (plain_board boards.now.lower) (plain_board boards.now.upper)) }
     ensures none { IfNone result (HasNetlistOf (plain_real_board boards.now.real) (plain_board boards.now.lower) × HasNetlistOf (plain_real_board boards.now.real) (plain_board boards.now.upper)) }
@@ -242,6 +243,8 @@ fn decided(alloc: Global, boards: &Boards) -> Result<Answer, NoMemory>
 {
     let below = verdict_on(alloc, &boards.lower)?;
     let above = verdict_on(alloc, &boards.upper)?;
+    let sure = certain(alloc, &below, &above)?;
+    let unsure = undecided(alloc, &below, &above)?;
     let count = boards.real.pieces.as_slice().len();
     let text = write_between(
         alloc,
@@ -250,7 +253,9 @@ fn decided(alloc: Global, boards: &Boards) -> Result<Answer, NoMemory>
         boards.lower.names(),
         &below,
         &above,
+        &sure,
+        &unsure,
     )?;
-    let note = Note::between(&below, &above);
+    let note = Note::between(&sure, &unsure);
     Ok(Answer { text, note })
 }

@@ -215,9 +215,31 @@ fn a_quarter_circle_between_chains(rt: HostRuntime) -> Result<(), Fail> {
 }
 
 const TEXT: &str =
-    "boardnet-between 1\nreal 2\nlower 7 2 1 0 0\nupper 7 1 0 0 0\ncertain\nopens 0\nshorts 0\nmissing 0\npossible\nopens 1\nopen 2 1 30000 40000 A\nshorts 0\nmissing 0\nundecided\n";
+    "boardnet-between 1\nreal 2\nlower 7 2 1 0 0\nupper 7 1 0 0 0\ncertain\nopens 0\nshorts 0\nmissing 0\nundecided\nopens 1\nopen 2 1 30000 40000 A\nshorts 0\nmissing 0\nundecided\n";
 
-// The text, and what is read in order: a manifest that is none, another netlist, a file that is not there.
+const OPEN: &str =
+    "boardnet-between 1\nreal 2\nlower 7 2 1 0 0\nupper 7 2 1 0 0\ncertain\nopens 1\nopen 2 1 30000 40000 A\nshorts 0\nmissing 0\nundecided\nopens 0\nshorts 0\nmissing 0\ndiffers\n";
+
+const SHORT: &str =
+    "boardnet-between 1\nreal 2\nlower 7 1 0 1 0\nupper 7 1 0 1 0\ncertain\nopens 0\nshorts 1\nshort 2\npoint 1 1 0 70000 A\npoint 2 1 30000 40000 B\nmissing 0\nundecided\nopens 0\nshorts 0\nmissing 0\ndiffers\n";
+
+// What both boards have is certain, and is not undecided besides.
+#[test]
+fn what_is_certain_is_not_undecided(rt: HostRuntime) -> Result<(), Fail> {
+    let alloc = rt.alloc();
+    for (pad, names, text) in [
+        ("%ADD11C,0.0018*%", ONE_NAME, OPEN),
+        ("%ADD11C,0.0022*%", TWO_NAMES, SHORT),
+    ] {
+        let row = (pad, THIN, THICK, names, COUNTS, 1, "");
+        let mut package = row_package(alloc, &row)?;
+        let (status, out, _) = answer(alloc, BETWEEN, &mut package)?;
+        assert_eq!(rt; (status, shown(&out)), (1, text));
+    }
+    Ok(())
+}
+
+// The text, and what is read in order: a manifest that is none, other test points, a file that is not there.
 #[test]
 fn the_text_and_the_order(rt: HostRuntime) -> Result<(), Fail> {
     let alloc = rt.alloc();
@@ -234,6 +256,6 @@ fn the_text_and_the_order(rt: HostRuntime) -> Result<(), Fail> {
     package.hold("o.json", other.as_bytes())?;
     package.hold("o.ipc", netlist(alloc, TWO_NAMES)?.as_slice())?;
     let renamed = &["between", "r.json", "o.json", "u.json", "c.txt"];
-    let line = "boardnet: r.json: lower board has another netlist\n";
+    let line = "boardnet: r.json: lower board has other test points, names or layers\n";
     wants(alloc, renamed, &mut package, 3, line, "")
 }

@@ -4,10 +4,10 @@ use Rattle.boardnet.specs.Lines.{Says, counted_line}
 use Rattle.boardnet.proofs.answer.Note.put.Goals as goal
 
 pub returns-in-Differs : goal.returns-in-Differs
-returns-in-Differs g c = subst (λ note. Says g.N.Sink.got g.N.Sink.faults c.args.notes.now c.differs.new.notes (line_of note)) (sym c.in-Differs.is) c.differs.ensures
+returns-in-Differs g c = subst (λ note. Says g.N.Sink.got g.N.Sink.faults c.args.notes.now c.findings.new.notes (line_of note)) (sym c.in-Differs.is) c.findings.ensures
 
 pub returns-in-Undecided : goal.returns-in-Undecided
-returns-in-Undecided g c = subst (λ note. Says g.N.Sink.got g.N.Sink.faults c.args.notes.now c.undecided.new.notes (line_of note)) (sym c.in-Undecided.is) c.undecided.ensures
+returns-in-Undecided g c = subst (λ note. Says g.N.Sink.got g.N.Sink.faults c.args.notes.now c.findings-in-Undecided.new.notes (line_of note)) (sym c.in-Undecided.is) c.findings-in-Undecided.ensures
 
 pub returns-in-AuditTrue : goal.returns-in-AuditTrue
 returns-in-AuditTrue g c = subst (λ note. Says g.N.Sink.got g.N.Sink.faults c.args.notes.now c.plain-in-AuditTrue.new.notes (line_of note)) (sym c.in-AuditTrue.is) c.plain-in-AuditTrue.ensures

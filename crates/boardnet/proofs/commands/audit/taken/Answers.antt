@@ -15,11 +15,12 @@ returns-in_err-take_file-clause-handed_cause g c =
     climbs _ _ c.from_residual-in_err-take_file.result c.in_err-take_file.field-0.0 c.from_residual-in_err-take_file.ensures.1
     (report_handed (g.P.Package.handed c.args.package.now) (g.P.Package.handed c.board_of.new.package) (g.P.Package.handed c.take_file.new.package) c.args.manifest.now c.args.report.now c.in_ok-report.report (plain_board c.in_ok-board.board)
     (g.P.Package.faults c.args.package.now) (g.P.Package.faults c.board_of.new.package) (g.P.Package.faults c.take_file.new.package) (g.P.Package.lost c.take_file.new.package) c.in_err-take_file.field-0.0
-    c.in_ok-report.ensures.ok c.board_of.ensures.leaves.later c.in_ok-board.ensures.handed c.in_err-take_file.ensures.handed_cause)
+    c.in_ok-report.ensures.ok c.board_of.ensures.leaves.later c.board_of.ensures.leaves.grows c.take_file.ensures.leaves.grows c.in_ok-board.ensures.handed c.in_err-take_file.ensures.handed_cause)
 
 pub returns-clause-handed : goal.returns-clause-handed
 returns-clause-handed g c = (
   g.P.Package.handed c.board_of.new.package,
+  (c.board_of.ensures.leaves.grows, c.take_file.ensures.leaves.grows),
   c.in_ok-board.ensures.handed,
   subst (λ (m : List ℕ). IsHanded (g.P.Package.handed c.board_of.new.package) (g.P.Package.handed c.take_file.new.package) m c.take_file.new.file.items) c.in_ok-report.ensures.ok c.in_ok-take_file.ensures.handed,
 )

@@ -1,7 +1,7 @@
 use Rattle.std.proofs.Common.{ap, length, sym, ◌∙◌}
 use Rattle.std.proofs.lemmas.List.{length-map}
 use Rattle.arc_layer.specs.Real.{plain_real}
-use Rattle.boardnet.proofs.Readings.{text_alike}
+use Rattle.boardnet.proofs.Readings.{decision_by, text_alike}
 use Rattle.boardnet.proofs.commands.between.decided.Goals as goal
 
 pub returns : goal.returns
@@ -12,6 +12,6 @@ returns c = record {
   upper_lawful = c.requires.upper;
   lower_right = c.in_ok-below.ensures.right;
   upper_right = c.in_ok-above.ensures.right;
-  text_is = c.in_ok-text.ensures ∙ text_alike _ _ _ _ _ _ c.in_ok-below.below c.in_ok-above.above (ap length c.as_slice-count.ensures.value ∙ sym (length-map c.args.boards.now.real.pieces.items plain_real)) c.probes.ensures.items c.names.ensures.items;
-  status_is = c.between-note.ensures;
+  text_is = c.in_ok-text.ensures ∙ text_alike _ _ _ _ _ _ c.in_ok-below.below c.in_ok-above.above c.in_ok-sure.sure c.in_ok-unsure.unsure (ap length c.as_slice-count.ensures.value ∙ sym (length-map c.args.boards.now.real.pieces.items plain_real)) c.probes.ensures.items c.names.ensures.items c.in_ok-sure.ensures c.in_ok-unsure.ensures;
+  status_is = decision_by c.in_ok-below.below c.in_ok-above.above c.in_ok-sure.sure c.in_ok-unsure.unsure _ _ c.in_ok-sure.ensures c.in_ok-unsure.ensures c.between-note.ensures;
 }

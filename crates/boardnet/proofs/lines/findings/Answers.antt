@@ -1,5 +1,5 @@
 use Rattle.std.proofs.Common.{◌≡◌, ◌∙◌, decimal}
-use Rattle.boardnet.proofs.lines.undecided.Goals as goal
+use Rattle.boardnet.proofs.lines.findings.Goals as goal
 
 pub returns : goal.returns
 returns g c =
