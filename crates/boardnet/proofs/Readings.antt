@@ -35,7 +35,7 @@ use Rattle.boardnet.specs.Unbounded.{IsBehindReason, IsInRange, IsNoCounts, IsNo
 use Rattle.boardnet.specs.Words.{Between}
 use Rattle.boardnet.specs.commands.Between.{AreRead, IsOfFile, at_counts, at_lower, at_real, at_upper}
 use Rattle.boardnet.specs.declared.answer.Unanswered.{Unanswered}
-use Rattle.boardnet.specs.declared.answer.Unanswered.TheVariants.{Stopped, NotJson, NotAManifest, Unbound}
+use Rattle.boardnet.specs.declared.answer.Unanswered.TheVariants.{Stopped, NotJson, NotAManifest, BoundTooLarge, Unbound}
 use Rattle.boardnet.specs.declared.unbound.Unbound.TheVariants.{NotCounts}
 use Rattle.verdict.specs.declared.verdict.Verdict.{Verdict}
 use Rattle.real_package.specs.HandedReal.{IsFirstRealStopHanded, IsRealBoardHanded, RealComesHanded}
@@ -58,6 +58,7 @@ left_real before was now lost (real.Arc name kind number byte) h = h
 pub left_behind : (name : List ℕ) (before : ℕ) (was : List ℕ) (now : ℕ) (lost : List ℕ) (why : BuildFault) → KeepsFaults before was now lost why → LeftBy before was now lost (behind_of name why)
 left_behind name before was now lost build.NotJson h = h
 left_behind name before was now lost build.BadManifest h = h
+left_behind name before was now lost (build.FrameTooLarge box) h = h
 left_behind name before was now lost other h = h
 
 -- ---- Why a package behind the first gives no board
@@ -70,7 +71,7 @@ of_file S C before now lost name (build.CannotRead file) h = h
 of_file S C before now lost name (build.Layer file kind command at) h = (h, tt)
 of_file S C before now lost name (build.Drill file kind line at) h = (h, tt)
 of_file S C before now lost name (build.Netlist file kind line) h = (h, tt)
-of_file S C before now lost name (build.FrameTooLarge box) h = (h, tt)
+of_file S C before now lost name (build.FrameTooLarge box) h = (refl, h)
 of_file S C before now lost name build.NoMemory h = tt
 
 pub behind_reason : (a b : List Handed) (name : List ℕ) (before now : ℕ) (lost : List ℕ) (why : BuildFault)
@@ -94,6 +95,7 @@ lower_reason names a b c r before mid now lost (Stopped why) le g h is s =
     (record { stops = λ stop x. (at_lower stop, record { board = r; behind = (b, (g, h), is, x.0) }, (refl, x.1)); comes = λ name x. inr (inl (record { board = r; behind = (b, (g, h), is, x) })) }) le s
 lower_reason names a b c r before mid now lost (NotJson name) le g h is (e, s) = inl (e, record { board = r; behind = (b, (g, h), is, s) })
 lower_reason names a b c r before mid now lost (NotAManifest name) le g h is (e, s) = inl (e, record { board = r; behind = (b, (g, h), is, s) })
+lower_reason names a b c r before mid now lost (BoundTooLarge name box) le g h is (e, s) = inl (e, record { board = r; behind = (b, (g, h), is, s) })
 lower_reason names a b c r before mid now lost other le g h is s = absurd s
 
 pub upper_reason : (names : BoundNames) (a b c d : List Handed) (r : PlainRealBoard) (l : PlainBoard) (before mid now : ℕ) (lost : List ℕ) (why : Unanswered) → before ≤ mid → Grows a b → Grows b c → Grows c d → Grows b d → IsRealBoardHanded a b names.real r → IsBoardHanded b c names.lower l
@@ -106,6 +108,7 @@ upper_reason names a b c d r l before mid now lost (Stopped why) le g h i far is
     }) le s
 upper_reason names a b c d r l before mid now lost (NotJson name) le g h i far is it (e, s) = inr (e, record { board = r; behind = (b, (g, far), is, record { board = l; behind = (c, (h, i), it, s) }) })
 upper_reason names a b c d r l before mid now lost (NotAManifest name) le g h i far is it (e, s) = inr (e, record { board = r; behind = (b, (g, far), is, record { board = l; behind = (c, (h, i), it, s) }) })
+upper_reason names a b c d r l before mid now lost (BoundTooLarge name box) le g h i far is it (e, s) = inr (e, record { board = r; behind = (b, (g, far), is, record { board = l; behind = (c, (h, i), it, s) }) })
 upper_reason names a b c d r l before mid now lost other le g h i far is it s = absurd s
 
 pub counts_reason : (names : BoundNames) (a b c d e : List Handed) (r : PlainRealBoard) (l u : PlainBoard) (before mid now : ℕ) (lost : List ℕ) (why : BuildFault) → before ≤ mid → Grows a b → Grows b c → Grows c d → Grows d e → Grows b e → Grows c e

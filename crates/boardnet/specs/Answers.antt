@@ -16,14 +16,14 @@ use Rattle.gerber_layer.specs.declared.macro_kind.FlattenFault.{FlattenFault}
 use Rattle.gerber_layer.specs.declared.macro_kind.FlattenFault.TheVariants as flat
 use Rattle.gaps.specs.declared.listing.GapFault.{GapFault}
 use Rattle.gaps.specs.declared.listing.GapFault.TheVariants as gap
-use Rattle.boardnet.specs.Lines.{counted_line, plain_line, file_line, findings_line, frame_line, label_line, end}
+use Rattle.boardnet.specs.Lines.{counted_line, plain_line, file_line, findings_line, frame_line, label_line, manifest_frame_line, end}
 use Rattle.boardnet.specs.Outcome.{OutcomeOf, Source, Told, flatten_line, refusal_line, IsNoReport, IsTextOf}
 use Rattle.boardnet.specs.Words.{Command, task_of}
 use Rattle.boardnet.specs.declared.answer.Answer.{Answer}
 use Rattle.boardnet.specs.declared.answer.Note.{Note}
 use Rattle.boardnet.specs.declared.answer.Note.TheVariants as note
 use Rattle.boardnet.specs.declared.answer.Unanswered.{Unanswered}
-use Rattle.boardnet.specs.declared.answer.Unanswered.TheVariants.{Stopped, NotAReport, SizeTooLarge, GrownTooLarge, Mislabelled, Unflat, Bent, NotJson, NotAManifest, Unbound}
+use Rattle.boardnet.specs.declared.answer.Unanswered.TheVariants.{Stopped, NotAReport, SizeTooLarge, GrownTooLarge, Mislabelled, Unflat, Bent, NotJson, NotAManifest, BoundTooLarge, Unbound}
 use Rattle.real_package.specs.declared.fault.RealBuildFault.{RealBuildFault}
 use Rattle.real_package.specs.declared.fault.RealBuildFault.TheVariants as real
 use Rattle.tables.specs.Tables.{Tables}
@@ -96,6 +96,7 @@ unreal_of (real.Arc name kind command byte) = Bent name kind command byte
 abbrev pub behind_of : List ℕ → BuildFault → Unanswered
 behind_of name fault.NotJson = NotJson name
 behind_of name fault.BadManifest = NotAManifest name
+behind_of name (fault.FrameTooLarge box) = BoundTooLarge name box
 behind_of name other = Stopped other
 
 -- why a board has no list of gaps
@@ -154,6 +155,7 @@ reason_line subject report (Unflat kind number byte) = flatten_line subject kind
 reason_line subject report (Bent name kind number byte) = arc_line name kind number byte
 reason_line subject report (NotJson name) = file_line name (codes "not JSON")
 reason_line subject report (NotAManifest name) = file_line name (codes "not a manifest")
+reason_line subject report (BoundTooLarge name box) = manifest_frame_line name box
 reason_line subject report (Unbound why) = unbound_line subject report why
 
 -- the status is the reason's, and `Line` holds of its line

@@ -49,9 +49,17 @@ label_line file command byte = concat (begin ∷ file ∷ codes ": label at comm
 abbrev pub findings_line : List ℕ → ℕ → ℕ → ℕ → List ℕ
 findings_line what opens shorts missing = concat (begin ∷ what ∷ codes ", opens " ∷ decimal opens ∷ codes ", shorts " ∷ decimal shorts ∷ codes ", missing " ∷ decimal missing ∷ end ∷ [])
 
--- the box that fits in no frame: its left, low, right and high side, in u
+-- the box that fits in no frame, behind some words: its left, low, right and high side, in u
+abbrev pub frame_behind : (file colon : List ℕ) → Bounds → List ℕ
+frame_behind file colon b =
+    concat (begin ∷ file ∷ colon ∷ codes "frame too large: " ∷ signed_decimal b.left ∷ codes " " ∷ signed_decimal b.low ∷ codes " " ∷ signed_decimal b.right ∷ codes " " ∷ signed_decimal b.high ∷ end ∷ [])
+
 abbrev pub frame_line : Bounds → List ℕ
-frame_line b = concat (begin ∷ codes "frame too large: " ∷ signed_decimal b.left ∷ codes " " ∷ signed_decimal b.low ∷ codes " " ∷ signed_decimal b.right ∷ codes " " ∷ signed_decimal b.high ∷ end ∷ [])
+frame_line b = frame_behind [] [] b
+
+-- the same of a manifest
+abbrev pub manifest_frame_line : List ℕ → Bounds → List ℕ
+manifest_frame_line manifest b = frame_behind manifest (codes ": ") b
 
 -- a few words and a number
 abbrev pub counted_line : List ℕ → ℕ → List ℕ

@@ -4,7 +4,7 @@ use Rattle.arc_covers.specs.Counts.{IsFirstOther}
 use Rattle.arc_covers.specs.declared.between.BoundsFault.{BoundsFault}
 use Rattle.arc_covers.specs.declared.between.BoundsFault.TheVariants as fault
 use Rattle.board_package.specs.Causes.{HandedCause}
-use Rattle.board_package.specs.PackageBoard.{Stop, not_json, bad_manifest}
+use Rattle.board_package.specs.PackageBoard.{Stop, not_json, bad_manifest, frame_too_large}
 use Rattle.board_package.specs.declared.fault.BuildFault.{BuildFault}
 use Rattle.board_package.specs.declared.fault.BuildFault.TheVariants as build
 use Rattle.board_shapes.specs.Plain.{PlainBoard}
@@ -12,7 +12,7 @@ use Rattle.board_shapes.specs.declared.placed.Origin.{Origin}
 use Rattle.boardnet.specs.Bounded.{ComesFrom, IsUnboundBy}
 use Rattle.boardnet.specs.commands.Between.{IsOfFile}
 use Rattle.boardnet.specs.declared.answer.Unanswered.{Unanswered}
-use Rattle.boardnet.specs.declared.answer.Unanswered.TheVariants.{Stopped, NotJson, NotAManifest, Unbound}
+use Rattle.boardnet.specs.declared.answer.Unanswered.TheVariants.{Stopped, NotJson, NotAManifest, BoundTooLarge, Unbound}
 use Rattle.boardnet.specs.declared.unbound.Unbound.TheVariants.{NotCounts, Counts, Piece}
 use Rattle.real_package.specs.RealBoards.{PlainRealBoard}
 
@@ -21,6 +21,7 @@ abbrev pub IsBehindReason : List ℕ → (Stop → Type 0) → (List ℕ → Typ
 IsBehindReason name Stops Comes before now lost (Stopped why) = HandedCause (λ stop. Stops stop × IsOfFile stop) Comes before now lost why
 IsBehindReason name Stops Comes before now lost (NotJson other) = (other ≡ name) × Stops not_json
 IsBehindReason name Stops Comes before now lost (NotAManifest other) = (other ≡ name) × Stops bad_manifest
+IsBehindReason name Stops Comes before now lost (BoundTooLarge other box) = (other ≡ name) × Stops (frame_too_large box)
 IsBehindReason name Stops Comes before now lost other = ⊥
 
 -- why bytes are no counts

@@ -187,6 +187,11 @@ pub enum Unanswered {
     NotJson(Text),
     /// It is JSON and no manifest.
     NotAManifest(Text),
+    /// The common box of the pieces of its package has a side over that of a frame.
+    BoundTooLarge {
+        manifest: Text,
+        bounds: Bounds,
+    },
     /// Two boards are no bounds of a real one.
     Unbound(Unbound),
 }

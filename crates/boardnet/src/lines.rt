@@ -1,5 +1,5 @@
 //! The line to the notes, put in pieces and without memory.
-ghost use Rattle.boardnet.specs.Lines.{Gains, Rose, Says, at_byte, at_item, counted_line, file_line, findings_line, frame_line, kind_line, label_line, plain_line};
+ghost use Rattle.boardnet.specs.Lines.{Gains, Rose, Says, at_byte, at_item, counted_line, file_line, findings_line, frame_behind, frame_line, kind_line, label_line, manifest_frame_line, plain_line};
 ghost use Rattle.boardnet.specs.Bounded.{not_counts_line};
 ghost use Rattle.std.specs.List.{flat_map};
 ghost use Rattle.std.specs.Prelude.{false, true, ◌≡◌};
@@ -173,10 +173,25 @@ pub fn not_counts<N: Sink>(notes: &mut N, file: &[u8], line: usize)
 pub fn frame<N: Sink>(notes: &mut N, bounds: Bounds)
     ensures { Says N.got N.faults notes.old notes.new (frame_line bounds) }
 {
+    put_frame(notes, b"", b"", bounds);
+}
+
+/// Puts the same of the board of a manifest.
+pub fn frame_of<N: Sink>(notes: &mut N, manifest: &[u8], bounds: Bounds)
+    ensures { Says N.got N.faults notes.old notes.new (manifest_frame_line manifest.now bounds) }
+{
+    put_frame(notes, manifest, b": ", bounds);
+}
+
+fn put_frame<'a, N: Sink>(notes: &mut N, file: &'a [u8], colon: &'a [u8], bounds: Bounds)
+    ensures { Says N.got N.faults notes.old notes.new (frame_behind file.now colon.now bounds) }
+{
     put_all(
         notes,
         &[
             b"boardnet: ",
+            file,
+            colon,
             b"frame too large: ",
             Numeral::signed(bounds.left).as_bytes(),
             b" ",

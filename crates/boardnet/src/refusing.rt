@@ -69,6 +69,10 @@ pub fn refuse<N: Sink>(command: Command, why: &Unanswered, notes: &mut N) -> u8
             lines::about_file(notes, file.as_bytes(), b"not a manifest");
             3
         }
+        Unanswered::BoundTooLarge { manifest, bounds } => {
+            lines::frame_of(notes, manifest.as_bytes(), *bounds);
+            3
+        }
         Unanswered::Unbound(why) => {
             why.put(file, command.report(), notes);
             3

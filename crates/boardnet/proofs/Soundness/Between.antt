@@ -15,39 +15,40 @@ use Rattle.boardnet.proofs.Sound.{HandedLaws, HoldsHanded, Laws, OneOutcome, Sou
 use Rattle.boardnet.specs.Answers.{reason_line}
 use Rattle.boardnet.specs.Bounded.{IsUnboundBy, unbound_line}
 use Rattle.boardnet.specs.Command.{BoundNames}
-use Rattle.boardnet.specs.Lines.{file_line}
+use Rattle.boardnet.specs.Lines.{file_line, manifest_frame_line}
 use Rattle.boardnet.specs.OneOutcome.{AreAlike}
 use Rattle.boardnet.specs.Outcome.{HandedOver, Held, IsLineOf, OfFilesRead, Outcome, Refused, Source, Told}
 use Rattle.boardnet.specs.Source.{ComesBy, FitsBefore, FitsRealThen, FitsThen, IsBoardBy, IsFileBy, IsFirstStopBy, IsRealBoardBy, NextBy, StopsFileBy}
 use Rattle.boardnet.specs.Words.{Asks, Command, Between, IsBetween}
-use Rattle.boardnet.specs.commands.Between.{AreBounded, AreRead, AreUnbound, BetweenOutcome, BetweenRefuses, ComesReading, IsDecided, IsOfFile, IsPlainStop, IsReadLine, IsReadRefusal, IsUnboundRefusal, ReadStop, StopsManifest, StopsReading, at_counts, at_lower, at_real, at_upper}
+use Rattle.boardnet.specs.commands.Between.{AreBounded, AreRead, AreUnbound, BetweenOutcome, BetweenRefuses, ComesReading, IsBehindLine, IsDecided, IsOfFile, IsPlainStop, IsReadLine, IsReadRefusal, IsUnboundRefusal, ReadStop, StopsManifest, StopsReading, at_counts, at_lower, at_real, at_upper}
 use Rattle.boardnet.specs.declared.answer.Unanswered.{Unanswered}
-use Rattle.boardnet.specs.declared.answer.Unanswered.TheVariants.{Bent, NotJson, NotAManifest, Unbound}
+use Rattle.boardnet.specs.declared.answer.Unanswered.TheVariants.{Bent, NotJson, NotAManifest, BoundTooLarge, Unbound}
 use Rattle.boardnet.specs.declared.unbound.Unbound.{Unbound as NoBounds}
 use Rattle.real_package.specs.RealBoards.{PlainRealBoard}
 use Rattle.real_package.specs.RealPackage.{RealStop, bent, unbuilt}
 
 -- ---- Refusals
 
-json_line : (source : Source) (names : BoundNames) (stop : Stop) (line name : List ℕ) → ((manifest : List ℕ) → name ≡ manifest → IsLineOf manifest stop line) → StopsManifest source names stop name → IsReadRefusal source names line
-json_line source names stop line name is (inl (e, s)) = record { stop = at_lower stop; first = s; line_is = is names.lower e }
-json_line source names stop line name is (inr (e, s)) = record { stop = at_upper stop; first = s; line_is = is names.upper e }
+manifest_line : (source : Source) (names : BoundNames) (stop : Stop) (line name : List ℕ) → ((manifest : List ℕ) → name ≡ manifest → IsBehindLine manifest stop line) → StopsManifest source names stop name → IsReadRefusal source names line
+manifest_line source names stop line name is (inl (e, s)) = record { stop = at_lower stop; first = s; line_is = is names.lower e }
+manifest_line source names stop line name is (inr (e, s)) = record { stop = at_upper stop; first = s; line_is = is names.upper e }
 
 refuses : (source : Source) (names : BoundNames) (why : Unanswered) → BetweenRefuses source names why → BetweenOutcome source names (Refused (reason_line names.real names.counts why))
 refuses source names (Bent name kind command byte) m = inl (record { stop = at_real (bent name kind command byte); first = m; line_is = refl })
-refuses source names (NotJson name) m = inl (json_line source names not_json (file_line name (codes "not JSON")) name (λ manifest e. ap (λ (z : List ℕ). file_line z (codes "not JSON")) e) m)
-refuses source names (NotAManifest name) m = inl (json_line source names bad_manifest (file_line name (codes "not a manifest")) name (λ manifest e. ap (λ (z : List ℕ). file_line z (codes "not a manifest")) e) m)
+refuses source names (NotJson name) m = inl (manifest_line source names not_json (file_line name (codes "not JSON")) name (λ manifest e. ap (λ (z : List ℕ). file_line z (codes "not JSON")) e) m)
+refuses source names (NotAManifest name) m = inl (manifest_line source names bad_manifest (file_line name (codes "not a manifest")) name (λ manifest e. ap (λ (z : List ℕ). file_line z (codes "not a manifest")) e) m)
+refuses source names (BoundTooLarge name box) m = inl (manifest_line source names (frame_too_large box) (manifest_frame_line name box) name (λ manifest e. ap (λ (z : List ℕ). manifest_frame_line z box) e) m)
 refuses source names (Unbound reason) m = inr (record { reason = reason; unbound = m; line_is = refl })
 refuses source names other m = absurd m
 
 -- the line of a stop that names no manifest
-plain_line_is : (one other : List ℕ) (stop : Stop) (line : List ℕ) → IsOfFile stop → IsLineOf one stop line → IsLineOf other stop line
+plain_line_is : (one other : List ℕ) (stop : Stop) (line : List ℕ) → IsOfFile stop → IsLineOf one stop line → IsBehindLine other stop line
 plain_line_is one other not_json line f l = absurd f
 plain_line_is one other bad_manifest line f l = absurd f
 plain_line_is one other (absent name) line f l = l
 plain_line_is one other (longer name) line f l = l
 plain_line_is one other (refused name why) line f l = l
-plain_line_is one other (frame_too_large box) line f l = l
+plain_line_is one other (frame_too_large box) line f l = absurd f
 
 file_line_is : (source : Source) (name one other : List ℕ) (stop : Stop) (line : List ℕ) → StopsFileBy source name stop → IsLineOf one stop line → IsLineOf other stop line
 file_line_is (Held files) name one other (absent file) line s l = l
@@ -67,8 +68,8 @@ counts_line_is (HandedOver before after) names stop line s l =
 stopped_line : (source : Source) (names : BoundNames) (first : ReadStop) (stop : Stop) (line : List ℕ) → StopsReading source names first → IsPlainStop first stop → IsLineOf names.real stop line → IsReadLine names first line
 stopped_line source names (at_real (unbuilt first)) stop line s e l = subst (λ (z : Stop). IsLineOf names.real z line) (sym e) l
 stopped_line source names (at_real (bent name kind command byte)) stop line s e l = absurd e
-stopped_line source names (at_lower first) stop line s (e, f) l = subst (λ (z : Stop). IsLineOf names.lower z line) (sym e) (plain_line_is names.real names.lower stop line f l)
-stopped_line source names (at_upper first) stop line s (e, f) l = subst (λ (z : Stop). IsLineOf names.upper z line) (sym e) (plain_line_is names.real names.upper stop line f l)
+stopped_line source names (at_lower first) stop line s (e, f) l = subst (λ (z : Stop). IsBehindLine names.lower z line) (sym e) (plain_line_is names.real names.lower stop line f l)
+stopped_line source names (at_upper first) stop line s (e, f) l = subst (λ (z : Stop). IsBehindLine names.upper z line) (sym e) (plain_line_is names.real names.upper stop line f l)
 stopped_line source names (at_counts first) stop line s e l = counts_line_is source names first line s (subst (λ (z : Stop). IsLineOf names.real z line) (sym e) l)
 
 -- ---- The files have one reading or one stop
@@ -91,18 +92,22 @@ real_lines : (names : BoundNames) (stop : RealStop) (l k : List ℕ) → IsReadL
 real_lines names (unbuilt stop) l k p q = same_line names.real stop l k p q
 real_lines names (bent name kind command byte) l k p q = p ∙ sym q
 
+behind_lines : (manifest : List ℕ) (stop : Stop) (l k : List ℕ) → IsBehindLine manifest stop l → IsBehindLine manifest stop k → l ≡ k
+behind_lines manifest (frame_too_large box) l k p q = p ∙ sym q
+behind_lines manifest stop l k p q = same_line manifest stop l k p q
+
 one_line : OneOutcome → (f : Files) (names : BoundNames) (stop other : ReadStop) (l k : List ℕ) → StopsReading (Held f) names stop → StopsReading (Held f) names other → IsReadLine names stop l → IsReadLine names other k → l ≡ k
 one_line law f names (at_real s) (at_real t) l k x y p q = real_lines names t l k (subst (λ (z : RealStop). IsReadLine names (at_real z) l) ((law.real f names.real).one_stop s t x y) p) q
 one_line law f names (at_real s) (at_lower t) l k x y p q = absurd ((law.real f names.real).not_both y.board s y.behind.0 x)
 one_line law f names (at_real s) (at_upper t) l k x y p q = absurd ((law.real f names.real).not_both y.board s y.behind.0 x)
 one_line law f names (at_real s) (at_counts t) l k x y p q = absurd ((law.real f names.real).not_both y.board s y.behind.0 x)
 one_line law f names (at_lower s) (at_real t) l k x y p q = absurd ((law.real f names.real).not_both x.board t x.behind.0 y)
-one_line law f names (at_lower s) (at_lower t) l k x y p q = same_line names.lower t l k (subst (λ (z : Stop). IsLineOf names.lower z l) ((law.listed f names.lower).one_stop s t x.behind.1 y.behind.1) p) q
+one_line law f names (at_lower s) (at_lower t) l k x y p q = behind_lines names.lower t l k (subst (λ (z : Stop). IsBehindLine names.lower z l) ((law.listed f names.lower).one_stop s t x.behind.1 y.behind.1) p) q
 one_line law f names (at_lower s) (at_upper t) l k x y p q = absurd ((law.listed f names.lower).not_both y.behind.1.board s y.behind.1.behind.0 x.behind.1)
 one_line law f names (at_lower s) (at_counts t) l k x y p q = absurd ((law.listed f names.lower).not_both y.behind.1.board s y.behind.1.behind.0 x.behind.1)
 one_line law f names (at_upper s) (at_real t) l k x y p q = absurd ((law.real f names.real).not_both x.board t x.behind.0 y)
 one_line law f names (at_upper s) (at_lower t) l k x y p q = absurd ((law.listed f names.lower).not_both x.behind.1.board t x.behind.1.behind.0 y.behind.1)
-one_line law f names (at_upper s) (at_upper t) l k x y p q = same_line names.upper t l k (subst (λ (z : Stop). IsLineOf names.upper z l) ((law.listed f names.upper).one_stop s t x.behind.1.behind.1 y.behind.1.behind.1) p) q
+one_line law f names (at_upper s) (at_upper t) l k x y p q = behind_lines names.upper t l k (subst (λ (z : Stop). IsBehindLine names.upper z l) ((law.listed f names.upper).one_stop s t x.behind.1.behind.1 y.behind.1.behind.1) p) q
 one_line law f names (at_upper s) (at_counts t) l k x y p q = absurd ((law.listed f names.upper).not_both y.behind.1.behind.1.board s y.behind.1.behind.1.behind.0 x.behind.1.behind.1)
 one_line law f names (at_counts s) (at_real t) l k x y p q = absurd ((law.real f names.real).not_both x.board t x.behind.0 y)
 one_line law f names (at_counts s) (at_lower t) l k x y p q = absurd ((law.listed f names.lower).not_both x.behind.1.board t x.behind.1.behind.0 y.behind.1)
@@ -129,6 +134,7 @@ no_decision : OneOutcome → (f : Files) (names : BoundNames) (why : Unanswered)
 no_decision law f names (Bent name kind command byte) m b = no_text law f names (at_real (bent name kind command byte)) m b
 no_decision law f names (NotJson name) m b = manifest_text law f names not_json name m b
 no_decision law f names (NotAManifest name) m b = manifest_text law f names bad_manifest name m b
+no_decision law f names (BoundTooLarge name box) m b = manifest_text law f names (frame_too_large box) name m b
 no_decision law f names (Unbound reason) m b = bounded_or_not law f names reason m b
 no_decision law f names other m b = absurd m
 
@@ -198,6 +204,7 @@ module _ (law : HandedLaws) (f : Files) (names : BoundNames) where
   held_refuses a b w (Bent name kind command byte) x = held_stop a b w (at_real (bent name kind command byte)) x
   held_refuses a b w (NotJson name) x = held_manifest a b w not_json name x
   held_refuses a b w (NotAManifest name) x = held_manifest a b w bad_manifest name x
+  held_refuses a b w (BoundTooLarge name box) x = held_manifest a b w (frame_too_large box) name x
   held_refuses a b w (Unbound reason) x = held_unbound a b w reason x
   held_refuses a b w other x = absurd x
 

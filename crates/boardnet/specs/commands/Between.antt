@@ -2,12 +2,12 @@
 use Rattle.std.specs.Prelude.{◌≡◌, ◌⊎◌, ⊤, ℕ, List, [], ◌∷◌, codes, map, string_bytes, String, Option, Some, None}
 use Rattle.std.specs.declared.alloc.Global.{Global}
 use Rattle.arc_layer.specs.declared.kind.RealKind.{RealKind}
-use Rattle.board_package.specs.PackageBoard.{Stop, not_json, bad_manifest}
+use Rattle.board_package.specs.PackageBoard.{Stop, not_json, bad_manifest, frame_too_large}
 use Rattle.board_shapes.specs.Plain.{PlainBoard}
 use Rattle.boardnet.specs.Bounded.{AreBoundedBy, IsDecisionOn, IsUnboundBy, unbound_line}
 use Rattle.boardnet.specs.Command.{BoundNames, Command, Between, bound_names}
 use Rattle.boardnet.specs.Common.{IsLineOf, Outcome, Told, Refused, arc_line}
-use Rattle.boardnet.specs.Lines.{file_line}
+use Rattle.boardnet.specs.Lines.{manifest_frame_line}
 use Rattle.boardnet.specs.Source.{Source, ComesBy, FitsBefore, FitsRealBefore, FitsRealThen, FitsThen, IsFileBy, IsFirstRealStopBy, IsFirstStopBy, NextBy, RealComesBy, StopsFileBy}
 use Rattle.boardnet.specs.Task.{Task, on_package}
 use Rattle.boardnet.specs.declared.answer.Unanswered.{Unanswered}
@@ -58,12 +58,17 @@ StopsReading source names (at_lower stop) = BehindReal source names (λ rest. Is
 StopsReading source names (at_upper stop) = BehindLower source names (λ rest. IsFirstStopBy rest names.upper stop)
 StopsReading source names (at_counts stop) = BehindUpper source names (λ rest. StopsFileBy rest names.counts stop)
 
--- its line; that of a manifest which is none names it
+-- the line of a stop of a package behind the first: what is said of the whole package names its manifest
+abbrev pub IsBehindLine : List ℕ → Stop → List ℕ → Type 0
+IsBehindLine manifest (frame_too_large box) line = line ≡ manifest_frame_line manifest box
+IsBehindLine manifest stop line = IsLineOf manifest stop line
+
+-- its line
 abbrev pub IsReadLine : BoundNames → ReadStop → List ℕ → Type 0
 IsReadLine names (at_real (unbuilt stop)) line = IsLineOf names.real stop line
 IsReadLine names (at_real (bent name kind command byte)) line = line ≡ arc_line name kind command byte
-IsReadLine names (at_lower stop) line = IsLineOf names.lower stop line
-IsReadLine names (at_upper stop) line = IsLineOf names.upper stop line
+IsReadLine names (at_lower stop) line = IsBehindLine names.lower stop line
+IsReadLine names (at_upper stop) line = IsBehindLine names.upper stop line
 IsReadLine names (at_counts stop) line = IsLineOf names.counts stop line
 
 -- the name is that of a file of the order, which comes next
@@ -120,6 +125,7 @@ BetweenOutcome source names (Refused line) = IsReadRefusal source names line ⊎
 abbrev pub IsOfFile : Stop → Type 0
 IsOfFile not_json = ⊥
 IsOfFile bad_manifest = ⊥
+IsOfFile (frame_too_large box) = ⊥
 IsOfFile stop = ⊤
 
 -- the stop that the reading has, where its line is that of the real package's stop
@@ -134,11 +140,12 @@ IsPlainStop (at_counts first) stop = first ≡ stop
 abbrev pub StopsManifest : Source → BoundNames → Stop → List ℕ → Type 0
 StopsManifest source names stop name = ((name ≡ names.lower) × StopsReading source names (at_lower stop)) ⊎ ((name ≡ names.upper) × StopsReading source names (at_upper stop))
 
--- beside a stop: an arc, the form of the second or third manifest, or what is wrong with the bounds
+-- beside a stop: an arc, the form of the second or third manifest or the frame of its board, or what is wrong with the bounds
 abbrev pub BetweenRefuses : Source → BoundNames → Unanswered → Type 0
 BetweenRefuses source names (why.Bent name kind command byte) = StopsReading source names (at_real (bent name kind command byte))
 BetweenRefuses source names (why.NotJson name) = StopsManifest source names not_json name
 BetweenRefuses source names (why.NotAManifest name) = StopsManifest source names bad_manifest name
+BetweenRefuses source names (why.BoundTooLarge name box) = StopsManifest source names (frame_too_large box) name
 BetweenRefuses source names (why.Unbound reason) = AreUnbound source names reason
 BetweenRefuses source names other = ⊥
 

@@ -107,6 +107,12 @@ fn behind(name: Text, fault: BuildFault) -> Unanswered
     match fault {
         BuildFault::NotJson => Unanswered::NotJson(name),
         BuildFault::BadManifest => Unanswered::NotAManifest(name),
+        BuildFault::FrameTooLarge(bounds) => {
+            Unanswered::BoundTooLarge {
+                manifest: name,
+                bounds,
+            }
+        }
         other => Unanswered::Stopped(other),
     }
 }

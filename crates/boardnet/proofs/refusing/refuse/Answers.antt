@@ -1,7 +1,7 @@
 use Rattle.std.proofs.Common.{List, ℕ, codes, refl, subst, sym, ◌∙◌}
 use Rattle.boardnet.specs.Answers.{RefusesFor}
 use Rattle.boardnet.specs.Command.{asked}
-use Rattle.boardnet.specs.Lines.{Says, file_line}
+use Rattle.boardnet.specs.Lines.{Says, file_line, manifest_frame_line}
 use Rattle.boardnet.specs.Outcome.{flatten_line}
 use Rattle.boardnet.proofs.refusing.refuse.Goals as goal
 
@@ -17,3 +17,8 @@ returns-in-Unflat-clause-line g c =
       subst (λ (z : List ℕ). Says g.N.Sink.got g.N.Sink.faults c.args.notes.now c.refused_at_byte.new.notes (flatten_line z c.in-Unflat.kind c.in-Unflat.command c.in-Unflat.at)) (c.as_bytes-in-Unflat.ensures.value ∙ c.subject-file.ensures)
           (rw (← c.number.ensures, ← c.name.ensures) c.refused_at_byte.ensures),
     )
+
+pub returns-in-BoundTooLarge-clause-line : goal.returns-in-BoundTooLarge-clause-line
+returns-in-BoundTooLarge-clause-line g c =
+    subst (λ why. RefusesFor (asked c.args.command) why 3 (Says g.N.Sink.got g.N.Sink.faults c.args.notes.now c.frame_of.new.notes)) (sym c.in-BoundTooLarge.is)
+    (refl, subst (λ (z : List ℕ). Says g.N.Sink.got g.N.Sink.faults c.args.notes.now c.frame_of.new.notes (manifest_frame_line z c.in-BoundTooLarge.bounds)) c.as_bytes-in-BoundTooLarge.ensures.value c.frame_of.ensures)

@@ -239,7 +239,7 @@ fn what_is_certain_is_not_undecided(rt: HostRuntime) -> Result<(), Fail> {
     Ok(())
 }
 
-// The text, and what is read in order: a manifest that is none, other test points, a file that is not there.
+// The text, and what is read in order: a manifest that is none, a file that is not there, other test points, a board over 1 m.
 #[test]
 fn the_text_and_the_order(rt: HostRuntime) -> Result<(), Fail> {
     let alloc = rt.alloc();
@@ -257,5 +257,12 @@ fn the_text_and_the_order(rt: HostRuntime) -> Result<(), Fail> {
     package.hold("o.ipc", netlist(alloc, TWO_NAMES)?.as_slice())?;
     let renamed = &["between", "r.json", "o.json", "u.json", "c.txt"];
     let line = "boardnet: r.json: lower board has other test points, names or layers\n";
-    wants(alloc, renamed, &mut package, 3, line, "")
+    wants(alloc, renamed, &mut package, 3, line, "")?;
+    let wide = "{\"copper\":[\"w.gbr\"],\"drills\":[],\"netlist\":\"n.ipc\"}";
+    package.hold("w.json", wide.as_bytes())?;
+    let far = &[PAD, "D11*", "X0Y0D03*", "X1000000000Y0D03*"];
+    package.hold("w.gbr", gerber(alloc, far)?.as_slice())?;
+    let wider = &["between", "r.json", "w.json", "u.json", "c.txt"];
+    let line = "boardnet: w.json: frame too large: -10 -10 10000000010 10\n";
+    wants(alloc, wider, &mut package, 3, line, "")
 }

@@ -2,7 +2,7 @@ use Rattle.std.proofs.Common.{◌≡◌, ◌∙◌, rules, w64, ap}
 use Rattle.std.specs.Fmt.{signed_decimal}
 use Rattle.std.proofs.lemmas.Int.{to_z-of_z}
 use mir.Val.{SFits}
-use Rattle.boardnet.proofs.lines.frame.Goals as goal
+use Rattle.boardnet.proofs.lines.put_frame.Goals as goal
 
 pub returns : goal.returns
 returns g c =
