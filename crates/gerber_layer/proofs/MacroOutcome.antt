@@ -49,14 +49,8 @@ filled_is k text e h = filled (has_room k.macros.latest) (primitive_at text) e h
 
 -- a definition of an aperture by a macro
 of_macro : (r : Result (ℕ × Aperture) ApertureFault) (other : Option (ℕ × Tool)) → is_of_macro r ≡ true → tool_by r other ≡ other
-of_macro (Ok made) other h = cc
 of_macro (Err aperture.Macro) other h = refl
-of_macro (Err aperture.BadText) other h = cc
-of_macro (Err aperture.Hole) other h = cc
-of_macro (Err aperture.Polygon) other h = cc
-of_macro (Err aperture.OffGrid) other h = cc
-of_macro (Err aperture.OutOfRange) other h = cc
-of_macro (Err aperture.Number) other h = cc
+of_macro any other h = cc
 
 -- what it makes
 record Composed (text : List ℕ) (unit : Measure) (e : Effect) : Type 0 where

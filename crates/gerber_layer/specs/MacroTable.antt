@@ -81,14 +81,8 @@ compose k text unit = do
 
 -- the name is none of a standard aperture
 abbrev pub is_of_macro : Result (ℕ × Aperture) ApertureFault → Bool
-is_of_macro (Ok made) = false
 is_of_macro (Err aperture.Macro) = true
-is_of_macro (Err aperture.BadText) = false
-is_of_macro (Err aperture.Hole) = false
-is_of_macro (Err aperture.Polygon) = false
-is_of_macro (Err aperture.OffGrid) = false
-is_of_macro (Err aperture.OutOfRange) = false
-is_of_macro (Err aperture.Number) = false
+is_of_macro other = false
 
 -- the row of a definition
 unfoldable pub define_any : Known → List ℕ → Result Effect FlattenKind

@@ -14,7 +14,7 @@ use Rattle.xnc.specs.declared.settings.Settings.{Settings}
 use Rattle.xnc.specs.declared.tools.Tools.{Tools}
 use Rattle.xnc.specs.declared.reader.Reader.{Reader}
 use Rattle.xnc.specs.FaultPlace.{Place}
-use Rattle.xnc.specs.DrillEffects.{Known, Effect, stays, makes, moves, drills, coordinate, effect, after}
+use Rattle.xnc.specs.DrillEffects.{Known, Effect, stays, makes, coordinate, effect, after}
 use Rattle.std.specs.Option.{option_or}
 use Rattle.xnc.specs.Settings.{value_or, value_in, settings_at, unit_at, x_at, y_at, defined_at, tools_at, piece_of, known_with, known_at, barrels_at}
 use Rattle.xnc.specs.Reader.{defined_in, count_of, Adds, Turns, known_of, place_of, Obeys}
