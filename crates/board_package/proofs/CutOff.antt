@@ -71,7 +71,7 @@ file_goes all same files name n e before after g = elim (held_cut files name e.n
   | inl whole ↦ inl (record { bytes = g.bytes; held = whole; read = g.read })
   | inr cut ↦ elim (prefix_goes all same e.role e.number g.bytes n before after g.read) [
     | inl reads ↦ inl (record { bytes = take n g.bytes; held = cut; read = reads })
-    | inr stops ↦ inr (refused e.name stops.0, tt, (refl, record { bytes = take n g.bytes; held = cut; refused = stops.1 }))
+    | inr stops ↦ inr (refused e.name stops.0, tt, (refl, record { bytes = take n g.bytes; held = cut; good = stops.1 }))
   ]
 ]
 
@@ -129,7 +129,7 @@ pub cut_is_refused_or_the_same : FilesHaveOneAnswer → HavePrefixes → (files 
 cut_is_refused_or_the_same all same files manifest board b name n = elim (manifest_goes files name n manifest b.listed b.manifest) [
   | inl listed ↦ elim (walk_goes (Goes files) (Goes (cut_off files name n)) (λ e x stop. StopsAt (cut_off files name n) e x stop) (λ e x y g. file_goes all same files name n e x y g) b.listed.files (empty_board b.listed.layers) board b.walked) [
     | inl walked ↦ inr (record { listed = b.listed; manifest = listed; walked = walked; frame = b.frame })
-    | inr stops ↦ inl (stops.0, stops.1, inr (record { listed = b.listed; manifest = listed; stops = inl stops.2 }))
+    | inr stops ↦ inl (stops.0, stops.1, inr (record { listed = b.listed; manifest = listed; follows = inl stops.2 }))
   ]
   | inr stops ↦ inl (stops.0, stops.1, inl stops.2)
 ]
@@ -151,7 +151,7 @@ file_goes_labelled all same labels files name n e before after g = elim (held_cu
   | inl whole ↦ inl (record { goes = record { bytes = g.goes.bytes; held = whole; read = g.goes.read }; lists = g.lists })
   | inr cut ↦ elim (prefix_goes all same e.role e.number g.goes.bytes n before.board after.board g.goes.read) [
     | inl reads ↦ inl (record { goes = record { bytes = take n g.goes.bytes; held = cut; read = reads }; lists = prefix_lists labels e.role e.number g.goes.bytes n before.board after.board after.board before.tables after.tables g.goes.read reads g.lists })
-    | inr stops ↦ inr (refused e.name stops.0, tt, (refl, record { bytes = take n g.goes.bytes; held = cut; refused = stops.1 }))
+    | inr stops ↦ inr (refused e.name stops.0, tt, (refl, record { bytes = take n g.goes.bytes; held = cut; good = stops.1 }))
   ]
 ]
 
@@ -159,7 +159,7 @@ pub labelled_cut_is_refused_or_the_same : FilesHaveOneAnswer → HavePrefixes �
 labelled_cut_is_refused_or_the_same all same labels files manifest board b name n = elim (manifest_goes files name n manifest b.listed b.manifest) [
   | inl listed ↦ elim (walk_goes (GoesLabelled ByLabels files) (GoesLabelled ByLabels (cut_off files name n)) (λ e x stop. StopsAt (cut_off files name n) e x.board stop) (λ e x y g. file_goes_labelled all same labels files name n e x y g) (labelled_order b.listed) (nothing_labelled b.listed.layers) b.end b.walked) [
     | inl walked ↦ inr (record { listed = b.listed; manifest = listed; end = b.end; walked = walked; frame = b.frame; is = b.is })
-    | inr stops ↦ inl (stops.0, stops.1, inr (record { listed = b.listed; manifest = listed; stops = inl stops.2 }))
+    | inr stops ↦ inl (stops.0, stops.1, inr (record { listed = b.listed; manifest = listed; follows = inl stops.2 }))
   ]
   | inr stops ↦ inl (stops.0, stops.1, inl stops.2)
 ]

@@ -1,6 +1,6 @@
 -- A refusal of a reader is why the file of an entry is not read.
 use Rattle.std.proofs.Common.{◌≡◌, inr, ℕ, List, sym, subst}
-use Rattle.board_shapes.specs.Plain.{PlainBoard}
+use Rattle.board_shapes.specs.Plain.{PlainBoard, PlainPiece}
 use Rattle.board_shapes.specs.declared.placed.Room.{Room}
 use Rattle.gerber_layer.specs.Layer as layer_file
 use Rattle.gerber_layer.specs.declared.kind.GerberKind.{GerberKind}
@@ -15,8 +15,8 @@ use Rattle.xnc.specs.declared.kind.DrillFault.{DrillFault}
 use Rattle.xnc.specs.declared.kind.DrillFault.TheVariants as drill_fault
 use Rattle.xnc.specs.declared.kind.DrillKind.{DrillKind}
 use Rattle.board_package.specs.Causes.{Halts, HasRefusal}
-use Rattle.board_package.specs.Parts.{room_left}
-use Rattle.board_package.specs.Contents.{Refuses}
+use Rattle.board_package.specs.Parts.{room_left, with_pieces}
+use Rattle.board_package.specs.Contents.{Reads, Refuses}
 use Rattle.board_package.specs.declared.entry.Entry.{Entry}
 use Rattle.board_package.specs.declared.entry.Role.{Role}
 use Rattle.board_package.specs.declared.entry.Role.TheVariants as role
@@ -42,6 +42,12 @@ drill_halts e from to bytes before room fault kind line at given is left refuses
     (subst (λ (q : Room). drill_file.IsRefused bytes (record { from = from; to = to; file = e.number; room = q.pieces }) kind line at) left
     (subst (λ (f : DrillFault). drill_file.IsFault bytes (record { from = from; to = to; file = e.number; room = room.pieces }) f) same refuses))
     has
+
+-- a copper file that is read takes the board on
+pub layer_reads : (e : Entry) (layer : ℕ) (bytes : List ℕ) (before after : PlainBoard) (room : Room) (pieces : List PlainPiece) → e.role ≡ role.Copper layer → room ≡ room_left before.pieces
+    → layer_file.IsRead bytes (record { layer = layer; file = e.number; room = room }) pieces → after ≡ with_pieces before pieces → Reads e.role e.number bytes before after
+layer_reads e layer bytes before after room pieces is left read made =
+    subst (λ (x : Role). Reads x e.number bytes before after) (sym is) (pieces, subst (λ (q : Room). layer_file.IsRead bytes (record { layer = layer; file = e.number; room = q }) pieces) left read, made)
 
 pub netlist_halts : (e : Entry) (bytes : List ℕ) (before : PlainBoard) (fault : RecordFault) (kind : RecordKind) (line : ℕ) (given : BuildFault) → e.role ≡ role.Netlist
     → netlist_file.IsFault bytes before.layers fault → fault ≡ record_fault.Refused kind line → HasRefusal e.name (refusal.Netlist kind line) given → Halts e bytes before given

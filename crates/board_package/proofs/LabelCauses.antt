@@ -1,14 +1,15 @@
 -- Causes of a labelled board, carried from one stage to the next.
-use Rattle.std.proofs.Common.{◌≡◌, inl, inr, ℕ, ◌+◌, ◌<◌, ◌≤◌, Bool, true, List, [], ◌∷◌, length, take, get_or, Option, IfSome, Result, Ok, Err, OnOk, refl, sym, ap, ◌∙◌, subst, arith}
+use Rattle.std.proofs.Common.{◌≡◌, inl, inr, ℕ, ◌+◌, ◌<◌, ◌≤◌, Bool, true, List, [], ◌∷◌, length, take, get_or, Option, IfSome, refl, sym, ap, ◌∙◌, subst, arith}
 use Rattle.std.specs.List.{filter}
 use Rattle.board_io.specs.Package.{Files, IsFaultless}
 use Rattle.board_shapes.specs.Plain.{PlainBoard, common_box, Fits}
+use Rattle.board_shapes.specs.declared.shape.Shape.{Shape}
 use Rattle.x2_nets.specs.declared.label_table.Label.{Label}
 use Rattle.board_package.specs.Causes.{HasCause, IsFrameFault}
-use Rattle.board_package.specs.LabelledBoard.{GoesLabelled, IsFirstLabelledStop, IsLabelledBoardOf, Labelled, LabelledComes, LabelledComesAmong, LabelledStop, Lists, Mislabels, StopsLabelledAmong, is_taken, labelled_board_of, labelled_order, mislabelled, nothing_labelled, unbuilt}
-use Rattle.board_package.specs.LabelledCauses.{HasLabelledCause, IsMislabelling, KeepsLabelledFaults}
-use Rattle.board_package.specs.PackageBoard.{Goes, IsHeld, IsManifestFile, Stop, frame_too_large, StopsAt, StopsAtFrame, StopsAtManifest, WalksBy}
-use Rattle.board_package.specs.Parts.{empty_board}
+use Rattle.board_package.specs.LabelledBoard.{GoesLabelled, IsFirstLabelledStop, IsLabelledBoardOf, Labelled, LabelledComes, LabelledStop, Lists, Mislabels, StopsLabelledAmong, is_taken, labelled_board_of, labelled_order, mislabelled, nothing_labelled, unbuilt}
+use Rattle.board_package.specs.LabelledCauses.{HasLabelledCause, IsMislabelling, KeepsLabelledFaults, labelled_so_far}
+use Rattle.board_package.specs.PackageBoard.{ComesAlong, Goes, IsHeld, IsManifestFile, Stop, StopsAt, StopsAtFrame, StopsAtManifest, WalksBy, frame_too_large}
+use Rattle.board_package.specs.Parts.{Has, empty_board}
 use Rattle.board_package.specs.declared.entry.Entry.{Entry}
 use Rattle.board_package.specs.declared.entry.Naming.{Naming}
 use Rattle.board_package.specs.declared.entry.Naming.TheVariants.{ByLabels}
@@ -16,21 +17,17 @@ use Rattle.board_package.specs.declared.fault.BuildFault.{BuildFault}
 use Rattle.board_package.specs.declared.fault.LabelledFault.{LabelledFault}
 use Rattle.board_package.specs.declared.fault.LabelledFault.TheVariants as fault
 use Rattle.board_package.specs.declared.manifest.Manifest.{Manifest}
+use Rattle.board_package.specs.declared.parts.Parts.{Parts}
 use Rattle.board_package.proofs.Lift.{Carries, faultless_both, frame_cause, kept, kept_after, lift, told, told_all, told_of}
 use Rattle.board_package.proofs.OneOutcome.{held_one}
+use Rattle.board_package.proofs.Seen.{is_empty}
 use Rattle.board_package.proofs.Walking.{passing_at_one, passing_walk_more}
 
 abbrev pub needed : Naming → Entry → Bool
 needed naming e = is_taken naming e.role
 
-pub nothing_yet : (board : PlainBoard) (tables : List (List Label)) (layers : ℕ) → board ≡ empty_board layers → tables ≡ [] → record { board = board; tables = tables } ≡ nothing_labelled layers
-nothing_yet board tables layers p q = ap (λ (b : PlainBoard). record { board = b; tables = tables }) p ∙ ap (λ (t : List (List Label)). record { board = empty_board layers; tables = t }) q
-
--- ---- Answers of `?`
-
-pub on_ok : {B : Type 0} (result : Result B LabelledFault) (P Q : Type 0) → (P → Q) → OnOk result P → OnOk result Q
-on_ok (Ok x) P Q k h = k h
-on_ok (Err f) P Q k h = tt
+pub nothing_yet : (parts : Parts Shape) (tables : List (List Label)) (layers : ℕ) → Has parts [] [] [] layers → tables ≡ [] → labelled_so_far parts tables ≡ nothing_labelled layers
+nothing_yet parts tables layers p q = ap (λ (b : PlainBoard). record { board = b; tables = tables }) (is_empty parts layers p) ∙ ap (λ (t : List (List Label)). record { board = empty_board layers; tables = t }) q
 
 -- ---- What a package leaves
 
@@ -61,22 +58,22 @@ only naming e is = rw is refl
 -- what stops its taking
 pub file_cause : (naming : Naming) (held : Option Files) (e : Entry) (state : Labelled) (before now : ℕ) (lost : List ℕ) (why : BuildFault) → is_taken naming e.role ≡ true
     → HasCause held (λ files stop. StopsAt files e state.board stop) (λ files name. e.name ≡ name) before now lost why
-    → HasLabelledCause held (λ files stop. StopsLabelledAmong naming files (filter (needed naming) (e ∷ [])) state stop) (λ files name. LabelledComesAmong naming files (filter (needed naming) (e ∷ [])) state name) before now lost (fault.Build why)
+    → HasLabelledCause held (λ files stop. StopsLabelledAmong naming files (filter (needed naming) (e ∷ [])) state stop) (λ files name. ComesAlong (GoesLabelled naming files) (filter (needed naming) (e ∷ [])) state name) before now lost (fault.Build why)
 file_cause naming held e state before now lost why is cause =
-    lift held (λ files stop. StopsAt files e state.board stop) (λ files stop. StopsLabelledAmong naming files (filter (needed naming) (e ∷ [])) state (unbuilt stop)) (λ files name. e.name ≡ name) (λ files name. LabelledComesAmong naming files (filter (needed naming) (e ∷ [])) state name) before before now lost why
-    (told_all held (λ files. Carries (λ stop. StopsAt files e state.board stop) (λ stop. StopsLabelledAmong naming files (filter (needed naming) (e ∷ [])) state (unbuilt stop)) (λ name. e.name ≡ name) (λ name. LabelledComesAmong naming files (filter (needed naming) (e ∷ [])) state name))
+    lift held (λ files stop. StopsAt files e state.board stop) (λ files stop. StopsLabelledAmong naming files (filter (needed naming) (e ∷ [])) state (unbuilt stop)) (λ files name. e.name ≡ name) (λ files name. ComesAlong (GoesLabelled naming files) (filter (needed naming) (e ∷ [])) state name) before before now lost why
+    (told_all held (λ files. Carries (λ stop. StopsAt files e state.board stop) (λ stop. StopsLabelledAmong naming files (filter (needed naming) (e ∷ [])) state (unbuilt stop)) (λ name. e.name ≡ name) (λ name. ComesAlong (GoesLabelled naming files) (filter (needed naming) (e ∷ [])) state name))
     (λ files. record {
       stops = λ stop s. subst (λ xs. StopsLabelledAmong naming files xs state (unbuilt stop)) (sym (only naming e is)) (inl s);
-      comes = λ name s. subst (λ xs. LabelledComesAmong naming files xs state name) (sym (only naming e is)) (inl s);
+      comes = λ name s. subst (λ xs. ComesAlong (GoesLabelled naming files) xs state name) (sym (only naming e is)) (inl s);
     }))
     (omega arith) cause
 
 -- it is read, and then a label is amiss, or memory is wanted
 pub label_cause : (naming : Naming) (held : Option Files) (e : Entry) (state : Labelled) (after : PlainBoard) (bytes : List ℕ) (before now : ℕ) (lost : List ℕ) (why : LabelledFault) → is_taken naming e.role ≡ true
     → IfSome held (λ files. Goes files e state.board after) → IfSome held (λ files. IsHeld files e.name bytes) → IsMislabelling naming e.role e.name bytes why
-    → HasLabelledCause held (λ files stop. StopsLabelledAmong naming files (filter (needed naming) (e ∷ [])) state stop) (λ files name. LabelledComesAmong naming files (filter (needed naming) (e ∷ [])) state name) before now lost why
+    → HasLabelledCause held (λ files stop. StopsLabelledAmong naming files (filter (needed naming) (e ∷ [])) state stop) (λ files name. ComesAlong (GoesLabelled naming files) (filter (needed naming) (e ∷ [])) state name) before now lost why
 label_cause naming held e state after bytes before now lost (fault.Build why) is goes whole h =
-    subst (λ w. HasCause held (λ files stop. StopsLabelledAmong naming files (filter (needed naming) (e ∷ [])) state (unbuilt stop)) (λ files name. LabelledComesAmong naming files (filter (needed naming) (e ∷ [])) state name) before now lost w) (sym h) tt
+    subst (λ w. HasCause held (λ files stop. StopsLabelledAmong naming files (filter (needed naming) (e ∷ [])) state (unbuilt stop)) (λ files name. ComesAlong (GoesLabelled naming files) (filter (needed naming) (e ∷ [])) state name) before now lost w) (sym h) tt
 label_cause naming held e state after bytes before now lost (fault.Label name command at) is goes whole h =
     told held (λ files. Goes files e state.board after) (λ files. IsHeld files e.name bytes) (λ files. StopsLabelledAmong naming files (filter (needed naming) (e ∷ [])) state (mislabelled name command at))
     (λ files g b. subst (λ xs. StopsLabelledAmong naming files xs state (mislabelled name command at)) (sym (only naming e is))
@@ -98,13 +95,13 @@ file_walked naming held e before after bytes is goes whole lists =
 -- a cause of a file's stage is one of the files
 pub files_cause_more : (naming : Naming) (held after : Option Files) (entries : List Entry) (i : ℕ) (e : Entry) (start mid : Labelled) (before between now : ℕ) (lost : List ℕ) (why : LabelledFault) → i < length entries → e ≡ get_or entries i e → after ≡ held → before ≤ between
     → IfSome held (λ files. WalksBy (GoesLabelled naming files) (filter (needed naming) (take i entries)) start mid)
-    → HasLabelledCause after (λ files stop. StopsLabelledAmong naming files (filter (needed naming) (e ∷ [])) mid stop) (λ files name. LabelledComesAmong naming files (filter (needed naming) (e ∷ [])) mid name) between now lost why
-    → HasLabelledCause held (λ files stop. StopsLabelledAmong naming files (filter (needed naming) entries) start stop) (λ files name. LabelledComesAmong naming files (filter (needed naming) entries) start name) before now lost why
+    → HasLabelledCause after (λ files stop. StopsLabelledAmong naming files (filter (needed naming) (e ∷ [])) mid stop) (λ files name. ComesAlong (GoesLabelled naming files) (filter (needed naming) (e ∷ [])) mid name) between now lost why
+    → HasLabelledCause held (λ files stop. StopsLabelledAmong naming files (filter (needed naming) entries) start stop) (λ files name. ComesAlong (GoesLabelled naming files) (filter (needed naming) entries) start name) before now lost why
 files_cause_more naming held after entries i e start mid before between now lost why below here same later walked cause =
     let S : Files → LabelledStop → Type 0 = λ files stop. StopsLabelledAmong naming files (filter (needed naming) (e ∷ [])) mid stop in
-    let C : Files → List ℕ → Type 0 = λ files name. LabelledComesAmong naming files (filter (needed naming) (e ∷ [])) mid name in
+    let C : Files → List ℕ → Type 0 = λ files name. ComesAlong (GoesLabelled naming files) (filter (needed naming) (e ∷ [])) mid name in
     let T : Files → LabelledStop → Type 0 = λ files stop. StopsLabelledAmong naming files (filter (needed naming) entries) start stop in
-    let D : Files → List ℕ → Type 0 = λ files name. LabelledComesAmong naming files (filter (needed naming) entries) start name in
+    let D : Files → List ℕ → Type 0 = λ files name. ComesAlong (GoesLabelled naming files) (filter (needed naming) entries) start name in
     lift_labelled held S T C D before between now lost why
     (told_of held (λ files. WalksBy (GoesLabelled naming files) (filter (needed naming) (take i entries)) start mid) (λ files. Carries (S files) (T files) (C files) (D files))
     (λ files w. record {
@@ -134,18 +131,18 @@ manifest_labelled_cause held manifest before now lost why cause =
 -- a cause of the files is one of the package
 pub files_labelled_cause : (held after : Option Files) (manifest : List ℕ) (listed : Manifest) (start : Labelled) (before between now : ℕ) (lost : List ℕ) (why : LabelledFault) → after ≡ held → start ≡ nothing_labelled listed.layers → before ≤ between
     → IfSome held (λ files. IsManifestFile files manifest listed)
-    → HasLabelledCause after (λ files stop. StopsLabelledAmong ByLabels files (labelled_order listed) start stop) (λ files name. LabelledComesAmong ByLabels files (labelled_order listed) start name) between now lost why
+    → HasLabelledCause after (λ files stop. StopsLabelledAmong ByLabels files (labelled_order listed) start stop) (λ files name. ComesAlong (GoesLabelled ByLabels files) (labelled_order listed) start name) between now lost why
     → HasLabelledCause held (λ files stop. IsFirstLabelledStop files manifest stop) (λ files name. LabelledComes files manifest name) before now lost why
 files_labelled_cause held after manifest listed start before between now lost why same empty later is cause =
     let S : Files → LabelledStop → Type 0 = λ files stop. StopsLabelledAmong ByLabels files (labelled_order listed) start stop in
-    let C : Files → List ℕ → Type 0 = λ files name. LabelledComesAmong ByLabels files (labelled_order listed) start name in
+    let C : Files → List ℕ → Type 0 = λ files name. ComesAlong (GoesLabelled ByLabels files) (labelled_order listed) start name in
     let T : Files → LabelledStop → Type 0 = λ files stop. IsFirstLabelledStop files manifest stop in
     let D : Files → List ℕ → Type 0 = λ files name. LabelledComes files manifest name in
     lift_labelled held S T C D before between now lost why
     (told_of held (λ files. IsManifestFile files manifest listed) (λ files. Carries (S files) (T files) (C files) (D files))
     (λ files m. record {
-      stops = λ stop s. inr (record { listed = listed; manifest = m; stops = inl (subst (λ b. StopsLabelledAmong ByLabels files (labelled_order listed) b stop) empty s) });
-      comes = λ name s. inr (record { listed = listed; manifest_file = m; comes = subst (λ b. LabelledComesAmong ByLabels files (labelled_order listed) b name) empty s });
+      stops = λ stop s. inr (record { listed = listed; manifest = m; follows = inl (subst (λ b. StopsLabelledAmong ByLabels files (labelled_order listed) b stop) empty s) });
+      comes = λ name s. inr (record { listed = listed; manifest = m; follows = subst (λ b. ComesAlong (GoesLabelled ByLabels files) (labelled_order listed) b name) empty s });
     }) is)
     later (subst (λ h. HasLabelledCause h S C between now lost why) same cause)
 
@@ -161,7 +158,7 @@ pub frame_labelled_cause : (held after : Option Files) (manifest : List ℕ) (li
 frame_labelled_cause held after manifest listed start end board before now lost why same empty named is walked h =
     frame_cause held (λ files stop. IsFirstLabelledStop files manifest (unbuilt stop)) (λ files name. LabelledComes files manifest name) before now lost board why
     (told held (λ files. IsManifestFile files manifest listed) (λ files. WalksBy (GoesLabelled ByLabels files) (labelled_order listed) start end) (λ files. (stop : Stop) → StopsAtFrame board stop → IsFirstLabelledStop files manifest (unbuilt stop))
-    (λ files m w stop s. inr (record { listed = listed; manifest = m; stops = inr (record { end = end; walked = subst (λ b. WalksBy (GoesLabelled ByLabels files) (labelled_order listed) b end) empty w; frame = frame_of_pieces end.tables end.board stop (subst (λ b. StopsAtFrame b stop) named s) }) }))
+    (λ files m w stop s. inr (record { listed = listed; manifest = m; follows = inr (record { end = end; walked = subst (λ b. WalksBy (GoesLabelled ByLabels files) (labelled_order listed) b end) empty w; frame = frame_of_pieces end.tables end.board stop (subst (λ b. StopsAtFrame b stop) named s) }) }))
     is (subst (λ h. IfSome h (λ files. WalksBy (GoesLabelled ByLabels files) (labelled_order listed) start end)) same walked))
     h
 

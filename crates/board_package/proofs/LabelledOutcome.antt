@@ -1,19 +1,19 @@
 -- A package has one labelled outcome.
-use Rattle.std.proofs.Common.{◌≡◌, ◌⊎◌, inl, inr, ℕ, List, [], ◌∷◌, ◌++◌, sym, ap, subst, ◌∙◌}
+use Rattle.std.proofs.Common.{◌≡◌, inl, inr, ℕ, List, [], ◌∷◌, ◌++◌, sym, ap, subst, ◌∙◌}
 use Rattle.board_io.specs.Package.{Files}
 use Rattle.board_shapes.specs.Plain.{PlainBoard, common_box, Fits}
 use Rattle.x2_nets.specs.Labels.{no_text}
 use Rattle.x2_nets.specs.Laws.{HasOneAnswer}
 use Rattle.x2_nets.specs.declared.label_table.Label.{Label}
 use Rattle.board_package.specs.Laws.{HasOneLabelledOutcome, FilesHaveOneAnswer}
-use Rattle.board_package.specs.LabelledBoard.{GoesLabelled, IsFirstLabelledStop, IsLabelledBoardOf, IsLabelledFrameStop, IsMislabelled, Labelled, LabelledStop, Lists, Mislabels, OfBuild, StopsLabelledAmong, StopsLabelledAt, labelled_board_of, labelled_order, mislabelled, nothing_labelled, unbuilt}
+use Rattle.board_package.specs.LabelledBoard.{GoesLabelled, IsFirstLabelledStop, IsLabelledBoardOf, IsMislabelled, Labelled, LabelledStop, Lists, Mislabels, OfBuild, StopsLabelledAmong, StopsLabelledAt, StopsLabelledLater, labelled_board_of, labelled_order, mislabelled, nothing_labelled, unbuilt}
 use Rattle.board_package.specs.PackageBoard.{IsManifestFile, StopsAtFrame, StopsAtManifest, WalksBy}
 use Rattle.board_package.specs.declared.entry.Entry.{Entry}
 use Rattle.board_package.specs.declared.entry.Naming.TheVariants.{ByLabels}
 use Rattle.board_package.specs.declared.entry.Role.{Role}
 use Rattle.board_package.specs.declared.entry.Role.TheVariants as role
 use Rattle.board_package.specs.declared.manifest.Manifest.{Manifest}
-use Rattle.board_package.proofs.OneOutcome.{at_manifest_one, fits_not_stops, frame_one, goes_not_stops, goes_one, held_one, manifest_file_one, manifest_not_stops, same_name, stops_one}
+use Rattle.board_package.proofs.OneOutcome.{at_manifest_one, behind_both, fits_not_stops, frame_one, goes_not_stops, goes_one, held_one, manifest_file_one, manifest_not_stops, same_name, stops_one}
 use Rattle.board_package.proofs.Walking.{one_of_walk, one_walk, walk_or_one}
 
 -- each file has one answer, and its labels have one
@@ -72,9 +72,6 @@ stops_labelled_one all files e before (mislabelled name command at) (mislabelled
 
 -- ---- The package
 
-abbrev Later : Files → Manifest → LabelledStop → Type 0
-Later files m stop = StopsLabelledAmong ByLabels files (labelled_order m) (nothing_labelled m.layers) stop ⊎ IsLabelledFrameStop files m stop
-
 abbrev Reaches : Files → Manifest → Labelled → Type 0
 Reaches files m end = WalksBy (GoesLabelled ByLabels files) (labelled_order m) (nothing_labelled m.layers) end
 
@@ -94,7 +91,7 @@ fits_not_labelled : (b : PlainBoard) (stop : LabelledStop) → Fits (common_box 
 fits_not_labelled b (unbuilt s) fits p = fits_not_stops b s fits p
 fits_not_labelled b (mislabelled name command at) fits p = p
 
-later_labelled_one : HaveLabelAnswers → (files : Files) (m : Manifest) (stop other : LabelledStop) → Later files m stop → Later files m other → stop ≡ other
+later_labelled_one : HaveLabelAnswers → (files : Files) (m : Manifest) (stop other : LabelledStop) → StopsLabelledLater files m stop → StopsLabelledLater files m other → stop ≡ other
 later_labelled_one all files m stop other (inl s) (inl t) =
     one_of_walk (GoesLabelled ByLabels files) (goes_labelled_one all files) (λ e b. StopsLabelledAt ByLabels files e b stop) (λ e b. StopsLabelledAt ByLabels files e b other) (stop ≡ other)
     (λ e b y g h. goes_not_stops_labelled all files e b y stop g h) (λ e b y g h. goes_not_stops_labelled all files e b y other g h) (λ e b h k. stops_labelled_one all files e b stop other h k) (labelled_order m) (nothing_labelled m.layers) s t
@@ -117,11 +114,9 @@ one_stop : HaveLabelAnswers → (files : Files) (name : List ℕ) (stop other : 
 one_stop all files name stop other (inl s) (inl t) = at_manifest_labelled files name stop other s t
 one_stop all files name stop other (inl s) (inr t) = absurd (manifest_not_labelled files name t.listed stop t.manifest s)
 one_stop all files name stop other (inr s) (inl t) = absurd (manifest_not_labelled files name s.listed other s.manifest t)
-one_stop all files name stop other (inr s) (inr t) =
-    let same = manifest_file_one files name s.listed t.listed s.manifest t.manifest in
-    later_labelled_one all files t.listed stop other (subst (λ m. Later files m stop) same s.stops) t.stops
+one_stop all files name stop other (inr s) (inr t) = behind_both files name (λ m. StopsLabelledLater files m stop) (λ m. StopsLabelledLater files m other) (stop ≡ other) (λ m p q. later_labelled_one all files m stop other p q) s t
 
-later_not_board : HaveLabelAnswers → (files : Files) (m : Manifest) (end : Labelled) (stop : LabelledStop) → Reaches files m end → Fits (common_box end.board.pieces) → Later files m stop → ⊥
+later_not_board : HaveLabelAnswers → (files : Files) (m : Manifest) (end : Labelled) (stop : LabelledStop) → Reaches files m end → Fits (common_box end.board.pieces) → StopsLabelledLater files m stop → ⊥
 later_not_board all files m end stop reached fits (inl s) = reaches_not_stops all files m end stop reached s
 later_not_board all files m end stop reached fits (inr s) =
     let same = reaches_one all files m s.end end s.walked reached in
@@ -131,7 +126,7 @@ not_both : HaveLabelAnswers → (files : Files) (name : List ℕ) (board : Plain
 not_both all files name board stop b (inl s) = manifest_not_labelled files name b.listed stop b.manifest s
 not_both all files name board stop b (inr s) =
     let same = manifest_file_one files name s.listed b.listed s.manifest b.manifest in
-    later_not_board all files b.listed b.end stop b.walked b.frame (subst (λ m. Later files m stop) same s.stops)
+    later_not_board all files b.listed b.end stop b.walked b.frame (subst (λ m. StopsLabelledLater files m stop) same s.follows)
 
 one_board : HaveLabelAnswers → (files : Files) (name : List ℕ) (board other : PlainBoard) → IsLabelledBoardOf files name board → IsLabelledBoardOf files name other → board ≡ other
 one_board all files name board other a b =

@@ -19,3 +19,4 @@ pub mod OneOutcome
 pub mod Staging
 pub mod Taking
 pub mod Walking
+pub mod Seen

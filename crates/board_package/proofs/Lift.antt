@@ -1,5 +1,5 @@
 -- Causes, carried from one stage to the next.
-use Rattle.std.proofs.Common.{◌≡◌, inl, inr, ℕ, ◌≤◌, List, Option, Some, None, IfSome, Result, Ok, Err, IfErr, IfOk, MatchResult, sym, ◌∙◌, subst, arith}
+use Rattle.std.proofs.Common.{◌≡◌, inl, inr, ℕ, ◌≤◌, List, Option, Some, None, IfSome, Result, Ok, Err, IfErr, IfOk, OnOk, MatchResult, sym, ◌∙◌, subst, arith}
 use Rattle.std.specs.Result.{IsErrAnd}
 use Rattle.board_io.proofs.Agreeing.{agree_on, grows_on}
 use Rattle.board_io.specs.Causes.{Rose}
@@ -116,3 +116,7 @@ spared Left a l b m (Err why) left calm = left why
 pub if_err : {B E : Type 0} (r : Result B E) (P Q : E → Type 0) → ((why : E) → P why → Q why) → IfErr r P → IfErr r Q
 if_err (Ok x) P Q k h = tt
 if_err (Err why) P Q k h = k why h
+
+pub on_ok : {B E : Type 0} (r : Result B E) (P Q : Type 0) → (P → Q) → OnOk r P → OnOk r Q
+on_ok (Ok x) P Q k h = k h
+on_ok (Err why) P Q k h = tt

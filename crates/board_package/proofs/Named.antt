@@ -88,7 +88,7 @@ few_named tables layers pieces h =
     subst (λ (k : ℕ). AreFew layers k (named_by tables (reverse (plain_pieces pieces)))) size (all_few tables layers (reverse (plain_pieces pieces)) (all_reached layers pieces h))
 
 -- parts with the probes and names of their labelled pieces
-pub named_parts : (tables : List (List Label)) (old new : Parts) → IsLawfulParts old → new.pieces.items ≡ old.pieces.items → new.layers ≡ old.layers → named_as new.probes new.names ≡ named_by tables (reverse (plain_pieces old.pieces.items)) → IsLawfulParts new
+pub named_parts : (tables : List (List Label)) (old new : Parts Shape) → IsLawfulParts old → new.pieces.items ≡ old.pieces.items → new.layers ≡ old.layers → named_as new.probes new.names ≡ named_by tables (reverse (plain_pieces old.pieces.items)) → IsLawfulParts new
 named_parts tables old new h pieces layers e =
     let few = few_named tables old.layers old.pieces.items h.spans in
     let probes : new.probes ≡ (named_by tables (reverse (plain_pieces old.pieces.items))).probes = ap (λ (n : Named). n.probes) e in

@@ -1,5 +1,5 @@
 -- A package has one outcome.
-use Rattle.std.proofs.Common.{◌≡◌, ◌⊎◌, inl, inr, ℕ, ◌<◌, List, length, Option, Some, None, IsSomeAnd, refl, sym, ap, subst, ◌∙◌, arith}
+use Rattle.std.proofs.Common.{◌≡◌, inl, inr, ℕ, ◌<◌, List, length, Option, Some, None, IsSomeAnd, refl, sym, ap, subst, ◌∙◌, arith}
 use Rattle.board_io.specs.Package.{Files}
 use Rattle.board_shapes.specs.Plain.{PlainBoard, common_box, Fits, with_netlist}
 use Rattle.contact.specs.declared.Bounds.{Bounds}
@@ -7,7 +7,7 @@ use Rattle.ipc356_records.specs.NetlistFile.{Netlist}
 use Rattle.serde_json.specs.Data.{Data}
 use Rattle.board_package.specs.Laws.{HasOneOutcome, FilesHaveOneAnswer}
 use Rattle.board_package.specs.Manifest.{IsManifest, IsNotJson, IsOther, IsValueOf, manifest_of}
-use Rattle.board_package.specs.PackageBoard.{Stop, absent, longer, not_json, bad_manifest, refused, frame_too_large, IsHeld, IsHeldWith, Goes, IsRefusedFor, StopsAt, StopsAtManifest, StopsAtFrame, StopsAmong, IsManifestFile, IsBoardOf, IsFirstStop, IsFrameStop, Walks}
+use Rattle.board_package.specs.PackageBoard.{BehindManifest, Stop, absent, longer, not_json, bad_manifest, refused, frame_too_large, IsHeld, IsHeldWith, Goes, StopsAt, StopsAtManifest, StopsAtFrame, StopsAmong, StopsLater, IsManifestFile, IsBoardOf, IsFirstStop, Walks}
 use Rattle.texts.specs.declared.TheConstants.{MOST_BYTES}
 use Rattle.board_package.specs.Parts.{with_pieces, empty_board}
 use Rattle.board_package.specs.Contents.{Reads, Refuses, layer_place, drill_place}
@@ -74,6 +74,10 @@ absent_not_longer o e h = subst (λ (p : Option (List ℕ)). IsSomeAnd p (λ byt
 pub same_name : (name a b : List ℕ) → a ≡ name → b ≡ name → a ≡ b
 same_name name a b p q = p ∙ sym q
 
+-- of what is held with P and with Q the bytes are one
+pub with_one : (files : Files) (name : List ℕ) (P Q : List ℕ → Type 0) (R : Type 0) → ((bytes : List ℕ) → P bytes → Q bytes → R) → IsHeldWith files name P → IsHeldWith files name Q → R
+with_one files name P Q R k p q = k q.bytes (subst P (held_one files name p.bytes q.bytes p.held q.held) p.good) q.good
+
 pub goes_one : FilesHaveOneAnswer → (files : Files) (e : Entry) (before x y : PlainBoard) → Goes files e before x → Goes files e before y → x ≡ y
 goes_one all files e before x y g h =
     let same = held_one files e.name g.bytes h.bytes g.held h.held in
@@ -84,13 +88,8 @@ goes_not_stops all files e before x (absent name) g s = held_not_absent files e.
 goes_not_stops all files e before x (longer name) g s = held_not_longer files e.name g.bytes g.held s.1
 goes_not_stops all files e before x (refused name why) g s =
     let same = held_one files e.name g.bytes s.1.bytes g.held s.1.held in
-    reads_not_refused all e.role e.number s.1.bytes before x why (subst (λ bytes. Reads e.role e.number bytes before x) same g.read) s.1.refused
+    reads_not_refused all e.role e.number s.1.bytes before x why (subst (λ bytes. Reads e.role e.number bytes before x) same g.read) s.1.good
 goes_not_stops all files e before x other g s = absurd s
-
-refused_one : FilesHaveOneAnswer → (files : Files) (e : Entry) (before : PlainBoard) (why other : Refusal) → IsRefusedFor files e before why → IsRefusedFor files e before other → why ≡ other
-refused_one all files e before why other r s =
-    let same = held_one files e.name r.bytes s.bytes r.held s.held in
-    refuses_one all e.role e.number s.bytes before why other (subst (λ bytes. Refuses e.role e.number bytes before why) same r.refused) s.refused
 
 pub stops_one : FilesHaveOneAnswer → (files : Files) (e : Entry) (before : PlainBoard) (stop other : Stop) → StopsAt files e before stop → StopsAt files e before other → stop ≡ other
 stops_one all files e before (absent a) (absent b) s t = ap absent (same_name e.name a b s.0 t.0)
@@ -103,7 +102,7 @@ stops_one all files e before (longer a) (refused b why) s t = absurd (held_not_l
 stops_one all files e before (longer a) other s t = absurd t
 stops_one all files e before (refused a why) (absent b) s t = absurd (held_not_absent files e.name s.1.bytes s.1.held t.1)
 stops_one all files e before (refused a why) (longer b) s t = absurd (held_not_longer files e.name s.1.bytes s.1.held t.1)
-stops_one all files e before (refused a why) (refused b other) s t = both (same_name e.name a b s.0 t.0) (refused_one all files e before why other s.1 t.1)
+stops_one all files e before (refused a why) (refused b other) s t = both (same_name e.name a b s.0 t.0) (with_one files e.name _ _ (why ≡ other) (λ bytes p q. refuses_one all e.role e.number bytes before why other p q) s.1 t.1)
   where
     both : a ≡ b → why ≡ other → refused a why ≡ refused b other
     both p q = cc
@@ -146,11 +145,6 @@ manifest_not_other bytes m p q =
   where
     apart : {o : Option Manifest} → o ≡ Some m → o ≡ None → ⊥
     apart a b = cc
-
-with_one : (files : Files) (name : List ℕ) (P Q : List ℕ → Type 0) (R : Type 0) → ((bytes : List ℕ) → P bytes → Q bytes → R) → IsHeldWith files name P → IsHeldWith files name Q → R
-with_one files name P Q R k p q =
-    let same = held_one files name p.bytes q.bytes p.held q.held in
-    k q.bytes (subst P same p.good) q.good
 
 pub manifest_file_one : (files : Files) (name : List ℕ) (m n : Manifest) → IsManifestFile files name m → IsManifestFile files name n → m ≡ n
 manifest_file_one files name m n p q = with_one files name (λ bytes. IsManifest bytes m) (λ bytes. IsManifest bytes n) (m ≡ n) (λ bytes a b. manifest_one bytes m n a b) p q
@@ -204,10 +198,11 @@ fits_not_stops b other fits s = absurd s
 
 -- ---- The package
 
-abbrev Later : Files → Manifest → Stop → Type 0
-Later files m stop = StopsAmong files m.files (empty_board m.layers) stop ⊎ IsFrameStop files m stop
+-- of what follows a manifest the manifest is one
+pub behind_both : (files : Files) (name : List ℕ) (P Q : Manifest → Type 0) (R : Type 0) → ((m : Manifest) → P m → Q m → R) → BehindManifest files name P → BehindManifest files name Q → R
+behind_both files name P Q R k p q = k q.listed (subst P (manifest_file_one files name p.listed q.listed p.manifest q.manifest) p.follows) q.follows
 
-later_one : FilesHaveOneAnswer → (files : Files) (m : Manifest) (stop other : Stop) → Later files m stop → Later files m other → stop ≡ other
+later_one : FilesHaveOneAnswer → (files : Files) (m : Manifest) (stop other : Stop) → StopsLater files m stop → StopsLater files m other → stop ≡ other
 later_one all files m stop other (inl s) (inl t) = among_one all files m.files (empty_board m.layers) stop other s t
 later_one all files m stop other (inl s) (inr t) = absurd (walks_not_stops all files m.files (empty_board m.layers) t.board stop t.walked s)
 later_one all files m stop other (inr s) (inl t) = absurd (walks_not_stops all files m.files (empty_board m.layers) s.board other s.walked t)
@@ -215,7 +210,7 @@ later_one all files m stop other (inr s) (inr t) =
     let same = walks_one all files m.files (empty_board m.layers) s.board t.board s.walked t.walked in
     frame_one t.board stop other (subst (λ b. StopsAtFrame b stop) same s.frame) t.frame
 
-later_not_board : FilesHaveOneAnswer → (files : Files) (m : Manifest) (board : PlainBoard) (stop : Stop) → Walks files m.files (empty_board m.layers) board → Fits (common_box board.pieces) → Later files m stop → ⊥
+later_not_board : FilesHaveOneAnswer → (files : Files) (m : Manifest) (board : PlainBoard) (stop : Stop) → Walks files m.files (empty_board m.layers) board → Fits (common_box board.pieces) → StopsLater files m stop → ⊥
 later_not_board all files m board stop walks fits (inl s) = walks_not_stops all files m.files (empty_board m.layers) board stop walks s
 later_not_board all files m board stop walks fits (inr s) =
     let same = walks_one all files m.files (empty_board m.layers) s.board board s.walked walks in
@@ -225,15 +220,13 @@ first_one : FilesHaveOneAnswer → (files : Files) (name : List ℕ) (stop other
 first_one all files name stop other (inl s) (inl t) = at_manifest_one files name stop other s t
 first_one all files name stop other (inl s) (inr t) = absurd (manifest_not_stops files name t.listed stop t.manifest s)
 first_one all files name stop other (inr s) (inl t) = absurd (manifest_not_stops files name s.listed other s.manifest t)
-first_one all files name stop other (inr s) (inr t) =
-    let same = manifest_file_one files name s.listed t.listed s.manifest t.manifest in
-    later_one all files t.listed stop other (subst (λ m. Later files m stop) same s.stops) t.stops
+first_one all files name stop other (inr s) (inr t) = behind_both files name (λ m. StopsLater files m stop) (λ m. StopsLater files m other) (stop ≡ other) (λ m p q. later_one all files m stop other p q) s t
 
 board_not_stop : FilesHaveOneAnswer → (files : Files) (name : List ℕ) (board : PlainBoard) (stop : Stop) → IsBoardOf files name board → IsFirstStop files name stop → ⊥
 board_not_stop all files name board stop b (inl s) = manifest_not_stops files name b.listed stop b.manifest s
 board_not_stop all files name board stop b (inr s) =
     let same = manifest_file_one files name s.listed b.listed s.manifest b.manifest in
-    later_not_board all files b.listed board stop b.walked b.frame (subst (λ m. Later files m stop) same s.stops)
+    later_not_board all files b.listed board stop b.walked b.frame (subst (λ m. StopsLater files m stop) same s.follows)
 
 board_one : FilesHaveOneAnswer → (files : Files) (name : List ℕ) (board other : PlainBoard) → IsBoardOf files name board → IsBoardOf files name other → board ≡ other
 board_one all files name board other a b =

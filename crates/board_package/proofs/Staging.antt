@@ -3,10 +3,9 @@ use Rattle.std.proofs.Common.{◌≡◌, inl, inr, ℕ, ◌≤◌, List, [], ◌
 use Rattle.board_io.specs.Handed.{Handed, with_file}
 use Rattle.board_shapes.specs.Plain.{Fits, PlainBoard, common_box}
 use Rattle.board_package.specs.Causes.{Halts, HandedCause, IsFrameFault}
-use Rattle.board_package.specs.HandedBoard.{ComesAmongHanded, ComesHanded, ComesNext, Course, GoesHanded, IsBoardHanded, IsFirstStopHanded, IsHanded, IsHandedWith, IsManifestHanded, StopsAmongHanded, StopsAtHanded, StopsAtManifestHanded, StopsHanding, course}
+use Rattle.board_package.specs.HandedBoard.{ComesAlongHanded, ComesHanded, ComesNext, Course, GoesHanded, IsBoardHanded, IsFirstStopHanded, IsHanded, IsHandedWith, IsManifestHanded, StopsAmongHanded, StopsAtHanded, StopsAtManifestHanded, StopsHanding, course}
 use Rattle.board_package.specs.PackageBoard.{Stop, WalksBy, longer}
 use Rattle.board_package.specs.Parts.{empty_board}
-use Rattle.board_package.specs.Contents.{Refuses}
 use Rattle.board_package.specs.declared.entry.Entry.{Entry}
 use Rattle.board_package.specs.declared.fault.BuildFault.{BuildFault}
 use Rattle.board_package.specs.declared.manifest.Manifest.{Manifest}
@@ -26,7 +25,7 @@ manifest_stop : (a b : List Handed) (name : List ℕ) (stop : Stop) → StopsHan
 manifest_stop a b name (longer other) s = s
 manifest_stop a b name other s = absurd s
 
-entry_stop : (e : Entry) (c : Course) (b : List Handed) (stop : Stop) → StopsHanding c.handed b e.name stop → StopsAtHanded e c b stop
+entry_stop : (e : Entry) (c : Course PlainBoard) (b : List Handed) (stop : Stop) → StopsHanding c.handed b e.name stop → StopsAtHanded e c b stop
 entry_stop e c b (longer other) s = s
 entry_stop e c b other s = absurd s
 
@@ -37,7 +36,7 @@ taking_manifest a b name count now lost why cause =
     carry (λ stop. StopsHanding a b name stop) (λ stop. StopsAtManifestHanded a b name stop) (λ other. ComesNext a b name other) (λ other. ComesNext a b name other) count count now lost why
     (record { stops = λ stop s. manifest_stop a b name stop s; comes = λ other e. e }) (omega arith) cause
 
-pub taking_entry : (e : Entry) (c : Course) (b : List Handed) (count now : ℕ) (lost : List ℕ) (why : BuildFault)
+pub taking_entry : (e : Entry) (c : Course PlainBoard) (b : List Handed) (count now : ℕ) (lost : List ℕ) (why : BuildFault)
     → HandedCause (λ stop. StopsHanding c.handed b e.name stop) (λ name. ComesNext c.handed b e.name name) count now lost why
     → HandedCause (λ stop. StopsAtHanded e c b stop) (λ name. ComesNext c.handed b e.name name) count now lost why
 taking_entry e c b count now lost why cause =
@@ -49,14 +48,14 @@ pub handed_with : (a b : List Handed) (name bytes seen : List ℕ) (P : List ℕ
 handed_with a b name bytes seen P h same p = record { bytes = bytes; handed = h; good = subst P same p }
 
 -- a file that was handed over and is not read is a cause
-pub halted_handed : (e : Entry) (c : Course) (b : List Handed) (bytes seen : List ℕ) (count now : ℕ) (lost : List ℕ) (given : BuildFault)
-    → IsHanded c.handed b e.name bytes → seen ≡ bytes → Halts e seen c.board given
+pub halted_handed : (e : Entry) (c : Course PlainBoard) (b : List Handed) (bytes seen : List ℕ) (count now : ℕ) (lost : List ℕ) (given : BuildFault)
+    → IsHanded c.handed b e.name bytes → seen ≡ bytes → Halts e seen c.so_far given
     → HandedCause (λ stop. StopsAtHanded e c b stop) (λ name. ComesNext c.handed b e.name name) count now lost given
 halted_handed e c b bytes seen count now lost given h same (inl none) =
     subst (λ f. HandedCause (λ stop. StopsAtHanded e c b stop) (λ name. ComesNext c.handed b e.name name) count now lost f) (sym none) tt
 halted_handed e c b bytes seen count now lost given h same (inr (why, refuses, has)) =
     refusal_cause (Some (λ name. None)) (λ files stop. StopsAtHanded e c b stop) (λ files name. ComesNext c.handed b e.name name) count now lost e.name why given
-    (refl, record { bytes = bytes; handed = h; refused = subst (λ z. Refuses e.role e.number z c.board why) same refuses })
+    (refl, handed_with c.handed b e.name bytes seen _ h same refuses)
     has
 
 -- a cause of the manifest's stage is one of the package
@@ -70,13 +69,13 @@ manifest_handed a b manifest count now lost why cause =
 -- a cause of the files is one of the package
 pub files_handed : (a f b : List Handed) (manifest : List ℕ) (listed : Manifest) (start : PlainBoard) (before between now : ℕ) (lost : List ℕ) (why : BuildFault) → start ≡ empty_board listed.layers → before ≤ between
     → IsManifestHanded a f manifest listed
-    → HandedCause (λ stop. StopsAmongHanded listed.files (course f start) b stop) (λ name. ComesAmongHanded listed.files (course f start) b name) between now lost why
+    → HandedCause (λ stop. StopsAmongHanded listed.files (course f start) b stop) (λ name. ComesAlongHanded GoesHanded listed.files (course f start) b name) between now lost why
     → HandedCause (λ stop. IsFirstStopHanded a b manifest stop) (λ name. ComesHanded a b manifest name) before now lost why
 files_handed a f b manifest listed start before between now lost why empty later is cause =
-    carry (λ stop. StopsAmongHanded listed.files (course f start) b stop) (λ stop. IsFirstStopHanded a b manifest stop) (λ name. ComesAmongHanded listed.files (course f start) b name) (λ name. ComesHanded a b manifest name) before between now lost why
+    carry (λ stop. StopsAmongHanded listed.files (course f start) b stop) (λ stop. IsFirstStopHanded a b manifest stop) (λ name. ComesAlongHanded GoesHanded listed.files (course f start) b name) (λ name. ComesHanded a b manifest name) before between now lost why
     (record {
-      stops = λ stop s. inr (record { listed = listed; first = f; manifest = is; stops = inl (subst (λ x. StopsAmongHanded listed.files (course f x) b stop) empty s) });
-      comes = λ name s. inr (record { listed = listed; first = f; manifest_file = is; comes = subst (λ x. ComesAmongHanded listed.files (course f x) b name) empty s });
+      stops = λ stop s. inr (record { listed = listed; first = f; manifest = is; follows = inl (subst (λ x. StopsAmongHanded listed.files (course f x) b stop) empty s) });
+      comes = λ name s. inr (record { listed = listed; first = f; manifest = is; follows = subst (λ x. ComesAlongHanded GoesHanded listed.files (course f x) b name) empty s });
     })
     later cause
 
@@ -86,7 +85,7 @@ pub framed_handed : (a f b : List Handed) (manifest : List ℕ) (listed : Manife
     → HandedCause (λ stop. IsFirstStopHanded a b manifest stop) (λ name. ComesHanded a b manifest name) before now lost why
 framed_handed a f b manifest listed start board before now lost why empty is walked fault =
     frame_cause (Some (λ name. None)) (λ files stop. IsFirstStopHanded a b manifest stop) (λ files name. ComesHanded a b manifest name) before now lost board why
-    (λ stop s. inr (record { listed = listed; first = f; manifest = is; stops = inr (record { board = board; walked = subst (λ x. WalksBy GoesHanded listed.files (course f x) (course b board)) empty walked; frame = s }) }))
+    (λ stop s. inr (record { listed = listed; first = f; manifest = is; follows = inr (record { board = board; walked = subst (λ x. WalksBy GoesHanded listed.files (course f x) (course b board)) empty walked; frame = s }) }))
     fault
 
 -- the board of the package
@@ -94,4 +93,4 @@ pub board_handed : (a f b : List Handed) (manifest : List ℕ) (listed : Manifes
     → IsManifestHanded a f manifest listed → WalksBy GoesHanded listed.files (course f start) (course b end) → Fits (common_box end.pieces) → board ≡ end
     → IsBoardHanded a b manifest board
 board_handed a f b manifest listed start end board empty is walked fits made =
-    subst (λ x. IsBoardHanded a b manifest x) (sym made) (record { listed = listed; first = f; manifest = is; walked = subst (λ x. WalksBy GoesHanded listed.files (course f x) (course b end)) empty walked; frame = fits })
+    subst (λ x. IsBoardHanded a b manifest x) (sym made) (record { listed = listed; first = f; manifest = is; follows = (subst (λ x. WalksBy GoesHanded listed.files (course f x) (course b end)) empty walked, fits) })

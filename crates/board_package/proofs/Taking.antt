@@ -3,7 +3,7 @@ use Rattle.std.proofs.Common.{◌≡◌, inl, inr, ℕ, ◌≤◌, List, Option,
 use Rattle.board_io.specs.Package.{Files}
 use Rattle.board_shapes.specs.Plain.{PlainBoard, common_box, Fits}
 use Rattle.board_package.specs.Causes.{Halts, HasCause, IsFrameFault}
-use Rattle.board_package.specs.PackageBoard.{Stop, refused, IsHeld, IsHeldWith, IsManifestFile, IsBoardOf, IsFirstStop, Comes, StopsAt, StopsAtFrame, StopsAmong, ComesAmong, Walks}
+use Rattle.board_package.specs.PackageBoard.{Comes, ComesAlong, Goes, IsBoardOf, IsFirstStop, IsHeld, IsHeldWith, IsManifestFile, Stop, StopsAmong, StopsAt, StopsAtFrame, Walks, refused}
 use Rattle.board_package.specs.Parts.{empty_board}
 use Rattle.board_package.specs.Contents.{Refuses}
 use Rattle.board_package.specs.declared.entry.Entry.{Entry}
@@ -23,24 +23,24 @@ halted_cause held e before bytes seen count now lost given h same (inl none) =
     subst (λ f. HasCause held (λ files stop. StopsAt files e before stop) (λ files name. e.name ≡ name) count now lost f) (sym none) tt
 halted_cause held e before bytes seen count now lost given h same (inr (why, refuses, has)) =
     refusal_cause held (λ files stop. StopsAt files e before stop) (λ files name. e.name ≡ name) count now lost e.name why given
-    (told_of held (λ files. IsHeld files e.name bytes) (λ files. StopsAt files e before (refused e.name why)) (λ files k. (refl, record { bytes = bytes; held = k; refused = subst (λ z. Refuses e.role e.number z before why) same refuses })) h)
+    (told_of held (λ files. IsHeld files e.name bytes) (λ files. StopsAt files e before (refused e.name why)) (λ files k. (refl, record { bytes = bytes; held = k; good = subst (λ z. Refuses e.role e.number z before why) same refuses })) h)
     has
 
 -- a cause of the files is one of the package
 pub files_cause : (held after : Option Files) (manifest : List ℕ) (listed : Manifest) (start : PlainBoard) (before between now : ℕ) (lost : List ℕ) (why : BuildFault) → after ≡ held → start ≡ empty_board listed.layers → before ≤ between
     → IfSome held (λ files. IsManifestFile files manifest listed)
-    → HasCause after (λ files stop. StopsAmong files listed.files start stop) (λ files name. ComesAmong files listed.files start name) between now lost why
+    → HasCause after (λ files stop. StopsAmong files listed.files start stop) (λ files name. ComesAlong (Goes files) listed.files start name) between now lost why
     → HasCause held (λ files stop. IsFirstStop files manifest stop) (λ files name. Comes files manifest name) before now lost why
 files_cause held after manifest listed start before between now lost why same empty later is cause =
     let S : Files → Stop → Type 0 = λ files stop. StopsAmong files listed.files start stop in
-    let C : Files → List ℕ → Type 0 = λ files name. ComesAmong files listed.files start name in
+    let C : Files → List ℕ → Type 0 = λ files name. ComesAlong (Goes files) listed.files start name in
     let T : Files → Stop → Type 0 = λ files stop. IsFirstStop files manifest stop in
     let D : Files → List ℕ → Type 0 = λ files name. Comes files manifest name in
     lift held S T C D before between now lost why
     (told_of held (λ files. IsManifestFile files manifest listed) (λ files. Carries (S files) (T files) (C files) (D files))
     (λ files m. record {
-      stops = λ stop s. inr (record { listed = listed; manifest = m; stops = inl (subst (λ b. StopsAmong files listed.files b stop) empty s) });
-      comes = λ name s. inr (record { listed = listed; manifest_file = m; comes = subst (λ b. ComesAmong files listed.files b name) empty s });
+      stops = λ stop s. inr (record { listed = listed; manifest = m; follows = inl (subst (λ b. StopsAmong files listed.files b stop) empty s) });
+      comes = λ name s. inr (record { listed = listed; manifest = m; follows = subst (λ b. ComesAlong (Goes files) listed.files b name) empty s });
     }) is)
     later (subst (λ h. HasCause h S C between now lost why) same cause)
 
@@ -51,7 +51,7 @@ pub framed_cause : (held after : Option Files) (manifest : List ℕ) (listed : M
 framed_cause held after manifest listed start board before now lost why same empty is walked fault =
     frame_cause held (λ files stop. IsFirstStop files manifest stop) (λ files name. Comes files manifest name) before now lost board why
     (told held (λ files. IsManifestFile files manifest listed) (λ files. Walks files listed.files start board) (λ files. (stop : Stop) → StopsAtFrame board stop → IsFirstStop files manifest stop)
-    (λ files m w stop s. inr (record { listed = listed; manifest = m; stops = inr (record { board = board; walked = subst (λ b. Walks files listed.files b board) empty w; frame = s }) }))
+    (λ files m w stop s. inr (record { listed = listed; manifest = m; follows = inr (record { board = board; walked = subst (λ b. Walks files listed.files b board) empty w; frame = s }) }))
     is (subst (λ h. IfSome h (λ files. Walks files listed.files start board)) same walked))
     fault
 

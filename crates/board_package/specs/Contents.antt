@@ -1,6 +1,7 @@
 -- What each file of a package is read as, and why it is refused.
 use Rattle.std.specs.Prelude.{◌≡◌, ℕ, List}
 use Rattle.board_shapes.specs.Plain.{PlainBoard, PlainPiece, with_netlist}
+use Rattle.board_shapes.specs.declared.placed.Room.{Room}
 use Rattle.board_shapes.specs.declared.probe.Probe.{Probe}
 use Rattle.gerber_layer.specs.CommandEffects.{Place as LayerPlace}
 use Rattle.gerber_layer.specs.Layer as layer_file
@@ -14,12 +15,18 @@ use Rattle.board_package.specs.declared.contents.Refusal.{Refusal}
 use Rattle.board_package.specs.declared.contents.Refusal.TheVariants as refusal
 
 -- where the pieces of a copper file come to stand, and the room that earlier files left
+abbrev pub layer_in : Room → ℕ → ℕ → LayerPlace
+layer_in room layer number = record { layer = layer; file = number; room = room }
+
 abbrev pub layer_place : ℕ → ℕ → PlainBoard → LayerPlace
-layer_place layer number before = record { layer = layer; file = number; room = room_left before.pieces }
+layer_place layer number before = layer_in (room_left before.pieces) layer number
 
 -- where the barrels of a drill file come to stand, and the room that earlier files left
+abbrev pub drill_in : Room → ℕ → ℕ → ℕ → DrillPlace
+drill_in room from to number = record { from = from; to = to; file = number; room = room.pieces }
+
 abbrev pub drill_place : ℕ → ℕ → ℕ → PlainBoard → DrillPlace
-drill_place from to number before = record { from = from; to = to; file = number; room = (room_left before.pieces).pieces }
+drill_place from to number before = drill_in (room_left before.pieces) from to number
 
 -- the file of this role and number is read, and takes the board on
 abbrev pub Reads : Role → ℕ → List ℕ → PlainBoard → PlainBoard → Type 0

@@ -11,7 +11,6 @@ use Rattle.board_package.specs.Parts.{empty_board}
 use Rattle.board_package.specs.Contents.{Reads, Refuses}
 use Rattle.board_package.specs.declared.entry.Entry.{Entry}
 use Rattle.board_package.specs.declared.manifest.Manifest.{Manifest}
-use Rattle.board_package.specs.declared.contents.Refusal.{Refusal}
 
 -- ---- One file
 
@@ -37,44 +36,43 @@ ComesNext before after name other = (other ≡ name) × (after ≡ before)
 
 -- ---- The files in their order
 
--- what was handed over so far, and the board so far
-pub record Course : Type 0 where
+-- what was handed over so far, and what the files so far give
+pub record Course (S : Type 0) : Type 0 where
   pub handed : List Handed
-  pub board : PlainBoard
+  pub so_far : S
 
-abbrev pub course : List Handed → PlainBoard → Course
-course handed board = record { handed = handed; board = board }
+abbrev pub course : {S : Type 0} → List Handed → S → Course S
+course handed so_far = record { handed = handed; so_far = so_far }
 
 -- the file of an entry was handed over next, and is read and takes the board on
-pub record GoesHanded (e : Entry) (before after : Course) : Type 0 where
-  pub bytes : List ℕ
-  pub handed : IsHanded before.handed after.handed e.name bytes
-  pub read : Reads e.role e.number bytes before.board after.board
-
--- the file was handed over next, and is refused
-pub record IsRefusedHanded (e : Entry) (before : Course) (after : List Handed) (why : Refusal) : Type 0 where
-  pub bytes : List ℕ
-  pub handed : IsHanded before.handed after e.name bytes
-  pub refused : Refuses e.role e.number bytes before.board why
+abbrev pub GoesHanded : Entry → Course PlainBoard → Course PlainBoard → Type 0
+GoesHanded e before after = IsHandedWith before.handed after.handed e.name (λ bytes. Reads e.role e.number bytes before.so_far after.so_far)
 
 -- the file of an entry stops the package
-abbrev pub StopsAtHanded : Entry → Course → List Handed → Stop → Type 0
-StopsAtHanded e before after (refused other why) = (other ≡ e.name) × IsRefusedHanded e before after why
+abbrev pub StopsAtHanded : Entry → Course PlainBoard → List Handed → Stop → Type 0
+StopsAtHanded e before after (refused other why) = (other ≡ e.name) × IsHandedWith before.handed after e.name (λ bytes. Refuses e.role e.number bytes before.so_far why)
 StopsAtHanded e before after stop = StopsHanding before.handed after e.name stop
 
 -- one of the files stops the package, and all before it were handed over and read
-abbrev pub StopsAmongHanded : List Entry → Course → List Handed → Stop → Type 0
+abbrev pub StopsAmongHanded : List Entry → Course PlainBoard → List Handed → Stop → Type 0
 StopsAmongHanded entries before after stop = AtOneBy GoesHanded entries before (λ e c. StopsAtHanded e c after stop)
 
--- one of the files comes next, and all before it were handed over and read
-abbrev pub ComesAmongHanded : List Entry → Course → List Handed → List ℕ → Type 0
-ComesAmongHanded entries before after name = AtOneBy GoesHanded entries before (λ e c. ComesNext c.handed after e.name name)
+-- one of the files comes next, and all before it are taken on
+abbrev pub ComesAlongHanded : {S : Type 0} → (Entry → Course S → Course S → Type 0) → List Entry → Course S → List Handed → List ℕ → Type 0
+ComesAlongHanded Step entries before after name = AtOneBy Step entries before (λ e c. ComesNext c.handed after e.name name)
 
 -- ---- The package
 
 -- the file of this name was handed over next, and is this manifest
 abbrev pub IsManifestHanded : List Handed → List Handed → List ℕ → Manifest → Type 0
 IsManifestHanded before after name m = IsHandedWith before after name (λ bytes. IsManifest bytes m)
+
+-- the manifest of this name was handed over and read, and P holds of what it lists and of what was handed over so far
+pub record BehindManifestHanded (before : List Handed) (name : List ℕ) (P : Manifest → List Handed → Type 0) : Type 0 where
+  pub listed : Manifest
+  pub first : List Handed
+  pub manifest : IsManifestHanded before first name listed
+  pub follows : P listed first
 
 -- the manifest stops the package
 abbrev pub StopsAtManifestHanded : List Handed → List Handed → List ℕ → Stop → Type 0
@@ -88,33 +86,20 @@ pub record IsFrameStopHanded (before after : List Handed) (m : Manifest) (stop :
   pub walked : WalksBy GoesHanded (order_of m) (course before (empty_board m.layers)) (course after board)
   pub frame : StopsAtFrame board stop
 
--- the manifest was handed over and read, and then a file or the frame stops the package
-pub record IsLaterStopHanded (before after : List Handed) (name : List ℕ) (stop : Stop) : Type 0 where
-  pub listed : Manifest
-  pub first : List Handed
-  pub manifest : IsManifestHanded before first name listed
-  pub stops : StopsAmongHanded (order_of listed) (course first (empty_board listed.layers)) after stop ⊎ IsFrameStopHanded first after listed stop
+-- a file or the frame stops the package
+abbrev pub StopsLaterHanded : List Handed → List Handed → Manifest → Stop → Type 0
+StopsLaterHanded before after m stop = StopsAmongHanded (order_of m) (course before (empty_board m.layers)) after stop ⊎ IsFrameStopHanded before after m stop
 
 -- The first stop of what was handed over under the name of a manifest; nothing was handed over behind it.
 abbrev pub IsFirstStopHanded : List Handed → List Handed → List ℕ → Stop → Type 0
-IsFirstStopHanded before after name stop = StopsAtManifestHanded before after name stop ⊎ IsLaterStopHanded before after name stop
+IsFirstStopHanded before after name stop = StopsAtManifestHanded before after name stop ⊎ BehindManifestHanded before name (λ m first. StopsLaterHanded first after m stop)
 
 -- The manifest of this name was handed over, then each file of its order, and nothing else; and this is their board.
-pub record IsBoardHanded (before after : List Handed) (name : List ℕ) (board : PlainBoard) : Type 0 where
-  pub listed : Manifest
-  pub first : List Handed
-  pub manifest : IsManifestHanded before first name listed
-  pub walked : WalksBy GoesHanded (order_of listed) (course first (empty_board listed.layers)) (course after board)
-  pub frame : Fits (common_box board.pieces)
-
--- the manifest was handed over and read, and a file of its order comes next, with all before it handed over and read
-pub record ComesLaterHanded (before after : List Handed) (manifest name : List ℕ) : Type 0 where
-  pub listed : Manifest
-  pub first : List Handed
-  pub manifest_file : IsManifestHanded before first manifest listed
-  pub comes : ComesAmongHanded (order_of listed) (course first (empty_board listed.layers)) after name
+abbrev pub IsBoardHanded : List Handed → List Handed → List ℕ → PlainBoard → Type 0
+IsBoardHanded before after name board =
+    BehindManifestHanded before name (λ m first. WalksBy GoesHanded (order_of m) (course first (empty_board m.layers)) (course after board) × Fits (common_box board.pieces))
 
 -- the name is that of the manifest or of a file of its order, which comes next, and every file before it was handed over and
 -- has no refusal
 abbrev pub ComesHanded : List Handed → List Handed → List ℕ → List ℕ → Type 0
-ComesHanded before after manifest name = ComesNext before after manifest name ⊎ ComesLaterHanded before after manifest name
+ComesHanded before after manifest name = ComesNext before after manifest name ⊎ BehindManifestHanded before manifest (λ m first. ComesAlongHanded GoesHanded (order_of m) (course first (empty_board m.layers)) after name)

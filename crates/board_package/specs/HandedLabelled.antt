@@ -3,7 +3,7 @@
 use Rattle.std.specs.Prelude.{◌≡◌, ◌⊎◌, ℕ, List}
 use Rattle.board_io.specs.Handed.{Handed}
 use Rattle.board_shapes.specs.Plain.{PlainBoard, common_box, Fits}
-use Rattle.board_package.specs.HandedBoard.{ComesNext, Course, GoesHanded, IsManifestHanded, StopsAtHanded, StopsAtManifestHanded, course}
+use Rattle.board_package.specs.HandedBoard.{BehindManifestHanded, ComesAlongHanded, ComesNext, Course, GoesHanded, IsManifestHanded, StopsAtHanded, StopsAtManifestHanded, course}
 use Rattle.board_package.specs.LabelledBoard.{Labelled, LabelledStop, Lists, Mislabels, OfBuild, labelled_board_of, labelled_order, mislabelled, nothing_labelled, unbuilt}
 use Rattle.board_package.specs.PackageBoard.{AtOneBy, StopsAtFrame, WalksBy}
 use Rattle.board_package.specs.declared.entry.Entry.{Entry}
@@ -11,58 +11,43 @@ use Rattle.board_package.specs.declared.entry.Naming.{Naming}
 use Rattle.board_package.specs.declared.entry.Naming.TheVariants.{ByLabels}
 use Rattle.board_package.specs.declared.manifest.Manifest.{Manifest}
 
--- what was handed over so far, and the board so far with the labels of its copper files
-pub record LabelledCourse : Type 0 where
-  pub handed : List Handed
-  pub so_far : Labelled
-
-abbrev pub labelled_course : List Handed → Labelled → LabelledCourse
-labelled_course handed so_far = record { handed = handed; so_far = so_far }
-
--- the same without the labels
-abbrev pub unlabelled : LabelledCourse → Course
+-- the board so far without the labels
+abbrev pub unlabelled : Course Labelled → Course PlainBoard
 unlabelled c = course c.handed c.so_far.board
 
 -- the file of an entry was handed over next, and is read, and so are its labels
-pub record GoesLabelledHanded (naming : Naming) (e : Entry) (before after : LabelledCourse) : Type 0 where
+pub record GoesLabelledHanded (naming : Naming) (e : Entry) (before after : Course Labelled) : Type 0 where
   pub goes : GoesHanded e (unlabelled before) (unlabelled after)
   pub lists : Lists naming e.role goes.bytes before.so_far.tables after.so_far.tables
 
 -- the file was handed over next and is read, and then a label is amiss
-pub record IsMislabelledHanded (naming : Naming) (e : Entry) (before : Course) (after : List Handed) (command at : ℕ) : Type 0 where
+pub record IsMislabelledHanded (naming : Naming) (e : Entry) (before : Course PlainBoard) (after : List Handed) (command at : ℕ) : Type 0 where
   pub board : PlainBoard
   pub goes : GoesHanded e before (course after board)
   pub amiss : Mislabels naming e.role goes.bytes command at
 
 -- the file of an entry stops the package
-abbrev pub StopsLabelledAtHanded : Naming → Entry → LabelledCourse → List Handed → LabelledStop → Type 0
+abbrev pub StopsLabelledAtHanded : Naming → Entry → Course Labelled → List Handed → LabelledStop → Type 0
 StopsLabelledAtHanded naming e before after (unbuilt stop) = StopsAtHanded e (unlabelled before) after stop
 StopsLabelledAtHanded naming e before after (mislabelled name command at) = (name ≡ e.name) × IsMislabelledHanded naming e (unlabelled before) after command at
 
 -- one of the files stops the package, and all before it were handed over and read
-abbrev pub StopsLabelledAmongHanded : Naming → List Entry → LabelledCourse → List Handed → LabelledStop → Type 0
+abbrev pub StopsLabelledAmongHanded : Naming → List Entry → Course Labelled → List Handed → LabelledStop → Type 0
 StopsLabelledAmongHanded naming entries before after stop = AtOneBy (GoesLabelledHanded naming) entries before (λ e c. StopsLabelledAtHanded naming e c after stop)
-
--- one of the files comes next, and all before it were handed over and read
-abbrev pub LabelledComesAmongHanded : Naming → List Entry → LabelledCourse → List Handed → List ℕ → Type 0
-LabelledComesAmongHanded naming entries before after name = AtOneBy (GoesLabelledHanded naming) entries before (λ e c. ComesNext c.handed after e.name name)
 
 -- all files were handed over and read, and then the frame is too large
 pub record IsLabelledFrameStopHanded (before after : List Handed) (m : Manifest) (stop : LabelledStop) : Type 0 where
   pub end : Labelled
-  pub walked : WalksBy (GoesLabelledHanded ByLabels) (labelled_order m) (labelled_course before (nothing_labelled m.layers)) (labelled_course after end)
+  pub walked : WalksBy (GoesLabelledHanded ByLabels) (labelled_order m) (course before (nothing_labelled m.layers)) (course after end)
   pub frame : OfBuild (StopsAtFrame end.board) stop
 
--- behind the manifest, which was handed over and read, a copper or drill file, a name or the frame stops it
-pub record IsLaterLabelledStopHanded (before after : List Handed) (name : List ℕ) (stop : LabelledStop) : Type 0 where
-  pub listed : Manifest
-  pub first : List Handed
-  pub manifest : IsManifestHanded before first name listed
-  pub stops : StopsLabelledAmongHanded ByLabels (labelled_order listed) (labelled_course first (nothing_labelled listed.layers)) after stop ⊎ IsLabelledFrameStopHanded first after listed stop
+-- a copper or drill file, a name or the frame stops the package
+abbrev pub StopsLabelledLaterHanded : List Handed → List Handed → Manifest → LabelledStop → Type 0
+StopsLabelledLaterHanded before after m stop = StopsLabelledAmongHanded ByLabels (labelled_order m) (course before (nothing_labelled m.layers)) after stop ⊎ IsLabelledFrameStopHanded before after m stop
 
 -- the first stop of what was handed over under the name of a manifest
 abbrev pub IsFirstLabelledStopHanded : List Handed → List Handed → List ℕ → LabelledStop → Type 0
-IsFirstLabelledStopHanded before after name stop = OfBuild (StopsAtManifestHanded before after name) stop ⊎ IsLaterLabelledStopHanded before after name stop
+IsFirstLabelledStopHanded before after name stop = OfBuild (StopsAtManifestHanded before after name) stop ⊎ BehindManifestHanded before name (λ m first. StopsLabelledLaterHanded first after m stop)
 
 -- the manifest of this name was handed over, then each copper and drill file of its order, and nothing else; and this is their
 -- labelled board
@@ -71,17 +56,10 @@ pub record IsLabelledBoardHanded (before after : List Handed) (name : List ℕ) 
   pub first : List Handed
   pub manifest : IsManifestHanded before first name listed
   pub end : Labelled
-  pub walked : WalksBy (GoesLabelledHanded ByLabels) (labelled_order listed) (labelled_course first (nothing_labelled listed.layers)) (labelled_course after end)
+  pub walked : WalksBy (GoesLabelledHanded ByLabels) (labelled_order listed) (course first (nothing_labelled listed.layers)) (course after end)
   pub frame : Fits (common_box end.board.pieces)
   pub is : board ≡ labelled_board_of end.tables end.board
 
--- the manifest was handed over and read, and a file of the order comes next, with all before it handed over and read
-pub record LabelledComesLaterHanded (before after : List Handed) (manifest name : List ℕ) : Type 0 where
-  pub listed : Manifest
-  pub first : List Handed
-  pub manifest_file : IsManifestHanded before first manifest listed
-  pub comes : LabelledComesAmongHanded ByLabels (labelled_order listed) (labelled_course first (nothing_labelled listed.layers)) after name
-
 -- the name is that of the manifest or of a file of its order but the netlist, which comes next
 abbrev pub LabelledComesHanded : List Handed → List Handed → List ℕ → List ℕ → Type 0
-LabelledComesHanded before after manifest name = ComesNext before after manifest name ⊎ LabelledComesLaterHanded before after manifest name
+LabelledComesHanded before after manifest name = ComesNext before after manifest name ⊎ BehindManifestHanded before manifest (λ m first. ComesAlongHanded (GoesLabelledHanded ByLabels) (labelled_order m) (course first (nothing_labelled m.layers)) after name)

@@ -11,7 +11,7 @@ use Rattle.ipc356_records.specs.Names.{index_of, with_name}
 use Rattle.planar.specs.declared.Spot.{Spot}
 use Rattle.x2_nets.specs.Labels.{IsBad, IsRead, name_at}
 use Rattle.x2_nets.specs.declared.label_table.Label.{Label}
-use Rattle.board_package.specs.PackageBoard.{AtOneBy, Goes, IsManifestFile, Stop, StopsAt, StopsAtFrame, StopsAtManifest, WalksBy, order_of}
+use Rattle.board_package.specs.PackageBoard.{AtOneBy, BehindManifest, ComesAlong, Goes, IsManifestFile, Stop, StopsAt, StopsAtFrame, StopsAtManifest, WalksBy, order_of}
 use Rattle.board_package.specs.Parts.{empty_board}
 use Rattle.board_package.specs.declared.entry.Entry.{Entry}
 use Rattle.board_package.specs.declared.entry.Naming.{Naming}
@@ -122,20 +122,14 @@ pub record IsLabelledFrameStop (files : Files) (m : Manifest) (stop : LabelledSt
 abbrev pub StopsLabelledAmong : Naming → Files → List Entry → Labelled → LabelledStop → Type 0
 StopsLabelledAmong naming files entries before stop = AtOneBy (GoesLabelled naming files) entries before (λ e b. StopsLabelledAt naming files e b stop)
 
--- one of the files has this name, and all before it are read
-abbrev pub LabelledComesAmong : Naming → Files → List Entry → Labelled → List ℕ → Type 0
-LabelledComesAmong naming files entries before name = AtOneBy (GoesLabelled naming files) entries before (λ e b. e.name ≡ name)
-
--- behind the manifest, which is read, a copper or drill file, a name or the frame stops it
-pub record IsLaterLabelledStop (files : Files) (name : List ℕ) (stop : LabelledStop) : Type 0 where
-  pub listed : Manifest
-  pub manifest : IsManifestFile files name listed
-  pub stops : StopsLabelledAmong ByLabels files (labelled_order listed) (nothing_labelled listed.layers) stop ⊎ IsLabelledFrameStop files listed stop
+-- a copper or drill file, a name or the frame stops the package
+abbrev pub StopsLabelledLater : Files → Manifest → LabelledStop → Type 0
+StopsLabelledLater files m stop = StopsLabelledAmong ByLabels files (labelled_order m) (nothing_labelled m.layers) stop ⊎ IsLabelledFrameStop files m stop
 
 -- the first stop of the package under the name of a manifest: the manifest's, or that of the first file with one, or that of
 -- the frame
 abbrev pub IsFirstLabelledStop : Files → List ℕ → LabelledStop → Type 0
-IsFirstLabelledStop files name stop = OfBuild (StopsAtManifest files name) stop ⊎ IsLaterLabelledStop files name stop
+IsFirstLabelledStop files name stop = OfBuild (StopsAtManifest files name) stop ⊎ BehindManifest files name (λ m. StopsLabelledLater files m stop)
 
 -- the labelled board of the package under the name of a manifest: there is no stop
 pub record IsLabelledBoardOf (files : Files) (name : List ℕ) (board : PlainBoard) : Type 0 where
@@ -146,13 +140,7 @@ pub record IsLabelledBoardOf (files : Files) (name : List ℕ) (board : PlainBoa
   pub frame : Fits (common_box end.board.pieces)
   pub is : board ≡ labelled_board_of end.tables end.board
 
--- the manifest is read, and a file of the order has this name, with all before it read
-pub record LabelledComesLater (files : Files) (manifest name : List ℕ) : Type 0 where
-  pub listed : Manifest
-  pub manifest_file : IsManifestFile files manifest listed
-  pub comes : LabelledComesAmong ByLabels files (labelled_order listed) (nothing_labelled listed.layers) name
-
 -- the name is that of the manifest or of a file of its order but the netlist, and every file before it is held and has no
 -- refusal
 abbrev pub LabelledComes : Files → List ℕ → List ℕ → Type 0
-LabelledComes files manifest name = (name ≡ manifest) ⊎ LabelledComesLater files manifest name
+LabelledComes files manifest name = (name ≡ manifest) ⊎ BehindManifest files manifest (λ m. ComesAlong (GoesLabelled ByLabels files) (labelled_order m) (nothing_labelled m.layers) name)

@@ -10,6 +10,7 @@ use Rattle.board_package.specs.declared.fault.BuildFault.TheVariants as build
 use Rattle.board_package.specs.declared.fault.LabelledFault.{LabelledFault}
 use Rattle.board_package.specs.declared.fault.LabelledFault.TheVariants as fault
 use Rattle.board_package.specs.declared.parts.Parts.{Parts}
+use Rattle.board_shapes.specs.declared.shape.Shape.{Shape}
 use Rattle.x2_nets.specs.declared.label_table.Label.{Label}
 
 -- Why there is no labelled board: as without labels, or a label that is amiss, where the package tells.
@@ -32,5 +33,5 @@ IsMislabelling naming role name bytes (fault.Build why) = why ≡ build.NoMemory
 IsMislabelling naming role name bytes (fault.Label file command at) = (file ≡ name) × Mislabels naming role bytes command at
 
 -- what the files so far give, with the labels of each copper file
-abbrev pub labelled_so_far : Parts → List (List Label) → Labelled
+abbrev pub labelled_so_far : Parts Shape → List (List Label) → Labelled
 labelled_so_far parts tables = record { board = board_so_far parts; tables = tables }

@@ -33,6 +33,12 @@ pub record IsHeld (files : Files) (name bytes : List ℕ) : Type 0 where
   pub held : files name ≡ Some bytes
   pub short : length bytes ≤ MOST_BYTES
 
+-- the file of this name is held and not too long, and P holds of its bytes
+pub record IsHeldWith (files : Files) (name : List ℕ) (P : List ℕ → Type 0) : Type 0 where
+  pub bytes : List ℕ
+  pub held : IsHeld files name bytes
+  pub good : P bytes
+
 -- the file is not there to be judged: it is not held, or too long
 abbrev pub StopsTaking : Files → List ℕ → Stop → Type 0
 StopsTaking files name (absent other) = (other ≡ name) × (files name ≡ None)
@@ -45,15 +51,9 @@ pub record Goes (files : Files) (e : Entry) (before after : PlainBoard) : Type 0
   pub held : IsHeld files e.name bytes
   pub read : Reads e.role e.number bytes before after
 
--- the file is refused
-pub record IsRefusedFor (files : Files) (e : Entry) (before : PlainBoard) (why : Refusal) : Type 0 where
-  pub bytes : List ℕ
-  pub held : IsHeld files e.name bytes
-  pub refused : Refuses e.role e.number bytes before why
-
 -- the first file to be taken stops the package
 abbrev pub StopsAt : Files → Entry → PlainBoard → Stop → Type 0
-StopsAt files e before (refused other why) = (other ≡ e.name) × IsRefusedFor files e before why
+StopsAt files e before (refused other why) = (other ≡ e.name) × IsHeldWith files e.name (λ bytes. Refuses e.role e.number bytes before why)
 StopsAt files e before stop = StopsTaking files e.name stop
 
 -- ---- The files in their order
@@ -68,33 +68,29 @@ abbrev pub AtOneBy : {S : Type 0} → (Entry → S → S → Type 0) → List En
 AtOneBy Step [] before P = ⊥
 AtOneBy {S = S} Step (e ∷ rest) before P = P e before ⊎ ((next : S) × Step e before next × AtOneBy Step rest next P)
 
+-- one of the files has this name, and all before it are taken on
+abbrev pub ComesAlong : {S : Type 0} → (Entry → S → S → Type 0) → List Entry → S → List ℕ → Type 0
+ComesAlong Step entries before name = AtOneBy Step entries before (λ e s. e.name ≡ name)
+
 -- all files are read, one after another
 abbrev pub Walks : Files → List Entry → PlainBoard → PlainBoard → Type 0
 Walks files entries before after = WalksBy (Goes files) entries before after
 
--- P holds at one of the files, and all before it are read
-abbrev pub AtOne : Files → List Entry → PlainBoard → (Entry → PlainBoard → Type 0) → Type 0
-AtOne files entries before P = AtOneBy (Goes files) entries before P
-
 -- one of the files stops the package, and all before it are read
 abbrev pub StopsAmong : Files → List Entry → PlainBoard → Stop → Type 0
-StopsAmong files entries before stop = AtOne files entries before (λ e b. StopsAt files e b stop)
-
--- one of the files has this name, and all before it are read
-abbrev pub ComesAmong : Files → List Entry → PlainBoard → List ℕ → Type 0
-ComesAmong files entries before name = AtOne files entries before (λ e b. e.name ≡ name)
+StopsAmong files entries before stop = AtOneBy (Goes files) entries before (λ e b. StopsAt files e b stop)
 
 -- ---- The package
-
--- the file of this name is held and not too long, and P holds of its bytes
-pub record IsHeldWith (files : Files) (name : List ℕ) (P : List ℕ → Type 0) : Type 0 where
-  pub bytes : List ℕ
-  pub held : IsHeld files name bytes
-  pub good : P bytes
 
 -- the file of this name is this manifest
 abbrev pub IsManifestFile : Files → List ℕ → Manifest → Type 0
 IsManifestFile files name m = IsHeldWith files name (λ bytes. IsManifest bytes m)
+
+-- the manifest is read, and P holds of what it lists
+pub record BehindManifest (files : Files) (name : List ℕ) (P : Manifest → Type 0) : Type 0 where
+  pub listed : Manifest
+  pub manifest : IsManifestFile files name listed
+  pub follows : P listed
 
 -- the manifest stops the package
 abbrev pub StopsAtManifest : Files → List ℕ → Stop → Type 0
@@ -113,16 +109,14 @@ pub record IsFrameStop (files : Files) (m : Manifest) (stop : Stop) : Type 0 whe
   pub walked : Walks files (order_of m) (empty_board m.layers) board
   pub frame : StopsAtFrame board stop
 
--- the manifest is read, and then a file or the frame stops the package
-pub record IsLaterStop (files : Files) (name : List ℕ) (stop : Stop) : Type 0 where
-  pub listed : Manifest
-  pub manifest : IsManifestFile files name listed
-  pub stops : StopsAmong files (order_of listed) (empty_board listed.layers) stop ⊎ IsFrameStop files listed stop
+-- a file or the frame stops the package
+abbrev pub StopsLater : Files → Manifest → Stop → Type 0
+StopsLater files m stop = StopsAmong files (order_of m) (empty_board m.layers) stop ⊎ IsFrameStop files m stop
 
 -- The first stop of the package under the name of a manifest: the manifest's, or that of the first file with one, or that of
 -- the frame.
 abbrev pub IsFirstStop : Files → List ℕ → Stop → Type 0
-IsFirstStop files name stop = StopsAtManifest files name stop ⊎ IsLaterStop files name stop
+IsFirstStop files name stop = StopsAtManifest files name stop ⊎ BehindManifest files name (λ m. StopsLater files m stop)
 
 -- The board of the package under the name of a manifest: there is no stop.
 pub record IsBoardOf (files : Files) (name : List ℕ) (board : PlainBoard) : Type 0 where
@@ -137,12 +131,6 @@ pub record IsWithinLimits (board : PlainBoard) : Type 0 where
   pub few_pieces : length board.pieces ≤ MOST_PIECES
   pub few_layers : board.layers ≤ MOST_LAYERS
 
--- the manifest is read, and a file of the order has this name, with all before it read
-pub record ComesLater (files : Files) (manifest name : List ℕ) : Type 0 where
-  pub listed : Manifest
-  pub manifest_file : IsManifestFile files manifest listed
-  pub comes : ComesAmong files (order_of listed) (empty_board listed.layers) name
-
 -- the name is that of the manifest or of a file of its order, and every file before it is held and has no refusal
 abbrev pub Comes : Files → List ℕ → List ℕ → Type 0
-Comes files manifest name = (name ≡ manifest) ⊎ ComesLater files manifest name
+Comes files manifest name = (name ≡ manifest) ⊎ BehindManifest files manifest (λ m. ComesAlong (Goes files) (order_of m) (empty_board m.layers) name)

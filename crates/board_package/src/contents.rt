@@ -8,6 +8,7 @@ ghost use Rattle.board_package.specs.Contents.{Reads};
 use crate::entry::{Entry, Role};
 use crate::fault::{BuildFault, refused};
 use crate::parts::{Parts, room_left};
+use board_shapes::Shape;
 use gerber_layer::{GerberKind, LayerFault, read_layer};
 use ipc356_records::{RecordFault, RecordKind, read_netlist};
 use std::alloc::Global;
@@ -65,7 +66,7 @@ pub fn read_file(
     alloc: Global,
     entry: &Entry,
     file: &[u8],
-    parts: &mut Parts,
+    parts: &mut Parts<Shape>,
 ) -> Result<(), BuildFault>
     requires short { length file.now ≤ MOST_BYTES }
     requires lawful { IsLawfulParts parts.old }
@@ -78,7 +79,7 @@ pub fn read_file(
     let room = room_left(parts.pieces.as_slice());
     match entry.role {
         Role::Copper { layer } => match read_layer(alloc, file, layer, entry.number, room) {
-            Ok(pieces) => Ok(parts.add(pieces)?),
+            Ok(pieces) => parts.add(pieces),
             Err(LayerFault::Refused { kind, command, at }) => {
                 Err(refused(&entry.name, Refusal::Layer { kind, command, at }))
             }
@@ -86,7 +87,7 @@ pub fn read_file(
         },
         Role::Drill { from, to } => {
             match read_drill(alloc, file, Span { from, to }, entry.number, room) {
-                Ok(pieces) => Ok(parts.add(pieces)?),
+                Ok(pieces) => parts.add(pieces),
                 Err(DrillFault::Refused { kind, line, at }) => {
                     Err(refused(&entry.name, Refusal::Drill { kind, line, at }))
                 }

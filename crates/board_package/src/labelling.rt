@@ -93,7 +93,11 @@ fn probes_by(
 }
 
 /// Gives the parts the probes and names of their labelled pieces.
-pub fn name_pieces(alloc: Global, tables: &[Rows<Label>], parts: &mut Parts) -> Result<(), NoMemory>
+pub fn name_pieces(
+    alloc: Global,
+    tables: &[Rows<Label>],
+    parts: &mut Parts<Shape>,
+) -> Result<(), NoMemory>
     requires lawful { IsLawfulParts parts.old }
     requires rise { All Rise tables.now }
     ensures ok { OnOk result (board_so_far parts.new ≡ labelled_board_of tables.now (board_so_far parts.old)) }

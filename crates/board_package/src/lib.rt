@@ -21,5 +21,5 @@ pub use contents::Refusal;
 pub use entry::{Entry, Role};
 pub use fault::{BuildFault, LabelledFault, refused};
 pub use manifest::{Manifest, ManifestFault, read_manifest};
-pub use parts::MOST_EDGES;
+pub use parts::{MOST_EDGES, Parts, room_for};
 pub use stages::{build, build_labelled, take_file, take_manifest};

@@ -1,33 +1,34 @@
 //! The parts of a board, as files give them.
-ghost use Rattle.std.specs.Prelude.{◌≡◌, ◌≤◌, ◌+◌, length, All, OnOk};
-ghost use Rattle.board_shapes.specs.Lawful.{IsOnLayers};
+ghost use Rattle.std.specs.Prelude.{◌≡◌, ◌≤◌, ◌+◌, ◌++◌, [], length, All, IfErr, OnOk};
 ghost use Rattle.board_shapes.specs.Plain.{plain_pieces};
 ghost use Rattle.board_package.specs.Parts as spec;
-ghost use Rattle.board_package.specs.Parts.{board_so_far, empty_board, with_pieces, IsLawfulParts};
+ghost use Rattle.board_package.specs.Parts.{Has, IsLawfulParts, StandsOn};
+ghost use Rattle.board_package.specs.declared.fault.BuildFault.TheVariants as fault;
 
-use board_shapes::{MOST_LAYERS, MOST_PIECES, Piece, Probe, Room, edges_in};
+use crate::fault::BuildFault;
+use board_shapes::{MOST_LAYERS, MOST_PIECES, Piece, Placed, Probe, Room, edges_in};
 use lengths::rows::Rows;
 use lengths::text::Text;
-use std::alloc::{AllocError, Global};
+use std::alloc::Global;
 
 /// The most edges of a board.
 pub const MOST_EDGES: u64 = 2_000_000;
 
-/// What the files so far give.
+/// What the files so far give: pieces of shapes `S`, test points, names and layers.
 #[derive(Drop)]
-pub struct Parts {
-    pub pieces: Vec<Piece>,
+pub struct Parts<S> {
+    pub pieces: Vec<Placed<S>>,
     pub probes: Rows<Probe>,
     pub names: Rows<Text>,
     pub layers: u8,
 }
 
-impl Parts {
+impl<S: Drop> Parts<S> {
     /// Nothing yet, on 1 to `MOST_LAYERS` layers.
-    pub fn new(alloc: Global, layers: u8) -> Parts
+    pub fn new(alloc: Global, layers: u8) -> Parts<S>
         requires some { 1 ≤ layers }
         requires few { layers ≤ MOST_LAYERS }
-        ensures empty { board_so_far result ≡ empty_board layers }
+        ensures empty { Has result [] [] [] layers }
         ensures lawful { IsLawfulParts result }
     {
         Parts {
@@ -38,26 +39,34 @@ impl Parts {
         }
     }
 
-    /// Adds the pieces of a file, for which there is room.
-    pub fn add(&mut self, mut pieces: Vec<Piece>) -> Result<(), AllocError>
+    /// Adds the pieces of a file, for which there is room. `NoMemory` is its only fault.
+    pub fn add(&mut self, mut pieces: Vec<Placed<S>>) -> Result<(), BuildFault>
         requires lawful { IsLawfulParts self.old }
         requires few { length self.old.pieces.items + length pieces.items ≤ MOST_PIECES }
-        requires spans { All (IsOnLayers self.old.layers) pieces.items }
-        ensures ok { OnOk result (board_so_far self.new ≡ with_pieces (board_so_far self.old) (plain_pieces pieces.items)) }
+        requires spans { All (StandsOn self.old.layers) pieces.items }
+        ensures ok { OnOk result (Has self.new (self.old.pieces.items ++ pieces.items) self.old.probes self.old.names self.old.layers) }
         ensures lawful { OnOk result (IsLawfulParts self.new) }
+        ensures fault { IfErr result (λ why. why ≡ fault.NoMemory) }
     {
-        self.pieces.append(&mut pieces)
+        Ok(self.pieces.append(&mut pieces)?)
     }
 }
 
-/// The pieces and edges that may still come behind these: a board has at most `MOST_PIECES` pieces and `MOST_EDGES` edges.
+/// The pieces and edges that may still come behind so many: a board has at most `MOST_PIECES` pieces and `MOST_EDGES` edges.
+pub fn room_for(pieces: usize, edges: u64) -> Room
+    requires { pieces ≤ MOST_PIECES }
+    ensures { result ≡ spec.room_for pieces edges }
+{
+    Room {
+        pieces: MOST_PIECES - pieces as u32,
+        edges: MOST_EDGES.saturating_sub(edges) as u32,
+    }
+}
+
+/// Those that may still come behind these pieces.
 pub fn room_left(pieces: &[Piece]) -> Room
     requires { length pieces.now ≤ MOST_PIECES }
     ensures { result ≡ spec.room_left (plain_pieces pieces.now) }
 {
-    let edges = edges_in(pieces);
-    Room {
-        pieces: MOST_PIECES - pieces.len() as u32,
-        edges: MOST_EDGES.saturating_sub(edges) as u32,
-    }
+    room_for(pieces.len(), edges_in(pieces))
 }

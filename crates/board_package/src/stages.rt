@@ -3,12 +3,12 @@ ghost use Rattle.std.specs.Prelude.{◌≡◌, ◌≤◌, [], ◌∷◌, length,
 ghost use Rattle.std.specs.List.{filter};
 ghost use Rattle.board_shapes.specs.Plain.{plain_board, common_box, Fits};
 ghost use Rattle.board_package.specs.Causes.{Builds, BuildsHanded, HandedCause, HasCause, IsFrameFault, KeepsFaults, Leaves, Spares};
-ghost use Rattle.board_package.specs.HandedBoard.{ComesNext, GoesHanded, IsHanded, IsManifestHanded, StopsAtHanded, StopsAtManifestHanded, StopsHanding, course};
-ghost use Rattle.board_package.specs.HandedLabelled.{GoesLabelledHanded, LabelledComesAmongHanded, StopsLabelledAmongHanded, labelled_course, IsFirstLabelledStopHanded, IsLabelledBoardHanded, LabelledComesHanded};
-ghost use Rattle.board_package.specs.LabelledBoard.{GoesLabelled, LabelledComesAmong, StopsLabelledAmong, is_taken, IsFirstLabelledStop, IsLabelledBoardOf, LabelledComes};
+ghost use Rattle.board_package.specs.HandedBoard.{ComesAlongHanded, ComesNext, GoesHanded, IsHanded, IsManifestHanded, StopsAtHanded, StopsAtManifestHanded, StopsHanding, course};
+ghost use Rattle.board_package.specs.HandedLabelled.{GoesLabelledHanded, StopsLabelledAmongHanded, IsFirstLabelledStopHanded, IsLabelledBoardHanded, LabelledComesHanded};
+ghost use Rattle.board_package.specs.LabelledBoard.{GoesLabelled, StopsLabelledAmong, is_taken, IsFirstLabelledStop, IsLabelledBoardOf, LabelledComes};
 ghost use Rattle.board_package.specs.LabelledCauses.{HandedLabelledCause, HasLabelledCause, KeepsLabelledFaults, labelled_so_far};
 ghost use Rattle.board_package.specs.Manifest.{IsLawful, IsOnBoard};
-ghost use Rattle.board_package.specs.PackageBoard.{IsWithinLimits, IsHeld, IsManifestFile, StopsTaking, StopsAtManifest, StopsAt, Goes, WalksBy};
+ghost use Rattle.board_package.specs.PackageBoard.{ComesAlong, Goes, IsHeld, IsManifestFile, IsWithinLimits, StopsAt, StopsAtManifest, StopsTaking, WalksBy};
 ghost use Rattle.board_package.specs.Parts.{board_so_far, IsLawfulParts};
 ghost use Rattle.x2_nets.specs.Labels.{Rise};
 
@@ -19,7 +19,7 @@ use crate::labelling::{list_labels, name_pieces};
 use crate::manifest::{Manifest, ManifestFault, read_manifest};
 use crate::parts::Parts;
 use board_io::{Package, Take};
-use board_shapes::{Board, BoardFault, laws};
+use board_shapes::{Board, BoardFault, Shape, laws};
 use lengths::rows::Rows;
 use lengths::text::Text;
 use std::alloc::Global;
@@ -114,7 +114,7 @@ pub fn take_files<P: Package>(
     package: &mut P,
     naming: Naming,
     entries: &[Entry],
-    parts: &mut Parts,
+    parts: &mut Parts<Shape>,
     tables: &mut Rows<Rows<Label>>,
 ) -> Result<(), LabelledFault>
     requires lawful { IsLawfulParts parts.old }
@@ -123,11 +123,11 @@ pub fn take_files<P: Package>(
     ensures leaves { Leaves P.held P.handed P.faults «package».old «package».new }
     ensures spared { Spares KeepsLabelledFaults P.faults P.lost «package».old «package».new result }
     ensures found { OnOk result (IfSome (P.held «package».old) (λ files. WalksBy (GoesLabelled naming files) (filter (λ e. is_taken naming e.role) entries.now) (labelled_so_far parts.old tables.old) (labelled_so_far parts.new tables.new))) }
-    ensures handed { OnOk result (WalksBy (GoesLabelledHanded naming) (filter (λ e. is_taken naming e.role) entries.now) (labelled_course (P.handed «package».old) (labelled_so_far parts.old tables.old)) (labelled_course (P.handed «package».new) (labelled_so_far parts.new tables.new))) }
-    ensures handed_cause { IfErr result (HandedLabelledCause (λ stop. StopsLabelledAmongHanded naming (filter (λ e. is_taken naming e.role) entries.now) (labelled_course (P.handed «package».old) (labelled_so_far parts.old tables.old)) (P.handed «package».new) stop) (λ name. LabelledComesAmongHanded naming (filter (λ e. is_taken naming e.role) entries.now) (labelled_course (P.handed «package».old) (labelled_so_far parts.old tables.old)) (P.handed «package».new) name) (P.faults «package».old) (P.faults «package».new) (P.lost «package».new)) }
+    ensures handed { OnOk result (WalksBy (GoesLabelledHanded naming) (filter (λ e. is_taken naming e.role) entries.now) (course (P.handed «package».old) (labelled_so_far parts.old tables.old)) (course (P.handed «package».new) (labelled_so_far parts.new tables.new))) }
+    ensures handed_cause { IfErr result (HandedLabelledCause (λ stop. StopsLabelledAmongHanded naming (filter (λ e. is_taken naming e.role) entries.now) (course (P.handed «package».old) (labelled_so_far parts.old tables.old)) (P.handed «package».new) stop) (λ name. ComesAlongHanded (GoesLabelledHanded naming) (filter (λ e. is_taken naming e.role) entries.now) (course (P.handed «package».old) (labelled_so_far parts.old tables.old)) (P.handed «package».new) name) (P.faults «package».old) (P.faults «package».new) (P.lost «package».new)) }
     ensures parts { OnOk result (IsLawfulParts parts.new) }
     ensures rise { OnOk result (All Rise tables.new) }
-    ensures cause { IfErr result (HasLabelledCause (P.held «package».old) (λ files stop. StopsLabelledAmong naming files (filter (λ e. is_taken naming e.role) entries.now) (labelled_so_far parts.old tables.old) stop) (λ files name. LabelledComesAmong naming files (filter (λ e. is_taken naming e.role) entries.now) (labelled_so_far parts.old tables.old) name) (P.faults «package».old) (P.faults «package».new) (P.lost «package».new)) }
+    ensures cause { IfErr result (HasLabelledCause (P.held «package».old) (λ files stop. StopsLabelledAmong naming files (filter (λ e. is_taken naming e.role) entries.now) (labelled_so_far parts.old tables.old) stop) (λ files name. ComesAlong (GoesLabelled naming files) (filter (λ e. is_taken naming e.role) entries.now) (labelled_so_far parts.old tables.old) name) (P.faults «package».old) (P.faults «package».new) (P.lost «package».new)) }
 {
     let mut file = Vec::new(alloc);
     for entry in entries {
@@ -143,7 +143,7 @@ fn take_needed<P: Package>(
     package: &mut P,
     naming: Naming,
     entry: &Entry,
-    parts: &mut Parts,
+    parts: &mut Parts<Shape>,
     file: &mut Vec<u8>,
     tables: &mut Rows<Rows<Label>>,
 ) -> Result<(), LabelledFault>
@@ -153,12 +153,12 @@ fn take_needed<P: Package>(
     ensures leaves { Leaves P.held P.handed P.faults «package».old «package».new }
     ensures spared { Spares KeepsLabelledFaults P.faults P.lost «package».old «package».new result }
     ensures found { OnOk result (IfSome (P.held «package».old) (λ files. WalksBy (GoesLabelled naming files) (filter (λ e. is_taken naming e.role) (entry.now ∷ [])) (labelled_so_far parts.old tables.old) (labelled_so_far parts.new tables.new))) }
-    ensures handed { OnOk result (WalksBy (GoesLabelledHanded naming) (filter (λ e. is_taken naming e.role) (entry.now ∷ [])) (labelled_course (P.handed «package».old) (labelled_so_far parts.old tables.old)) (labelled_course (P.handed «package».new) (labelled_so_far parts.new tables.new))) }
-    ensures handed_cause { IfErr result (HandedLabelledCause (λ stop. StopsLabelledAmongHanded naming (filter (λ e. is_taken naming e.role) (entry.now ∷ [])) (labelled_course (P.handed «package».old) (labelled_so_far parts.old tables.old)) (P.handed «package».new) stop) (λ name. LabelledComesAmongHanded naming (filter (λ e. is_taken naming e.role) (entry.now ∷ [])) (labelled_course (P.handed «package».old) (labelled_so_far parts.old tables.old)) (P.handed «package».new) name) (P.faults «package».old) (P.faults «package».new) (P.lost «package».new)) }
+    ensures handed { OnOk result (WalksBy (GoesLabelledHanded naming) (filter (λ e. is_taken naming e.role) (entry.now ∷ [])) (course (P.handed «package».old) (labelled_so_far parts.old tables.old)) (course (P.handed «package».new) (labelled_so_far parts.new tables.new))) }
+    ensures handed_cause { IfErr result (HandedLabelledCause (λ stop. StopsLabelledAmongHanded naming (filter (λ e. is_taken naming e.role) (entry.now ∷ [])) (course (P.handed «package».old) (labelled_so_far parts.old tables.old)) (P.handed «package».new) stop) (λ name. ComesAlongHanded (GoesLabelledHanded naming) (filter (λ e. is_taken naming e.role) (entry.now ∷ [])) (course (P.handed «package».old) (labelled_so_far parts.old tables.old)) (P.handed «package».new) name) (P.faults «package».old) (P.faults «package».new) (P.lost «package».new)) }
     ensures parts { OnOk result (IsLawfulParts parts.new) }
     ensures layers { OnOk result (parts.new.layers ≡ parts.old.layers) }
     ensures rise { OnOk result (All Rise tables.new) }
-    ensures cause { IfErr result (HasLabelledCause (P.held «package».old) (λ files stop. StopsLabelledAmong naming files (filter (λ e. is_taken naming e.role) (entry.now ∷ [])) (labelled_so_far parts.old tables.old) stop) (λ files name. LabelledComesAmong naming files (filter (λ e. is_taken naming e.role) (entry.now ∷ [])) (labelled_so_far parts.old tables.old) name) (P.faults «package».old) (P.faults «package».new) (P.lost «package».new)) }
+    ensures cause { IfErr result (HasLabelledCause (P.held «package».old) (λ files stop. StopsLabelledAmong naming files (filter (λ e. is_taken naming e.role) (entry.now ∷ [])) (labelled_so_far parts.old tables.old) stop) (λ files name. ComesAlong (GoesLabelled naming files) (filter (λ e. is_taken naming e.role) (entry.now ∷ [])) (labelled_so_far parts.old tables.old) name) (P.faults «package».old) (P.faults «package».new) (P.lost «package».new)) }
 {
     if !naming.takes(entry.role) {
         return Ok(());
@@ -172,7 +172,7 @@ fn take_entry<P: Package>(
     alloc: Global,
     package: &mut P,
     entry: &Entry,
-    parts: &mut Parts,
+    parts: &mut Parts<Shape>,
     file: &mut Vec<u8>,
 ) -> Result<(), BuildFault>
     requires lawful { IsLawfulParts parts.old }
@@ -220,7 +220,7 @@ pub fn take_file<P: Package>(
 }
 
 /// The board of these parts, if it fits in a frame.
-pub fn framed(parts: Parts) -> Result<Board, BuildFault>
+pub fn framed(parts: Parts<Shape>) -> Result<Board, BuildFault>
     requires { IsLawfulParts parts }
     ensures ok { IfOk result (λ board. plain_board board ≡ board_so_far parts) }
     ensures fits { IfOk result (λ board. Fits (common_box (board_so_far parts).pieces)) }

@@ -1,8 +1,8 @@
 -- Causes of a real board, carried from one stage to the next.
-use Rattle.std.proofs.Common.{◌≡◌, inl, inr, ℕ, ◌≤◌, List, Option, IfSome, Result, Ok, Err, OnOk, refl, sym, subst, arith}
+use Rattle.std.proofs.Common.{◌≡◌, inl, inr, ℕ, ◌≤◌, List, Option, IfSome, refl, sym, subst, arith}
 use Rattle.board_io.specs.Package.{Files, IsFaultless}
 use Rattle.board_package.specs.Causes.{HasCause}
-use Rattle.board_package.specs.PackageBoard.{IsHeld, IsManifestFile, Stop, StopsAtManifest, StopsTaking, WalksBy, absent, longer, refused}
+use Rattle.board_package.specs.PackageBoard.{ComesAlong, IsHeld, IsManifestFile, Stop, StopsAtManifest, StopsTaking, WalksBy, absent, longer, refused}
 use Rattle.board_package.specs.declared.entry.Entry.{Entry}
 use Rattle.board_package.specs.declared.fault.BuildFault.{BuildFault}
 use Rattle.board_package.specs.declared.manifest.Manifest.{Manifest}
@@ -10,15 +10,9 @@ use Rattle.board_package.proofs.Lift.{Carries, faultless_both, kept, kept_after,
 use Rattle.real_package.specs.RealBoards.{PlainRealBoard, empty_real}
 use Rattle.real_package.specs.RealCauses.{HaltsReal, HasRealCause, KeepsRealFaults}
 use Rattle.real_package.specs.RealFiles.{RefusesArc, RefusesReal}
-use Rattle.real_package.specs.RealPackage.{ComesRealAmong, GoesReal, IsFirstRealStop, IsRealBoardOf, RealComes, RealStop, StopsRealAmong, StopsRealAt, bent, unbuilt}
+use Rattle.real_package.specs.RealPackage.{GoesReal, IsFirstRealStop, IsRealBoardOf, RealComes, RealStop, StopsRealAmong, StopsRealAt, bent, unbuilt}
 use Rattle.real_package.specs.declared.fault.RealBuildFault.{RealBuildFault}
 use Rattle.real_package.specs.declared.fault.RealBuildFault.TheVariants as fault
-
--- ---- Answers of `?`
-
-pub on_ok : {B E : Type 0} (result : Result B E) (P Q : Type 0) → (P → Q) → OnOk result P → OnOk result Q
-on_ok (Ok x) P Q k h = k h
-on_ok (Err f) P Q k h = tt
 
 -- ---- What a package leaves
 
@@ -84,18 +78,18 @@ manifest_cause held manifest count now lost why cause =
 -- a cause of the files is one of the package
 pub files_cause : (held after : Option Files) (manifest : List ℕ) (listed : Manifest) (start : PlainRealBoard) (before between now : ℕ) (lost : List ℕ) (why : RealBuildFault) → after ≡ held → start ≡ empty_real listed.layers → before ≤ between
     → IfSome held (λ files. IsManifestFile files manifest listed)
-    → HasRealCause after (λ files stop. StopsRealAmong files listed.files start stop) (λ files name. ComesRealAmong files listed.files start name) between now lost why
+    → HasRealCause after (λ files stop. StopsRealAmong files listed.files start stop) (λ files name. ComesAlong (GoesReal files) listed.files start name) between now lost why
     → HasRealCause held (λ files stop. IsFirstRealStop files manifest stop) (λ files name. RealComes files manifest name) before now lost why
 files_cause held after manifest listed start before between now lost why same empty later is cause =
     let S : Files → RealStop → Type 0 = λ files stop. StopsRealAmong files listed.files start stop in
-    let C : Files → List ℕ → Type 0 = λ files name. ComesRealAmong files listed.files start name in
+    let C : Files → List ℕ → Type 0 = λ files name. ComesAlong (GoesReal files) listed.files start name in
     let T : Files → RealStop → Type 0 = λ files stop. IsFirstRealStop files manifest stop in
     let D : Files → List ℕ → Type 0 = λ files name. RealComes files manifest name in
     lift_real held S T C D before between now lost why
     (told_of held (λ files. IsManifestFile files manifest listed) (λ files. Carries (S files) (T files) (C files) (D files))
     (λ files m. record {
-      stops = λ stop s. inr (record { listed = listed; manifest = m; stops = subst (λ b. StopsRealAmong files listed.files b stop) empty s });
-      comes = λ name s. inr (record { listed = listed; manifest_file = m; comes = subst (λ b. ComesRealAmong files listed.files b name) empty s });
+      stops = λ stop s. inr (record { listed = listed; manifest = m; follows = subst (λ b. StopsRealAmong files listed.files b stop) empty s });
+      comes = λ name s. inr (record { listed = listed; manifest = m; follows = subst (λ b. ComesAlong (GoesReal files) listed.files b name) empty s });
     }) is)
     later (subst (λ h. HasRealCause h S C between now lost why) same cause)
 
@@ -105,5 +99,5 @@ pub board_is : (held after : Option Files) (manifest : List ℕ) (listed : Manif
     → IfSome held (λ files. IsRealBoardOf files manifest end)
 board_is held after manifest listed start end same empty is walked =
     told held (λ files. IsManifestFile files manifest listed) (λ files. WalksBy (GoesReal files) listed.files start end) (λ files. IsRealBoardOf files manifest end)
-    (λ files m w. record { listed = listed; manifest = m; walked = subst (λ b. WalksBy (GoesReal files) listed.files b end) empty w })
+    (λ files m w. record { listed = listed; manifest = m; follows = subst (λ b. WalksBy (GoesReal files) listed.files b end) empty w })
     is (subst (λ h. IfSome h (λ files. WalksBy (GoesReal files) listed.files start end)) same walked)

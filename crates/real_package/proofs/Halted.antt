@@ -13,6 +13,7 @@ use Rattle.xnc.specs.DrillFile as drill_file
 use Rattle.xnc.specs.declared.kind.DrillFault.{DrillFault}
 use Rattle.xnc.specs.declared.kind.DrillFault.TheVariants as drill_fault
 use Rattle.board_package.specs.Causes.{HasRefusal}
+use Rattle.board_package.specs.Contents.{layer_in}
 use Rattle.board_package.specs.declared.contents.Refusal.{Refusal}
 use Rattle.board_package.specs.declared.contents.Refusal.TheVariants as refusal
 use Rattle.board_package.specs.declared.entry.Entry.{Entry}
@@ -22,7 +23,7 @@ use Rattle.board_package.specs.declared.fault.BuildFault.{BuildFault}
 use Rattle.board_package.specs.declared.fault.BuildFault.TheVariants as build
 use Rattle.real_package.specs.RealBoards.{PlainRealBoard, room_left, with_reals}
 use Rattle.real_package.specs.RealCauses.{HaltsReal, IsCopperFault, IsCopperRefusal, IsDrillFault, IsNetlistFault}
-use Rattle.real_package.specs.RealFiles.{IsOfArcs, ReadsReal, RefusesArc, RefusesReal, copper_place}
+use Rattle.real_package.specs.RealFiles.{IsOfArcs, ReadsReal, RefusesArc, RefusesReal}
 use Rattle.real_package.specs.declared.fault.RealBuildFault.{RealBuildFault}
 use Rattle.real_package.specs.declared.fault.RealBuildFault.TheVariants as fault
 
@@ -31,13 +32,13 @@ halts_as e r bytes before why given is refuses has = inr (why, subst (λ (x : Ro
 
 -- a copper file's refusal, with its name
 copper_by : (e : Entry) (layer : ℕ) (bytes : List ℕ) (before : PlainRealBoard) (kind : RealKind) (command at : ℕ) (given : RealBuildFault) → e.role ≡ role.Copper layer
-    → IsRealRefused bytes (copper_place layer e.number before) kind command at → IsOfArcs kind → (given ≡ fault.Arc e.name kind command at) ⊎ (given ≡ fault.Build build.NoMemory) → HaltsReal e bytes before given
+    → IsRealRefused bytes (layer_in (room_left before.pieces) layer e.number) kind command at → IsOfArcs kind → (given ≡ fault.Arc e.name kind command at) ⊎ (given ≡ fault.Build build.NoMemory) → HaltsReal e bytes before given
 copper_by e layer bytes before kind command at given is refuses own (inl g) =
     subst (λ (f : RealBuildFault). HaltsReal e bytes before f) (sym g) (refl, subst (λ (x : Role). RefusesArc x e.number bytes before kind command at) (sym is) (own, refuses))
 copper_by e layer bytes before kind command at given is refuses own (inr g) = subst (λ (f : RealBuildFault). HaltsReal e bytes before f) (sym g) (inl refl)
 
 copper_as : (e : Entry) (layer : ℕ) (bytes : List ℕ) (before : PlainRealBoard) (kind : RealKind) (command at : ℕ) (given : RealBuildFault) → e.role ≡ role.Copper layer
-    → IsRealRefused bytes (copper_place layer e.number before) kind command at → IsCopperRefusal e.name kind command at given → HaltsReal e bytes before given
+    → IsRealRefused bytes (layer_in (room_left before.pieces) layer e.number) kind command at → IsCopperRefusal e.name kind command at given → HaltsReal e bytes before given
 copper_as e layer bytes before (kinds.Gerber kind) command at given is refuses (why, g, has) =
     subst (λ (f : RealBuildFault). HaltsReal e bytes before f) (sym g) (halts_as e (role.Copper layer) bytes before (refusal.Layer kind command at) why is refuses has)
 copper_as e layer bytes before kinds.NoOffsets command at given is refuses has = copper_by e layer bytes before kinds.NoOffsets command at given is refuses tt has

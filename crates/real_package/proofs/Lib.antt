@@ -6,3 +6,4 @@ pub mod OnSpans
 pub mod OneOutcome
 pub mod Staged
 pub mod Walked
+pub mod Seen

@@ -10,6 +10,7 @@ use Rattle.ipc356_records.specs.NetlistFile as netlist_file
 use Rattle.ipc356_records.specs.NetlistFile.{Netlist}
 use Rattle.xnc.specs.DrillFile as drill_file
 use Rattle.xnc.specs.FaultPlace.{Place as DrillPlace}
+use Rattle.board_package.specs.Contents.{drill_in, layer_in}
 use Rattle.board_package.specs.PackageBoard.{IsHeldWith, Stop, StopsAtManifest, StopsTaking, WalksBy, absent, longer, refused}
 use Rattle.board_package.specs.declared.contents.Refusal.{Refusal}
 use Rattle.board_package.specs.declared.contents.Refusal.TheVariants as refusal
@@ -17,11 +18,11 @@ use Rattle.board_package.specs.declared.entry.Entry.{Entry}
 use Rattle.board_package.specs.declared.entry.Role.{Role}
 use Rattle.board_package.specs.declared.entry.Role.TheVariants as role
 use Rattle.board_package.specs.declared.manifest.Manifest.{Manifest}
-use Rattle.board_package.proofs.OneOutcome.{at_manifest_one, held_not_absent, held_not_longer, held_one, manifest_file_one, manifest_not_stops}
+use Rattle.board_package.proofs.OneOutcome.{at_manifest_one, behind_both, held_not_absent, held_not_longer, manifest_not_stops, with_one}
 use Rattle.board_package.proofs.Walking.{one_of_walk, one_walk, walk_or_one}
 use Rattle.real_package.specs.Laws.{HasOneRealOutcome}
-use Rattle.real_package.specs.RealBoards.{PlainRealBoard, as_reals, empty_real, with_points, with_reals}
-use Rattle.real_package.specs.RealFiles.{IsOfArcs, ReadsReal, RefusesArc, RefusesReal, barrel_place, copper_place}
+use Rattle.real_package.specs.RealBoards.{PlainRealBoard, as_reals, empty_real, room_left, with_points, with_reals}
+use Rattle.real_package.specs.RealFiles.{IsOfArcs, ReadsReal, RefusesArc, RefusesReal}
 use Rattle.real_package.specs.RealPackage.{GoesReal, IsFirstRealStop, IsRealBoardOf, RealStop, StopsRealAmong, StopsRealAt, bent, unbuilt}
 
 -- each file has one answer: copper files, drill files and netlists
@@ -34,32 +35,32 @@ pub record HaveOneAnswer : Type 0 where
 
 reads_one : HaveOneAnswer → (r : Role) (n : ℕ) (bytes : List ℕ) (before x y : PlainRealBoard) → ReadsReal r n bytes before x → ReadsReal r n bytes before y → x ≡ y
 reads_one all (role.Copper layer) n bytes before x y (a, read, is) (b, read', is') =
-    let e : a ≡ b = (all.copper bytes (copper_place layer n before)).one_value a b read read' in is ∙ (ap (with_reals before) e ∙ sym is')
+    let e : a ≡ b = (all.copper bytes (layer_in (room_left before.pieces) layer n)).one_value a b read read' in is ∙ (ap (with_reals before) e ∙ sym is')
 reads_one all (role.Drill from to) n bytes before x y (a, read, is) (b, read', is') =
-    let e : a ≡ b = (all.drill bytes (barrel_place from to n before)).one_value a b read read' in is ∙ (ap (λ (l : List PlainPiece). with_reals before (as_reals l)) e ∙ sym is')
+    let e : a ≡ b = (all.drill bytes (drill_in (room_left before.pieces) from to n)).one_value a b read read' in is ∙ (ap (λ (l : List PlainPiece). with_reals before (as_reals l)) e ∙ sym is')
 reads_one all role.Netlist n bytes before x y (a, names, read, is) (b, names', read', is') =
     let e = (all.netlist bytes before.layers).one_value (record { probes = a; names = names }) (record { probes = b; names = names' }) read read' in
     is ∙ (ap (λ (l : Netlist). with_points before l.probes l.names) e ∙ sym is')
 
 reads_not_refused : HaveOneAnswer → (r : Role) (n : ℕ) (bytes : List ℕ) (before x : PlainRealBoard) (why : Refusal) → ReadsReal r n bytes before x → RefusesReal r n bytes before why → ⊥
-reads_not_refused all (role.Copper layer) n bytes before x (refusal.Layer kind command at) (a, read, is) no' = (all.copper bytes (copper_place layer n before)).not_both a (Gerber kind) command at read no'
-reads_not_refused all (role.Drill from to) n bytes before x (refusal.Drill kind line at) (a, read, is) no' = (all.drill bytes (barrel_place from to n before)).not_both a kind line at read no'
+reads_not_refused all (role.Copper layer) n bytes before x (refusal.Layer kind command at) (a, read, is) no' = (all.copper bytes (layer_in (room_left before.pieces) layer n)).not_both a (Gerber kind) command at read no'
+reads_not_refused all (role.Drill from to) n bytes before x (refusal.Drill kind line at) (a, read, is) no' = (all.drill bytes (drill_in (room_left before.pieces) from to n)).not_both a kind line at read no'
 reads_not_refused all role.Netlist n bytes before x (refusal.Netlist kind line) (a, names, read, is) (count, no') = (all.netlist bytes before.layers).not_both (record { probes = a; names = names }) kind count line read no'
 reads_not_refused all other n bytes before x why read no' = absurd no'
 
 reads_no_arc : HaveOneAnswer → (r : Role) (n : ℕ) (bytes : List ℕ) (before x : PlainRealBoard) (kind : RealKind) (command at : ℕ) → ReadsReal r n bytes before x → RefusesArc r n bytes before kind command at → ⊥
-reads_no_arc all (role.Copper layer) n bytes before x kind command at (a, read, is) (own, no') = (all.copper bytes (copper_place layer n before)).not_both a kind command at read no'
+reads_no_arc all (role.Copper layer) n bytes before x kind command at (a, read, is) (own, no') = (all.copper bytes (layer_in (room_left before.pieces) layer n)).not_both a kind command at read no'
 reads_no_arc all other n bytes before x kind command at read no' = absurd no'
 
 refuses_one : HaveOneAnswer → (r : Role) (n : ℕ) (bytes : List ℕ) (before : PlainRealBoard) (why other : Refusal) → RefusesReal r n bytes before why → RefusesReal r n bytes before other → why ≡ other
 refuses_one all (role.Copper layer) n bytes before (refusal.Layer kind command at) (refusal.Layer kind' command' at') p q =
-    let e = (all.copper bytes (copper_place layer n before)).one_fault (Gerber kind) (Gerber kind') command command' at at' p q in
+    let e = (all.copper bytes (layer_in (room_left before.pieces) layer n)).one_fault (Gerber kind) (Gerber kind') command command' at at' p q in
     let k : kind ≡ kind' = one_kind e.0 in cc (k, e.1, e.2)
   where
     one_kind : ◌≡◌ {A = RealKind} (Gerber kind) (Gerber kind') → kind ≡ kind'
     one_kind h = cc
 refuses_one all (role.Drill from to) n bytes before (refusal.Drill kind line at) (refusal.Drill kind' line' at') p q =
-    let e = (all.drill bytes (barrel_place from to n before)).one_fault kind kind' line line' at at' p q in cc (e.0, e.1, e.2)
+    let e = (all.drill bytes (drill_in (room_left before.pieces) from to n)).one_fault kind kind' line line' at at' p q in cc (e.0, e.1, e.2)
 refuses_one all role.Netlist n bytes before (refusal.Netlist kind line) (refusal.Netlist kind' line') (count, p) (count', q) =
     let e = (all.netlist bytes before.layers).one_fault kind kind' count count' line line' p q in cc (e.0, e.2)
 refuses_one all (role.Copper layer) n bytes before (refusal.Layer kind command at) other p q = absurd q
@@ -70,7 +71,7 @@ refuses_one all r n bytes before why other p q = absurd p
 -- a file is not refused for an arc and for something else
 no_arc_too : HaveOneAnswer → (r : Role) (n : ℕ) (bytes : List ℕ) (before : PlainRealBoard) (why : Refusal) (kind : RealKind) (command at : ℕ) → RefusesReal r n bytes before why → RefusesArc r n bytes before kind command at → ⊥
 no_arc_too all (role.Copper layer) n bytes before (refusal.Layer kind command at) own number place p (of_arcs, q) =
-    let e = (all.copper bytes (copper_place layer n before)).one_fault own (Gerber kind) number command place at q p in
+    let e = (all.copper bytes (layer_in (room_left before.pieces) layer n)).one_fault own (Gerber kind) number command place at q p in
     subst IsOfArcs e.0 of_arcs
 no_arc_too all (role.Copper layer) n bytes before other own number place p q = absurd p
 no_arc_too all r n bytes before why own number place p q = absurd q
@@ -79,13 +80,10 @@ no_arc_too all r n bytes before why own number place p q = absurd q
 arcs_one : HaveOneAnswer → (r : Role) (n : ℕ) (bytes : List ℕ) (before : PlainRealBoard) (kind kind' : RealKind) (command command' at at' : ℕ) → RefusesArc r n bytes before kind command at → RefusesArc r n bytes before kind' command' at'
     → (name : List ℕ) → bent name kind command at ≡ bent name kind' command' at'
 arcs_one all (role.Copper layer) n bytes before kind kind' command command' at at' p q name =
-    let e = (all.copper bytes (copper_place layer n before)).one_fault kind kind' command command' at at' p.1 q.1 in cc (e.0, e.1, e.2)
+    let e = (all.copper bytes (layer_in (room_left before.pieces) layer n)).one_fault kind kind' command command' at at' p.1 q.1 in cc (e.0, e.1, e.2)
 arcs_one all other n bytes before kind kind' command command' at at' p q name = absurd p
 
 -- ---- One taking
-
-with_one : (files : Files) (name : List ℕ) (P Q : List ℕ → Type 0) (R : Type 0) → ((bytes : List ℕ) → P bytes → Q bytes → R) → IsHeldWith files name P → IsHeldWith files name Q → R
-with_one files name P Q R k p q = k q.bytes (subst P (held_one files name p.bytes q.bytes p.held q.held) p.good) q.good
 
 held_not_taken : (files : Files) (name : List ℕ) (P : List ℕ → Type 0) (stop : Stop) → IsHeldWith files name P → StopsTaking files name stop → ⊥
 held_not_taken files name P (absent other) h s = held_not_absent files name h.bytes h.held s.1
@@ -152,21 +150,15 @@ first_one all files name (bent n k c p) other (inl s) t = absurd s
 first_one all files name stop (bent n k c p) s (inl t) = absurd t
 first_one all files name (unbuilt a) other (inl s) (inr t) = absurd (manifest_not_stops files name t.listed a t.manifest s)
 first_one all files name stop (unbuilt b) (inr s) (inl t) = absurd (manifest_not_stops files name s.listed b s.manifest t)
-first_one all files name stop other (inr s) (inr t) =
-    let same = manifest_file_one files name s.listed t.listed s.manifest t.manifest in
-    among_one all files t.listed stop other (subst (λ (m : Manifest). StopsRealAmong files m.files (empty_real m.layers) stop) same s.stops) t.stops
+first_one all files name stop other (inr s) (inr t) = behind_both files name _ _ (stop ≡ other) (λ m p q. among_one all files m stop other p q) s t
 
 board_not_stop : HaveOneAnswer → (files : Files) (name : List ℕ) (board : PlainRealBoard) (stop : RealStop) → IsRealBoardOf files name board → IsFirstRealStop files name stop → ⊥
 board_not_stop all files name board (unbuilt a) b (inl s) = manifest_not_stops files name b.listed a b.manifest s
 board_not_stop all files name board (bent n k c p) b (inl s) = absurd s
-board_not_stop all files name board stop b (inr s) =
-    let same = manifest_file_one files name s.listed b.listed s.manifest b.manifest in
-    walk_not_stops all files b.listed board stop b.walked (subst (λ (m : Manifest). StopsRealAmong files m.files (empty_real m.layers) stop) same s.stops)
+board_not_stop all files name board stop b (inr s) = behind_both files name _ _ ⊥ (λ m p q. walk_not_stops all files m board stop p q) b s
 
 board_one : HaveOneAnswer → (files : Files) (name : List ℕ) (board other : PlainRealBoard) → IsRealBoardOf files name board → IsRealBoardOf files name other → board ≡ other
-board_one all files name board other a b =
-    let same = manifest_file_one files name a.listed b.listed a.manifest b.manifest in
-    one_walk (GoesReal files) (goes_one all files) b.listed.files (empty_real b.listed.layers) board other (subst (λ (m : Manifest). WalksBy (GoesReal files) m.files (empty_real m.layers) board) same a.walked) b.walked
+board_one all files name board other a b = behind_both files name _ _ (board ≡ other) (λ m p q. one_walk (GoesReal files) (goes_one all files) m.files (empty_real m.layers) board other p q) a b
 
 pub one_outcome : HaveOneAnswer → (files : Files) (name : List ℕ) → HasOneRealOutcome files name
 one_outcome all files name = record {

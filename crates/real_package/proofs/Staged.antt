@@ -2,14 +2,14 @@
 use Rattle.std.proofs.Common.{◌≡◌, inl, inr, ℕ, ◌<◌, ◌≤◌, List, length, take, get_or, Some, None, refl, sym, subst, arith}
 use Rattle.board_io.specs.Handed.{Handed}
 use Rattle.board_package.specs.Causes.{HandedCause}
-use Rattle.board_package.specs.HandedBoard.{ComesNext, IsHanded, IsManifestHanded, StopsAtManifestHanded, StopsHanding}
+use Rattle.board_package.specs.HandedBoard.{ComesAlongHanded, ComesNext, Course, IsHanded, IsManifestHanded, StopsAtManifestHanded, StopsHanding, course}
 use Rattle.board_package.specs.PackageBoard.{Stop, WalksBy, longer}
 use Rattle.board_package.specs.declared.entry.Entry.{Entry}
 use Rattle.board_package.specs.declared.fault.BuildFault.{BuildFault}
 use Rattle.board_package.specs.declared.manifest.Manifest.{Manifest}
 use Rattle.board_package.proofs.Lift.{Carries, refusal_cause}
 use Rattle.board_package.proofs.Staging.{carry}
-use Rattle.real_package.specs.HandedReal.{ComesRealAmongHanded, GoesRealHanded, IsFirstRealStopHanded, IsRealBoardHanded, RealComesHanded, RealCourse, StopsRealAmongHanded, StopsRealAtHanded, real_course}
+use Rattle.real_package.specs.HandedReal.{GoesRealHanded, IsFirstRealStopHanded, IsRealBoardHanded, RealComesHanded, StopsRealAmongHanded, StopsRealAtHanded}
 use Rattle.real_package.specs.RealBoards.{PlainRealBoard, empty_real}
 use Rattle.real_package.specs.RealCauses.{HaltsReal, HandedRealCause}
 use Rattle.real_package.specs.RealFiles.{RefusesArc, RefusesReal}
@@ -26,11 +26,11 @@ carry_real S T C D before mid now lost why k le h = lift_real (Some (λ name. No
 -- ---- One file
 
 -- what stops its taking
-entry_stop : (e : Entry) (c : RealCourse) (b : List Handed) (stop : Stop) → StopsHanding c.handed b e.name stop → StopsRealAtHanded e c b (unbuilt stop)
+entry_stop : (e : Entry) (c : Course PlainRealBoard) (b : List Handed) (stop : Stop) → StopsHanding c.handed b e.name stop → StopsRealAtHanded e c b (unbuilt stop)
 entry_stop e c b (longer other) s = s
 entry_stop e c b other s = absurd s
 
-pub taking_handed : (e : Entry) (c : RealCourse) (b : List Handed) (count now : ℕ) (lost : List ℕ) (why : BuildFault)
+pub taking_handed : (e : Entry) (c : Course PlainRealBoard) (b : List Handed) (count now : ℕ) (lost : List ℕ) (why : BuildFault)
     → HandedCause (λ stop. StopsHanding c.handed b e.name stop) (λ name. ComesNext c.handed b e.name name) count now lost why
     → HandedRealCause (λ stop. StopsRealAtHanded e c b stop) (λ name. ComesNext c.handed b e.name name) count now lost (fault.Build why)
 taking_handed e c b count now lost why cause =
@@ -38,27 +38,27 @@ taking_handed e c b count now lost why cause =
     (record { stops = λ stop s. entry_stop e c b stop s; comes = λ name p. p }) (omega arith) cause
 
 -- a file that was handed over and is not read is a cause
-pub halted_handed : (e : Entry) (c : RealCourse) (b : List Handed) (bytes seen : List ℕ) (count now : ℕ) (lost : List ℕ) (given : RealBuildFault)
-    → IsHanded c.handed b e.name bytes → seen ≡ bytes → HaltsReal e seen c.board given
+pub halted_handed : (e : Entry) (c : Course PlainRealBoard) (b : List Handed) (bytes seen : List ℕ) (count now : ℕ) (lost : List ℕ) (given : RealBuildFault)
+    → IsHanded c.handed b e.name bytes → seen ≡ bytes → HaltsReal e seen c.so_far given
     → HandedRealCause (λ stop. StopsRealAtHanded e c b stop) (λ name. ComesNext c.handed b e.name name) count now lost given
 halted_handed e c b bytes seen count now lost (fault.Build why) h same (inl none) =
     subst (λ f. HandedCause (λ stop. StopsRealAtHanded e c b (unbuilt stop)) (λ name. ComesNext c.handed b e.name name) count now lost f) (sym none) tt
 halted_handed e c b bytes seen count now lost (fault.Build why) h same (inr (refusal, refuses, has)) =
     refusal_cause (Some (λ name. None)) (λ files stop. StopsRealAtHanded e c b (unbuilt stop)) (λ files name. ComesNext c.handed b e.name name) count now lost e.name refusal why
-    (refl, record { bytes = bytes; handed = h; good = subst (λ z. RefusesReal e.role e.number z c.board refusal) same refuses })
+    (refl, record { bytes = bytes; handed = h; good = subst (λ z. RefusesReal e.role e.number z c.so_far refusal) same refuses })
     has
 halted_handed e c b bytes seen count now lost (fault.Arc name kind command at) h same (is, refuses) =
-    (is, record { bytes = bytes; handed = h; good = subst (λ z. RefusesArc e.role e.number z c.board kind command at) same refuses })
+    (is, record { bytes = bytes; handed = h; good = subst (λ z. RefusesArc e.role e.number z c.so_far kind command at) same refuses })
 
 -- ---- The files
 
 -- a cause of a file's stage is one of the files
-pub more_handed : (entries : List Entry) (i : ℕ) (e : Entry) (start mid : RealCourse) (b : List Handed) (before between now : ℕ) (lost : List ℕ) (why : RealBuildFault) → i < length entries → e ≡ get_or entries i e → before ≤ between
+pub more_handed : (entries : List Entry) (i : ℕ) (e : Entry) (start mid : Course PlainRealBoard) (b : List Handed) (before between now : ℕ) (lost : List ℕ) (why : RealBuildFault) → i < length entries → e ≡ get_or entries i e → before ≤ between
     → WalksBy GoesRealHanded (take i entries) start mid
     → HandedRealCause (λ stop. StopsRealAtHanded e mid b stop) (λ name. ComesNext mid.handed b e.name name) between now lost why
-    → HandedRealCause (λ stop. StopsRealAmongHanded entries start b stop) (λ name. ComesRealAmongHanded entries start b name) before now lost why
+    → HandedRealCause (λ stop. StopsRealAmongHanded entries start b stop) (λ name. ComesAlongHanded GoesRealHanded entries start b name) before now lost why
 more_handed entries i e start mid b before between now lost why below here later walked cause =
-    carry_real (λ stop. StopsRealAtHanded e mid b stop) (λ stop. StopsRealAmongHanded entries start b stop) (λ name. ComesNext mid.handed b e.name name) (λ name. ComesRealAmongHanded entries start b name) before between now lost why
+    carry_real (λ stop. StopsRealAtHanded e mid b stop) (λ stop. StopsRealAmongHanded entries start b stop) (λ name. ComesNext mid.handed b e.name name) (λ name. ComesAlongHanded GoesRealHanded entries start b name) before between now lost why
     (record {
       stops = λ stop s. at_next GoesRealHanded entries i e start mid (λ x c. StopsRealAtHanded x c b stop) below here walked s;
       comes = λ name s. at_next GoesRealHanded entries i e start mid (λ x c. ComesNext c.handed b x.name name) below here walked s;
@@ -78,19 +78,19 @@ manifest_handed a b manifest count now lost why cause =
 -- a cause of the files is one of the package
 pub files_handed : (a f b : List Handed) (manifest : List ℕ) (listed : Manifest) (start : PlainRealBoard) (before between now : ℕ) (lost : List ℕ) (why : RealBuildFault) → start ≡ empty_real listed.layers → before ≤ between
     → IsManifestHanded a f manifest listed
-    → HandedRealCause (λ stop. StopsRealAmongHanded listed.files (real_course f start) b stop) (λ name. ComesRealAmongHanded listed.files (real_course f start) b name) between now lost why
+    → HandedRealCause (λ stop. StopsRealAmongHanded listed.files (course f start) b stop) (λ name. ComesAlongHanded GoesRealHanded listed.files (course f start) b name) between now lost why
     → HandedRealCause (λ stop. IsFirstRealStopHanded a b manifest stop) (λ name. RealComesHanded a b manifest name) before now lost why
 files_handed a f b manifest listed start before between now lost why empty later is cause =
-    carry_real (λ stop. StopsRealAmongHanded listed.files (real_course f start) b stop) (λ stop. IsFirstRealStopHanded a b manifest stop) (λ name. ComesRealAmongHanded listed.files (real_course f start) b name) (λ name. RealComesHanded a b manifest name) before between now lost why
+    carry_real (λ stop. StopsRealAmongHanded listed.files (course f start) b stop) (λ stop. IsFirstRealStopHanded a b manifest stop) (λ name. ComesAlongHanded GoesRealHanded listed.files (course f start) b name) (λ name. RealComesHanded a b manifest name) before between now lost why
     (record {
-      stops = λ stop s. inr (record { listed = listed; first = f; manifest = is; stops = subst (λ x. StopsRealAmongHanded listed.files (real_course f x) b stop) empty s });
-      comes = λ name s. inr (record { listed = listed; first = f; manifest_file = is; comes = subst (λ x. ComesRealAmongHanded listed.files (real_course f x) b name) empty s });
+      stops = λ stop s. inr (record { listed = listed; first = f; manifest = is; follows = subst (λ x. StopsRealAmongHanded listed.files (course f x) b stop) empty s });
+      comes = λ name s. inr (record { listed = listed; first = f; manifest = is; follows = subst (λ x. ComesAlongHanded GoesRealHanded listed.files (course f x) b name) empty s });
     })
     later cause
 
 -- the real board of the package
 pub board_handed : (a f b : List Handed) (manifest : List ℕ) (listed : Manifest) (start end : PlainRealBoard) → start ≡ empty_real listed.layers
-    → IsManifestHanded a f manifest listed → WalksBy GoesRealHanded listed.files (real_course f start) (real_course b end)
+    → IsManifestHanded a f manifest listed → WalksBy GoesRealHanded listed.files (course f start) (course b end)
     → IsRealBoardHanded a b manifest end
 board_handed a f b manifest listed start end empty is walked =
-    record { listed = listed; first = f; manifest = is; walked = subst (λ x. WalksBy GoesRealHanded listed.files (real_course f x) (real_course b end)) empty walked }
+    record { listed = listed; first = f; manifest = is; follows = subst (λ x. WalksBy GoesRealHanded listed.files (course f x) (course b end)) empty walked }

@@ -2,13 +2,13 @@
 use Rattle.std.proofs.Common.{◌≡◌, ℕ, ◌+◌, ◌<◌, ◌≤◌, Bool, true, List, [], ◌∷◌, length, take, get_or, Option, IfSome, inl, refl, sym, ap, subst}
 use Rattle.std.specs.List.{filter}
 use Rattle.board_io.specs.Package.{Files}
-use Rattle.board_package.specs.PackageBoard.{AtOneBy, WalksBy}
+use Rattle.board_package.specs.PackageBoard.{AtOneBy, ComesAlong, WalksBy}
 use Rattle.board_package.specs.declared.entry.Entry.{Entry}
 use Rattle.board_package.proofs.Lift.{Carries, told, told_of}
 use Rattle.board_package.proofs.Walking.{passing_at_one, passing_walk_more}
 use Rattle.real_package.specs.RealBoards.{PlainRealBoard}
 use Rattle.real_package.specs.RealCauses.{HasRealCause}
-use Rattle.real_package.specs.RealPackage.{ComesRealAmong, GoesReal, RealStop, StopsRealAmong, StopsRealAt}
+use Rattle.real_package.specs.RealPackage.{GoesReal, RealStop, StopsRealAmong, StopsRealAt}
 use Rattle.real_package.specs.declared.fault.RealBuildFault.{RealBuildFault}
 use Rattle.real_package.proofs.Carried.{lift_real}
 
@@ -37,12 +37,12 @@ at_next Step entries i e start mid P below here w h =
 pub cause_more : (held after : Option Files) (entries : List Entry) (i : ℕ) (e : Entry) (start mid : PlainRealBoard) (before between now : ℕ) (lost : List ℕ) (why : RealBuildFault) → i < length entries → e ≡ get_or entries i e → after ≡ held → before ≤ between
     → IfSome held (λ files. WalksBy (GoesReal files) (take i entries) start mid)
     → HasRealCause after (λ files stop. StopsRealAt files e mid stop) (λ files name. e.name ≡ name) between now lost why
-    → HasRealCause held (λ files stop. StopsRealAmong files entries start stop) (λ files name. ComesRealAmong files entries start name) before now lost why
+    → HasRealCause held (λ files stop. StopsRealAmong files entries start stop) (λ files name. ComesAlong (GoesReal files) entries start name) before now lost why
 cause_more held after entries i e start mid before between now lost why below here same later walked cause =
     let S : Files → RealStop → Type 0 = λ files stop. StopsRealAt files e mid stop in
     let C : Files → List ℕ → Type 0 = λ files name. e.name ≡ name in
     let T : Files → RealStop → Type 0 = λ files stop. StopsRealAmong files entries start stop in
-    let D : Files → List ℕ → Type 0 = λ files name. ComesRealAmong files entries start name in
+    let D : Files → List ℕ → Type 0 = λ files name. ComesAlong (GoesReal files) entries start name in
     lift_real held S T C D before between now lost why
     (told_of held (λ files. WalksBy (GoesReal files) (take i entries) start mid) (λ files. Carries (S files) (T files) (C files) (D files))
     (λ files w. record {

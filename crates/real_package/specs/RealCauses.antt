@@ -1,10 +1,9 @@
 -- Why a package gives no real board.
-use Rattle.std.specs.Prelude.{◌≡◌, ◌⊎◌, ℕ, List, Option, Some, None, IfSome, MatchResult, Result}
+use Rattle.std.specs.Prelude.{◌≡◌, ◌⊎◌, ℕ, List, Option, Some, None, IfSome}
 use Rattle.arc_layer.specs.declared.kind.RealKind.{RealKind}
 use Rattle.arc_layer.specs.declared.kind.RealKind.TheVariants.{Gerber}
 use Rattle.arc_layer.specs.declared.kind.RealFault.{RealFault}
 use Rattle.arc_layer.specs.declared.kind.RealFault.TheVariants as copper
-use Rattle.board_io.specs.Handed.{Handed}
 use Rattle.board_io.specs.Package.{Files, IsFaultless}
 use Rattle.board_package.specs.Causes.{HasCause, HasRefusal, KeepsFaults}
 use Rattle.board_package.specs.declared.contents.Refusal.{Refusal}
@@ -16,11 +15,9 @@ use Rattle.ipc356_records.specs.declared.kind.RecordFault.{RecordFault}
 use Rattle.ipc356_records.specs.declared.kind.RecordFault.TheVariants as netlist
 use Rattle.xnc.specs.declared.kind.DrillFault.{DrillFault}
 use Rattle.xnc.specs.declared.kind.DrillFault.TheVariants as drill
-use Rattle.real_package.specs.HandedReal.{IsFirstRealStopHanded, IsRealBoardHanded, RealComesHanded}
-use Rattle.real_package.specs.RealBoards.{PlainRealBoard, plain_real_board}
+use Rattle.real_package.specs.RealBoards.{PlainRealBoard}
 use Rattle.real_package.specs.RealFiles.{RefusesArc, RefusesReal}
-use Rattle.real_package.specs.RealPackage.{IsFirstRealStop, IsRealBoardOf, RealComes, RealStop, bent, unbuilt}
-use Rattle.real_package.specs.declared.board.RealBoard.{RealBoard}
+use Rattle.real_package.specs.RealPackage.{RealStop, bent, unbuilt}
 use Rattle.real_package.specs.declared.fault.RealBuildFault.{RealBuildFault}
 use Rattle.real_package.specs.declared.fault.RealBuildFault.TheVariants as fault
 
@@ -60,14 +57,3 @@ IsNetlistFault name netlist.NoMemory given = given ≡ fault.Build build.NoMemor
 abbrev pub HaltsReal : Entry → List ℕ → PlainRealBoard → RealBuildFault → Type 0
 HaltsReal e bytes before (fault.Build given) = (given ≡ build.NoMemory) ⊎ ((why : Refusal) × RefusesReal e.role e.number bytes before why × HasRefusal e.name why given)
 HaltsReal e bytes before (fault.Arc name kind command at) = (name ≡ e.name) × RefusesArc e.role e.number bytes before kind command at
-
--- ---- What the building of a real board gives
-
--- the real board, or why there is none: where the package tells, and by what it handed over
-abbrev pub BuildsReal : {P : Type 0} → (P → Option Files) → (P → ℕ) → (P → List ℕ) → List ℕ → P → P → Result RealBoard RealBuildFault → Type 0
-BuildsReal files faults lost manifest old new result = MatchResult result (λ board. IfSome (files old) (λ f. IsRealBoardOf f manifest (plain_real_board board)))
-    (HasRealCause (files old) (λ f stop. IsFirstRealStop f manifest stop) (λ f name. RealComes f manifest name) (faults old) (faults new) (lost new))
-
-abbrev pub BuildsRealHanded : {P : Type 0} → (P → List Handed) → (P → ℕ) → (P → List ℕ) → List ℕ → P → P → Result RealBoard RealBuildFault → Type 0
-BuildsRealHanded handed faults lost manifest old new result = MatchResult result (λ board. IsRealBoardHanded (handed old) (handed new) manifest (plain_real_board board))
-    (HandedRealCause (λ stop. IsFirstRealStopHanded (handed old) (handed new) manifest stop) (λ name. RealComesHanded (handed old) (handed new) manifest name) (faults old) (faults new) (lost new))

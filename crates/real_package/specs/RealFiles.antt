@@ -5,34 +5,25 @@ use Rattle.arc_layer.specs.declared.kind.RealKind.{RealKind}
 use Rattle.arc_layer.specs.declared.kind.RealKind.TheVariants.{Gerber}
 use Rattle.board_shapes.specs.Pieces.{PlainPiece}
 use Rattle.board_shapes.specs.declared.probe.Probe.{Probe}
-use Rattle.gerber_layer.specs.CommandEffects.{Place as LayerPlace}
-use Rattle.xnc.specs.FaultPlace.{Place as DrillPlace}
 use Rattle.xnc.specs.DrillFile as drill_file
 use Rattle.ipc356_records.specs.NetlistFile as netlist_file
+use Rattle.board_package.specs.Contents.{drill_in, layer_in}
 use Rattle.board_package.specs.declared.entry.Role.{Role}
 use Rattle.board_package.specs.declared.entry.Role.TheVariants as role
 use Rattle.board_package.specs.declared.contents.Refusal.{Refusal}
 use Rattle.board_package.specs.declared.contents.Refusal.TheVariants as refusal
 use Rattle.real_package.specs.RealBoards.{PlainRealBoard, as_reals, room_left, with_points, with_reals}
 
--- where the pieces of a copper file come to stand, and the room that earlier files left
-abbrev pub copper_place : ℕ → ℕ → PlainRealBoard → LayerPlace
-copper_place layer number before = record { layer = layer; file = number; room = room_left before.pieces }
-
--- where the barrels of a drill file come to stand, and the room that earlier files left
-abbrev pub barrel_place : ℕ → ℕ → ℕ → PlainRealBoard → DrillPlace
-barrel_place from to number before = record { from = from; to = to; file = number; room = (room_left before.pieces).pieces }
-
 -- The file of this role and number is read, and takes the board on: a copper file gives real copper, a drill file barrels, the netlist test points and names.
 abbrev pub ReadsReal : Role → ℕ → List ℕ → PlainRealBoard → PlainRealBoard → Type 0
-ReadsReal (role.Copper layer) number bytes before after = (pieces : List PlainReal) × IsRealCopper bytes (copper_place layer number before) pieces × (after ≡ with_reals before pieces)
-ReadsReal (role.Drill from to) number bytes before after = (pieces : List PlainPiece) × drill_file.IsRead bytes (barrel_place from to number before) pieces × (after ≡ with_reals before (as_reals pieces))
+ReadsReal (role.Copper layer) number bytes before after = (pieces : List PlainReal) × IsRealCopper bytes (layer_in (room_left before.pieces) layer number) pieces × (after ≡ with_reals before pieces)
+ReadsReal (role.Drill from to) number bytes before after = (pieces : List PlainPiece) × drill_file.IsRead bytes (drill_in (room_left before.pieces) from to number) pieces × (after ≡ with_reals before (as_reals pieces))
 ReadsReal role.Netlist number bytes before after = (probes : List Probe) × (names : List (List ℕ)) × netlist_file.IsRead bytes before.layers probes names × (after ≡ with_points before probes names)
 
 -- the file of this role and number is refused, as one without arcs may be
 abbrev pub RefusesReal : Role → ℕ → List ℕ → PlainRealBoard → Refusal → Type 0
-RefusesReal (role.Copper layer) number bytes before (refusal.Layer kind command at) = IsRealRefused bytes (copper_place layer number before) (Gerber kind) command at
-RefusesReal (role.Drill from to) number bytes before (refusal.Drill kind line at) = drill_file.IsRefused bytes (barrel_place from to number before) kind line at
+RefusesReal (role.Copper layer) number bytes before (refusal.Layer kind command at) = IsRealRefused bytes (layer_in (room_left before.pieces) layer number) (Gerber kind) command at
+RefusesReal (role.Drill from to) number bytes before (refusal.Drill kind line at) = drill_file.IsRefused bytes (drill_in (room_left before.pieces) from to number) kind line at
 RefusesReal role.Netlist number bytes before (refusal.Netlist kind line) = netlist_file.IsRefused bytes before.layers kind line
 RefusesReal other number bytes before why = ⊥
 
@@ -43,5 +34,5 @@ IsOfArcs other = ⊤
 
 -- the copper file of this role and number is refused for an arc
 abbrev pub RefusesArc : Role → ℕ → List ℕ → PlainRealBoard → RealKind → ℕ → ℕ → Type 0
-RefusesArc (role.Copper layer) number bytes before kind command at = IsOfArcs kind × IsRealRefused bytes (copper_place layer number before) kind command at
+RefusesArc (role.Copper layer) number bytes before kind command at = IsOfArcs kind × IsRealRefused bytes (layer_in (room_left before.pieces) layer number) kind command at
 RefusesArc other number bytes before kind command at = ⊥

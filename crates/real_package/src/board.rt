@@ -3,53 +3,17 @@ ghost use Rattle.arc_layer.specs.Real.{plain_reals, real_figure};
 ghost use Rattle.board_shapes.specs.Pieces.{plain_pieces};
 ghost use Rattle.board_shapes.specs.Plain.{plain_board};
 ghost use Rattle.real_package.specs.RealBoards as spec;
-ghost use Rattle.real_package.specs.RealBoards.{HasNetlistOf, IsLawfulReal, IsRealOnLayers, as_reals, empty_real, plain_real_board, real_edges, with_reals};
-ghost use Rattle.std.specs.Prelude.{◌≡◌, ◌<◌, ◌≤◌, ◌+◌, ◌^◌, ◌↔◌, length, All, IfOk, IsTrue, OnOk};
+ghost use Rattle.real_package.specs.RealBoards.{HasNetlistOf, as_reals, plain_real_board, real_edges};
+ghost use Rattle.std.specs.Prelude.{◌≡◌, ◌<◌, ◌≤◌, ◌^◌, ◌↔◌, length, IfOk, IsTrue};
 
 use arcs::{RealPiece, RealShape};
-use board_package::MOST_EDGES;
-use board_shapes::{Board, MOST_LAYERS, MOST_PIECES, Piece, Placed, Probe, Room};
-use lengths::rows::{NoMemory, Rows};
-use lengths::text::Text;
-use std::alloc::{AllocError, Global};
+use board_package::{Parts, room_for};
+use board_shapes::{Board, MOST_PIECES, Piece, Placed, Room};
+use lengths::rows::NoMemory;
+use std::alloc::Global;
 
 /// A real board: pieces that are figures or arc draws, with the test points, names and layers of its package.
-#[derive(Drop)]
-pub struct RealBoard {
-    pub pieces: Vec<RealPiece>,
-    pub probes: Rows<Probe>,
-    pub names: Rows<Text>,
-    pub layers: u8,
-}
-
-impl RealBoard {
-    /// Nothing yet, on 1 to `MOST_LAYERS` layers.
-    pub fn new(alloc: Global, layers: u8) -> RealBoard
-        requires some { 1 ≤ layers }
-        requires few { layers ≤ MOST_LAYERS }
-        ensures empty { plain_real_board result ≡ empty_real layers }
-        ensures lawful { IsLawfulReal result }
-    {
-        RealBoard {
-            pieces: Vec::new(alloc),
-            probes: Rows::new(alloc),
-            names: Rows::new(alloc),
-            layers,
-        }
-    }
-
-    /// Adds the pieces of a file, for which there is room.
-    pub fn add(&mut self, mut pieces: Vec<RealPiece>) -> Result<(), AllocError>
-        requires lawful { IsLawfulReal self.old }
-        requires few { length self.old.pieces.items + length pieces.items ≤ MOST_PIECES }
-        requires spans { All (IsRealOnLayers self.old.layers) pieces.items }
-        ensures ok { OnOk result (plain_real_board self.new ≡ with_reals (plain_real_board self.old) (plain_reals pieces.items)) }
-        ensures lawful { OnOk result (IsLawfulReal self.new) }
-        ensures layers { OnOk result (self.new.layers ≡ self.old.layers) }
-    {
-        self.pieces.append(&mut pieces)
-    }
-}
+pub type RealBoard = Parts<RealShape>;
 
 fn edges_of(shape: &RealShape) -> u32
     ensures { result ≡ real_edges (real_figure shape.now) }
@@ -72,16 +36,12 @@ fn edges_in(pieces: &[RealPiece]) -> u64
     edges
 }
 
-/// The pieces and edges that may still come behind these: a board has at most `MOST_PIECES` pieces and `MOST_EDGES` edges.
+/// The pieces and edges that may still come behind these.
 pub fn room_left(pieces: &[RealPiece]) -> Room
     requires { length pieces.now ≤ MOST_PIECES }
     ensures { result ≡ spec.room_left (plain_reals pieces.now) }
 {
-    let edges = edges_in(pieces);
-    Room {
-        pieces: MOST_PIECES - pieces.len() as u32,
-        edges: MOST_EDGES.saturating_sub(edges) as u32,
-    }
+    room_for(pieces.len(), edges_in(pieces))
 }
 
 /// Pieces that are figures, as those of a real board.

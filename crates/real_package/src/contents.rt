@@ -2,7 +2,8 @@
 ghost use Rattle.std.specs.Prelude.{◌≡◌, ◌⊎◌, ◌≤◌, length, OnOk, IfErr};
 ghost use Rattle.board_package.specs.Manifest.{IsOnBoard};
 ghost use Rattle.board_package.specs.declared.fault.BuildFault.TheVariants as build;
-ghost use Rattle.real_package.specs.RealBoards.{IsLawfulReal, plain_real_board};
+ghost use Rattle.board_package.specs.Parts.{IsLawfulParts};
+ghost use Rattle.real_package.specs.RealBoards.{plain_real_board};
 ghost use Rattle.real_package.specs.RealCauses.{HaltsReal, IsCopperFault, IsCopperRefusal, IsDrillFault, IsNetlistFault};
 ghost use Rattle.real_package.specs.RealFiles.{ReadsReal};
 ghost use Rattle.real_package.specs.declared.fault.RealBuildFault.TheVariants as fault;
@@ -89,10 +90,10 @@ pub fn read_file(
     board: &mut RealBoard,
 ) -> Result<(), RealBuildFault>
     requires short { length file.now ≤ MOST_BYTES }
-    requires lawful { IsLawfulReal board.old }
+    requires lawful { IsLawfulParts board.old }
     requires role { IsOnBoard board.old.layers entry.now.role }
     ensures ok { OnOk result (ReadsReal entry.now.role entry.now.number file.now (plain_real_board board.old) (plain_real_board board.new)) }
-    ensures lawful { OnOk result (IsLawfulReal board.new) }
+    ensures lawful { OnOk result (IsLawfulParts board.new) }
     ensures layers { OnOk result (board.new.layers ≡ board.old.layers) }
     ensures fault { IfErr result (HaltsReal entry.now file.now (plain_real_board board.old)) }
 {
@@ -104,10 +105,10 @@ pub fn read_file(
         },
         Role::Drill { from, to } => {
             match read_drill(alloc, file, Span { from, to }, entry.number, room) {
-                Ok(pieces) => {
-                    let barrels = as_real_pieces(alloc, pieces)?;
-                    Ok(board.add(barrels)?)
-                }
+                Ok(pieces) => match as_real_pieces(alloc, pieces) {
+                    Ok(barrels) => Ok(board.add(barrels)?),
+                    Err(_) => Err(RealBuildFault::Build(BuildFault::NoMemory)),
+                },
                 Err(why) => Err(drill_fault(&entry.name, why)),
             }
         }

@@ -1,13 +1,10 @@
 //! Why a package is no real board.
 ghost use Rattle.std.specs.Prelude.{◌≡◌};
-ghost use Rattle.board_package.specs.declared.fault.BuildFault.TheVariants as build;
 ghost use Rattle.real_package.specs.declared.fault.RealBuildFault.TheVariants as fault;
 
 use arc_layer::RealKind;
 use board_package::BuildFault;
-use lengths::rows::NoMemory;
 use lengths::text::Text;
-use std::alloc::AllocError;
 
 /// Why a package gives no real board: the first that stops it, in the order of its files, or a fault of reading, or want
 /// of memory.
@@ -31,21 +28,5 @@ impl From<BuildFault> for RealBuildFault {
 
     fn from(why: BuildFault) -> RealBuildFault {
         RealBuildFault::Build(why)
-    }
-}
-
-impl From<NoMemory> for RealBuildFault {
-    ghost from_gives = { λ _ f. f ≡ fault.Build build.NoMemory };
-
-    fn from(_: NoMemory) -> RealBuildFault {
-        RealBuildFault::Build(BuildFault::NoMemory)
-    }
-}
-
-impl From<AllocError> for RealBuildFault {
-    ghost from_gives = { λ _ f. f ≡ fault.Build build.NoMemory };
-
-    fn from(_: AllocError) -> RealBuildFault {
-        RealBuildFault::Build(BuildFault::NoMemory)
     }
 }

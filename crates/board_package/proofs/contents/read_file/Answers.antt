@@ -1,8 +1,17 @@
 use Rattle.std.proofs.Common.{◌∙◌, ap}
 use Rattle.board_shapes.specs.Pieces.{plain_pieces}
 use Rattle.board_package.specs.Parts.{board_so_far, room_left}
-use Rattle.board_package.proofs.Halting.{drill_halts, layer_halts, netlist_halts}
+use Rattle.board_package.proofs.Halting.{drill_halts, layer_halts, layer_reads, netlist_halts}
+use Rattle.board_package.proofs.Lift.{on_ok}
+use Rattle.board_package.proofs.Seen.{has_more}
 use Rattle.board_package.proofs.contents.read_file.Goals as goal
+
+pub returns-in-Ok-clause-ok : goal.returns-in-Ok-clause-ok
+returns-in-Ok-clause-ok c =
+    let room = c.room_left-room.ensures ∙ ap (λ l. room_left (plain_pieces l)) c.as_slice.ensures.value in
+    on_ok c.add.result _ _
+    (λ has. layer_reads c.args.entry.now c.in-Copper.layer c.args.file.now (board_so_far c.args.parts.now) (board_so_far c.add.new.self) c.room_left-room.result (plain_pieces c.in-Ok.pieces.items) c.in-Copper.is room c.in-Ok.ensures.ok (has_more c.args.parts.now c.add.new.self c.in-Ok.pieces.items has))
+    c.add.ensures.ok
 
 pub returns-in-Err-Refused-clause-fault : goal.returns-in-Err-Refused-clause-fault
 returns-in-Err-Refused-clause-fault c =

@@ -1,10 +1,11 @@
 use Rattle.board_shapes.specs.Plain.{plain_board}
 use Rattle.board_package.specs.Causes.{IsFrameFault}
-use Rattle.board_package.specs.HandedLabelled.{labelled_course}
+use Rattle.board_package.specs.HandedBoard.{course}
 use Rattle.board_package.specs.LabelledCauses.{labelled_so_far}
 use Rattle.board_package.specs.Parts.{board_so_far}
 use Rattle.board_package.proofs.ByNetlist.{handed_plainly, no_labels, plain_cause, plain_handed, told_plainly}
 use Rattle.board_package.proofs.Lift.{climbs, either, leaves_on}
+use Rattle.board_package.proofs.Seen.{is_empty}
 use Rattle.board_package.proofs.Staging.{board_handed, files_handed, framed_handed, manifest_handed}
 use Rattle.board_package.proofs.Taking.{board_is, files_cause, framed_cause}
 use Rattle.board_package.proofs.stages.build.Goals as goal
@@ -25,23 +26,23 @@ returns-in-Err-Build-clause-told g c =
     let why = c.in-Err-Build.why in
     files_cause (g.P.Package.held c.args.package.now) held c.args.manifest.now c.in_ok-listed.listed start.board
     (g.P.Package.faults c.args.package.now) (g.P.Package.faults c.take_manifest.new.package) (g.P.Package.faults c.take_files.new.package) (g.P.Package.lost c.take_files.new.package) why
-    c.take_manifest.ensures.leaves.held c.new-parts.ensures.empty c.take_manifest.ensures.leaves.later c.in_ok-listed.ensures.found
+    c.take_manifest.ensures.leaves.held (is_empty c.new-parts.result c.in_ok-listed.listed.layers c.new-parts.ensures.empty) c.take_manifest.ensures.leaves.later c.in_ok-listed.ensures.found
     (plain_cause held c.as_slice-entries.result.now c.in_ok-listed.listed.files start (g.P.Package.faults c.take_manifest.new.package) (g.P.Package.faults c.take_files.new.package) (g.P.Package.lost c.take_files.new.package) why c.in-Err-Build.field-0 c.as_slice-entries.ensures c.in-Err-Build.field-0-is c.in-Err-Build.ensures.cause)
 
 pub returns-in-Err-Build-clause-handed : goal.returns-in-Err-Build-clause-handed
 returns-in-Err-Build-clause-handed g c =
     let mid = g.P.Package.handed c.take_manifest.new.package in
     let after = g.P.Package.handed c.take_files.new.package in
-    let start = labelled_course mid (labelled_so_far c.new-parts.result c.new-tables.result) in
+    let start = course mid (labelled_so_far c.new-parts.result c.new-tables.result) in
     let why = c.in-Err-Build.why in
     files_handed (g.P.Package.handed c.args.package.now) mid after c.args.manifest.now c.in_ok-listed.listed (board_so_far c.new-parts.result)
     (g.P.Package.faults c.args.package.now) (g.P.Package.faults c.take_manifest.new.package) (g.P.Package.faults c.take_files.new.package) (g.P.Package.lost c.take_files.new.package) why
-    c.new-parts.ensures.empty c.take_manifest.ensures.leaves.later c.in_ok-listed.ensures.handed
+    (is_empty c.new-parts.result c.in_ok-listed.listed.layers c.new-parts.ensures.empty) c.take_manifest.ensures.leaves.later c.in_ok-listed.ensures.handed
     (plain_handed c.as_slice-entries.result.now c.in_ok-listed.listed.files start after (g.P.Package.faults c.take_manifest.new.package) (g.P.Package.faults c.take_files.new.package) (g.P.Package.lost c.take_files.new.package) why c.in-Err-Build.field-0 c.as_slice-entries.ensures c.in-Err-Build.field-0-is c.in-Err-Build.ensures.handed_cause)
 
 pub unreachable-requires : goal.unreachable-requires
 unreachable-requires g c =
-    no_labels c.as_slice-entries.result.now (labelled_course (g.P.Package.handed c.take_manifest.new.package) (labelled_so_far c.new-parts.result c.new-tables.result)) (g.P.Package.handed c.take_files.new.package)
+    no_labels c.as_slice-entries.result.now (course (g.P.Package.handed c.take_manifest.new.package) (labelled_so_far c.new-parts.result c.new-tables.result)) (g.P.Package.handed c.take_files.new.package)
     (g.P.Package.faults c.take_manifest.new.package) (g.P.Package.faults c.take_files.new.package) (g.P.Package.lost c.take_files.new.package) c.in-Err-Label.field-0 _ _ _ c.in-Err-Label.field-0-is c.in-Err-Label.ensures.handed_cause
 
 -- ---- The board
@@ -53,21 +54,21 @@ returns-in-Ok-clause-told g c =
     let end = labelled_so_far c.take_files.new.parts c.take_files.new.tables in
     let walked = told_plainly held c.as_slice-entries.result.now c.in_ok-listed.listed.files start end c.as_slice-entries.ensures c.in-Ok.ensures.found in
     either c.framed.result _ _ _ (IsFrameFault end.board) _
-    (λ board made fits. board_is (g.P.Package.held c.args.package.now) held c.args.manifest.now c.in_ok-listed.listed start.board end.board (plain_board board) c.take_manifest.ensures.leaves.held c.new-parts.ensures.empty c.in_ok-listed.ensures.found walked fits made)
+    (λ board made fits. board_is (g.P.Package.held c.args.package.now) held c.args.manifest.now c.in_ok-listed.listed start.board end.board (plain_board board) c.take_manifest.ensures.leaves.held (is_empty c.new-parts.result c.in_ok-listed.listed.layers c.new-parts.ensures.empty) c.in_ok-listed.ensures.found walked fits made)
     (λ why h. framed_cause (g.P.Package.held c.args.package.now) held c.args.manifest.now c.in_ok-listed.listed start.board end.board (g.P.Package.faults c.args.package.now) (g.P.Package.faults c.take_files.new.package) (g.P.Package.lost c.take_files.new.package) why
-    c.take_manifest.ensures.leaves.held c.new-parts.ensures.empty c.in_ok-listed.ensures.found walked h)
+    c.take_manifest.ensures.leaves.held (is_empty c.new-parts.result c.in_ok-listed.listed.layers c.new-parts.ensures.empty) c.in_ok-listed.ensures.found walked h)
     c.framed.ensures.ok c.framed.ensures.fits c.framed.ensures.fault
 
 pub returns-in-Ok-clause-handed : goal.returns-in-Ok-clause-handed
 returns-in-Ok-clause-handed g c =
     let a = g.P.Package.handed c.args.package.now in
-    let start = labelled_course (g.P.Package.handed c.take_manifest.new.package) (labelled_so_far c.new-parts.result c.new-tables.result) in
-    let end = labelled_course (g.P.Package.handed c.take_files.new.package) (labelled_so_far c.take_files.new.parts c.take_files.new.tables) in
+    let start = course (g.P.Package.handed c.take_manifest.new.package) (labelled_so_far c.new-parts.result c.new-tables.result) in
+    let end = course (g.P.Package.handed c.take_files.new.package) (labelled_so_far c.take_files.new.parts c.take_files.new.tables) in
     let walked = handed_plainly c.as_slice-entries.result.now c.in_ok-listed.listed.files start end c.as_slice-entries.ensures c.in-Ok.ensures.handed in
     either c.framed.result _ _ _ (IsFrameFault end.so_far.board) _
-    (λ board made fits. board_handed a start.handed end.handed c.args.manifest.now c.in_ok-listed.listed start.so_far.board end.so_far.board (plain_board board) c.new-parts.ensures.empty c.in_ok-listed.ensures.handed walked fits made)
+    (λ board made fits. board_handed a start.handed end.handed c.args.manifest.now c.in_ok-listed.listed start.so_far.board end.so_far.board (plain_board board) (is_empty c.new-parts.result c.in_ok-listed.listed.layers c.new-parts.ensures.empty) c.in_ok-listed.ensures.handed walked fits made)
     (λ why h. framed_handed a start.handed end.handed c.args.manifest.now c.in_ok-listed.listed start.so_far.board end.so_far.board (g.P.Package.faults c.args.package.now) (g.P.Package.faults c.take_files.new.package) (g.P.Package.lost c.take_files.new.package) why
-    c.new-parts.ensures.empty c.in_ok-listed.ensures.handed walked h)
+    (is_empty c.new-parts.result c.in_ok-listed.listed.layers c.new-parts.ensures.empty) c.in_ok-listed.ensures.handed walked h)
     c.framed.ensures.ok c.framed.ensures.fits c.framed.ensures.fault
 
 -- ---- What is left

@@ -2,10 +2,11 @@ use Rattle.std.proofs.Common.{List, IfSome, subst, ap, ◌∙◌}
 use Rattle.std.specs.List.{filter}
 use Rattle.board_io.specs.Package.{IsFaultless}
 use Rattle.board_package.proofs.LabelStaging.{files_labelled_handed, frame_labelled_handed, labelled_board_handed, manifest_labelled_handed}
-use Rattle.board_package.specs.HandedLabelled.{GoesLabelledHanded, LabelledComesAmongHanded, StopsLabelledAmongHanded, labelled_course}
-use Rattle.board_package.specs.LabelledBoard.{GoesLabelled, LabelledComesAmong, StopsLabelledAmong, labelled_board_of}
+use Rattle.board_package.specs.HandedBoard.{ComesAlongHanded, course}
+use Rattle.board_package.specs.HandedLabelled.{GoesLabelledHanded, StopsLabelledAmongHanded}
+use Rattle.board_package.specs.LabelledBoard.{GoesLabelled, StopsLabelledAmong, labelled_board_of}
 use Rattle.board_package.specs.LabelledCauses.{HandedLabelledCause, HasLabelledCause, labelled_so_far}
-use Rattle.board_package.specs.PackageBoard.{WalksBy}
+use Rattle.board_package.specs.PackageBoard.{ComesAlong, WalksBy}
 use Rattle.board_package.specs.Parts.{board_so_far}
 use Rattle.board_package.specs.declared.entry.Naming.TheVariants.{ByLabels}
 use Rattle.board_package.specs.declared.fault.BuildFault.TheVariants as build
@@ -32,12 +33,12 @@ returns-in_err-take_files-clause-told g c =
     let held = g.P.Package.held c.take_manifest.new.package in
     let start = labelled_so_far c.new-parts.result c.new-tables.result in
     let why = c.in_err-take_files.field-0.0 in
-    let cause = subst (λ entries. HasLabelledCause held (λ files stop. StopsLabelledAmong ByLabels files (filter (needed ByLabels) entries) start stop) (λ files name. LabelledComesAmong ByLabels files (filter (needed ByLabels) entries) start name)
+    let cause = subst (λ entries. HasLabelledCause held (λ files stop. StopsLabelledAmong ByLabels files (filter (needed ByLabels) entries) start stop) (λ files name. ComesAlong (GoesLabelled ByLabels files) (filter (needed ByLabels) entries) start name)
     (g.P.Package.faults c.take_manifest.new.package) (g.P.Package.faults c.take_files.new.package) (g.P.Package.lost c.take_files.new.package) why) c.as_slice-entries.ensures c.in_err-take_files.ensures.cause in
     climbs _ _ c.from_residual-in_err-take_files.result why c.from_residual-in_err-take_files.ensures.1
     (files_labelled_cause (g.P.Package.held c.args.package.now) held c.args.manifest.now c.in_ok-listed.listed start
     (g.P.Package.faults c.args.package.now) (g.P.Package.faults c.take_manifest.new.package) (g.P.Package.faults c.take_files.new.package) (g.P.Package.lost c.take_files.new.package) why
-    c.take_manifest.ensures.leaves.held (nothing_yet _ _ _ c.new-parts.ensures.empty c.new-tables.ensures) c.take_manifest.ensures.leaves.later c.in_ok-listed.ensures.found cause)
+    c.take_manifest.ensures.leaves.held (nothing_yet c.new-parts.result c.new-tables.result c.in_ok-listed.listed.layers c.new-parts.ensures.empty c.new-tables.ensures) c.take_manifest.ensures.leaves.later c.in_ok-listed.ensures.found cause)
 
 pub returns-in_err-take_files-clause-spared : goal.returns-in_err-take_files-clause-spared
 returns-in_err-take_files-clause-spared g c =
@@ -64,7 +65,7 @@ returns-in_err-board-clause-told g c =
     climbs _ _ c.from_residual-in_err-board.result (fault.Build c.in_err-board.field-0.0) c.from_residual-in_err-board.ensures.1
     (frame_labelled_cause (g.P.Package.held c.args.package.now) held c.args.manifest.now c.in_ok-listed.listed start end (board_so_far c.name_pieces.new.parts)
     (g.P.Package.faults c.args.package.now) (g.P.Package.faults c.take_files.new.package) (g.P.Package.lost c.take_files.new.package) c.in_err-board.field-0.0
-    c.take_manifest.ensures.leaves.held (nothing_yet _ _ _ c.new-parts.ensures.empty c.new-tables.ensures) named c.in_ok-listed.ensures.found walked c.in_err-board.ensures.fault)
+    c.take_manifest.ensures.leaves.held (nothing_yet c.new-parts.result c.new-tables.result c.in_ok-listed.listed.layers c.new-parts.ensures.empty c.new-tables.ensures) named c.in_ok-listed.ensures.found walked c.in_err-board.ensures.fault)
 
 pub returns-in_err-board-clause-spared : goal.returns-in_err-board-clause-spared
 returns-in_err-board-clause-spared g c =
@@ -84,7 +85,7 @@ returns-clause-told g c =
     let walked = subst (λ entries. IfSome held (λ files. WalksBy (GoesLabelled ByLabels files) (filter (needed ByLabels) entries) start end)) c.as_slice-entries.ensures c.in_ok-take_files.ensures.found in
     let named = c.in_ok-name_pieces.ensures.ok ∙ ap (λ (t : List (List Label)). labelled_board_of t (board_so_far c.take_files.new.parts)) c.as_slice.ensures in
     labelled_board_is (g.P.Package.held c.args.package.now) held c.args.manifest.now c.in_ok-listed.listed start end (board_so_far c.name_pieces.new.parts) _
-    c.take_manifest.ensures.leaves.held (nothing_yet _ _ _ c.new-parts.ensures.empty c.new-tables.ensures) named c.in_ok-listed.ensures.found walked c.in_ok-board.ensures.fits c.in_ok-board.ensures.ok
+    c.take_manifest.ensures.leaves.held (nothing_yet c.new-parts.result c.new-tables.result c.in_ok-listed.listed.layers c.new-parts.ensures.empty c.new-tables.ensures) named c.in_ok-listed.ensures.found walked c.in_ok-board.ensures.fits c.in_ok-board.ensures.ok
 
 -- ---- Of what was handed over
 
@@ -99,12 +100,12 @@ returns-in_err-take_files-clause-handed g c =
     let mid = g.P.Package.handed c.take_manifest.new.package in
     let after = g.P.Package.handed c.take_files.new.package in
     let why = c.in_err-take_files.field-0.0 in
-    let cause = subst (λ entries. HandedLabelledCause (λ stop. StopsLabelledAmongHanded ByLabels (filter (needed ByLabels) entries) (labelled_course mid start) after stop) (λ name. LabelledComesAmongHanded ByLabels (filter (needed ByLabels) entries) (labelled_course mid start) after name)
+    let cause = subst (λ entries. HandedLabelledCause (λ stop. StopsLabelledAmongHanded ByLabels (filter (needed ByLabels) entries) (course mid start) after stop) (λ name. ComesAlongHanded (GoesLabelledHanded ByLabels) (filter (needed ByLabels) entries) (course mid start) after name)
     (g.P.Package.faults c.take_manifest.new.package) (g.P.Package.faults c.take_files.new.package) (g.P.Package.lost c.take_files.new.package) why) c.as_slice-entries.ensures c.in_err-take_files.ensures.handed_cause in
     climbs _ _ c.from_residual-in_err-take_files.result why c.from_residual-in_err-take_files.ensures.1
     (files_labelled_handed (g.P.Package.handed c.args.package.now) mid after c.args.manifest.now c.in_ok-listed.listed start
     (g.P.Package.faults c.args.package.now) (g.P.Package.faults c.take_manifest.new.package) (g.P.Package.faults c.take_files.new.package) (g.P.Package.lost c.take_files.new.package) why
-    (nothing_yet _ _ _ c.new-parts.ensures.empty c.new-tables.ensures) c.take_manifest.ensures.leaves.later c.in_ok-listed.ensures.handed cause)
+    (nothing_yet c.new-parts.result c.new-tables.result c.in_ok-listed.listed.layers c.new-parts.ensures.empty c.new-tables.ensures) c.take_manifest.ensures.leaves.later c.in_ok-listed.ensures.handed cause)
 
 pub returns-in_err-name_pieces-clause-handed : goal.returns-in_err-name_pieces-clause-handed
 returns-in_err-name_pieces-clause-handed g c = climbs _ _ c.from_residual-in_err-name_pieces.result (fault.Build build.NoMemory) c.from_residual-in_err-name_pieces.ensures.1 tt
@@ -115,12 +116,12 @@ returns-in_err-board-clause-handed g c =
     let end = labelled_so_far c.take_files.new.parts c.take_files.new.tables in
     let mid = g.P.Package.handed c.take_manifest.new.package in
     let after = g.P.Package.handed c.take_files.new.package in
-    let walked = subst (λ entries. WalksBy (GoesLabelledHanded ByLabels) (filter (needed ByLabels) entries) (labelled_course mid start) (labelled_course after end)) c.as_slice-entries.ensures c.in_ok-take_files.ensures.handed in
+    let walked = subst (λ entries. WalksBy (GoesLabelledHanded ByLabels) (filter (needed ByLabels) entries) (course mid start) (course after end)) c.as_slice-entries.ensures c.in_ok-take_files.ensures.handed in
     let named = c.in_ok-name_pieces.ensures.ok ∙ ap (λ (t : List (List Label)). labelled_board_of t (board_so_far c.take_files.new.parts)) c.as_slice.ensures in
     climbs _ _ c.from_residual-in_err-board.result (fault.Build c.in_err-board.field-0.0) c.from_residual-in_err-board.ensures.1
     (frame_labelled_handed (g.P.Package.handed c.args.package.now) mid after c.args.manifest.now c.in_ok-listed.listed start end (board_so_far c.name_pieces.new.parts)
     (g.P.Package.faults c.args.package.now) (g.P.Package.faults c.take_files.new.package) (g.P.Package.lost c.take_files.new.package) c.in_err-board.field-0.0
-    (nothing_yet _ _ _ c.new-parts.ensures.empty c.new-tables.ensures) named c.in_ok-listed.ensures.handed walked c.in_err-board.ensures.fault)
+    (nothing_yet c.new-parts.result c.new-tables.result c.in_ok-listed.listed.layers c.new-parts.ensures.empty c.new-tables.ensures) named c.in_ok-listed.ensures.handed walked c.in_err-board.ensures.fault)
 
 pub returns-clause-handed : goal.returns-clause-handed
 returns-clause-handed g c =
@@ -128,10 +129,10 @@ returns-clause-handed g c =
     let end = labelled_so_far c.take_files.new.parts c.take_files.new.tables in
     let mid = g.P.Package.handed c.take_manifest.new.package in
     let after = g.P.Package.handed c.take_files.new.package in
-    let walked = subst (λ entries. WalksBy (GoesLabelledHanded ByLabels) (filter (needed ByLabels) entries) (labelled_course mid start) (labelled_course after end)) c.as_slice-entries.ensures c.in_ok-take_files.ensures.handed in
+    let walked = subst (λ entries. WalksBy (GoesLabelledHanded ByLabels) (filter (needed ByLabels) entries) (course mid start) (course after end)) c.as_slice-entries.ensures c.in_ok-take_files.ensures.handed in
     let named = c.in_ok-name_pieces.ensures.ok ∙ ap (λ (t : List (List Label)). labelled_board_of t (board_so_far c.take_files.new.parts)) c.as_slice.ensures in
     labelled_board_handed (g.P.Package.handed c.args.package.now) mid after c.args.manifest.now c.in_ok-listed.listed start end (board_so_far c.name_pieces.new.parts) _
-    (nothing_yet _ _ _ c.new-parts.ensures.empty c.new-tables.ensures) named c.in_ok-listed.ensures.handed walked c.in_ok-board.ensures.fits c.in_ok-board.ensures.ok
+    (nothing_yet c.new-parts.result c.new-tables.result c.in_ok-listed.listed.layers c.new-parts.ensures.empty c.new-tables.ensures) named c.in_ok-listed.ensures.handed walked c.in_ok-board.ensures.fits c.in_ok-board.ensures.ok
 
 -- ---- What is left
 

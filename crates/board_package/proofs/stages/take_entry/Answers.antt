@@ -23,7 +23,7 @@ pub returns-clause-handed_cause : goal.returns-clause-handed_cause
 returns-clause-handed_cause g c =
     let before = course (g.P.Package.handed c.args.package.now) (board_so_far c.args.parts.now) in
     let after = g.P.Package.handed c.take_file.new.package in
-    if_err c.read_file.result (Halts c.args.entry.now c.as_slice.result.now before.board)
+    if_err c.read_file.result (Halts c.args.entry.now c.as_slice.result.now before.so_far)
     (HandedCause (λ stop. StopsAtHanded c.args.entry.now before after stop) (λ name. ComesNext before.handed after c.args.entry.now.name name) (g.P.Package.faults c.args.package.now) (g.P.Package.faults c.take_file.new.package) (g.P.Package.lost c.take_file.new.package))
     (λ why h. halted_handed c.args.entry.now before after c.take_file.new.file.items c.as_slice.result.now _ _ _ why c.in_ok-take_file.ensures.handed c.as_slice.ensures.value h)
     c.read_file.ensures.fault

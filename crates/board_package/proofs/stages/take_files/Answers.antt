@@ -1,5 +1,6 @@
 use Rattle.std.proofs.Common.{◌∙◌}
-use Rattle.board_package.specs.HandedLabelled.{GoesLabelledHanded, labelled_course}
+use Rattle.board_package.specs.HandedBoard.{course}
+use Rattle.board_package.specs.HandedLabelled.{GoesLabelledHanded}
 use Rattle.board_package.specs.LabelledCauses.{labelled_so_far}
 use Rattle.board_package.proofs.LabelCauses.{files_cause_more, files_walked_more, kept_labelled_after, needed}
 use Rattle.board_package.proofs.LabelStaging.{files_more_handed}
@@ -20,7 +21,7 @@ loop-entry-preserved g c = record {
   faultless = faultless_both _ _ _ _ _ _ c.loop-entry.invariant.faultless c.in_ok-take_needed.ensures.spared;
   walked = files_walked_more c.args.naming (g.P.Package.held c.args.package.now) (g.P.Package.held c.loop-entry.package) c.args.entries.now c.loop-entry.entry-index c.entry-item.result (labelled_so_far c.args.parts.now c.args.tables.now) (labelled_so_far c.loop-entry.parts c.loop-entry.tables) (labelled_so_far c.take_needed.new.parts c.take_needed.new.tables)
       c.loop-entry-test.true c.entry-item.is c.loop-entry.invariant.leaves.held c.loop-entry.invariant.walked c.in_ok-take_needed.ensures.found;
-  handed = passing_walk_more (GoesLabelledHanded c.args.naming) (needed c.args.naming) c.args.entries.now c.loop-entry.entry-index c.entry-item.result (labelled_course (g.P.Package.handed c.args.package.now) (labelled_so_far c.args.parts.now c.args.tables.now)) (labelled_course (g.P.Package.handed c.loop-entry.package) (labelled_so_far c.loop-entry.parts c.loop-entry.tables)) (labelled_course (g.P.Package.handed c.take_needed.new.package) (labelled_so_far c.take_needed.new.parts c.take_needed.new.tables))
+  handed = passing_walk_more (GoesLabelledHanded c.args.naming) (needed c.args.naming) c.args.entries.now c.loop-entry.entry-index c.entry-item.result (course (g.P.Package.handed c.args.package.now) (labelled_so_far c.args.parts.now c.args.tables.now)) (course (g.P.Package.handed c.loop-entry.package) (labelled_so_far c.loop-entry.parts c.loop-entry.tables)) (course (g.P.Package.handed c.take_needed.new.package) (labelled_so_far c.take_needed.new.parts c.take_needed.new.tables))
       c.loop-entry-test.true c.entry-item.is c.loop-entry.invariant.handed c.in_ok-take_needed.ensures.handed;
   parts = c.in_ok-take_needed.ensures.parts;
   layers = c.in_ok-take_needed.ensures.layers ∙ c.loop-entry.invariant.layers;
@@ -35,7 +36,7 @@ returns-in_err-take_needed-clause-spared g c =
 pub returns-in_err-take_needed-clause-handed_cause : goal.returns-in_err-take_needed-clause-handed_cause
 returns-in_err-take_needed-clause-handed_cause g c =
     climbs _ _ c.from_residual.result c.in_err-take_needed.field-0.0 c.from_residual.ensures.1
-    (files_more_handed c.args.naming c.args.entries.now c.loop-entry.entry-index c.entry-item.result (labelled_course (g.P.Package.handed c.args.package.now) (labelled_so_far c.args.parts.now c.args.tables.now)) (labelled_course (g.P.Package.handed c.loop-entry.package) (labelled_so_far c.loop-entry.parts c.loop-entry.tables)) (g.P.Package.handed c.take_needed.new.package)
+    (files_more_handed c.args.naming c.args.entries.now c.loop-entry.entry-index c.entry-item.result (course (g.P.Package.handed c.args.package.now) (labelled_so_far c.args.parts.now c.args.tables.now)) (course (g.P.Package.handed c.loop-entry.package) (labelled_so_far c.loop-entry.parts c.loop-entry.tables)) (g.P.Package.handed c.take_needed.new.package)
     (g.P.Package.faults c.args.package.now) (g.P.Package.faults c.loop-entry.package) (g.P.Package.faults c.take_needed.new.package) (g.P.Package.lost c.take_needed.new.package) c.in_err-take_needed.field-0.0
     c.loop-entry-test.true c.entry-item.is c.loop-entry.invariant.leaves.later c.loop-entry.invariant.handed c.in_err-take_needed.ensures.handed_cause)
 

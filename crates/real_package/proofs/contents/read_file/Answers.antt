@@ -3,6 +3,7 @@ use Rattle.arc_layer.specs.Real.{plain_reals}
 use Rattle.real_package.specs.RealBoards.{plain_real_board, room_left}
 use Rattle.real_package.proofs.Halted.{copper_halts, copper_reads, drill_halts, netlist_halts}
 use Rattle.real_package.proofs.OnSpans.{on_spans}
+use Rattle.real_package.proofs.Seen.{has_more}
 use Rattle.real_package.proofs.contents.read_file.Goals as goal
 
 pub returns-in-Err-clause-fault : goal.returns-in-Err-clause-fault
@@ -22,11 +23,11 @@ returns-in-Err-read_netlist-clause-fault c =
     netlist_halts c.args.entry.now c.args.file.now (plain_real_board c.args.board.now) c.in-Err-read_netlist.why c.netlist_fault.result
     c.in-Netlist.is c.in-Err-read_netlist.ensures.fault c.netlist_fault.ensures
 
-pub add-requires-in-Ok-read_drill-clause-spans : goal.add-requires-in-Ok-read_drill-clause-spans
-add-requires-in-Ok-read_drill-clause-spans c =
-    on_spans c.args.board.now.layers c.in-Drill.from c.in-Drill.to c.args.entry.now.role c.in-Ok-read_drill.pieces.items c.in_ok-barrels-in-Ok-read_drill.barrels.items c.requires.role c.in-Drill.is c.in-Ok-read_drill.ensures.layers c.in_ok-barrels-in-Ok-read_drill.ensures
+pub add-requires-in-Ok-as_real_pieces-clause-spans : goal.add-requires-in-Ok-as_real_pieces-clause-spans
+add-requires-in-Ok-as_real_pieces-clause-spans c =
+    on_spans c.args.board.now.layers c.in-Drill.from c.in-Drill.to c.args.entry.now.role c.in-Ok-read_drill.pieces.items c.in-Ok-as_real_pieces.barrels.items c.requires.role c.in-Drill.is c.in-Ok-read_drill.ensures.layers c.in-Ok-as_real_pieces.ensures
 
 pub returns-in_ok-add-in-Ok-clause-ok : goal.returns-in_ok-add-in-Ok-clause-ok
 returns-in_ok-add-in-Ok-clause-ok c =
     let room = c.room_left-room.ensures ∙ ap (λ l. room_left (plain_reals l)) c.as_slice.ensures.value in
-    copper_reads c.args.entry.now c.in-Copper.layer c.args.file.now (plain_real_board c.args.board.now) _ c.room_left-room.result (plain_reals c.in-Ok.pieces.items) c.in-Copper.is room c.in-Ok.ensures.ok c.in_ok-add-in-Ok.ensures.ok
+    copper_reads c.args.entry.now c.in-Copper.layer c.args.file.now (plain_real_board c.args.board.now) (plain_real_board c.add.new.self) c.room_left-room.result (plain_reals c.in-Ok.pieces.items) c.in-Copper.is room c.in-Ok.ensures.ok (has_more c.args.board.now c.add.new.self c.in-Ok.pieces.items c.in_ok-add-in-Ok.ensures.ok)

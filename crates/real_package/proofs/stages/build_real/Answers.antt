@@ -1,13 +1,15 @@
 use Rattle.std.proofs.Common.{IfSome, subst}
-use Rattle.board_package.specs.PackageBoard.{WalksBy}
+use Rattle.board_package.specs.PackageBoard.{ComesAlong, WalksBy}
 use Rattle.board_package.proofs.Lift.{climbs, faultless_both, leaves_on}
-use Rattle.real_package.specs.HandedReal.{ComesRealAmongHanded, GoesRealHanded, StopsRealAmongHanded, real_course}
+use Rattle.board_package.specs.HandedBoard.{ComesAlongHanded, course}
+use Rattle.real_package.specs.HandedReal.{GoesRealHanded, StopsRealAmongHanded}
 use Rattle.real_package.specs.RealBoards.{plain_real_board}
 use Rattle.real_package.specs.RealCauses.{HandedRealCause, HasRealCause}
-use Rattle.real_package.specs.RealPackage.{ComesRealAmong, GoesReal, StopsRealAmong}
+use Rattle.real_package.specs.RealPackage.{GoesReal, StopsRealAmong}
 use Rattle.real_package.specs.declared.fault.RealBuildFault.TheVariants as fault
 use Rattle.real_package.proofs.Carried.{board_is, files_cause, kept_real_after, manifest_cause}
 use Rattle.real_package.proofs.Staged.{board_handed, files_handed, manifest_handed}
+use Rattle.real_package.proofs.Seen.{is_empty}
 use Rattle.real_package.proofs.stages.build_real.Goals as goal
 
 -- ---- The manifest
@@ -32,12 +34,12 @@ returns-in_err-take_files-clause-told g c =
     let held = g.P.Package.held c.take_manifest.new.package in
     let start = plain_real_board c.new-board.result in
     let why = c.in_err-take_files.field-0.0 in
-    let cause = subst (λ entries. HasRealCause held (λ files stop. StopsRealAmong files entries start stop) (λ files name. ComesRealAmong files entries start name)
+    let cause = subst (λ entries. HasRealCause held (λ files stop. StopsRealAmong files entries start stop) (λ files name. ComesAlong (GoesReal files) entries start name)
     (g.P.Package.faults c.take_manifest.new.package) (g.P.Package.faults c.take_files.new.package) (g.P.Package.lost c.take_files.new.package) why) c.as_slice.ensures c.in_err-take_files.ensures.cause in
     climbs _ _ c.from_residual-in_err-take_files.result why c.from_residual-in_err-take_files.ensures.1
     (files_cause (g.P.Package.held c.args.package.now) held c.args.manifest.now c.in_ok-listed.listed start
     (g.P.Package.faults c.args.package.now) (g.P.Package.faults c.take_manifest.new.package) (g.P.Package.faults c.take_files.new.package) (g.P.Package.lost c.take_files.new.package) why
-    c.take_manifest.ensures.leaves.held c.new-board.ensures.empty c.take_manifest.ensures.leaves.later c.in_ok-listed.ensures.found cause)
+    c.take_manifest.ensures.leaves.held (is_empty c.new-board.result c.in_ok-listed.listed.layers c.new-board.ensures.empty) c.take_manifest.ensures.leaves.later c.in_ok-listed.ensures.found cause)
 
 pub returns-in_err-take_files-clause-handed : goal.returns-in_err-take_files-clause-handed
 returns-in_err-take_files-clause-handed g c =
@@ -45,12 +47,12 @@ returns-in_err-take_files-clause-handed g c =
     let mid = g.P.Package.handed c.take_manifest.new.package in
     let after = g.P.Package.handed c.take_files.new.package in
     let why = c.in_err-take_files.field-0.0 in
-    let cause = subst (λ entries. HandedRealCause (λ stop. StopsRealAmongHanded entries (real_course mid start) after stop) (λ name. ComesRealAmongHanded entries (real_course mid start) after name)
+    let cause = subst (λ entries. HandedRealCause (λ stop. StopsRealAmongHanded entries (course mid start) after stop) (λ name. ComesAlongHanded GoesRealHanded entries (course mid start) after name)
     (g.P.Package.faults c.take_manifest.new.package) (g.P.Package.faults c.take_files.new.package) (g.P.Package.lost c.take_files.new.package) why) c.as_slice.ensures c.in_err-take_files.ensures.handed_cause in
     climbs _ _ c.from_residual-in_err-take_files.result why c.from_residual-in_err-take_files.ensures.1
     (files_handed (g.P.Package.handed c.args.package.now) mid after c.args.manifest.now c.in_ok-listed.listed start
     (g.P.Package.faults c.args.package.now) (g.P.Package.faults c.take_manifest.new.package) (g.P.Package.faults c.take_files.new.package) (g.P.Package.lost c.take_files.new.package) why
-    c.new-board.ensures.empty c.take_manifest.ensures.leaves.later c.in_ok-listed.ensures.handed cause)
+    (is_empty c.new-board.result c.in_ok-listed.listed.layers c.new-board.ensures.empty) c.take_manifest.ensures.leaves.later c.in_ok-listed.ensures.handed cause)
 
 pub returns-in_err-take_files-clause-spared : goal.returns-in_err-take_files-clause-spared
 returns-in_err-take_files-clause-spared g c =
@@ -68,7 +70,7 @@ returns-clause-told g c =
     let start = plain_real_board c.new-board.result in
     let end = plain_real_board c.take_files.new.board in
     let walked = subst (λ entries. IfSome held (λ files. WalksBy (GoesReal files) entries start end)) c.as_slice.ensures c.in_ok-take_files.ensures.found in
-    board_is (g.P.Package.held c.args.package.now) held c.args.manifest.now c.in_ok-listed.listed start end c.take_manifest.ensures.leaves.held c.new-board.ensures.empty c.in_ok-listed.ensures.found walked
+    board_is (g.P.Package.held c.args.package.now) held c.args.manifest.now c.in_ok-listed.listed start end c.take_manifest.ensures.leaves.held (is_empty c.new-board.result c.in_ok-listed.listed.layers c.new-board.ensures.empty) c.in_ok-listed.ensures.found walked
 
 pub returns-clause-handed : goal.returns-clause-handed
 returns-clause-handed g c =
@@ -76,8 +78,8 @@ returns-clause-handed g c =
     let end = plain_real_board c.take_files.new.board in
     let mid = g.P.Package.handed c.take_manifest.new.package in
     let after = g.P.Package.handed c.take_files.new.package in
-    let walked = subst (λ entries. WalksBy GoesRealHanded entries (real_course mid start) (real_course after end)) c.as_slice.ensures c.in_ok-take_files.ensures.handed in
-    board_handed (g.P.Package.handed c.args.package.now) mid after c.args.manifest.now c.in_ok-listed.listed start end c.new-board.ensures.empty c.in_ok-listed.ensures.handed walked
+    let walked = subst (λ entries. WalksBy GoesRealHanded entries (course mid start) (course after end)) c.as_slice.ensures c.in_ok-take_files.ensures.handed in
+    board_handed (g.P.Package.handed c.args.package.now) mid after c.args.manifest.now c.in_ok-listed.listed start end (is_empty c.new-board.result c.in_ok-listed.listed.layers c.new-board.ensures.empty) c.in_ok-listed.ensures.handed walked
 
 pub returns-clause-spared : goal.returns-clause-spared
 returns-clause-spared g c = faultless_both _ _ _ _ _ _ c.in_ok-listed.ensures.spared c.in_ok-take_files.ensures.spared

@@ -1,11 +1,11 @@
-use Rattle.board_package.proofs.Lift.{climbs, if_err, spared}
+use Rattle.board_package.proofs.Lift.{climbs, if_err, on_ok, spared}
 use Rattle.board_package.proofs.Staging.{handed_with}
 use Rattle.board_package.proofs.Taking.{held_with}
-use Rattle.real_package.specs.HandedReal.{real_course}
+use Rattle.board_package.specs.HandedBoard.{course}
 use Rattle.real_package.specs.RealBoards.{plain_real_board}
 use Rattle.real_package.specs.RealCauses.{KeepsRealFaults}
 use Rattle.real_package.specs.declared.fault.RealBuildFault.TheVariants as fault
-use Rattle.real_package.proofs.Carried.{halted_real, kept_real, on_ok, taking_cause}
+use Rattle.real_package.proofs.Carried.{halted_real, kept_real, taking_cause}
 use Rattle.real_package.proofs.Staged.{halted_handed, taking_handed}
 use Rattle.real_package.proofs.stages.take_entry.Goals as goal
 
@@ -22,7 +22,7 @@ returns-in_err-take_file-clause-cause g c =
 pub returns-in_err-take_file-clause-handed_cause : goal.returns-in_err-take_file-clause-handed_cause
 returns-in_err-take_file-clause-handed_cause g c =
     climbs _ _ c.from_residual.result (fault.Build c.in_err-take_file.field-0.0) c.from_residual.ensures.1
-    (taking_handed c.args.entry.now (real_course (g.P.Package.handed c.args.package.now) (plain_real_board c.args.board.now)) (g.P.Package.handed c.take_file.new.package) (g.P.Package.faults c.args.package.now) (g.P.Package.faults c.take_file.new.package) (g.P.Package.lost c.take_file.new.package) c.in_err-take_file.field-0.0 c.in_err-take_file.ensures.handed_cause)
+    (taking_handed c.args.entry.now (course (g.P.Package.handed c.args.package.now) (plain_real_board c.args.board.now)) (g.P.Package.handed c.take_file.new.package) (g.P.Package.faults c.args.package.now) (g.P.Package.faults c.take_file.new.package) (g.P.Package.lost c.take_file.new.package) c.in_err-take_file.field-0.0 c.in_err-take_file.ensures.handed_cause)
 
 -- ---- Its reading
 
@@ -46,5 +46,5 @@ returns-clause-cause g c =
 pub returns-clause-handed_cause : goal.returns-clause-handed_cause
 returns-clause-handed_cause g c =
     if_err c.read_file.result _ _
-    (λ why h. halted_handed c.args.entry.now (real_course (g.P.Package.handed c.args.package.now) (plain_real_board c.args.board.now)) (g.P.Package.handed c.take_file.new.package) c.take_file.new.file.items c.as_slice.result.now (g.P.Package.faults c.args.package.now) (g.P.Package.faults c.take_file.new.package) (g.P.Package.lost c.take_file.new.package) why c.in_ok-take_file.ensures.handed c.as_slice.ensures.value h)
+    (λ why h. halted_handed c.args.entry.now (course (g.P.Package.handed c.args.package.now) (plain_real_board c.args.board.now)) (g.P.Package.handed c.take_file.new.package) c.take_file.new.file.items c.as_slice.result.now (g.P.Package.faults c.args.package.now) (g.P.Package.faults c.take_file.new.package) (g.P.Package.lost c.take_file.new.package) why c.in_ok-take_file.ensures.handed c.as_slice.ensures.value h)
     c.read_file.ensures.fault

@@ -1,6 +1,7 @@
 use Rattle.std.proofs.Common.{◌∙◌}
 use Rattle.board_package.proofs.Lift.{climbs, faultless_both, leaves_on}
-use Rattle.real_package.specs.HandedReal.{GoesRealHanded, real_course}
+use Rattle.board_package.specs.HandedBoard.{course}
+use Rattle.real_package.specs.HandedReal.{GoesRealHanded}
 use Rattle.real_package.specs.RealBoards.{plain_real_board}
 use Rattle.real_package.proofs.Carried.{kept_real_after}
 use Rattle.real_package.proofs.Staged.{more_handed}
@@ -13,7 +14,7 @@ loop-entry-preserved g c = record {
   faultless = faultless_both _ _ _ _ _ _ c.loop-entry.invariant.faultless c.in_ok-take_entry.ensures.spared;
   walked = told_more (g.P.Package.held c.args.package.now) (g.P.Package.held c.loop-entry.package) c.args.entries.now c.loop-entry.entry-index c.entry-item.result (plain_real_board c.args.board.now) (plain_real_board c.loop-entry.board) (plain_real_board c.take_entry.new.board)
       c.loop-entry-test.true c.entry-item.is c.loop-entry.invariant.leaves.held c.loop-entry.invariant.walked c.in_ok-take_entry.ensures.found;
-  handed = walk_more GoesRealHanded c.args.entries.now c.loop-entry.entry-index c.entry-item.result (real_course (g.P.Package.handed c.args.package.now) (plain_real_board c.args.board.now)) (real_course (g.P.Package.handed c.loop-entry.package) (plain_real_board c.loop-entry.board)) (real_course (g.P.Package.handed c.take_entry.new.package) (plain_real_board c.take_entry.new.board))
+  handed = walk_more GoesRealHanded c.args.entries.now c.loop-entry.entry-index c.entry-item.result (course (g.P.Package.handed c.args.package.now) (plain_real_board c.args.board.now)) (course (g.P.Package.handed c.loop-entry.package) (plain_real_board c.loop-entry.board)) (course (g.P.Package.handed c.take_entry.new.package) (plain_real_board c.take_entry.new.board))
       c.loop-entry-test.true c.entry-item.is c.loop-entry.invariant.handed c.in_ok-take_entry.ensures.handed;
   lawful = c.in_ok-take_entry.ensures.lawful;
   layers = c.in_ok-take_entry.ensures.layers ∙ c.loop-entry.invariant.layers;
@@ -37,6 +38,6 @@ returns-in_err-take_entry-clause-cause g c =
 pub returns-in_err-take_entry-clause-handed_cause : goal.returns-in_err-take_entry-clause-handed_cause
 returns-in_err-take_entry-clause-handed_cause g c =
     climbs _ _ c.from_residual.result c.in_err-take_entry.field-0.0 c.from_residual.ensures.1
-    (more_handed c.args.entries.now c.loop-entry.entry-index c.entry-item.result (real_course (g.P.Package.handed c.args.package.now) (plain_real_board c.args.board.now)) (real_course (g.P.Package.handed c.loop-entry.package) (plain_real_board c.loop-entry.board)) (g.P.Package.handed c.take_entry.new.package)
+    (more_handed c.args.entries.now c.loop-entry.entry-index c.entry-item.result (course (g.P.Package.handed c.args.package.now) (plain_real_board c.args.board.now)) (course (g.P.Package.handed c.loop-entry.package) (plain_real_board c.loop-entry.board)) (g.P.Package.handed c.take_entry.new.package)
     (g.P.Package.faults c.args.package.now) (g.P.Package.faults c.loop-entry.package) (g.P.Package.faults c.take_entry.new.package) (g.P.Package.lost c.take_entry.new.package) c.in_err-take_entry.field-0.0
     c.loop-entry-test.true c.entry-item.is c.loop-entry.invariant.leaves.later c.loop-entry.invariant.handed c.in_err-take_entry.ensures.handed_cause)

@@ -2,8 +2,10 @@ use Rattle.std.proofs.Common.{◌≡◌, IfSome, take}
 use Rattle.board_io.specs.Package.{IsFaultless}
 use Rattle.board_package.specs.Causes.{Leaves}
 use Rattle.board_package.specs.PackageBoard.{WalksBy}
-use Rattle.real_package.specs.HandedReal.{GoesRealHanded, real_course}
-use Rattle.real_package.specs.RealBoards.{IsLawfulReal, plain_real_board}
+use Rattle.board_package.specs.HandedBoard.{course}
+use Rattle.board_package.specs.Parts.{IsLawfulParts}
+use Rattle.real_package.specs.HandedReal.{GoesRealHanded}
+use Rattle.real_package.specs.RealBoards.{plain_real_board}
 use Rattle.real_package.specs.RealPackage.{GoesReal}
 use Rattle.real_package.proofs.stages.take_files.Given as goal
 
@@ -12,7 +14,7 @@ invariant-loop-entry g l = record {
   leaves : Leaves g.P.Package.held g.P.Package.handed g.P.Package.faults l.initial.package l.package;
   faultless : IsFaultless (g.P.Package.faults l.initial.package) (g.P.Package.lost l.initial.package) (g.P.Package.faults l.package) (g.P.Package.lost l.package);
   walked : IfSome (g.P.Package.held l.initial.package) (λ files. WalksBy (GoesReal files) (take l.entry-index l.entries) (plain_real_board l.initial.board) (plain_real_board l.board));
-  handed : WalksBy GoesRealHanded (take l.entry-index l.entries) (real_course (g.P.Package.handed l.initial.package) (plain_real_board l.initial.board)) (real_course (g.P.Package.handed l.package) (plain_real_board l.board));
-  lawful : IsLawfulReal l.board;
+  handed : WalksBy GoesRealHanded (take l.entry-index l.entries) (course (g.P.Package.handed l.initial.package) (plain_real_board l.initial.board)) (course (g.P.Package.handed l.package) (plain_real_board l.board));
+  lawful : IsLawfulParts l.board;
   layers : l.board.layers ≡ l.initial.board.layers;
 }
