@@ -2,6 +2,7 @@
 ghost use Rattle.arc_covers.specs.Bounds.{AddUp, AreBounds};
 ghost use Rattle.arc_covers.specs.Faults.{IsBoundsFault};
 ghost use Rattle.arc_covers.specs.Taken.{AreTaken, PiecesAreTaken};
+ghost use Rattle.arc_covers.specs.declared.between.BoundsFault.TheVariants as fault;
 ghost use Rattle.arc_covers.specs.declared.side.Side.TheVariants.{Above, Below};
 ghost use Rattle.board_shapes.specs.Pieces.{plain_pieces};
 ghost use Rattle.std.specs.Prelude.{IfErr, IfOk, IsTrue, drop, length, sum, take, ◌+◌, ◌≡◌, ◌≤◌, ◌↔◌};
@@ -28,8 +29,6 @@ pub enum BoundsFault {
 }
 
 impl From<NoMemory> for BoundsFault {
-    ghost use Rattle.arc_covers.specs.declared.between.BoundsFault.TheVariants as fault;
-
     ghost from_gives = { λ _ e. e ≡ fault.NoMemory };
 
     fn from(_: NoMemory) -> BoundsFault {

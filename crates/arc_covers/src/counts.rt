@@ -1,6 +1,7 @@
 //! The file of counts: how many pieces stand for each piece of a real board, below it and above.
 ghost use Rattle.arc_covers.specs.Counts.{AreCounts, IsCountsFault, first_line};
 ghost use Rattle.arc_covers.specs.CountsReading.{both_at};
+ghost use Rattle.arc_covers.specs.declared.counts.CountsFault.TheVariants as fault;
 ghost use Rattle.std.specs.Option.{option_map};
 ghost use Rattle.std.specs.Prelude.{IfErr, IfOk, true, ◌++◌, ◌≡◌};
 ghost use Rattle.std.specs.List.{list_all};
@@ -28,8 +29,6 @@ pub enum CountsFault {
 }
 
 impl From<NoMemory> for CountsFault {
-    ghost use Rattle.arc_covers.specs.declared.counts.CountsFault.TheVariants as fault;
-
     ghost from_gives = { λ _ e. e ≡ fault.NoMemory };
 
     fn from(_: NoMemory) -> CountsFault {
