@@ -39,7 +39,7 @@ impl<S: Drop> Parts<S> {
         }
     }
 
-    /// Adds the pieces of a file, for which there is room.
+    /// Adds the pieces of a file, for which there is room. `NoMemory` is its only fault.
     pub fn add(&mut self, mut pieces: Vec<Placed<S>>) -> Result<(), BuildFault>
         requires lawful { IsLawfulParts self.old }
         requires few { length self.old.pieces.items + length pieces.items ≤ MOST_PIECES }
