@@ -53,6 +53,11 @@ def millimetres(u):
     return f"{'-' if u < 0 else ''}{abs(u) // 10 ** 7}.{abs(u) % 10 ** 7:07d}"
 
 
+def edges_of(spots):
+    """The words of a contour's edges."""
+    return [f"X{x}Y{y}D01*" for x, y in spots[1:]]
+
+
 class Side:
     """A copper file that is being written: its lines, and for each word the command of the old file that it comes from."""
 
@@ -83,10 +88,10 @@ class Side:
         self.word(f"X{spot[0]}Y{spot[1]}D0{operation}*", source)
         self.at = spot
 
-    def run(self, spots, source):
-        """A contour by its places, the first one at its end again."""
+    def run(self, spots, source, edges=None):
+        """A contour by its places, the first one at its end again; `edges` are their words, where they are known."""
         self.operate(spots[0], MOVE, source)
-        self.lines += [f"X{x}Y{y}D01*" for x, y in spots[1:]]
+        self.lines += edges_of(spots) if edges is None else edges
         self.sources += [source] * (len(spots) - 1)
         self.at = spots[-1]
 
@@ -96,7 +101,8 @@ class Side:
         self.word("G37*", source)
 
     def capsule(self, a, b, radius, source):
-        self.circle(radius, source)
+        if self.pen is None or self.made.get(radius) != self.pen:
+            self.circle(radius, source)
         if a == b:
             self.operate(a, FLASH, source)
         else:
@@ -105,12 +111,13 @@ class Side:
 
     def pieces(self, pieces, by, source):
         """Pieces about a place."""
-        for kind, *rest in pieces:
-            if kind == "area":
-                self.region([(x + by[0], y + by[1]) for x, y in rest[0]] if any(by) else rest[0], source)
+        x, y = by
+        for piece in pieces:
+            if piece[0] == "area":
+                self.region([(u + x, v + y) for u, v in piece[1]] if any(by) else piece[1], source)
             else:
-                a, b, radius = rest
-                self.capsule((a[0] + by[0], a[1] + by[1]), (b[0] + by[0], b[1] + by[1]), radius, source)
+                _, a, b, radius = piece
+                self.capsule((a[0] + x, a[1] + y), (b[0] + x, b[1] + y), radius, source)
 
     def text(self):
-        return "".join(line + "\n" for line in self.lines)
+        return "\n".join([*self.lines, ""])
