@@ -11,13 +11,15 @@ PLACED = re.compile(r"[\t\n\r ]*X[+-]?[0-9]{1,13}Y[+-]?[0-9]{1,13}D0?[12]\*")
 PLAIN_WORDS = re.compile(r"(?:[\t\n\r ]*(?:X[+-]?[0-9]{1,13}Y[+-]?[0-9]{1,13}D0?[123]|D[1-9][0-9]{1,8})\*){2,500}")
 PLAIN = re.compile(r"(?:X([+-]?[0-9]+)Y([+-]?[0-9]+)D0?([123])|D([0-9]+))\*")
 NUMBERS = bytes.maketrans(b"XYD*", b"    ")
+MOST_DIGITS = 13        # of a coordinate
+FEW = 40                # bytes that are taken word by word
 
 
 def words_of(text, runs=False, plain=False):
-    """(in a pair of percent signs, word, first of its pair) in order. With `runs` the words of a region from G36 to G37 are one list of
-    their numbers, x, y and code of each, where all of them say these; with `plain` other words of that kind, and those that pick an
-    aperture, are one tuple of (x, y, code, aperture)."""
-    inside, first, start = False, True, 0
+    """(in a pair of percent signs, word, first of its pair) in order. With `runs` words of a region up to a G are one list of xs, ys and
+    codes, where all of them say these; with `plain` other words of that kind, and those that pick an aperture, are one tuple of
+    (x, y, code, aperture)."""
+    inside, first, start, in_region = False, True, 0, False
     while start is not None:
         matches, start = TOKENS.finditer(text, start), None
         for match in matches:
@@ -32,8 +34,9 @@ def words_of(text, runs=False, plain=False):
                     break
                 yield inside, word, first
                 first = False
-                end = text.find("G37*", match.end()) if runs and word == "G36" and not inside else -1
-                run = end >= 0 and numbers_of(text[match.end():end])
+                in_region = word == "G36" or in_region and word != "G37"
+                end = text.find("G", match.end()) if runs and in_region and not inside else -1
+                run = end - match.end() > FEW and numbers_of(text[match.end():end])
                 if run:
                     yield False, run, False
                     start = end
@@ -44,8 +47,39 @@ def words_of(text, runs=False, plain=False):
 
 
 def numbers_of(text):
-    """The numbers of words that each say x, y and one of the codes of a region; none where there are others."""
-    return [] if PLACED.sub("", text).strip("\t\n\r ") else [*map(int, text.encode("latin-1").translate(NUMBERS).split())]
+    """xs, ys and codes of words that each say these, with codes of a region; nothing where there are others."""
+    data = text.encode("latin-1").strip(b"\t\n\r ")
+    found = lines_of(data, b"\r\n" if b"\r" in data else b"\n")
+    if found or PLACED.sub("", text).strip("\t\n\r "):
+        return found
+    values = [*map(int, data.translate(NUMBERS).split())]
+    return [values[::3], values[1::3], values[2::3]]
+
+
+def lines_of(data, ends):
+    """The same of lines alone, whose codes have two digits, as nearly all files have them: faster than an expression over all of them."""
+    many, draw, move = data.count(b"*"), b"D01*" + ends + b"X", b"D02*" + ends + b"X"
+    if data.translate(None, b"-0123456789") + ends != (b"XYD*" + ends) * many or data.count(draw) + data.count(move) != many - 1:
+        return []
+    parts = data[1:-len(b"D01*")].replace(draw, b" ").replace(move, b" ").replace(b"Y", b" ").split()
+    if data[-len(b"D01*"):] not in (b"D01*", b"D02*") or len(parts) != 2 * many or max(map(len, parts)) > MOST_DIGITS:
+        return []
+    try:
+        values = [*map(int, parts)]
+    except ValueError:
+        return []
+    return [values[::2], values[1::2], codes_of(data, many)]
+
+
+def codes_of(data, many):
+    """The codes of lines, most of which draw."""
+    codes, at, count = [DRAW] * many, 0, 0
+    while True:
+        found = data.find(b"D02*", at)
+        if found < 0:
+            return codes
+        count += data.count(b"*", at, found)
+        codes[count], at = MOVE, found + 1
 
 
 def millimetres(u):

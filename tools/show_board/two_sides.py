@@ -163,8 +163,8 @@ class Copper(Settings, Definitions, Operations, Regions):
 
     def run(self, numbers, _):
         """The words of a region by their numbers."""
-        xs, ys, codes = numbers[::3], numbers[1::3], numbers[2::3]
-        if self.mode != STRAIGHT or not isinstance(self.unit, int) or codes[0] != MOVE:
+        xs, ys, codes = numbers
+        if self.mode != STRAIGHT or not isinstance(self.unit, int):
             for self.number, (x, y, code) in enumerate(zip(xs, ys, codes), self.number):
                 self.operation(None, str(x), str(y), None, None, str(code))
             return
@@ -172,6 +172,10 @@ class Copper(Settings, Definitions, Operations, Regions):
             xs, ys = ([v * self.unit for v in its] for its in (xs, ys))
         spots = [*zip(xs, ys)]
         moves = [k for k, code in enumerate(codes) if code == MOVE]
+        before = moves[0] if moves else len(spots)
+        if before:
+            self.contours += [] if self.contours else [[self.spot]]
+            self.contours[-1] += spots[:before]
         self.contours += [spots[a:b] for a, b in zip(moves, [*moves[1:], len(spots)])]
         self.spot, self.last, self.number = spots[-1], codes[-1], self.number + len(spots) - 1
 
