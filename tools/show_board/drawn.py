@@ -106,8 +106,12 @@ class Operations:
     def write_pieces(self, both, areas=None, by=(0, 0)):
         """Pieces about a place."""
         if self.stays(*([moved(piece, *by) for piece in pieces] for pieces in both) if self.is_noted() else ((), ()), areas):
-            for side, pieces in zip(self.sides, both):
-                side.pieces(pieces, by, self.number)
+            self.write_both(both, by)
+
+    def write_both(self, both, by):
+        self.unlike.add(self.number)
+        for side, pieces in zip(self.sides, both):
+            side.pieces(pieces, by, self.number)
 
     def draw(self, start):
         made = self.aperture()
@@ -137,8 +141,7 @@ class Operations:
             if shape.lost:
                 self.lose(f"{shape.lost} at command {self.number}")
             if self.stays(*([moved(piece, *self.spot) for piece in pieces] for pieces in shape.both) if self.is_noted() else ((), ())):
-                for side, pieces in zip(self.sides, shape.both):
-                    side.pieces(pieces, self.spot, self.number)
+                self.write_both(shape.both, self.spot)
             return
         flat = made.both if made and self.is_noted() else ([], [])
         if not self.stays(*([moved(piece, *self.spot) for piece in pieces] for pieces in flat)):
@@ -158,5 +161,4 @@ class Operations:
             both = tuple([moved(piece, *self.spot) for piece in pieces] for pieces in it.both)
             self.stays_as(it.dark != self.clear, both)
             if it.dark != self.clear and self.number not in self.taken:
-                for side, pieces in zip(self.sides, both):
-                    side.pieces(pieces, (0, 0), self.number)
+                self.write_both(both, (0, 0))

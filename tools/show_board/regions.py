@@ -58,6 +58,8 @@ class Regions:
 
     def write_region(self, contours, written, grown):
         edges = {key: edges_of(run) for key, run in {id(run): run for runs in written for run in runs}.items()}     # most are of both sides
+        if grown or [*map(id, written[0])] != [*map(id, written[1])]:
+            self.unlike.add(self.number)
         for side, runs in zip(self.sides, written):
             if runs or not contours:
                 side.word("G36*", self.number)

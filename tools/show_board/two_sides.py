@@ -42,6 +42,7 @@ class Copper(Settings, Definitions, Operations, Regions):
 
     `lost` says what LOWER leaves out, `replaced` counts what is written otherwise. `objects` is all that the file makes, in order,
     where it is asked for; `negative` is the command that says that they are none. Dark objects of commands of `taken` are not written, but at the end what is `written`.
+    `unlike` are the commands that make other copper on both sides, but for pens off the grid.
     """
 
     def __init__(self, text, taken=(), written=((), ()), cuts=False):
@@ -50,7 +51,7 @@ class Copper(Settings, Definitions, Operations, Regions):
         self.sides = self.files = (Side(), Side())
         self.lost, self.replaced, self.number = [], len(taken), None
         self.taken, self.written, self.objects, self.copies = taken, written, [], None
-        self.clear, self.clears, self.negative = False, False, None
+        self.clear, self.clears, self.negative, self.unlike = False, False, None, {source for its in written for _, source in its}
         self.cuts = cuts or "LPC*" in text or "IPNEG*" in text or ".FilePolarity,Negative" in text
         self.number = 0
         for extended, word, first in words_of(text, True):
