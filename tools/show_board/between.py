@@ -17,14 +17,13 @@ NOTE = ("The board lies between two bounds, since some of its copper is outside 
 
 
 def own_commands(report, manifest, sources):
-    """The report with the user's commands in place of those of the copy; made once."""
-    if not report.own:
-        report.own = copy.copy(report)
-        if report.sources and sources:
-            by_file = [sources.get(name) for name in manifest.files]
-            report.own.sources = [(file, by_file[file][command - 1] if by_file[file] else command, number, top, bottom)
-                                  for file, command, number, top, bottom in report.sources]
-    return report.own
+    """The report with the user's commands in place of those of the copy."""
+    told = copy.copy(report)
+    if report.sources and sources:
+        by_file = [sources.get(name) for name in manifest.files]
+        told.sources = [(file, by_file[file][command - 1] if by_file[file] else command, number, top, bottom)
+                        for file, command, number, top, bottom in report.sources]
+    return told
 
 
 def board_of(low, sources, shapes, labels=None, ties=None):

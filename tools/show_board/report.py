@@ -12,7 +12,7 @@ class Report:
     """The lists of a report. Nets, pieces, points and names count from 0, records and layers from 1, as they do there.
 
     `points` are (record, layer, name, net), with net -1 for none. `spots` (x, y in u) and `sources` (file, command, copy, top,
-    bottom) are None in a report of version 1. `own` is the report by the user's commands, where those of a copy stand for them.
+    bottom) are None in a report of version 1.
     """
 
     def __init__(self, text):
@@ -36,7 +36,7 @@ class Report:
         self.opens = [self.numbers("open") for _ in range(self.count("opens"))]
         self.shorts = [self.short() for _ in range(self.count("shorts"))]
         self.bare = [self.numbers("bare")[0] for _ in range(self.count("missing"))]
-        self.spots = self.sources = self.own = None
+        self.spots = self.sources = None
         if self.version == 2:
             self.spots, self.sources = numbered(*self.rows_of("spots"), "spot", 3), numbered(*self.rows_of("sources"), "source", 6)
             if len(self.sources) != self.pieces or len(self.spots) != len(self.points):
