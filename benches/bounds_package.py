@@ -1,5 +1,4 @@
 """A made package whose layers are large planes, tracks, pads, and some arcs, which are outside the profile: how long `show` takes."""
-import json
 import math
 import os
 import random
@@ -9,7 +8,9 @@ import sys
 import tempfile
 import time
 
-HEAD = "%FSLAX46Y46*%\n%MOMM*%\nG75*\n%ADD10C,0.2*%\n%ADD11C,0.5*%\nG01*"
+import made_board
+
+HEAD = [*made_board.COPPER, "G75*", "%ADD10C,0.2*%", "%ADD11C,0.5*%", "G01*"]
 
 
 def plane(rng, middle, edges):
@@ -22,30 +23,27 @@ def plane(rng, middle, edges):
 
 
 def layer(rng, edges):
-    lines = [HEAD]
+    lines = [*HEAD]
     for k in range(4):
         lines += plane(rng, (20_000_000 + 60_000_000 * (k % 2), 20_000_000 + 60_000_000 * (k // 2)), edges // 4)
     lines.append("D10*")
     for k in range(2500):
         x, y = rng.randint(0, 10 ** 8), -rng.randint(5_000_000, 55_000_000)
         lines.append(f"X{x}Y{y}D02*\nG01X{x + 500_000}Y{y}D01*" + (f"\nG03X{x + 600_000}Y{y + 100_000}I0J100000D01*" if k % 3 == 0 else ""))
-    lines += ["D11*", *(f"X{k * 150_000}Y-60000000D03*" for k in range(2_000)), "M02*", ""]
-    return "\n".join(lines)
+    return [*lines, "D11*", *(f"X{k * 150_000}Y-60000000D03*" for k in range(2_000)), "M02*"]
+
+
+def write(folder, layers, edges):
+    rng, names = random.Random(3), [f"l{k}.gbr" for k in range(layers)]
+    files = {name: layer(rng, edges // layers) for name in names}
+    points = [f"327A                J1    -{k + 1}          A01X+{150 * k:06}Y-060000" for k in range(2)]
+    made_board.put(folder, {**files, "n.ipc": [made_board.NETLIST, *points, "999"], "m.json": [made_board.manifest(names)]})
 
 
 def timed(layers, edges):
     """Prints what `show` says, and its processor seconds with those of the program, and the most memory that one of them had."""
-    rng = random.Random(3)
     with tempfile.TemporaryDirectory() as folder:
-        names = [f"l{k}.gbr" for k in range(layers)]
-        for name in names:
-            with open(os.path.join(folder, name), "w") as file:
-                file.write(layer(rng, edges // layers))
-        with open(os.path.join(folder, "n.ipc"), "w") as file:
-            points = [f"327A                J1    -{k + 1}          A01X+{150 * k:06}Y-060000" for k in range(2)]
-            file.write("\n".join(["P  UNITS CUST 1", *points, "999", ""]))
-        with open(os.path.join(folder, "m.json"), "w") as file:
-            json.dump({"copper": names, "drills": [], "netlist": "n.ipc"}, file)
+        write(folder, layers, edges)
         began = time.time()
         told = subprocess.run([sys.executable, os.path.join(os.path.dirname(os.path.dirname(os.path.abspath(__file__))), "tools", "show"), folder, "-q"],
                               stdout=subprocess.PIPE, check=False)

@@ -1,5 +1,4 @@
 """A made package of large planes with cut-ins along rows of holes, pads and draws: what `show` takes for it, and its mends alone."""
-import json
 import os
 import random
 import subprocess
@@ -7,10 +6,12 @@ import sys
 import tempfile
 import time
 
+import made_board
+
 ROWS, VOID, STEP = 100, 350_000, 1_000_000          # rows, and holes of a row; nanometres
 SIDE = (ROWS + 1) * STEP
 AROUND = [(-14, 0), (-13, 5), (-10, 10), (-5, 13), (0, 14), (5, 13), (10, 10), (13, 5), (14, 0), (10, -10), (5, -13), (0, -14), (-5, -13), (-13, -5)]
-HEAD = ["%FSLAX46Y46*%", "%MOMM*%", "%ADD10C,0.3*%", "%ADD11C,0.1*%", "%LPD*%", "G01*"]
+HEAD = [*made_board.COPPER, "%ADD10C,0.3*%", "%ADD11C,0.1*%", "%LPD*%", "G01*"]
 TOOLS = os.path.join(os.path.dirname(os.path.dirname(os.path.abspath(__file__))), "tools")
 
 
@@ -33,28 +34,19 @@ def layer(rng, noisy, draws):
     for _ in range(draws):
         x, y = rng.randrange(1, ROWS) * STEP + STEP // 2, rng.randrange(1, ROWS) * STEP
         lines += [f"X{x}Y{y}D02*", f"X{x}Y{y + STEP // 4}D01*"]
-    return "\n".join([*lines, "M02*", ""]), len(spots)
+    return [*lines, "M02*"], len(spots)
 
 
 def write(folder, layers, noisy=1_902, draws=2_000):
     """Writes the package; the edges of a plane."""
     rng = random.Random(1)
     names = [f"l{k}.gbr" for k in range(layers)]
-    for name in names:
-        text, edges = layer(rng, noisy, draws)
-        put(folder, name, text)
+    made = [layer(rng, noisy, draws) for _ in names]
     holes = [f"X{x}.0Y{y}.0" for y in range(1, ROWS + 1) for x in range(1, ROWS + 1)]
-    put(folder, "pth.drl", "\n".join(["M48", "METRIC", "T1C0.2", "%", "T1", *holes, "M30", ""]))
     points = [f"317N{k:<5}           J{k:<5}-1    D0080PA00X+{k % ROWS * 1000 + 1000:06}Y+{k // ROWS * 1000 + 1000:06}X0120Y0000" for k in range(ROWS * ROWS)]
-    put(folder, "n.ipc", "\n".join(["P  UNITS CUST 1", *points, "999", ""]))
-    drills = [{"file": "pth.drl", "from": 1, "to": layers}]
-    put(folder, "m.json", json.dumps({"copper": names, "drills": drills, "netlist": "n.ipc"}))
-    return edges
-
-
-def put(folder, name, text):
-    with open(os.path.join(folder, name), "w", encoding="ascii") as file:
-        file.write(text)
+    made_board.put(folder, {**{name: lines for name, (lines, _) in zip(names, made)}, "pth.drl": ["M48", "METRIC", "T1C0.2", "%", "T1", *holes, "M30"],
+                            "n.ipc": [made_board.NETLIST, *points, "999"], "m.json": [made_board.manifest(names, "pth.drl")]})
+    return made[-1][1]
 
 
 def used(words):

@@ -21,7 +21,8 @@ def own_commands(report, manifest, sources):
     told = copy.copy(report)
     if report.sources and sources:
         by_file = [sources.get(name) for name in manifest.files]
-        told.sources = [(file, by_file[file][command - 1] if by_file[file] else command, *more) for file, command, *more in report.sources]
+        told.sources = [(file, by_file[file][command - 1] if by_file[file] else command, number, top, bottom)
+                        for file, command, number, top, bottom in report.sources]
     return told
 
 
@@ -73,23 +74,26 @@ def shape(shapes, piece):
     return ("area", places) if shapes.is_area(piece) else ("capsule", places[0], places[-1], shapes.radius[piece])
 
 
-def wider(low, high):
-    """[(layer, corners)]: what the upper board has beyond the lower one by more than a micrometre, command by command."""
+def wider(low, shapes, sources):
+    """[(layer, corners)]: what the upper board has beyond the lower one by more than a micrometre, command by command; of the upper one
+    the pieces that may be other ones, with their sources."""
     below, above, found = defaultdict(list), defaultdict(list), []
-    for board, by_key in ((low, below), (high, above)):
-        for piece, source in enumerate(board.report.sources):
-            by_key[tuple(source[:3])].append(piece)
+    for piece, source in enumerate(sources):
+        above[source[:3]].append(piece)
+    for piece, source in enumerate(low.report.sources):
+        if source[:3] in above:
+            below[source[:3]].append(piece)
     for key, pieces in above.items():
-        layer, ours = high.report.sources[pieces[0]][3], below[key]
-        is_same = len(ours) == len(pieces) and all(low.shapes.has(p, high.shapes, q) for p, q in zip(ours, pieces))
-        if not is_same and high.report.sources[pieces[0]][4] == layer:
-            found += [(layer, corners) for corners in beyond([shape(low.shapes, p) for p in ours], [shape(high.shapes, p) for p in pieces])]
+        layer, ours = sources[pieces[0]][3], below[key]
+        is_same = len(ours) == len(pieces) and all(low.shapes.has(p, shapes, q) for p, q in zip(ours, pieces))
+        if not is_same and sources[pieces[0]][4] == layer:
+            found += [(layer, corners) for corners in beyond([shape(low.shapes, p) for p in ours], [shape(shapes, p) for p in pieces])]
     return found
 
 
 def beyond(low, high):
-    """Areas of the one that lie further than a micrometre from the other."""
-    left = [piece for piece in high if piece not in low and not any(near(piece, other) for other in low)]
+    """Areas of the one that lie further than a micrometre from the other, most of whose pieces have their like at the same place."""
+    left = [piece for k, piece in enumerate(high) if not any(near(piece, other) for other in (*low[k:k + 1], *low))]
     if not left:
         return []
     try:

@@ -40,12 +40,13 @@ class Bounded(NamedTuple):
 
 class Sides(NamedTuple):
     """The two packages of a board, with the words' sources by side and file, and what is left out below. `arcs` are the commands of
-    arc draws by file, None where a file has other copper outside the profile."""
+    arc draws by file, None where a file has other copper outside the profile; `unlike` those that make other copper on both sides."""
 
     packages: tuple
     sources: tuple
     left_out: list
     arcs: dict
+    unlike: dict
 
 
 def is_outside(line):
@@ -72,12 +73,13 @@ def sides_of(package, name):
 
 def of_package(package):
     """Both sides of each copper file that holds something outside the profile; the others are the same files."""
-    files, sources, left_out, arcs, replaced = ({}, {}), ({}, {}), [], {}, 0
+    files, sources, left_out, arcs, unlike, replaced = ({}, {}), ({}, {}), [], {}, {}, 0
     for name in dict.fromkeys(package.manifest.copper):
         copper = sides_of(package, name)
         left_out += [f"{name}: {what}" for what in copper.lost]
         replaced += copper.replaced
         arcs[name] = set(copper.bent) if copper.replaced == len(copper.bent) else None
+        unlike[name] = copper.unlike
         for side, data, origin in zip(copper.sides, files, sources):
             if copper.replaced:
                 data[name], origin[name] = side.text().encode("latin-1"), side.sources
@@ -86,7 +88,7 @@ def of_package(package):
     if not replaced:
         raise Refused("nothing in the copper files is of a kind that has bounds")
     made = tuple(package.changed(beside(package, side), data) for side, data in zip(SIDES, files))
-    return Sides(made, sources, left_out, arcs)
+    return Sides(made, sources, left_out, arcs, unlike)
 
 
 def both_judged(program, sides):

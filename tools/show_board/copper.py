@@ -7,6 +7,8 @@ import re
 from array import array
 from decimal import Decimal
 
+from .side import lines_of as corners_of
+
 MM, INCH = 10_000_000, 254_000_000
 TOOL = re.compile(rb"T([0-9]+)C([0-9.+-]+)")
 PICK = re.compile(rb"T([0-9]+)")
@@ -15,7 +17,6 @@ PLACE = re.compile(rb"(?:G0[01])?(?:X([0-9.+-]+))?(?:Y([0-9.+-]+))?")
 PIECES = re.compile(rb"(?:X-?[0-9]+Y-?[0-9]+D02\*\nX-?[0-9]+Y-?[0-9]+D01\*\n|D[0-9]+\*\n|G36\*\n(?:X-?[0-9]+Y-?[0-9]+D0[12]\*\n){1,40}G37\*\n){1,500}")
 PIECE = re.compile(rb"X(-?[0-9]+)Y(-?[0-9]+)D02\*\nX(-?[0-9]+)Y(-?[0-9]+)D01\*\n|D([0-9]+)\*\n|G36\*\n([^G]+)G37\*\n")
 PART = re.compile(rb"%ADD([0-9]+)C,([0-9.]+)\*%\n|(?:M02\*|%FSLAX47Y47\*%|%MOMM\*%)\n")
-CORNER = re.compile(rb"X-?[0-9]+Y-?[0-9]+D0[12]\*\n")
 REGION, REGION_END = b"G36*\n", b"G37*\n"
 NUMBERS = bytes.maketrans(b"XYD*", b"    ")
 NOT_NORMAL = "the flattened copper is not in its normal form"
@@ -49,6 +50,13 @@ class Shapes:
         self.x.fromlist(xs)
         self.y.fromlist(ys)
         self.start.append(len(self.x))
+
+    def add_all(self, radii, starts, xs, ys):
+        """Adds shapes that are in columns; each of `starts` is where the next one begins."""
+        self.radius.fromlist(radii)
+        self.start.fromlist(starts)
+        self.x.fromlist(xs)
+        self.y.fromlist(ys)
 
     def take(self, others, first, past):
         """Adds a range of other shapes, with their boxes where both are known."""
@@ -132,14 +140,26 @@ class Flat:
 
     def pieces(self, words):
         """Reads choices, strokes and small regions."""
+        shapes, xs, ys, radii, starts = self.shapes, [], [], [], []
+        first = len(shapes.x)
         for x, y, to_x, to_y, picked, corners in PIECE.findall(words):
-            if x:
-                here, there = (int(x), int(y)), (int(to_x), int(to_y))
-                self.shapes.add(self.radius, (here,) if here == there else (here, there))
-            elif picked:
+            if picked:
                 self.radius = self.diameters[picked] // 2
+                continue
+            if x:
+                xs.append(int(x))
+                ys.append(int(y))
+                if x != to_x or y != to_y:
+                    xs.append(int(to_x))
+                    ys.append(int(to_y))
+                radii.append(self.radius)
             else:
-                self.area(corners)
+                around = numbers(corners)
+                xs += around[-3:-2] + around[3:-3:3]        # the last corner is the first
+                ys += around[-2:-1] + around[4:-3:3]
+                radii.append(AREA)
+            starts.append(first + len(xs))
+        shapes.add_all(radii, starts, xs, ys)
 
     def part(self, text, at):
         """Reads what there is up to a place, which is returned."""
@@ -155,16 +175,12 @@ class Flat:
 
     def region(self, text, at):
         end = text.find(REGION_END, at)
-        words = text[at:end]
-        if end < 0 or CORNER.sub(b"", words):
+        corners = end >= 0 and corners_of(text[at:end - 1], b"\n")
+        if not corners:
             raise BadCopper(NOT_NORMAL)
-        self.area(words)
+        xs, ys, _ = corners
+        self.shapes.add_area(xs[-1:] + xs[1:-1], ys[-1:] + ys[1:-1])        # the last corner is the first
         return end + len(REGION_END)
-
-    def area(self, words):
-        values = numbers(words)
-        # The last corner is the first.
-        self.shapes.add_area(values[-3:-2] + values[3:-3:3], values[-2:-1] + values[4:-3:3])
 
 
 def numbers(words):

@@ -1,5 +1,6 @@
 """Operations of a copper file: draws, arcs, flashes."""
 import re
+from functools import lru_cache
 
 from . import apertures
 from .arcs import chain_bounds, draw_bounds
@@ -11,6 +12,13 @@ from .spots import cross, dot
 
 OPERATION = re.compile(r"(?:G0?([123]))?(?:X([+-]?\d{1,13}))?(?:Y([+-]?\d{1,13}))?(?:I([+-]?\d{1,13}))?(?:J([+-]?\d{1,13}))?(?:D0?([123]))?")
 STRAIGHT, ANTICLOCKWISE = 1, 3
+
+
+@lru_cache(1000)
+def arc_beside(centre, end, radius):
+    """The chain and the draws below and above of a draw from the origin: many arcs of a board are alike."""
+    ends = ((0, 0), end)
+    return draw_bounds(centre, *ends, radius) if centre is not None else (None, chain_bounds(ends, 0, radius))
 
 
 class Operations:
@@ -77,11 +85,13 @@ class Operations:
             return
         self.replaced += 1
         self.bent.append(self.number)
-        ends = (start, self.spot) if anticlockwise else (self.spot, start)
-        chain, both = draw_bounds(centre, *ends, radius) if centre is not None else (None, chain_bounds(ends, 0, radius))
+        first, last = ends = (start, self.spot) if anticlockwise else (self.spot, start)
+        back = lambda spot: spot and (spot[0] - first[0], spot[1] - first[1])
+        chain, both = arc_beside(back(centre), back(last), radius)
         if radius > 0 and not both[0]:
             self.lose(f"an arc at command {self.number}")
-        self.write_pieces(both, ring(centre, chain, radius.__ceil__()) if self.cuts and chain else None)
+        areas = ring(centre, [(x + first[0], y + first[1]) for x, y in chain], radius.__ceil__()) if self.cuts and chain else None
+        self.write_pieces(both, areas, first)
 
     def pen_radius(self):
         made = self.aperture()
@@ -93,10 +103,15 @@ class Operations:
 
     # ---- draws and flashes
 
-    def write_pieces(self, both, areas=None):
-        if self.stays(*both, areas):
-            for side, pieces in zip(self.sides, both):
-                side.pieces(pieces, (0, 0), self.number)
+    def write_pieces(self, both, areas=None, by=(0, 0)):
+        """Pieces about a place."""
+        if self.stays(*([moved(piece, *by) for piece in pieces] for pieces in both) if self.is_noted() else ((), ()), areas):
+            self.write_both(both, by)
+
+    def write_both(self, both, by):
+        self.unlike.add(self.number)
+        for side, pieces in zip(self.sides, both):
+            side.pieces(pieces, by, self.number)
 
     def draw(self, start):
         made = self.aperture()
@@ -126,8 +141,7 @@ class Operations:
             if shape.lost:
                 self.lose(f"{shape.lost} at command {self.number}")
             if self.stays(*([moved(piece, *self.spot) for piece in pieces] for pieces in shape.both) if self.is_noted() else ((), ())):
-                for side, pieces in zip(self.sides, shape.both):
-                    side.pieces(pieces, self.spot, self.number)
+                self.write_both(shape.both, self.spot)
             return
         flat = made.both if made and self.is_noted() else ([], [])
         if not self.stays(*([moved(piece, *self.spot) for piece in pieces] for pieces in flat)):
@@ -147,5 +161,4 @@ class Operations:
             both = tuple([moved(piece, *self.spot) for piece in pieces] for pieces in it.both)
             self.stays_as(it.dark != self.clear, both)
             if it.dark != self.clear and self.number not in self.taken:
-                for side, pieces in zip(self.sides, both):
-                    side.pieces(pieces, (0, 0), self.number)
+                self.write_both(both, (0, 0))

@@ -82,7 +82,7 @@ class Walk:
             elif isinstance(word, tuple):
                 self.plain_run(word)
             else:
-                self.run(word[::3], word[1::3], word[2::3])
+                self.run(*word)
 
     # ---- words
 

@@ -12,6 +12,7 @@ import os
 import sys
 import zlib
 from array import array
+from operator import sub
 
 from . import between, record_page
 from .lines import doubt
@@ -40,13 +41,13 @@ def nanometres(u):
     return (u + 5) // 10
 
 
+def in_nanometres(lengths):
+    return [(u + 5) // 10 for u in lengths]
+
+
 def steps(numbers):
     """Each number less the one before it: neighbours in a file are near each other, and pack well."""
-    before, out = 0, []
-    for number in numbers:
-        out.append(number - before)
-        before = number
-    return out
+    return [*numbers[:1], *map(sub, numbers[1:], numbers)]
 
 
 class Columns:
@@ -56,7 +57,6 @@ class Columns:
         self.heads, self.parts = [], []
 
     def add(self, name, numbers, are_steps=False):
-        numbers = list(numbers)
         least, most = min(numbers, default=0), max(numbers, default=0)
         packed = array("b" if -128 <= least and most < 128 else "h" if -32_768 <= least and most < 32_768 else "i", numbers)
         if sys.byteorder == "big":
@@ -66,7 +66,7 @@ class Columns:
         self.parts += [data[plane::width] for plane in range(width)]
 
     def add_steps(self, name, numbers):
-        self.add(name, steps(numbers), True)
+        self.add(name, steps(list(numbers)), True)
 
 
 def sides_of(findings, pieces):
@@ -83,21 +83,26 @@ def sides_of(findings, pieces):
     return column, names
 
 
+def by_names(names, rows):
+    """The columns of rows, each with its name."""
+    return zip(names, [*zip(*rows)] or [()] * len(names))
+
+
 def columns_of(board, sides):
     shapes, report, columns = board.shapes, board.report, Columns()
     starts = shapes.start
-    columns.add("counts", [starts[k + 1] - starts[k] for k in range(len(shapes))])
+    columns.add("counts", [*map(sub, starts[1:], starts)])
     columns.add("radii", [nanometres(r) if r >= 0 else -1 for r in shapes.radius])
-    columns.add_steps("xs", map(nanometres, shapes.x))
-    columns.add_steps("ys", map(nanometres, shapes.y))
+    columns.add_steps("xs", in_nanometres(shapes.x))
+    columns.add_steps("ys", in_nanometres(shapes.y))
     columns.add_steps("nets", report.net_of)
     columns.add_steps("sides", sides)
-    for place, name in enumerate(("pieceFiles", "commands", "copies", "tops", "bottoms")):
-        columns.add_steps(name, (source[place] for source in report.sources))
-    columns.add_steps("pointXs", (nanometres(x) for x, _ in report.spots))
-    columns.add_steps("pointYs", (nanometres(y) for _, y in report.spots))
-    for place, name in enumerate(("pointRecords", "pointLayers", "pointNames", "pointNets")):
-        columns.add_steps(name, (point[place] for point in report.points))
+    for name, column in by_names(("pieceFiles", "commands", "copies", "tops", "bottoms"), report.sources):
+        columns.add_steps(name, column)
+    for name, column in by_names(("pointXs", "pointYs"), report.spots):
+        columns.add_steps(name, in_nanometres(column))
+    for name, column in by_names(("pointRecords", "pointLayers", "pointNames", "pointNets"), report.points):
+        columns.add_steps(name, column)
     return columns
 
 

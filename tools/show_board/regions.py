@@ -10,7 +10,7 @@ from .arcs import Arc, arc_chain
 from .contours import contour_bound
 from .exact import Refused
 from .rounds import polygon
-from .side import DRAW, FLASH, MOVE
+from .side import FLASH, MOVE, edges_of
 from .sweep import Sweep
 
 MOST_EDGES = 100_000        # of a contour, in the profile
@@ -57,11 +57,14 @@ class Regions:
             side.at = None
 
     def write_region(self, contours, written, grown):
+        edges = {key: edges_of(run) for key, run in {id(run): run for runs in written for run in runs}.items()}     # most are of both sides
+        if grown or [*map(id, written[0])] != [*map(id, written[1])]:
+            self.unlike.add(self.number)
         for side, runs in zip(self.sides, written):
             if runs or not contours:
                 side.word("G36*", self.number)
                 for run in runs:
-                    side.run(run, self.number)
+                    side.run(run, self.number, edges[id(run)])
                 side.word("G37*", self.number)
             side.at = None
         self.sides[1].pieces(grown, (0, 0), self.number)

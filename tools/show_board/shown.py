@@ -155,7 +155,7 @@ def outside(program, told, shown, asked):
             shown.bounds = proved.told(program, told.package, shown.bounds, shown.ties)
             shown.status, shown.line = shown.bounds.status, shown.bounds.line
             if shown.bounds.sides:
-                look_between(program, *told.package.between, shown, asked)
+                look_between(program, told.package, shown, asked)
         if told.package.between:
             shown.notes += ties.lost(shown.ties, told.package.between[1].report)
     if told.status == 3 or shown.status == 1:
@@ -165,9 +165,10 @@ def outside(program, told, shown, asked):
                 finding.without_suggestion()
 
 
-def look_between(program, answer, low, high, shown, asked):
+def look_between(program, files, shown, asked):
     """Fills in the findings of a board between bounds, over the lower one."""
     from . import between
+    answer, low, high = files.between
     wants_picture = asked.page or asked.svg or asked.rdb
     shapes, why = shapes_of(program, low) if answer.findings or wants_picture or beside.wants_copper(asked) else (None, "")
     named = labels_of(program, low) if shown.ties.shorts(low.report) else None
@@ -177,5 +178,8 @@ def look_between(program, answer, low, high, shown, asked):
     shown.findings, shown.flood = between.Findings(shown.board).of(answer), findings.flood(high.report)
     shown.notes += [*unjudged.unnamed_notes(shown.board), *([why] if why else [])]
     if wants_picture and shapes is not None:
-        above = between.board_of(high, answer.sides[1], shapes_of(program, high)[0], None, shown.ties)
-        shown.wider = between.wider(shown.board, above) if above.shapes is not None else []
+        from . import unlike
+        try:
+            shown.wider = between.wider(shown.board, *unlike.above(program, high, files.sides))
+        except copper.BadCopper:
+            pass        # then nothing is outlined

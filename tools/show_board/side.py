@@ -11,13 +11,15 @@ PLACED = re.compile(r"[\t\n\r ]*X[+-]?[0-9]{1,13}Y[+-]?[0-9]{1,13}D0?[12]\*")
 PLAIN_WORDS = re.compile(r"(?:[\t\n\r ]*(?:X[+-]?[0-9]{1,13}Y[+-]?[0-9]{1,13}D0?[123]|D[1-9][0-9]{1,8})\*){2,500}")
 PLAIN = re.compile(r"(?:X([+-]?[0-9]+)Y([+-]?[0-9]+)D0?([123])|D([0-9]+))\*")
 NUMBERS = bytes.maketrans(b"XYD*", b"    ")
+MOST_DIGITS = 13        # of a coordinate
+FEW = 40                # bytes that are taken word by word
 
 
 def words_of(text, runs=False, plain=False):
-    """(in a pair of percent signs, word, first of its pair) in order. With `runs` the words of a region from G36 to G37 are one list of
-    their numbers, x, y and code of each, where all of them say these; with `plain` other words of that kind, and those that pick an
-    aperture, are one tuple of (x, y, code, aperture)."""
-    inside, first, start = False, True, 0
+    """(in a pair of percent signs, word, first of its pair) in order. With `runs` words of a region up to a G are one list of xs, ys and
+    codes, where all of them say these; with `plain` other words of that kind, and those that pick an aperture, are one tuple of
+    (x, y, code, aperture)."""
+    inside, first, start, in_region = False, True, 0, False
     while start is not None:
         matches, start = TOKENS.finditer(text, start), None
         for match in matches:
@@ -32,8 +34,9 @@ def words_of(text, runs=False, plain=False):
                     break
                 yield inside, word, first
                 first = False
-                end = text.find("G37*", match.end()) if runs and word == "G36" and not inside else -1
-                run = end >= 0 and numbers_of(text[match.end():end])
+                in_region = word == "G36" or in_region and word != "G37"
+                end = text.find("G", match.end()) if runs and in_region and not inside else -1
+                run = end - match.end() > FEW and numbers_of(text[match.end():end])
                 if run:
                     yield False, run, False
                     start = end
@@ -44,13 +47,49 @@ def words_of(text, runs=False, plain=False):
 
 
 def numbers_of(text):
-    """The numbers of words that each say x, y and one of the codes of a region; none where there are others."""
-    return [] if PLACED.sub("", text).strip("\t\n\r ") else [*map(int, text.encode("latin-1").translate(NUMBERS).split())]
+    """xs, ys and codes of words that each say these, with codes of a region; nothing where there are others."""
+    data = text.encode("latin-1").strip(b"\t\n\r ")
+    found = lines_of(data, b"\r\n" if b"\r" in data else b"\n")
+    if found or PLACED.sub("", text).strip("\t\n\r "):
+        return found
+    values = [*map(int, data.translate(NUMBERS).split())]
+    return [values[::3], values[1::3], values[2::3]]
+
+
+def lines_of(data, ends):
+    """The same of lines alone, whose codes have two digits, as nearly all files have them: faster than an expression over all of them."""
+    many, draw, move = data.count(b"*"), b"D01*" + ends + b"X", b"D02*" + ends + b"X"
+    if data.translate(None, b"-0123456789") + ends != (b"XYD*" + ends) * many or data.count(draw) + data.count(move) != many - 1:
+        return []
+    parts = data[1:-len(b"D01*")].replace(draw, b" ").replace(move, b" ").replace(b"Y", b" ").split()
+    if data[-len(b"D01*"):] not in (b"D01*", b"D02*") or len(parts) != 2 * many or max(map(len, parts)) > MOST_DIGITS:
+        return []
+    try:
+        values = [*map(int, parts)]
+    except ValueError:
+        return []
+    return [values[::2], values[1::2], codes_of(data, many)]
+
+
+def codes_of(data, many):
+    """The codes of lines, most of which draw."""
+    codes, at, count = [DRAW] * many, 0, 0
+    while True:
+        found = data.find(b"D02*", at)
+        if found < 0:
+            return codes
+        count += data.count(b"*", at, found)
+        codes[count], at = MOVE, found + 1
 
 
 def millimetres(u):
     """A length as a file has it: seven decimals."""
     return f"{'-' if u < 0 else ''}{abs(u) // 10 ** 7}.{abs(u) % 10 ** 7:07d}"
+
+
+def edges_of(spots):
+    """The words of a contour's edges."""
+    return [f"X{x}Y{y}D01*" for x, y in spots[1:]]
 
 
 class Side:
@@ -83,10 +122,10 @@ class Side:
         self.word(f"X{spot[0]}Y{spot[1]}D0{operation}*", source)
         self.at = spot
 
-    def run(self, spots, source):
-        """A contour by its places, the first one at its end again."""
+    def run(self, spots, source, edges=None):
+        """A contour by its places, the first one at its end again; `edges` are their words, where they are known."""
         self.operate(spots[0], MOVE, source)
-        self.lines += [f"X{x}Y{y}D01*" for x, y in spots[1:]]
+        self.lines += edges_of(spots) if edges is None else edges
         self.sources += [source] * (len(spots) - 1)
         self.at = spots[-1]
 
@@ -96,7 +135,8 @@ class Side:
         self.word("G37*", source)
 
     def capsule(self, a, b, radius, source):
-        self.circle(radius, source)
+        if self.pen is None or self.made.get(radius) != self.pen:
+            self.circle(radius, source)
         if a == b:
             self.operate(a, FLASH, source)
         else:
@@ -105,12 +145,13 @@ class Side:
 
     def pieces(self, pieces, by, source):
         """Pieces about a place."""
-        for kind, *rest in pieces:
-            if kind == "area":
-                self.region([(x + by[0], y + by[1]) for x, y in rest[0]] if any(by) else rest[0], source)
+        x, y = by
+        for piece in pieces:
+            if piece[0] == "area":
+                self.region([(u + x, v + y) for u, v in piece[1]] if any(by) else piece[1], source)
             else:
-                a, b, radius = rest
-                self.capsule((a[0] + by[0], a[1] + by[1]), (b[0] + by[0], b[1] + by[1]), radius, source)
+                _, a, b, radius = piece
+                self.capsule((a[0] + x, a[1] + y), (b[0] + x, b[1] + y), radius, source)
 
     def text(self):
-        return "".join(line + "\n" for line in self.lines)
+        return "\n".join([*self.lines, ""])

@@ -42,6 +42,7 @@ class Copper(Settings, Definitions, Operations, Regions):
 
     `lost` says what LOWER leaves out, `replaced` counts what is written otherwise. `objects` is all that the file makes, in order,
     where it is asked for; `negative` is the command that says that they are none. Dark objects of commands of `taken` are not written, but at the end what is `written`.
+    `unlike` are the commands that make other copper on both sides, but for pens off the grid.
     """
 
     def __init__(self, text, taken=(), written=((), ()), cuts=False):
@@ -50,7 +51,7 @@ class Copper(Settings, Definitions, Operations, Regions):
         self.sides = self.files = (Side(), Side())
         self.lost, self.replaced, self.number = [], len(taken), None
         self.taken, self.written, self.objects, self.copies = taken, written, [], None
-        self.clear, self.clears, self.negative = False, False, None
+        self.clear, self.clears, self.negative, self.unlike = False, False, None, {source for its in written for _, source in its}
         self.cuts = cuts or "LPC*" in text or "IPNEG*" in text or ".FilePolarity,Negative" in text
         self.number = 0
         for extended, word, first in words_of(text, True):
@@ -163,8 +164,8 @@ class Copper(Settings, Definitions, Operations, Regions):
 
     def run(self, numbers, _):
         """The words of a region by their numbers."""
-        xs, ys, codes = numbers[::3], numbers[1::3], numbers[2::3]
-        if self.mode != STRAIGHT or not isinstance(self.unit, int) or codes[0] != MOVE:
+        xs, ys, codes = numbers
+        if self.mode != STRAIGHT or not isinstance(self.unit, int):
             for self.number, (x, y, code) in enumerate(zip(xs, ys, codes), self.number):
                 self.operation(None, str(x), str(y), None, None, str(code))
             return
@@ -172,6 +173,10 @@ class Copper(Settings, Definitions, Operations, Regions):
             xs, ys = ([v * self.unit for v in its] for its in (xs, ys))
         spots = [*zip(xs, ys)]
         moves = [k for k, code in enumerate(codes) if code == MOVE]
+        before = moves[0] if moves else len(spots)
+        if before:
+            self.contours += [] if self.contours else [[self.spot]]
+            self.contours[-1] += spots[:before]
         self.contours += [spots[a:b] for a, b in zip(moves, [*moves[1:], len(spots)])]
         self.spot, self.last, self.number = spots[-1], codes[-1], self.number + len(spots) - 1
 

@@ -82,17 +82,19 @@ class Files(unittest.TestCase):
     def test_regions_at_once(self):
         """The words of a region are read at once where all say both coordinates, and else one by one: with the same outcome."""
         square = ["X0Y0D02*", "X+9Y0D01*", "X9Y9D1*", "X0Y09D01*", "X0Y-0D01*"]
+        plain = ["X0Y0D02*", "X900Y0D01*", "X900Y9000D01*", "X0Y9000D01*", "X0Y0D01*"]
         for before in ([], ["G02*", "G01*"], ["%LPC*%"], ["X5Y5D02*"], ["%ADD10C,.1*%", "D10*", "X7Y7D01*"]):
-            for body in (square, square * 2, [*square, "X50Y50D02*"], ["X3Y3D02*", *square]):
-                told = [copper_of(*before, "G36*", *inside, "G37*", "Y20D02*", "X8Y1D02*") for inside in (body, ["G04 each*", *body], [*body[:2], "G04*", *body[2:]])]
+            for body in (square, square * 2, [*square, "X50Y50D02*"], ["X3Y3D02*", *square], plain, plain * 2, [*plain, *square]):
+                told = [copper_of(*before, "G36*", *inside, "G37*", "Y20D02*", "X8Y1D02*") for inside in
+                        (body, ["G04 each*", *body], [*body[:2], "G04*", *body[2:]], [body[0], "G01*", *body[1:]], [word for it in body for word in (it, "G04*")])]
                 for one, other in zip(told, told[1:]):
                     self.assertEqual([side.lines for side in one.sides], [side.lines for side in other.sides])
                     self.assertEqual([it._replace(tag=0) for it in one.objects], [it._replace(tag=0) for it in other.objects])
-                made = [objects_of("\n".join([*HEAD, *before, "G36*", *inside, "G37*", "Y20D02*", "M02*"]).encode()) for inside in (body, [*body, "G04 each*"])]
+                made = [objects_of("\n".join([*HEAD, *before, "G36*", *inside, "G37*", "Y20D02*", "M02*"]).encode()) for inside in (body, [word for it in body for word in (it, "G04*")])]
                 self.assertEqual([it._replace(command=0) for it in made[0]], [it._replace(command=0) for it in made[1]])
-        for body in (square[1:], ["G03*", *square], ["X1Y1D03*"]):
+        for body in (square[1:], plain[1:], ["G03*", *square], ["G03*", *plain], ["X1Y1D03*"], [*plain, "X12345678901234Y0D01*"], [*plain, "X1Y1D01*5", "X2Y2D01*"]):
             said = []
-            for inside in (body, ["G04 each*", *body]):
+            for inside in (body, [word for it in body for word in (it, "G04 each*")]):
                 try:
                     said.append([side.lines for side in copper_of("X9Y9D02*", "G36*", *inside, "G37*").sides])
                 except Refused as why:
