@@ -8,7 +8,7 @@ use Rattle.verdict.specs.declared.verdict.Short.{Short}
 use Rattle.covers.specs.Agreeing.{HasName}
 use Rattle.covers.specs.Boards.{HasCopper, Layout, PointsJoined}
 
--- the board has the open: its point has its name, not `N/C`; an earlier point has that name too, and none such is joined with it
+-- The point of the open has its name, not `N/C`; an earlier point has that name too, and none such is joined with it. It, or all of these, may have no copper.
 pub record HasOpen (holds : ℕ → Point → Type 0) (real : Layout) (o : Open) : Type 0 where
   pub text : List ℕ
   pub text_is : slice_get real.names o.name ≡ Some text

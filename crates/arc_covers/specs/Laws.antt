@@ -68,7 +68,7 @@ RealBoardIsDecided holds = (lower upper : PlainBoard) (v w : Verdict) (real : La
 
 -- What the lists of a verdict v below the board and w above it say of it for certain.
 pub record CertainFindings (v w : Verdict) (holds : ℕ → Point → Type 0) (real : Layout) : Type 0 where
-  -- Each open listed above is the board's.
+  -- The point of each open listed above is joined to no earlier point of its name.
   pub opens : All (HasOpen holds real) w.opens
   -- Each short listed below is the board's.
   pub shorts : All (HasShort holds real) v.shorts

@@ -39,8 +39,8 @@ pub fn findings_are_certain<R: Copper>()
     real_board_is_decided::<R>();
 }
 
-/// Bytes spell at most one pair of lists of counts. Then no line is of another form, and else one is the
-/// first.
+/// Bytes spell at most one pair of lists of counts, and then no line is of another form. At most one line
+/// is the first of another form.
 pub fn counts_are_one()
     ensures one { CountsAreOne }
     ensures apart { CountsHaveNoOther }

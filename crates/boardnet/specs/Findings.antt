@@ -25,7 +25,7 @@ abbrev pub short_points : Short → List ℕ
 short_points s = map (λ b. b.probe) s.branches
 
 -- Certain, whatever copper lies between: the opens and missing points of the board above, and the shorts of the one below. Of an open it is certain that
--- its point is not joined; one of the two may be without copper.
+-- its point is joined to no point of its name before it; it, or all of these, may be without copper.
 abbrev pub certain : (below above : Verdict) → Findings
 certain below above = record { opens = map (λ o. o.probe) above.opens; shorts = map short_points below.shorts; missing = above.bare }
 
@@ -41,7 +41,7 @@ besides compare ours theirs = filter (λ x. not (is_member (eq_by_cmp compare) t
 abbrev pub without : (ours theirs : Findings) → Findings
 without ours theirs = record { opens = besides nat_cmp ours.opens theirs.opens; shorts = besides (slice_cmp nat_cmp) ours.shorts theirs.shorts; missing = besides nat_cmp ours.missing theirs.missing }
 
--- Undecided: what is possible and not certain. A short that has more names, or other first points, above than below is undecided as a whole. A point that is
--- missing here may be open on the board.
+-- Undecided: what is possible and not certain. A short that has more names, or other first points, above than below is undecided as a whole; one of the same
+-- names may be certain besides. Where a point is missing here, it, or a later one of its name that is not listed, may be open on the board.
 abbrev pub undecided : (below above : Verdict) → Findings
 undecided below above = without (possible below above) (certain below above)

@@ -131,7 +131,8 @@ pub record HasListedShort (below above : Verdict) (name other : ℕ) : Type 0 wh
   pub second : HasBranch short other
   pub listed : IsListed (certain below above).shorts (undecided below above).shorts (short_points short)
 
--- What the text lists, as certain or as undecided, is all that the board can have amiss.
+-- Each name that is amiss is listed, as certain or as undecided: each point without copper; of each name whose points are not joined an open or a missing
+-- point; of each two names that are joined a short.
 pub record AllIsListed (below above : Verdict) (holds : ℕ → Point → Type 0) (real : Layout) : Type 0 where
   -- A point without copper is listed as missing.
   pub missing : (k : ℕ) → IsWithoutCopper holds real k → IsListedMissing below above k
@@ -143,7 +144,7 @@ pub record AllIsListed (below above : Verdict) (holds : ℕ → Point → Type 0
   -- Nothing is possible exactly where nothing is listed.
   pub none : NoneFound (possible below above) ↔ (NoneFound (certain below above) × NoneFound (undecided below above))
 
--- And what the text does not list the board has not.
+-- And a name that the text does not list is not amiss.
 abbrev pub BoundedFindingsAreListed : (ℕ → Point → Type 0) → Type 0
 BoundedFindingsAreListed holds = (source : Source) (names : BoundNames) (text line : List ℕ) (status : ℕ) (d : IsDecided source names text status line) (b : Layout) → IsLaidOut d.bounds.real holds b → AllIsListed d.decision.below d.decision.above holds b
 
