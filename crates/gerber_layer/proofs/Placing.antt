@@ -17,7 +17,7 @@ use Rattle.gerber_layer.specs.declared.kind.GerberKind.{GerberKind}
 use Rattle.gerber_layer.specs.declared.kind.GerberKind.TheVariants as kind
 use Rattle.gerber_layer.specs.declared.command.Code.{Code}
 use Rattle.gerber_layer.specs.declared.command.Code.TheVariants.{Draw, Move, Flash}
-use Rattle.gerber_layer.specs.CommandEffects.{Place, Known, Effect, stays, makes, begins_macro, fills_macro, performs, extends, closes, opens, leaves, steps, concludes, ◌>>=◌, as_copies, with_copies, left, listed, ended_block, next_block, repeat, row, effect, code_of}
+use Rattle.gerber_layer.specs.CommandEffects.{Place, Known, Effect, stays, begins_macro, performs, extends, closes, opens, leaves, steps, concludes, ◌>>=◌, as_copies, with_copies, left, listed, ended_block, next_block, repeat, row, effect, code_of}
 use Rattle.gerber_layer.specs.Image.{image_by, image_of, pieces_of, known_before, made, piece_of, pieces_after, with_effect}
 use Rattle.gerber_words.specs.Words.{Entry}
 use Rattle.gerber_layer.specs.Dialect.{IsReadBy}

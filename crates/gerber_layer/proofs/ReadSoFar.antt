@@ -4,7 +4,6 @@ use mathlib.Core.Path.{fun_ext}
 use Rattle.std.proofs.lemmas.List.{length-map}
 use Rattle.board_shapes.specs.Pieces.{plain_pieces}
 use Rattle.file_reading.specs.Reading.{Item, IsReadTo, said}
-use Rattle.file_reading.specs.Reading as reading
 use Rattle.file_reading.proofs.Turning.{read-start, read-more}
 use Rattle.gerber_words.specs.Words.{Ahead, Entry, Stop, HasWords, start}
 use Rattle.gerber_words.specs.Items.{AreItems, word_item, stop_item, items_with}

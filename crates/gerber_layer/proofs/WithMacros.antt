@@ -1,5 +1,5 @@
 -- Files with macros.
-use Rattle.std.proofs.Common.{◌≡◌, ℕ, ◌+◌, false, List, [], ◌∷◌, Some, Result, Ok, Err, refl, ap, ◌∙◌, subst, sym}
+use Rattle.std.proofs.Common.{◌≡◌, false, [], Some, Result, Ok, refl, ap, ◌∙◌, subst, sym}
 use Rattle.gerber_layer.specs.Command.{Command}
 use Rattle.gerber_layer.specs.declared.kind.GerberKind.{GerberKind}
 use Rattle.gerber_layer.specs.declared.macro_kind.FlattenKind.{FlattenKind}
