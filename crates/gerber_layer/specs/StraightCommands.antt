@@ -1,5 +1,5 @@
 -- How a word is read where each arc draw is the straight draw from its start to its end (Gerber Layer Format Specification, 4.7 and 4.8).
-use Rattle.std.specs.Prelude.{ℕ, Bool, true, false, ◌&&◌, if◌then◌else◌, List, drop, codes, Option}
+use Rattle.std.specs.Prelude.{ℕ, Bool, true, false, ◌&&◌, ◌||◌, if◌then◌else◌, List, drop, codes, Option}
 use Rattle.texts.specs.Words.{begins}
 use Rattle.gerber_words.specs.Words.{Entry}
 use Rattle.gerber_layer.specs.Command.{Command, nothing, refused, operates}
@@ -23,11 +23,9 @@ behind_short text = if goes_on (drop 2 text) then drop 2 text else text
 -- what stands behind the code of arcs or of lines that a word may begin with
 abbrev pub behind_code : List ℕ → List ℕ
 behind_code text =
-    if begins text (codes "G02") then drop 3 text
-    else (if begins text (codes "G03") then drop 3 text
-    else (if begins text (codes "G2") then behind_short text
-    else (if begins text (codes "G3") then behind_short text
-    else behind_line_code text)))
+    if begins text (codes "G02") || begins text (codes "G03") then drop 3 text
+    else (if begins text (codes "G2") || begins text (codes "G3") then behind_short text
+    else behind_line_code text)
 
 -- an operation by its two numbers and what stands behind the offsets
 unfoldable pub straight_of : Option (List ℕ) → Option (List ℕ) → List ℕ → Command

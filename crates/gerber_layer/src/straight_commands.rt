@@ -48,13 +48,9 @@ fn behind_short(text: &[u8]) -> &[u8]
 pub fn behind_code(text: &[u8]) -> &[u8]
     ensures { result.now ≡ spec.behind_code text.now }
 {
-    if begins(text, b"G02") {
+    if begins(text, b"G02") || begins(text, b"G03") {
         &text[3..]
-    } else if begins(text, b"G03") {
-        &text[3..]
-    } else if begins(text, b"G2") {
-        behind_short(text)
-    } else if begins(text, b"G3") {
+    } else if begins(text, b"G2") || begins(text, b"G3") {
         behind_short(text)
     } else {
         behind_line_code(text)
