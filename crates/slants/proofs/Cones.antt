@@ -1,5 +1,5 @@
 -- What holds at the three corners of the triangle of a cone holds at each turn of it, and so of a figure and an edge.
-use Rattle.std.proofs.Common.{All, Bool, false, IsTrue, ◌≡◌, ◌↔◌, ◌⊎◌, inl, inr, ℤ, pos, neg_ℤ, ◌+ℤ◌, ◌-ℤ◌, ◌*ℤ◌, ◌≤ℤ◌, List, [], ◌∷◌, arith, refl}
+use Rattle.std.proofs.Common.{All, Bool, false, IsTrue, ◌≡◌, ◌↔◌, ◌⊎◌, inl, inr, ℤ, pos, neg_ℤ, ◌+ℤ◌, ◌-ℤ◌, ◌*ℤ◌, ◌≤ℤ◌, List, [], ◌∷◌, arith, refl, subst}
 use Rattle.planar.specs.declared.Spot.{Spot}
 use Rattle.planar.specs.Plane.{IsPlaced, Point, cross_of, dot_of}
 use Rattle.planar.proofs.Ring.{ring, linear, times_from_zero, times_mono, times_cancel, over_zero, times-zero, mul-neg}
@@ -168,15 +168,18 @@ below_turned figure m (a ∷ rest) t p h k inside = record {
 }
   where
     at_back : (b c q : Spot) → Leans (back_of m) b c q → pos 0 ≤ℤ lean_of (back_of m) b c (heading_back t) q
-    at_back b c q l = rw (← meets_back t) (leans_at (back_of m) (mirrored t) b c q (back_between m t k) l)
+    at_back b c q l = subst (λ (d : Heading). pos 0 ≤ℤ lean_of (back_of m) b c d q) (meets_back t) (leans_at (back_of m) (mirrored t) b c q (back_between m t k) l)
 
     left : (b c : Spot) → ((q : Spot) → LeansIn (back_of m) h.b h.c h.d h.e q → Leans (back_of m) b c q) → pos 0 ≤ℤ side_of b c (turned_back m t k.some p).x (turned_back m t k.some p).y (turned_back m t k.some p).n
     left b c pick = below_left m t k.some b c a rest p h.closed (each_as (λ q l. at_back b c q (pick q l)) (a ∷ rest) h.corners) inside
 
 -- ---- what the code tells
 
+abbrev pub HoldsAll : List Spot → Motions → Spot → Spot → Spot → Spot → Type 0
+HoldsAll figure m b c d e = TurnsLeft b c d e × Each (LeansIn m b c d e) figure
+
 pub turned_read : (figure : List Spot) (m : Motions) (points : List Spot) (t : Bool) → AreReady m → All IsPlaced figure → All IsPlaced points → IsClosed figure
-    → IsTrue t ↔ GoesRound (λ b c d e. TurnsLeft b c d e × Each (LeansIn m b c d e) figure) points → IsTrue t ↔ TurnedAbove figure m points
+    → IsTrue t ↔ GoesRound (HoldsAll figure m) points → IsTrue t ↔ TurnedAbove figure m points
 turned_read figure m points t ready figure_placed placed closed told = (
   λ yes. let l = told.0 yes in record { ready = ready; figure_placed = figure_placed; placed = placed; closed = closed; b = l.b; c = l.c; d = l.d; e = l.e; is = l.is; turns = l.holds.0; corners = l.holds.1 },
   λ h. told.1 record { b = h.b; c = h.c; d = h.d; e = h.e; is = h.is; holds = (h.turns, h.corners) },

@@ -1,5 +1,5 @@
-use Rattle.std.proofs.Common.{◌∙◌, ap}
-use Rattle.slants.specs.Turned.{IsBounded, meet_of, mirrored}
+use Rattle.std.proofs.Common.{◌∙◌, ap, subst, sym}
+use Rattle.slants.specs.Turned.{IsBounded}
 use Rattle.slants.specs.declared.turns.Turn.{Turn}
 use Rattle.slants.proofs.Sums.{across_is, bounded, meet_read, mirror_placed, up_is, whole_is}
 use Rattle.slants.proofs.turns.meet.Goals as goal
@@ -14,4 +14,4 @@ returns-clause-value c = meet_read c.args.u c.args.v c.dot.result c.cross.result
     (c.dot-2.ensures ∙ whole_is c.args.u c.args.v c.way-5.result c.way-6.result c.way-5.ensures.across c.way-6.ensures.across c.way-5.ensures.up c.way-6.ensures.up)
 
 pub returns-clause-bounded : goal.returns-clause-bounded
-returns-clause-bounded c = rw (← returns-clause-value c) at (bounded c.args.u c.args.v c.requires.u_small c.requires.v_small)
+returns-clause-bounded c = subst IsBounded (sym (returns-clause-value c)) (bounded c.args.u c.args.v c.requires.u_small c.requires.v_small)
