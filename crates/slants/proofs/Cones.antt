@@ -6,7 +6,7 @@ use Rattle.planar.proofs.Ring.{ring, linear, times_from_zero, times_mono, times_
 use Rattle.board_shapes.specs.Figures.{InFigure, filled}
 use Rattle.area_contact.specs.Contour.{InArea, IsClosed, edges_from, end_from}
 use Rattle.area_contact.specs.Parity.{side_of}
-use Rattle.slants.specs.Taken.{Each, TurnsLeft}
+use Rattle.slants.specs.Taken.{Each}
 use Rattle.slants.specs.Turned.{AreReady, InTurned, IsBetween, IsTurn, Leans, LeansIn, TurnedAbove, TurnedBelow, back_of, lean_of, meet_of, mirrored, turned_back}
 use Rattle.slants.specs.declared.turns.Heading.{Heading}
 use Rattle.slants.specs.declared.turns.Motions.{Motions}
@@ -175,14 +175,14 @@ below_turned figure m (a ∷ rest) t p h k inside = record {
 
 -- ---- what the code tells
 
-abbrev pub HoldsAll : List Spot → Motions → Spot → Spot → Spot → Spot → Type 0
-HoldsAll figure m b c d e = TurnsLeft b c d e × Each (LeansIn m b c d e) figure
+abbrev pub EachLeans : List Spot → Motions → Spot → Spot → Spot → Spot → Type 0
+EachLeans figure m b c d e = Each (LeansIn m b c d e) figure
 
 pub turned_read : (figure : List Spot) (m : Motions) (points : List Spot) (t : Bool) → AreReady m → All IsPlaced figure → All IsPlaced points → IsClosed figure
-    → IsTrue t ↔ GoesRound (HoldsAll figure m) points → IsTrue t ↔ TurnedAbove figure m points
+    → IsTrue t ↔ GoesRound (EachLeans figure m) points → IsTrue t ↔ TurnedAbove figure m points
 turned_read figure m points t ready figure_placed placed closed told = (
-  λ yes. let l = told.0 yes in record { ready = ready; figure_placed = figure_placed; placed = placed; closed = closed; b = l.b; c = l.c; d = l.d; e = l.e; is = l.is; turns = l.holds.0; corners = l.holds.1 },
-  λ h. told.1 record { b = h.b; c = h.c; d = h.d; e = h.e; is = h.is; holds = (h.turns, h.corners) },
+  λ yes. let l = told.0 yes in record { ready = ready; figure_placed = figure_placed; placed = placed; closed = closed; b = l.b; c = l.c; d = l.d; e = l.e; is = l.is; turns = l.turns; corners = l.holds },
+  λ h. told.1 record { b = h.b; c = h.c; d = h.d; e = h.e; is = h.is; turns = h.turns; holds = h.corners },
 )
 
 pub no_more : {b : Bool} → IsTrue b → b ≡ false → ⊥

@@ -125,37 +125,35 @@ root_read a b c d e root t under over told = (
 
 -- ---- five points
 
--- the points go round four corners of which it holds
+-- the points go round four corners that turn left, of which it holds
 pub record GoesRound (P : Spot → Spot → Spot → Spot → Type 0) (points : List Spot) : Type 0 where
   pub b : Spot
   pub c : Spot
   pub d : Spot
   pub e : Spot
   pub is : points ≡ b ∷ c ∷ d ∷ e ∷ b ∷ []
+  pub turns : TurnsLeft b c d e
   pub holds : P b c d e
 
 abbrev Five : (Spot → Spot → Spot → Spot → Type 0) → List Spot → Type 0
-Five P (b ∷ c ∷ d ∷ e ∷ last ∷ []) = (b ≡ last) × P b c d e
+Five P (b ∷ c ∷ d ∷ e ∷ last ∷ []) = (b ≡ last) × TurnsLeft b c d e × P b c d e
 Five P points = ⊥
 
 pub five_read : (P : Spot → Spot → Spot → Spot → Type 0) (points : List Spot) (d0 d1 d2 d3 d4 : Spot) (t : Bool) → length points ≡ 5
-    → IsTrue t ↔ ((get_or points 0 d0 ≡ get_or points 4 d4) × P (get_or points 0 d0) (get_or points 1 d1) (get_or points 2 d2) (get_or points 3 d3)) → IsTrue t ↔ GoesRound P points
+    → IsTrue t ↔ ((get_or points 0 d0 ≡ get_or points 4 d4) × TurnsLeft (get_or points 0 d0) (get_or points 1 d1) (get_or points 2 d2) (get_or points 3 d3) × P (get_or points 0 d0) (get_or points 1 d1) (get_or points 2 d2) (get_or points 3 d3)) → IsTrue t ↔ GoesRound P points
 five_read P [] d0 d1 d2 d3 d4 t five told = absurd (omega arith)
 five_read P (b ∷ []) d0 d1 d2 d3 d4 t five told = absurd (omega arith)
 five_read P (b ∷ c ∷ []) d0 d1 d2 d3 d4 t five told = absurd (omega arith)
 five_read P (b ∷ c ∷ d ∷ []) d0 d1 d2 d3 d4 t five told = absurd (omega arith)
 five_read P (b ∷ c ∷ d ∷ e ∷ []) d0 d1 d2 d3 d4 t five told = absurd (omega arith)
 five_read P (b ∷ c ∷ d ∷ e ∷ last ∷ []) d0 d1 d2 d3 d4 t five told = (
-  λ yes. let l = told.0 yes in record { b = b; c = c; d = d; e = e; is = ap (λ (z : Spot). b ∷ c ∷ d ∷ e ∷ z ∷ []) (sym l.0); holds = l.1 },
-  λ h. told.1 (subst (Five P) (sym h.is) (refl, h.holds)),
+  λ yes. let l = told.0 yes in record { b = b; c = c; d = d; e = e; is = ap (λ (z : Spot). b ∷ c ∷ d ∷ e ∷ z ∷ []) (sym l.0); turns = l.1; holds = l.2 },
+  λ h. told.1 (subst (Five P) (sym h.is) (refl, h.turns, h.holds)),
 )
 five_read P (b ∷ c ∷ d ∷ e ∷ last ∷ f ∷ more) d0 d1 d2 d3 d4 t five told = absurd (omega arith)
 
-abbrev pub Surrounds : Slant → Spot → Spot → Spot → Spot → Type 0
-Surrounds a b c d e = TurnsLeft b c d e × HasRoot a b c d e
-
-pub round_read : (a : Slant) (points : List Spot) (t : Bool) → ArePlaced a points → IsTrue t ↔ GoesRound (Surrounds a) points → IsTrue t ↔ TakenAbove a points
+pub round_read : (a : Slant) (points : List Spot) (t : Bool) → ArePlaced a points → IsTrue t ↔ GoesRound (HasRoot a) points → IsTrue t ↔ TakenAbove a points
 round_read a points t placed told = (
-  λ yes. let l = told.0 yes in record { placed = placed; b = l.b; c = l.c; d = l.d; e = l.e; is = l.is; turns = l.holds.0; root = l.holds.1 },
-  λ h. told.1 record { b = h.b; c = h.c; d = h.d; e = h.e; is = h.is; holds = (h.turns, h.root) },
+  λ yes. let l = told.0 yes in record { placed = placed; b = l.b; c = l.c; d = l.d; e = l.e; is = l.is; turns = l.turns; root = l.holds },
+  λ h. told.1 record { b = h.b; c = h.c; d = h.d; e = h.e; is = h.is; turns = h.turns; holds = h.root },
 )
