@@ -43,11 +43,13 @@ half_turn : (a b c : ℤ) → pos 1 ≤ℤ c → a *ℤ a +ℤ b *ℤ b ≡ c *�
 half_turn a b c hc e l =
     let f : (c *ℤ c) ≤ℤ (neg_ℤ a *ℤ neg_ℤ a) = square_mono c (neg_ℤ a) (omega (arith, linear, hc)) (omega (arith, linear, l)) in
     let none : (b *ℤ b) ≤ℤ pos 0 = omega (arith, linear, e, f, square-neg a) in
-    let g : (neg_ℤ a +ℤ neg_ℤ c) *ℤ (neg_ℤ a +ℤ c) ≡ a *ℤ a -ℤ c *ℤ c = simp ring (omega (arith, linear)) in
-    (elim (le_or_lt (neg_ℤ c) a) [
-      | inl k ↦ omega (arith, linear, k, l)
-      | inr k ↦ absurd (omega (arith, linear, e, g, square_from_zero b, over_zero (neg_ℤ a +ℤ neg_ℤ c) (neg_ℤ a +ℤ c) (omega (arith, linear, k)) (omega (arith, linear, k, hc))))
-    ], square_zero b none)
+    let g : (neg_ℤ a +ℤ neg_ℤ c) *ℤ (neg_ℤ a +ℤ c) ≡ a *ℤ a -ℤ c *ℤ c = simp ring (omega (arith, linear)) in (
+      elim (le_or_lt (neg_ℤ c) a) [
+        | inl k ↦ omega (arith, linear, k, l)
+        | inr k ↦ absurd (omega (arith, linear, e, g, square_from_zero b, over_zero (neg_ℤ a +ℤ neg_ℤ c) (neg_ℤ a +ℤ c) (omega (arith, linear, k)) (omega (arith, linear, k, hc))))
+      ],
+      square_zero b none,
+    )
 
 pub each_told : (a b c : ℤ) → pos 1 ≤ℤ c → square a +ℤ square b ≡ square c → IsTold a b c
 each_told a b c hc e = elim (le_or_lt (c +ℤ a) (pos 0)) [

@@ -3,14 +3,15 @@ use Rattle.std.proofs.Common.{◌≡◌, ◌↔◌, Bool, IsTrue, sym, FitsSigne
 use Rattle.std.proofs.lemmas.Int.{ints}
 use Rattle.std.specs.Int.{w128}
 use Rattle.planar.specs.declared.Spot.{Spot}
-use Rattle.planar.specs.declared.TheConstants.{METRE, TWO_METRES}
+use Rattle.planar.specs.declared.TheConstants.{TWO_METRES}
 use Rattle.planar.specs.Plane.{IsPlaced, IsWithin, at, cross_of, dot_of, square}
-use Rattle.planar.proofs.Ring.{ring, linear, le_or_lt, product_within, one-times, times_mono, square_mono, square-neg}
+use Rattle.planar.proofs.Ring.{ring, linear, le_or_lt, one-times, times_mono, square_mono, square-neg}
 use Rattle.area_contact.specs.Parity.{side_of}
 use Rattle.slants.specs.Copper.{InSlant, along_of}
 use Rattle.slants.specs.Taken.{ArePlaced, HasRoot, Keeps, KeepsAll, TakenAbove, TurnsLeft, band, reach}
 use Rattle.slants.specs.declared.measures.TheConstants.{FINE}
 use Rattle.slants.specs.declared.Slant.{Slant}
+use Rattle.slants.proofs.Sums.{dot_within}
 
 -- ---- numbers of 128 bits
 
@@ -40,15 +41,6 @@ beside_read off most k z b t same f e is told =
 
 -- ---- the length
 
-far : (z w : ℤ) → IsWithin METRE z → IsWithin METRE w → IsWithin TWO_METRES (w -ℤ z)
-far z w h k = (omega (arith, ints, h, k), omega (arith, ints, h, k))
-
-whole_within : (s e : Spot) → IsPlaced s → IsPlaced e → IsWithin (2 * TWO_METRES * TWO_METRES) (dot_of s e e)
-whole_within s e h k =
-    let x : IsWithin (TWO_METRES * TWO_METRES) ((e.x -ℤ s.x) *ℤ (e.x -ℤ s.x)) = product_within (e.x -ℤ s.x) (e.x -ℤ s.x) TWO_METRES TWO_METRES (far s.x e.x h.0 k.0) (far s.x e.x h.0 k.0) in
-    let y : IsWithin (TWO_METRES * TWO_METRES) ((e.y -ℤ s.y) *ℤ (e.y -ℤ s.y)) = product_within (e.y -ℤ s.y) (e.y -ℤ s.y) TWO_METRES TWO_METRES (far s.y e.y h.1 k.1) (far s.y e.y h.1 k.1) in
-    (omega (arith, ints, x, y), omega (arith, ints, x, y))
-
 within_abs : (n : ℕ) (z : ℤ) → IsWithin n z → unsigned_abs z ≤ n
 within_abs n (pos m) h = omega (arith, ints, h)
 within_abs n (negsuc m) h = omega (arith, ints, h)
@@ -56,7 +48,7 @@ within_abs n (negsuc m) h = omega (arith, ints, h)
 pub length_small : (s e : Spot) (whole : ℕ) (d : ℤ) → IsPlaced s → IsPlaced e → d ≡ dot_of s e e → FitsSigned w128 d → whole ≡ unsigned_abs (to_z w128 (of_z w128 d)) → whole ≤ (2 * TWO_METRES * TWO_METRES)
 length_small s e whole d h k is f from =
     let w : whole ≡ unsigned_abs (dot_of s e e) = abs_read whole d f from ∙ ap unsigned_abs is in
-    rw w (within_abs (2 * TWO_METRES * TWO_METRES) (dot_of s e e) (whole_within s e h k))
+    rw w (within_abs (2 * TWO_METRES * TWO_METRES) (dot_of s e e) (dot_within s e e h k k))
 
 -- ---- the rectangle
 

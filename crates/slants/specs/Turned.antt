@@ -19,7 +19,7 @@ use Rattle.slants.specs.declared.turns.TheConstants.{MOST_PART}
 abbrev pub meet_of : Turn → Turn → Heading
 meet_of u v = record { x = u.x *ℤ v.x -ℤ u.y *ℤ v.y; y = u.x *ℤ v.y +ℤ u.y *ℤ v.x; n = u.x *ℤ v.x +ℤ u.y *ℤ v.y }
 
--- some way, that is
+-- its way leads somewhere
 abbrev pub IsTurn : Turn → Type 0
 IsTurn t = pos 1 ≤ℤ (meet_of t t).n
 
@@ -62,7 +62,7 @@ pub record AreReady (m : Motions) : Type 0 where
   pub from : IsPlaced m.from
   pub to : IsPlaced m.to
 
--- numbers of both factors of what follows that fit in 128 bits
+-- factors whose products, and the sums of three of them, fit in 128 bits
 abbrev pub IsBounded : Heading → Type 0
 IsBounded d = IsWithin (2 * MOST_PART * MOST_PART) d.x × IsWithin (2 * MOST_PART * MOST_PART) d.y × IsWithin (2 * MOST_PART * MOST_PART) d.n
 

@@ -1,7 +1,7 @@
-//! Bounds of slanted rectangles.
+//! Bounds of slanted rectangles and of turned figures.
 //!
 //! Whoever makes a polygon with whole corners, the checks here say whether it lies in a rectangle
-//! along any whole direction, or holds it.
+//! along any whole direction, or holds it; and so of a figure that is turned by any turn between two.
 //!
 //! - `below`: whether a polygon lies in a slanted rectangle.
 //! - `above`: whether a polygon of four corners holds one.

@@ -10,7 +10,7 @@ use super::contours::{is_closed, is_convex, is_same};
 use super::turns::{Heading, Motions, Turn, are_ready, back, meet};
 use planar::{Spot, are_placed, cross, dot};
 
-/// How far a spot is on the left of a line: without a turn, and by the cosine and by the sine of one.
+/// How far a spot is on the left of a line, in square u: without a turn, and by the cosine and by the sine of one.
 #[derive(Clone, Copy)]
 struct Parts {
     still: i128,
@@ -18,7 +18,7 @@ struct Parts {
     along: i128,
 }
 
-/// Those, for a heading.
+/// The sum of those, for a heading, times its `n`.
 fn lean(parts: Parts, d: Heading) -> i128
     requires parts_bounded { AreBounded parts }
     requires bounded { IsBounded d }
@@ -119,8 +119,8 @@ fn go_round(m: &Motions, b: Spot, c: Spot, d: Spot, e: Spot, last: Spot, figure:
 }
 
 /// Whether the polygon of four corners and the first again, which has to turn left at each, holds the
-/// figure of the contour, for each of the motions. Where it says so, it does; of others that do, it may
-/// refuse some between far turns (`TurnedAbove`).
+/// figure of the contour for each of the motions. Where it says so, it does; of others that do, it may
+/// refuse some, the more the further the two turns are apart (`TurnedAbove`).
 pub fn is_above_turned(figure: &[Spot], m: &Motions, points: &[Spot]) -> bool
     ensures taken { IsTrue result ↔ TurnedAbove figure.now m.now points.now }
     ensures copper { IsTrue result → (t : AnyTurn) (p : Point) → IsBetween m.now t → InTurned figure.now m.now t p → InFigure (filled points.now) p }
@@ -137,8 +137,8 @@ pub fn is_above_turned(figure: &[Spot], m: &Motions, points: &[Spot]) -> bool
 }
 
 /// Whether the polygon lies in the figure of four corners and the first again, which has to turn left at each,
-/// for each of the motions. Where it says so, it does; of others that do, it may refuse some between far
-/// turns (`TurnedBelow`).
+/// for each of the motions. Where it says so, it does; of others that do, it may refuse some
+/// (`TurnedBelow`).
 pub fn is_below_turned(figure: &[Spot], m: &Motions, points: &[Spot]) -> bool
     ensures taken { IsTrue result ↔ TurnedBelow figure.now m.now points.now }
     ensures copper { IsTrue result → (t : AnyTurn) (p : Point) → IsBetween m.now t → InFigure (filled points.now) p → InTurned figure.now m.now t p }
