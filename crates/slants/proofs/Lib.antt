@@ -1,7 +1,10 @@
 mod Corners
+mod Circle
+mod Cones
 mod Fan
 mod Halves
 mod Level
 mod Quadrilateral
 mod Read
 mod Sides
+mod Sums

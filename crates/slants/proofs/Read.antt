@@ -3,14 +3,15 @@ use Rattle.std.proofs.Common.{◌≡◌, ◌↔◌, Bool, IsTrue, sym, FitsSigne
 use Rattle.std.proofs.lemmas.Int.{ints}
 use Rattle.std.specs.Int.{w128}
 use Rattle.planar.specs.declared.Spot.{Spot}
-use Rattle.planar.specs.declared.TheConstants.{METRE, TWO_METRES}
+use Rattle.planar.specs.declared.TheConstants.{TWO_METRES}
 use Rattle.planar.specs.Plane.{IsPlaced, IsWithin, at, cross_of, dot_of, square}
-use Rattle.planar.proofs.Ring.{ring, linear, le_or_lt, product_within, one-times, times_mono, square_mono, square-neg}
+use Rattle.planar.proofs.Ring.{ring, linear, le_or_lt, one-times, times_mono, square_mono, square-neg}
 use Rattle.area_contact.specs.Parity.{side_of}
 use Rattle.slants.specs.Copper.{InSlant, along_of}
 use Rattle.slants.specs.Taken.{ArePlaced, HasRoot, Keeps, KeepsAll, TakenAbove, TurnsLeft, band, reach}
 use Rattle.slants.specs.declared.measures.TheConstants.{FINE}
 use Rattle.slants.specs.declared.Slant.{Slant}
+use Rattle.slants.proofs.Sums.{dot_within}
 
 -- ---- numbers of 128 bits
 
@@ -40,15 +41,6 @@ beside_read off most k z b t same f e is told =
 
 -- ---- the length
 
-far : (z w : ℤ) → IsWithin METRE z → IsWithin METRE w → IsWithin TWO_METRES (w -ℤ z)
-far z w h k = (omega (arith, ints, h, k), omega (arith, ints, h, k))
-
-whole_within : (s e : Spot) → IsPlaced s → IsPlaced e → IsWithin (2 * TWO_METRES * TWO_METRES) (dot_of s e e)
-whole_within s e h k =
-    let x : IsWithin (TWO_METRES * TWO_METRES) ((e.x -ℤ s.x) *ℤ (e.x -ℤ s.x)) = product_within (e.x -ℤ s.x) (e.x -ℤ s.x) TWO_METRES TWO_METRES (far s.x e.x h.0 k.0) (far s.x e.x h.0 k.0) in
-    let y : IsWithin (TWO_METRES * TWO_METRES) ((e.y -ℤ s.y) *ℤ (e.y -ℤ s.y)) = product_within (e.y -ℤ s.y) (e.y -ℤ s.y) TWO_METRES TWO_METRES (far s.y e.y h.1 k.1) (far s.y e.y h.1 k.1) in
-    (omega (arith, ints, x, y), omega (arith, ints, x, y))
-
 within_abs : (n : ℕ) (z : ℤ) → IsWithin n z → unsigned_abs z ≤ n
 within_abs n (pos m) h = omega (arith, ints, h)
 within_abs n (negsuc m) h = omega (arith, ints, h)
@@ -56,7 +48,7 @@ within_abs n (negsuc m) h = omega (arith, ints, h)
 pub length_small : (s e : Spot) (whole : ℕ) (d : ℤ) → IsPlaced s → IsPlaced e → d ≡ dot_of s e e → FitsSigned w128 d → whole ≡ unsigned_abs (to_z w128 (of_z w128 d)) → whole ≤ (2 * TWO_METRES * TWO_METRES)
 length_small s e whole d h k is f from =
     let w : whole ≡ unsigned_abs (dot_of s e e) = abs_read whole d f from ∙ ap unsigned_abs is in
-    rw w (within_abs (2 * TWO_METRES * TWO_METRES) (dot_of s e e) (whole_within s e h k))
+    rw w (within_abs (2 * TWO_METRES * TWO_METRES) (dot_of s e e) (dot_within s e e h k k))
 
 -- ---- the rectangle
 
@@ -125,22 +117,35 @@ root_read a b c d e root t under over told = (
 
 -- ---- five points
 
-abbrev GoesRound : Slant → Spot → Spot → Spot → Spot → Spot → Type 0
-GoesRound a b c d e last = (b ≡ last) × TurnsLeft b c d e × HasRoot a b c d e
+-- the points go round four corners that turn left, of which it holds
+pub record GoesRound (P : Spot → Spot → Spot → Spot → Type 0) (points : List Spot) : Type 0 where
+  pub b : Spot
+  pub c : Spot
+  pub d : Spot
+  pub e : Spot
+  pub is : points ≡ b ∷ c ∷ d ∷ e ∷ b ∷ []
+  pub turns : TurnsLeft b c d e
+  pub holds : P b c d e
 
-abbrev Goes : Slant → List Spot → Type 0
-Goes a (b ∷ c ∷ d ∷ e ∷ last ∷ []) = GoesRound a b c d e last
-Goes a points = ⊥
+abbrev Five : (Spot → Spot → Spot → Spot → Type 0) → List Spot → Type 0
+Five P (b ∷ c ∷ d ∷ e ∷ last ∷ []) = (b ≡ last) × TurnsLeft b c d e × P b c d e
+Five P points = ⊥
 
-pub round_read : (a : Slant) (points : List Spot) (d0 d1 d2 d3 d4 : Spot) (t : Bool) → length points ≡ 5 → ArePlaced a points
-    → IsTrue t ↔ GoesRound a (get_or points 0 d0) (get_or points 1 d1) (get_or points 2 d2) (get_or points 3 d3) (get_or points 4 d4) → IsTrue t ↔ TakenAbove a points
-round_read a [] d0 d1 d2 d3 d4 t five placed told = absurd (omega arith)
-round_read a (b ∷ []) d0 d1 d2 d3 d4 t five placed told = absurd (omega arith)
-round_read a (b ∷ c ∷ []) d0 d1 d2 d3 d4 t five placed told = absurd (omega arith)
-round_read a (b ∷ c ∷ d ∷ []) d0 d1 d2 d3 d4 t five placed told = absurd (omega arith)
-round_read a (b ∷ c ∷ d ∷ e ∷ []) d0 d1 d2 d3 d4 t five placed told = absurd (omega arith)
-round_read a (b ∷ c ∷ d ∷ e ∷ last ∷ []) d0 d1 d2 d3 d4 t five placed told = (
-  λ yes. let l = told.0 yes in record { placed = placed; b = b; c = c; d = d; e = e; is = ap (λ (z : Spot). b ∷ c ∷ d ∷ e ∷ z ∷ []) (sym l.0); turns = l.1; root = l.2 },
-  λ h. told.1 (subst (Goes a) (sym h.is) (refl, h.turns, h.root)),
+pub five_read : (P : Spot → Spot → Spot → Spot → Type 0) (points : List Spot) (d0 d1 d2 d3 d4 : Spot) (t : Bool) → length points ≡ 5
+    → IsTrue t ↔ ((get_or points 0 d0 ≡ get_or points 4 d4) × TurnsLeft (get_or points 0 d0) (get_or points 1 d1) (get_or points 2 d2) (get_or points 3 d3) × P (get_or points 0 d0) (get_or points 1 d1) (get_or points 2 d2) (get_or points 3 d3)) → IsTrue t ↔ GoesRound P points
+five_read P [] d0 d1 d2 d3 d4 t five told = absurd (omega arith)
+five_read P (b ∷ []) d0 d1 d2 d3 d4 t five told = absurd (omega arith)
+five_read P (b ∷ c ∷ []) d0 d1 d2 d3 d4 t five told = absurd (omega arith)
+five_read P (b ∷ c ∷ d ∷ []) d0 d1 d2 d3 d4 t five told = absurd (omega arith)
+five_read P (b ∷ c ∷ d ∷ e ∷ []) d0 d1 d2 d3 d4 t five told = absurd (omega arith)
+five_read P (b ∷ c ∷ d ∷ e ∷ last ∷ []) d0 d1 d2 d3 d4 t five told = (
+  λ yes. let l = told.0 yes in record { b = b; c = c; d = d; e = e; is = ap (λ (z : Spot). b ∷ c ∷ d ∷ e ∷ z ∷ []) (sym l.0); turns = l.1; holds = l.2 },
+  λ h. told.1 (subst (Five P) (sym h.is) (refl, h.turns, h.holds)),
 )
-round_read a (b ∷ c ∷ d ∷ e ∷ last ∷ f ∷ more) d0 d1 d2 d3 d4 t five placed told = absurd (omega arith)
+five_read P (b ∷ c ∷ d ∷ e ∷ last ∷ f ∷ more) d0 d1 d2 d3 d4 t five told = absurd (omega arith)
+
+pub round_read : (a : Slant) (points : List Spot) (t : Bool) → ArePlaced a points → IsTrue t ↔ GoesRound (HasRoot a) points → IsTrue t ↔ TakenAbove a points
+round_read a points t placed told = (
+  λ yes. let l = told.0 yes in record { placed = placed; b = l.b; c = l.c; d = l.d; e = l.e; is = l.is; turns = l.turns; root = l.holds },
+  λ h. told.1 record { b = h.b; c = h.c; d = h.d; e = h.e; is = h.is; turns = h.turns; holds = h.root },
+)

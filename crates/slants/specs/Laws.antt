@@ -1,12 +1,15 @@
 -- Laws over the definitions.
-use Rattle.std.specs.Prelude.{ℕ, ◌+◌, ◌≤◌, List, pos, ◌+ℤ◌, ◌-ℤ◌, ◌<ℤ◌, ◌≡◌, ◌↔◌}
-use Rattle.planar.specs.Plane.{Point}
+use Rattle.std.specs.Prelude.{ℕ, ◌+◌, ◌≤◌, List, ℤ, pos, ◌+ℤ◌, ◌-ℤ◌, ◌*ℤ◌, ◌≤ℤ◌, ◌<ℤ◌, ◌≡◌, ◌↔◌}
+use Rattle.planar.specs.Plane.{Point, square}
 use Rattle.planar.specs.declared.Spot.{Spot}
 use Rattle.board_shapes.specs.Figures.{InFigure, filled}
 use Rattle.board_shapes.specs.Rectangles.{rectangle}
 use Rattle.slants.specs.Copper.{InSlant}
 use Rattle.slants.specs.Taken.{TakenAbove, TakenBelow}
+use Rattle.slants.specs.Turned.{IsBetween, IsTurn, meet_of}
 use Rattle.slants.specs.declared.Slant.{Slant}
+use Rattle.slants.specs.declared.turns.Motions.{Motions}
+use Rattle.slants.specs.declared.turns.Turn.{Turn}
 
 -- A contour that is taken below lies in the rectangle, and one that is taken above holds it
 abbrev pub TakenIsBetween : Type 0
@@ -28,3 +31,24 @@ OtherWayIsSame = (a : Slant) (p : Point) → InSlant a p → InSlant (other_way 
 abbrev pub LevelIsRectangle : Type 0
 LevelIsRectangle = (a : Slant) (h : ℕ) (p : Point) → a.start.x <ℤ a.end.x → a.end.y ≡ a.start.y → a.width ≡ h + h → 1 ≤ h →
     InSlant a p ↔ InFigure (filled (rectangle (record { x = a.start.x; y = a.start.y -ℤ pos h }) (record { x = a.end.x; y = a.start.y +ℤ pos h }))) p
+
+-- ---- turns
+
+-- A turn has the cosine a/c and the sine b/c
+pub record IsTold (a b c : ℤ) : Type 0 where
+  pub turn : Turn
+  pub some : IsTurn turn
+  pub cosine : (meet_of turn turn).x *ℤ c ≡ a *ℤ (meet_of turn turn).n
+  pub sine : (meet_of turn turn).y *ℤ c ≡ b *ℤ (meet_of turn turn).n
+
+-- Each rational point (a/c, b/c) of the circle about 0 with radius 1 is a turn's
+abbrev pub EachTurnIsTold : Type 0
+EachTurnIsTold = (a b c : ℤ) → pos 1 ≤ℤ c → square a +ℤ square b ≡ square c → IsTold a b c
+
+-- the cross product of two ways
+abbrev pub crossed_of : Turn → Turn → ℤ
+crossed_of u v = u.x *ℤ v.y -ℤ u.y *ℤ v.x
+
+-- Of two ways, the last on the left of the first, a way that is not on the right of the first nor on the left of the last is in the cone
+abbrev pub SidesTellCone : Type 0
+SidesTellCone = (m : Motions) (t : Turn) → IsTurn t → pos 1 ≤ℤ crossed_of m.first m.last → pos 0 ≤ℤ crossed_of m.first t → pos 0 ≤ℤ crossed_of t m.last → IsBetween m t

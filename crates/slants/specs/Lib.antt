@@ -1,3 +1,4 @@
 pub mod Copper
 pub mod Laws
 pub mod Taken
+pub mod Turned

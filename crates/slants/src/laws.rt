@@ -1,5 +1,5 @@
 //! Laws over the definitions. Their calls do nothing.
-ghost use Rattle.slants.specs.Laws.{BelowIsAbove, LevelIsRectangle, OtherWayIsSame, TakenIsBetween};
+ghost use Rattle.slants.specs.Laws.{BelowIsAbove, EachTurnIsTold, LevelIsRectangle, OtherWayIsSame, SidesTellCone, TakenIsBetween};
 
 /// A contour that is taken below lies in the rectangle, one that is taken above holds it.
 pub fn taken_is_between()
@@ -19,4 +19,14 @@ pub fn other_way_is_same()
 /// A level line of an even width from 2 u on has the copper of a rectangle.
 pub fn level_is_rectangle()
     ensures { LevelIsRectangle }
+{}
+
+/// Each rational point of the circle is a turn's cosine and sine.
+pub fn each_turn_is_told()
+    ensures { EachTurnIsTold }
+{}
+
+/// Which turns are between two is told by sides.
+pub fn sides_tell_cone()
+    ensures { SidesTellCone }
 {}

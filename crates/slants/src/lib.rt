@@ -1,12 +1,14 @@
-//! Bounds of slanted rectangles.
+//! Bounds of slanted rectangles and of turned figures.
 //!
 //! Whoever makes a polygon with whole corners, the checks here say whether it lies in a rectangle
-//! along any whole direction, or holds it.
+//! along any whole direction, or holds it; and so of a figure that is turned by any turn between two.
 //!
 //! - `below`: whether a polygon lies in a slanted rectangle.
 //! - `above`: whether a polygon of four corners holds one.
 //! - `contours`: closed contours, and turns.
 //! - `measures`: whole numbers for the length and the width.
+//! - `turns`: turns, and rigid motions by those between two.
+//! - `turned`: whether polygons bound a figure that is turned by any of them.
 //! - `laws`: laws over the definitions alone.
 #![tactic(auto)]
 
@@ -15,11 +17,15 @@ mod below;
 mod contours;
 pub mod laws;
 mod measures;
+mod turned;
+mod turns;
 
 pub use above::is_above;
 pub use below::is_below;
 pub use measures::FINE;
 pub use planar::Spot;
+pub use turned::{is_above_turned, is_below_turned};
+pub use turns::{MOST_PART, Motions, Turn};
 
 /// A rectangle of the whole width `width`, in u, about the line from `start` to `end`, which runs in
 /// any direction: it ends where the line does.

@@ -1,0 +1,147 @@
+//! Whether polygons bound a figure that is turned by any turn between two.
+ghost use Rattle.board_shapes.specs.Figures.{InFigure, filled};
+ghost use Rattle.planar.specs.Plane.{IsPlaced, IsWithin, Point, cross_of, dot_of};
+ghost use Rattle.slants.specs.Taken.{Each, TurnsLeft};
+ghost use Rattle.slants.specs.Turned.{AreBounded, AreReady, InTurned, IsBetween, IsBounded, IsSmall, Leans, LeansIn, TurnedAbove, TurnedBelow, lean_of, meet_of};
+ghost use Rattle.slants.specs.declared.turns.Turn.{Turn as AnyTurn};
+ghost use Rattle.std.specs.Prelude.{All, IsTrue, pos, ◌≡◌, ◌+ℤ◌, ◌-ℤ◌, ◌*ℤ◌, ◌≤ℤ◌, ◌↔◌};
+
+use super::contours::{is_closed, is_convex, is_same};
+use super::turns::{Heading, Motions, Turn, are_ready, back, meet};
+use planar::{Spot, are_placed, cross, dot};
+
+/// How far a spot is on the left of a line, in square u: without a turn, and by the cosine and by the sine of one.
+#[derive(Clone, Copy)]
+struct Parts {
+    still: i128,
+    across: i128,
+    along: i128,
+}
+
+/// The sum of those, for a heading, times its `n`.
+fn lean(parts: Parts, d: Heading) -> i128
+    requires parts_bounded { AreBounded parts }
+    requires bounded { IsBounded d }
+    ensures { result ≡ parts.still *ℤ d.n +ℤ parts.across *ℤ d.x +ℤ parts.along *ℤ d.y }
+{
+    parts.still * d.n + parts.across * d.x + parts.along * d.y
+}
+
+/// Those of a spot and the line from `b` to `c`.
+fn parts_of(m: &Motions, b: Spot, c: Spot, q: Spot) -> Parts
+    requires ready { AreReady m.now }
+    requires b_placed { IsPlaced b }
+    requires c_placed { IsPlaced c }
+    requires q_placed { IsPlaced q }
+    ensures still { result.still ≡ cross_of b c m.now.to }
+    ensures across { result.across ≡ cross_of b c q -ℤ cross_of b c m.now.from }
+    ensures along { result.along ≡ dot_of b c q -ℤ dot_of b c m.now.from }
+    ensures bounded { AreBounded result }
+{
+    Parts {
+        still: cross(b, c, m.to),
+        across: cross(b, c, q) - cross(b, c, m.from),
+        along: dot(b, c, q) - dot(b, c, m.from),
+    }
+}
+
+/// Whether the spot is on the left of the line from `b` to `c`, where it goes to for a heading.
+fn leans_so(m: &Motions, b: Spot, c: Spot, u: Turn, v: Turn, q: Spot) -> bool
+    requires ready { AreReady m.now }
+    requires b_placed { IsPlaced b }
+    requires c_placed { IsPlaced c }
+    requires u_small { IsSmall u }
+    requires v_small { IsSmall v }
+    requires q_placed { IsPlaced q }
+    ensures { IsTrue result ↔ pos 0 ≤ℤ lean_of m.now b c (meet_of u v) q }
+{
+    lean(parts_of(m, b, c, q), meet(u, v)) >= 0
+}
+
+/// Whether it is so for the three corners of a triangle about all directions.
+fn leans(m: &Motions, b: Spot, c: Spot, q: Spot) -> bool
+    requires ready { AreReady m.now }
+    requires b_placed { IsPlaced b }
+    requires c_placed { IsPlaced c }
+    requires q_placed { IsPlaced q }
+    ensures { IsTrue result ↔ Leans m.now b c q }
+{
+    leans_so(m, b, c, m.first, m.first, q)
+        && leans_so(m, b, c, m.first, m.last, q)
+        && leans_so(m, b, c, m.last, m.last, q)
+}
+
+/// Whether it is so of each of four edges.
+fn leans_in(m: &Motions, b: Spot, c: Spot, d: Spot, e: Spot, q: Spot) -> bool
+    requires ready { AreReady m.now }
+    requires b_placed { IsPlaced b }
+    requires c_placed { IsPlaced c }
+    requires d_placed { IsPlaced d }
+    requires e_placed { IsPlaced e }
+    requires q_placed { IsPlaced q }
+    ensures { IsTrue result ↔ LeansIn m.now b c d e q }
+{
+    let near = leans(m, b, c, q) && leans(m, c, d, q);
+    let far = leans(m, d, e, q) && leans(m, e, b, q);
+    near && far
+}
+
+/// Whether it is so of each corner.
+fn all_lean(m: &Motions, b: Spot, c: Spot, d: Spot, e: Spot, figure: &[Spot]) -> bool
+    requires ready { AreReady m.now }
+    requires b_placed { IsPlaced b }
+    requires c_placed { IsPlaced c }
+    requires d_placed { IsPlaced d }
+    requires e_placed { IsPlaced e }
+    requires figure_placed { All IsPlaced figure.now }
+    ensures { IsTrue result ↔ Each (LeansIn m.now b c d e) figure.now }
+{
+    for q in figure {
+        if !leans_in(m, b, c, d, e, *q) {
+            return false;
+        }
+    }
+    true
+}
+
+/// Whether four corners that turn left at each have the figure on the left of each edge, and `last` is
+/// the first.
+fn go_round(m: &Motions, b: Spot, c: Spot, d: Spot, e: Spot, last: Spot, figure: &[Spot]) -> bool
+    requires ready { AreReady m.now }
+    requires b_placed { IsPlaced b }
+    requires c_placed { IsPlaced c }
+    requires d_placed { IsPlaced d }
+    requires e_placed { IsPlaced e }
+    requires figure_placed { All IsPlaced figure.now }
+    ensures { IsTrue result ↔ (b ≡ last) × TurnsLeft b c d e × Each (LeansIn m.now b c d e) figure.now }
+{
+    is_same(b, last) && is_convex(b, c, d, e) && all_lean(m, b, c, d, e, figure)
+}
+
+/// Whether the polygon of four corners and the first again, which has to turn left at each, holds the
+/// figure of the contour for each of the motions. Where it says so, it does; of others that do, it may
+/// refuse some, the more the further the two turns are apart (`TurnedAbove`).
+pub fn is_above_turned(figure: &[Spot], m: &Motions, points: &[Spot]) -> bool
+    ensures taken { IsTrue result ↔ TurnedAbove figure.now m.now points.now }
+    ensures copper { IsTrue result → (t : AnyTurn) (p : Point) → IsBetween m.now t → InTurned figure.now m.now t p → InFigure (filled points.now) p }
+{
+    if !(are_ready(m) && are_placed(figure) && are_placed(points)) {
+        return false;
+    }
+    if !is_closed(figure) || points.len() != 5 {
+        return false;
+    }
+    go_round(
+        m, points[0], points[1], points[2], points[3], points[4], figure,
+    )
+}
+
+/// Whether the polygon lies in the figure of four corners and the first again, which has to turn left at each,
+/// for each of the motions. Where it says so, it does; of others that do, it may refuse some
+/// (`TurnedBelow`).
+pub fn is_below_turned(figure: &[Spot], m: &Motions, points: &[Spot]) -> bool
+    ensures taken { IsTrue result ↔ TurnedBelow figure.now m.now points.now }
+    ensures copper { IsTrue result → (t : AnyTurn) (p : Point) → IsBetween m.now t → InFigure (filled points.now) p → InTurned figure.now m.now t p }
+{
+    are_ready(m) && is_above_turned(points, &back(m), figure)
+}
