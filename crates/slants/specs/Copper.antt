@@ -1,5 +1,5 @@
 -- The copper of a slanted rectangle, as a set of rational points, without roots and angles.
--- Source, cited as docs/FORMATS.md says: Gerber Layer Format Specification, 4.5.1.7 (a vector line, code 20: square ends that are cut at start and end)
+-- Source, cited as docs/FORMATS.md says: Gerber Layer Format Specification, 4.5.1 (a vector line, code 20: square ends that are cut at start and end)
 use Rattle.std.specs.Prelude.{ℤ, pos, ◌+ℤ◌, ◌-ℤ◌, ◌*ℤ◌, ◌≤ℤ◌}
 use Rattle.planar.specs.Plane.{Point, dot_of, square}
 use Rattle.planar.specs.declared.Spot.{Spot}

@@ -16,7 +16,7 @@ pub fn other_way_is_same()
     ensures { OtherWayIsSame }
 {}
 
-/// A level line of an even width from 2 u on has the copper of a rectangle.
+/// A level line to the right, of an even width from 2 u on, has the copper of a rectangle.
 pub fn level_is_rectangle()
     ensures { LevelIsRectangle }
 {}

@@ -141,7 +141,7 @@ fn rows() -> [Row; 24] {
             ],
             (false, true),
         ),
-        // half a metre, below, as the script makes it
+        // 0.7 m, below, as the script makes it
         (
             [-4_999_999_999, 13, 17, 4_999_999_998],
             9_999_999,
@@ -157,7 +157,7 @@ fn rows() -> [Row; 24] {
             ],
             (true, false),
         ),
-        // half a metre, above
+        // 0.7 m, above
         (
             [-4_999_999_999, 13, 17, 4_999_999_998],
             9_999_999,
