@@ -1,0 +1,87 @@
+-- Exactly which chains the checks take.
+use Rattle.std.specs.Prelude.{ℕ, Bool, not, ◌&&◌, false, IsTrue, if◌then◌else◌, List, [], ◌∷◌, ◌++◌, reverse, map, ℤ, pos, int_lt, ◌≡◌, ◌↔◌, ◌⊎◌, ⊤}
+use Rattle.planar.specs.Plane.{IsPlaced, Point, cross_of, dot_of}
+use Rattle.planar.specs.declared.Spot.{Spot}
+use Rattle.planar.proofs.EdgeLaw.{xor}
+use Rattle.arcs.specs.Copper.{InChain}
+use Rattle.arcs.specs.declared.Arc.{Arc}
+use Rattle.arcs.specs.Taken.{TakenAbove as ChainAbove}
+use Rattle.arc_regions.specs.Copper.{early, end_of, late}
+use Rattle.arc_regions.specs.declared.Bend.{Bend}
+use Rattle.arc_regions.specs.declared.Part.{Part}
+use Rattle.arc_regions.specs.declared.Part.TheVariants.{Straight, Curved}
+use Rattle.arc_regions.specs.declared.Stretch.{Stretch}
+
+-- the arc as a draw of no width
+abbrev pub arc_of : Spot → Bend → Arc
+arc_of a t = record { centre = t.centre; start = early a t; end = late a t; width = 0 }
+
+-- the link from a to b goes past the direction of s from c, or comes to it
+abbrev pub is_past : Spot → Spot → Spot → Spot → Bool
+is_past c s a b = int_lt (cross_of c s a) (pos 0) && not (int_lt (cross_of c s b) (pos 0))
+
+-- an odd number of the links of the chain from a do
+abbrev pub odd_past : Spot → Spot → Spot → List Spot → Bool
+odd_past c s a [] = false
+odd_past c s a (b ∷ rest) = xor (is_past c s a b) (odd_past c s b rest)
+
+abbrev pub odd_round : Spot → List Spot → Bool
+odd_round c [] = false
+odd_round c (s ∷ rest) = odd_past c s s rest
+
+-- The chain may stand for the arc from a: both ends are as far from the centre, `arcs` takes the chain above a draw of no width, and it goes past the direction of its start an odd number of times
+-- exactly where the arc is a whole turn
+pub record StandsFor (a : Spot) (t : Bend) (chain : List Spot) (r : ℕ) : Type 0 where
+  pub even : dot_of t.centre a a ≡ dot_of t.centre t.end t.end
+  pub above : ChainAbove (arc_of a t) chain r
+  pub turns : IsTrue (odd_round t.centre chain) ↔ (early a t ≡ late a t)
+
+-- a straight part stands for itself
+abbrev pub IsStretch : Spot → Stretch → Type 0
+IsStretch a x = StandsAs a x.part x.chain.items x.radius
+  where
+    StandsAs : Spot → Part → List Spot → ℕ → Type 0
+    StandsAs a (Straight b) chain r = IsPlaced b
+    StandsAs a (Curved t) chain r = StandsFor a t chain r
+
+-- each of the list is one, of which the first begins at a, and the last ends at z
+abbrev pub AreStretches : Spot → Spot → List Stretch → Type 0
+AreStretches z a [] = a ≡ z
+AreStretches z a (x ∷ rest) = IsStretch a x × AreStretches z (end_of x.part) rest
+
+-- a closed contour
+pub record TakenAbove (a : Spot) (stretches : List Stretch) : Type 0 where
+  pub start : IsPlaced a
+  pub parts : AreStretches a a stretches
+
+-- ---- the figures
+
+abbrev pub parts_of : List Stretch → List Part
+parts_of xs = map (λ (x : Stretch). x.part) xs
+
+-- all but the first
+abbrev pub behind_first : List Spot → List Spot
+behind_first [] = []
+behind_first (a ∷ rest) = rest
+
+-- the corners that stand for the part, but for its start: its end, or its chain in the direction of the arc
+abbrev pub corners_by : Part → List Spot → List Spot
+corners_by (Straight b) chain = b ∷ []
+corners_by (Curved t) chain = behind_first (if t.counterclockwise then chain else reverse chain)
+
+abbrev pub corners_behind : List Stretch → List Spot
+corners_behind [] = []
+corners_behind (x ∷ rest) = corners_by x.part x.chain.items ++ corners_behind rest
+
+-- the polygon with the chains in place of the arcs
+abbrev pub corners_of : Spot → List Stretch → List Spot
+corners_of a stretches = a ∷ corners_behind stretches
+
+-- the point lies in a capsule along the chain of an arc
+abbrev pub InCapsules : List Stretch → Point → Type 0
+InCapsules [] p = ⊥
+InCapsules (x ∷ rest) p = ByPart x.part x.chain.items x.radius p ⊎ InCapsules rest p
+  where
+    ByPart : Part → List Spot → ℕ → Point → Type 0
+    ByPart (Straight b) chain r p = ⊥
+    ByPart (Curved t) chain r p = InChain chain (pos r) p

@@ -1,0 +1,148 @@
+//! Contours of arcs with radius 5,000 u about whole spots, between spots of one circle, and straight
+//! parts. Their longest chords leave the circle by less than 257 u, and by more than 256.
+use super::*;
+use std::alloc::Global;
+use std::test::Fail;
+
+fn at(p: (i32, i32)) -> Spot {
+    Spot {
+        x: p.0 as i64,
+        y: p.1 as i64,
+    }
+}
+
+/// Spot `k` of twelve, counterclockwise.
+fn on_ring(k: u8) -> (i16, i16) {
+    let (x, y) = match k % 3 {
+        0 => (5000, 0),
+        1 => (4000, 3000),
+        _ => (3000, 4000),
+    };
+    match k / 3 % 4 {
+        0 => (x, y),
+        1 => (-y, x),
+        2 => (-x, -y),
+        _ => (y, -x),
+    }
+}
+
+fn ring_spot(centre: (i16, i16), k: u8) -> Spot {
+    let (x, y) = on_ring(k);
+    at((centre.0 as i32 + x as i32, centre.1 as i32 + y as i32))
+}
+
+fn line(end: (i32, i32), alloc: Global) -> Stretch {
+    Stretch {
+        part: Part::Straight(at(end)),
+        chain: Vec::new(alloc),
+        radius: 0,
+    }
+}
+
+/// An arc that runs from spot `k` of its circle over so many chords, or back, whose chain does too.
+fn arc(
+    alloc: Global,
+    centre: (i16, i16),
+    k: u8,
+    links: u8,
+    back: bool,
+    radius: u64,
+) -> Result<Stretch, Fail> {
+    let mut chain = Vec::new(alloc);
+    for i in 0..links + 1 {
+        chain.push(ring_spot(centre, k + i))?;
+    }
+    let end = if back { k } else { k + links };
+    let bend = Bend {
+        centre: at((centre.0 as i32, centre.1 as i32)),
+        end: ring_spot(centre, end),
+        counterclockwise: !back,
+    };
+    Ok(Stretch {
+        part: Part::Curved(bend),
+        chain,
+        radius,
+    })
+}
+
+/// Half a disc.
+fn half_disc(alloc: Global, radius: u64) -> Result<(Spot, Vec<Stretch>), Fail> {
+    let mut all = Vec::new(alloc);
+    all.push(arc(alloc, (0, 0), 9, 6, false, radius)?)?;
+    all.push(line((0, -5000), alloc))?;
+    Ok((at((0, -5000)), all))
+}
+
+/// A whole circle, by so many chords.
+fn disc(
+    alloc: Global,
+    links: u8,
+    back: bool,
+    radius: u64,
+) -> Result<(Spot, Vec<Stretch>), Fail> {
+    let mut all = Vec::new(alloc);
+    all.push(arc(alloc, (0, 0), 0, links, back, radius)?)?;
+    Ok((at((5000, 0)), all))
+}
+
+/// A square with half a disc cut out.
+fn bite(alloc: Global, radius: u64) -> Result<(Spot, Vec<Stretch>), Fail> {
+    let mut all = Vec::new(alloc);
+    for end in [(9000, -9000), (9000, 9000), (5000, 9000)] {
+        all.push(line(end, alloc))?;
+    }
+    all.push(arc(alloc, (0, 9000), 6, 6, true, radius)?)?;
+    for end in [(-9000, 9000), (-9000, -9000)] {
+        all.push(line(end, alloc))?;
+    }
+    Ok((at((-9000, -9000)), all))
+}
+
+/// A square with four round corners.
+fn rounded(alloc: Global, radius: u64) -> Result<(Spot, Vec<Stretch>), Fail> {
+    let mut all = Vec::new(alloc);
+    for (centre, k, end) in [
+        ((8000, -8000), 9, (13_000, 8000)),
+        ((8000, 8000), 0, (-8000, 13_000)),
+        ((-8000, 8000), 3, (-13_000, -8000)),
+        ((-8000, -8000), 6, (8000, -13_000)),
+    ] {
+        all.push(arc(alloc, centre, k, 3, false, radius)?)?;
+        all.push(line(end, alloc))?;
+    }
+    Ok((at((8000, -13_000)), all))
+}
+
+/// At the least radius, and one u less.
+#[test]
+fn chains_that_hold(rt: HostRuntime) -> Result<(), Fail> {
+    let alloc = rt.alloc();
+    for (radius, told) in [(257, true), (256, false)] {
+        for (start, all) in [
+            half_disc(alloc, radius)?,
+            disc(alloc, 12, false, radius)?,
+            disc(alloc, 12, true, radius)?,
+            bite(alloc, radius)?,
+            rounded(alloc, radius)?,
+        ] {
+            assert!(rt; is_above(start, &all) == told, "with {radius}");
+        }
+    }
+    Ok(())
+}
+
+/// A contour that is not closed, a chain that goes round twice, one that stops short.
+#[test]
+fn chains_that_do_not(rt: HostRuntime) -> Result<(), Fail> {
+    let alloc = rt.alloc();
+    let (start, mut all) = half_disc(alloc, 257)?;
+    let _last = all.pop();
+    assert!(rt; !is_above(start, &all));
+    let (start, all) = disc(alloc, 24, false, 257)?;
+    assert!(rt; !is_above(start, &all));
+    let (start, all) = disc(alloc, 11, false, 257)?;
+    assert!(rt; !is_above(start, &all));
+    let (_, all) = bite(alloc, 257)?;
+    assert!(rt; !is_above(at((-9000, -9001)), &all));
+    Ok(())
+}
