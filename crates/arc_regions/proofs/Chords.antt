@@ -2,7 +2,7 @@
 use Rattle.std.proofs.Common.{◌≡◌, ◌⊎◌, inl, inr, ℤ, pos, neg_ℤ, ◌+ℤ◌, ◌-ℤ◌, ◌*ℤ◌, ◌≤ℤ◌, ◌<ℤ◌, arith, refl, sym, ◌∙◌}
 use Rattle.planar.specs.Plane.{square}
 use Rattle.planar.proofs.Ring.{ring, linear, le_or_lt, times_from_zero, square_from_zero, square_mono, square_cancel, square_over, times_mono, times_mono_right, times_cancel, over_zero, times-zero, zero-times, neg-mul, mul-neg, square-neg}
-use Rattle.arcs.proofs.Vectors.{norm, norm_from_zero, lagrange, square_scaled}
+use Rattle.arc_regions.proofs.Lengths.{norm, norm_from_zero, lagrange, square_scaled}
 
 -- two vectors as long as one another that are not one have a scalar product under the square of that length
 pub under_square : (sx sy ex ey r : ℤ) → norm sx sy ≡ r → norm ex ey ≡ r → pos 1 ≤ℤ square (sx *ℤ ey -ℤ sy *ℤ ex) → (sx *ℤ ex +ℤ sy *ℤ ey) <ℤ r
@@ -16,7 +16,7 @@ under_square sx sy ex ey r hs he turns = elim (le_or_lt r (sx *ℤ ex +ℤ sy *�
 
 module _ (x y sx sy ex ey n d u v r : ℤ) (some : pos 1 ≤ℤ n) (hd : pos 1 ≤ℤ d) (across : d *ℤ x ≡ u *ℤ sx +ℤ v *ℤ ex) (high : d *ℤ y ≡ u *ℤ sy +ℤ v *ℤ ey) (hs : norm sx sy ≡ r) (he : norm ex ey ≡ r)
     (less : (sx *ℤ ex +ℤ sy *ℤ ey) <ℤ r) where
-  q : ℤ
+  abbrev q : ℤ
   q = sx *ℤ ex +ℤ sy *ℤ ey
 
   r_from : pos 0 ≤ℤ r
@@ -29,9 +29,9 @@ module _ (x y sx sy ex ey n d u v r : ℤ) (some : pos 1 ≤ℤ n) (hd : pos 1 �
   spread : square d *ℤ norm x y ≡ square (u +ℤ v) *ℤ r -ℤ ((u *ℤ v) *ℤ (r -ℤ q) +ℤ (u *ℤ v) *ℤ (r -ℤ q))
   spread =
       let a : square d *ℤ norm x y ≡ norm (d *ℤ x) (d *ℤ y) = simp ring (omega (arith, linear)) in
+      let e : norm (d *ℤ x) (d *ℤ y) ≡ norm (u *ℤ sx +ℤ v *ℤ ex) (u *ℤ sy +ℤ v *ℤ ey) = rw (across, high) refl in
       let b : norm (u *ℤ sx +ℤ v *ℤ ex) (u *ℤ sy +ℤ v *ℤ ey) ≡ (square u *ℤ norm sx sy +ℤ square v *ℤ norm ex ey) +ℤ ((u *ℤ v) *ℤ q +ℤ (u *ℤ v) *ℤ q) = simp ring (omega (arith, linear)) in
-      let c : square (u +ℤ v) *ℤ r -ℤ ((u *ℤ v) *ℤ (r -ℤ q) +ℤ (u *ℤ v) *ℤ (r -ℤ q)) ≡ (square u *ℤ r +ℤ square v *ℤ r) +ℤ ((u *ℤ v) *ℤ q +ℤ (u *ℤ v) *ℤ q) = parts (u) v r q in
-      a ∙ rw (across, high) b ∙ rw (hs, he) (sym c)
+      omega (arith, linear, a, e, rw (hs, he) at b, parts u v r q)
     where
       parts : (u v r q : ℤ) → square (u +ℤ v) *ℤ r -ℤ ((u *ℤ v) *ℤ (r -ℤ q) +ℤ (u *ℤ v) *ℤ (r -ℤ q)) ≡ (square u *ℤ r +ℤ square v *ℤ r) +ℤ ((u *ℤ v) *ℤ q +ℤ (u *ℤ v) *ℤ q)
       parts u v r q = simp ring (omega (arith, linear))

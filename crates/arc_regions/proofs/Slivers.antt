@@ -5,10 +5,10 @@ use Rattle.planar.specs.Plane.{InCapsule, Point, cross_of, square}
 use Rattle.planar.proofs.Ring.{ring, linear, le_or_lt, times_from_zero, square_from_zero, square_mono, square_over, times_mono, zero-times, over_zero}
 use Rattle.arcs.specs.Copper.{side_of}
 use Rattle.arcs.specs.Chains.{IsChord, IsRoom}
-use Rattle.arcs.proofs.Vectors.{norm, norm_from_zero, square_scaled, scaled, scaled_over}
-use Rattle.arcs.proofs.Along.{sum_longer}
-use Rattle.arcs.proofs.Lower.{place, place_within, place_over}
-use Rattle.arcs.proofs.Upper.{off}
+use Rattle.arc_regions.proofs.Lengths.{norm, norm_from_zero, square_scaled, scaled, scaled_over}
+use Rattle.arc_regions.proofs.Lengths.{sum_longer}
+use Rattle.arc_regions.proofs.Lengths.{place, place_within, place_over}
+use Rattle.arc_regions.proofs.Lengths.{off}
 
 -- d times x, where d is the cross product of a and b
 spread_x : (ax ay bx by x y : ℤ) → place ((ax *ℤ y -ℤ ay *ℤ x) -ℤ (bx *ℤ y -ℤ by *ℤ x)) (ax *ℤ y -ℤ ay *ℤ x) ax bx ≡ (ax *ℤ by -ℤ ay *ℤ bx) *ℤ x
@@ -45,26 +45,26 @@ turned : (e f x y : ℤ) → norm (e *ℤ x -ℤ f *ℤ x) (e *ℤ y -ℤ f *ℤ
 turned e f x y = simp ring (omega (arith, linear))
 
 module _ (c a b : Spot) (s least most near far k : ℤ) (room : IsRoom s s least most near far k) (chord : IsChord c near far a b) (p : Point) (left : pos 0 ≤ℤ side_of c a p) (right : side_of c b p ≤ℤ pos 0) where
-  x : ℤ
+  abbrev x : ℤ
   x = p.x -ℤ p.n *ℤ c.x
 
-  y : ℤ
+  abbrev y : ℤ
   y = p.y -ℤ p.n *ℤ c.y
 
   -- p is i/m of the way from a to b in its direction, m/(n d) as far as it is, if d is the cross product of a and b
-  i : ℤ
+  abbrev i : ℤ
   i = side_of c a p
 
-  m : ℤ
+  abbrev m : ℤ
   m = side_of c a p -ℤ side_of c b p
 
-  d : ℤ
+  abbrev d : ℤ
   d = cross_of c a b
 
-  qx : ℤ
+  abbrev qx : ℤ
   qx = place m i (a.x -ℤ c.x) (b.x -ℤ c.x)
 
-  qy : ℤ
+  abbrev qy : ℤ
   qy = place m i (a.y -ℤ c.y) (b.y -ℤ c.y)
 
   ex : qx ≡ d *ℤ x
@@ -127,6 +127,9 @@ module _ (c a b : Spot) (s least most near far k : ℤ) (room : IsRoom s s least
       s_from : pos 0 ≤ℤ s
       s_from = omega (arith, linear, room.least_is, square_from_zero least)
 
+      nothing : (z : ℤ) → z ≡ pos 0 → square z ≡ pos 0
+      nothing z h = rw h (zero-times (pos 0))
+
       d_norm : (d x y : ℤ) → norm (d *ℤ x) (d *ℤ y) ≡ square d *ℤ norm x y
       d_norm d x y = simp ring (omega (arith, linear))
 
@@ -136,7 +139,7 @@ module _ (c a b : Spot) (s least most near far k : ℤ) (room : IsRoom s s least
           none : m ≡ pos 0 → ⊥
           none z =
               let f : norm qx qy ≤ℤ square (m *ℤ far) = place_within c a b near far room.far_from chord m i left not_past in
-              let e : square (m *ℤ far) ≡ pos 0 = rw z (omega (arith, linear, zero-times far, simp ring at (square_scaled (pos 0) far))) in
+              let e : square (m *ℤ far) ≡ pos 0 = nothing (m *ℤ far) (rw z (zero-times far)) in
               let g : norm (d *ℤ x) (d *ℤ y) ≤ℤ pos 0 = omega (arith, linear, rw (ex, ey) at f, e) in
               let o : pos 1 ≤ℤ (square d *ℤ norm x y) = over_zero (square d) (norm x y) (square_over d chord.left) (omega (arith, linear, disc, times_from_zero (square p.n) s (square_from_zero p.n) s_from)) in
               omega (arith, linear, g, o, d_norm d x y)
