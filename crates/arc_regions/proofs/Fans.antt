@@ -78,7 +78,7 @@ both_ends c a b h e f = first_apart b c a (omega (arith, linear, h, turn_round c
 
 -- ---- tests
 
-sign_not : (t : ℤ) → Sign t → lt_z (pos 0) (neg_ℤ t) ≡ not (lt_z (pos 0) t)
+pub sign_not : (t : ℤ) → Sign t → lt_z (pos 0) (neg_ℤ t) ≡ not (lt_z (pos 0) t)
 sign_not t (over h a b) = rw (b, a) refl
 sign_not t (under h a b) = rw (b, a) refl
 

@@ -6,3 +6,4 @@ mod Slivers
 mod Chords
 mod Fans
 mod Sectors
+mod Arcs

@@ -13,12 +13,12 @@ use Rattle.arcs.specs.Copper.{side_of as side_at}
 use Rattle.arcs.specs.Chains.{EachFrom, IsLink, IsRoom}
 use Rattle.arc_regions.specs.Copper.{InDisc, InSegment, IsRight}
 use Rattle.arc_regions.specs.Taken.{odd_past}
-use Rattle.arc_regions.proofs.Hits.{Sign, over, under}
+use Rattle.arc_regions.proofs.Hits.{Sign, over, under, is_over, is_under}
 use Rattle.arc_regions.proofs.Shifted.{IsNarrow, side_over, side_under, level_rising, level_falling, level_flat}
 use Rattle.arc_regions.proofs.Lengths.{norm, norm_from_zero, lagrange}
 use Rattle.arc_regions.proofs.Chords.{at_start, under_square, within}
 use Rattle.arc_regions.proofs.Turning.{lt_true, lt_false, swept, turned}
-use Rattle.arc_regions.proofs.Fans.{ArePlaced, and-false, both_ends, chain_crossed, chain_turned, chord_side, fan, fan_by, first_two, inside, last_two, left_from, on_left, over_edge, right_from, shifted, shifted_back, shifted_sum, side_same, sign_of, wedges}
+use Rattle.arc_regions.proofs.Fans.{ArePlaced, and-false, both_ends, chain_crossed, chain_turned, chord_side, edge_back, fan, fan_by, sign_not, first_two, inside, last_two, left_from, on_left, over_edge, right_from, shifted, shifted_back, shifted_sum, side_same, sign_of, wedges}
 
 -- ---- tests
 
@@ -46,7 +46,7 @@ not_swept true false = refl
 not_swept false true = refl
 not_swept false false = refl
 
-solved : (o a s b : Bool) → xor s (xor o a) ≡ xor a b → o ≡ xor s b
+pub solved : (o a s b : Bool) → xor s (xor o a) ≡ xor a b → o ≡ xor s b
 solved o a s b h = sym (first s o a) ∙ ap (λ (z : Bool). xor s (xor z a)) h ∙ last s a b
   where
     first : (s o a : Bool) → xor s (xor (xor s (xor o a)) a) ≡ o
@@ -69,16 +69,16 @@ solved o a s b h = sym (first s o a) ∙ ap (λ (z : Bool). xor s (xor z a)) h �
     last false false true = refl
     last false false false = refl
 
-none_and : (b : Bool) → (b && not b) ≡ false
+pub none_and : (b : Bool) → (b && not b) ≡ false
 none_and true = refl
 none_and false = refl
 
-false-back : (b : Bool) → xor b false ≡ b
+pub false-back : (b : Bool) → xor b false ≡ b
 false-back true = refl
 false-back false = refl
 
 -- what is alone with true is no other
-turned_true : (w : Bool) → xor w true ≡ false → w ≡ true
+pub turned_true : (w : Bool) → xor w true ≡ false → w ≡ true
 turned_true true h = refl
 turned_true false h = sym h
 
@@ -108,11 +108,10 @@ weights' : (sx sy ex ey x y : ℤ) → (sx *ℤ ey -ℤ sy *ℤ ex) *ℤ y ≡ n
 weights' sx sy ex ey x y = simp ring (omega (arith, linear))
 
 -- the point is the spot
-pub IsAt : Spot → Point → Type 0
+abbrev pub IsAt : Spot → Point → Type 0
 IsAt a p = reach_of a p ≡ pos 0
 
 at_spot : (a c : Spot) (p : Point) → p.x -ℤ p.n *ℤ c.x ≡ p.n *ℤ (a.x -ℤ c.x) → p.y -ℤ p.n *ℤ c.y ≡ p.n *ℤ (a.y -ℤ c.y) → IsAt a p
-unfolding IsAt
 at_spot a c p h k = nothing (p.x -ℤ p.n *ℤ a.x) (p.y -ℤ p.n *ℤ a.y) (off p.x p.n a.x c.x h) (off p.y p.n a.y c.y k)
   where
     nothing : (z w : ℤ) → z ≡ pos 0 → w ≡ pos 0 → square z +ℤ square w ≡ pos 0
@@ -192,4 +191,128 @@ module _ (m : ℤ) (hm : pos 2 ≤ℤ m) (narrow : (a b : Spot) → IsPlaced a �
     less_than_half = elim (fits (sign_of m hm narrow p c a hc ha (first_two c a b turns)) (sign_of m hm narrow p a b ha hb (last_two c a b turns)) (sign_of m hm narrow p c b hc hb (both_ends c a b turns))) [
       | inl e ↦ inl (rotate (edge a b) (edge c a) (edge c b) ∙ fan m hm narrow p c a b hc ha hb turns ∙ e)
       | inr h ↦ inr h
+    ]
+
+  -- ---- the other turns
+
+  module _ (s e : Spot) (hs : IsPlaced s) (he : IsPlaced e) (rs : dot_of c s s ≡ r) (re : dot_of c e e ≡ r) where
+    abbrev turns_by : Bool
+    turns_by = turned (cross_of c s e) (left c s) (left c e)
+
+    abbrev Chorded : Type 0
+    Chorded = xor (edge s e) (xor (edge c s) (edge c e)) ≡ xor (disc && turns_by) (disc && not (left s e))
+
+    by_less : pos 1 ≤ℤ cross_of c s e → Chorded ⊎ (IsAt s p ⊎ IsAt e p)
+    by_less turns = elim (less_than_half s e hs he turns rs re) [
+      | inl f ↦ inl (rw (lt_false (cross_of c s e) (omega (arith, linear, turns))) f)
+      | inr h ↦ inr h
+    ]
+
+    crossed_back : cross_of c e s ≡ neg_ℤ (cross_of c s e)
+    crossed_back = plain (s.x -ℤ c.x) (s.y -ℤ c.y) (e.x -ℤ c.x) (e.y -ℤ c.y)
+      where
+        plain : (sx sy ex ey : ℤ) → ex *ℤ sy -ℤ ey *ℤ sx ≡ neg_ℤ (sx *ℤ ey -ℤ sy *ℤ ex)
+        plain sx sy ex ey = simp ring (omega (arith, linear))
+
+    left_back : (s.x ≡ e.x → s.y ≡ e.y → ⊥) → left e s ≡ not (left s e)
+    left_back apart = ap (λ (z : ℤ). lt_z (pos 0) z) (shifted_back m hm narrow p s e) ∙ sign_not (side s e) (sign_of m hm narrow p s e hs he apart)
+
+    xor-swap : (a b : Bool) → xor a b ≡ xor b a
+    xor-swap true true = refl
+    xor-swap true false = refl
+    xor-swap false true = refl
+    xor-swap false false = refl
+
+    by_more : (s.x ≡ e.x → s.y ≡ e.y → ⊥) → cross_of c s e ≤ℤ neg_ℤ (pos 1) → Chorded ⊎ (IsAt s p ⊎ IsAt e p)
+    by_more apart turns = elim (less_than_half e s he hs (omega (arith, linear, turns, crossed_back)) re rs) [
+      | inl f ↦ inl (rw (lt_true (cross_of c s e) (omega (arith, linear, turns)), not_swept (left c s) (left c e)) (
+          ap (λ (z : Bool). xor z (xor (edge c s) (edge c e))) (edge_back m hm narrow p s e) ∙ ap (λ (z : Bool). xor (edge e s) z) (xor-swap (edge c s) (edge c e)) ∙ f
+          ∙ ap (λ (z : Bool). xor (disc && swept (left c e) (left c s)) (disc && not z)) (left_back apart)
+          ∙ both_turned disc (swept (left c e) (left c s)) (not (left s e))))
+      | inr (inl h) ↦ inr (inr h)
+      | inr (inr h) ↦ inr (inl h)
+    ]
+    -- ends on both sides of the centre
+    opposite : (s.x ≡ e.x → s.y ≡ e.y → ⊥) → cross_of c s e ≡ pos 0 → (e.x -ℤ c.x ≡ neg_ℤ (s.x -ℤ c.x)) × (e.y -ℤ c.y ≡ neg_ℤ (s.y -ℤ c.y))
+    opposite apart flat = plain (s.x -ℤ c.x) (s.y -ℤ c.y) (e.x -ℤ c.x) (e.y -ℤ c.y) rs re flat (λ h k. apart (omega (arith, linear, h)) (omega (arith, linear, k)))
+      where
+        plain : (sx sy ex ey : ℤ) → norm sx sy ≡ r → norm ex ey ≡ r → sx *ℤ ey -ℤ sy *ℤ ex ≡ pos 0 → (sx ≡ ex → sy ≡ ey → ⊥) → (ex ≡ neg_ℤ sx) × (ey ≡ neg_ℤ sy)
+        plain sx sy ex ey hs he flat two = elim (le_or_lt (pos 0) (sx *ℤ ex +ℤ sy *ℤ ey)) [ inl l ↦ absurd (same l) | inr l ↦ other l ]
+          where
+            r_from : pos 0 ≤ℤ r
+            r_from = omega (arith, linear, hs, norm_from_zero sx sy)
+
+            squares : square (sx *ℤ ex +ℤ sy *ℤ ey) ≡ r *ℤ r
+            squares =
+                let f : square (sx *ℤ ex +ℤ sy *ℤ ey) +ℤ square (pos 0) ≡ r *ℤ r = rw (hs, he, flat) at (lagrange sx sy ex ey) in
+                omega (arith, linear, f, times-zero (pos 0))
+
+            apart_by : norm (sx -ℤ ex) (sy -ℤ ey) ≡ (r +ℤ r) -ℤ ((sx *ℤ ex +ℤ sy *ℤ ey) +ℤ (sx *ℤ ex +ℤ sy *ℤ ey))
+            apart_by = let f : norm (sx -ℤ ex) (sy -ℤ ey) ≡ (norm sx sy +ℤ norm ex ey) -ℤ ((sx *ℤ ex +ℤ sy *ℤ ey) +ℤ (sx *ℤ ex +ℤ sy *ℤ ey)) = simp ring (omega (arith, linear)) in omega (arith, linear, f, hs, he)
+
+            together_by : norm (sx +ℤ ex) (sy +ℤ ey) ≡ (r +ℤ r) +ℤ ((sx *ℤ ex +ℤ sy *ℤ ey) +ℤ (sx *ℤ ex +ℤ sy *ℤ ey))
+            together_by = let f : norm (sx +ℤ ex) (sy +ℤ ey) ≡ (norm sx sy +ℤ norm ex ey) +ℤ ((sx *ℤ ex +ℤ sy *ℤ ey) +ℤ (sx *ℤ ex +ℤ sy *ℤ ey)) = simp ring (omega (arith, linear)) in omega (arith, linear, f, hs, he)
+
+            same : pos 0 ≤ℤ (sx *ℤ ex +ℤ sy *ℤ ey) → ⊥
+            same l =
+                let g : r ≤ℤ (sx *ℤ ex +ℤ sy *ℤ ey) = square_cancel r (sx *ℤ ex +ℤ sy *ℤ ey) l (omega (arith, linear, squares)) in
+                let x_same : sx -ℤ ex ≡ pos 0 = square_zero (sx -ℤ ex) (omega (arith, linear, g, apart_by, square_from_zero (sy -ℤ ey))) in
+                let y_same : sy -ℤ ey ≡ pos 0 = square_zero (sy -ℤ ey) (omega (arith, linear, g, apart_by, square_from_zero (sx -ℤ ex))) in
+                two (omega (arith, linear, x_same)) (omega (arith, linear, y_same))
+
+            other : (sx *ℤ ex +ℤ sy *ℤ ey) <ℤ pos 0 → (ex ≡ neg_ℤ sx) × (ey ≡ neg_ℤ sy)
+            other l =
+                let g : r ≤ℤ neg_ℤ (sx *ℤ ex +ℤ sy *ℤ ey) = square_cancel r (neg_ℤ (sx *ℤ ex +ℤ sy *ℤ ey)) (omega (arith, linear, l)) (omega (arith, linear, squares, square-neg (sx *ℤ ex +ℤ sy *ℤ ey))) in
+                let x_sum : sx +ℤ ex ≡ pos 0 = square_zero (sx +ℤ ex) (omega (arith, linear, g, together_by, square_from_zero (sy +ℤ ey))) in
+                let y_sum : sy +ℤ ey ≡ pos 0 = square_zero (sy +ℤ ey) (omega (arith, linear, g, together_by, square_from_zero (sx +ℤ ex))) in
+                (omega (arith, linear, x_sum), omega (arith, linear, y_sum))
+
+    by_half : (s.x ≡ e.x → s.y ≡ e.y → ⊥) → cross_of c s e ≡ pos 0 → Chorded
+    by_half apart flat = by (sign_of m hm narrow p c s hc hs two)
+      where
+        over_there : (e.x -ℤ c.x ≡ neg_ℤ (s.x -ℤ c.x)) × (e.y -ℤ c.y ≡ neg_ℤ (s.y -ℤ c.y))
+        over_there = opposite apart flat
+
+        two : c.x ≡ s.x → c.y ≡ s.y → ⊥
+        two h k = apart (omega (arith, linear, h, over_there.0)) (omega (arith, linear, k, over_there.1))
+
+        mirrored : side c e ≡ neg_ℤ (side c s)
+        mirrored = plain (s.x -ℤ c.x) (s.y -ℤ c.y) (e.x -ℤ c.x) (e.y -ℤ c.y) ((p.y *ℤ square m +ℤ pos 1) -ℤ (p.n *ℤ square m) *ℤ c.y) ((p.n *ℤ square m) *ℤ c.x -ℤ (p.x *ℤ square m +ℤ m)) over_there.0 over_there.1
+          where
+            plain : (sx sy ex ey u v : ℤ) → ex ≡ neg_ℤ sx → ey ≡ neg_ℤ sy → ex *ℤ u +ℤ v *ℤ ey ≡ neg_ℤ (sx *ℤ u +ℤ v *ℤ sy)
+            plain sx sy ex ey u v h k = rw (h, k) (simp ring (omega (arith, linear)))
+
+        -- twice as far on the other side
+        chord : side s e ≡ neg_ℤ (side c s +ℤ side c s)
+        chord =
+            let f = shifted_sum m hm narrow p c s e in
+            omega (arith, linear, rw flat at f, times-zero (p.n *ℤ square m), shifted_back m hm narrow p c e, mirrored)
+
+        back : side e c ≡ side c s
+        back = omega (arith, linear, shifted_back m hm narrow p c e, mirrored)
+
+        told : Sign (side s e) → Sign (side e c) → (side c s <ℤ pos 0 → side s e <ℤ pos 0 → side e c <ℤ pos 0 → ⊥) → xor (edge s e) (xor (edge c s) (edge c e)) ≡ (left c s && (left s e && lt_z (pos 0) (side e c)))
+        told d f never = rotate (edge s e) (edge c s) (edge c e) ∙ fan_by m hm narrow p c s e hc hs he (sign_of m hm narrow p c s hc hs two) d f never
+
+        by : Sign (side c s) → Chorded
+        by (over h h1 h2) =
+            let se : side s e <ℤ pos 0 = omega (arith, linear, chord, h) in
+            let ec : pos 0 <ℤ side e c = omega (arith, linear, back, h) in
+            let ce : side c e <ℤ pos 0 = omega (arith, linear, mirrored, h) in
+            told (is_under (side s e) se) (is_over (side e c) ec) (λ a b d. omega (arith, linear, ec, d))
+            ∙ rw (lt_false (cross_of c s e) (omega (arith, linear, flat)), not_lt (pos 0) (side s e) (omega (arith, linear, se)), not_lt (pos 0) (side c e) (omega (arith, linear, ce)), h1) (sym (xor-same (disc && true)))
+        by (under h h1 h2) =
+            let se : pos 0 <ℤ side s e = omega (arith, linear, chord, h) in
+            let ec : side e c <ℤ pos 0 = omega (arith, linear, back, h) in
+            let ce : pos 0 <ℤ side c e = omega (arith, linear, mirrored, h) in
+            told (is_over (side s e) se) (is_under (side e c) ec) (λ a b d. omega (arith, linear, se, b))
+            ∙ rw (lt_false (cross_of c s e) (omega (arith, linear, flat)), is_lt (pos 0) (side s e) se, is_lt (pos 0) (side c e) ce, h1) (sym (xor-same (disc && false)))
+
+    pub chorded : (s.x ≡ e.x → s.y ≡ e.y → ⊥) → Chorded ⊎ (IsAt s p ⊎ IsAt e p)
+    chorded apart = elim (le_or_lt (pos 1) (cross_of c s e)) [
+      | inl h ↦ by_less h
+      | inr h ↦ elim (le_or_lt (cross_of c s e) (neg_ℤ (pos 1))) [
+        | inl k ↦ by_more apart k
+        | inr k ↦ inl (by_half apart (omega (arith, linear, h, k)))
+      ]
     ]
