@@ -7,3 +7,4 @@ mod Chords
 mod Fans
 mod Sectors
 mod Arcs
+mod Regions

@@ -1,5 +1,5 @@
 -- Exactly which chains the checks take.
-use Rattle.std.specs.Prelude.{ℕ, Bool, not, ◌&&◌, false, IsTrue, if◌then◌else◌, List, [], ◌∷◌, ◌++◌, reverse, map, ℤ, pos, int_lt, ◌≡◌, ◌↔◌, ◌⊎◌, ⊤}
+use Rattle.std.specs.Prelude.{ℕ, Bool, not, ◌&&◌, false, IsTrue, if◌then◌else◌, List, [], ◌∷◌, ◌++◌, reverse, map, ℤ, pos, int_lt, ◌≡◌, ◌↔◌, ◌⊎◌}
 use Rattle.planar.specs.Plane.{IsPlaced, Point, cross_of, dot_of}
 use Rattle.planar.specs.declared.Spot.{Spot}
 use Rattle.planar.proofs.EdgeLaw.{xor}
@@ -37,12 +37,12 @@ pub record StandsFor (a : Spot) (t : Bend) (chain : List Spot) (r : ℕ) : Type 
   pub turns : IsTrue (odd_round t.centre chain) ↔ (early a t ≡ late a t)
 
 -- a straight part stands for itself
+abbrev pub StandsAs : Spot → Part → List Spot → ℕ → Type 0
+StandsAs a (Straight b) chain r = IsPlaced b
+StandsAs a (Curved t) chain r = StandsFor a t chain r
+
 abbrev pub IsStretch : Spot → Stretch → Type 0
 IsStretch a x = StandsAs a x.part x.chain.items x.radius
-  where
-    StandsAs : Spot → Part → List Spot → ℕ → Type 0
-    StandsAs a (Straight b) chain r = IsPlaced b
-    StandsAs a (Curved t) chain r = StandsFor a t chain r
 
 -- each of the list is one, of which the first begins at a, and the last ends at z
 abbrev pub AreStretches : Spot → Spot → List Stretch → Type 0
@@ -78,10 +78,10 @@ abbrev pub corners_of : Spot → List Stretch → List Spot
 corners_of a stretches = a ∷ corners_behind stretches
 
 -- the point lies in a capsule along the chain of an arc
+abbrev pub InLinks : Part → List Spot → ℕ → Point → Type 0
+InLinks (Straight b) chain r p = ⊥
+InLinks (Curved t) chain r p = InChain chain (pos r) p
+
 abbrev pub InCapsules : List Stretch → Point → Type 0
 InCapsules [] p = ⊥
-InCapsules (x ∷ rest) p = ByPart x.part x.chain.items x.radius p ⊎ InCapsules rest p
-  where
-    ByPart : Part → List Spot → ℕ → Point → Type 0
-    ByPart (Straight b) chain r p = ⊥
-    ByPart (Curved t) chain r p = InChain chain (pos r) p
+InCapsules (x ∷ rest) p = InLinks x.part x.chain.items x.radius p ⊎ InCapsules rest p
