@@ -1,10 +1,11 @@
 //! Whether a polygon, with capsules, holds a region.
 ghost use Rattle.arc_regions.specs.Copper.{InRegion, end_of};
-ghost use Rattle.arc_regions.specs.Taken.{AreStretches, InCapsules, arc_of, odd_round, IsStretch, StandsFor, TakenAbove, corners_of, parts_of};
+ghost use Rattle.arc_regions.specs.Taken.{InCapsules, arc_of, odd_round, IsStretch, StandsFor, TakenAbove, corners_of, parts_of};
 ghost use Rattle.area_contact.specs.Contour.{InArea, edges_of};
 ghost use Rattle.planar.specs.Plane.{IsPlaced, Point, dot_of};
 ghost use Rattle.std.specs.Prelude.{All, IsTrue, ◌≡◌, ◌↔◌, ◌⊎◌};
 
+use super::laws::taken_holds;
 use super::links::is_odd_round;
 use super::{Bend, Part, Stretch};
 use arcs::Arc;
@@ -91,6 +92,7 @@ pub fn is_above(start: Spot, stretches: &[Stretch]) -> bool
     ensures taken { IsTrue result ↔ TakenAbove start stretches.now }
     ensures copper { IsTrue result → (p : Point) → InRegion start (parts_of stretches.now) p → InArea (edges_of (corners_of start stretches.now)) p ⊎ InCapsules stretches.now p }
 {
+    taken_holds();
     if !is_placed(start) {
         return false;
     }
