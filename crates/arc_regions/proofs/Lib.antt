@@ -7,4 +7,5 @@ mod Chords
 mod Fans
 mod Sectors
 mod Arcs
+mod Inside
 mod Regions

@@ -5,21 +5,23 @@ use Rattle.std.proofs.lemmas.Int.{ints, clamps}
 use Rattle.std.proofs.lemmas.List.{reverse-append}
 use Rattle.std.proofs.lemmas.List.Elements.{All-head, All-tail}
 use Rattle.planar.specs.declared.Spot.{Spot}
+use Rattle.planar.specs.declared.Frame.{Frame}
 use Rattle.planar.specs.declared.TheConstants.{METRE}
-use Rattle.planar.specs.Plane.{InCapsule, IsPlaced, Point, cross_of, dot_of, square}
+use Rattle.planar.specs.Plane.{InCapsule, IsPlaced, Point, at, cross_of, dot_of, square}
 use Rattle.planar.proofs.Ring.{ring, linear, le_or_lt, square_from_zero, square_zero, over_zero, zero-times}
 use Rattle.planar.proofs.EdgeLaw.{xor}
 use Rattle.area_contact.specs.declared.Edge.{Edge}
 use Rattle.area_contact.specs.Parity.{crossed, crossed_is, odd, odd_is, one_is, passes, xor-comm}
-use Rattle.area_contact.specs.Contour.{InArea, OnEdge, SomeEdge, edges_from, edges_of, end_from}
+use Rattle.area_contact.specs.Contour.{InArea, IsContour, OnEdge, SomeEdge, edges_from, edges_of, end_from}
+use Rattle.area_contact.proofs.Hits.{on_turned}
 use Rattle.arcs.specs.Copper.{InChain, InFrom, InRing, InTurn, Possibly, greater, inmost, lesser, outmost, reach_of, spread, swing, times, unlike}
-use Rattle.arcs.specs.Chains.{EndsAt, HasRoom, IsRoom}
+use Rattle.arcs.specs.Chains.{EachFrom, EndsAt, HasRoom, IsRoom}
 use Rattle.arcs.specs.Laws.{PossiblyOfEach, TakenIsBetween}
 use Rattle.arcs.specs.Taken.{TakenAbove as ChainAbove}
 use Rattle.arcs.specs.declared.Arc.{Arc}
 use Rattle.arc_regions.specs.Copper.{InRegion, InSegment, IsOver, OddOver, OnBorder, OnCircle, OnPart, end_of}
-use Rattle.arc_regions.specs.Laws.{TakenHolds}
-use Rattle.arc_regions.specs.Taken.{AreStretches, InCapsules, InLinks, IsStretch, StandsAs, StandsFor, behind_first, corners_behind, corners_by, odd_past, odd_round, parts_of}
+use Rattle.arc_regions.specs.Laws.{TakenHolds, TakenLies}
+use Rattle.arc_regions.specs.Taken.{AreAround, AreClear, AreStretches, InCapsules, IsClear, IsPartClear, InLinks, IsStretch, StandsAs, StandsFor, behind_first, corners_behind, corners_by, odd_part, odd_past, odd_round, parts_of}
 use Rattle.arc_regions.specs.declared.Part.{Part}
 use Rattle.arc_regions.specs.declared.Part.TheVariants.{Straight, Curved}
 use Rattle.arc_regions.specs.declared.Bend.{Bend}
@@ -27,6 +29,7 @@ use Rattle.arc_regions.specs.declared.Stretch.{Stretch}
 use Rattle.arc_regions.proofs.Shifted.{IsNarrow}
 use Rattle.arc_regions.proofs.Fans.{ArePlaced, first_two, or-swap}
 use Rattle.arc_regions.proofs.Sectors.{false-back}
+use Rattle.arc_regions.proofs.Inside.{all_inside}
 use Rattle.arc_regions.proofs.Arcs.{arc_told, segment, segment_is}
 
 -- ---- rows of edges
@@ -57,15 +60,21 @@ some_before P a [] ys h = absurd h
 some_before P a (b ∷ xs) ys (inl h) = inl h
 some_before P a (b ∷ xs) ys (inr h) = inr (some_before P b xs ys h)
 
+some_of : (P : Edge → Type 0) (a : Spot) (xs ys : List Spot) → SomeEdge P (edges_from a (xs ++ ys)) → SomeEdge P (edges_from a xs) ⊎ SomeEdge P (edges_from (end_from a xs) ys)
+some_of P a [] ys h = inr h
+some_of P a (b ∷ xs) ys (inl h) = inl (inl h)
+some_of P a (b ∷ xs) ys (inr h) = elim (some_of P b xs ys h) [ inl k ↦ inl (inr k) | inr k ↦ inr k ]
+
 -- the same line, walked back
 record Back (a : Spot) (rest : List Spot) (x y n : ℤ) : Type 0 where
   others : List Spot
   is : reverse (a ∷ rest) ≡ end_from a rest ∷ others
   ends : end_from (end_from a rest) others ≡ a
   same : odd (edges_from (end_from a rest) others) x y n ≡ odd (edges_from a rest) x y n
+  on : (z : Point) → SomeEdge (OnEdge z) (edges_from (end_from a rest) others) → SomeEdge (OnEdge z) (edges_from a rest)
 
 walked_back : (a : Spot) (rest : List Spot) (x y n : ℤ) → Back a rest x y n
-walked_back a [] x y n = record { others = []; is = refl; ends = refl; same = refl }
+walked_back a [] x y n = record { others = []; is = refl; ends = refl; same = refl; on = λ z h. h }
 walked_back a (b ∷ rest) x y n = let w = walked_back b rest x y n in record {
   others = w.others ++ (a ∷ []);
   is = reverse-append (a ∷ []) (b ∷ rest) ∙ ap (λ (l : List Spot). l ++ (a ∷ [])) w.is;
@@ -76,7 +85,15 @@ walked_back a (b ∷ rest) x y n = let w = walked_back b rest x y n in record {
       ∙ ap (λ (z : Bool). xor z (odd (edges_from b (a ∷ [])) x y n)) w.same
       ∙ xor-comm (odd (edges_from b rest) x y n) (odd (edges_from b (a ∷ [])) x y n)
       ∙ ap (λ (z : Bool). xor z (odd (edges_from b rest) x y n)) (false-back (crossed (record { start = b; end = a }) x y n) ∙ or-swap (passes b a x y n) (passes a b x y n));
+  on = λ z h. elim (some_of (OnEdge z) (end_from b rest) w.others (a ∷ []) h) [
+    | inl k ↦ inr (w.on z k)
+    | inr k ↦ inl (on_turned a b (pos 0) z (last z (subst (λ (s : Spot). SomeEdge (OnEdge z) (edges_from s (a ∷ []))) w.ends k)))
+  ];
 }
+  where
+    last : (z : Point) → SomeEdge (OnEdge z) (edges_from b (a ∷ [])) → InCapsule b a (pos 0) z
+    last z (inl h) = h
+    last z (inr h) = absurd h
 
 -- ---- the margin
 
@@ -279,3 +296,103 @@ taken_holds possible between a xs p taken inside = by (all_told p possible betwe
     by : AllTold p possible between a xs → InRegion a (parts_of xs) p → InArea (edges_from a (corners_behind xs)) p ⊎ InCapsules xs p
     by t (inl on) = elim (t.border on) [ inl h ↦ inl (inl h) | inr h ↦ inr h ]
     by t (inr over) = elim t.same [ inl h ↦ inl (inr ((odd_is (edges_from a (corners_behind xs)) p).0 (h ∙ t.over_is.1 over))) | inr h ↦ inr h ]
+
+-- ---- below
+
+-- the area has no point on the edges that stand for the part, nor in its capsules; and its corner's parity is told by the chain
+record Clear (points : List Spot) (a : Spot) (part : Part) (chain : List Spot) (r : ℕ) (q : Spot) : Type 0 where
+  edges : (z : Point) → InArea (edges_of points) z → SomeEdge (OnEdge z) (edges_from a (corners_by part chain)) → ⊥
+  links : (z : Point) → InArea (edges_of points) z → InLinks part chain r z → ⊥
+  same : odd (edges_from a (corners_by part chain)) q.x q.y (pos 1) ≡ odd_part q a part chain
+
+-- what lies on a segment lies in the capsule
+thicker : (a b : Spot) (r : ℤ) (z : Point) → InCapsule a b (pos 0) z → InCapsule a b r z
+thicker a b r z h = record { i = h.i; m = h.m; from_start = h.from_start; to_end = h.to_end; positive = h.positive; near = omega (arith, linear, h.near, square_from_zero (z.n *ℤ h.m *ℤ r), none (z.n *ℤ h.m)) }
+  where
+    none : (w : ℤ) → square (w *ℤ pos 0) ≡ pos 0
+    none w = simp ring
+
+module _ (frame : Frame) (points : List Spot) where
+  from_clear : (r : ℕ) (a : Spot) (rest : List Spot) → EachFrom (IsClear frame points r) a rest → (z : Point) → InArea (edges_of points) z → InFrom a rest (pos r) z → ⊥
+  from_clear r a [] all z inside h = h
+  from_clear r a (b ∷ rest) all z inside (inl h) = all.0.apart (record { point = z; in_first = inside; in_second = h })
+  from_clear r a (b ∷ rest) all z inside (inr h) = from_clear r b rest all.1 z inside h
+
+  edges_clear : (r : ℕ) (a : Spot) (rest : List Spot) → EachFrom (IsClear frame points r) a rest → (z : Point) → InArea (edges_of points) z → SomeEdge (OnEdge z) (edges_from a rest) → ⊥
+  edges_clear r a [] all z inside h = h
+  edges_clear r a (b ∷ rest) all z inside (inl h) = all.0.apart (record { point = z; in_first = inside; in_second = thicker a b (pos r) z h })
+  edges_clear r a (b ∷ rest) all z inside (inr h) = edges_clear r b rest all.1 z inside h
+
+  curved_clear : (a c b : Spot) (w : Bool) (chain : List Spot) (r : ℕ) (q : Spot) → StandsFor a (record { centre = c; end = b; counterclockwise = w }) chain r → AreClear frame points r chain
+      → Clear points a (Curved (record { centre = c; end = b; counterclockwise = w })) chain r q
+  curved_clear a c b true chain r q h clear =
+      let all : EachFrom (IsClear frame points r) a (h.above.second ∷ h.above.rest) = subst (λ (l : List Spot). AreClear frame points r l) h.above.is clear in
+      let corners : corners_by (Curved (record { centre = c; end = b; counterclockwise = true })) chain ≡ h.above.second ∷ h.above.rest = ap (λ (l : List Spot). corners_by (Curved (record { centre = c; end = b; counterclockwise = true })) l) h.above.is in record {
+        edges = λ z inside on. edges_clear r a (h.above.second ∷ h.above.rest) all z inside (subst (λ (l : List Spot). SomeEdge (OnEdge z) (edges_from a l)) corners on);
+        links = λ z inside on. from_clear r a (h.above.second ∷ h.above.rest) all z inside (subst (λ (l : List Spot). InChain l (pos r) z) h.above.is on);
+        same = ap (λ (l : List Spot). odd (edges_from a l) q.x q.y (pos 1)) corners ∙ sym (ap (λ (l : List Spot). odd (edges_of l) q.x q.y (pos 1)) h.above.is);
+      }
+  curved_clear a c b false chain r q h clear =
+      let all : EachFrom (IsClear frame points r) b (h.above.second ∷ h.above.rest) = subst (λ (l : List Spot). AreClear frame points r l) h.above.is clear in
+      let w = walked_back b (h.above.second ∷ h.above.rest) q.x q.y (pos 1) in
+      let last : end_from h.above.second h.above.rest ≡ a = ends_from a h.above.second h.above.rest h.above.ends in
+      let corners : corners_by (Curved (record { centre = c; end = b; counterclockwise = false })) chain ≡ w.others = ap (λ (l : List Spot). corners_by (Curved (record { centre = c; end = b; counterclockwise = false })) l) h.above.is ∙ ap behind_first w.is in record {
+        edges = λ z inside on. edges_clear r b (h.above.second ∷ h.above.rest) all z inside (w.on z (subst (λ (s : Spot). SomeEdge (OnEdge z) (edges_from s w.others)) (sym last) (subst (λ (l : List Spot). SomeEdge (OnEdge z) (edges_from a l)) corners on)));
+        links = λ z inside on. from_clear r b (h.above.second ∷ h.above.rest) all z inside (subst (λ (l : List Spot). InChain l (pos r) z) h.above.is on);
+        same = ap (λ (l : List Spot). odd (edges_from a l) q.x q.y (pos 1)) corners ∙ ap (λ (s : Spot). odd (edges_from s w.others) q.x q.y (pos 1)) (sym last) ∙ w.same ∙ sym (ap (λ (l : List Spot). odd (edges_of l) q.x q.y (pos 1)) h.above.is);
+      }
+
+  part_clear : (a : Spot) (part : Part) (chain : List Spot) (r : ℕ) (q : Spot) → StandsAs a part chain r → IsPartClear frame points a part chain r → Clear points a part chain r q
+  part_clear a (Straight b) chain r q h clear = record {
+    edges = λ z inside on. clear.apart (record { point = z; in_first = inside; in_second = only z on });
+    links = λ z inside on. on;
+    same = false-back (crossed (record { start = a; end = b }) q.x q.y (pos 1));
+  }
+    where
+      only : (z : Point) → SomeEdge (OnEdge z) (edges_from a (b ∷ [])) → InCapsule a b (pos 0) z
+      only z (inl h) = h
+      only z (inr h) = absurd h
+  part_clear a (Curved t) chain r q h clear = curved_clear a t.centre t.end t.counterclockwise chain r q h clear
+
+  -- the same of the contour from a to z, whose parity o is known before
+  record AllClear (z q : Spot) (o : Bool) (a : Spot) (xs : List Stretch) : Type 0 where
+    stretches : AreStretches z a xs
+    ends : end_from a (corners_behind xs) ≡ z
+    edges : (p : Point) → InArea (edges_of points) p → SomeEdge (OnEdge p) (edges_from a (corners_behind xs)) → ⊥
+    links : (p : Point) → InArea (edges_of points) p → InCapsules xs p → ⊥
+    inside : IsTrue (xor o (odd (edges_from a (corners_behind xs)) q.x q.y (pos 1)))
+
+  all_clear : (possible : PossiblyOfEach) (between : TakenIsBetween) (z q : Spot) (o : Bool) (a : Spot) (xs : List Stretch) → AreAround frame points z q o a xs → AllClear z q o a xs
+  all_clear possible between z q o a [] h = record { stretches = h.0; ends = h.0; edges = λ p inside on. on; links = λ p inside on. on; inside = false-back o ∙ h.1 }
+  all_clear possible between z q o a (x ∷ rest) h =
+      join (part_told (at q) possible between a x.part x.chain.items x.radius h.0.0) (part_clear a x.part x.chain.items x.radius q h.0.0 h.0.1) (all_clear possible between z q (xor o (odd_part q a x.part x.chain.items)) (end_of x.part) rest h.1)
+    where
+      join : Told (at q) a x.part x.chain.items x.radius → Clear points a x.part x.chain.items x.radius q → AllClear z q (xor o (odd_part q a x.part x.chain.items)) (end_of x.part) rest → AllClear z q o a (x ∷ rest)
+      join t c r = record {
+        stretches = (h.0.0, r.stretches);
+        ends = end_append a (corners_by x.part x.chain.items) (corners_behind rest) ∙ ap (λ (s : Spot). end_from s (corners_behind rest)) t.ends ∙ r.ends;
+        edges = λ p inside on. elim (some_of (OnEdge p) a (corners_by x.part x.chain.items) (corners_behind rest) on) [
+          | inl k ↦ c.edges p inside k
+          | inr k ↦ r.edges p inside (subst (λ (s : Spot). SomeEdge (OnEdge p) (edges_from s (corners_behind rest))) t.ends k)
+        ];
+        links = λ p inside on. elim on [ inl k ↦ c.links p inside k | inr k ↦ r.links p inside k ];
+        inside =
+            ap (λ (b : Bool). xor o b) (odd_append a (corners_by x.part x.chain.items) (corners_behind rest) q.x q.y (pos 1)
+              ∙ ap (λ (s : Spot). xor (odd (edges_from a (corners_by x.part x.chain.items)) q.x q.y (pos 1)) (odd (edges_from s (corners_behind rest)) q.x q.y (pos 1))) t.ends
+              ∙ ap (λ (b : Bool). xor b (odd (edges_from (end_of x.part) (corners_behind rest)) q.x q.y (pos 1))) c.same)
+            ∙ sym (xor-assoc o (odd_part q a x.part x.chain.items) (odd (edges_from (end_of x.part) (corners_behind rest)) q.x q.y (pos 1))) ∙ r.inside;
+      }
+
+pub taken_lies : PossiblyOfEach → TakenIsBetween → TakenLies
+taken_lies possible between frame a xs [] p contour taken (inl h) = absurd h
+taken_lies possible between frame a xs [] p contour taken (inr h) = absurd h
+taken_lies possible between frame a xs (b ∷ rest) p contour taken inside = by (all_clear frame (b ∷ rest) possible between a b false a xs taken.parts)
+  where
+    by : AllClear frame (b ∷ rest) a b false a xs → InRegion a (parts_of xs) p
+    by t = told (all_told p possible between a a xs t.stretches)
+      where
+        odd_here : IsTrue (odd (edges_from a (corners_behind xs)) p.x p.y p.n)
+        odd_here = all_inside a (corners_behind xs) b rest t.ends contour.closed (λ z on h. t.edges z h on) t.inside p inside
+
+        told : AllTold p possible between a xs → InRegion a (parts_of xs) p
+        told o = elim o.same [ inl h ↦ inr (o.over_is.0 (sym h ∙ odd_here)) | inr h ↦ absurd (t.links p inside h) ]

@@ -1,11 +1,17 @@
 -- Exactly which chains the checks take.
-use Rattle.std.specs.Prelude.{ℕ, Bool, not, ◌&&◌, false, IsTrue, if◌then◌else◌, List, [], ◌∷◌, ◌++◌, reverse, map, ℤ, pos, int_lt, ◌≡◌, ◌↔◌, ◌⊎◌}
-use Rattle.planar.specs.Plane.{IsPlaced, Point, cross_of, dot_of}
+use Rattle.std.specs.Prelude.{ℕ, Bool, not, ◌&&◌, false, IsTrue, if◌then◌else◌, List, [], ◌∷◌, ◌++◌, reverse, map, ℤ, pos, int_lt, ⊤, ◌≡◌, ◌↔◌, ◌⊎◌}
+use Rattle.planar.specs.Plane.{InCapsule, IsPlaced, Point, cross_of, dot_of}
+use Rattle.planar.specs.declared.Frame.{Frame}
 use Rattle.planar.specs.declared.Spot.{Spot}
 use Rattle.planar.proofs.EdgeLaw.{xor}
+use Rattle.area_contact.specs.Contour.{InArea, area_box, edges_of, first_of}
+use Rattle.area_contact.specs.Parity.{crossed, odd}
+use Rattle.arcs.specs.Chains.{EachFrom}
 use Rattle.arcs.specs.Copper.{InChain}
 use Rattle.arcs.specs.declared.Arc.{Arc}
 use Rattle.arcs.specs.Taken.{TakenAbove as ChainAbove}
+use Rattle.contact.specs.Round.{IsCapsuleRadius, box_of}
+use Rattle.contact.specs.Solid.{IsInside, SharePoint}
 use Rattle.arc_regions.specs.Copper.{early, end_of, late}
 use Rattle.arc_regions.specs.declared.Bend.{Bend}
 use Rattle.arc_regions.specs.declared.Part.{Part}
@@ -53,6 +59,43 @@ AreStretches z a (x ∷ rest) = IsStretch a x × AreStretches z (end_of x.part) 
 pub record TakenAbove (a : Spot) (stretches : List Stretch) : Type 0 where
   pub start : IsPlaced a
   pub parts : AreStretches a a stretches
+
+-- ---- below
+
+-- the capsule from a to b lies in the frame and shares no point with the area
+pub record IsClear (frame : Frame) (points : List Spot) (r : ℕ) (a b : Spot) : Type 0 where
+  pub start : IsPlaced a
+  pub end : IsPlaced b
+  pub radius : IsCapsuleRadius (pos r)
+  pub inside : IsInside (box_of a b (pos r)) frame
+  pub apart : ¬ SharePoint (InArea (edges_of points)) (InCapsule a b (pos r))
+
+-- so do all capsules along the chain
+abbrev pub AreClear : Frame → List Spot → ℕ → List Spot → Type 0
+AreClear frame points r [] = ⊤
+AreClear frame points r (a ∷ rest) = EachFrom (IsClear frame points r) a rest
+
+-- the straight part is clear of the area, or the chain is with its capsules
+abbrev pub IsPartClear : Frame → List Spot → Spot → Part → List Spot → ℕ → Type 0
+IsPartClear frame points a (Straight b) chain r = IsClear frame points 0 a b
+IsPartClear frame points a (Curved t) chain r = AreClear frame points r chain
+
+-- the ray from q to the right crosses an odd number of the edges that stand for the part
+abbrev pub odd_part : Spot → Spot → Part → List Spot → Bool
+odd_part q a (Straight b) chain = crossed (record { start = a; end = b }) q.x q.y (pos 1)
+odd_part q a (Curved t) chain = odd (edges_of chain) q.x q.y (pos 1)
+
+-- each of the list, of which the first begins at a, is a part with its chain and clear of the area; the last ends at z; and the ray from q to the right crosses an odd number of the edges that stand
+-- for them, with one more where o holds
+abbrev pub AreAround : Frame → List Spot → Spot → Spot → Bool → Spot → List Stretch → Type 0
+AreAround frame points z q o a [] = (a ≡ z) × IsTrue o
+AreAround frame points z q o a (x ∷ rest) = (IsStretch a x × IsPartClear frame points a x.part x.chain.items x.radius) × AreAround frame points z q (xor o (odd_part q a x.part x.chain.items)) (end_of x.part) rest
+
+-- a closed contour whose polygon, with chains in place of the arcs, has a corner of the area inside. The area is clear of it and of the capsules along the chains
+pub record TakenBelow (frame : Frame) (a : Spot) (stretches : List Stretch) (points : List Spot) : Type 0 where
+  pub start : IsPlaced a
+  pub inside : IsInside (area_box points) frame
+  pub parts : AreAround frame points a (first_of points) false a stretches
 
 -- ---- the figures
 

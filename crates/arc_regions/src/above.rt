@@ -12,7 +12,7 @@ use arcs::Arc;
 use planar::{Spot, are_placed, dot, is_placed};
 
 /// Whether both spots are one.
-fn is_same(a: Spot, b: Spot) -> bool
+pub fn is_same(a: Spot, b: Spot) -> bool
     ensures { IsTrue result ↔ (a ≡ b) }
 {
     a.x == b.x && a.y == b.y
@@ -66,7 +66,7 @@ fn stands_for(start: Spot, bend: &Bend, chain: &[Spot], radius: u64) -> bool
 }
 
 /// Whether the stretch from `start` is one.
-fn is_stretch(start: Spot, stretch: &Stretch) -> bool
+pub fn is_stretch(start: Spot, stretch: &Stretch) -> bool
     ensures { IsTrue result ↔ IsStretch start stretch.now }
 {
     match stretch.part {
@@ -76,7 +76,7 @@ fn is_stretch(start: Spot, stretch: &Stretch) -> bool
 }
 
 /// Where the part ends.
-fn end_of(part: Part) -> Spot
+pub fn end_of(part: Part) -> Spot
     ensures { result ≡ end_of part }
 {
     match part {

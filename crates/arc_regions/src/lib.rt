@@ -1,18 +1,22 @@
 //! Bounds of regions whose contours have arcs.
 //!
-//! Whoever makes chains of chords for the arcs of a contour, the check here says whether the polygon
-//! with the chains in place of the arcs, with capsules along them, holds the region.
+//! Whoever makes chains of chords for the arcs of a contour, the checks here say whether the polygon
+//! with the chains in place of the arcs, with capsules along them, holds the region, and whether another
+//! polygon lies in it.
 //!
 //! - `above`: whether polygon and capsules hold the region.
+//! - `below`: whether a polygon lies in it.
 //! - `links`: how often a chain goes round.
 //! - `laws`: laws over the definitions alone.
 #![tactic(auto)]
 
 mod above;
+mod below;
 pub mod laws;
 mod links;
 
 pub use above::is_above;
+pub use below::is_below;
 pub use planar::Spot;
 
 /// A round arc about `centre` to `end`, in u. Where it begins and ends at one spot, it is the whole
