@@ -165,4 +165,3 @@ by_end a b r p h = record {
 
     once : (n r : ℤ) → n *ℤ pos 1 *ℤ r ≡ n *ℤ r
     once n r = simp ring
-

@@ -8,4 +8,5 @@ mod Fans
 mod Sectors
 mod Arcs
 mod Inside
+mod Read
 mod Regions

@@ -179,7 +179,7 @@ module _ (p : Point) (possible : PossiblyOfEach) (between : TakenIsBetween) (c s
 
   chain_told : (odd (edges_from s (above.second ∷ above.rest)) p.x p.y p.n ≡ xor (crossed (record { start = s; end = e }) p.x p.y p.n) in_segment) ⊎ InChain chain (pos r) p
   chain_told = elim (arc_told margin margin_from narrow p c above.judged.centre (dot_of c s s) s e above.judged.start above.judged.end refl (sym even) room.least room.most above.near above.far (pos r) room.room
-    above.second above.rest placed.1.0 placed.1.1 above.links last turns') [ inl h ↦ inl h | inr h ↦ inr (in_chain h) ]
+      above.second above.rest placed.1.0 placed.1.1 above.links last turns') [ inl h ↦ inl h | inr h ↦ inr (in_chain h) ]
 
   r_some : pos 1 ≤ℤ dot_of c s s
   r_some = elim (le_or_lt (pos 1) (dot_of c s s)) [ inl l ↦ l | inr g ↦ absurd (none g) ]
@@ -378,8 +378,8 @@ module _ (frame : Frame) (points : List Spot) where
         links = λ p inside on. elim on [ inl k ↦ c.links p inside k | inr k ↦ r.links p inside k ];
         inside =
             ap (λ (b : Bool). xor o b) (odd_append a (corners_by x.part x.chain.items) (corners_behind rest) q.x q.y (pos 1)
-              ∙ ap (λ (s : Spot). xor (odd (edges_from a (corners_by x.part x.chain.items)) q.x q.y (pos 1)) (odd (edges_from s (corners_behind rest)) q.x q.y (pos 1))) t.ends
-              ∙ ap (λ (b : Bool). xor b (odd (edges_from (end_of x.part) (corners_behind rest)) q.x q.y (pos 1))) c.same)
+            ∙ ap (λ (s : Spot). xor (odd (edges_from a (corners_by x.part x.chain.items)) q.x q.y (pos 1)) (odd (edges_from s (corners_behind rest)) q.x q.y (pos 1))) t.ends
+            ∙ ap (λ (b : Bool). xor b (odd (edges_from (end_of x.part) (corners_behind rest)) q.x q.y (pos 1))) c.same)
             ∙ sym (xor-assoc o (odd_part q a x.part x.chain.items) (odd (edges_from (end_of x.part) (corners_behind rest)) q.x q.y (pos 1))) ∙ r.inside;
       }
 

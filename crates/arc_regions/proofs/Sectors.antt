@@ -232,6 +232,7 @@ module _ (m : ℤ) (hm : pos 2 ≤ℤ m) (narrow : (a b : Spot) → IsPlaced a �
       | inr (inl h) ↦ inr (inr h)
       | inr (inr h) ↦ inr (inl h)
     ]
+
     -- ends on both sides of the centre
     opposite : (s.x ≡ e.x → s.y ≡ e.y → ⊥) → cross_of c s e ≡ pos 0 → (e.x -ℤ c.x ≡ neg_ℤ (s.x -ℤ c.x)) × (e.y -ℤ c.y ≡ neg_ℤ (s.y -ℤ c.y))
     opposite apart flat = plain (s.x -ℤ c.x) (s.y -ℤ c.y) (e.x -ℤ c.x) (e.y -ℤ c.y) rs re flat (λ h k. apart (omega (arith, linear, h)) (omega (arith, linear, k)))

@@ -25,7 +25,9 @@ fn is_even(start: Spot, bend: &Bend) -> bool
     requires end_placed { IsPlaced bend.now.end }
     ensures { IsTrue result ↔ (dot_of bend.now.centre start start ≡ dot_of bend.now.centre bend.now.end bend.now.end) }
 {
-    dot(bend.centre, start, start).unsigned_abs() == dot(bend.centre, bend.end, bend.end).unsigned_abs()
+    let first = dot(bend.centre, start, start);
+    let last = dot(bend.centre, bend.end, bend.end);
+    first.unsigned_abs() == last.unsigned_abs()
 }
 
 /// The arc from `start`, as a draw of no width.

@@ -4,8 +4,9 @@ ghost use Rattle.arc_regions.specs.Taken.{AreClear, IsClear, IsPartClear, IsStre
 ghost use Rattle.area_contact.specs.Contour.{InArea, area_box, edges_from, edges_of, first_of};
 ghost use Rattle.area_contact.specs.Parity.{crossed, odd};
 ghost use Rattle.arcs.specs.Chains.{EachFrom};
-ghost use Rattle.contact.specs.Solid.{IsInside};
-ghost use Rattle.planar.specs.Plane.{IsPlaced, Point};
+ghost use Rattle.contact.specs.Round.{box_of};
+ghost use Rattle.contact.specs.Solid.{IsInside, SharePoint};
+ghost use Rattle.planar.specs.Plane.{InCapsule, IsPlaced, Point};
 ghost use Rattle.std.specs.Prelude.{All, IsTrue, pos, ◌≡◌, ◌↔◌};
 
 use super::above::{end_of, is_same, is_stretch};
@@ -17,7 +18,31 @@ use planar::{Frame, Spot, is_placed, ray_crosses};
 use std::sync::ledger::Ledger;
 use steps::Steps;
 
-/// Whether the capsule from `a` to `b` lies in the frame and shares no point with the area.
+/// Whether both spots are within a metre.
+fn both_placed(a: Spot, b: Spot) -> bool
+    ensures { IsTrue result ↔ (IsPlaced a × IsPlaced b) }
+{
+    is_placed(a) && is_placed(b)
+}
+
+/// Whether the capsule lies in the frame and shares no point with the area.
+fn capsule_clear<L: Ledger>(
+    area: &Area,
+    capsule: &Capsule,
+    frame: Frame,
+    tests: &mut Steps<L>,
+) -> bool
+    requires inside { IsInside (area_box area.now.points.items) frame }
+    ensures { IsTrue result ↔ (IsInside (box_of capsule.now.a capsule.now.b capsule.now.r) frame × ¬ SharePoint (InArea (edges_of area.now.points.items)) (InCapsule capsule.now.a capsule.now.b capsule.now.r)) }
+{
+    if capsule.bounds().inside(frame) {
+        !area.meets(capsule, frame, tests)
+    } else {
+        false
+    }
+}
+
+/// Whether the capsule from `a` to `b` is one, and does.
 fn is_clear<L: Ledger>(
     area: &Area,
     a: Spot,
@@ -29,14 +54,14 @@ fn is_clear<L: Ledger>(
     requires inside { IsInside (area_box area.now.points.items) frame }
     ensures { IsTrue result ↔ IsClear frame area.now.points.items r a b }
 {
-    if r > MOST_RADIUS as u64 || !(is_placed(a) && is_placed(b)) {
+    if r > MOST_RADIUS as u64 {
+        return false;
+    }
+    if !both_placed(a, b) {
         return false;
     }
     let capsule = Capsule::new(a, b, r as i64);
-    if !capsule.bounds().inside(frame) {
-        return false;
-    }
-    !area.meets(&capsule, frame, tests)
+    capsule_clear(area, &capsule, frame, tests)
 }
 
 /// Whether each capsule of the chain from `start` is.
@@ -161,6 +186,14 @@ fn stands_clear<L: Ledger>(
     is_stretch(start, stretch) && part_clear(area, start, stretch, frame, tests)
 }
 
+/// The first corner of the area.
+fn first_corner(area: &Area) -> Spot
+    ensures placed { IsPlaced result }
+    ensures first { result ≡ first_of area.now.points.items }
+{
+    area.corner(0)
+}
+
 /// Whether the area lies in the region whose contour begins at `start`. Where it says so, it does; others
 /// that do are refused. The area shares no point with the polygon that has the chains in place of the arcs,
 /// nor with a capsule along a chain, and its first corner lies inside. Area and capsules lie in the frame.
@@ -178,7 +211,7 @@ pub fn is_below<L: Ledger>(
     if !(is_placed(start) && area.bounds().inside(frame)) {
         return false;
     }
-    let corner = area.corner(0);
+    let corner = first_corner(area);
     let mut odd = false;
     let mut from = start;
     for stretch in stretches {

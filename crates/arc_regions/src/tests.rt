@@ -1,8 +1,15 @@
 //! Contours of arcs with radius 5,000 u about whole spots, between spots of one circle, and straight
 //! parts. Their longest chords leave the circle by less than 257 u, and by more than 256.
+ghost use Rattle.std.specs.Prelude.{◌<◌, ◌≡◌};
+
 use super::*;
+use area_contact::Area;
+use planar::{Frame, are_placed};
 use std::alloc::Global;
+use std::marker::Brand;
+use std::sync::ledger::{Blank, Ledger};
 use std::test::Fail;
+use steps::Steps;
 
 fn at(p: (i32, i32)) -> Spot {
     Spot {
@@ -74,12 +81,7 @@ fn half_disc(alloc: Global, radius: u64) -> Result<(Spot, Vec<Stretch>), Fail> {
 }
 
 /// A whole circle, by so many chords.
-fn disc(
-    alloc: Global,
-    links: u8,
-    back: bool,
-    radius: u64,
-) -> Result<(Spot, Vec<Stretch>), Fail> {
+fn disc(alloc: Global, links: u8, back: bool, radius: u64) -> Result<(Spot, Vec<Stretch>), Fail> {
     let mut all = Vec::new(alloc);
     all.push(arc(alloc, (0, 0), 0, links, back, radius)?)?;
     Ok((at((5000, 0)), all))
@@ -144,5 +146,64 @@ fn chains_that_do_not(rt: HostRuntime) -> Result<(), Fail> {
     assert!(rt; !is_above(start, &all));
     let (_, all) = bite(alloc, 257)?;
     assert!(rt; !is_above(at((-9000, -9001)), &all));
+    Ok(())
+}
+
+fn lies_by<L: Ledger>(start: Spot, all: &[Stretch], area: &Area, blank: Blank) -> bool
+    requires name { blank.name ≡ L.name }
+    requires parts { blank.parts ≡ L.parts }
+    requires some { 0 < blank.parts }
+{
+    let mut tests = Steps::<L>::new(blank);
+    let frame = Frame {
+        left: -20_000,
+        low: -20_000,
+    };
+    is_below(start, all, area, frame, &mut tests)
+}
+
+/// Whether the box is taken below the region.
+fn lies(
+    alloc: Global,
+    region: &(Spot, Vec<Stretch>),
+    low: (i32, i32),
+    high: (i32, i32),
+) -> Result<bool, Fail> {
+    let mut corners = Vec::new(alloc);
+    for corner in [low, (high.0, low.1), high, (low.0, high.1), low] {
+        corners.push(at(corner))?;
+    }
+    if !are_placed(&corners) {
+        return Ok(false);
+    }
+    let area = Area::new(alloc, corners)?;
+    Ok(lies_by::<Brand>(region.0, &region.1, &area, Blank::new(1)))
+}
+
+/// Boxes that lie in the regions, boxes that touch or cross the border, and boxes outside.
+#[test]
+fn boxes_within(rt: HostRuntime) -> Result<(), Fail> {
+    let alloc = rt.alloc();
+    let half = half_disc(alloc, 257)?;
+    let whole = disc(alloc, 12, true, 257)?;
+    let bitten = bite(alloc, 257)?;
+    let round = rounded(alloc, 257)?;
+    for (region, low, high, told) in [
+        (&half, (1, -1000), (2000, 1000), true),
+        (&half, (0, -1000), (2000, 1000), false),
+        (&half, (-2000, -1000), (-1, 1000), false),
+        (&half, (1, -1000), (4485, 1000), false),
+        (&whole, (-3000, -3000), (3000, 3000), true),
+        (&whole, (-3400, -3400), (3400, 3400), false),
+        (&whole, (-9000, -9000), (9000, 9000), false),
+        (&bitten, (-8999, -8999), (8999, 3000), true),
+        (&bitten, (-1000, 5000), (1000, 8000), false),
+        (&bitten, (-8999, -8999), (8999, 5000), false),
+        (&bitten, (6000, 0), (8999, 8999), true),
+        (&round, (-12_999, -7999), (12_999, 7999), true),
+        (&round, (-12_999, -7999), (13_000, 7999), false),
+    ] {
+        assert!(rt; lies(alloc, region, low, high)? == told);
+    }
     Ok(())
 }
