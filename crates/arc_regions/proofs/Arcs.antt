@@ -1,9 +1,9 @@
 -- An arc with its chain: where the place is in no capsule, the ray crosses an odd number of the chain's links where it is over the arc.
-use Rattle.std.proofs.Common.{Bool, true, false, IsTrue, not, ◌&&◌, ◌||◌, List, [], ◌∷◌, ◌≡◌, ◌↔◌, ◌⊎◌, inl, inr, ℤ, pos, neg_ℤ, ◌+ℤ◌, ◌-ℤ◌, ◌*ℤ◌, ◌≤ℤ◌, ◌<ℤ◌, arith, refl, sym, ap, ◌∙◌, subst}
-use lib.Signed.{lt_z, le_z}
+use Rattle.std.proofs.Common.{Bool, true, false, IsTrue, not, ◌&&◌, List, [], ◌∷◌, ◌≡◌, ◌↔◌, ◌⊎◌, inl, inr, ℤ, pos, ◌+ℤ◌, ◌-ℤ◌, ◌*ℤ◌, ◌≤ℤ◌, ◌<ℤ◌, arith, refl, sym, ap, ◌∙◌, subst}
+use lib.Signed.{le_z}
 use Rattle.planar.specs.declared.Spot.{Spot}
-use Rattle.planar.specs.Plane.{InCapsule, IsPlaced, Point, cross_of, dot_of, square}
-use Rattle.planar.proofs.Ring.{ring, linear, le_or_lt, square_from_zero, mul_comm, times-zero, zero-times}
+use Rattle.planar.specs.Plane.{IsPlaced, Point, cross_of, dot_of, square}
+use Rattle.planar.proofs.Ring.{linear, le_or_lt, square_from_zero, mul_comm, times-zero, zero-times}
 use Rattle.planar.proofs.EdgeLaw.{xor}
 use Rattle.area_contact.specs.Parity.{odd, passes, side_of, is_le, not_le, is_lt, not_lt, xor-same, xor-equal}
 use Rattle.area_contact.specs.Contour.{edges_from, end_from}
@@ -12,7 +12,6 @@ use Rattle.arcs.specs.Copper.{side_of as side_at}
 use Rattle.arcs.specs.Chains.{EachFrom, IsLink, IsRoom}
 use Rattle.arc_regions.specs.Copper.{InDisc, InSegment, IsRight}
 use Rattle.arc_regions.specs.Taken.{odd_past}
-use Rattle.arc_regions.proofs.Hits.{Sign, over, under}
 use Rattle.arc_regions.proofs.Shifted.{IsNarrow, side_over, side_under, level_rising, level_falling, level_flat}
 use Rattle.arc_regions.proofs.Lengths.{by_start, by_end}
 use Rattle.arc_regions.proofs.Turning.{lt_false, turned}

@@ -1,14 +1,12 @@
 -- A chain of chords round a centre: the ray crosses an odd number of its links where a fan of triangles says so, and the fan fills the turn within the disc, but for slivers.
-use Rattle.std.proofs.Common.{Bool, true, false, IsTrue, not, ◌&&◌, ◌||◌, List, [], ◌∷◌, ◌≡◌, ◌⊎◌, inl, inr, ℤ, pos, neg_ℤ, ◌+ℤ◌, ◌-ℤ◌, ◌*ℤ◌, ◌≤ℤ◌, ◌<ℤ◌, arith, refl, sym, ap, ◌∙◌}
+use Rattle.std.proofs.Common.{Bool, true, false, not, ◌&&◌, ◌||◌, List, [], ◌∷◌, ◌≡◌, ◌⊎◌, inl, inr, ℤ, pos, neg_ℤ, ◌+ℤ◌, ◌-ℤ◌, ◌*ℤ◌, ◌≤ℤ◌, ◌<ℤ◌, arith, refl, sym, ap, ◌∙◌}
 use Rattle.std.specs.Bool.{⊤}
-use Rattle.std.proofs.lemmas.Int.{ints}
 use lib.Signed.{lt_z, le_z}
 use Rattle.planar.specs.declared.Spot.{Spot}
 use Rattle.planar.specs.Plane.{InCapsule, IsPlaced, Point, cross_of, square}
 use Rattle.planar.proofs.Ring.{ring, linear, le_or_lt, times_cancel, times-zero, zero-times}
 use Rattle.planar.proofs.EdgeLaw.{xor}
-use Rattle.area_contact.specs.declared.Edge.{Edge}
-use Rattle.area_contact.specs.Parity.{side_of, crossed, passes, odd, is_le, not_le, xor-same, xor-comm, xor-chain, or-false}
+use Rattle.area_contact.specs.Parity.{side_of, crossed, passes, odd, is_le, not_le, xor-same, xor-chain}
 use Rattle.area_contact.specs.Contour.{edges_from, end_from}
 use Rattle.arcs.specs.Copper.{reach_of, InFrom}
 use Rattle.arcs.specs.Copper.{side_of as side_at}

@@ -1,8 +1,7 @@
 -- A triangle and the ray, told by heights and turns alone.
-use Rattle.std.proofs.Common.{Bool, true, false, not, ◌&&◌, ◌||◌, ◌≡◌, ◌⊎◌, inl, inr, ℤ, pos, neg_ℤ, ◌+ℤ◌, ◌*ℤ◌, ◌≤ℤ◌, ◌<ℤ◌, arith, refl, sym, ◌∙◌}
-use Rattle.std.proofs.lemmas.Int.{ints}
+use Rattle.std.proofs.Common.{Bool, true, false, ◌&&◌, ◌||◌, ◌≡◌, ℤ, pos, neg_ℤ, ◌+ℤ◌, ◌*ℤ◌, ◌≤ℤ◌, ◌<ℤ◌, arith, refl, sym, ◌∙◌}
 use lib.Signed.{lt_z}
-use Rattle.planar.proofs.Ring.{ring, linear, le_or_lt, times_from_zero, over_zero, neg-mul, mul-neg}
+use Rattle.planar.proofs.Ring.{linear, times_from_zero, over_zero, neg-mul, mul-neg}
 use Rattle.planar.proofs.EdgeLaw.{xor, crosses}
 use Rattle.area_contact.specs.Parity.{is_lt, not_lt, is_le, not_le}
 

@@ -1,5 +1,5 @@
 -- An area that shares no point with the edges of a contour lies inside it where its first corner does.
-use Rattle.std.proofs.Common.{Bool, true, false, IsTrue, arith, sym, ℤ, pos, List, [], ◌∷◌, ◌*ℤ◌, ◌<ℤ◌, ◌∙◌, ◌≡◌, ◌≤ℤ◌, ◌⊎◌, inl, inr}
+use Rattle.std.proofs.Common.{false, IsTrue, arith, sym, ℤ, pos, List, [], ◌∷◌, ◌*ℤ◌, ◌<ℤ◌, ◌∙◌, ◌≡◌, ◌≤ℤ◌, inl, inr}
 use Rattle.planar.specs.declared.Spot.{Spot}
 use Rattle.planar.specs.Plane.{Point, InCapsule, Share}
 use Rattle.planar.proofs.Ring.{ring, linear, over_zero, mul_comm, one-times, times-one, le_or_lt}

@@ -1,8 +1,8 @@
 -- Lengths of vectors and places of chords, told by squares. (The lemmas of `arcs` of these names are its own.)
-use Rattle.std.proofs.Common.{◌≡◌, ◌⊎◌, inl, inr, ℤ, pos, neg_ℤ, ◌+ℤ◌, ◌-ℤ◌, ◌*ℤ◌, ◌≤ℤ◌, ◌<ℤ◌, arith}
+use Rattle.std.proofs.Common.{◌≡◌, inl, inr, ℤ, pos, ◌+ℤ◌, ◌-ℤ◌, ◌*ℤ◌, ◌≤ℤ◌, ◌<ℤ◌, arith}
 use Rattle.planar.specs.declared.Spot.{Spot}
 use Rattle.planar.specs.Plane.{InCapsule, Point, square}
-use Rattle.planar.proofs.Ring.{ring, linear, mul_assoc, le_or_lt, times_from_zero, square_from_zero, square_mono, square_zero, times_mono, times_cancel, square_cancel, times-zero}
+use Rattle.planar.proofs.Ring.{ring, linear, le_or_lt, times_from_zero, square_from_zero, square_zero, times_mono, times_cancel, square_cancel, times-zero}
 use Rattle.arcs.specs.Chains.{IsChord}
 use Rattle.arcs.specs.Copper.{reach_of}
 

@@ -1,5 +1,5 @@
 -- What the code's answers tell.
-use Rattle.std.proofs.Common.{ℕ, ◌≤◌, ◌<◌, Bool, IsTrue, List, [], ◌∷◌, length, All, slice_index_or, ◌≡◌, ◌↔◌, ℤ, pos, arith, subst, sym, refl}
+use Rattle.std.proofs.Common.{ℕ, ◌≤◌, Bool, IsTrue, List, [], ◌∷◌, length, All, slice_index_or, ◌≡◌, ◌↔◌, ℤ, pos, arith, subst, sym}
 use Rattle.planar.specs.Plane.{InCapsule, IsPlaced}
 use Rattle.planar.specs.declared.Frame.{Frame}
 use Rattle.planar.specs.declared.Spot.{Spot}

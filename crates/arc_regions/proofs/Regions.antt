@@ -1,5 +1,5 @@
 -- A whole contour, part by part.
-use Rattle.std.proofs.Common.{ℕ, ◌+◌, ◌-◌, ◌/◌, Bool, true, false, IsTrue, not, ◌&&◌, int_lt, if◌then◌else◌, List, [], ◌∷◌, ◌++◌, reverse, All, ◌≡◌, ◌↔◌, ◌⊎◌, inl, inr, ℤ, pos, neg_ℤ, ◌+ℤ◌, ◌-ℤ◌, ◌*ℤ◌, ◌≤ℤ◌, ◌<ℤ◌, arith, refl, sym, ap, ◌∙◌, subst}
+use Rattle.std.proofs.Common.{ℕ, ◌-◌, ◌/◌, Bool, true, false, IsTrue, int_lt, if◌then◌else◌, List, [], ◌∷◌, ◌++◌, reverse, All, ◌≡◌, ◌↔◌, ◌⊎◌, inl, inr, ℤ, pos, ◌+ℤ◌, ◌-ℤ◌, ◌*ℤ◌, ◌≤ℤ◌, ◌<ℤ◌, arith, refl, sym, ap, ◌∙◌, subst}
 use Rattle.std.specs.Int.{int_min, int_max}
 use Rattle.std.proofs.lemmas.Int.{ints, clamps}
 use Rattle.std.proofs.lemmas.List.{reverse-append}
@@ -7,24 +7,23 @@ use Rattle.std.proofs.lemmas.List.Elements.{All-head, All-tail}
 use Rattle.planar.specs.declared.Spot.{Spot}
 use Rattle.planar.specs.declared.Frame.{Frame}
 use Rattle.planar.specs.declared.TheConstants.{METRE}
-use Rattle.planar.specs.Plane.{InCapsule, IsPlaced, Point, at, cross_of, dot_of, square}
+use Rattle.planar.specs.Plane.{InCapsule, IsPlaced, Point, at, dot_of, square}
 use Rattle.planar.proofs.Ring.{ring, linear, le_or_lt, square_from_zero, square_zero, over_zero, zero-times}
 use Rattle.planar.proofs.EdgeLaw.{xor}
 use Rattle.area_contact.specs.declared.Edge.{Edge}
 use Rattle.area_contact.specs.Parity.{crossed, crossed_is, odd, odd_is, one_is, passes, xor-comm}
-use Rattle.area_contact.specs.Contour.{InArea, IsContour, OnEdge, SomeEdge, edges_from, edges_of, end_from}
+use Rattle.area_contact.specs.Contour.{InArea, OnEdge, SomeEdge, edges_from, edges_of, end_from}
 use Rattle.area_contact.proofs.Hits.{on_turned}
-use Rattle.arcs.specs.Copper.{InChain, InFrom, InRing, InTurn, Possibly, greater, inmost, lesser, outmost, reach_of, spread, swing, times, unlike}
-use Rattle.arcs.specs.Chains.{EachFrom, EndsAt, HasRoom, IsRoom}
+use Rattle.arcs.specs.Copper.{InChain, InFrom, InTurn, inmost, outmost, reach_of, spread, swing, times, unlike}
+use Rattle.arcs.specs.Chains.{EachFrom, EndsAt, HasRoom}
 use Rattle.arcs.specs.Laws.{PossiblyOfEach, TakenIsBetween}
 use Rattle.arcs.specs.Taken.{TakenAbove as ChainAbove}
 use Rattle.arcs.specs.declared.Arc.{Arc}
 use Rattle.arc_regions.specs.Copper.{InRegion, InSegment, IsOver, OddOver, OnBorder, OnCircle, OnPart, end_of}
 use Rattle.arc_regions.specs.Laws.{TakenHolds, TakenLies}
-use Rattle.arc_regions.specs.Taken.{AreAround, AreClear, AreStretches, InCapsules, IsClear, IsPartClear, InLinks, IsStretch, StandsAs, StandsFor, behind_first, corners_behind, corners_by, odd_part, odd_past, odd_round, parts_of}
+use Rattle.arc_regions.specs.Taken.{AreAround, AreClear, AreStretches, InCapsules, IsClear, IsPartClear, InLinks, StandsAs, StandsFor, behind_first, corners_behind, corners_by, odd_part, odd_past, odd_round, parts_of}
 use Rattle.arc_regions.specs.declared.Part.{Part}
 use Rattle.arc_regions.specs.declared.Part.TheVariants.{Straight, Curved}
-use Rattle.arc_regions.specs.declared.Bend.{Bend}
 use Rattle.arc_regions.specs.declared.Stretch.{Stretch}
 use Rattle.arc_regions.proofs.Shifted.{IsNarrow}
 use Rattle.arc_regions.proofs.Fans.{ArePlaced, first_two, or-swap}

@@ -1,24 +1,19 @@
 -- An arc and its chord: what the turn within the disc and the circular segment do not share is the triangle over the chord.
-use Rattle.std.proofs.Common.{Bool, true, false, IsTrue, not, ◌&&◌, ◌||◌, int_lt, List, [], ◌∷◌, ◌≡◌, ◌↔◌, ◌⊎◌, inl, inr, ℤ, pos, neg_ℤ, ◌+ℤ◌, ◌-ℤ◌, ◌*ℤ◌, ◌≤ℤ◌, ◌<ℤ◌, arith, refl, sym, ap, ◌∙◌, subst}
-use Rattle.std.proofs.lemmas.Int.{ints}
+use Rattle.std.proofs.Common.{Bool, true, false, not, ◌&&◌, ◌||◌, ◌≡◌, ◌⊎◌, inl, inr, ℤ, pos, neg_ℤ, ◌+ℤ◌, ◌-ℤ◌, ◌*ℤ◌, ◌≤ℤ◌, ◌<ℤ◌, arith, refl, sym, ap, ◌∙◌}
 use lib.Signed.{lt_z, le_z}
 use Rattle.planar.specs.declared.Spot.{Spot}
 use Rattle.planar.specs.Plane.{IsPlaced, Point, cross_of, dot_of, square}
 use Rattle.planar.proofs.Ring.{ring, linear, le_or_lt, square_from_zero, square_over, square_cancel, square_zero, square-neg, times-zero}
 use Rattle.planar.proofs.EdgeLaw.{xor}
-use Rattle.area_contact.specs.Parity.{odd, is_le, not_le, is_lt, not_lt, xor-same}
-use Rattle.area_contact.specs.Contour.{edges_from, end_from}
-use Rattle.arcs.specs.Copper.{reach_of, InFrom}
+use Rattle.area_contact.specs.Parity.{is_le, not_le, is_lt, not_lt, xor-same}
+use Rattle.arcs.specs.Copper.{reach_of}
 use Rattle.arcs.specs.Copper.{side_of as side_at}
-use Rattle.arcs.specs.Chains.{EachFrom, IsLink, IsRoom}
-use Rattle.arc_regions.specs.Copper.{InDisc, InSegment, IsRight}
-use Rattle.arc_regions.specs.Taken.{odd_past}
 use Rattle.arc_regions.proofs.Hits.{Sign, over, under, is_over, is_under}
-use Rattle.arc_regions.proofs.Shifted.{IsNarrow, side_over, side_under, level_rising, level_falling, level_flat}
+use Rattle.arc_regions.proofs.Shifted.{IsNarrow}
 use Rattle.arc_regions.proofs.Lengths.{norm, norm_from_zero, lagrange}
 use Rattle.arc_regions.proofs.Chords.{at_start, under_square, within}
 use Rattle.arc_regions.proofs.Turning.{lt_true, lt_false, swept, turned}
-use Rattle.arc_regions.proofs.Fans.{ArePlaced, and-false, both_ends, chain_crossed, chain_turned, chord_side, edge_back, fan, fan_by, sign_not, first_two, inside, last_two, left_from, on_left, over_edge, right_from, shifted, shifted_back, shifted_sum, side_same, sign_of, wedges}
+use Rattle.arc_regions.proofs.Fans.{both_ends, chord_side, edge_back, fan, fan_by, sign_not, first_two, last_two, left_from, on_left, over_edge, right_from, shifted, shifted_back, shifted_sum, sign_of}
 
 -- ---- tests
 

@@ -1,15 +1,12 @@
 -- A place a little to the right of another, and by far less above it: no line through two spots holds it, and the ray crosses the same edges.
 -- With k = m m for an m that is over all differences of coordinates it is (x k + m, y k + 1) / (n k).
-use Rattle.std.proofs.Common.{Bool, true, false, not, ◌&&◌, ◌||◌, ◌≡◌, ◌⊎◌, inl, inr, ℤ, pos, neg_ℤ, ◌+ℤ◌, ◌-ℤ◌, ◌*ℤ◌, ◌≤ℤ◌, ◌<ℤ◌, arith, refl, sym, ap, ◌∙◌}
-use Rattle.std.proofs.lemmas.Int.{ints}
+use Rattle.std.proofs.Common.{Bool, false, ◌||◌, ◌≡◌, inl, inr, ℤ, pos, neg_ℤ, ◌+ℤ◌, ◌-ℤ◌, ◌*ℤ◌, ◌≤ℤ◌, ◌<ℤ◌, arith, refl, sym, ap, ◌∙◌}
 use lib.Signed.{lt_z, le_z}
 use Rattle.planar.specs.declared.Spot.{Spot}
 use Rattle.planar.specs.Plane.{square}
-use Rattle.planar.proofs.Ring.{ring, linear, le_or_lt, times_from_zero, times_mono, times_cancel, times-one, times-zero, zero-times, over_zero, neg-mul, mul-neg, square_over}
-use Rattle.planar.proofs.EdgeLaw.{xor, crosses}
-use Rattle.area_contact.specs.declared.Edge.{Edge}
-use Rattle.area_contact.specs.Parity.{side_of, passes, crossed, odd, is_lt, not_lt, is_le, not_le, same_lt, same_le, same_crosses}
-use Rattle.area_contact.specs.Contour.{edges_from}
+use Rattle.planar.proofs.Ring.{ring, linear, le_or_lt, times_from_zero, times_mono, times-one, times-zero, zero-times, neg-mul, mul-neg}
+use Rattle.planar.proofs.EdgeLaw.{crosses}
+use Rattle.area_contact.specs.Parity.{side_of, passes, crossed, is_lt, not_lt, is_le, not_le, same_crosses}
 use Rattle.arc_regions.proofs.Hits.{Sign, is_over, is_under, hit}
 
 -- the differences of two spots are under m

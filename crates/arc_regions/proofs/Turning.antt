@@ -1,11 +1,10 @@
 -- How the links of a chain turn past a place, round a centre, from a first direction on.
-use Rattle.std.proofs.Common.{Bool, true, false, not, ◌&&◌, ◌||◌, if◌then◌else◌, int_lt, ◌≡◌, ◌⊎◌, inl, inr, ℤ, pos, negsuc, neg_ℤ, ◌+ℤ◌, ◌*ℤ◌, ◌≤ℤ◌, ◌<ℤ◌, arith, refl, sym, ◌∙◌}
+use Rattle.std.proofs.Common.{Bool, true, false, not, ◌&&◌, ◌||◌, if◌then◌else◌, int_lt, ◌≡◌, inl, inr, ℤ, pos, negsuc, neg_ℤ, ◌+ℤ◌, ◌*ℤ◌, ◌≤ℤ◌, ◌<ℤ◌, arith, refl}
 use Rattle.std.proofs.lemmas.Int.{ints}
-use Rattle.std.proofs.lemmas.Grind.{common_steps}
 use lib.Signed.{lt_z}
 use Rattle.planar.proofs.Ring.{linear, le_or_lt, over_zero, neg-mul, mul-neg}
 use Rattle.planar.proofs.EdgeLaw.{xor}
-use Rattle.arc_regions.proofs.Hits.{Sign, over, under, more, less, most, least}
+use Rattle.arc_regions.proofs.Hits.{Sign, over, under, more, less, most}
 
 pub lt_true : (z : ℤ) → z <ℤ pos 0 → int_lt z (pos 0) ≡ true
 lt_true (pos n) h = absurd (omega (arith, ints, h))

@@ -1,6 +1,6 @@
 -- The copper of a contour with arcs, as a set of rational points, without roots and angles.
 -- Sources, cited as docs/FORMATS.md says: Gerber Layer Format Specification, 4.10 (a region is bounded by closed contours of straight and round segments), 4.7.2 (arcs: G02, G03, G75, the whole turn)
-use Rattle.std.specs.Prelude.{Bool, if◌then◌else◌, List, [], ◌∷◌, ℤ, pos, ◌*ℤ◌, ◌≤ℤ◌, ◌<ℤ◌, ◌≡◌, ◌⊎◌}
+use Rattle.std.specs.Prelude.{if◌then◌else◌, List, [], ◌∷◌, pos, ◌*ℤ◌, ◌≤ℤ◌, ◌<ℤ◌, ◌≡◌, ◌⊎◌}
 use Rattle.planar.specs.Plane.{InCapsule, Point, RayCrosses, dot_of, square}
 use Rattle.planar.specs.declared.Spot.{Spot}
 use Rattle.area_contact.specs.Contour.{ExactlyOne}

@@ -1,5 +1,5 @@
 -- Exactly which chains the checks take.
-use Rattle.std.specs.Prelude.{ℕ, Bool, not, ◌&&◌, false, IsTrue, if◌then◌else◌, List, [], ◌∷◌, ◌++◌, reverse, map, ℤ, pos, int_lt, ⊤, ◌≡◌, ◌↔◌, ◌⊎◌}
+use Rattle.std.specs.Prelude.{ℕ, Bool, not, ◌&&◌, false, IsTrue, if◌then◌else◌, List, [], ◌∷◌, ◌++◌, reverse, map, pos, int_lt, ⊤, ◌≡◌, ◌↔◌, ◌⊎◌}
 use Rattle.planar.specs.Plane.{InCapsule, IsPlaced, Point, cross_of, dot_of}
 use Rattle.planar.specs.declared.Frame.{Frame}
 use Rattle.planar.specs.declared.Spot.{Spot}

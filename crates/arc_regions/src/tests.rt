@@ -19,7 +19,7 @@ fn at(p: (i32, i32)) -> Spot {
 }
 
 /// Spot `k` of twelve, counterclockwise.
-fn on_ring(k: u8) -> (i16, i16) {
+fn on_ring(k: u16) -> (i16, i16) {
     let (x, y) = match k % 3 {
         0 => (5000, 0),
         1 => (4000, 3000),
@@ -33,7 +33,7 @@ fn on_ring(k: u8) -> (i16, i16) {
     }
 }
 
-fn ring_spot(centre: (i16, i16), k: u8) -> Spot {
+fn ring_spot(centre: (i16, i16), k: u16) -> Spot {
     let (x, y) = on_ring(k);
     at((centre.0 as i32 + x as i32, centre.1 as i32 + y as i32))
 }
@@ -56,10 +56,12 @@ fn arc(
     radius: u64,
 ) -> Result<Stretch, Fail> {
     let mut chain = Vec::new(alloc);
-    for i in 0..links + 1 {
-        chain.push(ring_spot(centre, k + i))?;
+    let first = k as u16;
+    for i in 0..links as u16 + 1 {
+        chain.push(ring_spot(centre, first.saturating_add(i)))?;
     }
-    let end = if back { k } else { k + links };
+    let last = first + links as u16;
+    let end = if back { first } else { last };
     let bend = Bend {
         centre: at((centre.0 as i32, centre.1 as i32)),
         end: ring_spot(centre, end),
