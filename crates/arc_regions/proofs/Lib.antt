@@ -1,0 +1,12 @@
+mod Hits
+mod Shifted
+mod Turning
+mod Lengths
+mod Slivers
+mod Chords
+mod Fans
+mod Sectors
+mod Arcs
+mod Inside
+mod Read
+mod Regions

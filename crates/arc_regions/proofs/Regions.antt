@@ -1,0 +1,397 @@
+-- A whole contour, part by part.
+use Rattle.std.proofs.Common.{ℕ, ◌-◌, ◌/◌, Bool, true, false, IsTrue, int_lt, if◌then◌else◌, List, [], ◌∷◌, ◌++◌, reverse, All, ◌≡◌, ◌↔◌, ◌⊎◌, inl, inr, ℤ, pos, ◌+ℤ◌, ◌-ℤ◌, ◌*ℤ◌, ◌≤ℤ◌, ◌<ℤ◌, arith, refl, sym, ap, ◌∙◌, subst}
+use Rattle.std.specs.Int.{int_min, int_max}
+use Rattle.std.proofs.lemmas.Int.{ints, clamps}
+use Rattle.std.proofs.lemmas.List.{reverse-append}
+use Rattle.std.proofs.lemmas.List.Elements.{All-head, All-tail}
+use Rattle.planar.specs.declared.Spot.{Spot}
+use Rattle.planar.specs.declared.Frame.{Frame}
+use Rattle.planar.specs.declared.TheConstants.{METRE}
+use Rattle.planar.specs.Plane.{InCapsule, IsPlaced, Point, at, dot_of, square}
+use Rattle.planar.proofs.Ring.{ring, linear, le_or_lt, square_from_zero, square_zero, over_zero, zero-times}
+use Rattle.planar.proofs.EdgeLaw.{xor}
+use Rattle.area_contact.specs.declared.Edge.{Edge}
+use Rattle.area_contact.specs.Parity.{crossed, crossed_is, odd, odd_is, one_is, passes, xor-comm}
+use Rattle.area_contact.specs.Contour.{InArea, OnEdge, SomeEdge, edges_from, edges_of, end_from}
+use Rattle.area_contact.proofs.Hits.{on_turned}
+use Rattle.arcs.specs.Copper.{InChain, InFrom, InTurn, inmost, outmost, reach_of, spread, swing, times, unlike}
+use Rattle.arcs.specs.Chains.{EachFrom, EndsAt, HasRoom}
+use Rattle.arcs.specs.Laws.{PossiblyOfEach, TakenIsBetween}
+use Rattle.arcs.specs.Taken.{TakenAbove as ChainAbove}
+use Rattle.arcs.specs.declared.Arc.{Arc}
+use Rattle.arc_regions.specs.Copper.{InRegion, InSegment, IsOver, OddOver, OnBorder, OnCircle, OnPart, end_of}
+use Rattle.arc_regions.specs.Laws.{TakenHolds, TakenLies}
+use Rattle.arc_regions.specs.Taken.{AreAround, AreClear, AreStretches, InCapsules, IsClear, IsPartClear, InLinks, StandsAs, StandsFor, behind_first, corners_behind, corners_by, odd_part, odd_past, odd_round, parts_of}
+use Rattle.arc_regions.specs.declared.Part.{Part}
+use Rattle.arc_regions.specs.declared.Part.TheVariants.{Straight, Curved}
+use Rattle.arc_regions.specs.declared.Stretch.{Stretch}
+use Rattle.arc_regions.proofs.Shifted.{IsNarrow}
+use Rattle.arc_regions.proofs.Fans.{ArePlaced, first_two, or-swap}
+use Rattle.arc_regions.proofs.Sectors.{false-back}
+use Rattle.arc_regions.proofs.Inside.{all_inside}
+use Rattle.arc_regions.proofs.Arcs.{arc_told, segment, segment_is}
+
+-- ---- rows of edges
+
+xor-assoc : (a b c : Bool) → xor (xor a b) c ≡ xor a (xor b c)
+xor-assoc true true true = refl
+xor-assoc true true false = refl
+xor-assoc true false true = refl
+xor-assoc true false false = refl
+xor-assoc false b c = refl
+
+odd_append : (a : Spot) (xs ys : List Spot) (x y n : ℤ) → odd (edges_from a (xs ++ ys)) x y n ≡ xor (odd (edges_from a xs) x y n) (odd (edges_from (end_from a xs) ys) x y n)
+odd_append a [] ys x y n = refl
+odd_append a (b ∷ xs) ys x y n =
+    ap (λ (z : Bool). xor (crossed (record { start = a; end = b }) x y n) z) (odd_append b xs ys x y n)
+    ∙ sym (xor-assoc (crossed (record { start = a; end = b }) x y n) (odd (edges_from b xs) x y n) (odd (edges_from (end_from b xs) ys) x y n))
+
+end_append : (a : Spot) (xs ys : List Spot) → end_from a (xs ++ ys) ≡ end_from (end_from a xs) ys
+end_append a [] ys = refl
+end_append a (b ∷ xs) ys = end_append b xs ys
+
+some_behind : (P : Edge → Type 0) (a : Spot) (xs ys : List Spot) → SomeEdge P (edges_from (end_from a xs) ys) → SomeEdge P (edges_from a (xs ++ ys))
+some_behind P a [] ys h = h
+some_behind P a (b ∷ xs) ys h = inr (some_behind P b xs ys h)
+
+some_before : (P : Edge → Type 0) (a : Spot) (xs ys : List Spot) → SomeEdge P (edges_from a xs) → SomeEdge P (edges_from a (xs ++ ys))
+some_before P a [] ys h = absurd h
+some_before P a (b ∷ xs) ys (inl h) = inl h
+some_before P a (b ∷ xs) ys (inr h) = inr (some_before P b xs ys h)
+
+some_of : (P : Edge → Type 0) (a : Spot) (xs ys : List Spot) → SomeEdge P (edges_from a (xs ++ ys)) → SomeEdge P (edges_from a xs) ⊎ SomeEdge P (edges_from (end_from a xs) ys)
+some_of P a [] ys h = inr h
+some_of P a (b ∷ xs) ys (inl h) = inl (inl h)
+some_of P a (b ∷ xs) ys (inr h) = elim (some_of P b xs ys h) [ inl k ↦ inl (inr k) | inr k ↦ inr k ]
+
+-- the same line, walked back
+record Back (a : Spot) (rest : List Spot) (x y n : ℤ) : Type 0 where
+  others : List Spot
+  is : reverse (a ∷ rest) ≡ end_from a rest ∷ others
+  ends : end_from (end_from a rest) others ≡ a
+  same : odd (edges_from (end_from a rest) others) x y n ≡ odd (edges_from a rest) x y n
+  on : (z : Point) → SomeEdge (OnEdge z) (edges_from (end_from a rest) others) → SomeEdge (OnEdge z) (edges_from a rest)
+
+walked_back : (a : Spot) (rest : List Spot) (x y n : ℤ) → Back a rest x y n
+walked_back a [] x y n = record { others = []; is = refl; ends = refl; same = refl; on = λ z h. h }
+walked_back a (b ∷ rest) x y n = let w = walked_back b rest x y n in record {
+  others = w.others ++ (a ∷ []);
+  is = reverse-append (a ∷ []) (b ∷ rest) ∙ ap (λ (l : List Spot). l ++ (a ∷ [])) w.is;
+  ends = end_append (end_from b rest) w.others (a ∷ []);
+  same =
+      odd_append (end_from b rest) w.others (a ∷ []) x y n
+      ∙ ap (λ (z : Spot). xor (odd (edges_from (end_from b rest) w.others) x y n) (odd (edges_from z (a ∷ [])) x y n)) w.ends
+      ∙ ap (λ (z : Bool). xor z (odd (edges_from b (a ∷ [])) x y n)) w.same
+      ∙ xor-comm (odd (edges_from b rest) x y n) (odd (edges_from b (a ∷ [])) x y n)
+      ∙ ap (λ (z : Bool). xor z (odd (edges_from b rest) x y n)) (false-back (crossed (record { start = b; end = a }) x y n) ∙ or-swap (passes b a x y n) (passes a b x y n));
+  on = λ z h. elim (some_of (OnEdge z) (end_from b rest) w.others (a ∷ []) h) [
+    | inl k ↦ inr (w.on z k)
+    | inr k ↦ inl (on_turned a b (pos 0) z (last z (subst (λ (s : Spot). SomeEdge (OnEdge z) (edges_from s (a ∷ []))) w.ends k)))
+  ];
+}
+  where
+    last : (z : Point) → SomeEdge (OnEdge z) (edges_from b (a ∷ [])) → InCapsule b a (pos 0) z
+    last z (inl h) = h
+    last z (inr h) = absurd h
+
+-- ---- the margin
+
+abbrev margin : ℤ
+margin = pos METRE +ℤ pos METRE +ℤ pos 2
+
+margin_from : pos 2 ≤ℤ margin
+margin_from = omega (arith, ints)
+
+narrow : (a b : Spot) → IsPlaced a → IsPlaced b → IsNarrow margin a b
+narrow a b h k = record { right = omega (arith, linear, h.0.0, h.0.1, k.0.0, k.0.1); left = omega (arith, linear, h.0.0, h.0.1, k.0.0, k.0.1); up = omega (arith, linear, h.1.0, h.1.1, k.1.0, k.1.1); down = omega (arith, linear, h.1.0, h.1.1, k.1.0, k.1.1) }
+
+each_placed : (xs : List Spot) → All IsPlaced xs → ArePlaced xs
+each_placed [] h = tt
+each_placed (a ∷ rest) h = (All-head IsPlaced a rest h, each_placed rest (All-tail IsPlaced a rest h))
+
+ends_from : (e a : Spot) (rest : List Spot) → EndsAt e a rest → end_from a rest ≡ e
+ends_from e a [] h = h
+ends_from e a (b ∷ rest) h = ends_from e b rest h
+
+-- ---- a draw whose ends are as far from the centre: its only distance
+
+module _ (a : Arc) (even : dot_of a.centre a.start a.start ≡ dot_of a.centre a.end a.end) where
+  r_from : pos 0 ≤ℤ dot_of a.centre a.start a.start
+  r_from = omega (arith, linear, square_from_zero (a.start.x -ℤ a.centre.x), square_from_zero (a.start.y -ℤ a.centre.y))
+
+  unlike_none : unlike a ≡ pos 0
+  unlike_none = plain (dot_of a.centre a.start a.start) (dot_of a.centre a.end a.end) even
+    where
+      plain : (u v : ℤ) → u ≡ v → int_max u v -ℤ int_min u v ≡ pos 0
+      plain u v h = omega (arith, ints, clamps)
+
+  spread_none : spread a ≡ pos 0
+  spread_none = by (int_lt (swing a) (pos 0)) (unlike a) (pos (times a)) unlike_none
+    where
+      by : (b : Bool) (u t : ℤ) → u ≡ pos 0 → (if b then u *ℤ t else pos 0) ≡ pos 0
+      by true u t h = rw h (zero-times t)
+      by false u t h = refl
+
+  inmost_is : inmost a ≡ dot_of a.centre a.start a.start
+  inmost_is = plain (dot_of a.centre a.start a.start) (dot_of a.centre a.end a.end) (spread a) even spread_none r_from
+    where
+      plain : (u v d : ℤ) → u ≡ v → d ≡ pos 0 → pos 0 ≤ℤ u → int_max (int_min u v -ℤ d) (pos 0) ≡ u
+      plain u v d h k l = omega (arith, ints, clamps)
+
+  outmost_is : outmost a ≡ dot_of a.centre a.start a.start
+  outmost_is = plain (dot_of a.centre a.start a.start) (dot_of a.centre a.end a.end) (spread a) even spread_none
+    where
+      plain : (u v d : ℤ) → u ≡ v → d ≡ pos 0 → int_max u v +ℤ d ≡ u
+      plain u v d h k = omega (arith, ints, clamps)
+
+-- ---- an arc and its chain, counterclockwise from s to e
+
+module _ (p : Point) (possible : PossiblyOfEach) (between : TakenIsBetween) (c s e : Spot) (chain : List Spot) (r : ℕ) (even : dot_of c s s ≡ dot_of c e e)
+    (above : ChainAbove (record { centre = c; start = s; end = e; width = 0 }) chain r) (turns : IsTrue (odd_round c chain) ↔ (s ≡ e)) where
+  abbrev arc : Arc
+  arc = record { centre = c; start = s; end = e; width = 0 }
+
+  placed : ArePlaced (s ∷ above.second ∷ above.rest)
+  placed = each_placed (s ∷ above.second ∷ above.rest) (subst (λ (l : List Spot). All IsPlaced l) above.is above.judged.spots)
+
+  last : end_from above.second above.rest ≡ e
+  last = ends_from e above.second above.rest above.ends
+
+  room : HasRoom (dot_of c s s) (dot_of c s s) above.near above.far (pos r)
+  room = subst (λ (z : ℤ). HasRoom z (dot_of c s s) above.near above.far (pos r)) (inmost_is arc even)
+      (subst (λ (z : ℤ). HasRoom (inmost arc) z above.near above.far (pos r)) (outmost_is arc even) (subst (λ (n : ℕ). HasRoom (inmost arc) (outmost arc) above.near above.far (pos n)) less above.room))
+    where
+      less : r - (0 - 0 / 2) ≡ r
+      less = omega arith
+
+  turns' : IsTrue (odd_past c s s (above.second ∷ above.rest)) ↔ (s ≡ e)
+  turns' = subst (λ (l : List Spot). IsTrue (odd_round c l) ↔ (s ≡ e)) above.is turns
+
+  in_chain : InFrom s (above.second ∷ above.rest) (pos r) p → InChain chain (pos r) p
+  in_chain h = subst (λ (l : List Spot). InChain l (pos r) p) (sym above.is) h
+
+  abbrev in_segment : Bool
+  in_segment = segment margin margin_from narrow p c above.judged.centre (dot_of c s s) s e above.judged.start above.judged.end refl (sym even)
+
+  in_segment_is : IsTrue in_segment ↔ InSegment c s e p
+  in_segment_is = segment_is margin margin_from narrow p c above.judged.centre (dot_of c s s) s e above.judged.start above.judged.end refl (sym even)
+
+  chain_told : (odd (edges_from s (above.second ∷ above.rest)) p.x p.y p.n ≡ xor (crossed (record { start = s; end = e }) p.x p.y p.n) in_segment) ⊎ InChain chain (pos r) p
+  chain_told = elim (arc_told margin margin_from narrow p c above.judged.centre (dot_of c s s) s e above.judged.start above.judged.end refl (sym even) room.least room.most above.near above.far (pos r) room.room
+      above.second above.rest placed.1.0 placed.1.1 above.links last turns') [ inl h ↦ inl h | inr h ↦ inr (in_chain h) ]
+
+  r_some : pos 1 ≤ℤ dot_of c s s
+  r_some = elim (le_or_lt (pos 1) (dot_of c s s)) [ inl l ↦ l | inr g ↦ absurd (none g) ]
+    where
+      none : dot_of c s s <ℤ pos 1 → ⊥
+      none g =
+          let fx = square_from_zero (s.x -ℤ c.x) in let fy = square_from_zero (s.y -ℤ c.y) in
+          let zx : s.x -ℤ c.x ≡ pos 0 = square_zero (s.x -ℤ c.x) (omega (arith, linear, g, fx, fy)) in
+          let zy : s.y -ℤ c.y ≡ pos 0 = square_zero (s.y -ℤ c.y) (omega (arith, linear, g, fx, fy)) in
+          first_two c s above.second above.links.0.0.left (omega (arith, linear, zx)) (omega (arith, linear, zy))
+
+  border_told : OnCircle c s p → InTurn c s e p → InChain chain (pos r) p
+  border_told on turn = (between arc chain r p).1 above (possible arc (dot_of c s s) p (omega (arith, linear, inmost_is arc even)) (omega (arith, linear, outmost_is arc even)) off turn (ring_by (dot_of c s s) (reach_of c p) on))
+    where
+      off : pos 1 ≤ℤ reach_of c p
+      off = rw on (over_zero (square p.n) (dot_of c s s) (over_zero p.n p.n p.positive p.positive) r_some)
+
+      ring_by : (d q : ℤ) → q ≡ square p.n *ℤ d →
+          (((square (pos 2) *ℤ q -ℤ square (pos 2) *ℤ (square p.n *ℤ d)) -ℤ square (p.n *ℤ pos 0)) ≤ℤ pos 0 ⊎ (square ((square (pos 2) *ℤ q -ℤ square (pos 2) *ℤ (square p.n *ℤ d)) -ℤ square (p.n *ℤ pos 0)) ≤ℤ (square (p.n *ℤ pos 0 +ℤ p.n *ℤ pos 0) *ℤ (square (pos 2) *ℤ (square p.n *ℤ d)))))
+          × (((square (pos 2) *ℤ (square p.n *ℤ d) -ℤ square (pos 2) *ℤ q) -ℤ square (p.n *ℤ pos 0)) ≤ℤ pos 0 ⊎ (square ((square (pos 2) *ℤ (square p.n *ℤ d) -ℤ square (pos 2) *ℤ q) -ℤ square (p.n *ℤ pos 0)) ≤ℤ (square (p.n *ℤ pos 0 +ℤ p.n *ℤ pos 0) *ℤ (square (pos 2) *ℤ q))))
+      ring_by d q h = rw h (inl (omega (arith, linear, square_from_zero (p.n *ℤ pos 0))), inl (omega (arith, linear, square_from_zero (p.n *ℤ pos 0))))
+
+-- ---- a part
+
+-- what is told of a part at a place: whether the place is over it, and of its border
+record Told (p : Point) (a : Spot) (part : Part) (chain : List Spot) (r : ℕ) : Type 0 where
+  placed : IsPlaced (end_of part)
+  ends : end_from a (corners_by part chain) ≡ end_of part
+  over : Bool
+  over_is : IsTrue over ↔ IsOver a part p
+  same : (odd (edges_from a (corners_by part chain)) p.x p.y p.n ≡ over) ⊎ InLinks part chain r p
+  border : OnPart a part p → SomeEdge (OnEdge p) (edges_from a (corners_by part chain)) ⊎ InLinks part chain r p
+
+module _ (p : Point) (possible : PossiblyOfEach) (between : TakenIsBetween) where
+  curved : (a c b : Spot) (w : Bool) (chain : List Spot) (r : ℕ) → StandsFor a (record { centre = c; end = b; counterclockwise = w }) chain r → Told p a (Curved (record { centre = c; end = b; counterclockwise = w })) chain r
+  curved a c b true chain r h =
+      let corners : corners_by (Curved (record { centre = c; end = b; counterclockwise = true })) chain ≡ h.above.second ∷ h.above.rest = ap (λ (l : List Spot). corners_by (Curved (record { centre = c; end = b; counterclockwise = true })) l) h.above.is in record {
+        placed = h.above.judged.end;
+        ends = ap (λ (l : List Spot). end_from a l) corners ∙ ends_from b h.above.second h.above.rest h.above.ends;
+        over = xor (crossed (record { start = a; end = b }) p.x p.y p.n) (in_segment p possible between c a b chain r h.even h.above h.turns);
+        over_is = one_is (crossed (record { start = a; end = b }) p.x p.y p.n) (in_segment p possible between c a b chain r h.even h.above h.turns) (crossed_is (record { start = a; end = b }) p) (in_segment_is p possible between c a b chain r h.even h.above h.turns);
+        same = subst (λ (l : List Spot). (odd (edges_from a l) p.x p.y p.n ≡ xor (crossed (record { start = a; end = b }) p.x p.y p.n) (in_segment p possible between c a b chain r h.even h.above h.turns)) ⊎ InChain chain (pos r) p) (sym corners)
+            (chain_told p possible between c a b chain r h.even h.above h.turns);
+        border = λ on. inr (border_told p possible between c a b chain r h.even h.above h.turns on.0 on.1);
+      }
+  curved a c b false chain r h =
+      let w = walked_back b (h.above.second ∷ h.above.rest) p.x p.y p.n in
+      let last : end_from h.above.second h.above.rest ≡ a = ends_from a h.above.second h.above.rest h.above.ends in
+      let corners : corners_by (Curved (record { centre = c; end = b; counterclockwise = false })) chain ≡ w.others = ap (λ (l : List Spot). corners_by (Curved (record { centre = c; end = b; counterclockwise = false })) l) h.above.is ∙ ap behind_first w.is in record {
+        placed = h.above.judged.start;
+        ends = ap (λ (l : List Spot). end_from a l) corners ∙ ap (λ (z : Spot). end_from z w.others) (sym last) ∙ w.ends;
+        over = xor (crossed (record { start = a; end = b }) p.x p.y p.n) (in_segment p possible between c b a chain r (sym h.even) h.above h.turns);
+        over_is = one_is (crossed (record { start = a; end = b }) p.x p.y p.n) (in_segment p possible between c b a chain r (sym h.even) h.above h.turns) (crossed_is (record { start = a; end = b }) p) (in_segment_is p possible between c b a chain r (sym h.even) h.above h.turns);
+        same = elim (chain_told p possible between c b a chain r (sym h.even) h.above h.turns) [
+          | inr k ↦ inr k
+          | inl k ↦ inl (ap (λ (l : List Spot). odd (edges_from a l) p.x p.y p.n) corners ∙ ap (λ (z : Spot). odd (edges_from z w.others) p.x p.y p.n) (sym last) ∙ w.same ∙ k
+              ∙ ap (λ (z : Bool). xor z (in_segment p possible between c b a chain r (sym h.even) h.above h.turns)) (or-swap (passes b a p.x p.y p.n) (passes a b p.x p.y p.n)))
+        ];
+        border = λ on. inr (border_told p possible between c b a chain r (sym h.even) h.above h.turns (on.0 ∙ ap (λ (z : ℤ). square p.n *ℤ z) h.even) on.1);
+      }
+
+  part_told : (a : Spot) (part : Part) (chain : List Spot) (r : ℕ) → StandsAs a part chain r → Told p a part chain r
+  part_told a (Straight b) chain r h = record {
+    placed = h;
+    ends = refl;
+    over = crossed (record { start = a; end = b }) p.x p.y p.n;
+    over_is = crossed_is (record { start = a; end = b }) p;
+    same = inl (false-back (crossed (record { start = a; end = b }) p.x p.y p.n));
+    border = λ on. inl (inl on);
+  }
+  part_told a (Curved t) chain r h = curved a t.centre t.end t.counterclockwise chain r h
+
+  -- ---- the contour
+
+  record AllTold (a : Spot) (xs : List Stretch) : Type 0 where
+    over : Bool
+    over_is : IsTrue over ↔ OddOver a (parts_of xs) p
+    same : (odd (edges_from a (corners_behind xs)) p.x p.y p.n ≡ over) ⊎ InCapsules xs p
+    border : OnBorder a (parts_of xs) p → SomeEdge (OnEdge p) (edges_from a (corners_behind xs)) ⊎ InCapsules xs p
+
+  all_told : (z a : Spot) (xs : List Stretch) → AreStretches z a xs → AllTold a xs
+  all_told z a [] h = record { over = false; over_is = (none, absurd); same = inl refl; border = absurd }
+    where
+      none : IsTrue false → ⊥
+      none h = cc
+  all_told z a (x ∷ rest) h = join (part_told a x.part x.chain.items x.radius h.0) (all_told z (end_of x.part) rest h.1)
+    where
+      join : Told p a x.part x.chain.items x.radius → AllTold (end_of x.part) rest → AllTold a (x ∷ rest)
+      join t o = record {
+        over = xor t.over o.over;
+        over_is = one_is t.over o.over t.over_is o.over_is;
+        same = elim t.same [
+          | inr k ↦ inr (inl k)
+          | inl k ↦ elim o.same [
+            | inr l ↦ inr (inr l)
+            | inl l ↦ inl (odd_append a (corners_by x.part x.chain.items) (corners_behind rest) p.x p.y p.n
+                ∙ ap (λ (s : Spot). xor (odd (edges_from a (corners_by x.part x.chain.items)) p.x p.y p.n) (odd (edges_from s (corners_behind rest)) p.x p.y p.n)) t.ends
+                ∙ ap (λ (s : Bool). xor s (odd (edges_from (end_of x.part) (corners_behind rest)) p.x p.y p.n)) k ∙ ap (λ (s : Bool). xor t.over s) l)
+          ]
+        ];
+        border = on;
+      }
+        where
+          on : OnBorder a (parts_of (x ∷ rest)) p → SomeEdge (OnEdge p) (edges_from a (corners_behind (x ∷ rest))) ⊎ InCapsules (x ∷ rest) p
+          on (inl k) = elim (t.border k) [ inl l ↦ inl (some_before (OnEdge p) a (corners_by x.part x.chain.items) (corners_behind rest) l) | inr l ↦ inr (inl l) ]
+          on (inr k) = elim (o.border k) [
+            | inl l ↦ inl (some_behind (OnEdge p) a (corners_by x.part x.chain.items) (corners_behind rest) (subst (λ (s : Spot). SomeEdge (OnEdge p) (edges_from s (corners_behind rest))) (sym t.ends) l))
+            | inr l ↦ inr (inr l)
+          ]
+
+pub taken_holds : PossiblyOfEach → TakenIsBetween → TakenHolds
+taken_holds possible between a xs p taken inside = by (all_told p possible between a a xs taken.parts) inside
+  where
+    by : AllTold p possible between a xs → InRegion a (parts_of xs) p → InArea (edges_from a (corners_behind xs)) p ⊎ InCapsules xs p
+    by t (inl on) = elim (t.border on) [ inl h ↦ inl (inl h) | inr h ↦ inr h ]
+    by t (inr over) = elim t.same [ inl h ↦ inl (inr ((odd_is (edges_from a (corners_behind xs)) p).0 (h ∙ t.over_is.1 over))) | inr h ↦ inr h ]
+
+-- ---- below
+
+-- the area has no point on the edges that stand for the part, nor in its capsules; and its corner's parity is told by the chain
+record Clear (points : List Spot) (a : Spot) (part : Part) (chain : List Spot) (r : ℕ) (q : Spot) : Type 0 where
+  edges : (z : Point) → InArea (edges_of points) z → SomeEdge (OnEdge z) (edges_from a (corners_by part chain)) → ⊥
+  links : (z : Point) → InArea (edges_of points) z → InLinks part chain r z → ⊥
+  same : odd (edges_from a (corners_by part chain)) q.x q.y (pos 1) ≡ odd_part q a part chain
+
+-- what lies on a segment lies in the capsule
+thicker : (a b : Spot) (r : ℤ) (z : Point) → InCapsule a b (pos 0) z → InCapsule a b r z
+thicker a b r z h = record { i = h.i; m = h.m; from_start = h.from_start; to_end = h.to_end; positive = h.positive; near = omega (arith, linear, h.near, square_from_zero (z.n *ℤ h.m *ℤ r), none (z.n *ℤ h.m)) }
+  where
+    none : (w : ℤ) → square (w *ℤ pos 0) ≡ pos 0
+    none w = simp ring
+
+module _ (frame : Frame) (points : List Spot) where
+  from_clear : (r : ℕ) (a : Spot) (rest : List Spot) → EachFrom (IsClear frame points r) a rest → (z : Point) → InArea (edges_of points) z → InFrom a rest (pos r) z → ⊥
+  from_clear r a [] all z inside h = h
+  from_clear r a (b ∷ rest) all z inside (inl h) = all.0.apart (record { point = z; in_first = inside; in_second = h })
+  from_clear r a (b ∷ rest) all z inside (inr h) = from_clear r b rest all.1 z inside h
+
+  edges_clear : (r : ℕ) (a : Spot) (rest : List Spot) → EachFrom (IsClear frame points r) a rest → (z : Point) → InArea (edges_of points) z → SomeEdge (OnEdge z) (edges_from a rest) → ⊥
+  edges_clear r a [] all z inside h = h
+  edges_clear r a (b ∷ rest) all z inside (inl h) = all.0.apart (record { point = z; in_first = inside; in_second = thicker a b (pos r) z h })
+  edges_clear r a (b ∷ rest) all z inside (inr h) = edges_clear r b rest all.1 z inside h
+
+  curved_clear : (a c b : Spot) (w : Bool) (chain : List Spot) (r : ℕ) (q : Spot) → StandsFor a (record { centre = c; end = b; counterclockwise = w }) chain r → AreClear frame points r chain
+      → Clear points a (Curved (record { centre = c; end = b; counterclockwise = w })) chain r q
+  curved_clear a c b true chain r q h clear =
+      let all : EachFrom (IsClear frame points r) a (h.above.second ∷ h.above.rest) = subst (λ (l : List Spot). AreClear frame points r l) h.above.is clear in
+      let corners : corners_by (Curved (record { centre = c; end = b; counterclockwise = true })) chain ≡ h.above.second ∷ h.above.rest = ap (λ (l : List Spot). corners_by (Curved (record { centre = c; end = b; counterclockwise = true })) l) h.above.is in record {
+        edges = λ z inside on. edges_clear r a (h.above.second ∷ h.above.rest) all z inside (subst (λ (l : List Spot). SomeEdge (OnEdge z) (edges_from a l)) corners on);
+        links = λ z inside on. from_clear r a (h.above.second ∷ h.above.rest) all z inside (subst (λ (l : List Spot). InChain l (pos r) z) h.above.is on);
+        same = ap (λ (l : List Spot). odd (edges_from a l) q.x q.y (pos 1)) corners ∙ sym (ap (λ (l : List Spot). odd (edges_of l) q.x q.y (pos 1)) h.above.is);
+      }
+  curved_clear a c b false chain r q h clear =
+      let all : EachFrom (IsClear frame points r) b (h.above.second ∷ h.above.rest) = subst (λ (l : List Spot). AreClear frame points r l) h.above.is clear in
+      let w = walked_back b (h.above.second ∷ h.above.rest) q.x q.y (pos 1) in
+      let last : end_from h.above.second h.above.rest ≡ a = ends_from a h.above.second h.above.rest h.above.ends in
+      let corners : corners_by (Curved (record { centre = c; end = b; counterclockwise = false })) chain ≡ w.others = ap (λ (l : List Spot). corners_by (Curved (record { centre = c; end = b; counterclockwise = false })) l) h.above.is ∙ ap behind_first w.is in record {
+        edges = λ z inside on. edges_clear r b (h.above.second ∷ h.above.rest) all z inside (w.on z (subst (λ (s : Spot). SomeEdge (OnEdge z) (edges_from s w.others)) (sym last) (subst (λ (l : List Spot). SomeEdge (OnEdge z) (edges_from a l)) corners on)));
+        links = λ z inside on. from_clear r b (h.above.second ∷ h.above.rest) all z inside (subst (λ (l : List Spot). InChain l (pos r) z) h.above.is on);
+        same = ap (λ (l : List Spot). odd (edges_from a l) q.x q.y (pos 1)) corners ∙ ap (λ (s : Spot). odd (edges_from s w.others) q.x q.y (pos 1)) (sym last) ∙ w.same ∙ sym (ap (λ (l : List Spot). odd (edges_of l) q.x q.y (pos 1)) h.above.is);
+      }
+
+  part_clear : (a : Spot) (part : Part) (chain : List Spot) (r : ℕ) (q : Spot) → StandsAs a part chain r → IsPartClear frame points a part chain r → Clear points a part chain r q
+  part_clear a (Straight b) chain r q h clear = record {
+    edges = λ z inside on. clear.apart (record { point = z; in_first = inside; in_second = only z on });
+    links = λ z inside on. on;
+    same = false-back (crossed (record { start = a; end = b }) q.x q.y (pos 1));
+  }
+    where
+      only : (z : Point) → SomeEdge (OnEdge z) (edges_from a (b ∷ [])) → InCapsule a b (pos 0) z
+      only z (inl h) = h
+      only z (inr h) = absurd h
+  part_clear a (Curved t) chain r q h clear = curved_clear a t.centre t.end t.counterclockwise chain r q h clear
+
+  -- the same of the contour from a to z, whose parity o is known before
+  record AllClear (z q : Spot) (o : Bool) (a : Spot) (xs : List Stretch) : Type 0 where
+    stretches : AreStretches z a xs
+    ends : end_from a (corners_behind xs) ≡ z
+    edges : (p : Point) → InArea (edges_of points) p → SomeEdge (OnEdge p) (edges_from a (corners_behind xs)) → ⊥
+    links : (p : Point) → InArea (edges_of points) p → InCapsules xs p → ⊥
+    inside : IsTrue (xor o (odd (edges_from a (corners_behind xs)) q.x q.y (pos 1)))
+
+  all_clear : (possible : PossiblyOfEach) (between : TakenIsBetween) (z q : Spot) (o : Bool) (a : Spot) (xs : List Stretch) → AreAround frame points z q o a xs → AllClear z q o a xs
+  all_clear possible between z q o a [] h = record { stretches = h.0; ends = h.0; edges = λ p inside on. on; links = λ p inside on. on; inside = false-back o ∙ h.1 }
+  all_clear possible between z q o a (x ∷ rest) h =
+      join (part_told (at q) possible between a x.part x.chain.items x.radius h.0.0) (part_clear a x.part x.chain.items x.radius q h.0.0 h.0.1) (all_clear possible between z q (xor o (odd_part q a x.part x.chain.items)) (end_of x.part) rest h.1)
+    where
+      join : Told (at q) a x.part x.chain.items x.radius → Clear points a x.part x.chain.items x.radius q → AllClear z q (xor o (odd_part q a x.part x.chain.items)) (end_of x.part) rest → AllClear z q o a (x ∷ rest)
+      join t c r = record {
+        stretches = (h.0.0, r.stretches);
+        ends = end_append a (corners_by x.part x.chain.items) (corners_behind rest) ∙ ap (λ (s : Spot). end_from s (corners_behind rest)) t.ends ∙ r.ends;
+        edges = λ p inside on. elim (some_of (OnEdge p) a (corners_by x.part x.chain.items) (corners_behind rest) on) [
+          | inl k ↦ c.edges p inside k
+          | inr k ↦ r.edges p inside (subst (λ (s : Spot). SomeEdge (OnEdge p) (edges_from s (corners_behind rest))) t.ends k)
+        ];
+        links = λ p inside on. elim on [ inl k ↦ c.links p inside k | inr k ↦ r.links p inside k ];
+        inside =
+            ap (λ (b : Bool). xor o b) (odd_append a (corners_by x.part x.chain.items) (corners_behind rest) q.x q.y (pos 1)
+            ∙ ap (λ (s : Spot). xor (odd (edges_from a (corners_by x.part x.chain.items)) q.x q.y (pos 1)) (odd (edges_from s (corners_behind rest)) q.x q.y (pos 1))) t.ends
+            ∙ ap (λ (b : Bool). xor b (odd (edges_from (end_of x.part) (corners_behind rest)) q.x q.y (pos 1))) c.same)
+            ∙ sym (xor-assoc o (odd_part q a x.part x.chain.items) (odd (edges_from (end_of x.part) (corners_behind rest)) q.x q.y (pos 1))) ∙ r.inside;
+      }
+
+pub taken_lies : PossiblyOfEach → TakenIsBetween → TakenLies
+taken_lies possible between frame a xs [] p contour taken (inl h) = absurd h
+taken_lies possible between frame a xs [] p contour taken (inr h) = absurd h
+taken_lies possible between frame a xs (b ∷ rest) p contour taken inside = by (all_clear frame (b ∷ rest) possible between a b false a xs taken.parts)
+  where
+    by : AllClear frame (b ∷ rest) a b false a xs → InRegion a (parts_of xs) p
+    by t = told (all_told p possible between a a xs t.stretches)
+      where
+        odd_here : IsTrue (odd (edges_from a (corners_behind xs)) p.x p.y p.n)
+        odd_here = all_inside a (corners_behind xs) b rest t.ends contour.closed (λ z on h. t.edges z h on) t.inside p inside
+
+        told : AllTold p possible between a xs → InRegion a (parts_of xs) p
+        told o = elim o.same [ inl h ↦ inr (o.over_is.0 (sym h ∙ odd_here)) | inr h ↦ absurd (t.links p inside h) ]

@@ -1,0 +1,109 @@
+//! Whether a polygon, with capsules, holds a region.
+ghost use Rattle.arc_regions.specs.Copper.{InRegion, end_of};
+ghost use Rattle.arc_regions.specs.Taken.{InCapsules, arc_of, odd_round, IsStretch, StandsFor, TakenAbove, corners_of, parts_of};
+ghost use Rattle.area_contact.specs.Contour.{InArea, edges_of};
+ghost use Rattle.planar.specs.Plane.{IsPlaced, Point, dot_of};
+ghost use Rattle.std.specs.Prelude.{All, IsTrue, ◌≡◌, ◌↔◌, ◌⊎◌};
+
+use super::laws::taken_holds;
+use super::links::is_odd_round;
+use super::{Bend, Part, Stretch};
+use arcs::Arc;
+use planar::{Spot, are_placed, dot, is_placed};
+
+/// Whether both spots are one.
+pub fn is_same(a: Spot, b: Spot) -> bool
+    ensures { IsTrue result ↔ (a ≡ b) }
+{
+    a.x == b.x && a.y == b.y
+}
+
+/// Whether both ends of the arc from `start` are as far from its centre.
+fn is_even(start: Spot, bend: &Bend) -> bool
+    requires start_placed { IsPlaced start }
+    requires centre_placed { IsPlaced bend.now.centre }
+    requires end_placed { IsPlaced bend.now.end }
+    ensures { IsTrue result ↔ (dot_of bend.now.centre start start ≡ dot_of bend.now.centre bend.now.end bend.now.end) }
+{
+    let first = dot(bend.centre, start, start);
+    let last = dot(bend.centre, bend.end, bend.end);
+    first.unsigned_abs() == last.unsigned_abs()
+}
+
+/// The arc from `start`, as a draw of no width.
+fn draw_of(start: Spot, bend: &Bend) -> Arc
+    ensures { result ≡ arc_of start bend.now }
+{
+    let (first, last) = if bend.counterclockwise {
+        (start, bend.end)
+    } else {
+        (bend.end, start)
+    };
+    Arc {
+        centre: bend.centre,
+        start: first,
+        end: last,
+        width: 0,
+    }
+}
+
+/// Whether the chain turns as often as the arc does.
+fn turns_as(draw: &Arc, chain: &[Spot]) -> bool
+    requires centre_placed { IsPlaced draw.now.centre }
+    requires chain_placed { All IsPlaced chain.now }
+    ensures { IsTrue result ↔ (IsTrue (odd_round draw.now.centre chain.now) ↔ (draw.now.start ≡ draw.now.end)) }
+{
+    is_odd_round(draw.centre, chain) == is_same(draw.start, draw.end)
+}
+
+/// Whether the chain may stand for the arc from `start`.
+fn stands_for(start: Spot, bend: &Bend, chain: &[Spot], radius: u64) -> bool
+    ensures { IsTrue result ↔ StandsFor start bend.now chain.now radius }
+{
+    if !(is_placed(start) && is_placed(bend.centre) && is_placed(bend.end) && are_placed(chain)) {
+        return false;
+    }
+    let draw = draw_of(start, bend);
+    is_even(start, bend) && turns_as(&draw, chain) && arcs::is_above(&draw, chain, radius)
+}
+
+/// Whether the stretch from `start` is one.
+pub fn is_stretch(start: Spot, stretch: &Stretch) -> bool
+    ensures { IsTrue result ↔ IsStretch start stretch.now }
+{
+    match stretch.part {
+        Part::Straight(end) => is_placed(end),
+        Part::Curved(bend) => stands_for(start, &bend, &stretch.chain, stretch.radius),
+    }
+}
+
+/// Where the part ends.
+pub fn end_of(part: Part) -> Spot
+    ensures { result ≡ end_of part }
+{
+    match part {
+        Part::Straight(end) => end,
+        Part::Curved(bend) => bend.end,
+    }
+}
+
+/// Whether the polygon with the chains in place of the arcs, together with the capsules along the
+/// chains, holds the region whose contour begins at `start`. Where it says so, they do; others that
+/// do are refused.
+pub fn is_above(start: Spot, stretches: &[Stretch]) -> bool
+    ensures taken { IsTrue result ↔ TakenAbove start stretches.now }
+    ensures copper { IsTrue result → (p : Point) → InRegion start (parts_of stretches.now) p → InArea (edges_of (corners_of start stretches.now)) p ⊎ InCapsules stretches.now p }
+{
+    taken_holds();
+    if !is_placed(start) {
+        return false;
+    }
+    let mut from = start;
+    for stretch in stretches {
+        if !is_stretch(from, stretch) {
+            return false;
+        }
+        from = end_of(stretch.part);
+    }
+    is_same(from, start)
+}
