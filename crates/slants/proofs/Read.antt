@@ -8,7 +8,7 @@ use Rattle.planar.specs.Plane.{IsPlaced, IsWithin, at, cross_of, dot_of, square}
 use Rattle.planar.proofs.Ring.{ring, linear, le_or_lt, one-times, times_mono, square_mono, square-neg}
 use Rattle.area_contact.specs.Parity.{side_of}
 use Rattle.slants.specs.Copper.{InSlant, along_of}
-use Rattle.slants.specs.Taken.{ArePlaced, HasRoot, Keeps, KeepsAll, TakenAbove, TurnsLeft, band, reach}
+use Rattle.slants.specs.Taken.{ArePlaced, GoesRound, HasRoot, Keeps, KeepsAll, TakenAbove, TurnsLeft, band, reach}
 use Rattle.slants.specs.declared.measures.TheConstants.{FINE}
 use Rattle.slants.specs.declared.Slant.{Slant}
 use Rattle.slants.proofs.Sums.{dot_within}
@@ -117,16 +117,6 @@ root_read a b c d e root t under over told = (
 
 -- ---- five points
 
--- the points go round four corners that turn left, of which it holds
-pub record GoesRound (P : Spot → Spot → Spot → Spot → Type 0) (points : List Spot) : Type 0 where
-  pub b : Spot
-  pub c : Spot
-  pub d : Spot
-  pub e : Spot
-  pub is : points ≡ b ∷ c ∷ d ∷ e ∷ b ∷ []
-  pub turns : TurnsLeft b c d e
-  pub holds : P b c d e
-
 abbrev Five : (Spot → Spot → Spot → Spot → Type 0) → List Spot → Type 0
 Five P (b ∷ c ∷ d ∷ e ∷ last ∷ []) = (b ≡ last) × TurnsLeft b c d e × P b c d e
 Five P points = ⊥
@@ -145,7 +135,4 @@ five_read P (b ∷ c ∷ d ∷ e ∷ last ∷ []) d0 d1 d2 d3 d4 t five told = (
 five_read P (b ∷ c ∷ d ∷ e ∷ last ∷ f ∷ more) d0 d1 d2 d3 d4 t five told = absurd (omega arith)
 
 pub round_read : (a : Slant) (points : List Spot) (t : Bool) → ArePlaced a points → IsTrue t ↔ GoesRound (HasRoot a) points → IsTrue t ↔ TakenAbove a points
-round_read a points t placed told = (
-  λ yes. let l = told.0 yes in record { placed = placed; b = l.b; c = l.c; d = l.d; e = l.e; is = l.is; turns = l.turns; root = l.holds },
-  λ h. told.1 record { b = h.b; c = h.c; d = h.d; e = h.e; is = h.is; turns = h.turns; holds = h.root },
-)
+round_read a points t placed told = (λ yes. record { placed = placed; round = told.0 yes }, λ h. told.1 h.round)

@@ -7,7 +7,7 @@ use Rattle.planar.proofs.Ring.{ring, linear, times_from_zero, times_mono, times_
 use Rattle.board_shapes.specs.Figures.{InFigure, filled}
 use Rattle.area_contact.specs.Parity.{side_of}
 use Rattle.slants.specs.Copper.{InSlant, along_of}
-use Rattle.slants.specs.Taken.{IsOff, Keeps, TakenAbove, rise}
+use Rattle.slants.specs.Taken.{HasRoot, IsOff, Keeps, TakenAbove, rise}
 use Rattle.slants.specs.declared.Slant.{Slant}
 use Rattle.slants.specs.declared.measures.TheConstants.{FINE}
 use Rattle.slants.proofs.Quadrilateral.{lies_inside, own_is}
@@ -129,7 +129,10 @@ module _ (a : Slant) (b c : Spot) (root : ℤ) (apart : pos 1 ≤ℤ dot_of a.st
         times_cancel whole (pos 0) (side_of b c p.x p.y p.n) apart (omega (arith, linear, f, times_side, times-zero whole))
 
 pub above_holds : (a : Slant) (points : List Spot) (p : Point) → TakenAbove a points → InSlant a p → InFigure (filled points) p
-above_holds a points p t inside = rw t.is (lies_inside t.b t.c t.d t.e p t.turns (left t.b t.c t.root.edges.first) (left t.c t.d t.root.edges.second) (left t.d t.e t.root.edges.third) (left t.e t.b t.root.edges.fourth))
+above_holds a points p t inside = rw t.round.is (lies_inside t.round.b t.round.c t.round.d t.round.e p t.round.turns (left t.round.b t.round.c root.edges.first) (left t.round.c t.round.d root.edges.second) (left t.round.d t.round.e root.edges.third) (left t.round.e t.round.b root.edges.fourth))
   where
-    left : (b c : Spot) → Keeps a t.root.root b c → pos 0 ≤ℤ side_of b c p.x p.y p.n
-    left b c k = on_left a b c t.root.root inside.apart t.root.is p inside k
+    root : HasRoot a t.round.b t.round.c t.round.d t.round.e
+    root = t.round.holds
+
+    left : (b c : Spot) → Keeps a root.root b c → pos 0 ≤ℤ side_of b c p.x p.y p.n
+    left b c k = on_left a b c root.root inside.apart root.is p inside k

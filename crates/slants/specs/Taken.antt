@@ -70,6 +70,16 @@ pub record TurnsLeft (b c d e : Spot) : Type 0 where
   pub third : pos 1 ≤ℤ cross_of d e b
   pub fourth : pos 1 ≤ℤ cross_of e b c
 
+-- the points go round four corners of which it holds, with a left turn at each, and end with the first
+pub record GoesRound (P : Spot → Spot → Spot → Spot → Type 0) (points : List Spot) : Type 0 where
+  pub b : Spot
+  pub c : Spot
+  pub d : Spot
+  pub e : Spot
+  pub is : points ≡ b ∷ c ∷ d ∷ e ∷ b ∷ []
+  pub turns : TurnsLeft b c d e
+  pub holds : P b c d e
+
 -- some whole number is at most the length, in parts of 2 FINE, and serves for each edge
 pub record HasRoot (a : Slant) (b c d e : Spot) : Type 0 where
   pub root : ℤ
@@ -80,10 +90,4 @@ pub record HasRoot (a : Slant) (b c d e : Spot) : Type 0 where
 -- a contour of four corners that turns left at each, and has the rectangle on the left of each edge
 pub record TakenAbove (a : Slant) (points : List Spot) : Type 0 where
   pub placed : ArePlaced a points
-  pub b : Spot
-  pub c : Spot
-  pub d : Spot
-  pub e : Spot
-  pub is : points ≡ b ∷ c ∷ d ∷ e ∷ b ∷ []
-  pub turns : TurnsLeft b c d e
-  pub root : HasRoot a b c d e
+  pub round : GoesRound (HasRoot a) points

@@ -1,13 +1,13 @@
 -- Figures that are turned and moved, as sets of rational points, without roots and angles.
 -- Source, cited as docs/FORMATS.md says: Gerber Layer Format Specification, 4.5.1.3 (each primitive is rotated counterclockwise about the origin of the macro)
-use Rattle.std.specs.Prelude.{◌*◌, ℤ, pos, neg_ℤ, ◌+ℤ◌, ◌-ℤ◌, ◌*ℤ◌, ◌≤ℤ◌, ◌≡◌, List, [], ◌∷◌, All}
+use Rattle.std.specs.Prelude.{◌*◌, ℤ, pos, neg_ℤ, ◌+ℤ◌, ◌-ℤ◌, ◌*ℤ◌, ◌≤ℤ◌, ◌≡◌, List, All}
 use Rattle.planar.specs.Plane.{IsPlaced, IsWithin, Point, cross_of, dot_of}
 use Rattle.planar.specs.declared.Spot.{Spot}
 use Rattle.planar.specs.declared.TheConstants.{TWO_METRES}
 use Rattle.planar.proofs.Ring.{over_zero}
 use Rattle.area_contact.specs.Contour.{IsClosed}
 use Rattle.board_shapes.specs.Figures.{InFigure, filled}
-use Rattle.slants.specs.Taken.{Each, TurnsLeft}
+use Rattle.slants.specs.Taken.{Each, GoesRound}
 use Rattle.slants.specs.declared.turned.Parts.{Parts}
 use Rattle.slants.specs.declared.turns.Heading.{Heading}
 use Rattle.slants.specs.declared.turns.Motions.{Motions}
@@ -84,19 +84,17 @@ pub record LeansIn (m : Motions) (b c d e q : Spot) : Type 0 where
   pub third : Leans m d e q
   pub fourth : Leans m e b q
 
+-- and of each corner of the figure
+abbrev pub EachLeans : List Spot → Motions → Spot → Spot → Spot → Spot → Type 0
+EachLeans figure m b c d e = Each (LeansIn m b c d e) figure
+
 -- a closed figure, and a contour of four corners that turns left at each and has each corner of the figure on the left of each edge
 pub record TurnedAbove (figure : List Spot) (m : Motions) (points : List Spot) : Type 0 where
   pub ready : AreReady m
   pub figure_placed : All IsPlaced figure
   pub placed : All IsPlaced points
   pub closed : IsClosed figure
-  pub b : Spot
-  pub c : Spot
-  pub d : Spot
-  pub e : Spot
-  pub is : points ≡ b ∷ c ∷ d ∷ e ∷ b ∷ []
-  pub turns : TurnsLeft b c d e
-  pub corners : Each (LeansIn m b c d e) figure
+  pub round : GoesRound (EachLeans figure m) points
 
 -- the motions back
 abbrev pub mirrored : Turn → Turn

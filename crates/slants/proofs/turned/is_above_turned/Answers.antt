@@ -1,5 +1,6 @@
 use Rattle.std.proofs.Common.{arith, rules}
-use Rattle.slants.proofs.Cones.{EachLeans, above_turned, turned_read}
+use Rattle.slants.specs.Turned.{EachLeans}
+use Rattle.slants.proofs.Cones.{above_turned, turned_read}
 use Rattle.slants.proofs.Read.{five_read}
 use Rattle.slants.proofs.turned.is_above_turned.Goals as goal
 
