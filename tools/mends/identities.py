@@ -13,10 +13,9 @@ ONCE_TAKEN = re.compile(rb"SRX0{0,8}1Y0{0,8}1I" + DECIMAL + rb"J" + DECIMAL)
 LENGTHS = re.compile(rb"FSLA(?:N[0-9])?(?:G[0-9])?(X[0-9]{2}Y[0-9]{2})(?:N[0-9])?(?:G[0-9])?(?:D[0-9])?(?:M[0-9])?")
 HOLE = re.compile(rb"(AD[^,]*,)(.*)", re.S)
 NO_DRAWS = (b"D02", b"D03", b"D2", b"D3")
-# What a look at the words' states is for.
-FIRST_SIGNS = (b"I0", b"I+0", b"I-0", b"J0", b"J+0", b"J-0", b"G02*", b"G2*", b"G03*", b"G3*", b"G55", b"M00*", b"M0*", b"M01*", b"M1*")
-SIGNS = re.compile(rb"G0?[23]\*|G55|M0?[01]\*")
-CENTRE = re.compile(rb"[IJ][IJ0-9+-]*")
+# What a look at the words' states is for, beside centres of 0.
+SIGNS = (b"G02*", b"G2*", b"G03*", b"G3*", b"G55", b"M00*", b"M0*", b"M01*", b"M1*")
+LENGTH = re.compile(rb"[0-9+-]*")
 
 
 def extended(edits):
@@ -114,9 +113,18 @@ class States:
 
 
 def has_zero_centre(data):
-    return any(b"0" in centre and not centre.strip(b"IJ0+-") for centre in set(CENTRE.findall(data)))
+    """Whether all that follows an I or a J is 0, and a J or an I behind that: faster than an expression, since few letters are one."""
+    centre = b""
+    for part in [*data.replace(b"J", b"I").split(b"I")[1:], b"*"]:
+        length = LENGTH.match(part)[0]
+        centre += length
+        if length != part:
+            if b"0" in centre and not centre.strip(b"0+-"):
+                return True
+            centre = b""
+    return False
 
 
 def plain(edits):
-    if has(edits.data, FIRST_SIGNS) and (SIGNS.search(edits.data) or has_zero_centre(edits.data)):
+    if has(edits.data, SIGNS) or has_zero_centre(edits.data):
         States(edits)

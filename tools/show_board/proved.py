@@ -5,6 +5,8 @@ file of counts says how many stand for each; nothing trusts it.
 """
 import copy
 from collections import Counter
+from itertools import groupby
+from operator import itemgetter
 
 from . import UNDECIDED, UNJUDGED, Stop
 from .between import own_commands
@@ -20,15 +22,11 @@ def counts(manifest, sides, low, high):
     """How many pieces of both boards stand for each piece of the board: of an arc draw, and each copy of it, those of its command."""
     arcs = [sides.arcs[name] for name in manifest.copper] + [()] * len(manifest.drills)
     below, above = (own_commands(its.report, manifest, origin).sources for its, origin in zip((low, high), sides.sources))
-    lower, told, last = Counter(source[:3] for source in below), [], None
-    for key in (source[:3] for source in above):
-        is_arc = key[1] in arcs[key[0]]
-        if is_arc and key == last:
-            told[-1][1] += 1
-        else:
-            told.append([lower[key] if is_arc else 1, 1])
-        last = key
-    return FIRST_LINE + "".join(f"{one} {other}\n" for one, other in told)
+    lower, told = Counter(source[:3] for source in below if source[1] in arcs[source[0]]), []
+    for key, its in groupby(above, itemgetter(0, 1, 2)):
+        many = sum(1 for _ in its)
+        told += [f"{lower[key]} {many}\n"] if key[1] in arcs[key[0]] else ["1 1\n"] * many
+    return FIRST_LINE + "".join(told)
 
 
 def side_manifest(files, side, package, changed):

@@ -61,7 +61,8 @@ class Settings:
         """A coordinate as whole u."""
         if self.unit is None:
             raise Refused("no format" if self.decimals is None else "no unit")
-        return self.on_grid(int(digits) * self.unit)
+        length = int(digits) * self.unit
+        return length if type(length) is int else self.on_grid(length)
 
     def step(self, word):
         """(columns, rows, across, up) of a block; None where the word has none, or another form."""

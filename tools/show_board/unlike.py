@@ -9,18 +9,15 @@ DRAWN = "D01*"
 
 def reduced(text, sources, unlike):
     """A side's file with the words of some commands alone, all definitions and blocks, and a move to where each command begins."""
-    lines, kept, is_there = text.split("\n"), [], False
-    for k, (line, source) in enumerate(zip(lines, sources)):
-        is_placed = line[:1] == "X"
-        if source in unlike:
-            if is_placed and not is_there and line.endswith(DRAWN):
+    lines, kept, last, is_there = text.split("\n"), [], 0, False
+    for k in [k for k, (line, source) in enumerate(zip(lines, sources)) if source in unlike or line[0] in "%M"]:
+        is_there, line = is_there and k == last + 1, lines[k]
+        if line[0] == "X":
+            if not is_there and line.endswith(DRAWN):
                 kept.append(place_before(lines, k) + "D02*")
-            kept.append(line)
-            is_there = is_there or is_placed
-        elif is_placed:
-            is_there = False
-        elif line[:1] in ("%", "M"):
-            kept.append(line)
+            is_there = True
+        kept.append(line)
+        last = k
     return "\n".join([*kept, ""])
 
 
