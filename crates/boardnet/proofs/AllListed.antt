@@ -1,5 +1,5 @@
 -- What a board between two others has amiss is listed of them.
-use Rattle.std.proofs.Common.{◌≡◌, ◌≢◌, ◌⊎◌, ◌↔◌, inl, inr, ℕ, zero, suc, ◌+◌, ◌<◌, false, List, [], ◌∷◌, ◌++◌, length, map, All, Contains, Option, Some, None, option_map, slice_get, ap, refl, subst, sym, ◌∙◌, arith}
+use Rattle.std.proofs.Common.{◌≡◌, ◌≢◌, ◌⊎◌, ◌↔◌, inl, inr, ℕ, zero, suc, ◌+◌, ◌<◌, false, List, [], ◌∷◌, length, map, All, Contains, Option, Some, None, option_map, slice_get, ap, refl, subst, sym, ◌∙◌, arith}
 use Rattle.std.proofs.lemmas.Bool.{cases_eq}
 use Rattle.std.proofs.lemmas.List.Elements.{Contains-append_right}
 use Rattle.std.proofs.lemmas.Map.Lookups.{exact_bytes, exact_unsigned}
@@ -13,18 +13,16 @@ use Rattle.board_shapes.specs.LawfulBoard.{IsLawfulBoard}
 use Rattle.board_shapes.specs.Plain.{PlainBoard}
 use Rattle.board_shapes.specs.Tables.{IsTables, point_of}
 use Rattle.board_shapes.specs.declared.probe.Probe.{Probe}
-use Rattle.boardnet.proofs.Besides.{besides_none, in_map, listed}
-use Rattle.boardnet.proofs.Decisions.{all_found, bounds_of, judged, right_for, unmapped}
-use Rattle.boardnet.specs.Command.{BoundNames}
-use Rattle.boardnet.specs.Findings.{Findings, NoneFound, besides, certain, possible, short_points, undecided, without}
-use Rattle.boardnet.specs.Laws.{AllIsListed, BoundedFindingsAreListed, HasBranch, HasListedOpen, HasListedShort, IsLaidOut, IsListed, IsListedMissing}
-use Rattle.boardnet.specs.Outcome.{IsDecided, Source}
+use Rattle.boardnet.proofs.Besides.{in_map, listed}
+use Rattle.boardnet.proofs.Decisions.{all_found, bounds_of, judged, unmapped}
+use Rattle.boardnet.specs.Findings.{NoneFound, besides, certain, possible, short_points, undecided}
+use Rattle.boardnet.specs.Laws.{AllIsListed, BoundedFindingsAreListed, HasBranch, HasListedOpen, HasListedShort, IsListedMissing}
 use Rattle.covers.specs.Agreeing.{AgreesWithNames, HasName}
 use Rattle.covers.specs.Boards.{HasCopper, Layout, PointsJoined}
 use Rattle.covers.specs.Laws.{Decides}
 use Rattle.planar.specs.Plane.{Point}
 use Rattle.tables.specs.Tables.{Tables, TestPoint}
-use Rattle.verdict.specs.Right.{AreLines, Bare, HaveOneNet, IsRight, Points, bare_from, is_unconnected}
+use Rattle.verdict.specs.Right.{AreLines, Bare, IsRight, Points, bare_from, is_unconnected}
 use Rattle.verdict.specs.declared.verdict.Open.{Open}
 use Rattle.verdict.specs.declared.verdict.PointLine.{PointLine}
 use Rattle.verdict.specs.declared.verdict.Short.{Short}

@@ -1,16 +1,14 @@
 -- Two boards bound a real one or they do not, for one reason.
-use Rattle.std.proofs.Common.{◌≡◌, ◌⊎◌, inl, inr, ◌↔◌, ℕ, suc, zero, ◌+◌, ◌<◌, ◌≤◌, List, [], ◌∷◌, length, map, None, Some, All, slice_get, ap, refl, subst, sym, ◌∙◌, arith}
+use Rattle.std.proofs.Common.{◌≡◌, inl, inr, ◌↔◌, ℕ, suc, zero, ◌+◌, ◌<◌, List, [], ◌∷◌, length, map, Some, All, slice_get, ap, refl, subst, sym, ◌∙◌, arith}
 use Rattle.std.proofs.lemmas.List.{length-map}
-use Rattle.std.proofs.lemmas.Option.{slice_get-map}
 use Rattle.arc_covers.specs.Bounds.{AddUp, IsOn, figures_of, share_of}
-use Rattle.arc_covers.specs.Counts.{AreCounts, IsFirstOther}
-use Rattle.arc_covers.specs.Faults.{AreFirstOff, IsBoundsFault, IsFirstFault, on_side}
+use Rattle.arc_covers.specs.Faults.{AreFirstOff, IsFirstFault, on_side}
 use Rattle.arc_covers.specs.RealBoards.{IsCopperOf, IsReal, real_span}
-use Rattle.arc_covers.specs.Taken.{AreTaken, FirstTaken, PiecesAreTaken, StandTaken}
+use Rattle.arc_covers.specs.Taken.{FirstTaken, PiecesAreTaken, StandTaken}
 use Rattle.arc_covers.specs.declared.between.BoundsFault.TheVariants as fault
 use Rattle.arc_covers.specs.declared.side.Side.{Side}
 use Rattle.arc_covers.specs.declared.side.Side.TheVariants.{Below, Above}
-use Rattle.arc_layer.specs.Real.{PlainReal, RealFigure, bent, plain, plain_real, plain_reals, real_figure}
+use Rattle.arc_layer.specs.Real.{PlainReal, plain_real, plain_reals, real_figure}
 use Rattle.arcs.specs.declared.real_shape.RealShape.{RealShape}
 use Rattle.arcs.specs.declared.real_shape.RealShape.TheVariants.{Plain, ArcDraw}
 use Rattle.board_shapes.specs.Figures.{Figure, InFigure, figure_of}

@@ -7,7 +7,6 @@ use Rattle.std.specs.declared.cmp.Ordering.{Ordering}
 use Rattle.arc_covers.specs.Laws.{AreBoundsOf, AreJudged, FindingsAreCertain, RealBoardAgrees, RealBoardIsDecided, TakenAreBounds}
 use Rattle.arc_covers.specs.declared.side.Side.TheVariants.{Below, Above}
 use Rattle.board_shapes.proofs.BoardTables.{tables_are_one}
-use Rattle.board_shapes.specs.LawfulBoard.{IsLawfulBoard}
 use Rattle.board_shapes.specs.Plain.{PlainBoard}
 use Rattle.boardnet.proofs.Alike.{same_verdicts}
 use Rattle.boardnet.proofs.Besides.{besides_none, found_are}

@@ -13,11 +13,10 @@ use Rattle.board_io.specs.Package.{IsFaultless}
 use Rattle.board_package.proofs.Lift.{faultless_both, kept, kept_after}
 use Rattle.board_package.proofs.Staging.{carry}
 use Rattle.board_package.specs.Causes.{HandedCause, KeepsFaults}
-use Rattle.board_package.specs.HandedBoard.{ComesHanded, ComesNext, IsBoardHanded, IsFirstStopHanded, IsHanded, StopsHanding}
-use Rattle.board_package.specs.PackageBoard.{Stop, absent, longer, not_json, bad_manifest, refused, frame_too_large}
+use Rattle.board_package.specs.HandedBoard.{ComesHanded, ComesNext, IsBoardHanded, IsFirstStopHanded, StopsHanding}
+use Rattle.board_package.specs.PackageBoard.{Stop}
 use Rattle.board_package.specs.declared.fault.BuildFault.{BuildFault}
 use Rattle.board_package.specs.declared.fault.BuildFault.TheVariants as build
-use Rattle.board_package.specs.declared.contents.Refusal.TheVariants as refusal
 use Rattle.board_shapes.specs.Pieces.{PlainPiece}
 use Rattle.board_shapes.specs.Plain.{PlainBoard}
 use Rattle.board_shapes.specs.declared.placed.Placed.{Placed}
@@ -41,7 +40,7 @@ use Rattle.verdict.specs.declared.verdict.Verdict.{Verdict}
 use Rattle.real_package.specs.HandedReal.{IsFirstRealStopHanded, IsRealBoardHanded, RealComesHanded}
 use Rattle.real_package.specs.RealBoards.{PlainRealBoard}
 use Rattle.real_package.specs.RealCauses.{HandedRealCause, KeepsRealFaults}
-use Rattle.real_package.specs.RealPackage.{RealStop, unbuilt}
+use Rattle.real_package.specs.RealPackage.{unbuilt}
 use Rattle.real_package.specs.declared.fault.RealBuildFault.{RealBuildFault}
 use Rattle.real_package.specs.declared.fault.RealBuildFault.TheVariants as real
 

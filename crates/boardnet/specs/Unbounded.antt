@@ -5,7 +5,6 @@ use Rattle.arc_covers.specs.declared.between.BoundsFault.{BoundsFault}
 use Rattle.arc_covers.specs.declared.between.BoundsFault.TheVariants as fault
 use Rattle.board_package.specs.Causes.{HandedCause}
 use Rattle.board_package.specs.PackageBoard.{Stop, not_json, bad_manifest, frame_too_large}
-use Rattle.board_package.specs.declared.fault.BuildFault.{BuildFault}
 use Rattle.board_package.specs.declared.fault.BuildFault.TheVariants as build
 use Rattle.board_shapes.specs.Plain.{PlainBoard}
 use Rattle.board_shapes.specs.declared.placed.Origin.{Origin}

@@ -1,9 +1,9 @@
 -- That what is told of the command `between` is sound.
-use Rattle.std.proofs.Common.{◌≡◌, ◌≤◌, ℕ, List, [], Option, Some, None, IfSome, String, ◌⊎◌, inl, inr, refl, ap, codes, subst, sym, ◌∙◌}
+use Rattle.std.proofs.Common.{◌≡◌, ◌≤◌, ℕ, List, Option, Some, None, IfSome, String, ◌⊎◌, inl, inr, refl, ap, codes, subst, sym, ◌∙◌}
 use Rattle.std.specs.declared.alloc.Global.{Global}
 use Rattle.board_io.specs.Handed.{AgreeWith, Handed}
 use Rattle.board_io.specs.Package.{Files}
-use Rattle.board_package.specs.PackageBoard.{IsBoardOf, Stop, absent, longer, not_json, bad_manifest, refused, frame_too_large}
+use Rattle.board_package.specs.PackageBoard.{Stop, absent, longer, not_json, bad_manifest, refused, frame_too_large}
 use Rattle.board_shapes.specs.Plain.{PlainBoard}
 use Rattle.boardnet.proofs.Audits.{no_stop_taking, one_file}
 use Rattle.boardnet.proofs.Alike.{same_line, same_taking}
@@ -20,7 +20,7 @@ use Rattle.boardnet.specs.OneOutcome.{AreAlike}
 use Rattle.boardnet.specs.Outcome.{HandedOver, Held, IsLineOf, OfFilesRead, Outcome, Refused, Source, Told}
 use Rattle.boardnet.specs.Source.{ComesBy, FitsBefore, FitsRealThen, FitsThen, IsBoardBy, IsFileBy, IsFirstStopBy, IsRealBoardBy, NextBy, StopsFileBy}
 use Rattle.boardnet.specs.Words.{Asks, Command, Between, IsBetween}
-use Rattle.boardnet.specs.commands.Between.{AreBounded, AreRead, AreUnbound, BetweenOutcome, BetweenRefuses, ComesReading, IsBehindLine, IsDecided, IsOfFile, IsPlainStop, IsReadLine, IsReadRefusal, IsUnboundRefusal, ReadStop, StopsManifest, StopsReading, at_counts, at_lower, at_real, at_upper}
+use Rattle.boardnet.specs.commands.Between.{AreBounded, AreRead, AreUnbound, BetweenOutcome, BetweenRefuses, ComesReading, IsBehindLine, IsOfFile, IsPlainStop, IsReadLine, IsReadRefusal, ReadStop, StopsManifest, StopsReading, at_counts, at_lower, at_real, at_upper}
 use Rattle.boardnet.specs.declared.answer.Unanswered.{Unanswered}
 use Rattle.boardnet.specs.declared.answer.Unanswered.TheVariants.{Bent, NotJson, NotAManifest, BoundTooLarge, Unbound}
 use Rattle.boardnet.specs.declared.unbound.Unbound.{Unbound as NoBounds}

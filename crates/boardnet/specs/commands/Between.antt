@@ -1,7 +1,6 @@
 -- The command `between REAL LOWER UPPER COUNTS`: a package whose draws may be arcs is judged by two packages that bound it.
 use Rattle.std.specs.Prelude.{◌≡◌, ◌⊎◌, ⊤, ℕ, List, [], ◌∷◌, codes, map, string_bytes, String, Option, Some, None}
 use Rattle.std.specs.declared.alloc.Global.{Global}
-use Rattle.arc_layer.specs.declared.kind.RealKind.{RealKind}
 use Rattle.board_package.specs.PackageBoard.{Stop, not_json, bad_manifest, frame_too_large}
 use Rattle.board_shapes.specs.Plain.{PlainBoard}
 use Rattle.boardnet.specs.Bounded.{AreBoundedBy, IsDecisionOn, IsUnboundBy, unbound_line}

@@ -1,4 +1,4 @@
-use Rattle.std.proofs.Common.{Ok, rules, ◌≡◌, ap, not, sym, ◌∙◌}
+use Rattle.std.proofs.Common.{Ok, rules, ap, not, ◌∙◌}
 use Rattle.std.proofs.lemmas.Fn.{filter_same}
 use Rattle.std.proofs.lemmas.Iterator.Adapters.{YieldsList-from_vec, fact_from_collect}
 use Rattle.std.specs.BTreeSet.{IsFromIterResult}

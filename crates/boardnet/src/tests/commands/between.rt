@@ -263,6 +263,6 @@ fn the_text_and_the_order(rt: HostRuntime) -> Result<(), Fail> {
     let far = &[PAD, "D11*", "X0Y0D03*", "X1000000000Y0D03*"];
     package.hold("w.gbr", gerber(alloc, far)?.as_slice())?;
     let wider = &["between", "r.json", "w.json", "u.json", "c.txt"];
-    let line = "boardnet: w.json: frame too large: -10 -10 10000000010 10\n";
+    let line = "boardnet: w.json: frame too large: -10000 -10000 10000010000 10000\n";
     wants(alloc, wider, &mut package, 3, line, "")
 }
