@@ -19,7 +19,7 @@ def words_of(text, runs=False, plain=False):
     """(in a pair of percent signs, word, first of its pair) in order. With `runs` words of a region up to a G are one list of xs, ys and
     codes, where all of them say these; with `plain` other words of that kind, and those that pick an aperture, are one tuple of
     (x, y, code, aperture)."""
-    inside, first, start, in_region = False, True, 0, False
+    inside, first, start, in_region, looked = False, True, 0, False, 0
     while start is not None:
         matches, start = TOKENS.finditer(text, start), None
         for match in matches:
@@ -35,15 +35,22 @@ def words_of(text, runs=False, plain=False):
                 yield inside, word, first
                 first = False
                 in_region = word == "G36" or in_region and word != "G37"
-                end = text.find("G", match.end()) if runs and in_region and not inside else -1
-                run = end - match.end() > FEW and numbers_of(text[match.end():end])
-                if run:
-                    yield False, run, False
-                    start = end
-                    break
+                if runs and in_region and not inside and match.end() >= looked:     # what is no run is looked at once
+                    looked = next_general(text, match.end())
+                    run = looked - match.end() > FEW and numbers_of(text[match.end():looked])
+                    if run:
+                        yield False, run, False
+                        start = looked
+                        break
             elif word:
                 is_broken = match.end() < len(text) and "*" in text[match.end():]
                 raise Refused(f"a broken word at byte {match.start(2)}" if is_broken else "a word without an end")
+
+
+def next_general(text, at):
+    """Where the next G is, or the end."""
+    found = text.find("G", at)
+    return found if found >= 0 else len(text)
 
 
 def numbers_of(text):
