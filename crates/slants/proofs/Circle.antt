@@ -1,9 +1,9 @@
 -- Which turns there are, and which are in a cone.
-use Rattle.std.proofs.Common.{◌≡◌, inl, inr, ℤ, pos, neg_ℤ, ◌+ℤ◌, ◌-ℤ◌, ◌*ℤ◌, ◌≤ℤ◌, ◌<ℤ◌, arith, refl}
+use Rattle.std.proofs.Common.{◌≡◌, inl, inr, ℤ, pos, neg_ℤ, ◌+ℤ◌, ◌-ℤ◌, ◌*ℤ◌, ◌≤ℤ◌, arith}
 use Rattle.planar.specs.Plane.{square}
-use Rattle.planar.proofs.Ring.{ring, linear, le_or_lt, one-times, over_zero, square_over, square_from_zero, square_mono, square_zero, square-neg, times_from_zero, times-zero, zero-times}
+use Rattle.planar.proofs.Ring.{ring, linear, le_or_lt, over_zero, square_over, square_from_zero, square_mono, square_zero, square-neg}
 use Rattle.slants.specs.Laws.{IsTold, crossed_of}
-use Rattle.slants.specs.Turned.{IsBetween, IsTurn, meet_of}
+use Rattle.slants.specs.Turned.{IsBetween, IsTurn}
 use Rattle.slants.specs.declared.turns.Motions.{Motions}
 use Rattle.slants.specs.declared.turns.Turn.{Turn}
 

@@ -2,7 +2,7 @@
 use Rattle.std.proofs.Common.{All, Bool, false, IsTrue, ◌≡◌, ◌↔◌, ◌⊎◌, inl, inr, ℤ, pos, neg_ℤ, ◌+ℤ◌, ◌-ℤ◌, ◌*ℤ◌, ◌≤ℤ◌, List, [], ◌∷◌, arith, refl, subst}
 use Rattle.planar.specs.declared.Spot.{Spot}
 use Rattle.planar.specs.Plane.{IsPlaced, Point, cross_of, dot_of}
-use Rattle.planar.proofs.Ring.{ring, linear, times_from_zero, times_mono, times_cancel, over_zero, times-zero, mul-neg}
+use Rattle.planar.proofs.Ring.{ring, linear, times_from_zero, times_cancel, over_zero, times-zero, mul-neg}
 use Rattle.board_shapes.specs.Figures.{InFigure, filled}
 use Rattle.area_contact.specs.Contour.{InArea, IsClosed, edges_from, end_from}
 use Rattle.area_contact.specs.Parity.{side_of}

@@ -1,5 +1,5 @@
 -- What the code's sums and products of turned figures are: no bits are lost.
-use Rattle.std.proofs.Common.{Bool, true, false, IsTrue, ◌≡◌, ◌↔◌, inl, inr, refl, sym, ◌∙◌, ap, ◌*◌, ◌≤◌, ℤ, pos, neg_ℤ, ◌+ℤ◌, ◌-ℤ◌, ◌*ℤ◌, ◌≤ℤ◌, arith, FitsSigned, to_z, of_z, to_z-of_z}
+use Rattle.std.proofs.Common.{false, IsTrue, ◌≡◌, ◌↔◌, inl, inr, refl, ◌∙◌, ◌*◌, ℤ, pos, neg_ℤ, ◌+ℤ◌, ◌-ℤ◌, ◌*ℤ◌, ◌≤ℤ◌, arith, FitsSigned, to_z, of_z, to_z-of_z}
 use Rattle.std.proofs.lemmas.Int.{ints}
 use lib.Signed.{le_z}
 use Rattle.std.specs.Int.{w128}
