@@ -1,5 +1,5 @@
 -- Figures that are turned and moved, as sets of rational points, without roots and angles.
--- Source, cited as docs/FORMATS.md says: Gerber Layer Format Specification, 4.5.1.3 (each primitive is rotated counterclockwise about the origin of the macro)
+-- Source, cited as docs/FORMATS.md says: Gerber Layer Format Specification, 4.5.1 (each primitive is rotated counterclockwise about the origin of the macro)
 use Rattle.std.specs.Prelude.{◌*◌, ℤ, pos, neg_ℤ, ◌+ℤ◌, ◌-ℤ◌, ◌*ℤ◌, ◌≤ℤ◌, ◌≡◌, List, All}
 use Rattle.planar.specs.Plane.{IsPlaced, IsWithin, Point, cross_of, dot_of}
 use Rattle.planar.specs.declared.Spot.{Spot}
