@@ -13,7 +13,7 @@ from .sweep import Sweep
 MICROMETRE = 10_000
 MOST = 400          # pieces of a command that are looked at one by one
 NOTE = ("The board lies between two bounds, since some of its copper is outside the profile. The lower one is shown; where the upper one is "
-        "over a micrometre wider, it is outlined by dashes. What only one of them has is called undecided.")
+        "over a micrometre wider, it is outlined by dashes. What is not certain is called undecided.")
 
 
 def own_commands(report, manifest, sources):

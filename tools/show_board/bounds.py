@@ -115,8 +115,8 @@ def answered(program, package, sides, low, high, ties):
         status, word = 0, "agrees"
     else:
         status, word = (1, "differs") if certain else (UNDECIDED, "undecided")
-    told = [f"{counted(certain, 'finding')} that both have"] if certain else []
-    told += [f"{counted(doubt, 'finding')} that only one of them has"] if doubt else []
+    told = [f"{counted(certain, 'finding')} certain"] if certain else []
+    told += [f"{counted(doubt, 'finding')} undecided"] if doubt else []
     word += ties.words(len(ties.ties) - len(ties.parted(low.report))) if ties.ties else ""
     line = word + BETWEEN + (f": {', '.join(told)}" if told else "") + f" (lower {low.line}; upper {high.line})"
     return Bounded(status, line, [it[:4] for it in findings], sides.left_out, tuple(it[4] for it in findings), sides.sources)

@@ -1,4 +1,4 @@
-"""What the reports on a lower and an upper board say together: what is certain, and what only one of them has."""
+"""What the reports on a lower and an upper board say together: what is certain, and what is undecided."""
 from collections import defaultdict
 
 from .board import NO_NET

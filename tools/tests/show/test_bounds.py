@@ -299,7 +299,7 @@ class Packages(made.Case):
         self.write("board/n.ipc", netlist(record("A", "J1.1", 0, 1.1), record("A", "J1.2", 1, 0)))
         before = {name: os.stat(self.path("board", name)).st_mtime_ns for name in os.listdir(self.path("board"))}
         status, out, _ = self.show("board")
-        self.assertEqual((status, out.splitlines()[0]), (11, "board: undecided, between two bounds: 1 finding that only one of them has "
+        self.assertEqual((status, out.splitlines()[0]), (11, "board: undecided, between two bounds: 1 finding undecided "
                                                              "(lower differs, opens 0, shorts 0, missing 1; upper agrees)"))
         self.assertIn("  undecided missing-0: copper lies under J1 pin 1 (the one layer, 0.000, 1.100 mm), of A, on the upper board alone", out)
         self.assertEqual({name: os.stat(self.path("board", name)).st_mtime_ns for name in os.listdir(self.path("board"))}, before)
