@@ -70,7 +70,7 @@ class Asked(made.Case):
         with self.assertRaisesRegex(Stop, "NOTHING WAS JUDGED: `between` says differs of a board that agrees"):
             self.told(Recorder(Answer(1, b"boardnet-between 1\ndiffers\n", "")), HALF, [A, B])
         told = self.told(Recorder(Answer(1, b"boardnet-between 1\nundecided\n", "")), HALF, [record("A", "J1.1", 0, 1.1), B])
-        self.assertEqual((told.status, told.line[:70]), (11, "undecided, between two bounds, proved: 1 finding that only one of them"))
+        self.assertEqual((told.status, told.line[:70]), (11, "undecided, between two bounds, proved: 1 finding undecided (lower diff"))
         told = self.told(Recorder(Answer(1, b"boardnet-between 1\ndiffers\n", "")), HALF, [record("C", "J1.1", 1, 0), B], ties=Ties([tie("A=C", "--tie")]))
         self.assertEqual((told.status, told.line[:59]), (0, "agrees, with 1 declared tie, between two bounds, proved (lo"))
 
