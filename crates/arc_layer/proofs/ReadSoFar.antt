@@ -94,7 +94,7 @@ word-fault one file old new w r kind number s next is h =
     (x.all, x.are, subst (λ (k : ℕ). IsRefused bend_behind x.all kind k w.at) (sym counted) refused)
 
 -- the stop has no bend
-stop-ok : (earlier : List Saying) (stop : Stop) → IsOk (bend_behind earlier (stop_saying stop))
+pub stop-ok : (earlier : List Saying) (stop : Stop) → IsOk (bend_behind earlier (stop_saying stop))
 stop-ok earlier ended = refl
 stop-ok earlier (broken fault at) = refl
 
@@ -102,7 +102,7 @@ idle : (earlier : List Saying) (n : ℕ) (b : Bool) → (length earlier + 1 == n
 idle earlier n true is = sym (none_later earlier n (grind (arith, is)))
 idle earlier n false is = refl
 
-stop-none : (earlier : List Saying) (stop : Stop) (n : ℕ) → bends_in (stop_saying stop ∷ earlier) n ≡ bends_in earlier n
+pub stop-none : (earlier : List Saying) (stop : Stop) (n : ℕ) → bends_in (stop_saying stop ∷ earlier) n ≡ bends_in earlier n
 stop-none earlier ended n = idle earlier n (length earlier + 1 == n) refl
 stop-none earlier (broken fault at) n = idle earlier n (length earlier + 1 == n) refl
 

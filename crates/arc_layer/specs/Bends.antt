@@ -126,6 +126,10 @@ AreSayings file items = words.AreItems saying stop_saying file items
 abbrev pub AreBends : List ℕ → (ℕ → Option Bend) → Type 0
 AreBends file bends = (items : List (Item Saying)) × AreSayings file items × reading.IsRead bend_behind bends_in items bends
 
+-- and no command has one
+abbrev pub HasNoBends : List ℕ → Type 0
+HasNoBends file = AreBends file (λ n. None)
+
 -- the first command with a fault of its arc, its number and its place
 abbrev pub IsBendRefused : List ℕ → RealKind → ℕ → ℕ → Type 0
 IsBendRefused file kind number place = (items : List (Item Saying)) × AreSayings file items × reading.IsRefused bend_behind items kind number place

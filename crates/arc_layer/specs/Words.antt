@@ -1,6 +1,7 @@
 -- What a word says of arcs (Gerber Layer Format Specification, 4.7 and 4.8).
-use Rattle.std.specs.Prelude.{ℕ, Bool, false, ◌&&◌, ◌||◌, if◌then◌else◌, List, drop, codes, Option, Some, None, option_map}
+use Rattle.std.specs.Prelude.{◌≡◌, ℕ, Bool, true, false, ◌&&◌, ◌||◌, not, if◌then◌else◌, List, drop, codes, Option, Some, None, option_map}
 use Rattle.texts.specs.Words.{begins, is_word}
+use Rattle.file_reading.specs.LookingBack.{latest}
 use Rattle.gerber_words.specs.Words.{Entry, Stop}
 use Rattle.gerber_layer.specs.Command.{Command, view}
 use Rattle.gerber_layer.specs.Dialect.{stop_command}
@@ -54,8 +55,11 @@ abbrev pub begins_offset : List ℕ → Bool
 begins_offset text = begins text (codes "I") || begins text (codes "J")
 
 -- what stands behind the numbers of X and Y
+abbrev pub behind_numbers : List ℕ → List ℕ
+behind_numbers text = behind 89 (behind 88 text)
+
 abbrev pub from_offsets : List ℕ → List ℕ
-from_offsets text = behind 89 (behind 88 (behind_code text))
+from_offsets text = behind_numbers (behind_code text)
 
 -- a plain word: `I` and then `J` are its offsets
 abbrev pub plain : Command → List ℕ → Saying
@@ -79,3 +83,21 @@ saying w = if w.extended then silent (straight_command w) else plain (straight_c
 -- and the stop of a file says nothing
 abbrev pub stop_saying : Stop → Saying
 stop_saying stop = silent (stop_command stop)
+
+-- no other curve than a line
+abbrev pub is_line : Option Curve → Bool
+is_line None = true
+is_line (Some Line) = true
+is_line (Some Clockwise) = false
+is_line (Some Counterclockwise) = false
+
+-- a plain word sets no other curve than a line, and has no offsets
+abbrev pub is_quiet : List ℕ → Bool
+is_quiet text = is_line (curve_in text) && not (begins_offset (from_offsets text))
+
+-- so of any word by what it says: behind lines, it makes no arc and has no fault of one
+pub record IsQuiet (w : Saying) : Type 0 where
+  pub line : latest w.curve Line ≡ Line
+  pub i : w.i ≡ None
+  pub j : w.j ≡ None
+  pub more : w.more ≡ false

@@ -1,5 +1,5 @@
 //! The bends of a file.
-ghost use Rattle.arc_layer.specs.Bends.{AreBends, AreShort, IsBendFault, bend_of as bend_spec};
+ghost use Rattle.arc_layer.specs.Bends.{AreBends, AreShort, HasNoBends, IsBendFault, bend_of as bend_spec};
 ghost use Rattle.arc_layer.specs.Reading.{Takes, bends_of, bends_so_far};
 ghost use Rattle.arc_layer.specs.State.{IsLawfulState, state_before};
 ghost use Rattle.arc_layer.specs.Words.{saying_of};
@@ -7,12 +7,12 @@ ghost use Rattle.gerber_layer.specs.Command.{view};
 ghost use Rattle.gerber_layer.specs.Lawful.{IsLawfulCommand};
 ghost use Rattle.gerber_layer.specs.Reader.{Stops};
 ghost use Rattle.std.specs.Option.{option_copied};
-ghost use Rattle.std.specs.Prelude.{◌≡◌, ◌+◌, ◌^◌, ◌<◌, ◌≤◌, ℕ, [], length, IfErr, IfOk, None, OnOk};
+ghost use Rattle.std.specs.Prelude.{◌≡◌, ◌+◌, ◌^◌, ◌<◌, ◌≤◌, ℕ, true, [], length, IfErr, IfOk, None, OnOk};
 
 use crate::draws::{Bend, bend_of};
 use crate::kind::{RealFault, RealKind};
 use crate::state::{State, at_start};
-use crate::words::{Saying, read_word};
+use crate::words::{Saying, is_quiet, read_word};
 use file_reading::Halt;
 use gerber_words::laws::words_lie_ahead;
 use gerber_words::{Step, Words};
@@ -80,6 +80,23 @@ impl Reader {
     }
 }
 
+// Whether no word of a file says anything of arcs. Such a file has no bends, and no command of it need be read.
+fn is_straight(file: &[u8]) -> bool
+    requires size { length file.now ≤ MOST_BYTES }
+    ensures none { result ≡ true → HasNoBends file.now }
+{
+    let mut words = Words::new(file);
+    loop {
+        match words.next_word() {
+            Step::Word(word) => if !is_quiet(word) {
+                return false;
+            },
+            Step::End => return true,
+            Step::Broken(_, _) => return true,
+        }
+    }
+}
+
 /// The bends of a file, or why an arc of it is refused first. The file has at most `MOST_BYTES` bytes.
 pub fn read_bends(alloc: Global, file: &[u8]) -> Result<Bends, RealFault>
     requires size { length file.now ≤ MOST_BYTES }
@@ -88,6 +105,11 @@ pub fn read_bends(alloc: Global, file: &[u8]) -> Result<Bends, RealFault>
     ensures fault { IfErr result (IsBendFault file.now) }
 {
     words_lie_ahead();
+    if is_straight(file) {
+        return Ok(Bends {
+            bends: HashMap::new(alloc),
+        });
+    }
     let mut words = Words::new(file);
     let mut reader = Reader::new(alloc);
     loop {

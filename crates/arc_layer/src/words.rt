@@ -4,7 +4,7 @@ ghost use Rattle.gerber_layer.specs.Command.{view};
 ghost use Rattle.gerber_layer.specs.Lawful.{IsLawfulCommand};
 ghost use Rattle.gerber_words.specs.Stepping.{entry_of};
 ghost use Rattle.std.specs.Option.{option_copied};
-ghost use Rattle.std.specs.Prelude.{◌≡◌, ◌≤◌, length, option_map};
+ghost use Rattle.std.specs.Prelude.{◌≡◌, ◌≤◌, true, length, option_map};
 
 use gerber_layer::{Command, behind_code, goes_on, part, read_straight_command};
 use gerber_words::Word;
@@ -78,13 +78,20 @@ fn begins_offset(text: &[u8]) -> bool
     begins(text, b"I") || begins(text, b"J")
 }
 
+// What stands behind the numbers of X and Y that a text may begin with.
+fn behind_numbers(text: &[u8]) -> &[u8]
+    ensures { result.now ≡ spec.behind_numbers text.now }
+{
+    let (_, text) = part(text, b'X');
+    let (_, text) = part(text, b'Y');
+    text
+}
+
 /// What stands behind the numbers of X and Y.
 fn from_offsets(text: &[u8]) -> &[u8]
     ensures { result.now ≡ spec.from_offsets text.now }
 {
-    let (_, text) = part(behind_code(text), b'X');
-    let (_, text) = part(text, b'Y');
-    text
+    behind_numbers(behind_code(text))
 }
 
 fn plain<'a>(command: Command<'a>, text: &'a [u8]) -> Saying<'a>
@@ -127,4 +134,33 @@ pub fn read_word<'a>(word: Word<'a>) -> Saying<'a>
     } else {
         plain(command, word.text)
     }
+}
+
+fn is_line(curve: Option<Curve>) -> bool
+    ensures { result ≡ spec.is_line curve }
+{
+    match curve {
+        None => true,
+        Some(Curve::Line) => true,
+        Some(Curve::Clockwise) => false,
+        Some(Curve::Counterclockwise) => false,
+    }
+}
+
+// Most words begin with no code: they set no curve.
+fn is_quiet_text(text: &[u8]) -> bool
+    ensures { result ≡ spec.is_quiet text.now }
+{
+    if begins(text, b"G") {
+        is_line(curve_in(text)) && !begins_offset(from_offsets(text))
+    } else {
+        !begins_offset(behind_numbers(text))
+    }
+}
+
+/// Whether a word says nothing of arcs, so that behind lines its command need not be read.
+pub fn is_quiet(word: Word) -> bool
+    ensures { result ≡ true → spec.IsQuiet (spec.saying (entry_of word.entry)) }
+{
+    word.extended || is_quiet_text(word.text)
 }
