@@ -2,7 +2,7 @@
 use Rattle.std.proofs.Common.{◌≡◌, ℕ, ◌+◌, ◌==◌, Bool, true, false, cond, ◌&&◌, not, nat_eq, List, [], ◌∷◌, length, Option, Some, None, Ok, refl, sym, ap, ◌∙◌, subst, arith}
 use mathlib.Core.Path.{fun_ext}
 use Rattle.file_reading.specs.LookingBack.{latest}
-use Rattle.file_reading.specs.Reading.{Item, said}
+use Rattle.file_reading.specs.Reading.{IsRead, IsReadTo, Item, said}
 use Rattle.file_reading.proofs.Turning.{read-start, read-more}
 use Rattle.gerber_words.specs.Words.{Ahead, Entry, Stop, HasWords, start}
 use Rattle.gerber_words.specs.Items.{word_item, stop_item, items_with}
@@ -11,14 +11,14 @@ use Rattle.gerber_layer.specs.CommandEffects.{code_of}
 use Rattle.gerber_layer.specs.WordCommands.{behind, number_in}
 use Rattle.gerber_layer.specs.declared.command.Code.{Code}
 use Rattle.gerber_layer.specs.declared.command.Code.TheVariants.{Draw, Move, Flash}
-use Rattle.arc_layer.specs.Bends.{HasNoBends, bend_behind, bends_in, command_bend, ok_bend, operation_by, curve_of}
+use Rattle.arc_layer.specs.Bends.{AreSayings, HasNoBends, bend_behind, bends_in, command_bend, ok_bend, operation_by, curve_of}
 use Rattle.arc_layer.specs.State.{state_before}
 use Rattle.arc_layer.specs.Words.{IsQuiet, Saying, begins_offset, curve_in, from_offsets, is_line, is_quiet, plain, saying, stop_saying}
 use Rattle.arc_layer.specs.declared.draws.Bend.{Bend}
 use Rattle.arc_layer.specs.declared.state.State.{State}
 use Rattle.arc_layer.specs.declared.words.Curve.{Curve}
 use Rattle.arc_layer.specs.declared.words.Curve.TheVariants.{Line, Clockwise, Counterclockwise}
-use Rattle.arc_layer.proofs.ReadSoFar.{ReadToWords, stop-none, stop-ok}
+use Rattle.arc_layer.proofs.ReadSoFar.{stop-none, stop-ok}
 
 line_said : (curve : Option Curve) → is_line curve ≡ true → latest curve Line ≡ Line
 line_said None h = refl
@@ -72,45 +72,73 @@ quiet_bend : (c : Command) (s : State) (w : Saying) → s.curve ≡ Line → IsQ
 quiet_bend (operates x y code) s w line q = by_code (code_of code) s w line q
 quiet_bend other s w line q = refl
 
--- no word so far says anything of arcs, whatever words lie ahead
-pub record QuietSoFar (file : List ℕ) (a : Ahead) : Type 0 where
-  earlier : List (Item Saying)
-  extends : (words : List Entry) (stop : Stop) → HasWords a words stop → ReadToWords file earlier words stop
-  line : (state_before (said earlier)).curve ≡ Line
-  none : (n : ℕ) → bends_in (said earlier) n ≡ None
+-- a history that says nothing of arcs
+pub record Still (earlier : List Saying) : Type 0 where
+  pub line : (state_before earlier).curve ≡ Line
+  pub none : (n : ℕ) → bends_in earlier n ≡ None
 
-pub nothing_read : (file : List ℕ) → QuietSoFar file (start file)
-nothing_read file = record {
-  earlier = [];
-  extends = λ words stop h. record { all = items_with saying stop_saying (length file) words stop; are = record { words = words; stop = stop; cut = h; are = refl }; read = read-start bend_behind _ };
-  line = refl;
-  none = λ n. refl;
+no_more : (b : Bool) (bend : Option Bend) (earlier : Option Bend) → bend ≡ None → earlier ≡ None → cond b bend earlier ≡ None
+no_more true bend earlier h k = h
+no_more false bend earlier h k = k
+
+bend_none : (earlier : List Saying) (w : Saying) → Still earlier → IsQuiet w → bend_behind earlier w ≡ Ok None
+bend_none earlier w s q = quiet_bend w.command (state_before earlier) w s.line q
+
+still : (earlier : List Saying) (w : Saying) → Still earlier → IsQuiet w → Still (w ∷ earlier)
+still earlier w s q = record {
+  line = ap (λ (c : Curve). latest w.curve c) s.line ∙ q.line;
+  none = λ n. no_more (length earlier + 1 == n) (ok_bend (bend_behind earlier w)) (bends_in earlier n) (ap ok_bend (bend_none earlier w s q)) (s.none n);
 }
 
-none_more : (b : Bool) (bend : Option Bend) (earlier : Option Bend) → bend ≡ None → earlier ≡ None → cond b bend earlier ≡ None
-none_more true bend earlier h k = h
-none_more false bend earlier h k = k
+-- the items up to these say nothing of arcs
+pub record StillTo (all earlier rest : List (Item Saying)) : Type 0 where
+  pub read : IsReadTo bend_behind all earlier rest
+  pub still : Still (said earlier)
+
+pub still_start : (all : List (Item Saying)) → StillTo all [] all
+still_start all = record { read = read-start bend_behind all; still = record { line = refl; none = λ n. refl } }
+
+pub still_more : (all earlier rest : List (Item Saying)) (item : Item Saying) → StillTo all earlier (item ∷ rest) → IsQuiet item.says → StillTo all (item ∷ earlier) rest
+still_more all earlier rest item s q = record {
+  read = read-more bend_behind all earlier rest item s.read (rw (bend_none (said earlier) item.says s.still q) refl);
+  still = still (said earlier) item.says s.still q;
+}
+
+pub still_stop : (all earlier : List (Item Saying)) (size : ℕ) (stop : Stop) → StillTo all earlier (stop_item stop_saying size stop ∷ []) → IsRead bend_behind bends_in all (λ n. None)
+still_stop all earlier size stop s = record {
+  earlier = stop_item stop_saying size stop ∷ earlier;
+  whole = read-more bend_behind all earlier [] (stop_item stop_saying size stop) s.read (stop-ok (said earlier) stop);
+  is = fun_ext (λ n. sym (stop-none (said earlier) stop n ∙ s.still.none n));
+}
+
+-- so up to these words
+pub record StillToWords (file : List ℕ) (earlier : List (Item Saying)) (words : List Entry) (stop : Stop) : Type 0 where
+  pub all : List (Item Saying)
+  pub are : AreSayings file all
+  pub to : StillTo all earlier (items_with saying stop_saying (length file) words stop)
+
+pub all_still : (file : List ℕ) (words : List Entry) (stop : Stop) → HasWords (start file) words stop → StillToWords file [] words stop
+all_still file words stop h = record {
+  all = items_with saying stop_saying (length file) words stop;
+  are = record { words = words; stop = stop; cut = h; are = refl };
+  to = still_start _;
+}
+
+-- and whatever words lie ahead
+pub record QuietSoFar (file : List ℕ) (a : Ahead) : Type 0 where
+  pub earlier : List (Item Saying)
+  pub extends : (words : List Entry) (stop : Stop) → HasWords a words stop → StillToWords file earlier words stop
+
+pub nothing_read : (file : List ℕ) → QuietSoFar file (start file)
+nothing_read file = record { earlier = []; extends = all_still file }
 
 pub word_read : (file : List ℕ) (old new : Ahead) (w : Entry) → QuietSoFar file old → ((words : List Entry) (stop : Stop) → HasWords new words stop → HasWords old (w ∷ words) stop) → IsQuiet (saying w) → QuietSoFar file new
-word_read file old new w s next q =
-    let bend : bend_behind (said s.earlier) (saying w) ≡ Ok None = quiet_bend (saying w).command (state_before (said s.earlier)) (saying w) s.line q in
-    record {
-      earlier = word_item saying w ∷ s.earlier;
-      extends = λ words stop h.
-          let x = s.extends (w ∷ words) stop (next words stop h) in
-          record { all = x.all; are = x.are; read = read-more bend_behind x.all s.earlier (items_with saying stop_saying (length file) words stop) (word_item saying w) x.read (rw bend refl) };
-      line = ap (λ (c : Curve). latest (saying w).curve c) s.line ∙ q.line;
-      none = λ n. none_more (length (said s.earlier) + 1 == n) (ok_bend (bend_behind (said s.earlier) (saying w))) (bends_in (said s.earlier) n) (ap ok_bend bend) (s.none n);
-    }
+word_read file old new w s next q = record {
+  earlier = word_item saying w ∷ s.earlier;
+  extends = λ words stop h.
+      let x = s.extends (w ∷ words) stop (next words stop h) in
+      record { all = x.all; are = x.are; to = still_more x.all s.earlier (items_with saying stop_saying (length file) words stop) (word_item saying w) x.to q };
+}
 
 pub stop_read : (file : List ℕ) (old : Ahead) (stop : Stop) → QuietSoFar file old → HasWords old [] stop → HasNoBends file
-stop_read file old stop s had =
-    let x = s.extends [] stop had in (
-      x.all,
-      x.are,
-      record {
-        earlier = stop_item stop_saying (length file) stop ∷ s.earlier;
-        whole = read-more bend_behind x.all s.earlier [] (stop_item stop_saying (length file) stop) x.read (stop-ok (said s.earlier) stop);
-        is = fun_ext (λ n. sym (stop-none (said s.earlier) stop n ∙ s.none n));
-      },
-    )
+stop_read file old stop s had = let x = s.extends [] stop had in (x.all, x.are, still_stop x.all s.earlier (length file) stop x.to)

@@ -1,5 +1,5 @@
 -- What a word says of arcs (Gerber Layer Format Specification, 4.7 and 4.8).
-use Rattle.std.specs.Prelude.{◌≡◌, ℕ, Bool, true, false, ◌&&◌, ◌||◌, not, if◌then◌else◌, List, drop, codes, Option, Some, None, option_map}
+use Rattle.std.specs.Prelude.{◌≡◌, ℕ, Bool, true, false, ◌&&◌, ◌||◌, not, nat_lt, if◌then◌else◌, List, drop, codes, Option, Some, None, option_map}
 use Rattle.texts.specs.Words.{begins, is_word}
 use Rattle.file_reading.specs.LookingBack.{latest}
 use Rattle.gerber_words.specs.Words.{Entry, Stop}
@@ -94,6 +94,10 @@ is_line (Some Counterclockwise) = false
 -- a plain word sets no other curve than a line, and has no offsets
 abbrev pub is_quiet : List ℕ → Bool
 is_quiet text = is_line (curve_in text) && not (begins_offset (from_offsets text))
+
+-- a byte that no code of curves and no offset begins with: none from `G` to `J`
+abbrev pub is_mute : ℕ → Bool
+is_mute b = nat_lt b 71 || nat_lt 74 b
 
 -- so of any word by what it says: behind lines, it makes no arc and has no fault of one
 pub record IsQuiet (w : Saying) : Type 0 where

@@ -12,7 +12,7 @@ ghost use Rattle.std.specs.Prelude.{◌≡◌, ◌+◌, ◌^◌, ◌<◌, ◌≤
 use crate::draws::{Bend, bend_of};
 use crate::kind::{RealFault, RealKind};
 use crate::state::{State, at_start};
-use crate::words::{Saying, is_quiet, read_word};
+use crate::words::{Saying, all_mute, is_quiet, read_word};
 use file_reading::Halt;
 use gerber_words::laws::words_lie_ahead;
 use gerber_words::{Step, Words};
@@ -85,6 +85,10 @@ fn is_straight(file: &[u8]) -> bool
     requires size { length file.now ≤ MOST_BYTES }
     ensures none { result ≡ true → HasNoBends file.now }
 {
+    words_lie_ahead();
+    if all_mute(file) {
+        return true;
+    }
     let mut words = Words::new(file);
     loop {
         match words.next_word() {

@@ -3,6 +3,7 @@ ghost use Rattle.arc_layer.specs.Words as spec;
 ghost use Rattle.gerber_layer.specs.Command.{view};
 ghost use Rattle.gerber_layer.specs.Lawful.{IsLawfulCommand};
 ghost use Rattle.gerber_words.specs.Stepping.{entry_of};
+ghost use Rattle.std.specs.List.{list_all};
 ghost use Rattle.std.specs.Option.{option_copied};
 ghost use Rattle.std.specs.Prelude.{◌≡◌, ◌≤◌, true, length, option_map};
 
@@ -145,6 +146,19 @@ fn is_line(curve: Option<Curve>) -> bool
         Some(Curve::Clockwise) => false,
         Some(Curve::Counterclockwise) => false,
     }
+}
+
+fn is_mute(byte: u8) -> bool
+    ensures { result ≡ spec.is_mute byte }
+{
+    byte < b'G' || b'J' < byte
+}
+
+/// Whether no byte is from `G` to `J`, so that no word of these bytes says anything of arcs.
+pub fn all_mute(bytes: &[u8]) -> bool
+    ensures { result ≡ list_all spec.is_mute bytes.now }
+{
+    bytes.iter().all(|b| is_mute(*b))
 }
 
 // Most words begin with no code: they set no curve.
