@@ -81,7 +81,9 @@ fn real_pieces(
     ensures are { IfOk result (λ reals. plain_reals reals.items ≡ map (spec.real_piece (bends_of bends.now)) (plain_pieces pieces.items)) }
     ensures fault { IfErr result (λ why. why ≡ RealFault.NoMemory) }
 {
-    let mut reals = Vec::new(alloc);
+    let Ok(mut reals) = Vec::with_capacity(alloc, pieces.len()) else {
+        return Err(RealFault::NoMemory);
+    };
     for piece in pieces {
         if let Err(_) = reals.push(real_piece(piece, bends)) {
             return Err(RealFault::NoMemory);
