@@ -17,8 +17,8 @@ use Rattle.covers.specs.Laws as covers
 use Rattle.verdict.specs.declared.verdict.Verdict.{Verdict}
 use Rattle.arc_covers.specs.Laws.{AreBoundsOf, AreJudged, LiesBetween}
 use Rattle.arc_covers.specs.RealBoards.{IsCopperOf, IsReal, real_span}
-use Rattle.arcs.specs.declared.real_shape.RealShape.{RealShape}
-use Rattle.arcs.specs.declared.real_shape.RealShape.TheVariants.{Plain, ArcDraw}
+use Rattle.real_shapes.specs.declared.RealShape.{RealShape}
+use Rattle.real_shapes.specs.declared.RealShape.TheVariants.{Plain, ArcDraw}
 use Rattle.arc_covers.specs.declared.side.Side.TheVariants.{Below, Above}
 use Rattle.arc_covers.proofs.Covered.{AreChain, AreLinks, by_piece, covered, linked}
 use Rattle.arc_covers.proofs.Shares.{IsAt, placed, share_at, share_length}

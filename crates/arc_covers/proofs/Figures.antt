@@ -17,8 +17,8 @@ use Rattle.arcs.specs.Copper.{InChain}
 use Rattle.arcs.specs.Laws.{TakenIsBetween}
 use Rattle.arc_covers.specs.Bounds.{IsBound, IsOn, PiecesStandFor, StandFor, capsules_from, capsules_of, figures_of}
 use Rattle.arc_covers.specs.Taken.{IsTaken, PiecesAreTaken, StandTaken}
-use Rattle.arcs.specs.declared.real_shape.RealShape.{RealShape}
-use Rattle.arcs.specs.declared.real_shape.RealShape.TheVariants.{ArcDraw, Plain}
+use Rattle.real_shapes.specs.declared.RealShape.{RealShape}
+use Rattle.real_shapes.specs.declared.RealShape.TheVariants.{ArcDraw, Plain}
 use Rattle.arc_covers.specs.declared.side.Side.{Side}
 use Rattle.arc_covers.specs.declared.side.Side.TheVariants.{Above, Below}
 

@@ -17,7 +17,7 @@ use Rattle.arc_covers.specs.Counts.{AreCounts, IsFirstOther}
 use Rattle.arc_covers.specs.Findings.{HasOpen, HasShort, IsWithoutCopper}
 use Rattle.arc_covers.specs.RealBoards.{IsReal}
 use Rattle.arc_covers.specs.Taken.{AreTaken}
-use Rattle.arcs.specs.declared.real_shape.RealShape.{RealShape}
+use Rattle.real_shapes.specs.declared.RealShape.{RealShape}
 use Rattle.arc_covers.specs.declared.side.Side.{Side}
 use Rattle.arc_covers.specs.declared.side.Side.TheVariants.{Below, Above}
 

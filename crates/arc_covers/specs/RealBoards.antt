@@ -5,8 +5,8 @@ use Rattle.board_shapes.specs.Figures.{InFigure, figure_of}
 use Rattle.board_shapes.specs.declared.placed.Placed.{Placed}
 use Rattle.arcs.specs.Copper.{IsCopper}
 use Rattle.covers.specs.Boards.{Layout, Span}
-use Rattle.arcs.specs.declared.real_shape.RealShape.{RealShape}
-use Rattle.arcs.specs.declared.real_shape.RealShape.TheVariants.{Plain, ArcDraw}
+use Rattle.real_shapes.specs.declared.RealShape.{RealShape}
+use Rattle.real_shapes.specs.declared.RealShape.TheVariants.{Plain, ArcDraw}
 
 -- the points are those of the figure, or a copper of the arc draw
 abbrev pub IsCopperOf : RealShape → (Point → Type 0) → Type 0

@@ -10,9 +10,9 @@ ghost use Rattle.std.specs.Prelude.{IfErr, IfOk, IsTrue, drop, length, sum, take
 use crate::laws::taken_are_bounds;
 use crate::rows::{are_chain, are_on, is_itself};
 use crate::side::Side;
-use arcs::{RealPiece, RealShape};
 use board_shapes::Piece;
 use lengths::rows::NoMemory;
+use real_shapes::{RealPiece, RealShape};
 use std::alloc::Global;
 use thiserror::Error;
 

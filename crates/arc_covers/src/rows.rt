@@ -1,7 +1,7 @@
 //! Rows of pieces: chains of capsules, and single figures.
 ghost use Rattle.arc_covers.specs.Bounds.{IsOn, capsules_from, capsules_of, figures_of};
 ghost use Rattle.arc_covers.specs.Taken.{StandTaken};
-ghost use Rattle.arcs.specs.declared.real_shape.RealShape.TheVariants.{ArcDraw, Plain};
+ghost use Rattle.real_shapes.specs.declared.RealShape.TheVariants.{ArcDraw, Plain};
 ghost use Rattle.board_shapes.specs.Figures.{Figure, area_figure, capsule_figure, figure_of, round};
 ghost use Rattle.board_shapes.specs.Pieces.{plain_piece, plain_pieces};
 ghost use Rattle.planar.specs.declared.Spot.{Spot};

@@ -2,10 +2,11 @@
 ghost use Rattle.planar.specs.Plane.{IsPlaced};
 
 use crate::{BoundsFault, CountsFault, Side, check_between, read_counts};
-use arcs::{Arc, RealPiece, RealShape, Spot};
+use arcs::{Arc, Spot};
 use board_shapes::{Origin, Piece, Placed, Shape};
 use contact::Capsule;
 use lengths::rows::NoMemory;
+use real_shapes::{RealPiece, RealShape};
 use std::alloc::Global;
 use std::test::Fail;
 

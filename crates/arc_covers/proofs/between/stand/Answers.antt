@@ -1,6 +1,6 @@
 use Rattle.std.proofs.Common.{refl}
 use Rattle.arc_covers.proofs.Figures.{chain_pieces_taken, layers_refused, pieces_taken}
-use Rattle.arcs.specs.declared.real_shape.RealShape.TheVariants.{Plain}
+use Rattle.real_shapes.specs.declared.RealShape.TheVariants.{Plain}
 use Rattle.arc_covers.proofs.between.stand.Goals as goal
 
 pub returns-then-not-are_on : goal.returns-then-not-are_on

@@ -1,6 +1,9 @@
-//! Pieces of a board that may have arc draws.
+//! Pieces of a real board.
+//!
+//! A piece is a figure, or copper that no figure is, as an arc draw; other crates check its bounds.
+#![tactic(auto)]
 
-use crate::Arc;
+use arcs::Arc;
 use board_shapes::{Placed, Shape};
 
 /// A figure of ours, or an arc draw with a round pen.
