@@ -1,4 +1,5 @@
 mod Bounded
+mod Contours
 mod Counted
 mod Covered
 mod Figures

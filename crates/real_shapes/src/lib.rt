@@ -5,12 +5,14 @@
 
 use arcs::Arc;
 use board_shapes::{Placed, Shape};
+use slants::Slant;
 
-/// A figure of ours, or an arc draw with a round pen.
+/// A figure of ours, an arc draw with a round pen, or a rectangle about a slanted line.
 #[derive(Drop)]
 pub enum RealShape {
     Plain(Shape),
     ArcDraw(Arc),
+    Slanted(Slant),
 }
 
 /// Such a shape on a span of layers, with what made it.
