@@ -5,5 +5,6 @@ mod Covered
 mod Figures
 mod Findings
 mod Listed
+mod Parts
 mod Shares
 mod Steps

@@ -2,6 +2,7 @@
 ghost use Rattle.planar.specs.Plane.{IsPlaced};
 
 use crate::{BoundsFault, CountsFault, Side, check_between, read_counts};
+use arc_regions::{Bend, Part, Region};
 use arcs::{Arc, Spot};
 use area_contact::Area;
 use board_shapes::{Origin, Piece, Placed, Shape};
@@ -294,6 +295,82 @@ fn a_slanted_line(rt: HostRuntime) -> Result<(), Fail> {
     assert!(rt; found == Err(BoundsFault::Piece(Side::Below, 0)));
     let other = check_between(alloc, &real, &[], &[0], &[], &[0]);
     assert!(rt; other == Err(BoundsFault::Piece(Side::Above, 0)));
+    Ok(())
+}
+
+/// Half a disc of radius 5,000 u about 0, of which the arc goes counterclockwise or back.
+fn half_disc(alloc: Global, back: bool) -> Result<RealPiece, Fail> {
+    let (first, last) = if back { (5000, -5000) } else { (-5000, 5000) };
+    let bend = Bend {
+        centre: spot((0, 0)),
+        end: spot((0, last)),
+        counterclockwise: !back,
+    };
+    let mut parts = Vec::new(alloc);
+    parts.push(Part::Curved(bend))?;
+    parts.push(Part::Straight(spot((0, first))))?;
+    Ok(Placed {
+        shape: RealShape::Region(Region {
+            start: spot((0, first)),
+            parts,
+        }),
+        top: 1,
+        bottom: 1,
+        origin: ORIGIN,
+    })
+}
+
+/// The polygon of its chain, and the capsules of radius `r` along it, counterclockwise.
+fn around(alloc: Global, back: bool, r: u16) -> Result<Vec<Piece>, Fail> {
+    let chain = [
+        (0, -5000),
+        (3000, -4000),
+        (4000, -3000),
+        (5000, 0),
+        (4000, 3000),
+        (3000, 4000),
+        (0, 5000),
+    ];
+    let mut points = Vec::new(alloc);
+    for corner in chain {
+        points.push(spot(corner))?;
+    }
+    if back {
+        points.reverse();
+    }
+    points.push(points[0])?;
+    if !are_placed(&points) {
+        return Ok(Vec::new(alloc));
+    }
+    let mut pieces = Vec::new(alloc);
+    pieces.push(on(1, Shape::Filled(Area::new(alloc, points)?)))?;
+    for i in 1..chain.len() {
+        pieces.push(on(1, capsule(chain[i - 1], chain[i], r)))?;
+    }
+    Ok(pieces)
+}
+
+/// A region: the chords leave its circle by less than 257 u, and by more than 256. Nothing lies below it.
+#[test]
+fn regions(rt: HostRuntime) -> Result<(), Fail> {
+    let alloc = rt.alloc();
+    for (back, turned, r, told) in [
+        (false, false, 257, Ok(())),
+        (true, true, 257, Ok(())),
+        (false, false, 256, Err(BoundsFault::Piece(Side::Above, 0))),
+        (true, false, 257, Err(BoundsFault::Piece(Side::Above, 0))),
+        (false, true, 257, Err(BoundsFault::Piece(Side::Above, 0))),
+    ] {
+        let mut real = Vec::new(alloc);
+        real.push(half_disc(alloc, back)?)?;
+        let upper = around(alloc, turned, r)?;
+        let found = check_between(alloc, &real, &[], &[0], &upper, &[7]);
+        assert!(rt; found == told);
+        let fewer = check_between(alloc, &real, &[], &[0], &upper[..6], &[6]);
+        assert!(rt; fewer == Err(BoundsFault::Piece(Side::Above, 0)));
+        let lower = check_between(alloc, &real, &upper[..1], &[1], &upper, &[7]);
+        assert!(rt; lower == Err(BoundsFault::Piece(Side::Below, 0)));
+    }
     Ok(())
 }
 
