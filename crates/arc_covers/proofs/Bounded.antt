@@ -5,7 +5,7 @@ use Rattle.std.proofs.lemmas.List.Elements.{All-head, All-tail}
 use Rattle.std.proofs.lemmas.Option.{same_Some, slice_get-map, slice_get_cases, slice_get_within}
 use Rattle.planar.specs.Plane.{Point}
 use Rattle.planar.specs.declared.Spot.{Spot}
-use Rattle.board_shapes.specs.Figures.{Figure, InFigure, figure_of, round}
+use Rattle.board_shapes.specs.Figures.{Figure, InFigure, figure_of, filled, round}
 use Rattle.board_shapes.specs.Pieces.{PlainPiece}
 use Rattle.board_shapes.specs.Plain.{PlainBoard}
 use Rattle.board_shapes.specs.declared.placed.Placed.{Placed}
@@ -17,8 +17,8 @@ use Rattle.covers.specs.Laws as covers
 use Rattle.verdict.specs.declared.verdict.Verdict.{Verdict}
 use Rattle.arc_covers.specs.Laws.{AreBoundsOf, AreJudged, LiesBetween}
 use Rattle.arc_covers.specs.RealBoards.{IsCopperOf, IsReal, real_span}
-use Rattle.arcs.specs.declared.real_shape.RealShape.{RealShape}
-use Rattle.arcs.specs.declared.real_shape.RealShape.TheVariants.{Plain, ArcDraw}
+use Rattle.real_shapes.specs.declared.RealShape.{RealShape}
+use Rattle.real_shapes.specs.declared.RealShape.TheVariants.{Plain, ArcDraw, Slanted}
 use Rattle.arc_covers.specs.declared.side.Side.TheVariants.{Below, Above}
 use Rattle.arc_covers.proofs.Covered.{AreChain, AreLinks, by_piece, covered, linked}
 use Rattle.arc_covers.proofs.Shares.{IsAt, placed, share_at, share_length}
@@ -80,27 +80,41 @@ past_end holds b holds' c i past = record { cover = []; covers = λ layer p h. l
 -- ---- one piece of the real board and its share
 
 module _ (holds : ℕ → Point → Type 0) (real : Layout) (b : PlainBoard) (span : Span) (i first : ℕ) (there : slice_get real.spans i ≡ Some span) (some : span.top ≤ span.bottom) (part : List PlainPiece) (at : IsAt b.pieces first part) (on : All (IsOn span.top span.bottom) part) where
-  above_shape : (shape : RealShape) → IsCopperOf shape (holds i) → StandFor Above shape (figures_of part) → IsCovered holds real (InPiece b) (layout_of b) i
-  above_shape (Plain shape) copper same = one part at on same where
-    one : (ps : List PlainPiece) → IsAt b.pieces first ps → All (IsOn span.top span.bottom) ps → figures_of ps ≡ figure_of shape ∷ [] → IsCovered holds real (InPiece b) (layout_of b) i
+  -- one figure that holds the copper
+  above_one : (f : Figure) → figures_of part ≡ f ∷ [] → ((q : Point) → holds i q → InFigure f q) → IsCovered holds real (InPiece b) (layout_of b) i
+  above_one f same all = one part at on same where
+    one : (ps : List PlainPiece) → IsAt b.pieces first ps → All (IsOn span.top span.bottom) ps → figures_of ps ≡ f ∷ [] → IsCovered holds real (InPiece b) (layout_of b) i
     one [] at on same = absurd cc
     one (p ∷ ps) (here, more) on same =
-        let figure : p.figure ≡ figure_of shape = cc in
-        by_piece holds real (InPiece b) (layout_of b) span (pos 0) first (has_span b span first p here (All-head (IsOn span.top span.bottom) p ps on)) i there (λ q h. in_piece b first p (figure_of shape) q here figure ((copper q).1 h))
-  above_shape (ArcDraw arc) copper (chain, r, same, bound) = covered holds real (InPiece b) (layout_of b) span (pos r) some i first chain there (chain_at b span (pos r) first chain part at same on) (λ p h. bound p (copper.most p h))
+        let figure : p.figure ≡ f = cc in
+        by_piece holds real (InPiece b) (layout_of b) span (pos 0) first (has_span b span first p here (All-head (IsOn span.top span.bottom) p ps on)) i there (λ q h. in_piece b first p f q here figure (all q h))
 
-  below_shape : (shape : RealShape) → IsCopperOf shape (holds i) → StandFor Below shape (figures_of part) → (j : ℕ) → first ≤ j → j < first + length part → IsCovered (InPiece b) (layout_of b) holds real j
-  below_shape (Plain shape) copper same j from to = one part at on same to where
-    one : (ps : List PlainPiece) → IsAt b.pieces first ps → All (IsOn span.top span.bottom) ps → figures_of ps ≡ figure_of shape ∷ [] → j < first + length ps → IsCovered (InPiece b) (layout_of b) holds real j
+  -- one figure that lies in it
+  below_one : (f : Figure) → figures_of part ≡ f ∷ [] → ((q : Point) → InFigure f q → holds i q) → (j : ℕ) → first ≤ j → j < first + length part → IsCovered (InPiece b) (layout_of b) holds real j
+  below_one f same all j from to = one part at on same to where
+    one : (ps : List PlainPiece) → IsAt b.pieces first ps → All (IsOn span.top span.bottom) ps → figures_of ps ≡ f ∷ [] → j < first + length ps → IsCovered (InPiece b) (layout_of b) holds real j
     one [] at on same to = absurd cc
     one (p ∷ q ∷ ps) at on same to = absurd cc
     one (p ∷ []) (here, more) on same to =
-        let figure : p.figure ≡ figure_of shape = cc in
+        let figure : p.figure ≡ f = cc in
         let only : first ≡ j = omega arith in
         subst (λ (n : ℕ). IsCovered (InPiece b) (layout_of b) holds real n) only
-        (by_piece (InPiece b) (layout_of b) holds real span (pos 0) i there first (has_span b span first p here (All-head (IsOn span.top span.bottom) p [] on)) (λ q h. (copper q).0 (out_of_piece b first p (figure_of shape) q here figure h)))
+        (by_piece (InPiece b) (layout_of b) holds real span (pos 0) i there first (has_span b span first p here (All-head (IsOn span.top span.bottom) p [] on)) (λ q h. all q (out_of_piece b first p f q here figure h)))
+
+  above_shape : (shape : RealShape) → IsCopperOf shape (holds i) → StandFor Above shape (figures_of part) → IsCovered holds real (InPiece b) (layout_of b) i
+  above_shape (Plain shape) copper same = above_one (figure_of shape) same (λ q h. (copper q).1 h)
+  above_shape (ArcDraw arc) copper (chain, r, same, bound) = covered holds real (InPiece b) (layout_of b) span (pos r) some i first chain there (chain_at b span (pos r) first chain part at same on) (λ p h. bound p (copper.most p h))
+  above_shape (Slanted line) copper (points, same, bound) = above_one (filled points) same (λ q h. bound q ((copper q).1 h))
+
+  below_shape : (shape : RealShape) → IsCopperOf shape (holds i) → StandFor Below shape (figures_of part) → (j : ℕ) → first ≤ j → j < first + length part → IsCovered (InPiece b) (layout_of b) holds real j
+  below_shape (Plain shape) copper same j from to = below_one (figure_of shape) same (λ q h. (copper q).0 h) j from to
   below_shape (ArcDraw arc) copper (chain, r, same, bound) j from to =
       linked (InPiece b) (layout_of b) holds real span (pos r) i there first chain (chain_at b span (pos r) first chain part at same on) (λ p h. copper.least p (bound p h)) j from (chain_length chain (pos r) part j first same from to)
+  below_shape (Slanted line) copper (inl none) j from to =
+      let n : length (figures_of part) ≡ 0 = ap length none in
+      let m = length-map part (λ (p : PlainPiece). p.figure) in
+      absurd (omega arith)
+  below_shape (Slanted line) copper (inr (points, same, bound)) j from to = below_one (filled points) same (λ q h. (copper q).0 (bound q h)) j from to
 
 -- ---- whole boards
 

@@ -15,10 +15,12 @@ use Rattle.arcs.specs.declared.Arc.{Arc}
 use Rattle.lengths.specs.declared.rows.NoMemory.{NoMemory}
 use Rattle.arcs.specs.Copper.{InChain}
 use Rattle.arcs.specs.Laws.{TakenIsBetween}
-use Rattle.arc_covers.specs.Bounds.{IsBound, IsOn, PiecesStandFor, StandFor, capsules_from, capsules_of, figures_of}
-use Rattle.arc_covers.specs.Taken.{IsTaken, PiecesAreTaken, StandTaken}
-use Rattle.arcs.specs.declared.real_shape.RealShape.{RealShape}
-use Rattle.arcs.specs.declared.real_shape.RealShape.TheVariants.{ArcDraw, Plain}
+use Rattle.slants.specs.Laws as slants
+use Rattle.slants.specs.declared.Slant.{Slant}
+use Rattle.arc_covers.specs.Bounds.{IsBound, IsLineBound, IsOn, ContourFor, PiecesStandFor, StandFor, capsules_from, capsules_of, figures_of}
+use Rattle.arc_covers.specs.Taken.{IsLineTaken, IsTaken, PiecesAreTaken, StandTaken}
+use Rattle.real_shapes.specs.declared.RealShape.{RealShape}
+use Rattle.real_shapes.specs.declared.RealShape.TheVariants.{ArcDraw, Plain, Slanted}
 use Rattle.arc_covers.specs.declared.side.Side.{Side}
 use Rattle.arc_covers.specs.declared.side.Side.TheVariants.{Above, Below}
 
@@ -179,14 +181,24 @@ pub layers_refused : (side : Side) (real : Placed RealShape) (pieces : List (Pla
 layers_refused side real pieces b on is off told = (λ yes. absurd cc, λ t. let yes = told.1 (of_pieces (IsOn real.top real.bottom) pieces t.layers) in absurd cc)
 
 -- what is taken stands
-pub stands : (side : Side) (real : Placed RealShape) (pieces : List PlainPiece) → TakenIsBetween → PiecesAreTaken side real pieces → PiecesStandFor side real pieces
-stands side real pieces law t = record { figures = by side real.shape t.figures; layers = t.layers }
+pub stands : (side : Side) (real : Placed RealShape) (pieces : List PlainPiece) → TakenIsBetween → slants.TakenIsBetween → PiecesAreTaken side real pieces → PiecesStandFor side real pieces
+stands side real pieces law lines t = record { figures = by side real.shape t.figures; layers = t.layers }
   where
     bound : (side : Side) (arc : Arc) (chain : List Spot) (r : ℕ) → IsTaken side arc chain r → IsBound side arc chain (pos r)
     bound Below arc chain r (inl none) = λ p inside. absurd (subst (λ (c : List Spot). InChain c (pos r) p) none inside)
     bound Below arc chain r (inr taken) = λ p inside. (law arc chain r p).0 taken inside
     bound Above arc chain r taken = λ p inside. (law arc chain r p).1 taken inside
 
+    line_bound : (side : Side) (line : Slant) (points : List Spot) → IsLineTaken side line points → IsLineBound side line points
+    line_bound Below line points taken = λ p inside. (lines line points p).0 taken inside
+    line_bound Above line points taken = λ p inside. (lines line points p).1 taken inside
+
+    one_area : (side : Side) (P Q : List Spot → Type 0) (figures : List Figure) → ((points : List Spot) → P points → Q points) → ContourFor side P figures → ContourFor side Q figures
+    one_area Below P Q figures more (inl none) = inl none
+    one_area Below P Q figures more (inr (points, same, h)) = inr (points, same, more points h)
+    one_area Above P Q figures more (points, same, h) = (points, same, more points h)
+
     by : (side : Side) (shape : RealShape) → StandTaken side shape (figures_of pieces) → StandFor side shape (figures_of pieces)
     by side (Plain shape) same = same
     by side (ArcDraw arc) (chain, r, same, taken) = (chain, r, same, bound side arc chain r taken)
+    by side (Slanted line) h = one_area side (IsLineTaken side line) (IsLineBound side line) (figures_of pieces) (line_bound side line) h
