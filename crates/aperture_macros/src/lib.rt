@@ -28,4 +28,4 @@ mod values;
 
 pub use body_word::read_body;
 pub use fault::{FigureFault, MacroFault};
-pub use primitive::{Form, Primitive, Rotation};
+pub use primitive::{Form, Lines, Primitive, Rotation};
