@@ -54,9 +54,35 @@ pub fn line(
     let w = size(part(0, text), parameters, unit)?;
     let p = point(past(1, text), parameters, unit)?;
     let q = point(past(3, text), parameters, unit)?;
+    line_between(lines, w, p, q)
+}
+
+// The same between two points.
+#[tactic(auto, unfolding(crate::specs::Images::line_between))]
+fn line_between(lines: Lines, w: u64, p: Spot, q: Spot) -> Result<Option<Sketch>, MacroFault>
+    requires width { w ≤ METRE }
+    requires start { IsPlaced p }
+    requires end { IsPlaced q }
+    ensures value { result ≡ spec.line_between lines w p q }
+    ensures any { IfOk result (λ sketch. spec.line_between Lines.Any w p q ≡ Ok sketch) }
+    ensures near { IfOk result IsNear }
+{
     if p.x == q.x {
         Ok(strip(w, p, q, w, 0))
-    } else if p.y == q.y {
+    } else {
+        level_or_slanted(lines, w, p, q)
+    }
+}
+
+fn level_or_slanted(lines: Lines, w: u64, p: Spot, q: Spot) -> Result<Option<Sketch>, MacroFault>
+    requires width { w ≤ METRE }
+    requires start { IsPlaced p }
+    requires end { IsPlaced q }
+    ensures value { result ≡ spec.level_or_slanted lines w p q }
+    ensures any { IfOk result (λ sketch. spec.level_or_slanted Lines.Any w p q ≡ Ok sketch) }
+    ensures near { IfOk result IsNear }
+{
+    if p.y == q.y {
         Ok(strip(w, p, q, 0, w))
     } else {
         slanted(lines, w, p, q)
