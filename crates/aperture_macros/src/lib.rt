@@ -14,6 +14,7 @@
 //! - `placing`: where a figure is set down.
 //! - `outline`: the areas of outlines.
 //! - `figure`: figures where they are flashed.
+//! - `laws`: what strokes they flash.
 #![tactic(auto)]
 
 mod body_word;
@@ -21,6 +22,7 @@ mod expression;
 mod fault;
 mod figure;
 mod images;
+pub mod laws;
 mod outline;
 mod placing;
 mod primitive;
