@@ -1,4 +1,4 @@
--- Words that say nothing of arcs make no bends.
+-- Words that say nothing of arcs, and begin no macro, make no marks.
 use Rattle.std.proofs.Common.{◌≡◌, ℕ, ◌+◌, ◌==◌, Bool, true, false, cond, ◌&&◌, not, nat_eq, List, [], ◌∷◌, length, Option, Some, None, Ok, refl, sym, ap, ◌∙◌, subst, arith}
 use mathlib.Core.Path.{fun_ext}
 use Rattle.file_reading.specs.LookingBack.{latest}
@@ -11,7 +11,10 @@ use Rattle.gerber_layer.specs.CommandEffects.{code_of}
 use Rattle.gerber_layer.specs.WordCommands.{behind, number_in}
 use Rattle.gerber_layer.specs.declared.command.Code.{Code}
 use Rattle.gerber_layer.specs.declared.command.Code.TheVariants.{Draw, Move, Flash}
-use Rattle.arc_layer.specs.Bends.{AreSayings, HasNoBends, bend_behind, bends_in, command_bend, ok_bend, operation_by, curve_of}
+use Rattle.arc_layer.specs.Bends.{command_bend, curve_of, operation_by}
+use Rattle.arc_layer.specs.Marks.{AreSayings, HasNoMarks, flashes, mark_behind, marked, marks_in, ok_mark}
+use Rattle.arc_layer.specs.declared.mark.Mark.{Mark}
+use Rattle.arc_layer.specs.declared.kind.RealKind.{RealKind}
 use Rattle.arc_layer.specs.State.{state_before}
 use Rattle.arc_layer.specs.Words.{IsQuiet, Saying, begins_offset, curve_in, from_offsets, is_line, is_quiet, plain, saying, stop_saying}
 use Rattle.arc_layer.specs.declared.draws.Bend.{Bend}
@@ -60,7 +63,7 @@ pub quiet_text : (c : Command) (text : List ℕ) → is_quiet text ≡ true → 
 quiet_text c text h =
     let parts = both (is_line (curve_in text)) (begins_offset (from_offsets text)) h in
     let none = no_offset (from_offsets text) parts.1 in
-    record { line = line_said (curve_in text) parts.0; i = none.i; j = none.j; more = none.more }
+    record { line = line_said (curve_in text) parts.0; i = none.i; j = none.j; more = none.more; names = refl }
 
 -- a word that says nothing of arcs has no bend behind lines
 by_code : (code : Code) (s : State) (w : Saying) → s.curve ≡ Line → IsQuiet w → operation_by (curve_of code s w) s w ≡ Ok None
@@ -72,42 +75,50 @@ quiet_bend : (c : Command) (s : State) (w : Saying) → s.curve ≡ Line → IsQ
 quiet_bend (operates x y code) s w line q = by_code (code_of code) s w line q
 quiet_bend other s w line q = refl
 
--- a history that says nothing of arcs
+no_flash : (c : Command) (s : State) → s.macros ≡ false → flashes c s ≡ false
+no_flash (operates x y code) s none = rw none refl
+no_flash other s none = refl
+
+-- a history that says nothing of arcs, and in which no macro begins
 pub record Still (earlier : List Saying) : Type 0 where
   pub line : (state_before earlier).curve ≡ Line
-  pub none : (n : ℕ) → bends_in earlier n ≡ None
+  pub macros : (state_before earlier).macros ≡ false
+  pub none : (n : ℕ) → marks_in earlier n ≡ None
 
-no_more : (b : Bool) (bend : Option Bend) (earlier : Option Bend) → bend ≡ None → earlier ≡ None → cond b bend earlier ≡ None
-no_more true bend earlier h k = h
-no_more false bend earlier h k = k
+no_more : (b : Bool) (mark : Option Mark) (earlier : Option Mark) → mark ≡ None → earlier ≡ None → cond b mark earlier ≡ None
+no_more true mark earlier h k = h
+no_more false mark earlier h k = k
 
-bend_none : (earlier : List Saying) (w : Saying) → Still earlier → IsQuiet w → bend_behind earlier w ≡ Ok None
-bend_none earlier w s q = quiet_bend w.command (state_before earlier) w s.line q
+mark_none : (earlier : List Saying) (w : Saying) → Still earlier → IsQuiet w → mark_behind earlier w ≡ Ok None
+mark_none earlier w s q =
+    let state = state_before earlier in
+    ap (λ (r : Result (Option Bend) RealKind). marked r (flashes w.command state)) (quiet_bend w.command state w s.line q) ∙ ap (λ (b : Bool). marked (Ok None) b) (no_flash w.command state s.macros)
 
 still : (earlier : List Saying) (w : Saying) → Still earlier → IsQuiet w → Still (w ∷ earlier)
 still earlier w s q = record {
   line = ap (λ (c : Curve). latest w.curve c) s.line ∙ q.line;
-  none = λ n. no_more (length earlier + 1 == n) (ok_bend (bend_behind earlier w)) (bends_in earlier n) (ap ok_bend (bend_none earlier w s q)) (s.none n);
+  macros = ap (λ (b : Bool). b || (state_before earlier).macros) q.names ∙ s.macros;
+  none = λ n. no_more (length earlier + 1 == n) (ok_mark (mark_behind earlier w)) (marks_in earlier n) (ap ok_mark (mark_none earlier w s q)) (s.none n);
 }
 
 -- the items up to these say nothing of arcs
 pub record StillTo (all earlier rest : List (Item Saying)) : Type 0 where
-  pub read : IsReadTo bend_behind all earlier rest
+  pub read : IsReadTo mark_behind all earlier rest
   pub still : Still (said earlier)
 
 pub still_start : (all : List (Item Saying)) → StillTo all [] all
-still_start all = record { read = read-start bend_behind all; still = record { line = refl; none = λ n. refl } }
+still_start all = record { read = read-start mark_behind all; still = record { line = refl; macros = refl; none = λ n. refl } }
 
 pub still_more : (all earlier rest : List (Item Saying)) (item : Item Saying) → StillTo all earlier (item ∷ rest) → IsQuiet item.says → StillTo all (item ∷ earlier) rest
 still_more all earlier rest item s q = record {
-  read = read-more bend_behind all earlier rest item s.read (rw (bend_none (said earlier) item.says s.still q) refl);
+  read = read-more mark_behind all earlier rest item s.read (rw (mark_none (said earlier) item.says s.still q) refl);
   still = still (said earlier) item.says s.still q;
 }
 
-pub still_stop : (all earlier : List (Item Saying)) (size : ℕ) (stop : Stop) → StillTo all earlier (stop_item stop_saying size stop ∷ []) → IsRead bend_behind bends_in all (λ n. None)
+pub still_stop : (all earlier : List (Item Saying)) (size : ℕ) (stop : Stop) → StillTo all earlier (stop_item stop_saying size stop ∷ []) → IsRead mark_behind marks_in all (λ n. None)
 still_stop all earlier size stop s = record {
   earlier = stop_item stop_saying size stop ∷ earlier;
-  whole = read-more bend_behind all earlier [] (stop_item stop_saying size stop) s.read (stop-ok (said earlier) stop);
+  whole = read-more mark_behind all earlier [] (stop_item stop_saying size stop) s.read (stop-ok (said earlier) stop);
   is = fun_ext (λ n. sym (stop-none (said earlier) stop n ∙ s.still.none n));
 }
 
@@ -140,5 +151,5 @@ word_read file old new w s next q = record {
       record { all = x.all; are = x.are; to = still_more x.all s.earlier (items_with saying stop_saying (length file) words stop) (word_item saying w) x.to q };
 }
 
-pub stop_read : (file : List ℕ) (old : Ahead) (stop : Stop) → QuietSoFar file old → HasWords old [] stop → HasNoBends file
+pub stop_read : (file : List ℕ) (old : Ahead) (stop : Stop) → QuietSoFar file old → HasWords old [] stop → HasNoMarks file
 stop_read file old stop s had = let x = s.extends [] stop had in (x.all, x.are, still_stop x.all s.earlier (length file) stop x.to)

@@ -1,6 +1,6 @@
-//! The bends of a file.
-ghost use Rattle.arc_layer.specs.Bends.{AreBends, AreShort, HasNoBends, IsBendFault, bend_of as bend_spec};
-ghost use Rattle.arc_layer.specs.Reading.{Takes, bends_of, bends_so_far};
+//! The marks of a file.
+ghost use Rattle.arc_layer.specs.Marks.{AreMarks, AreShort, HasNoMarks, IsBendFault, mark_of as mark_spec};
+ghost use Rattle.arc_layer.specs.Reading.{Takes, marks_of, marks_so_far};
 ghost use Rattle.arc_layer.specs.State.{IsLawfulState, state_before};
 ghost use Rattle.arc_layer.specs.Words.{saying_of};
 ghost use Rattle.gerber_layer.specs.Command.{view};
@@ -9,10 +9,11 @@ ghost use Rattle.gerber_layer.specs.Reader.{Stops};
 ghost use Rattle.std.specs.Option.{option_copied};
 ghost use Rattle.std.specs.Prelude.{◌≡◌, ◌+◌, ◌^◌, ◌<◌, ◌≤◌, ℕ, true, [], length, IfErr, IfOk, None, OnOk};
 
-use crate::draws::{Bend, bend_of};
+use crate::draws::mark_of;
 use crate::kind::{RealFault, RealKind};
+use crate::mark::Mark;
 use crate::state::{State, at_start};
-use crate::words::{Saying, all_mute, is_quiet, read_word};
+use crate::words::{Saying, are_free, is_quiet, read_word};
 use file_reading::Halt;
 use gerber_words::laws::words_lie_ahead;
 use gerber_words::{Step, Words};
@@ -20,18 +21,18 @@ use std::alloc::Global;
 use std::collections::HashMap;
 use texts::MOST_BYTES;
 
-/// The bends of the draws of a file, by the numbers of their commands, from 1.
+/// The marks of a file, by the numbers of its commands, from 1.
 #[derive(Drop)]
-pub struct Bends {
-    bends: HashMap<u32, Bend>,
+pub struct Marks {
+    marks: HashMap<u32, Mark>,
 }
 
-impl Bends {
-    /// The bend of the command of this number, if it has one.
-    pub fn find(&self, command: u32) -> Option<&Bend>
-        ensures { option_copied result ≡ bends_of self.now command }
+impl Marks {
+    /// The mark of the command of this number, if it has one.
+    pub fn find(&self, command: u32) -> Option<&Mark>
+        ensures { option_copied result ≡ marks_of self.now command }
     {
-        self.bends.get(&command)
+        self.marks.get(&command)
     }
 }
 
@@ -39,7 +40,7 @@ impl Bends {
 #[derive(Drop)]
 struct Reader {
     state: State,
-    bends: HashMap<u32, Bend>,
+    marks: HashMap<u32, Mark>,
     commands: u32,
 }
 
@@ -47,12 +48,12 @@ impl Reader {
     fn new(alloc: Global) -> Reader
         ensures state { result.state ≡ state_before [] }
         ensures lawful { IsLawfulState result.state }
-        ensures bends { (n : ℕ) → bends_so_far result n ≡ None }
+        ensures marks { (n : ℕ) → marks_so_far result n ≡ None }
         ensures commands { result.commands ≡ 0 }
     {
         Reader {
             state: at_start(),
-            bends: HashMap::new(alloc),
+            marks: HashMap::new(alloc),
             commands: 0,
         }
     }
@@ -62,16 +63,16 @@ impl Reader {
         requires lawful { IsLawfulState self.old.state }
         requires command { IsLawfulCommand (view word.now.command) }
         requires few { self.old.commands + 1 < 2 ^ 32 }
-        requires short { AreShort (bends_so_far self.old) }
+        requires short { AreShort (marks_so_far self.old) }
         ensures takes { OnOk result (Takes self.old (saying_of word.now) self.new) }
         ensures lawful { OnOk result (IsLawfulState self.new.state) }
-        ensures short { OnOk result (AreShort (bends_so_far self.new)) }
-        ensures halt { IfErr result (Stops (bend_spec self.old.state (saying_of word.now))) }
+        ensures short { OnOk result (AreShort (marks_so_far self.new)) }
+        ensures halt { IfErr result (Stops (mark_spec self.old.state (saying_of word.now))) }
     {
-        let bend = bend_of(&self.state, word)?;
+        let mark = mark_of(&self.state, word)?;
         self.commands += 1;
-        if let Some(bend) = bend {
-            if let Err(_) = self.bends.insert(self.commands, bend) {
+        if let Some(mark) = mark {
+            if let Err(_) = self.marks.insert(self.commands, mark) {
                 return Err(Halt::NoMemory);
             }
         }
@@ -80,13 +81,14 @@ impl Reader {
     }
 }
 
-// Whether no word of a file says anything of arcs. Such a file has no bends, and no command of it need be read.
+// Whether no word of a file says anything of arcs, and none begins a macro. Such a file has no marks, and no command
+// of it need be read.
 fn is_straight(file: &[u8]) -> bool
     requires size { length file.now ≤ MOST_BYTES }
-    ensures none { result ≡ true → HasNoBends file.now }
+    ensures none { result ≡ true → HasNoMarks file.now }
 {
     words_lie_ahead();
-    if all_mute(file) {
+    if are_free(file) {
         return true;
     }
     let mut words = Words::new(file);
@@ -101,17 +103,17 @@ fn is_straight(file: &[u8]) -> bool
     }
 }
 
-/// The bends of a file, or why an arc of it is refused first. The file has at most `MOST_BYTES` bytes.
-pub fn read_bends(alloc: Global, file: &[u8]) -> Result<Bends, RealFault>
+/// The marks of a file, or why an arc of it is refused first. The file has at most `MOST_BYTES` bytes.
+pub fn read_marks(alloc: Global, file: &[u8]) -> Result<Marks, RealFault>
     requires size { length file.now ≤ MOST_BYTES }
-    ensures ok { IfOk result (λ bends. AreBends file.now (bends_of bends)) }
-    ensures short { IfOk result (λ bends. AreShort (bends_of bends)) }
+    ensures ok { IfOk result (λ marks. AreMarks file.now (marks_of marks)) }
+    ensures short { IfOk result (λ marks. AreShort (marks_of marks)) }
     ensures fault { IfErr result (IsBendFault file.now) }
 {
     words_lie_ahead();
     if is_straight(file) {
-        return Ok(Bends {
-            bends: HashMap::new(alloc),
+        return Ok(Marks {
+            marks: HashMap::new(alloc),
         });
     }
     let mut words = Words::new(file);
@@ -130,11 +132,11 @@ pub fn read_bends(alloc: Global, file: &[u8]) -> Result<Bends, RealFault>
                     Err(Halt::NoMemory) => return Err(RealFault::NoMemory),
                 }
             },
-            Step::End => return Ok(Bends {
-                bends: reader.bends,
+            Step::End => return Ok(Marks {
+                marks: reader.marks,
             }),
-            Step::Broken(_, _) => return Ok(Bends {
-                bends: reader.bends,
+            Step::Broken(_, _) => return Ok(Marks {
+                marks: reader.marks,
             }),
         }
     }
