@@ -90,9 +90,12 @@ no_macro (b ∷ text) h =
 front : (b : ℕ) (xs ys : List ℕ) → is_free b (xs ++ ys) ≡ true → is_free b xs ≡ true
 front b [] ys h = by (65 == b) refl
   where
+    mute : is_mute b ≡ true
+    mute = (both (is_mute b) (not (65 == b && begins ys (codes "M"))) h).0
+
     by : (t : Bool) → (65 == b) ≡ t → is_free b [] ≡ true
-    by true is = rw is (both (is_mute b) (not (65 == b && begins ys (codes "M"))) h).0
-    by false is = rw is (both (is_mute b) (not (65 == b && begins ys (codes "M"))) h).0
+    by true is = rw (is, mute) refl
+    by false is = rw (is, mute) refl
 front b (x ∷ xs) ys h = h
 
 parted_free : (xs ys : List ℕ) → Free (xs ++ ys) → Free xs × Free ys

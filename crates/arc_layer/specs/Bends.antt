@@ -1,5 +1,5 @@
 -- The bend of an arc draw: what the straight reading of its arc draws leaves out (Gerber Layer Format Specification, 4.7 and 4.8).
-use Rattle.std.specs.Prelude.{ℕ, ◌+◌, Bool, true, false, ◌&&◌, ◌||◌, not, ◌==◌, if◌then◌else◌, List, [], ◌∷◌, length, pos, Option, Some, None, is_none, is_some, Result, Ok, Err, IfSome}
+use Rattle.std.specs.Prelude.{Bool, true, false, ◌&&◌, ◌||◌, not, if◌then◌else◌, pos, Option, Some, None, is_none, is_some, Result, Ok, Err, IfSome}
 use Rattle.planar.specs.Plane.{IsPlaced, is_placed}
 use Rattle.planar.specs.declared.Spot.{Spot}
 use Rattle.file_reading.specs.Conditions.{◌>>=◌, unless, needed}
