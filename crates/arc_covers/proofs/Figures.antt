@@ -101,8 +101,8 @@ first_stroke (a ∷ b ∷ rest) s f figures is = (a, b, rest, (cons_parts f (rou
 
 -- ---- walking along a chain
 
-pub cut_at : (pieces : List (Placed Shape)) (i : ℕ) (piece : Placed Shape) → i < length pieces → piece ≡ get_or pieces i piece → drop i pieces ≡ piece ∷ drop (i + 1) pieces
-cut_at pieces i piece below is = drop_more pieces i piece below ∙ ap (λ (p : Placed Shape). p ∷ drop (i + 1) pieces) (sym is)
+pub cut_at : {X : Type 0} (xs : List X) (i : ℕ) (x : X) → i < length xs → x ≡ get_or xs i x → drop i xs ≡ x ∷ drop (i + 1) xs
+cut_at xs i x below is = drop_more xs i x below ∙ ap (λ (y : _). y ∷ drop (i + 1) xs) (sym is)
 
 pub some_of : {A : Type 0} (o : Option A) (x : A) (P : A → Type 0) → o ≡ Some x → IfSome o P → P x
 some_of o x P e h = subst (λ (q : Option _). IfSome q P) e h
@@ -181,10 +181,10 @@ pieces_taken side real shape pieces b is on told = (
   λ t. told.1 (subst (λ (s : RealShape). StandTaken side s (figures_of (plain_pieces pieces))) is t.figures),
 )
 
-pub chain_pieces_taken : (side : Side) (real : Placed RealShape) (arc : Arc) (pieces : List (Placed Shape)) (r : Result Bool NoMemory) → real.shape ≡ ArcDraw arc → All (λ (p : Placed Shape). IsOn real.top real.bottom (plain_piece p)) pieces
-    → IfOk r (λ yes. IsTrue yes ↔ StandTaken side (ArcDraw arc) (figures_of (plain_pieces pieces))) → IfOk r (λ yes. IsTrue yes ↔ PiecesAreTaken side real (plain_pieces pieces))
-chain_pieces_taken side real arc pieces (Ok answer) is on told = pieces_taken side real (ArcDraw arc) pieces answer is on told
-chain_pieces_taken side real arc pieces (Err e) is on told = tt
+pub answer_taken : (side : Side) (real : Placed RealShape) (shape : RealShape) (pieces : List (Placed Shape)) (r : Result Bool NoMemory) → real.shape ≡ shape → All (λ (p : Placed Shape). IsOn real.top real.bottom (plain_piece p)) pieces
+    → IfOk r (λ yes. IsTrue yes ↔ StandTaken side shape (figures_of (plain_pieces pieces))) → IfOk r (λ yes. IsTrue yes ↔ PiecesAreTaken side real (plain_pieces pieces))
+answer_taken side real shape pieces (Ok answer) is on told = pieces_taken side real shape pieces answer is on told
+answer_taken side real shape pieces (Err e) is on told = tt
 
 pub layers_refused : (side : Side) (real : Placed RealShape) (pieces : List (Placed Shape)) (b on : Bool) → b ≡ false → on ≡ false → IsTrue on ↔ All (λ (p : Placed Shape). IsOn real.top real.bottom (plain_piece p)) pieces → IsTrue b ↔ PiecesAreTaken side real (plain_pieces pieces)
 layers_refused side real pieces b on is off told = (λ yes. absurd cc, λ t. let yes = told.1 (of_pieces (IsOn real.top real.bottom) pieces t.layers) in absurd cc)

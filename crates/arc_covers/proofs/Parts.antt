@@ -16,7 +16,7 @@ use Rattle.arc_regions.specs.declared.Part.{Part}
 use Rattle.arc_regions.specs.declared.Part.TheVariants.{Straight, Curved}
 use Rattle.arc_covers.specs.Bounds.{capsules_from, capsules_of, figures_of}
 use Rattle.arc_covers.specs.Regions.{ArcStands, Begin, EndFirst, NoneStands, RegionAbove, StandAlong, StandsHere, chain_of}
-use Rattle.arc_covers.proofs.Figures.{as_many, first_stroke, round_parts, same_number}
+use Rattle.arc_covers.proofs.Figures.{as_many, cut_at, first_stroke, round_parts, same_number}
 
 -- ---- lists in two parts
 
@@ -179,3 +179,18 @@ arc_alike a t chain corners pieces n is = (
   λ h. subst (λ (fs : List Figure). ArcStands a t (chain_of a t (take n corners)) fs) (figures_take n pieces) (subst (λ (xs : List Spot). ArcStands a t xs (figures_of (plain_pieces (take n pieces)))) is h),
   λ h. subst (λ (xs : List Spot). ArcStands a t xs (figures_of (plain_pieces (take n pieces)))) (sym is) (subst (λ (fs : List Figure). ArcStands a t (chain_of a t (take n corners)) fs) (sym (figures_take n pieces)) h),
 )
+
+-- ---- one part more
+
+pub parts_turn : (z a : Spot) (parts : List Part) (i : ℕ) (x : Part) (corners : List Spot) (pieces : List (Placed Shape)) (n m : ℕ) → i < length parts → x ≡ get_or parts i x → n ≤ length corners → m ≤ length pieces
+    → StandsHere a x (take n corners) (take m (figures_of (plain_pieces pieces))) → StandAlong z (end_of x) (drop (i + 1) parts) (drop n corners) (figures_of (plain_pieces (drop m pieces))) ↔ StandAlong z a (drop i parts) corners (figures_of (plain_pieces pieces))
+parts_turn z a parts i x corners pieces n m below is some many here =
+    let long = figures_length pieces in
+    let turn = step z a x (drop (i + 1) parts) corners (figures_of (plain_pieces pieces)) n m some (omega (arith, long, many)) here in
+    let cut = cut_at parts i x below is in (
+      λ h. subst (λ (xs : List Part). StandAlong z a xs corners (figures_of (plain_pieces pieces))) (sym cut) (turn.0 (subst (λ (fs : List Figure). StandAlong z (end_of x) (drop (i + 1) parts) (drop n corners) fs) (figures_drop m pieces) h)),
+      λ h. subst (λ (fs : List Figure). StandAlong z (end_of x) (drop (i + 1) parts) (drop n corners) fs) (sym (figures_drop m pieces)) (turn.1 (subst (λ (xs : List Part). StandAlong z a xs corners (figures_of (plain_pieces pieces))) cut h)),
+    )
+
+pub parts_stop : (z a : Spot) (parts : List Part) (i : ℕ) (x : Part) (corners : List Spot) (figures : List Figure) → i < length parts → x ≡ get_or parts i x → NoneStands a x corners figures → StandAlong z a (drop i parts) corners figures → ⊥
+parts_stop z a parts i x corners figures below is none h = stop z a x (drop (i + 1) parts) corners figures none (subst (λ (xs : List Part). StandAlong z a xs corners figures) (cut_at parts i x below is) h)

@@ -9,7 +9,7 @@ ghost use Rattle.board_shapes.specs.Figures.{Figure, figure_of, filled, round};
 ghost use Rattle.board_shapes.specs.Pieces.{plain_pieces};
 ghost use Rattle.planar.specs.Plane.{IsPlaced};
 ghost use Rattle.planar.specs.declared.Spot.{Spot};
-ghost use Rattle.std.specs.Prelude.{All, IfNone, IfOk, IfSome, IsTrue, List, ℕ, length, pos, take, ◌≡◌, ◌≢◌, ◌≤◌, ◌↔◌, ◌∷◌};
+ghost use Rattle.std.specs.Prelude.{All, IfNone, IfOk, IfSome, IsTrue, List, ℕ, drop, length, pos, take, ◌≡◌, ◌≢◌, ◌≤◌, ◌↔◌, ◌∷◌};
 
 use crate::rows::next_spot;
 use crate::side::Side;
@@ -180,6 +180,14 @@ fn part_stands(
     }
 }
 
+/// All but the first `n`.
+fn behind<T>(items: &[T], n: usize) -> &[T]
+    requires { n ≤ length items.now }
+    ensures { result.now ≡ drop n items.now }
+{
+    &items[n..]
+}
+
 /// Whether the corners behind `start` and the pieces stand for the parts, from `start` and back to it.
 fn parts_stand(
     alloc: Global,
@@ -196,8 +204,8 @@ fn parts_stand(
     for part in parts {
         match part_stands(alloc, from, *part, spots, rest)? {
             Some((n, m)) => {
-                spots = &spots[n..];
-                rest = &rest[m..];
+                spots = behind(spots, n);
+                rest = behind(rest, m);
             }
             None => return Ok(false),
         }

@@ -17,8 +17,7 @@ pub returns-then-is_arc-clause-some : goal.returns-then-is_arc-clause-some
 returns-then-is_arc-clause-some c = (
   c.in-Some.ensures.some.0,
   omega arith,
-  c.in-Some.ensures.some.1,
-  (arc_alike c.args.start c.args.bend c.deref.result.now c.args.corners.now c.args.pieces.now c.in-Some.n (c.deref.ensures.value ∙ c.in_ok-chain.ensures)).0 (c.is_arc.ensures.0 c.if-is_arc.true),
+  (c.in-Some.ensures.some.1, (arc_alike c.args.start c.args.bend c.deref.result.now c.args.corners.now c.args.pieces.now c.in-Some.n (c.deref.ensures.value ∙ c.in_ok-chain.ensures)).0 (c.is_arc.ensures.0 c.if-is_arc.true)),
 )
 
 pub returns-clause-none : goal.returns-clause-none
