@@ -1,6 +1,6 @@
 -- Parts of a contour, and what stands for them.
-use Rattle.std.proofs.Common.{◌≡◌, ◌≢◌, ◌↔◌, inl, inr, ℕ, suc, ◌+◌, ◌≤◌, ◌<◌, ℤ, pos, List, [], ◌∷◌, ◌++◌, length, get_or, take, drop, reverse, All, Bool, true, false, IsTrue, refl, sym, ap, ◌∙◌, subst, arith}
-use Rattle.std.proofs.lemmas.List.{drop-map, length-append, length-map, length-reverse, length-take-le, take-append-drop, take-map}
+use Rattle.std.proofs.Common.{◌≡◌, ◌≢◌, ◌↔◌, inl, inr, ℕ, suc, ◌+◌, ◌≤◌, ◌<◌, ℤ, pos, List, [], ◌∷◌, ◌++◌, length, get_or, take, drop, reverse, All, Bool, true, false, IsTrue, Option, Some, IfSome, refl, sym, ap, ◌∙◌, subst, arith}
+use Rattle.std.proofs.lemmas.List.{drop-map, drop_more, length-append, length-map, length-reverse, length-take-le, take-append-drop, take-map}
 use Rattle.std.proofs.lemmas.List.Elements.{All-head, All-tail}
 use Rattle.std.proofs.Math.Seq.{drop-append_seam, take-append_seam}
 use Rattle.planar.specs.Plane.{IsPlaced}
@@ -15,8 +15,8 @@ use Rattle.arc_regions.specs.declared.Bend.{Bend}
 use Rattle.arc_regions.specs.declared.Part.{Part}
 use Rattle.arc_regions.specs.declared.Part.TheVariants.{Straight, Curved}
 use Rattle.arc_covers.specs.Bounds.{capsules_from, capsules_of, figures_of}
-use Rattle.arc_covers.specs.Regions.{ArcStands, Begin, EndFirst, NoneStands, RegionAbove, StandAlong, StandsHere, chain_of}
-use Rattle.arc_covers.proofs.Figures.{as_many, cut_at, first_stroke, round_parts, same_number}
+use Rattle.arc_covers.specs.Regions.{ArcStands, Begin, EndFirst, NoneStands, StandAlong, StandsHere, chain_of}
+use Rattle.arc_covers.proofs.Figures.{as_many, round_parts, some_of}
 
 -- ---- lists in two parts
 
@@ -94,9 +94,6 @@ step z a x rest corners figures n m some many here = (
         let last = seam b.these b.more m figures b.figures_are (long.1 ∙ length-take-le m figures many) in
         subst (λ (fs : List Figure). StandAlong z (end_of x) rest (drop n corners) fs) last.1 (subst (λ (cs : List Spot). StandAlong z (end_of x) rest cs b.more) first.1 b.behind)
 
-pub stop : (z a : Spot) (x : Part) (rest : List Part) (corners : List Spot) (figures : List Figure) → NoneStands a x corners figures → StandAlong z a (x ∷ rest) corners figures → ⊥
-stop z a x rest corners figures none b = none b.spots b.later b.these b.more b.corners_are b.figures_are b.stands
-
 -- ---- an arc that nothing stands for
 
 pub without_end : (a : Spot) (t : Bend) (corners : List Spot) (figures : List Figure) → All (λ s. s ≢ t.end) corners → NoneStands a (Curved t) corners figures
@@ -119,41 +116,6 @@ untaken a t corners figures n some many ends off spots later these more is are (
     let last = seam these more n figures are (arc_length a t spots these stands ∙ k ∙ taken) in
     off (subst (λ (fs : List Figure). ArcStands a t (chain_of a t (take n corners)) fs) last.0 (subst (λ (xs : List Spot). ArcStands a t (chain_of a t xs) these) first.0 stands))
 
-pub no_end_here : (a b : Spot) (corners : List Spot) (figures : List Figure) → ((rest : List Spot) → corners ≡ b ∷ rest → IsPlaced b → ⊥) → NoneStands a (Straight b) corners figures
-no_end_here a b corners figures none spots later these more is are (s, f, placed) = none later (is ∙ ap (λ (xs : List Spot). xs ++ later) s) placed
-
--- ---- the capsules of an arc
-
-pub arc_read : (a : Spot) (t : Bend) (chain : List Spot) (figures rest : List Figure) (c d : Spot) (r : ℕ) (b : Bool) → figures ≡ round (record { a = c; b = d; r = pos r }) ∷ rest
-    → IsTrue b ↔ ((figures ≡ capsules_of chain (pos r)) × StandsAs a (Curved t) chain r) → IsTrue b ↔ ArcStands a t chain figures
-arc_read a t chain figures rest c d r b is told = (λ yes. let h = told.0 yes in (r, h.0, h.1), λ (s, same, stands). told.1 (back s same stands))
-  where
-    back : (s : ℕ) → figures ≡ capsules_of chain (pos s) → StandsAs a (Curved t) chain s → (figures ≡ capsules_of chain (pos r)) × StandsAs a (Curved t) chain r
-    back s same stands =
-        let first = first_stroke chain (pos s) (round (record { a = c; b = d; r = pos r })) rest (sym is ∙ same) in
-        let one : s ≡ r = sym (same_number r s (round_parts c d first.0 first.1 (pos r) (pos s) first.3).2) in
-        subst (λ (k : ℕ). (figures ≡ capsules_of chain (pos k)) × StandsAs a (Curved t) chain k) one (same, stands)
-
-pub no_capsule : (a : Spot) (t : Bend) (chain : List Spot) (figures : List Figure) → ((c d : Spot) (r : ℕ) (rest : List Figure) → figures ≡ round (record { a = c; b = d; r = pos r }) ∷ rest → ⊥) → IsTrue false ↔ ArcStands a t chain figures
-no_capsule a t chain figures none = (λ yes. absurd cc, λ (r, same, stands). absurd (none _ stands.above.second r _ (same ∙ ap (λ (xs : List Spot). capsules_of xs (pos r)) stands.above.is)))
-
--- ---- the polygon
-
-pub begins_so : (a first : Spot) (corners : List Spot) (parts : List Part) (figures : List Figure) (b : Bool) → first ≡ a → IsPlaced a → IsTrue b ↔ StandAlong a a parts corners figures → IsTrue b ↔ RegionAbove a parts (filled (first ∷ corners) ∷ figures)
-begins_so a first corners parts figures b same placed told = (
-  λ yes. record { corners = corners; capsules = figures; are = ap (λ (s : Spot). filled (s ∷ corners) ∷ figures) same; start = placed; along = told.0 yes },
-  back,
-)
-  where
-    back : RegionAbove a parts (filled (first ∷ corners) ∷ figures) → IsTrue b
-    back h =
-        let cs : h.corners ≡ corners = (let e = h.are in cc) in
-        let fs : h.capsules ≡ figures = (let e = h.are in cc) in
-        told.1 (subst (λ (gs : List Figure). StandAlong a a parts corners gs) fs (subst (λ (xs : List Spot). StandAlong a a parts xs h.capsules) cs h.along))
-
-pub begins_off : (a first : Spot) (corners : List Spot) (parts : List Part) (figures : List Figure) → ((first ≡ a) → IsPlaced a → ⊥) → IsTrue false ↔ RegionAbove a parts (filled (first ∷ corners) ∷ figures)
-begins_off a first corners parts figures off = (λ yes. absurd cc, λ h. absurd (off (let e = h.are in cc) h.start))
-
 -- ---- the code's answers
 
 pub figures_length : (pieces : List (Placed Shape)) → length (figures_of (plain_pieces pieces)) ≡ length pieces
@@ -165,13 +127,6 @@ link_read f a to b r t is told = (λ yes. is ∙ ap (λ (s : Spot). round (recor
 pub other_length : (pieces : List (Placed Shape)) (a : Spot) (rest : List Spot) (r : ℤ) → ¬ (length pieces ≡ length rest) → IsTrue false ↔ (figures_of (plain_pieces pieces) ≡ capsules_from a rest r)
 other_length pieces a rest r off = (λ yes. absurd cc, λ e. absurd (off (sym (figures_length pieces) ∙ ap length e ∙ as_many a rest r)))
 
-pub comes_read : (corners : List Spot) (first end : Spot) (t : Bool) → 1 ≤ length corners → first ≡ get_or corners 0 first → IsTrue t ↔ ((first ≡ end) × IsPlaced end) → IsTrue t ↔ ((rest : List Spot) × (corners ≡ end ∷ rest) × IsPlaced end)
-comes_read [] first end t some is told = absurd (omega (arith, some))
-comes_read (c ∷ corners) first end t some is told = (
-  λ yes. let h = told.0 yes in (corners, ap (λ (s : Spot). s ∷ corners) (sym is ∙ h.0), h.1),
-  λ (rest, same, placed). told.1 (is ∙ (let e = same in cc), placed),
-)
-
 -- the first n of the corners and of the pieces, by the chain that was made of them
 pub arc_alike : (a : Spot) (t : Bend) (chain corners : List Spot) (pieces : List (Placed Shape)) (n : ℕ) → chain ≡ chain_of a t (take n corners)
     → ArcStands a t chain (figures_of (plain_pieces (take n pieces))) ↔ ArcStands a t (chain_of a t (take n corners)) (take n (figures_of (plain_pieces pieces)))
@@ -182,15 +137,24 @@ arc_alike a t chain corners pieces n is = (
 
 -- ---- one part more
 
-pub parts_turn : (z a : Spot) (parts : List Part) (i : ℕ) (x : Part) (corners : List Spot) (pieces : List (Placed Shape)) (n m : ℕ) → i < length parts → x ≡ get_or parts i x → n ≤ length corners → m ≤ length pieces
-    → StandsHere a x (take n corners) (take m (figures_of (plain_pieces pieces))) → StandAlong z (end_of x) (drop (i + 1) parts) (drop n corners) (figures_of (plain_pieces (drop m pieces))) ↔ StandAlong z a (drop i parts) corners (figures_of (plain_pieces pieces))
-parts_turn z a parts i x corners pieces n m below is some many here =
+turned : (z a : Spot) (parts : List Part) (i : ℕ) (d : Part) (corners : List Spot) (pieces : List (Placed Shape)) (n m : ℕ) → i < length parts → n ≤ length corners → m ≤ length pieces
+    → StandsHere a (get_or parts i d) (take n corners) (take m (figures_of (plain_pieces pieces)))
+    → StandAlong z (end_of (get_or parts i d)) (drop (i + 1) parts) (drop n corners) (figures_of (plain_pieces (drop m pieces))) ↔ StandAlong z a (drop i parts) corners (figures_of (plain_pieces pieces))
+turned z a parts i d corners pieces n m below some many here =
     let long = figures_length pieces in
-    let turn = step z a x (drop (i + 1) parts) corners (figures_of (plain_pieces pieces)) n m some (omega (arith, long, many)) here in
-    let cut = cut_at parts i x below is in (
-      λ h. subst (λ (xs : List Part). StandAlong z a xs corners (figures_of (plain_pieces pieces))) (sym cut) (turn.0 (subst (λ (fs : List Figure). StandAlong z (end_of x) (drop (i + 1) parts) (drop n corners) fs) (figures_drop m pieces) h)),
-      λ h. subst (λ (fs : List Figure). StandAlong z (end_of x) (drop (i + 1) parts) (drop n corners) fs) (sym (figures_drop m pieces)) (turn.1 (subst (λ (xs : List Part). StandAlong z a xs corners (figures_of (plain_pieces pieces))) cut h)),
+    let turn = step z a (get_or parts i d) (drop (i + 1) parts) corners (figures_of (plain_pieces pieces)) n m some (omega (arith, long, many)) here in
+    let cut = drop_more parts i d below in (
+      λ h. subst (λ (xs : List Part). StandAlong z a xs corners (figures_of (plain_pieces pieces))) (sym cut) (turn.0 (subst (λ (fs : List Figure). StandAlong z (end_of (get_or parts i d)) (drop (i + 1) parts) (drop n corners) fs) (figures_drop m pieces) h)),
+      λ h. subst (λ (fs : List Figure). StandAlong z (end_of (get_or parts i d)) (drop (i + 1) parts) (drop n corners) fs) (sym (figures_drop m pieces)) (turn.1 (subst (λ (xs : List Part). StandAlong z a xs corners (figures_of (plain_pieces pieces))) cut h)),
     )
 
-pub parts_stop : (z a : Spot) (parts : List Part) (i : ℕ) (x : Part) (corners : List Spot) (figures : List Figure) → i < length parts → x ≡ get_or parts i x → NoneStands a x corners figures → StandAlong z a (drop i parts) corners figures → ⊥
-parts_stop z a parts i x corners figures below is none h = stop z a x (drop (i + 1) parts) corners figures none (subst (λ (xs : List Part). StandAlong z a xs corners figures) (cut_at parts i x below is) h)
+pub parts_turn : (z a e : Spot) (parts : List Part) (i : ℕ) (d : Part) (corners later : List Spot) (pieces more : List (Placed Shape)) (found : Option (ℕ × ℕ)) (n m : ℕ) → found ≡ Some (n, m)
+    → IfSome found (λ k. (k.0 ≤ length corners) × (k.1 ≤ length pieces) × StandsHere a (get_or parts i d) (take k.0 corners) (take k.1 (figures_of (plain_pieces pieces))))
+    → i < length parts → e ≡ end_of (get_or parts i d) → later ≡ drop n corners → more ≡ drop m pieces
+    → StandAlong z e (drop (i + 1) parts) later (figures_of (plain_pieces more)) ↔ StandAlong z a (drop i parts) corners (figures_of (plain_pieces pieces))
+parts_turn z a e parts i d corners later pieces more found n m is told below ends cut_corners cut_pieces =
+    let k = some_of found (n, m) (λ k. (k.0 ≤ length corners) × (k.1 ≤ length pieces) × StandsHere a (get_or parts i d) (take k.0 corners) (take k.1 (figures_of (plain_pieces pieces)))) is told in
+    subst (λ (s : Spot). StandAlong z s (drop (i + 1) parts) later (figures_of (plain_pieces more)) ↔ StandAlong z a (drop i parts) corners (figures_of (plain_pieces pieces))) (sym ends)
+    (subst (λ (cs : List Spot). StandAlong z (end_of (get_or parts i d)) (drop (i + 1) parts) cs (figures_of (plain_pieces more)) ↔ StandAlong z a (drop i parts) corners (figures_of (plain_pieces pieces))) (sym cut_corners)
+    (subst (λ (ps : List (Placed Shape)). StandAlong z (end_of (get_or parts i d)) (drop (i + 1) parts) (drop n corners) (figures_of (plain_pieces ps)) ↔ StandAlong z a (drop i parts) corners (figures_of (plain_pieces pieces))) (sym cut_pieces)
+    (turned z a parts i d corners pieces n m below k.0 k.1 k.2)))
