@@ -8,3 +8,4 @@ mod Listed
 mod Parts
 mod Shares
 mod Steps
+mod Told

@@ -50,3 +50,9 @@ pub record RegionAbove (a : Spot) (parts : List Part) (figures : List Figure) : 
   pub are : figures ≡ filled (a ∷ corners) ∷ capsules
   pub start : IsPlaced a
   pub along : StandAlong a a parts corners capsules
+
+-- ---- words that only contracts want
+
+-- no first ones of the corners and of the figures stand for the part
+abbrev pub NoneStands : Spot → Part → List Spot → List Figure → Type 0
+NoneStands a x corners figures = (spots later : List Spot) (these more : List Figure) → corners ≡ spots ++ later → figures ≡ these ++ more → ¬ StandsHere a x spots these

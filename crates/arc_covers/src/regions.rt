@@ -1,19 +1,19 @@
 //! Whether pieces are the polygon and the capsules that `arc_regions` takes above a region.
 ghost use Rattle.arc_covers.specs.Bounds.{capsules_from, capsules_of, figures_of};
 ghost use Rattle.arc_covers.specs.Regions as spec;
-ghost use Rattle.arc_covers.specs.Regions.{ArcStands, EndFirst, RegionAbove, StandAlong, StandsHere};
+ghost use Rattle.arc_covers.specs.Regions.{ArcStands, EndFirst, NoneStands, RegionAbove, StandAlong, StandsHere};
 ghost use Rattle.arc_covers.specs.Taken.{RegionTaken};
 ghost use Rattle.arc_covers.specs.declared.side.Side.TheVariants.{Above};
-ghost use Rattle.arc_covers.proofs.Parts.{NoneStands};
 ghost use Rattle.arc_regions.specs.declared.Part.TheVariants.{Curved};
 ghost use Rattle.board_shapes.specs.Figures.{Figure, figure_of, filled, round};
 ghost use Rattle.board_shapes.specs.Pieces.{plain_pieces};
 ghost use Rattle.planar.specs.Plane.{IsPlaced};
 ghost use Rattle.planar.specs.declared.Spot.{Spot};
-ghost use Rattle.std.specs.Prelude.{All, IfNone, IfOk, IfSome, IsTrue, List, ℕ, length, pos, take, ◌≡◌, ◌≢◌, ◌≤◌, ◌↔◌, ◌∷◌};
+ghost use Rattle.std.specs.Prelude.{All, IfNone, IfOk, IfSome, IsTrue, List, ℕ, drop, length, pos, take, ◌≡◌, ◌≢◌, ◌≤◌, ◌↔◌, ◌∷◌};
 
+use crate::rows::next_spot;
 use crate::side::Side;
-use arc_regions::{Bend, Part, Region, end_of, is_part};
+use arc_regions::{Bend, Part, Region, end_of, is_part, is_same};
 use arcs::Spot;
 use board_shapes::{Piece, Shape};
 use lengths::rows::NoMemory;
@@ -26,7 +26,7 @@ fn length_to(spots: &[Spot], end: Spot) -> Option<usize>
     ensures none { IfNone result (All (λ s. s ≢ end) spots.now) }
 {
     for i in 0..spots.len() {
-        if spots[i] == end {
+        if is_same(spots[i], end) {
             return Some(i + 1);
         }
     }
@@ -51,9 +51,9 @@ fn chain_of(alloc: Global, start: Spot, bend: &Bend, spots: &[Spot]) -> Result<V
 fn is_link(shape: &Shape, a: Spot, b: Spot, r: u64) -> bool
     ensures { IsTrue result ↔ (figure_of shape.now ≡ round (record { a = a; b = b; r = pos r })) }
 {
-    match shape {
-        Shape::Round(capsule) => capsule.a == a && capsule.b == b && capsule.r.unsigned_abs() == r,
-        Shape::Filled(_) => false,
+    match next_spot(shape, a, r) {
+        Some(to) => is_same(to, b),
+        None => false,
     }
 }
 
@@ -137,13 +137,20 @@ fn arc_stands(
     }
 }
 
-/// Whether the first corner is the spot, within a metre.
+/// Whether the corner is the spot, within a metre.
+fn is_end(corner: Spot, end: Spot) -> bool
+    ensures { IsTrue result ↔ ((corner ≡ end) × IsPlaced end) }
+{
+    is_same(corner, end) && is_placed(end)
+}
+
+/// Whether the first corner is.
 fn comes_to(corners: &[Spot], end: Spot) -> bool
     ensures { IsTrue result ↔ ((rest : List Spot) × (corners.now ≡ end ∷ rest) × IsPlaced end) }
 {
     match corners {
         [] => false,
-        [first, ..] => *first == end && is_placed(end),
+        [first, ..] => is_end(*first, end),
     }
 }
 
@@ -173,6 +180,14 @@ fn part_stands(
     }
 }
 
+/// All but the first `n`.
+fn behind<T>(items: &[T], n: usize) -> &[T]
+    requires { n ≤ length items.now }
+    ensures { result.now ≡ drop n items.now }
+{
+    &items[n..]
+}
+
 /// Whether the corners behind `start` and the pieces stand for the parts, from `start` and back to it.
 fn parts_stand(
     alloc: Global,
@@ -184,19 +199,19 @@ fn parts_stand(
     ensures { IfOk result (λ yes. IsTrue yes ↔ StandAlong start start parts.now corners.now (figures_of (plain_pieces pieces.now))) }
 {
     let mut from = start;
-    let mut corners = corners;
-    let mut pieces = pieces;
+    let mut spots = corners;
+    let mut rest = pieces;
     for part in parts {
-        match part_stands(alloc, from, *part, corners, pieces)? {
+        match part_stands(alloc, from, *part, spots, rest)? {
             Some((n, m)) => {
-                corners = &corners[n..];
-                pieces = &pieces[m..];
+                spots = behind(spots, n);
+                rest = behind(rest, m);
             }
             None => return Ok(false),
         }
         from = end_of(*part);
     }
-    Ok(corners.is_empty() && pieces.is_empty() && from == start)
+    Ok(spots.is_empty() && rest.is_empty() && is_same(from, start))
 }
 
 /// Whether the polygon begins where the region does, and its other corners and the pieces stand for the
@@ -212,7 +227,7 @@ fn begins(
     match points {
         [] => Ok(false),
         [first, corners @ ..] => {
-            if *first == region.start && is_placed(region.start) {
+            if is_end(*first, region.start) {
                 parts_stand(alloc, region.start, &region.parts, corners, pieces)
             } else {
                 Ok(false)

@@ -73,7 +73,7 @@ pub fn is_itself(shape: &Shape, pieces: &[Piece]) -> bool
 }
 
 /// Where the capsule leads that begins at `from` with radius `r`, if the shape is one.
-fn next_spot(shape: &Shape, from: Spot, r: u64) -> Option<Spot>
+pub fn next_spot(shape: &Shape, from: Spot, r: u64) -> Option<Spot>
     ensures some { IfSome result (λ to. figure_of shape.now ≡ round (record { a = from; b = to; r = pos r })) }
     ensures none { IfNone result ((to : Spot) → ¬ (figure_of shape.now ≡ round (record { a = from; b = to; r = pos r }))) }
 {

@@ -24,6 +24,7 @@ use Rattle.arc_regions.specs.Laws.{TakenHolds, TakenLies}
 use Rattle.arc_regions.specs.Taken.{AreAround, AreClear, AreStretches, Chained, InCapsules, IsClear, IsPartClear, InLinks, StandsAs, StandsFor, behind_first, corners_behind, corners_by, odd_part, odd_past, odd_round, parts_of}
 use Rattle.arc_regions.specs.declared.Part.{Part}
 use Rattle.arc_regions.specs.declared.Part.TheVariants.{Straight, Curved}
+use Rattle.arc_regions.proofs.Edges.{end_append, some_before, some_behind}
 use Rattle.arc_regions.proofs.Shifted.{IsNarrow}
 use Rattle.arc_regions.proofs.Fans.{ArePlaced, first_two, or-swap}
 use Rattle.arc_regions.proofs.Sectors.{false-back}
@@ -44,19 +45,6 @@ odd_append a [] ys x y n = refl
 odd_append a (b ∷ xs) ys x y n =
     ap (λ (z : Bool). xor (crossed (record { start = a; end = b }) x y n) z) (odd_append b xs ys x y n)
     ∙ sym (xor-assoc (crossed (record { start = a; end = b }) x y n) (odd (edges_from b xs) x y n) (odd (edges_from (end_from b xs) ys) x y n))
-
-end_append : (a : Spot) (xs ys : List Spot) → end_from a (xs ++ ys) ≡ end_from (end_from a xs) ys
-end_append a [] ys = refl
-end_append a (b ∷ xs) ys = end_append b xs ys
-
-some_behind : (P : Edge → Type 0) (a : Spot) (xs ys : List Spot) → SomeEdge P (edges_from (end_from a xs) ys) → SomeEdge P (edges_from a (xs ++ ys))
-some_behind P a [] ys h = h
-some_behind P a (b ∷ xs) ys h = inr (some_behind P b xs ys h)
-
-some_before : (P : Edge → Type 0) (a : Spot) (xs ys : List Spot) → SomeEdge P (edges_from a xs) → SomeEdge P (edges_from a (xs ++ ys))
-some_before P a [] ys h = absurd h
-some_before P a (b ∷ xs) ys (inl h) = inl h
-some_before P a (b ∷ xs) ys (inr h) = inr (some_before P b xs ys h)
 
 some_of : (P : Edge → Type 0) (a : Spot) (xs ys : List Spot) → SomeEdge P (edges_from a (xs ++ ys)) → SomeEdge P (edges_from a xs) ⊎ SomeEdge P (edges_from (end_from a xs) ys)
 some_of P a [] ys h = inr h
