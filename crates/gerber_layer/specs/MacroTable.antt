@@ -104,7 +104,7 @@ abbrev pub is_function : Command → Bool
 is_function (functions function layer) = true
 is_function other = false
 
--- Where it is flattened, vector lines are along an axis, and a file's function is any.
+-- Where copper is flattened, vector lines run along an axis, and a file's function is any.
 unfoldable pub row_with_macros : Known → Command → Result Effect FlattenKind
 row_with_macros k c = if is_function c then Ok stays else macro_row AlongAxes k c
 
@@ -121,9 +121,10 @@ with_few_radii what = what >>= few_radii
 abbrev pub behind_end : Command → Result Effect FlattenKind
 behind_end c = if is_finish c then Ok stays else Err (Gerber kind.AfterEnd)
 
+-- the table of copper that is flattened
 unfoldable pub effect_with_macros : Known → Command → Result Effect FlattenKind
 effect_with_macros k c = if k.settings.ended then behind_end c else with_few_radii (row_with_macros k c)
 
--- The table of real copper: vector lines may be slanted, and a file's function is judged as without macros.
+-- The table of real copper: vector lines may be slanted, a file's function is judged as without macros, and radii are not counted.
 unfoldable pub effect_loosely : Known → Command → Result Effect FlattenKind
 effect_loosely k c = if k.settings.ended then behind_end c else macro_row Any k c

@@ -1,4 +1,5 @@
-//! The dialects of copper files: by the standard apertures alone, also with straight arcs, with macros, and of real copper.
+//! The dialects of copper files: by the standard apertures alone, also with straight arcs, with macros,
+//! and of real copper.
 ghost use Rattle.std.specs.Prelude.{◌≡◌, ◌+◌, ◌^◌, ◌<◌, IfErr, OnOk};
 ghost use Rattle.gerber_words.specs.Stepping.{entry_of};
 ghost use Rattle.gerber_words.specs.Words.{Entry};
