@@ -1,5 +1,5 @@
 -- Reading the text of a verdict from left to right: what stands in front, and the bytes behind it, or nothing where
--- the bytes are no such text. Only private contracts cite this module: that it reads the texts of verdicts and
+-- the bytes are no such text. Only contracts of fields and private ones cite it: that it reads the texts of verdicts and
 -- nothing else is proved over report_text (proofs/ReadReport).
 use Rattle.std.specs.Prelude.{◌≡◌, ℕ, zero, suc, ◌+◌, ◌^◌, ℤ, pos, negsuc, nat_lt, nat_le, Bool, true, false, not, ◌&&◌, ◌==◌, if◌then◌else◌, List, [], ◌∷◌, ◌++◌, length, take, drop, Option, Some, None, Result, Ok, Err, codes, decimal}
 use Rattle.std.specs.Cmp.Lexicographic.{pointwise}
@@ -178,7 +178,7 @@ heading_at title n bytes = do
   number ← behind (32 ∷ []) rest
   behind (decimal n) number
 
--- the lines of nets, names, points, opens and branches, each with what stands behind it
+-- the lines of nets, names, points and branches, each with what stands behind it
 unfoldable pub net_at : ℕ → List ℕ → Option (List Twig × List ℕ)
 net_at n bytes = do
   rest ← heading_at (codes "net") n bytes
@@ -199,15 +199,6 @@ point_at n bytes = do
   name ← word_at layer.1
   net ← net_number_at name.1
   line_end (record { number = number.0; layer = layer.0; name = name.0; net = net.0 }) net.1
-
-unfoldable pub open_at : ℕ → List ℕ → Option (Open × List ℕ)
-open_at n bytes = do
-  rest ← behind (codes "open") bytes
-  name ← word_at rest
-  home ← word_at name.1
-  other ← word_at home.1
-  probe ← word_at other.1
-  line_end (record { name = name.0; home = home.0; other = other.0; probe = probe.0 }) probe.1
 
 unfoldable pub branch_at : ℕ → List ℕ → Option (Branch × List ℕ)
 branch_at n bytes = do
@@ -231,7 +222,16 @@ short_at n bytes = do
   branches ← items_at branch_at count.0 0 count.1
   Some (record { net = net.0; branches = branches.0 }, branches.1)
 
--- the line of a point without copper
+-- the lines of an open and of a point without copper
+unfoldable pub open_at : ℕ → List ℕ → Option (Open × List ℕ)
+open_at n bytes = do
+  rest ← behind (codes "open") bytes
+  name ← word_at rest
+  home ← word_at name.1
+  other ← word_at home.1
+  probe ← word_at other.1
+  line_end (record { name = name.0; home = home.0; other = other.0; probe = probe.0 }) probe.1
+
 abbrev pub bare_at : ℕ → List ℕ → Option (ℕ × List ℕ)
 bare_at n bytes = titled_at (codes "bare") bytes
 

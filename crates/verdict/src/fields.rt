@@ -1,5 +1,5 @@
 //! The fields of a report: fixed words and numbers, each read from the front of the bytes.
-ghost use Rattle.std.specs.Prelude.{◌≡◌, ◌<◌, ◌≤◌, ◌^◌, [], ◌∷◌, List, Option, length, take, true};
+ghost use Rattle.std.specs.Prelude.{◌≡◌, ◌<◌, ◌≤◌, ◌^◌, [], ◌∷◌, IfErr, List, Option, length, take, true};
 ghost use Rattle.std.specs.List.{list_all, prefix_len};
 ghost use Rattle.std.specs.Option.{option_map};
 ghost use Rattle.std.specs.Str.Parse.{digits_value};
@@ -41,7 +41,8 @@ pub fn expect<'a>(bytes: &'a [u8], front: &[u8]) -> Result<&'a [u8], ReadFault>
 
 /// The same of a byte.
 pub fn expect_byte(bytes: &[u8], byte: u8) -> Result<&[u8], ReadFault>
-    ensures { spec.Gives (λ rest. rest.now) result (spec.behind (byte ∷ []) bytes.now) }
+    ensures reads { spec.Gives (λ rest. rest.now) result (spec.behind (byte ∷ []) bytes.now) }
+    ensures cause { IfErr result (λ fault. fault ≡ ReadFault.NotAReport) }
 {
     match behind_byte(bytes, byte) {
         Some(rest) => Ok(rest),
@@ -103,7 +104,8 @@ fn value_of(digits: &[u8]) -> Option<u64>
 /// A number below 2^64.
 #[tactic(auto, unfolding(crate::specs::ReportReading::wide_at))]
 pub fn wide(bytes: &[u8]) -> Result<(u64, &[u8]), ReadFault>
-    ensures { spec.Gives (λ x. (x.0, x.1.now)) result (spec.wide_at bytes.now) }
+    ensures reads { spec.Gives (λ x. (x.0, x.1.now)) result (spec.wide_at bytes.now) }
+    ensures cause { IfErr result (λ fault. fault ≡ ReadFault.NotAReport) }
 {
     let (len, value) = leading(bytes);
     let (digits, rest) = bytes.split_at(len);
@@ -122,7 +124,8 @@ pub fn wide(bytes: &[u8]) -> Result<(u64, &[u8]), ReadFault>
 /// A number below 2^32.
 #[tactic(auto, unfolding(crate::specs::ReportReading::number_at))]
 pub fn number(bytes: &[u8]) -> Result<(u32, &[u8]), ReadFault>
-    ensures { spec.Gives (λ x. (x.0, x.1.now)) result (spec.number_at bytes.now) }
+    ensures reads { spec.Gives (λ x. (x.0, x.1.now)) result (spec.number_at bytes.now) }
+    ensures cause { IfErr result (λ fault. fault ≡ ReadFault.NotAReport) }
 {
     let (n, rest) = wide(bytes)?;
     match u32::try_from(n) {
@@ -134,7 +137,8 @@ pub fn number(bytes: &[u8]) -> Result<(u32, &[u8]), ReadFault>
 /// A blank and a number below 2^32.
 #[tactic(auto, unfolding(crate::specs::ReportReading::word_at))]
 pub fn word(bytes: &[u8]) -> Result<(u32, &[u8]), ReadFault>
-    ensures { spec.Gives (λ x. (x.0, x.1.now)) result (spec.word_at bytes.now) }
+    ensures reads { spec.Gives (λ x. (x.0, x.1.now)) result (spec.word_at bytes.now) }
+    ensures cause { IfErr result (λ fault. fault ≡ ReadFault.NotAReport) }
 {
     let rest = expect_byte(bytes, b' ')?;
     number(rest)
