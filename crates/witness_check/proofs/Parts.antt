@@ -1,5 +1,5 @@
 -- What the tests have told, said of the board and the verdict and not of their slices.
-use Rattle.std.proofs.Common.{◌≡◌, ◌↔◌, IsTrue, ℕ, ◌<◌, ◌^◌, Bool, true, false, List, length, All, Option, Some, None, IfSome, MatchOption, sym, ap, subst, ◌∙◌, arith, refl}
+use Rattle.std.proofs.Common.{◌≡◌, ◌↔◌, IsTrue, ℕ, ◌<◌, ◌≤◌, ◌+◌, ◌^◌, Bool, true, false, inl, inr, List, [], length, All, Option, Some, None, IfSome, MatchOption, sym, ap, subst, ◌∙◌, arith, refl}
 use Rattle.board_shapes.specs.Lawful.{IsProbe}
 use Rattle.board_shapes.specs.Plain.{PlainBoard, plain_pieces}
 use Rattle.board_shapes.specs.Tables.{IsNear}
@@ -13,9 +13,10 @@ use Rattle.verdict.specs.declared.verdict.Twig.{Twig}
 use Rattle.verdict.specs.declared.verdict.Verdict.{Verdict}
 use Rattle.verdict.specs.Forest.{AreTrees, Holds, IsForest, StandApart, StandOnce}
 use Rattle.verdict.specs.Right.{Clause, bare_from}
+use Rattle.witness_check.specs.Asked.{AreTested}
 use Rattle.witness_check.specs.Findings.{FindingsFail, FindingsRuled, FindingsSay}
 use Rattle.witness_check.specs.Lines.{AreLinesBy}
-use Rattle.witness_check.specs.Nets.{HasStanding}
+use Rattle.witness_check.specs.Nets.{HasStanding, twig_count}
 use Rattle.witness_check.proofs.Lines.{home_known, homes_known, lines_named, lines_netted}
 use Rattle.witness_check.proofs.Clauses.{ArePointed}
 use Rattle.witness_check.proofs.Touching.{long_as}
@@ -45,6 +46,15 @@ apart_denied b nets own test same tells e apart = denied test (StandApart (IsNea
 
 pub stood_told : (b : PlainBoard) (items : List (Placed Shape)) (nets own : List (List Twig)) (numbers places : List ℕ) → plain_pieces items ≡ b.pieces → nets ≡ own → HasStanding (length items) nets numbers places → HasStanding (length b.pieces) own numbers places
 stood_told b items nets own numbers places plain same stood = subst (λ (n : ℕ). HasStanding n own numbers places) (sym (long_as b items plain)) (subst (λ (n : List (List Twig)). HasStanding (length items) n numbers places) same stood)
+
+-- tests of twigs, and then those of a board's strips
+pub tested_after : (b : PlainBoard) (nets own : List (List Twig)) (old mid new : ℕ) → nets ≡ own → mid ≤ old + twig_count nets → AreTested b [] mid new → AreTested b own old new
+tested_after b nets own old mid new same few tested =
+    let count = ap twig_count same in
+    elim tested [
+      | inl none ↦ inl (omega (arith, few, none, count))
+      | inr asked ↦ inr (let more = asked.few in record { height = asked.height; intervals = asked.intervals; are = asked.are; few = omega (arith, few, more, count) })
+    ]
 
 pub known_in : (b : PlainBoard) (items : List (Placed Shape)) (nets own : List (List Twig)) → plain_pieces items ≡ b.pieces → nets ≡ own → AreTrees (length b.pieces) (IsNear b) own → (i p : ℕ) → Holds nets i p → p < length items
 known_in b items nets own plain same trees i p held =

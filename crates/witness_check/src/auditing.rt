@@ -2,10 +2,10 @@
 ghost use Rattle.board_shapes.specs.Plain.{plain_board};
 ghost use Rattle.board_shapes.specs.Tables.{IsNear, IsTables};
 ghost use Rattle.board_shapes.specs.Touching.{UnderAt};
-ghost use Rattle.std.specs.Prelude.{◌≡◌, ◌<◌, All, IfOk, length};
+ghost use Rattle.std.specs.Prelude.{[], ◌≡◌, ◌<◌, All, IfOk, length};
 ghost use Rattle.tables.specs.Lists.{AreLeast};
 ghost use Rattle.tables.specs.Tables.{Tables};
-ghost use Rattle.verdict.specs.Forest.{IsForest};
+ghost use Rattle.verdict.specs.Forest.{AreTrees, IsForest};
 ghost use Rattle.witness_check.specs.Asked.{AreTested};
 ghost use Rattle.witness_check.specs.Lines.{AreLinesBy};
 ghost use Rattle.witness_check.specs.Nets.{HasStanding};
@@ -80,12 +80,29 @@ pub fn ruling_of<L: Ledger>(
     let Some(standing) = standing_of(alloc, nets, pieces)? else {
         return Ok(Ruling::Untrue(2));
     };
+    apart_ruling(alloc, board, v, &standing, tests)
+}
+
+// The ruling where the nets are trees and each piece stands once in one of them.
+fn apart_ruling<L: Ledger>(
+    alloc: Global,
+    board: &Board,
+    v: &Verdict,
+    standing: &Standing,
+    tests: &mut Steps<L>,
+) -> Result<Ruling, NoMemory>
+    requires trees { AreTrees (length (plain_board board.now).pieces) (IsNear (plain_board board.now)) v.now.nets }
+    requires stood { HasStanding (length (plain_board board.now).pieces) v.now.nets standing.now.numbers.items standing.now.places.items }
+    ensures rules { IfOk result (λ ruling. (t : Tables) → IsTables (plain_board board.now) t → Rules t v.now ruling) }
+    ensures tests { AreTested (plain_board board.now) [] tests.old tests.new }
+{
+    let nets = v.nets.as_slice();
     let numbers = standing.numbers.as_slice();
     let strips = strips_of(alloc, board)?;
     if !stand_apart(board, nets, numbers, &strips, tests) {
         return Ok(Ruling::Untrue(3));
     }
-    points_ruling(alloc, board, v, &strips, &standing)
+    points_ruling(alloc, board, v, &strips, standing)
 }
 
 // The ruling where the clauses on nets hold. The call of a law does nothing when the program runs.
