@@ -66,14 +66,12 @@ fn leading(bytes: &[u8]) -> (usize, u64)
     ensures value { result.0 ≤ 18 → result.1 ≡ digits_value 10 (take result.0 bytes.now) }
     ensures bound { result.0 ≤ 18 → result.1 < 10 ^ 18 }
 {
-    let mut value = 0;
+    let mut value: u64 = 0;
     for (i, byte) in bytes.iter().enumerate() {
         if !is_digit(*byte) {
             return (i, value);
         }
-        if i < 18 {
-            value = value * 10 + u64::from(*byte - b'0');
-        }
+        value = value.wrapping_mul(10).wrapping_add(u64::from(*byte - b'0'));
     }
     (bytes.len(), value)
 }
@@ -89,7 +87,9 @@ fn is_numeral(digits: &[u8]) -> bool
     }
 }
 
-// The value of digits of any number.
+// The value of digits of any number. Few reports have such numbers, so the way of the others stays short.
+#[cold]
+#[inline(never)]
 fn value_of(digits: &[u8]) -> Option<u64>
     requires digits { list_all is_decimal_digit digits.now ≡ true }
     requires some { spec.is_numeral digits.now ≡ true }
