@@ -1,5 +1,5 @@
 //! The fields of a report: fixed words and numbers, each read from the front of the bytes.
-ghost use Rattle.std.specs.Prelude.{◌≡◌, ◌<◌, ◌≤◌, ◌^◌, [], ◌∷◌, IfErr, List, Option, length, take, true};
+ghost use Rattle.std.specs.Prelude.{◌≡◌, ◌<◌, ◌≤◌, ◌^◌, [], ◌∷◌, IfErr, List, Option, decimal, length, take, true};
 ghost use Rattle.std.specs.List.{list_all, prefix_len};
 ghost use Rattle.std.specs.Option.{option_map};
 ghost use Rattle.std.specs.Str.Parse.{digits_value};
@@ -8,7 +8,7 @@ ghost use Rattle.verdict.specs.ReportReading as spec;
 
 use crate::report_reading::ReadFault;
 use std::str;
-use texts::is_digit;
+use texts::{Numeral, is_digit};
 
 /// The bytes behind a text, where it stands in front.
 #[tactic(auto, unfolding(crate::specs::ReportReading::behind))]
@@ -131,6 +131,16 @@ pub fn number(bytes: &[u8]) -> Result<(u32, &[u8]), ReadFault>
     match u32::try_from(n) {
         Ok(n) => Ok((n, rest)),
         Err(_) => Err(ReadFault::NotAReport),
+    }
+}
+
+/// The bytes behind the text of a number, where it has to stand there. Where it does, to read it is cheaper than to write it.
+pub fn expect_number(bytes: &[u8], number: u64) -> Result<&[u8], ReadFault>
+    ensures { spec.Gives (λ rest. rest.now) result (spec.behind (decimal number) bytes.now) }
+{
+    match wide(bytes) {
+        Ok((n, rest)) if n == number => Ok(rest),
+        _ => expect(bytes, Numeral::of(number).as_bytes()),
     }
 }
 
