@@ -39,7 +39,7 @@ fn seat_points(
     seat_all(lines, &mut pairs, groups)
 }
 
-// The same, with the pairs of a name and a net that were met. Those are dropped above, so that the loop is proved without that.
+// The same with the pairs of a name and a net that were met. The caller drops them: that costs a proof much in a loop.
 fn seat_all(
     lines: &[PointLine],
     pairs: &mut IndexSet<(u32, u32)>,

@@ -13,9 +13,9 @@ loop-i-init c = (c.requires.agree, seated_first c.args.lines.now c.args.groups.n
 pub loop-i-preserved : goal.loop-i-preserved
 loop-i-preserved c = elim c.match-lines-i.branch [
   | in-Some+in_ok-seat_point w ↦ rw (w.pairs-is, w.groups-is) (
-      w.in_ok-seat_point.ensures.agree,
-      seated_turn c.args.lines.now c.loop-i.i w.in-Some.net no_line c.loop-i.groups w.seat_point.new.groups c.loop-i-test.true w.in-Some.is c.loop-i.invariant.1 w.in_ok-seat_point.ensures.seats w.in_ok-seat_point.ensures.others,
-    )
+    w.in_ok-seat_point.ensures.agree,
+    seated_turn c.args.lines.now c.loop-i.i w.in-Some.net no_line c.loop-i.groups w.seat_point.new.groups c.loop-i-test.true w.in-Some.is c.loop-i.invariant.1 w.in_ok-seat_point.ensures.seats w.in_ok-seat_point.ensures.others,
+  )
   | in_default w ↦ rw (w.pairs-is, w.groups-is) (c.loop-i.invariant.0, seated_past c.args.lines.now c.loop-i.i no_line c.loop-i.groups c.loop-i-test.true w.in_default.is c.loop-i.invariant.1)
 ]
 
