@@ -20,14 +20,11 @@ use texts::{ByteClass, all_digits, begins, is_digit, is_word, run_len};
 pub fn code_in(text: &[u8]) -> Option<Code>
     ensures { result ≡ spec.code_in text.now }
 {
-    if is_word(text, b"D01") || is_word(text, b"D1") {
-        Some(Code::Draw)
-    } else if is_word(text, b"D02") || is_word(text, b"D2") {
-        Some(Code::Move)
-    } else if is_word(text, b"D03") || is_word(text, b"D3") {
-        Some(Code::Flash)
-    } else {
-        None
+    match text {
+        [b'D', b'0', b'1'] | [b'D', b'1'] => Some(Code::Draw),
+        [b'D', b'0', b'2'] | [b'D', b'2'] => Some(Code::Move),
+        [b'D', b'0', b'3'] | [b'D', b'3'] => Some(Code::Flash),
+        _ => None,
     }
 }
 
@@ -315,8 +312,22 @@ fn is_neutral(text: &[u8]) -> bool
         || is_attribute(text)
 }
 
-#[tactic(auto, unfolding(crate::specs::WordCommands::plain))]
+// Most words are coordinates or a selection, which their first letter tells.
+#[tactic(auto, unfolding(crate::specs::WordCommands::plain, crate::specs::WordCommands::coded, crate::specs::WordCommands::operation))]
 fn plain(text: &[u8]) -> Command<'_>
+    ensures value { view result ≡ spec.plain text.now }
+    ensures lawful { IsLawfulCommand (view result) }
+{
+    match text {
+        [b'X', ..] => from_x(text),
+        [b'Y', ..] => from_x(text),
+        [b'D', ..] => coded(text),
+        _ => general(text),
+    }
+}
+
+#[tactic(auto, unfolding(crate::specs::WordCommands::plain))]
+fn general(text: &[u8]) -> Command<'_>
     ensures value { view result ≡ spec.plain text.now }
     ensures lawful { IsLawfulCommand (view result) }
 {
