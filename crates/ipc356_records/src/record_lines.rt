@@ -201,12 +201,11 @@ pub fn read_form<'a>(line: &Record<'a>) -> RecordLine<'a>
     ensures lawful { IsLawfulForm (view result) }
 {
     if all_blank(line.columns(1, 57)) {
-        RecordLine::Blank
-    } else if begins(line.text, b"C") {
-        RecordLine::Unread
-    } else if begins(line.text, b"P") {
-        parameter(line.columns(2, 57))
-    } else {
-        coded(line)
+        return RecordLine::Blank;
+    }
+    match line.text {
+        [b'C', ..] => RecordLine::Unread,
+        [b'P', ..] => parameter(line.columns(2, 57)),
+        _ => coded(line),
     }
 }
