@@ -1,8 +1,11 @@
 mod Bounded
+mod Contours
 mod Counted
 mod Covered
 mod Figures
 mod Findings
 mod Listed
+mod Parts
 mod Shares
 mod Steps
+mod Told

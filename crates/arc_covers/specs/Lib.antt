@@ -5,4 +5,5 @@ pub mod Faults
 pub mod Findings
 pub mod Laws
 pub mod RealBoards
+pub mod Regions
 pub mod Taken
