@@ -52,7 +52,7 @@ class Files(unittest.TestCase):
             ("a number of over 60 digits", [f"%AMA*1,1,{'1' * 5000},0,0*%", *macro]), ("a number of over 60 digits", [f"%ADD10C,{'1' * 5000}*%"]),
             ("a number of over 60 digits", [f"%SRX2Y1I{'1' * 5000}J0*%"]), ("a number of over 60 digits", [f"%LR{'1' * 5000}*%"]),
             ("no expression", [f"%AMA*1,1,${'1' * 5000},0,0*%", *macro]), ("no expression", [f"%AMA*${'1' * 5000}=1*1,1,1,0,0*%", *macro]),
-            ("a line of nearly no length", [f"%AMA*20,1,.1,0,0,{'.' + '0' * 40}1,0,0*%", *macro]),
+            ("a line of nearly no length", [f"%AMA*20,1,.1,0,0,{'.' + '0' * 40}1,{'.' + '0' * 40}1,0*%", *macro]),
             ("a number of over 1000 bits", ["%AMA*" + "$1=0.123456789*" + "$1=$1x$1*" * 20 + "1,1,$1,0,0*%", *macro]),
         ]
         for words, lines in rows:
