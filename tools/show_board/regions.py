@@ -83,7 +83,8 @@ class Regions:
         x, y = contour[0]
         by = lambda spot: (spot[0] + x, spot[1] + y)
         back = lambda spot: spot and (spot[0] - x, spot[1] - y)
-        made = rounded_contour(tuple(back(part) if len(part) == 2 else (back(part[0]), back(part[1]), part[2]) for part in contour), self.cuts)
+        made = rounded_contour(tuple(back(part) if len(part) == 2 else (back(part[0]), back(part[1]), part[2]) for part in contour), self.cuts, self.is_fine or self.is_noted())
+        self.is_coarse = self.is_coarse or made.is_read
         grown = [("capsule", by(a), by(b), most) for _, a, b, most in made.wide]
         if not made.is_closed:
             run = [*map(by, made.outer)]
@@ -140,8 +141,8 @@ class Walked:
         chain, most = arc_chain(centre, *((start, end) if anticlockwise else (end, start)))
         arc = Arc(centre, start, end, anticlockwise)
         self.is_exact = self.is_exact and arc.is_exact and goes_once(lambda p, q: cross(centre, p, q), chain)
-        chain = chain if anticlockwise else chain[::-1]
         self.wide += [("capsule", a, b, most) for a, b in zip(chain, chain[1:])]
+        chain = chain if anticlockwise else chain[::-1]
         self.keeps += [most for a, b in zip(chain, chain[1:]) if a != b]
         self.spots += [spot for k, spot in enumerate(chain[1:]) if spot != chain[k]]
         self.outline += chain[1:]
@@ -149,16 +150,16 @@ class Walked:
 
 
 @lru_cache(1000)
-def rounded_contour(contour, cuts):
-    """What lies within and round a contour with arcs. `between` reads one of at least three parts whose arcs are exact: within it is one
-    area that is clear of its edges."""
+def rounded_contour(contour, cuts, is_fine):
+    """What lies within and round a contour with arcs. `between` reads one of at least three parts whose arcs are exact, and within it one
+    area that is clear of its edges: so where it need not be `is_fine`."""
     it = Walked(contour)
     corners = it.spots[:-1]
     if it.spots[0] != it.spots[-1]:
         return Rounded((), it.spots, it.wide, False)
     if len(corners) < 3:
         return Rounded((), (), it.wide)
-    found = inset(corners, it.keeps) if it.is_exact and len(contour) > 3 and not cuts else None
+    found = inset(corners, it.keeps) if it.is_exact and len(contour) > 3 and not is_fine else None
     if found:
         return Rounded((found,), it.outline[:-1], it.wide, True, True)
     inner = contour_bound(it.parts, False) if it.is_exact else None

@@ -8,7 +8,8 @@ from tests.show.test_arc_chains import is_above as is_chain_above
 
 
 def stretches(contour, pieces):
-    """(part, chain counterclockwise, radius) of each part, as the pieces tell: the polygon, and behind it the draws along its chains."""
+    """(start, part, chain, radius) of each part, as the pieces tell: the polygon, and behind it for each arc the draws along its chain,
+    which runs counterclockwise."""
     (corners, *draws), at, start, told = pieces, 0, contour[0], []
     walk = corners + corners[:1]
     for part in contour[1:]:
@@ -19,10 +20,11 @@ def stretches(contour, pieces):
                 at += 1
                 chain.append(walk[at])
             links, draws = draws[:len(chain) - 1], draws[len(chain) - 1:]
+            chain = chain if part[2] else chain[::-1]
             (radius,) = {draw[3] for draw in links}
             assert [draw[1:3] for draw in links] == list(zip(chain, chain[1:]))
         assert walk[at] == end
-        told.append((start, part, chain if len(part) == 2 or part[2] else chain[::-1], radius))
+        told.append((start, part, chain, radius))
         start = end
     assert at == len(corners) and not draws
     return told
@@ -98,7 +100,7 @@ def walk(rng):
 
 class TestInsets(unittest.TestCase):
     def tried(self, contour):
-        made = rounded_contour(tuple(contour), False)
+        made = rounded_contour(tuple(contour), False, False)
         if made.is_read:
             told = stretches(contour, [made.outer, *made.wide])
             with self.subTest(contour=contour):
@@ -111,7 +113,7 @@ class TestInsets(unittest.TestCase):
         rng = random.Random(64)
         for _ in range(150):
             contour = ring(rng)
-            made, wide = self.tried(contour), max([2 * draw[3] for draw in rounded_contour(tuple(contour), False).wide], default=0)
+            made, wide = self.tried(contour), max([2 * draw[3] for draw in rounded_contour(tuple(contour), False, False).wide], default=0)
             self.assertTrue(made.is_read or not made.inner or contour[0][0] < 9, contour)
             if made.is_read:
                 length = sum(abs(v - w) for a, b in edges(made.outer) for v, w in zip(a, b))
@@ -125,15 +127,16 @@ class TestInsets(unittest.TestCase):
     def test_what_is_not_taken(self):
         """The checks refuse an arc whose ends are not as far, draws that are a u less wide, and an area that touches the outline."""
         contour = [(0, 0), (4000, 0), ((0, 0), (0, 4000), True), (0, 0)]
-        made = rounded_contour(tuple(contour), False)
+        made = rounded_contour(tuple(contour), False, False)
         told = stretches(contour, [made.outer, *made.wide])
         self.assertTrue(is_below(told, made.inner[0]))
+        self.assertFalse(rounded_contour(tuple(contour), False, True).is_read)
         self.assertFalse(is_above([(start, part, chain, radius - (len(part) == 3)) for start, part, chain, radius in told]))
         self.assertFalse(is_below(told, [(0, 0), (100, 0), (0, 100)]))
         self.assertFalse(is_below(told, [(10, 10), (-100, 10), (-10, -100)]))
         self.assertFalse(is_below(told, [(-10, -10), (-100, -10), (-10, -100)]))
-        self.assertFalse(rounded_contour(((0, 0), (4000, 0), ((0, 0), (1, 4000), True), (0, 0)), False).is_read)
-        self.assertFalse(rounded_contour(((0, 0), ((9000, 0), (0, 0), True)), False).is_read)
+        self.assertFalse(rounded_contour(((0, 0), (4000, 0), ((0, 0), (1, 4000), True), (0, 0)), False, False).is_read)
+        self.assertFalse(rounded_contour(((0, 0), ((9000, 0), (0, 0), True)), False, False).is_read)
 
 
 if __name__ == "__main__":
