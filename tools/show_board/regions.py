@@ -13,7 +13,7 @@ from .exact import Refused
 from .insets import inset
 from .rounds import polygon
 from .side import FLASH, MOVE, edges_of
-from .spots import cross
+from .spots import cross, dot
 from .sweep import Sweep
 
 MOST_EDGES = 100_000        # of a contour, in the profile
@@ -139,14 +139,18 @@ class Walked:
     def turn(self, centre, end, anticlockwise):
         start = self.spots[-1]
         chain, most = arc_chain(centre, *((start, end) if anticlockwise else (end, start)))
-        arc = Arc(centre, start, end, anticlockwise)
-        self.is_exact = self.is_exact and arc.is_exact and goes_once(lambda p, q: cross(centre, p, q), chain)
+        is_even = dot(centre, start, start) == dot(centre, end, end)
+        self.is_exact = self.is_exact and is_even and goes_once(lambda p, q: cross(centre, p, q), chain)
         self.wide += [("capsule", a, b, most) for a, b in zip(chain, chain[1:])]
         chain = chain if anticlockwise else chain[::-1]
         self.keeps += [most for a, b in zip(chain, chain[1:]) if a != b]
         self.spots += [spot for k, spot in enumerate(chain[1:]) if spot != chain[k]]
         self.outline += chain[1:]
-        self.parts.append(arc)
+        self.parts.append((centre, start, end, anticlockwise))
+
+    def bound(self, upper):
+        """The corners of an area within the contour, or round it, where its arcs are exact; None where none is found."""
+        return contour_bound([Arc(*part) if len(part) == 4 else part for part in self.parts], upper) if self.is_exact else None
 
 
 @lru_cache(1000)
@@ -162,8 +166,7 @@ def rounded_contour(contour, cuts, is_fine):
     found = inset(corners, it.keeps) if it.is_exact and len(contour) > 3 and not is_fine else None
     if found:
         return Rounded((found,), it.outline[:-1], it.wide, True, True)
-    inner = contour_bound(it.parts, False) if it.is_exact else None
-    outer = contour_bound(it.parts, True) if it.is_exact and cuts else None
+    inner, outer = it.bound(False), it.bound(True) if cuts else None
     return Rounded((inner,) if inner else without(corners, it.wide), outer or corners, [] if outer else it.wide)
 
 

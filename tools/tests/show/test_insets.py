@@ -124,6 +124,11 @@ class TestInsets(unittest.TestCase):
         read = sum(self.tried(walk(rng)).is_read for _ in range(300))
         self.assertGreater(read, 30)
 
+    def test_straight_edges_are_kept(self):
+        """But near arcs they are moved by 2 u alone, also behind one that turns inwards."""
+        made = self.tried([(0, 0), (30000, 0), (30000, 10000), (15000, 10000), ((15000, 15000), (10000, 15000), False), (10000, 30000), (0, 30000), (0, 0)])
+        self.assertLessEqual({(2, 2), (29998, 2), (29998, 9998), (9998, 29998), (2, 29998)}, {*made.inner[0]})
+
     def test_what_is_not_taken(self):
         """The checks refuse an arc whose ends are not as far, draws that are a u less wide, and an area that touches the outline."""
         contour = [(0, 0), (4000, 0), ((0, 0), (0, 4000), True), (0, 0)]
