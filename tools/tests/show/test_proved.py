@@ -15,6 +15,10 @@ from show_board.ties import Ties, tie
 
 HEAD = ["%FSLAX46Y46*%", "%MOMM*%", "G75*", "%ADD10C,0.2*%", "%ADD11C,1.0*%", "%ADD12R,1.0X0.4*%", "%ADD13C,0.0002*%", "D10*"]
 HALF = ["X1000000Y0D02*", "G03X-1000000Y0I-1000000J0D01*", "G01*"]
+LINES = ["%AMA*", "20,1,0.2,1,0,2,1,0*", "20,1,$1+$1,1,-2,0,-3,90*", "1,1,$1,-1,2,270*", "20,1,0,0,0,1,2,0*", "20,1,0.2,-2,1,-3,0,0*%", "%ADD20A,0.1*%"]
+PAD = ["%AMRoundRect*", "0 by thirty degrees*", "4,1,4,$2,$3,$4,$5,$6,$7,$8,$9,$2,$3,0*", *(f"1,1,$1+$1,${k},${k + 1}*" for k in (2, 4, 6, 8)),
+       *(f"20,1,$1+$1,${k},${k + 1},${m},${m + 1},0*" for k, m in ((2, 4), (4, 6), (6, 8))), "20,1,$1+$1,$8,$9,$2,$3,0*%",
+       "%ADD20RoundRect,0.25X-0.433X-0.583X0.733X0.083X0.433X0.583X-0.733X-0.083*%"]
 A, B = record("A", "J1.1", 1, 0), record("A", "J1.2", -1, 0)
 
 
@@ -141,6 +145,9 @@ class Taken(made.Case):
         ("nearer than the bounds", [*HALF, "D11*", "X0Y1600200D03*"], [A, B, record("B", "J2.1", 0, 1.6002)], "undecided"),
         ("copies, figures", ["%SRX2Y2I0.5J0*%", *HALF, "D12*", "X0Y5000000D03*", "%SR*%", *made.region((0, 7), (1, 7), (0, 8))], [A, B], "agrees"),
         ("inches", ["%LPD*%", *HALF], [A, B], "agrees"),
+        ("slanted lines", [*LINES, "D20*", "X0Y0D03*"], [record("A", "J1.1", 1.9, .9), record("A", "J1.2", 1.1, .1), record("B", "J2.1", -2.1, .9), record("B", "J2.2", -2.9, .1)], "agrees"),
+        ("a short by a slanted line", [*LINES, "D20*", "X0Y0D03*"], [record("A", "J1.1", 1.9, .9), record("B", "J2.1", 1.1, .1)], "differs"),
+        ("turned pads of KiCad", [*PAD, *HALF, "D20*", "%SRX2Y1I5.0J0*%", "X1000000Y0D03*", "%SR*%"], [A, B, record("A", "J1.3", 1.5, .65), record("B", "J2.1", 6, 0)], "agrees"),
     ]
 
     def test_rows(self):
@@ -154,9 +161,10 @@ class Taken(made.Case):
                 self.assertEqual((status, out.split(" (lower")[0].split(":")[1], notes), (statuses[word], f" {word}, between two bounds, proved", ""), out)
 
     def test_kept_out(self):
-        """What is not taken, and said without the word: an arc that has no place, and one that `show` alone reads."""
+        """What is not taken, and said without the word: an arc that has no place, and an arc and a primitive that `show` alone reads."""
         program = having_between()
-        for lines in (["X1000000Y0D02*", "G03X-1000000Y0I0J0D01*"], ["X1000000Y0D02*", "G03X-1000000Y0I-1000000J0D01*", "I1J1*"]):
+        for lines in (["X1000000Y0D02*", "G03X-1000000Y0I0J0D01*"], ["X1000000Y0D02*", "G03X-1000000Y0I-1000000J0D01*", "I1J1*"],
+                      [*HALF, "%AMA*", "5,1,4,0,0,2.0,0*%", "%ADD20A*%", "D20*", "X0Y0D03*"]):
             self.board({"m.json": manifest(), "top.gbr": "\n".join([*HEAD, *lines, "M02*", ""]), "n.ipc": netlist(A, B)})
             _, out, _ = self.show("board", program=program)
             self.assertEqual(("between two bounds" in out, "proved" in out), (True, False), out)
