@@ -16,22 +16,24 @@ pub data Source : Type 0 where
   Held : Files → Source
   HandedOver : List Handed → List Handed → Source
 
+-- a relation to the files, or else to what was handed over before and after
+abbrev pub By : (Files → Type 0) → (List Handed → List Handed → Type 0) → Source → Type 0
+By Of Over (Held files) = Of files
+By Of Over (HandedOver before after) = Over before after
+
 -- ---- A package
 
 -- the files of the order of this manifest were read, and nothing else; they fit, and this is their board
 abbrev pub IsBoardBy : Source → List ℕ → PlainBoard → Type 0
-IsBoardBy (Held files) manifest board = IsBoardOf files manifest board
-IsBoardBy (HandedOver before after) manifest board = IsBoardHanded before after manifest board
+IsBoardBy source manifest board = By (λ files. IsBoardOf files manifest board) (λ before after. IsBoardHanded before after manifest board) source
 
 -- their first stop
 abbrev pub IsFirstStopBy : Source → List ℕ → Stop → Type 0
-IsFirstStopBy (Held files) manifest stop = IsFirstStop files manifest stop
-IsFirstStopBy (HandedOver before after) manifest stop = IsFirstStopHanded before after manifest stop
+IsFirstStopBy source manifest stop = By (λ files. IsFirstStop files manifest stop) (λ before after. IsFirstStopHanded before after manifest stop) source
 
 -- the name is that of a file of the order, which comes next
 abbrev pub ComesBy : Source → List ℕ → List ℕ → Type 0
-ComesBy (Held files) manifest name = Comes files manifest name
-ComesBy (HandedOver before after) manifest name = ComesHanded before after manifest name
+ComesBy source manifest name = By (λ files. Comes files manifest name) (λ before after. ComesHanded before after manifest name) source
 
 -- the package fits, its board is within the limits of a package, and P holds of the board
 pub record FitsWith (source : Source) (manifest : List ℕ) (P : PlainBoard → Type 0) : Type 0 where
@@ -60,30 +62,24 @@ FitsThen source manifest Then = FitsThenBy (λ read b. IsBoardBy read manifest b
 -- ---- A package without its netlist, by the net names in its copper files
 
 abbrev pub IsLabelledBoardBy : Source → List ℕ → PlainBoard → Type 0
-IsLabelledBoardBy (Held files) manifest board = IsLabelledBoardOf files manifest board
-IsLabelledBoardBy (HandedOver before after) manifest board = IsLabelledBoardHanded before after manifest board
+IsLabelledBoardBy source manifest board = By (λ files. IsLabelledBoardOf files manifest board) (λ before after. IsLabelledBoardHanded before after manifest board) source
 
 abbrev pub IsFirstLabelledStopBy : Source → List ℕ → LabelledStop → Type 0
-IsFirstLabelledStopBy (Held files) manifest stop = IsFirstLabelledStop files manifest stop
-IsFirstLabelledStopBy (HandedOver before after) manifest stop = IsFirstLabelledStopHanded before after manifest stop
+IsFirstLabelledStopBy source manifest stop = By (λ files. IsFirstLabelledStop files manifest stop) (λ before after. IsFirstLabelledStopHanded before after manifest stop) source
 
 abbrev pub LabelledComesBy : Source → List ℕ → List ℕ → Type 0
-LabelledComesBy (Held files) manifest name = LabelledComes files manifest name
-LabelledComesBy (HandedOver before after) manifest name = LabelledComesHanded before after manifest name
+LabelledComesBy source manifest name = By (λ files. LabelledComes files manifest name) (λ before after. LabelledComesHanded before after manifest name) source
 
 -- ---- A package whose draws may be arcs
 
 abbrev pub IsFirstRealStopBy : Source → List ℕ → RealStop → Type 0
-IsFirstRealStopBy (Held files) manifest stop = IsFirstRealStop files manifest stop
-IsFirstRealStopBy (HandedOver before after) manifest stop = IsFirstRealStopHanded before after manifest stop
+IsFirstRealStopBy source manifest stop = By (λ files. IsFirstRealStop files manifest stop) (λ before after. IsFirstRealStopHanded before after manifest stop) source
 
 abbrev pub RealComesBy : Source → List ℕ → List ℕ → Type 0
-RealComesBy (Held files) manifest name = RealComes files manifest name
-RealComesBy (HandedOver before after) manifest name = RealComesHanded before after manifest name
+RealComesBy source manifest name = By (λ files. RealComes files manifest name) (λ before after. RealComesHanded before after manifest name) source
 
 abbrev pub IsRealBoardBy : Source → List ℕ → PlainRealBoard → Type 0
-IsRealBoardBy (Held files) manifest board = IsRealBoardOf files manifest board
-IsRealBoardBy (HandedOver before after) manifest board = IsRealBoardHanded before after manifest board
+IsRealBoardBy source manifest board = By (λ files. IsRealBoardOf files manifest board) (λ before after. IsRealBoardHanded before after manifest board) source
 
 abbrev pub FitsRealBefore : Source → List ℕ → PlainRealBoard → (Source → Type 0) → Type 0
 FitsRealBefore source manifest board Then = FitsBy (λ read b. IsRealBoardBy read manifest b) source board Then
@@ -95,18 +91,15 @@ FitsRealThen source manifest Then = FitsThenBy (λ read b. IsRealBoardBy read ma
 
 -- these are its bytes
 abbrev pub IsFileBy : Source → List ℕ → List ℕ → Type 0
-IsFileBy (Held files) name bytes = IsHeld files name bytes
-IsFileBy (HandedOver before after) name bytes = IsHanded before after name bytes
+IsFileBy source name bytes = By (λ files. IsHeld files name bytes) (λ before after. IsHanded before after name bytes) source
 
 -- why it is not there to be read
 abbrev pub StopsFileBy : Source → List ℕ → Stop → Type 0
-StopsFileBy (Held files) name stop = StopsTaking files name stop
-StopsFileBy (HandedOver before after) name stop = StopsHanding before after name stop
+StopsFileBy source name stop = By (λ files. StopsTaking files name stop) (λ before after. StopsHanding before after name stop) source
 
 -- it comes next
 abbrev pub NextBy : Source → List ℕ → List ℕ → Type 0
-NextBy (Held files) name other = other ≡ name
-NextBy (HandedOver before after) name other = ComesNext before after name other
+NextBy source name other = By (λ files. other ≡ name) (λ before after. ComesNext before after name other) source
 
 -- P holds of its bytes
 pub record IsFileWith (source : Source) (name : List ℕ) (P : List ℕ → Type 0) : Type 0 where
