@@ -14,7 +14,7 @@ use Rattle.gerber_layer.specs.WordCommands.{behind, number_in}
 use Rattle.gerber_layer.specs.declared.command.Code.{Code}
 use Rattle.gerber_layer.specs.declared.command.Code.TheVariants.{Draw, Move, Flash}
 use Rattle.arc_layer.specs.Bends.{command_bend, curve_of, operation_by}
-use Rattle.arc_layer.specs.Marks.{AreSayings, HasNoMarks, PlainMark, closes, contour_mark, edge_by, edges_before, edges_behind, edges_by, flashes, mark_behind, mark_by, marked, marks_in, ok_bend, ok_mark}
+use Rattle.arc_layer.specs.Marks.{AreSayings, HasNoMarks, PlainMark, closes, contour_mark, edge_by, edges_before, edges_by, flashes, mark_behind, mark_by, marked, marks_in, ok_bend, ok_mark}
 use Rattle.arc_layer.specs.declared.kind.RealKind.{RealKind}
 use Rattle.arc_layer.specs.State.{state_before}
 use Rattle.arc_layer.specs.Words.{IsQuiet, Saying, begins_offset, curve_in, from_offsets, is_line, is_quiet, plain, saying, stop_saying}

@@ -62,8 +62,11 @@ mark_by None false = None
 abbrev pub contour_mark : List (Option Bend) → Option PlainMark
 contour_mark edges = if list_any is_some edges then Some (contour edges) else None
 
+abbrev pub mark_with : Bool → List (Option Bend) → Option Bend → Bool → Option PlainMark
+mark_with closed edges bend flashed = if closed then contour_mark edges else mark_by bend flashed
+
 abbrev pub marked : Result (Option Bend) RealKind → Bool → List (Option Bend) → Bool → Result (Option PlainMark) RealKind
-marked (Ok bend) closed edges flashed = Ok (if closed then contour_mark edges else mark_by bend flashed)
+marked (Ok bend) closed edges flashed = Ok (mark_with closed edges bend flashed)
 marked (Err why) closed edges flashed = Err why
 
 -- The mark of a word, if it has one, or why its arc is refused.

@@ -14,6 +14,12 @@ marks_of m n = option_map plain_mark (get nat_eq m.marks n)
 abbrev pub marks_so_far : Reader → ℕ → Option PlainMark
 marks_so_far r n = option_map plain_mark (get nat_eq r.marks n)
 
+-- The last command has this mark, or none.
+pub record IsMarked (old : Reader) (mark : Option PlainMark) (new : Reader) : Type 0 where
+  pub state : new.state ≡ old.state
+  pub commands : new.commands ≡ old.commands
+  pub marks : (n : ℕ) → marks_so_far new n ≡ (if is_some mark && (old.commands == n) then mark else marks_so_far old n)
+
 -- The reader has taken a word, which has no fault.
 pub record Takes (old : Reader) (w : Saying) (new : Reader) : Type 0 where
   pub mark : Option PlainMark

@@ -93,6 +93,9 @@ pub fn contour_mark(edges: Vec<Option<Bend>>) -> Option<Mark>
 }
 
 fn lengthened(edges: Vec<Option<Bend>>, bend: Option<Bend>) -> Result<Vec<Option<Bend>>, Halt<RealKind>>
+    requires edges { All IsShort edges.items }
+    requires bend { IsShort bend }
+    ensures short { IfOk result (λ longer. All IsShort longer.items) }
     ensures value { IfOk result (λ longer. longer.items ≡ spec.edge_by codes.Draw true edges.items bend) }
     ensures halt { IfErr result (λ h. h ≡ halt.NoMemory) }
 {
@@ -117,6 +120,9 @@ fn edge_by(
     edges: Vec<Option<Bend>>,
     bend: Option<Bend>,
 ) -> Result<Vec<Option<Bend>>, Halt<RealKind>>
+    requires edges { All IsShort edges.items }
+    requires bend { IsShort bend }
+    ensures short { IfOk result (λ later. All IsShort later.items) }
     ensures value { IfOk result (λ later. later.items ≡ spec.edge_by code inside edges.items bend) }
     ensures halt { IfErr result (λ h. h ≡ halt.NoMemory) }
 {
@@ -137,6 +143,9 @@ pub fn edges_behind(
     edges: Vec<Option<Bend>>,
     bend: Option<Bend>,
 ) -> Result<Vec<Option<Bend>>, Halt<RealKind>>
+    requires edges { All IsShort edges.items }
+    requires bend { IsShort bend }
+    ensures short { IfOk result (λ later. All IsShort later.items) }
     ensures value { IfOk result (λ later. later.items ≡ spec.edges_by (view command.now) inside edges.items bend) }
     ensures halt { IfErr result (λ h. h ≡ halt.NoMemory) }
 {

@@ -1,7 +1,7 @@
 //! The marks of a file.
 ghost use Rattle.arc_layer.specs.Bends.{IsShort};
-ghost use Rattle.arc_layer.specs.Marks.{AreMarks, AreShort, HasNoMarks, IsBendFault, IsShortMark, mark_of as mark_spec, plain_mark};
-ghost use Rattle.arc_layer.specs.Reading.{Takes, marks_of, marks_so_far};
+ghost use Rattle.arc_layer.specs.Marks.{AreMarks, AreShort, HasNoMarks, IsBendFault, IsShortMark, closes, contour_mark, edges_by, flashes, mark_by, mark_of as mark_spec, mark_with, plain_mark};
+ghost use Rattle.arc_layer.specs.Reading.{IsMarked, Takes, marks_of, marks_so_far};
 ghost use Rattle.arc_layer.specs.State.{IsLawfulState, state_before};
 ghost use Rattle.arc_layer.specs.Words.{saying_of};
 ghost use Rattle.gerber_layer.specs.Command.{view};
@@ -17,6 +17,7 @@ use crate::mark::Mark;
 use crate::state::{State, at_start};
 use crate::words::{Saying, are_free, is_quiet, read_word};
 use file_reading::Halt;
+use gerber_layer::Command;
 use gerber_words::laws::words_lie_ahead;
 use gerber_words::{Step, Words};
 use std::alloc::Global;
@@ -68,10 +69,8 @@ impl Reader {
     fn put(&mut self, mark: Option<Mark>) -> Result<(), Halt<RealKind>>
         requires short { AreShort (marks_so_far self.old) }
         requires mark { IfSome (option_map plain_mark mark) IsShortMark }
-        ensures state { self.new.state ≡ self.old.state }
+        ensures marked { OnOk result (IsMarked self.old (option_map plain_mark mark) self.new) }
         ensures edges { self.new.edges ≡ self.old.edges }
-        ensures commands { self.new.commands ≡ self.old.commands }
-        ensures marks { OnOk result ((n : ℕ) → marks_so_far self.new n ≡ (if is_some mark && (self.old.commands == n) then option_map plain_mark mark else marks_so_far self.old n)) }
         ensures short { OnOk result (AreShort (marks_so_far self.new)) }
         ensures halt { IfErr result (λ h. h ≡ halt.NoMemory) }
     {
@@ -81,6 +80,65 @@ impl Reader {
             }
         }
         Ok(())
+    }
+
+    // Ends the open contour.
+    fn close(&mut self, alloc: Global) -> Result<(), Halt<RealKind>>
+        requires short { AreShort (marks_so_far self.old) }
+        requires edges { All IsShort self.old.edges.items }
+        ensures marked { OnOk result (IsMarked self.old (contour_mark self.old.edges.items) self.new) }
+        ensures edges { OnOk result (self.new.edges.items ≡ []) }
+        ensures short { OnOk result (AreShort (marks_so_far self.new)) }
+        ensures halt { IfErr result (λ h. h ≡ halt.NoMemory) }
+    {
+        let edges = replace(&mut self.edges, Vec::new(alloc));
+        self.put(contour_mark(edges))
+    }
+
+    // Goes on with the open contour, if there is one.
+    fn go_on(
+        &mut self,
+        alloc: Global,
+        state: &State,
+        command: &Command,
+        bend: Option<Bend>,
+    ) -> Result<(), Halt<RealKind>>
+        requires short { AreShort (marks_so_far self.old) }
+        requires edges { All IsShort self.old.edges.items }
+        requires bend { IsShort bend }
+        ensures marked { OnOk result (IsMarked self.old (mark_by bend (flashes (view command.now) state.now)) self.new) }
+        ensures edges { OnOk result (self.new.edges.items ≡ edges_by (view command.now) state.now.region self.old.edges.items bend) }
+        ensures short { OnOk result (AreShort (marks_so_far self.new)) }
+        ensures shorts { OnOk result (All IsShort self.new.edges.items) }
+        ensures halt { IfErr result (λ h. h ≡ halt.NoMemory) }
+    {
+        let edges = replace(&mut self.edges, Vec::new(alloc));
+        self.edges = edges_behind(command, state.region, edges, bend)?;
+        self.put(mark_by(bend, flashes(command, state)))
+    }
+
+    // Takes the last command.
+    fn mark(
+        &mut self,
+        alloc: Global,
+        state: &State,
+        command: &Command,
+        bend: Option<Bend>,
+    ) -> Result<(), Halt<RealKind>>
+        requires short { AreShort (marks_so_far self.old) }
+        requires edges { All IsShort self.old.edges.items }
+        requires bend { IsShort bend }
+        ensures marked { OnOk result (IsMarked self.old (mark_with (closes (view command.now) state.now) self.old.edges.items bend (flashes (view command.now) state.now)) self.new) }
+        ensures edges { OnOk result (self.new.edges.items ≡ edges_by (view command.now) state.now.region self.old.edges.items bend) }
+        ensures short { OnOk result (AreShort (marks_so_far self.new)) }
+        ensures shorts { OnOk result (All IsShort self.new.edges.items) }
+        ensures halt { IfErr result (λ h. h ≡ halt.NoMemory) }
+    {
+        if closes(command, state) {
+            self.close(alloc)
+        } else {
+            self.go_on(alloc, state, command, bend)
+        }
     }
 
     // Takes a word. An `Err` leaves a reader that is of no more use.
@@ -98,14 +156,8 @@ impl Reader {
     {
         let state = self.state;
         let bend = bend_of(&state, word)?;
-        let edges = replace(&mut self.edges, Vec::new(alloc));
         self.commands += 1;
-        if closes(&word.command, &state) {
-            self.put(contour_mark(edges))?;
-        } else {
-            self.edges = edges_behind(&word.command, state.region, edges, bend)?;
-            self.put(mark_by(bend, flashes(&word.command, &state)))?;
-        }
+        self.mark(alloc, &state, &word.command, bend)?;
         self.state = state.behind(word);
         Ok(())
     }
