@@ -4,8 +4,8 @@
 //! `gerber_layer` reads the file with each arc draw as the straight one between its ends, and each slanted line as a
 //! stroke. What that leaves out is read here of the same words: `words` reads what a word says, `state` keeps what is in
 //! force, `draws` tells the bend of a draw, or why it is refused (`kind`), `centres` which centre a single
-//! quadrant means; `edges` keeps those of the open contour. `marks` reads all marks (`mark`) of a file, and `real` puts both readings together. The laws
-//! stand in `laws`.
+//! quadrant means; `edges` keeps the bends of the open contour. `marks` reads all marks (`mark`) of a file, and `real` puts
+//! both readings together. The laws stand in `laws`.
 #![tactic(auto)]
 
 mod centres;
