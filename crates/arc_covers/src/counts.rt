@@ -3,15 +3,11 @@ ghost use Rattle.arc_covers.specs.Counts.{AreCounts, IsCountsFault, first_line};
 ghost use Rattle.arc_covers.specs.CountsReading.{both_at};
 ghost use Rattle.arc_covers.specs.declared.counts.CountsFault.TheVariants as fault;
 ghost use Rattle.std.specs.Option.{option_map};
-ghost use Rattle.std.specs.Prelude.{IfErr, IfOk, true, ◌++◌, ◌≡◌};
-ghost use Rattle.std.specs.List.{list_all};
-ghost use Rattle.texts.specs.Digits.{is_decimal_digit};
-ghost use Rattle.verdict.specs.ReportReading as reading;
+ghost use Rattle.std.specs.Prelude.{IfErr, IfOk, ◌++◌, ◌≡◌};
 
 use lengths::rows::{NoMemory, Rows};
 use std::alloc::Global;
-use std::str;
-use texts::digits_len;
+use verdict::{behind, number, word};
 
 /// The counts of each real piece, as long as one another.
 #[derive(Debug, Drop)]
@@ -36,80 +32,13 @@ impl From<NoMemory> for CountsFault {
     }
 }
 
-/// Whether the digits are a number without leading zeros.
-fn is_numeral(digits: &[u8]) -> bool
-    ensures { result ≡ reading.is_numeral digits.now }
-{
-    match digits {
-        [] => false,
-        [_] => true,
-        [first, ..] => *first != b'0',
-    }
-}
-
-/// The value of digits, if it has 64 bits.
-fn value_of(digits: &[u8]) -> Option<u64>
-    requires digits { list_all is_decimal_digit digits.now ≡ true }
-    requires some { reading.is_numeral digits.now ≡ true }
-    ensures { result ≡ reading.value_of digits.now }
-{
-    match str::from_utf8(digits) {
-        Ok(text) => text.parse::<u64>().ok(),
-        Err(_) => None,
-    }
-}
-
-/// The number of 64 bits that stands in front, and what stands behind it.
-#[tactic(auto, unfolding(verdict::specs::ReportReading::wide_at))]
-fn wide(bytes: &[u8]) -> Option<(u64, &[u8])>
-    ensures { option_map (λ x. (x.0, x.1.now)) result ≡ reading.wide_at bytes.now }
-{
-    let (digits, rest) = bytes.split_at(digits_len(bytes));
-    if !is_numeral(digits) {
-        return None;
-    }
-    match value_of(digits) {
-        Some(n) => Some((n, rest)),
-        None => None,
-    }
-}
-
-/// The number of 32 bits that stands in front, and what stands behind it.
-#[tactic(auto, unfolding(verdict::specs::ReportReading::number_at))]
-fn number(bytes: &[u8]) -> Option<(u32, &[u8])>
-    ensures { option_map (λ x. (x.0, x.1.now)) result ≡ reading.number_at bytes.now }
-{
-    let (n, rest) = wide(bytes)?;
-    match u32::try_from(n) {
-        Ok(n) => Some((n, rest)),
-        Err(_) => None,
-    }
-}
-
-/// What stands behind the text, if it stands in front.
-#[tactic(auto, unfolding(verdict::specs::ReportReading::behind))]
-fn behind<'a>(bytes: &'a [u8], front: &[u8]) -> Option<&'a [u8]>
-    ensures { option_map (λ rest. rest.now) result ≡ reading.behind front.now bytes.now }
-{
-    bytes.strip_prefix(front)
-}
-
-/// A blank, such a number, and what stands behind it.
-#[tactic(auto, unfolding(verdict::specs::ReportReading::word_at))]
-fn word(bytes: &[u8]) -> Option<(u32, &[u8])>
-    ensures { option_map (λ x. (x.0, x.1.now)) result ≡ reading.word_at bytes.now }
-{
-    let rest = behind(bytes, b" ")?;
-    number(rest)
-}
-
 /// Both counts of the line in front, and what stands behind it.
 #[tactic(auto, unfolding(crate::specs::CountsReading::both_at))]
 fn both(bytes: &[u8]) -> Option<((u32, u32), &[u8])>
     ensures { option_map (λ x. (x.0, x.1.now)) result ≡ both_at bytes.now }
 {
-    let (below, rest) = number(bytes)?;
-    let (above, rest) = word(rest)?;
+    let (below, rest) = number(bytes).ok()?;
+    let (above, rest) = word(rest).ok()?;
     let rest = behind(rest, b"\n")?;
     Some(((below, above), rest))
 }

@@ -59,8 +59,8 @@ net_length net = length net
 -- all numbers are small, and the names those of records
 pub record HasSmallParts (v : Verdict) : Type 0 where
   pub pieces : HasSixDigits v.pieces
-  pub nets : AllByRecursion (AllByRecursion IsSmallTwig) v.nets
   pub names : AllByRecursion IsRecordName v.names
+  pub nets : AllByRecursion (AllByRecursion IsSmallTwig) v.nets
   pub points : AllByRecursion IsSmallPointLine v.points
   pub opens : AllByRecursion IsSmallOpen v.opens
   pub shorts : AllByRecursion IsSmallShort v.shorts

@@ -1,5 +1,5 @@
 -- Reading the text of a verdict from left to right: what stands in front, and the bytes behind it, or nothing where
--- the bytes are no such text. Only private contracts cite this module: that it reads the texts of verdicts and
+-- the bytes are no such text. Only contracts of fields and private ones cite it: that it reads the texts of verdicts and
 -- nothing else is proved over report_text (proofs/ReadReport).
 use Rattle.std.specs.Prelude.{◌≡◌, ℕ, zero, suc, ◌+◌, ◌^◌, ℤ, pos, negsuc, nat_lt, nat_le, Bool, true, false, not, ◌&&◌, ◌==◌, if◌then◌else◌, List, [], ◌∷◌, ◌++◌, length, take, drop, Option, Some, None, Result, Ok, Err, codes, decimal}
 use Rattle.std.specs.Cmp.Lexicographic.{pointwise}
@@ -10,6 +10,7 @@ use Rattle.texts.specs.Digits.{is_decimal_digit}
 use Rattle.verdict.specs.ReportText.{last_line}
 use Rattle.verdict.specs.declared.report_reading.ReadFault.{ReadFault}
 use Rattle.verdict.specs.declared.report_reading.ReadFault.TheVariants.{NotAReport, NoMemory}
+use Rattle.verdict.specs.declared.report_reading.Listed.{Listed}
 use Rattle.verdict.specs.declared.verdict.Twig.{Twig}
 use Rattle.verdict.specs.declared.verdict.PointLine.{PointLine}
 use Rattle.verdict.specs.declared.verdict.Open.{Open}
@@ -177,7 +178,7 @@ heading_at title n bytes = do
   number ← behind (32 ∷ []) rest
   behind (decimal n) number
 
--- the lines of nets, names, points, opens and branches, each with what stands behind it
+-- the lines of nets, names, points and branches, each with what stands behind it
 unfoldable pub net_at : ℕ → List ℕ → Option (List Twig × List ℕ)
 net_at n bytes = do
   rest ← heading_at (codes "net") n bytes
@@ -198,15 +199,6 @@ point_at n bytes = do
   name ← word_at layer.1
   net ← net_number_at name.1
   line_end (record { number = number.0; layer = layer.0; name = name.0; net = net.0 }) net.1
-
-unfoldable pub open_at : ℕ → List ℕ → Option (Open × List ℕ)
-open_at n bytes = do
-  rest ← behind (codes "open") bytes
-  name ← word_at rest
-  home ← word_at name.1
-  other ← word_at home.1
-  probe ← word_at other.1
-  line_end (record { name = name.0; home = home.0; other = other.0; probe = probe.0 }) probe.1
 
 unfoldable pub branch_at : ℕ → List ℕ → Option (Branch × List ℕ)
 branch_at n bytes = do
@@ -230,7 +222,16 @@ short_at n bytes = do
   branches ← items_at branch_at count.0 0 count.1
   Some (record { net = net.0; branches = branches.0 }, branches.1)
 
--- the line of a point without copper
+-- the lines of an open and of a point without copper
+unfoldable pub open_at : ℕ → List ℕ → Option (Open × List ℕ)
+open_at n bytes = do
+  rest ← behind (codes "open") bytes
+  name ← word_at rest
+  home ← word_at name.1
+  other ← word_at home.1
+  probe ← word_at other.1
+  line_end (record { name = name.0; home = home.0; other = other.0; probe = probe.0 }) probe.1
+
 abbrev pub bare_at : ℕ → List ℕ → Option (ℕ × List ℕ)
 bare_at n bytes = titled_at (codes "bare") bytes
 
@@ -286,16 +287,26 @@ more_at true bytes = supplement_at bytes >>= λ more. Some (Some more.0, more.1)
 abbrev pub ended : Verdict → List ℕ → Option Verdict
 ended v rest = if pointwise ◌==◌ rest (last_line v.opens v.shorts v.bare) then Some v else None
 
--- The whole text: its parts in their order, and the last line that they ask for.
+-- what stands behind the lists of the board: what is amiss, the supplement, and the last line that they ask for
+unfoldable pub findings_at : Listed → List ℕ → Option Verdict
+findings_at listed bytes = do
+  opens ← section_at open_at (codes "opens") bytes
+  shorts ← section_at short_at (codes "shorts") opens.1
+  bare ← section_at bare_at (codes "missing") shorts.1
+  more ← more_at listed.told bare.1
+  ended (record { pieces = listed.pieces; names = listed.names; nets = listed.nets; points = listed.points; opens = opens.0; shorts = shorts.0; bare = bare.0; more = more.0 }) more.1
+
+-- the lists of the board, behind the number of its pieces, and what stands behind them
+unfoldable pub lists_at : Bool → ℕ → List ℕ → Option Verdict
+lists_at told pieces bytes = do
+  nets ← section_at net_at (codes "nets") bytes
+  names ← section_at name_at (codes "names") nets.1
+  points ← section_at point_at (codes "points") names.1
+  findings_at (record { told = told; pieces = pieces; nets = nets.0; names = names.0; points = points.0 }) points.1
+
+-- The whole text: its parts in their order.
 unfoldable pub report_at : List ℕ → Option Verdict
 report_at text = do
   first ← first_line_at text
   pieces ← titled_at (codes "pieces") first.1
-  nets ← section_at net_at (codes "nets") pieces.1
-  names ← section_at name_at (codes "names") nets.1
-  points ← section_at point_at (codes "points") names.1
-  opens ← section_at open_at (codes "opens") points.1
-  shorts ← section_at short_at (codes "shorts") opens.1
-  bare ← section_at bare_at (codes "missing") shorts.1
-  more ← more_at first.0 bare.1
-  ended (record { pieces = pieces.0; names = names.0; nets = nets.0; points = points.0; opens = opens.0; shorts = shorts.0; bare = bare.0; more = more.0 }) more.1
+  lists_at first.0 pieces.0 pieces.1

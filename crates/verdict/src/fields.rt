@@ -1,5 +1,5 @@
 //! The fields of a report: fixed words and numbers, each read from the front of the bytes.
-ghost use Rattle.std.specs.Prelude.{◌≡◌, ◌<◌, ◌≤◌, ◌^◌, [], ◌∷◌, List, Option, length, take, true};
+ghost use Rattle.std.specs.Prelude.{◌≡◌, ◌<◌, ◌≤◌, ◌^◌, [], ◌∷◌, IfErr, List, Option, decimal, length, take, true};
 ghost use Rattle.std.specs.List.{list_all, prefix_len};
 ghost use Rattle.std.specs.Option.{option_map};
 ghost use Rattle.std.specs.Str.Parse.{digits_value};
@@ -8,7 +8,7 @@ ghost use Rattle.verdict.specs.ReportReading as spec;
 
 use crate::report_reading::ReadFault;
 use std::str;
-use texts::is_digit;
+use texts::{Numeral, is_digit};
 
 /// The bytes behind a text, where it stands in front.
 #[tactic(auto, unfolding(crate::specs::ReportReading::behind))]
@@ -41,7 +41,8 @@ pub fn expect<'a>(bytes: &'a [u8], front: &[u8]) -> Result<&'a [u8], ReadFault>
 
 /// The same of a byte.
 pub fn expect_byte(bytes: &[u8], byte: u8) -> Result<&[u8], ReadFault>
-    ensures { spec.Gives (λ rest. rest.now) result (spec.behind (byte ∷ []) bytes.now) }
+    ensures reads { spec.Gives (λ rest. rest.now) result (spec.behind (byte ∷ []) bytes.now) }
+    ensures cause { IfErr result (λ fault. fault ≡ ReadFault.NotAReport) }
 {
     match behind_byte(bytes, byte) {
         Some(rest) => Ok(rest),
@@ -65,14 +66,12 @@ fn leading(bytes: &[u8]) -> (usize, u64)
     ensures value { result.0 ≤ 18 → result.1 ≡ digits_value 10 (take result.0 bytes.now) }
     ensures bound { result.0 ≤ 18 → result.1 < 10 ^ 18 }
 {
-    let mut value = 0;
+    let mut value: u64 = 0;
     for (i, byte) in bytes.iter().enumerate() {
         if !is_digit(*byte) {
             return (i, value);
         }
-        if i < 18 {
-            value = value * 10 + u64::from(*byte - b'0');
-        }
+        value = value.wrapping_mul(10).wrapping_add(u64::from(*byte - b'0'));
     }
     (bytes.len(), value)
 }
@@ -88,7 +87,9 @@ fn is_numeral(digits: &[u8]) -> bool
     }
 }
 
-// The value of digits of any number.
+// The value of digits of any number. Few reports have such numbers, so the way of the others stays short.
+#[cold]
+#[inline(never)]
 fn value_of(digits: &[u8]) -> Option<u64>
     requires digits { list_all is_decimal_digit digits.now ≡ true }
     requires some { spec.is_numeral digits.now ≡ true }
@@ -103,7 +104,8 @@ fn value_of(digits: &[u8]) -> Option<u64>
 /// A number below 2^64.
 #[tactic(auto, unfolding(crate::specs::ReportReading::wide_at))]
 pub fn wide(bytes: &[u8]) -> Result<(u64, &[u8]), ReadFault>
-    ensures { spec.Gives (λ x. (x.0, x.1.now)) result (spec.wide_at bytes.now) }
+    ensures reads { spec.Gives (λ x. (x.0, x.1.now)) result (spec.wide_at bytes.now) }
+    ensures cause { IfErr result (λ fault. fault ≡ ReadFault.NotAReport) }
 {
     let (len, value) = leading(bytes);
     let (digits, rest) = bytes.split_at(len);
@@ -122,7 +124,8 @@ pub fn wide(bytes: &[u8]) -> Result<(u64, &[u8]), ReadFault>
 /// A number below 2^32.
 #[tactic(auto, unfolding(crate::specs::ReportReading::number_at))]
 pub fn number(bytes: &[u8]) -> Result<(u32, &[u8]), ReadFault>
-    ensures { spec.Gives (λ x. (x.0, x.1.now)) result (spec.number_at bytes.now) }
+    ensures reads { spec.Gives (λ x. (x.0, x.1.now)) result (spec.number_at bytes.now) }
+    ensures cause { IfErr result (λ fault. fault ≡ ReadFault.NotAReport) }
 {
     let (n, rest) = wide(bytes)?;
     match u32::try_from(n) {
@@ -131,10 +134,21 @@ pub fn number(bytes: &[u8]) -> Result<(u32, &[u8]), ReadFault>
     }
 }
 
+/// The bytes behind the text of a number, where it has to stand there. Where it does, to read it is cheaper than to write it.
+pub fn expect_number(bytes: &[u8], number: u64) -> Result<&[u8], ReadFault>
+    ensures { spec.Gives (λ rest. rest.now) result (spec.behind (decimal number) bytes.now) }
+{
+    match wide(bytes) {
+        Ok((n, rest)) if n == number => Ok(rest),
+        _ => expect(bytes, Numeral::of(number).as_bytes()),
+    }
+}
+
 /// A blank and a number below 2^32.
 #[tactic(auto, unfolding(crate::specs::ReportReading::word_at))]
 pub fn word(bytes: &[u8]) -> Result<(u32, &[u8]), ReadFault>
-    ensures { spec.Gives (λ x. (x.0, x.1.now)) result (spec.word_at bytes.now) }
+    ensures reads { spec.Gives (λ x. (x.0, x.1.now)) result (spec.word_at bytes.now) }
+    ensures cause { IfErr result (λ fault. fault ≡ ReadFault.NotAReport) }
 {
     let rest = expect_byte(bytes, b' ')?;
     number(rest)

@@ -7,15 +7,15 @@ ghost use Rattle.verdict.specs.ReportReading as spec;
 ghost use Rattle.verdict.specs.ReportText as report;
 
 use crate::fields::{
-    begins_blank, count, expect, expect_byte, layer, line_end, net_number, parent, signed_word,
-    titled, word,
+    begins_blank, count, expect, expect_byte, expect_number, layer, line_end, net_number, parent,
+    signed_word, titled, word,
 };
 use crate::report_reading::ReadFault;
 use crate::verdict::{Branch, Open, PointLine, Short, SourceLine, SpotLine, Tree, Twig};
 use lengths::rows::Rows;
 use lengths::text::{Text, TextFault};
 use std::alloc::{AllocError, Global};
-use texts::{Numeral, after_byte, before_byte, has, put, put_blank_number, put_number, put_signed};
+use texts::{after_byte, before_byte, has, put, put_blank_number, put_number, put_signed};
 
 /// What stands behind a blank as often as there are some, up to the end of a line.
 pub trait Word: Drop {
@@ -136,7 +136,7 @@ fn heading<'a>(bytes: &'a [u8], title: &[u8], number: u64) -> Result<&'a [u8], R
 {
     let rest = expect(bytes, title)?;
     let rest = expect_byte(rest, b' ')?;
-    expect(rest, Numeral::of(number).as_bytes())
+    expect_number(rest, number)
 }
 
 // Writes a title and the number of a line.

@@ -7,8 +7,9 @@ ghost use Rattle.verdict.specs.declared.verdict.Verdict.{Verdict};
 
 use crate::fields::{behind, expect, titled};
 use crate::lines::section;
-use crate::verdict::{Supplement, Verdict};
-use lengths::rows::NoMemory as Wanting;
+use crate::verdict::{PointLine, Supplement, Trees, Verdict};
+use lengths::rows::{NoMemory as Wanting, Rows};
+use lengths::text::Text;
 use std::alloc::Global;
 
 /// Why bytes are no report.
@@ -29,6 +30,16 @@ impl From<Wanting> for ReadFault {
     fn from(_: Wanting) -> ReadFault {
         ReadFault::NoMemory
     }
+}
+
+// What a text lists of its board, and whether its first line tells of a supplement.
+#[derive(Drop)]
+struct Listed {
+    told: bool,
+    pieces: u32,
+    nets: Trees,
+    names: Rows<Text>,
+    points: Rows<PointLine>,
 }
 
 // The last line of a verdict's text.
@@ -77,34 +88,64 @@ fn more(alloc: Global, told: bool, bytes: &[u8]) -> Result<(Option<Supplement>, 
     Ok((Some(more), rest))
 }
 
+// The end of a text: the last line that the verdict asks for, and nothing behind it.
+fn ended(verdict: Verdict, rest: &[u8]) -> Result<Verdict, ReadFault>
+    ensures { spec.Gives (λ v. v) result (spec.ended verdict rest.now) }
+{
+    if rest == last_line(&verdict) {
+        Ok(verdict)
+    } else {
+        Err(ReadFault::NotAReport)
+    }
+}
+
+// What stands behind the lists of the board: what is amiss, the supplement and the last line.
+#[tactic(auto, unfolding(crate::specs::ReportReading::findings_at))]
+fn findings(alloc: Global, listed: Listed, bytes: &[u8]) -> Result<Verdict, ReadFault>
+    ensures { spec.Gives (λ v. v) result (spec.findings_at listed bytes.now) }
+{
+    let (opens, rest) = section(alloc, b"opens", bytes)?;
+    let (shorts, rest) = section(alloc, b"shorts", rest)?;
+    let (bare, rest) = section(alloc, b"missing", rest)?;
+    let (more, rest) = more(alloc, listed.told, rest)?;
+    let verdict = Verdict {
+        pieces: listed.pieces,
+        names: listed.names,
+        nets: listed.nets,
+        points: listed.points,
+        opens,
+        shorts,
+        bare,
+        more,
+    };
+    ended(verdict, rest)
+}
+
+// What stands behind the number of pieces.
+#[tactic(auto, unfolding(crate::specs::ReportReading::lists_at))]
+fn lists(alloc: Global, told: bool, pieces: u32, bytes: &[u8]) -> Result<Verdict, ReadFault>
+    ensures { spec.Gives (λ v. v) result (spec.lists_at told pieces bytes.now) }
+{
+    let (nets, rest) = section(alloc, b"nets", bytes)?;
+    let (names, rest) = section(alloc, b"names", rest)?;
+    let (points, rest) = section(alloc, b"points", rest)?;
+    let listed = Listed {
+        told,
+        pieces,
+        nets,
+        names,
+        points,
+    };
+    findings(alloc, listed, rest)
+}
+
 #[tactic(auto, unfolding(crate::specs::ReportReading::report_at))]
 fn report(alloc: Global, text: &[u8]) -> Result<Verdict, ReadFault>
     ensures { spec.Gives (λ v. v) result (spec.report_at text.now) }
 {
     let (told, rest) = first_line(text)?;
     let (pieces, rest) = titled(rest, b"pieces")?;
-    let (nets, rest) = section(alloc, b"nets", rest)?;
-    let (names, rest) = section(alloc, b"names", rest)?;
-    let (points, rest) = section(alloc, b"points", rest)?;
-    let (opens, rest) = section(alloc, b"opens", rest)?;
-    let (shorts, rest) = section(alloc, b"shorts", rest)?;
-    let (bare, rest) = section(alloc, b"missing", rest)?;
-    let (more, rest) = more(alloc, told, rest)?;
-    let verdict = Verdict {
-        pieces,
-        names,
-        nets,
-        points,
-        opens,
-        shorts,
-        bare,
-        more,
-    };
-    if rest == last_line(&verdict) {
-        Ok(verdict)
-    } else {
-        Err(ReadFault::NotAReport)
-    }
+    lists(alloc, told, pieces, rest)
 }
 
 /// The verdict whose text this is. `NotAReport` comes exactly where the bytes are the text of no verdict, and the

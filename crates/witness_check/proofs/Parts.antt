@@ -1,5 +1,5 @@
 -- What the tests have told, said of the board and the verdict and not of their slices.
-use Rattle.std.proofs.Common.{◌≡◌, ◌↔◌, IsTrue, ℕ, ◌<◌, ◌^◌, Bool, true, false, List, length, get_or, All, Option, Some, None, IfSome, MatchOption, sym, ap, subst, ◌∙◌, arith, refl}
+use Rattle.std.proofs.Common.{◌≡◌, ◌↔◌, IsTrue, ℕ, ◌<◌, ◌≤◌, ◌+◌, ◌^◌, Bool, true, false, inl, inr, List, [], length, All, Option, Some, None, IfSome, MatchOption, sym, ap, subst, ◌∙◌, arith, refl}
 use Rattle.board_shapes.specs.Lawful.{IsProbe}
 use Rattle.board_shapes.specs.Plain.{PlainBoard, plain_pieces}
 use Rattle.board_shapes.specs.Tables.{IsNear}
@@ -11,12 +11,14 @@ use Rattle.tables.specs.Lists.{AreLeast}
 use Rattle.verdict.specs.declared.verdict.PointLine.{PointLine}
 use Rattle.verdict.specs.declared.verdict.Twig.{Twig}
 use Rattle.verdict.specs.declared.verdict.Verdict.{Verdict}
-use Rattle.verdict.specs.Forest.{AreTrees, Holds, StandApart, StandOnce}
+use Rattle.verdict.specs.Forest.{AreTrees, Holds, IsForest, StandApart, StandOnce}
 use Rattle.verdict.specs.Right.{Clause, bare_from}
+use Rattle.witness_check.specs.Asked.{AreTested}
 use Rattle.witness_check.specs.Findings.{FindingsFail, FindingsRuled, FindingsSay}
 use Rattle.witness_check.specs.Lines.{AreLinesBy}
+use Rattle.witness_check.specs.Nets.{HasStanding, twig_count}
 use Rattle.witness_check.proofs.Lines.{home_known, homes_known, lines_named, lines_netted}
-use Rattle.witness_check.proofs.Clauses.{AreNetted, ArePointed}
+use Rattle.witness_check.proofs.Clauses.{ArePointed}
 use Rattle.witness_check.proofs.Touching.{long_as}
 use Rattle.witness_check.proofs.Told.{denied, told}
 use Rattle.verdict.proofs.Trees.{nets_few}
@@ -33,9 +35,6 @@ some_told found x none some e tells = subst (λ (o : Option _). MatchOption o no
 pub none_told : {X : Type 0} (found : Option X) (none : Type 0) (some : X → Type 0) → found ≡ None → MatchOption found none some → none
 none_told found none some e tells = subst (λ (o : Option _). MatchOption o none some) e tells
 
-pub once_told : (b : PlainBoard) (items : List (Placed Shape)) (nets own : List (List Twig)) → plain_pieces items ≡ b.pieces → nets ≡ own → StandOnce (length items) nets → StandOnce (length b.pieces) own
-once_told b items nets own plain same once = subst (λ (n : ℕ). StandOnce n own) (sym (long_as b items plain)) (subst (λ (n : List (List Twig)). StandOnce (length items) n) same once)
-
 pub once_denied : (b : PlainBoard) (items : List (Placed Shape)) (nets own : List (List Twig)) → plain_pieces items ≡ b.pieces → nets ≡ own → (StandOnce (length items) nets → ⊥) → StandOnce (length b.pieces) own → ⊥
 once_denied b items nets own plain same not once = not (subst (λ (n : List (List Twig)). StandOnce (length items) n) (sym same) (subst (λ (n : ℕ). StandOnce n own) (long_as b items plain) once))
 
@@ -45,11 +44,17 @@ apart_told b nets own test same tells e = subst (λ (n : List (List Twig)). Stan
 pub apart_denied : (b : PlainBoard) (nets own : List (List Twig)) (test : Bool) → nets ≡ own → IsTrue test ↔ StandApart (IsNear b) nets → test ≡ false → StandApart (IsNear b) own → ⊥
 apart_denied b nets own test same tells e apart = denied test (StandApart (IsNear b) nets) tells e (subst (λ (n : List (List Twig)). StandApart (IsNear b) n) (sym same) apart)
 
-pub netted : (b : PlainBoard) (nets own : List (List Twig)) (numbers : List ℕ) → nets ≡ own → AreTrees (length b.pieces) (IsNear b) own → StandOnce (length b.pieces) own → StandApart (IsNear b) own → ((i p : ℕ) → Holds nets i p → get_or numbers p 0 ≡ i) → AreNetted b own numbers
-netted b nets own numbers same trees once apart numbered = record {
-  forest = record { trees = trees; covers = once; apart = apart };
-  numbered = subst (λ (n : List (List Twig)). (i p : ℕ) → Holds n i p → get_or numbers p 0 ≡ i) same numbered;
-}
+pub stood_told : (b : PlainBoard) (items : List (Placed Shape)) (nets own : List (List Twig)) (numbers places : List ℕ) → plain_pieces items ≡ b.pieces → nets ≡ own → HasStanding (length items) nets numbers places → HasStanding (length b.pieces) own numbers places
+stood_told b items nets own numbers places plain same stood = subst (λ (n : ℕ). HasStanding n own numbers places) (sym (long_as b items plain)) (subst (λ (n : List (List Twig)). HasStanding (length items) n numbers places) same stood)
+
+-- tests of twigs, and then those of a board's strips
+pub tested_after : (b : PlainBoard) (nets own : List (List Twig)) (old mid new : ℕ) → nets ≡ own → mid ≤ old + twig_count nets → AreTested b [] mid new → AreTested b own old new
+tested_after b nets own old mid new same few tested =
+    let count = ap twig_count same in
+    elim tested [
+      | inl none ↦ inl (omega (arith, few, none, count))
+      | inr asked ↦ inr (let more = asked.few in record { height = asked.height; intervals = asked.intervals; are = asked.are; few = omega (arith, few, more, count) })
+    ]
 
 pub known_in : (b : PlainBoard) (items : List (Placed Shape)) (nets own : List (List Twig)) → plain_pieces items ≡ b.pieces → nets ≡ own → AreTrees (length b.pieces) (IsNear b) own → (i p : ℕ) → Holds nets i p → p < length items
 known_in b items nets own plain same trees i p held =
@@ -72,29 +77,29 @@ lines_moved a c probes own_probes rows homes lines own_lines e f g h by =
     (subst (λ (x : List Probe). AreLinesBy c x rows lines) f
     (subst (λ (x : List ℕ). AreLinesBy x probes rows lines) e by)))
 
-pub pointed : (b : PlainBoard) (v : Verdict) (table numbers : List ℕ) (probes : List Probe) (rows homes : List (Option ℕ)) (lines : List PointLine) (test : Bool) → table ≡ numbers → probes ≡ b.probes → rows ≡ homes → lines ≡ v.points
-    → AreNetted b v.nets numbers → AreLeast (length b.probes) (UnderAt b) homes → IsTrue test ↔ AreLinesBy table probes rows lines → test ≡ true → ArePointed b v numbers homes
-pointed b v table numbers probes rows homes lines test e f g h nets least tells is =
-    record { netted = nets; least = least; lines = lines_moved table numbers probes b.probes rows homes lines v.points e f g h (told test (AreLinesBy table probes rows lines) tells is) }
+pub pointed : (b : PlainBoard) (v : Verdict) (numbers places : List ℕ) (homes : List (Option ℕ)) → IsForest (length b.pieces) (IsNear b) v.nets → HasStanding (length b.pieces) v.nets numbers places → AreLeast (length b.probes) (UnderAt b) homes → AreLinesBy numbers b.probes homes v.points → ArePointed b v numbers homes
+pointed b v numbers places homes forest stood least lines = record { netted = record { forest = forest; numbered = stood.numbered }; least = least; lines = lines }
+
+pub lines_told : (b : PlainBoard) (v : Verdict) (table numbers : List ℕ) (probes : List Probe) (rows homes : List (Option ℕ)) (lines : List PointLine) (test : Bool) → table ≡ numbers → probes ≡ b.probes → rows ≡ homes → lines ≡ v.points
+    → IsTrue test ↔ AreLinesBy table probes rows lines → test ≡ true → AreLinesBy numbers b.probes homes v.points
+lines_told b v table numbers probes rows homes lines test e f g h tells is = lines_moved table numbers probes b.probes rows homes lines v.points e f g h (told test (AreLinesBy table probes rows lines) tells is)
 
 pub lines_denied : (b : PlainBoard) (v : Verdict) (table numbers : List ℕ) (probes : List Probe) (rows homes : List (Option ℕ)) (lines : List PointLine) (test : Bool) → table ≡ numbers → probes ≡ b.probes → rows ≡ homes → lines ≡ v.points
     → IsTrue test ↔ AreLinesBy table probes rows lines → test ≡ false → AreLinesBy numbers b.probes homes v.points → ⊥
 lines_denied b v table numbers probes rows homes lines test e f g h tells is by =
     denied test (AreLinesBy table probes rows lines) tells is (lines_moved numbers table b.probes probes homes rows v.points lines (sym e) (sym f) (sym g) (sym h) by)
 
-pub named_in : (b : PlainBoard) (v : Verdict) (numbers : List ℕ) (homes : List (Option ℕ)) (probes : List Probe) (names : List (List ℕ)) → ArePointed b v numbers homes → probes ≡ b.probes → names ≡ b.names → All (IsProbe (length b.names) b.layers) probes → All (λ line. line.name < length names) v.points
-named_in b v numbers homes probes names p same texts known =
-    subst (λ (x : List (List ℕ)). All (λ line. line.name < length x) v.points) (sym texts)
-    (lines_named (length b.names) b.layers numbers b.probes homes v.points p.lines (subst (λ (x : List Probe). All (IsProbe (length b.names) b.layers) x) same known))
+pub named_in : (b : PlainBoard) (v : Verdict) (numbers : List ℕ) (homes : List (Option ℕ)) (probes : List Probe) → AreLinesBy numbers b.probes homes v.points → probes ≡ b.probes → All (IsProbe (length b.names) b.layers) probes → All (λ line. line.name < length b.names) v.points
+named_in b v numbers homes probes lines same known = lines_named (length b.names) b.layers numbers b.probes homes v.points lines (subst (λ (x : List Probe). All (IsProbe (length b.names) b.layers) x) same known)
 
 pub netted_in : (b : PlainBoard) (v : Verdict) (numbers : List ℕ) (homes : List (Option ℕ)) → ArePointed b v numbers homes → All (λ line. IfSome line.net (λ net. net < length v.nets)) v.points
 netted_in b v numbers homes p = lines_netted (length b.pieces) (IsNear b) v.nets numbers p.netted.forest p.netted.numbered b.probes homes v.points p.lines (home_known b homes p.least)
 
 -- ---- Findings, bare points and counts
 
-pub homes_in : (b : PlainBoard) (items : List (Placed Shape)) (table numbers : List ℕ) (rows homes : List (Option ℕ)) → plain_pieces items ≡ b.pieces → table ≡ numbers → length numbers ≡ length items → rows ≡ homes → AreLeast (length b.probes) (UnderAt b) homes → All (λ home. IfSome home (λ p. p < length table)) rows
-homes_in b items table numbers rows homes plain e long f least =
-    let size : length b.pieces ≡ length table = long_as b items plain ∙ (sym long ∙ ap (λ (xs : List ℕ). length xs) (sym e)) in
+pub homes_in : (b : PlainBoard) (table numbers : List ℕ) (rows homes : List (Option ℕ)) → table ≡ numbers → length numbers ≡ length b.pieces → rows ≡ homes → AreLeast (length b.probes) (UnderAt b) homes → All (λ home. IfSome home (λ p. p < length table)) rows
+homes_in b table numbers rows homes e long f least =
+    let size : length b.pieces ≡ length table = sym long ∙ ap (λ (xs : List ℕ). length xs) (sym e) in
     subst (λ (n : ℕ). All (λ home. IfSome home (λ p. p < n)) rows) size (subst (λ (x : List (Option ℕ)). All (λ home. IfSome home (λ p. p < length b.pieces)) x) (sym f) (homes_known b homes least))
 
 pub found_fail : (names own : List (List ℕ)) (rows homes : List (Option ℕ)) (v : Verdict) (o : Option ℕ) (n : ℕ) → names ≡ own → rows ≡ homes → FindingsRuled names rows v o → o ≡ Some n → FindingsFail own homes v n

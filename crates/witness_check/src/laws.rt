@@ -51,8 +51,8 @@ pub fn boards_have_the_laws()
     shapes::tables_tell_joins();
 }
 
-/// In the strips of a board each two pieces come together at most once, and none with itself: so the sweep asks each pair of
-/// pieces at most once.
+/// In the strips of a board each two pieces come together at most once, and none with itself: so a sweep makes no more tests
+/// than there are pairs of pieces that come together.
 pub fn pairs_come_together_once()
     ensures { PairsComeTogetherOnce }
 {}

@@ -23,21 +23,35 @@ pub fn are_trees<L: Ledger>(
     ensures trees { IfOk result (λ yes. IsTrue yes ↔ AreTrees (length (plain_board board.now).pieces) (IsNear (plain_board board.now)) nets.now) }
     ensures tests { tests.new ≤ tests.old + twig_count nets.now }
 {
-    let mut table = vec![in alloc; 0; board.pieces().len()]?;
-    let stamps = table.as_mut_slice();
+    let mut stamps = vec![in alloc; 0; board.pieces().len()]?;
+    Ok(all_trees(board, nets, stamps.as_mut_slice(), tests))
+}
+
+// The same, by a table without a stamp.
+fn all_trees<L: Ledger>(
+    board: &Board,
+    nets: &[Tree],
+    stamps: &mut [usize],
+    tests: &mut Steps<L>,
+) -> bool
+    requires flags { length stamps.old ≡ length (plain_board board.now).pieces }
+    requires none { (q : ℕ) → slice_index_or stamps.old q 0 ≡ 0 }
+    ensures trees { IsTrue result ↔ AreTrees (length (plain_board board.now).pieces) (IsNear (plain_board board.now)) nets.now }
+    ensures tests { tests.new ≤ tests.old + twig_count nets.now }
+{
     let mut floor = 0;
     for i in 0..nets.len() {
         let net = nets[i].as_slice();
         if !is_tree(board, net, stamps, i + 1, tests) {
-            return Ok(false);
+            return false;
         }
         let first = first_of(net);
         if first < floor {
-            return Ok(false);
+            return false;
         }
         floor = first + 1;
     }
-    Ok(true)
+    true
 }
 
 /// The first piece of a net.

@@ -1,9 +1,9 @@
-use Rattle.std.proofs.Common.{◌≡◌, ◌∙◌, ℕ, List, arith, get_or, length, sym, true}
+use Rattle.std.proofs.Common.{◌≡◌, ◌∙◌, ◌+◌, ◌*◌, ◌^◌, ◌<◌, ◌%◌, ℕ, List, ap, arith, get_or, length, sym, true}
+use Rattle.std.proofs.Math.Nat.{mod-eq_of_lt}
 use Rattle.std.specs.Char.{is_digit}
 use Rattle.lengths.proofs.Digits.{digit_of, digits_more, digits_value_after-more, eighteen_fit, room}
 use Rattle.texts.proofs.Runs.{prefix_len_at}
 use Rattle.texts.specs.Digits.{is_decimal_digit}
-use Rattle.verdict.proofs.fields.leading.Goals.{then-i-lt18, else-i-lt18}
 use Rattle.verdict.proofs.fields.leading.Goals as goal
 
 pub returns-then-not-is_digit-clause-len : goal.returns-then-not-is_digit-clause-len
@@ -12,34 +12,22 @@ returns-then-not-is_digit-clause-len c = sym (prefix_len_at is_decimal_digit c.a
 pub returns-then-not-is_digit-clause-bound : goal.returns-then-not-is_digit-clause-bound
 returns-then-not-is_digit-clause-bound c = λ few. let fits = eighteen_fit c.loop-i.i few in omega (arith, fits, (c.loop-i.invariant.1 few).1)
 
-pub overflow_mul-value : goal.overflow_mul-value
-overflow_mul-value c =
-    let h = room 0 c.loop-i.i 18 c.loop-i.value c.if-i-lt18.true (eighteen_fit 18 (omega arith)) (c.loop-i.invariant.1 (omega arith)).1 in
-    omega (arith, h)
-
-pub overflow_add-value : goal.overflow_add-value
-overflow_add-value c =
-    let h = room 0 c.loop-i.i 18 c.loop-i.value c.if-i-lt18.true (eighteen_fit 18 (omega arith)) (c.loop-i.invariant.1 (omega arith)).1 in
-    omega (arith, h)
-
 pub loop-i-preserved : goal.loop-i-preserved
 loop-i-preserved c =
     let i : ℕ = c.loop-i.i in
     let xs : List ℕ = c.args.bytes.now in
     let one : is_digit (get_or xs i 0) 10 ≡ true = sym c.is_digit.ensures ∙ c.if-not-is_digit.false in (
       digits_more xs i c.loop-i-test.true c.loop-i.invariant.0 one,
-      λ few. elim c.if-i-lt18.branch [
-        | then-i-lt18 w ↦ (
-            let h = room 0 i 18 c.loop-i.value w.if-i-lt18.true (eighteen_fit 18 (omega arith)) (c.loop-i.invariant.1 (omega arith)).1 in
-            let d = digit_of (get_or xs i 0) one in
-            let more = digits_value_after-more 10 0 xs i c.loop-i-test.true in
-            let was = (c.loop-i.invariant.1 (omega arith)).0 in
-            let from = w.from.ensures in
-            let is = w.value-is in
-            (omega (arith, more, d, was, from, is), omega (arith, h, d, from, is))
-            )
-        | else-i-lt18 w ↦ absurd (let far = w.if-i-lt18.false in omega arith)
-      ],
+      λ few.
+          let was = c.loop-i.invariant.1 (omega arith) in
+          let h = room 0 i 18 c.loop-i.value (omega arith) (eighteen_fit 18 (omega arith)) was.1 in
+          let d = digit_of (get_or xs i 0) one in
+          let from = c.from.ensures in
+          let short : c.loop-i.value * 10 + c.from.result < 2 ^ 64 = omega (arith, h, d, from) in
+          let whole : c.loop-i.value * 10 % 2 ^ 64 ≡ c.loop-i.value * 10 = mod-eq_of_lt (omega (arith, short)) in
+          let kept : (c.loop-i.value * 10 % 2 ^ 64 + c.from.result) % 2 ^ 64 ≡ c.loop-i.value * 10 + c.from.result = ap (λ (n : ℕ). (n + c.from.result) % 2 ^ 64) whole ∙ mod-eq_of_lt short in
+          let more = digits_value_after-more 10 0 xs i c.loop-i-test.true in
+          (kept ∙ omega (arith, more, d, was.0, from), omega (arith, h, d, from, kept)),
     )
 
 pub returns-clause-len : goal.returns-clause-len

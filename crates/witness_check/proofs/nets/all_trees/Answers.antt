@@ -8,7 +8,7 @@ use Rattle.verdict.proofs.Holding.{held_within}
 use Rattle.witness_check.specs.Nets.{IsKnownTree}
 use Rattle.witness_check.proofs.Trees.{AreJudged, judged_more, judged_all, tree_at, twigs_more, twigs_most}
 use Rattle.witness_check.proofs.Told.{refuted, proved, told, denied}
-use Rattle.witness_check.proofs.nets.are_trees.Goals as goal
+use Rattle.witness_check.proofs.nets.all_trees.Goals as goal
 
 pub returns-then-not-is_tree-clause-trees : goal.returns-then-not-is_tree-clause-trees
 returns-then-not-is_tree-clause-trees g c =
