@@ -1,13 +1,15 @@
 -- The bands of a contour: its box is cut into strips of one height, from its low side up. An edge stands in each strip from
 -- that of its lower end to that of its upper end; an edge that would stand in more than 8 is tall, and stands in none.
-use Rattle.std.specs.Prelude.{ℕ, ◌+◌, ◌-◌, ◌/◌, ◌≤◌, ◌<◌, ◌≡◌, Bool, not, ◌&&◌, cond, nat_le, nat_lt, List, map, filter, length, get_or, slice_index, slice_range, ℤ, pos, ◌-ℤ◌, ◌≤ℤ◌, nat_abs, All}
+use Rattle.std.specs.Prelude.{ℕ, ◌+◌, ◌-◌, ◌*◌, ◌/◌, ◌≤◌, ◌<◌, ◌≡◌, Bool, not, ◌&&◌, cond, nat_le, nat_lt, List, map, filter, take, drop, length, get_or, slice_index, slice_range, ℤ, pos, ◌-ℤ◌, ◌≤ℤ◌, nat_abs, All}
 use Rattle.std.specs.Int.{int_min, int_max}
 use Rattle.std.specs.List.{range_with_len}
-use Rattle.planar.specs.Plane.{IsReached}
+use Rattle.planar.specs.Plane.{IsPlaced, IsReached}
 use Rattle.planar.specs.declared.Spot.{Spot}
+use Rattle.contact.specs.Round.{box_of}
+use Rattle.contact.specs.Solid.{InBox, SharePoint}
 use Rattle.contact.specs.declared.Bounds.{Bounds}
 use Rattle.area_contact.specs.declared.Edge.{Edge}
-use Rattle.area_contact.specs.Contour.{area_box}
+use Rattle.area_contact.specs.Contour.{Reaches, SomeEdge, area_box}
 
 -- ---- edges by their numbers, from 0 on
 
@@ -102,3 +104,11 @@ IsTable points low height starts numbers = (k : ℕ) → k < 64 → IsCut starts
 -- no point is below low
 abbrev pub AllFrom : ℤ → List Spot → Type 0
 AllFrom low points = All (λ p. low ≤ℤ p.y) points
+
+-- no segment whose box does not meet this one reaches one of the edges of these numbers
+abbrev pub IsAbout : List Spot → Bounds → List ℕ → Type 0
+IsAbout points b numbers = (u v : Spot) → IsPlaced u → IsPlaced v → (SharePoint (InBox b) (InBox (box_of u v (pos 0))) → ⊥) → SomeEdge (Reaches u v (pos 0)) (edges_at points numbers) → ⊥
+
+-- each box is about its run of 64 of the edges
+abbrev pub AreAbout : List Spot → List ℕ → List Bounds → Type 0
+AreAbout points numbers boxes = (k : ℕ) (d : Bounds) → k < length boxes → IsAbout points (get_or boxes k d) (take 64 (drop (64 * k) numbers))

@@ -1,5 +1,5 @@
 -- Stretched boxes meet where the boxes do, and hold the stretched spots.
-use Rattle.std.proofs.Common.{FitsSigned, w64, to_z, of_z, to_z-of_z, ◌≡◌, inl, inr, ℕ, ◌+◌, ◌<◌, true, ℤ, pos, ◌+ℤ◌, ◌-ℤ◌, ◌*ℤ◌, ◌≤ℤ◌, List, [], ◌∷◌, ◌++◌, length, Some, slice_get, refl, sym, ap, subst, ◌∙◌, arith}
+use Rattle.std.proofs.Common.{FitsSigned, w64, to_z, of_z, to_z-of_z, ◌≡◌, inl, inr, ℕ, ◌+◌, ◌<◌, true, ℤ, pos, ◌+ℤ◌, ◌-ℤ◌, ◌*ℤ◌, ◌≤ℤ◌, ◌^◌, List, [], ◌∷◌, ◌++◌, length, Some, slice_get, refl, sym, ap, subst, ◌∙◌, arith}
 use Rattle.std.proofs.lemmas.Bool.{cases_eq}
 use Rattle.std.proofs.lemmas.Int.{ints, clamps}
 use Rattle.std.proofs.lemmas.List.{get_or_append_left, get_or_push, length_push}
@@ -16,6 +16,7 @@ use Rattle.planar.specs.declared.Spot.{Spot}
 use Rattle.planar.specs.declared.TheConstants.{SIDE}
 use Rattle.cell_index.specs.Among.{TouchAmong, UnderAmong, extent_in}
 use Rattle.cell_index.specs.Field.{boxes_meet}
+use Rattle.cell_index.specs.Rows.{CanBeFiled}
 use Rattle.cell_index.specs.Stretched.{AreCopies, box_over, copy_in, corner, place_of, spot_over}
 use Rattle.cell_index.specs.declared.plate.Plate.{Plate}
 use Rattle.cell_index.specs.declared.stretch.Side.{Side}
@@ -119,3 +120,15 @@ copies_meet holds box s items copies k met p q t =
 pub copies_hold : {A : Type 0} (holds : A → Point → Type 0) (box : A → Bounds) (s : Stretch) (items : List (Placed A)) (copies : List (Placed Plate)) → AreCopies box s items (length items) copies → ((spot : Spot) (layer p : ℕ) → UnderAmong holds items spot layer p → InBox (extent_in box items p) (at spot))
     → (spot : Spot) (layer p : ℕ) → UnderAmong holds items spot layer p → InBox (copy_in copies p) (at (spot_over s spot))
 copies_hold holds box s items copies k held spot layer p u = subst (λ (b : Bounds). InBox b (at (spot_over s spot))) (sym (k.each p (slice_get_within items p u.item u.there))) (over_holds s (extent_in box items p) spot (held spot layer p u))
+
+-- ---- The copies can be filed
+
+pub copies_few : {A : Type 0} (box : A → Bounds) (s : Stretch) (items : List (Placed A)) (copies : List (Placed Plate)) → length items < 2 ^ 32 → AreCopies box s items (length items) copies → length copies < 2 ^ 32
+copies_few box s items copies few a = rw a.long few
+
+pub copies_filed : {A : Type 0} (box : A → Bounds) (s : Stretch) (items : List (Placed A)) (copies : List (Placed Plate)) → length items < 2 ^ 32 → AreCopies box s items (length items) copies → CanBeFiled (λ s. s.bounds) corner copies
+copies_filed box s items copies few a = record {
+  few = copies_few box s items copies few a;
+  inside = a.inside;
+  spans = λ k d h. (let flat = a.flat k d h in omega (arith, flat.0, flat.1));
+}

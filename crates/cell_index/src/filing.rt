@@ -1,7 +1,8 @@
 //! The pieces of a layer, filed under its cells.
-ghost use Rattle.cell_index.specs.Rows.{CanBeFiled, Files, IsSheet, in_patch, in_row, in_run};
+ghost use Rattle.cell_index.specs.Bins.{pieces_in};
+ghost use Rattle.cell_index.specs.Rows.{CanBeFiled, Files, IsSheet, in_patch, in_row, in_run, row_of};
 ghost use Rattle.contact.specs.Solid.{IsInside};
-ghost use Rattle.std.specs.Prelude.{◌≡◌, ◌+◌, ◌<◌, ◌≤◌, ◌^◌, All, IfOk, OnOk, length};
+ghost use Rattle.std.specs.Prelude.{◌≡◌, ℕ, ◌+◌, ◌<◌, ◌≤◌, ◌^◌, All, IfOk, OnOk, length};
 
 use crate::bins::{Bins, Filing};
 use crate::patch::{CELLS, Patch};
@@ -27,6 +28,22 @@ pub fn sheet<S: Closed>(
     requires filed { CanBeFiled S.extent frame items.now }
     ensures sheet { IfOk result (IsSheet S.extent frame items.now layer) }
 {
+    let filings = filings_of(alloc, items, frame, layer)?;
+    let rows = Bins::new(alloc, ROWS as usize, filings.as_slice())?;
+    Ok(rows)
+}
+
+// The pieces of a layer, each filed under its rows.
+fn filings_of<S: Closed>(
+    alloc: Global,
+    items: &[Placed<S>],
+    frame: Frame,
+    layer: u8,
+) -> Result<Vec<Filing>, NoMemory>
+    requires filed { CanBeFiled S.extent frame items.now }
+    ensures rows { IfOk result (λ v. All (λ f. f.row < 16385) v.items) }
+    ensures each { IfOk result (λ v. (row : ℕ) → row < 16385 → pieces_in row v.items ≡ row_of S.extent frame items.now layer row) }
+{
     let mut filings = Vec::new(alloc);
     for p in 0..items.len() {
         let item = &items[p];
@@ -34,8 +51,7 @@ pub fn sheet<S: Closed>(
             file(item, p as u32, frame, &mut filings)?;
         }
     }
-    let rows = Bins::new(alloc, ROWS as usize, filings.as_slice())?;
-    Ok(rows)
+    Ok(filings)
 }
 
 // Files the piece under its cells, or as a wide one.

@@ -1,12 +1,13 @@
 -- The first seat of each name on each net.
-use Rattle.std.proofs.Common.{◌≡◌, ℕ, ◌+◌, ◌<◌, Bool, true, false, ◌==◌, List, [], ◌∷◌, ◌++◌, length, map, get_or, drop, Some, refl, sym, ap, ◌∙◌, append_assoc}
-use Rattle.std.proofs.lemmas.List.{at_drop_more, map-append}
+use Rattle.std.proofs.Common.{◌≡◌, ◌≢◌, ℕ, ◌+◌, ◌<◌, ◌≤◌, Bool, true, false, ◌==◌, inl, inr, List, [], ◌∷◌, ◌++◌, length, map, get_or, drop, All, None, Some, refl, sym, ap, ◌∙◌, subst, append_assoc, rules}
+use Rattle.std.proofs.lemmas.List.{append-nil, at_drop_all, at_drop_more, get_or_past, map-append}
+use Rattle.verdict.proofs.Holding.{le_or_lt}
 use Rattle.verdict.specs.declared.verdict.PointLine.{PointLine}
 use Rattle.verdict.specs.declared.verdict.Seat.{Seat}
 use Rattle.verdict.specs.Right.{fresh, net_of, seats_from}
 use Rattle.judge.specs.Seated.{has_seat, with_seat}
-use Rattle.verdict.proofs.Seating.{fresh_new, fresh_old, seats_some}
-use Rattle.verdict.specs.Seats.{seats_at}
+use Rattle.verdict.proofs.Seating.{fresh_new, fresh_old, seats_none, seats_other, seats_some}
+use Rattle.verdict.specs.Seats.{AreFirstSeats, seats_at}
 
 -- ---- One seat more
 
@@ -29,13 +30,13 @@ with_rest seats s rest = by (has_seat seats s.net) refl where
 abbrev pub AreSeatedTo : List PointLine → ℕ → List (List Seat) → Type 0
 AreSeatedTo lines i groups = (name : ℕ) → seats_at groups name ++ fresh (map net_of (seats_at groups name)) (seats_from name i (drop i lines)) ≡ fresh [] (seats_from name 0 lines)
 
-pub seated_same : (lines : List PointLine) (i : ℕ) (d : PointLine) (name : ℕ) (seats seats' : List Seat) → i < length lines → seats_from name i (get_or lines i d ∷ drop (i + 1) lines) ≡ seats_from name (i + 1) (drop (i + 1) lines)
+seated_same : (lines : List PointLine) (i : ℕ) (d : PointLine) (name : ℕ) (seats seats' : List Seat) → i < length lines → seats_from name i (get_or lines i d ∷ drop (i + 1) lines) ≡ seats_from name (i + 1) (drop (i + 1) lines)
     → seats ++ fresh (map net_of seats) (seats_from name i (drop i lines)) ≡ fresh [] (seats_from name 0 lines) → seats' ≡ seats → seats' ++ fresh (map net_of seats') (seats_from name (i + 1) (drop (i + 1) lines)) ≡ fresh [] (seats_from name 0 lines)
 seated_same lines i d name seats seats' below opens before same =
     ap (λ (xs : List Seat). xs ++ fresh (map net_of xs) (seats_from name (i + 1) (drop (i + 1) lines))) same ∙
     (ap (λ (xs : List Seat). seats ++ fresh (map net_of seats) xs) (sym opens ∙ sym (at_drop_more (seats_from name i) lines i d below)) ∙ before)
 
-pub seated_more : (lines : List PointLine) (i net : ℕ) (d : PointLine) (name : ℕ) (seats seats' : List Seat) → i < length lines → ((get_or lines i d).name == name) ≡ true → (get_or lines i d).net ≡ Some net
+seated_more : (lines : List PointLine) (i net : ℕ) (d : PointLine) (name : ℕ) (seats seats' : List Seat) → i < length lines → ((get_or lines i d).name == name) ≡ true → (get_or lines i d).net ≡ Some net
     → seats ++ fresh (map net_of seats) (seats_from name i (drop i lines)) ≡ fresh [] (seats_from name 0 lines) → seats' ≡ with_seat seats (record { net = net; probe = i }) → seats' ++ fresh (map net_of seats') (seats_from name (i + 1) (drop (i + 1) lines)) ≡ fresh [] (seats_from name 0 lines)
 seated_more lines i net d name seats seats' below here on before now =
     let s : Seat = record { net = net; probe = i } in
@@ -43,3 +44,32 @@ seated_more lines i net d name seats seats' below here on before now =
     ap (λ (xs : List Seat). xs ++ fresh (map net_of xs) rest) now ∙
     (with_rest seats s rest ∙
     (ap (λ (xs : List Seat). seats ++ fresh (map net_of seats) xs) (sym (seats_some name i net (get_or lines i d) (drop (i + 1) lines) here on) ∙ sym (at_drop_more (seats_from name i) lines i d below)) ∙ before))
+
+-- ---- One point more
+
+no_seats : (groups : List (List Seat)) (name : ℕ) → All (λ seats. seats ≡ []) groups → seats_at groups name ≡ []
+no_seats groups name none = elim (le_or_lt (length groups) name) [
+  | inl past ↦ get_or_past groups name [] past
+  | inr below ↦ none name [] below
+]
+
+pub seated_first : (lines : List PointLine) (groups : List (List Seat)) → All (λ seats. seats ≡ []) groups → AreSeatedTo lines 0 groups
+seated_first lines groups none name = ap (λ (xs : List Seat). xs ++ fresh (map net_of xs) (seats_from name 0 lines)) (no_seats groups name none)
+
+pub seated_past : (lines : List PointLine) (i : ℕ) (d : PointLine) (groups : List (List Seat)) → i < length lines → (get_or lines i d).net ≡ None → AreSeatedTo lines i groups → AreSeatedTo lines (i + 1) groups
+seated_past lines i d groups below none before name = seated_same lines i d name (seats_at groups name) (seats_at groups name) below (seats_none name i (get_or lines i d) (drop (i + 1) lines) none) (before name) refl
+
+pub seated_turn : (lines : List PointLine) (i net : ℕ) (d : PointLine) (groups groups' : List (List Seat)) → i < length lines → (get_or lines i d).net ≡ Some net → AreSeatedTo lines i groups
+    → seats_at groups' (get_or lines i d).name ≡ with_seat (seats_at groups (get_or lines i d).name) (record { net = net; probe = i }) → ((other : ℕ) → other ≢ (get_or lines i d).name → seats_at groups' other ≡ seats_at groups other) → AreSeatedTo lines (i + 1) groups'
+seated_turn lines i net d groups groups' below on before more others name = by ((get_or lines i d).name == name) refl where
+  by : (b : Bool) → ((get_or lines i d).name == name) ≡ b → seats_at groups' name ++ fresh (map net_of (seats_at groups' name)) (seats_from name (i + 1) (drop (i + 1) lines)) ≡ fresh [] (seats_from name 0 lines)
+  by true e =
+      let here : (get_or lines i d).name ≡ name = (search (rules, e)) in
+      seated_more lines i net d name (seats_at groups name) (seats_at groups' name) below e on (before name) (subst (λ (n : ℕ). seats_at groups' n ≡ with_seat (seats_at groups n) (record { net = net; probe = i })) here more)
+  by false e =
+      let other : name ≢ (get_or lines i d).name = (λ k. (let f : ((get_or lines i d).name == name) ≡ true = (search (rules, k)) in cc)) in
+      seated_same lines i d name (seats_at groups name) (seats_at groups' name) below (seats_other name i (get_or lines i d) (drop (i + 1) lines) e) (before name) (others name other)
+
+pub seated_last : (lines : List PointLine) (i : ℕ) (groups : List (List Seat)) → length lines ≤ i → AreSeatedTo lines i groups → AreFirstSeats groups lines
+seated_last lines i groups past before name below =
+    sym (append-nil (seats_at groups name)) ∙ (ap (λ (xs : List Seat). seats_at groups name ++ fresh (map net_of (seats_at groups name)) xs) (sym (at_drop_all (seats_from name i) lines i past)) ∙ before name)

@@ -19,7 +19,7 @@ use Rattle.verdict.specs.declared.verdict.PointLine.{PointLine}
 use Rattle.verdict.specs.declared.verdict.Mark.{Mark}
 use Rattle.verdict.specs.Forest.{IsTree, IsForest, Holds, net_at, first_piece}
 use Rattle.verdict.specs.Right.{IsRight, Trees, Covers, Apart, Points, Opens, Shorts, Branches, Bare, Counts, Spots, Sources, AreLines, bare_from, all_opens, all_shorts, outline, HasBranches, BeginsBeneath, IsLeastOf, first_from, marks, is_on, BeginsAtHome}
-use Rattle.judge.specs.Judged.{line_by, lines_by, HasHome}
+use Rattle.judge.specs.Judged.{AreLinesOn, line_by, lines_by, HasHome}
 use Rattle.verdict.specs.Seats.{net_by}
 use Rattle.judge.proofs.Along.{branches_along}
 use Rattle.verdict.proofs.Holding.{held_within, le_or_lt}
@@ -200,3 +200,13 @@ pieces_within b items nets trees same now lawful i p h =
     let e = lawful.trees.known i p (subst (λ (ns : List (List Twig)). Holds ns i p) now h) in
     let k = pieces_long b items same in
     omega arith
+
+-- ---- Lines on a board
+
+pub on_nets : (b : PlainBoard) (nets : List (List Twig)) (homes : List (Option ℕ)) (lines : List PointLine) → IsForest (length b.pieces) (IsNear b) nets → AreLeast (length b.probes) (UnderAt b) homes → AreLinesOn b nets homes lines → All (λ line. IfSome line.net (λ net. net < length nets)) lines
+on_nets b nets homes lines lawful least on =
+    subst (λ (ls : List PointLine). All (λ line. IfSome line.net (λ net. net < length nets)) ls) (sym on.made) (lines_netted (length b.pieces) (IsNear b) nets on.numbers lawful on.told b.probes homes (homes_known b homes least))
+
+pub home_known : (b : PlainBoard) (nets : List (List Twig)) (homes : List (Option ℕ)) (lines : List PointLine) (number : ℕ) (m : Mark) → IsForest (length b.pieces) (IsNear b) nets → AreLeast (length b.probes) (UnderAt b) homes → AreLinesOn b nets homes lines → IsFirst number lines m → HasHome (net_at nets number) homes m
+home_known b nets homes lines number m lawful least on first =
+    homes_held (length b.pieces) (IsNear b) nets on.numbers b.probes homes lawful on.told (homes_known b homes least) number m (subst (λ (ls : List PointLine). IsFirst number ls m) on.made first)

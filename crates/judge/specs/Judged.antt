@@ -1,10 +1,11 @@
 -- Lines by the numbers of nets, and paths in a net.
-use Rattle.std.specs.Prelude.{◌≡◌, ◌↔◌, ℕ, ◌<◌, Bool, true, false, List, [], ◌∷◌, length, slice_index_or, Contains, Option, Some, None}
+use Rattle.std.specs.Prelude.{◌≡◌, ◌↔◌, ℕ, ◌<◌, ◌^◌, All, Bool, true, false, List, [], ◌∷◌, length, slice_index_or, Contains, Option, Some, None}
 use Rattle.verdict.specs.declared.verdict.Twig.{Twig}
+use Rattle.board_shapes.specs.Plain.{PlainBoard}
 use Rattle.board_shapes.specs.declared.probe.Probe.{Probe}
 use Rattle.verdict.specs.declared.verdict.PointLine.{PointLine}
 use Rattle.verdict.specs.declared.verdict.Mark.{Mark}
-use Rattle.verdict.specs.Forest.{pieces_of}
+use Rattle.verdict.specs.Forest.{Holds, pieces_of}
 use Rattle.verdict.specs.Seats.{net_by}
 use Rattle.verdict.specs.Places.{twig_at}
 
@@ -16,6 +17,14 @@ line_by numbers p home = record { number = p.number; layer = p.layer; name = p.n
 abbrev pub lines_by : List ℕ → List Probe → List (Option ℕ) → List PointLine
 lines_by numbers (p ∷ probes) (home ∷ homes) = line_by numbers p home ∷ lines_by numbers probes homes
 lines_by numbers probes homes = []
+
+-- The lines are those of the board's probes with these homes, by numbers that name the net of each piece.
+pub record AreLinesOn (b : PlainBoard) (nets : List (List Twig)) (homes : List (Option ℕ)) (lines : List PointLine) : Type 0 where
+  pub numbers : List ℕ
+  pub told : (i p : ℕ) → Holds nets i p → slice_index_or numbers p 0 ≡ i
+  pub made : lines ≡ lines_by numbers b.probes homes
+  pub few : length lines < 2 ^ 32
+  pub named : All (λ line. line.name < length b.names) lines
 
 -- ---- Paths
 

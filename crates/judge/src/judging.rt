@@ -2,11 +2,12 @@
 ghost use Rattle.board_shapes.specs.Plain.{plain_board};
 ghost use Rattle.board_shapes.specs.Tables.{IsNear, IsTables};
 ghost use Rattle.board_shapes.specs.Touching.{UnderAt};
-ghost use Rattle.std.specs.Prelude.{◌≡◌, length, IfOk, None};
+ghost use Rattle.judge.specs.Judged.{AreLinesOn};
+ghost use Rattle.std.specs.Prelude.{◌≡◌, ◌<◌, ◌^◌, length, map, All, IfOk, None};
 ghost use Rattle.tables.specs.Lists.{AreLeast};
 ghost use Rattle.tables.specs.Tables.{Tables};
 ghost use Rattle.verdict.specs.Forest.{IsForest};
-ghost use Rattle.verdict.specs.Right.{IsRight};
+ghost use Rattle.verdict.specs.Right.{BeginsAtHome, HasBranches, IsRight, all_opens, all_shorts, outline};
 
 use crate::marks::marks_of;
 use crate::opens::opens_of;
@@ -18,7 +19,7 @@ use lengths::rows::{NoMemory, Rows};
 use lengths::text::Text;
 use net_numbers::numbers_of;
 use std::alloc::Global;
-use verdict::{Trees, Verdict};
+use verdict::{Open, PointLine, Short, Tree, Trees, Verdict};
 
 /// The verdict on a board, with the handed-in trees as its nets. The trees are spanning trees of the board's nets, and
 /// the homes are for each of its probes the least piece under it. The verdict has no supplement. A refusal drops what was
@@ -39,15 +40,10 @@ pub fn judge(
     let nets = trees.as_slice();
     let rows = homes.as_slice();
     let names = copied(alloc, board.names())?;
-    let texts = names.as_slice();
-    let numbers = numbers_of(alloc, nets, pieces)?;
-    let points = lines_of(alloc, board.probes(), rows, numbers.as_slice())?;
+    let points = lines_on(alloc, board, nets, rows)?;
     let lines = points.as_slice();
     let bare = bare_of(alloc, lines)?;
-    let seats = seats_of(alloc, texts.len(), lines)?;
-    let opens = opens_of(alloc, texts, seats.as_slice())?;
-    let marks = marks_of(alloc, nets.len(), seats.as_slice())?;
-    let shorts = shorts_of(alloc, nets, marks.as_slice(), pieces, rows)?;
+    let (opens, shorts) = findings(alloc, board, names.as_slice(), nets, rows, lines)?;
     Ok(Verdict {
         pieces: pieces as u32,
         names,
@@ -58,6 +54,51 @@ pub fn judge(
         bare,
         more: None,
     })
+}
+
+// The lines of the board's probes, with the net of each home.
+fn lines_on(
+    alloc: Global,
+    board: &Board,
+    nets: &[Tree],
+    homes: &[Option<u32>],
+) -> Result<Rows<PointLine>, NoMemory>
+    requires trees { IsForest (length (plain_board board.now).pieces) (IsNear (plain_board board.now)) nets.now }
+    requires homes { AreLeast (length (plain_board board.now).probes) (UnderAt (plain_board board.now)) homes.now }
+    ensures { IfOk result (AreLinesOn (plain_board board.now) nets.now homes.now) }
+{
+    let pieces = board.pieces();
+    let numbers = numbers_of(alloc, nets, pieces.len())?;
+    let lines = lines_of(alloc, board.probes(), homes, numbers.as_slice())?;
+    Ok(lines)
+}
+
+// The opens and the shorts.
+fn findings(
+    alloc: Global,
+    board: &Board,
+    names: &[Text],
+    nets: &[Tree],
+    homes: &[Option<u32>],
+    lines: &[PointLine],
+) -> Result<(Rows<Open>, Rows<Short>), NoMemory>
+    requires few { length names.now < 2 ^ 32 }
+    requires names { names.now ≡ (plain_board board.now).names }
+    requires trees { IsForest (length (plain_board board.now).pieces) (IsNear (plain_board board.now)) nets.now }
+    requires homes { AreLeast (length (plain_board board.now).probes) (UnderAt (plain_board board.now)) homes.now }
+    requires lines { AreLinesOn (plain_board board.now) nets.now homes.now lines.now }
+    ensures opens { IfOk result (λ r. r.0 ≡ all_opens 0 names.now lines.now) }
+    ensures outlines { IfOk result (λ r. map outline r.1 ≡ all_shorts 0 nets.now names.now lines.now) }
+    ensures branches { IfOk result (λ r. All (HasBranches nets.now (BeginsAtHome homes.now) lines.now) r.1) }
+{
+    let pieces = board.pieces();
+    let seats = seats_of(alloc, names.len(), lines)?;
+    let groups = seats.as_slice();
+    let opens = opens_of(alloc, names, groups)?;
+    let marks = marks_of(alloc, nets.len(), groups)?;
+    let table = marks.as_slice();
+    let shorts = shorts_of(alloc, nets, table, pieces.len(), homes)?;
+    Ok((opens, shorts))
 }
 
 // The same texts.

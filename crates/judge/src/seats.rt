@@ -36,13 +36,28 @@ fn seat_points(
     ensures { OnOk result (AreFirstSeats groups.new lines.now) }
 {
     let mut pairs = IndexSet::new(alloc);
+    seat_all(lines, &mut pairs, groups)
+}
+
+// The same with the pairs of a name and a net that were met. The caller drops them: that costs a proof much in a loop.
+fn seat_all(
+    lines: &[PointLine],
+    pairs: &mut IndexSet<(u32, u32)>,
+    groups: &mut [Rows<Seat>],
+) -> Result<(), NoMemory>
+    requires few { length lines.now < 2 ^ 32 }
+    requires names { All (λ line. line.name < length groups.old) lines.now }
+    requires empty { All (λ seats. seats ≡ []) groups.old }
+    requires agree { AreSeated pairs.old.keys groups.old }
+    ensures { OnOk result (AreFirstSeats groups.new lines.now) }
+{
     for i in 0..lines.len() {
         if let Some(net) = lines[i].net {
             let seat = Seat {
                 net,
                 probe: i as u32,
             };
-            seat_point(lines[i].name, seat, &mut pairs, groups)?;
+            seat_point(lines[i].name, seat, pairs, groups)?;
         }
     }
     Ok(())
