@@ -18,6 +18,7 @@ use Rattle.aperture_macros.specs.Images.{area_at, is_closed, is_done, judged_by,
 use Rattle.aperture_macros.specs.Outlines.{closing_at, last_from, moved_from}
 use Rattle.aperture_macros.specs.Seen.{IsRefusal, Makes}
 use Rattle.aperture_macros.specs.declared.primitive.Form.TheVariants.{Outline}
+use Rattle.aperture_macros.specs.declared.primitive.Lines.{Lines}
 use Rattle.aperture_macros.specs.declared.primitive.Rotation.{Rotation}
 use Rattle.aperture_macros.specs.declared.fault.FigureFault.{FigureFault}
 use Rattle.aperture_macros.specs.declared.fault.FigureFault.TheVariants.{Macro, NoMemory}
@@ -148,9 +149,9 @@ judged_refused n text given unit fault h = by (outline_at n text given unit) (sy
     by (Err g) e = (let k : g ≡ fault = cc in ap Err k)
 
 -- what the judgement of an outline is
-pub judged_is : (n : ℕ) (text : List ℕ) (given : List Fraction) (unit : Measure) → closing_at n text given unit ≡ judged_by (Outline n) text given unit
+pub judged_is : (lines : Lines) (n : ℕ) (text : List ℕ) (given : List Fraction) (unit : Measure) → closing_at n text given unit ≡ judged_by lines (Outline n) text given unit
 unfolding judged_by
-judged_is n text given unit = closing_is n text given unit
+judged_is lines n text given unit = closing_is n text given unit
 
 -- why there are no moved points is why there is no figure
 pub points_refused : (rotation : Rotation) (at : Spot) (n : ℕ) (text : List ℕ) (given : List Fraction) (unit : Measure) (fault : FigureFault) → IsRefusal (moved_from (set_down rotation at) [] (n + 1) text given unit) fault → Makes (Err fault) (outlined rotation at (outline_at n text given unit))

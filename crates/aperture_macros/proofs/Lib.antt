@@ -1,4 +1,5 @@
 pub mod Numbers
 pub mod Steps
+pub mod Strokes
 pub mod Closings
 pub mod Turns

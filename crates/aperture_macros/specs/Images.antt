@@ -1,9 +1,10 @@
 -- The figures of primitives: about the origin of the macro, and where they are flashed.
-use Rattle.std.specs.Prelude.{◌≡◌, ◌≢◌, ℕ, zero, suc, ◌+◌, Bool, true, ◌&&◌, ◌||◌, ◌==◌, if◌then◌else◌, List, [], ◌∷◌, ◌++◌, map, ◌+ℤ◌, neg_ℤ, int_lt, Option, Some, None, Result, Ok, Err}
+use Rattle.std.specs.Prelude.{◌≡◌, ◌≢◌, ℕ, zero, suc, ◌+◌, Bool, true, ◌&&◌, ◌||◌, ◌==◌, nat_lt, if◌then◌else◌, List, [], ◌∷◌, ◌++◌, map, ◌+ℤ◌, neg_ℤ, int_lt, Option, Some, None, Result, Ok, Err}
 use Rattle.std.specs.List.{list_all}
 use Rattle.std.specs.Ordering.{int_eq}
 use Rattle.planar.specs.Plane.{is_placed}
 use Rattle.planar.specs.declared.Spot.{Spot}
+use Rattle.contact.specs.declared.TheConstants.{MOST_DIAMETER}
 use Rattle.area_contact.specs.Contour.{end_from}
 use Rattle.board_shapes.specs.Figures.{Figure, filled, round}
 use Rattle.board_shapes.specs.Rectangles.{halved, lower, rectangle, upper}
@@ -11,10 +12,12 @@ use Rattle.lengths.specs.Decimal.{Fraction}
 use Rattle.lengths.specs.declared.decimal.Unit.{Unit as Measure}
 use Rattle.aperture_macros.specs.declared.primitive.Form.{Form}
 use Rattle.aperture_macros.specs.declared.primitive.Form.TheVariants.{Circle, Outline, VectorLine, CentreLine}
+use Rattle.aperture_macros.specs.declared.primitive.Lines.{Lines}
+use Rattle.aperture_macros.specs.declared.primitive.Lines.TheVariants.{AlongAxes, Any}
 use Rattle.aperture_macros.specs.declared.primitive.Rotation.{Rotation}
 use Rattle.aperture_macros.specs.declared.primitive.Rotation.TheVariants.{Unturned, Quarter, Half, ThreeQuarters}
 use Rattle.aperture_macros.specs.declared.images.Sketch.{Sketch}
-use Rattle.aperture_macros.specs.declared.images.Sketch.TheVariants.{Disc, Rectangle}
+use Rattle.aperture_macros.specs.declared.images.Sketch.TheVariants.{Disc, Rectangle, Stroke}
 use Rattle.aperture_macros.specs.declared.fault.MacroFault.{MacroFault}
 use Rattle.aperture_macros.specs.declared.fault.MacroFault.TheVariants.{BadMacro, OutOfRange, Slanted}
 use Rattle.aperture_macros.specs.BodyWord.{◌>>=◌, PlainPrimitive, part, past}
@@ -44,11 +47,24 @@ strip w p q across up =
     if w == 0 || same_spot p q then None
     else (if is_first p q then Some (between p q across up) else Some (between q p across up))
 
--- `w,x,y,x,y`: a vector line has flat ends (code 20); it runs along an axis. None with width or length 0.
-unfoldable pub line_at : List ℕ → List Fraction → Measure → Result (Option Sketch) MacroFault
-line_at text parameters unit =
+-- A line along no axis is refused, or told by the stroke of its width between its ends, which its copper lies in; none with width 0.
+abbrev pub slanted : Lines → ℕ → Spot → Spot → Result (Option Sketch) MacroFault
+slanted AlongAxes w p q = Err Slanted
+slanted Any w p q = if nat_lt MOST_DIAMETER w then Err OutOfRange else Ok (if w == 0 then None else Some (Stroke p q w))
+
+-- a line that is not upright
+abbrev pub level_or_slanted : Lines → ℕ → Spot → Spot → Result (Option Sketch) MacroFault
+level_or_slanted lines w p q = if int_eq p.y q.y then Ok (strip w p q 0 w) else slanted lines w p q
+
+-- A line from one point to the other: along an axis it is a rectangle, and none with width or length 0.
+unfoldable pub line_between : Lines → ℕ → Spot → Spot → Result (Option Sketch) MacroFault
+line_between lines w p q = if int_eq p.x q.x then Ok (strip w p q w 0) else level_or_slanted lines w p q
+
+-- `w,x,y,x,y`: a vector line has flat ends (code 20)
+unfoldable pub line_at : Lines → List ℕ → List Fraction → Measure → Result (Option Sketch) MacroFault
+line_at lines text parameters unit =
     size_at (part 0 text) parameters unit >>= λ w. point_at (past 1 text) parameters unit >>= λ p. point_at (past 3 text) parameters unit >>= λ q.
-    if int_eq p.x q.x then Ok (strip w p q w 0) else (if int_eq p.y q.y then Ok (strip w p q 0 w) else Err Slanted)
+    line_between lines w p q
 
 -- so far to each side of a point, by halves
 abbrev pub centred : ℕ → ℕ → Spot → Option Sketch
@@ -81,16 +97,16 @@ abbrev pub is_done : {A : Type 0} → Result A MacroFault → Result (Unit {0}) 
 is_done (Ok x) = Ok tt
 is_done (Err fault) = Err fault
 
--- by the form of the primitive and the text of its lengths
-unfoldable pub judged_by : Form → List ℕ → List Fraction → Measure → Result (Unit {0}) MacroFault
-judged_by Circle text parameters unit = is_done (circle_at text parameters unit)
-judged_by (Outline n) text parameters unit = is_done (outline_at n text parameters unit)
-judged_by VectorLine text parameters unit = is_done (line_at text parameters unit)
-judged_by CentreLine text parameters unit = is_done (centre_at text parameters unit)
+-- by the form of the primitive and the text of its lengths, where these vector lines are taken
+unfoldable pub judged_by : Lines → Form → List ℕ → List Fraction → Measure → Result (Unit {0}) MacroFault
+judged_by lines Circle text parameters unit = is_done (circle_at text parameters unit)
+judged_by lines (Outline n) text parameters unit = is_done (outline_at n text parameters unit)
+judged_by lines VectorLine text parameters unit = is_done (line_at lines text parameters unit)
+judged_by lines CentreLine text parameters unit = is_done (centre_at text parameters unit)
 
 -- the primitive's first fault with these parameters, if it has one
-abbrev pub judged : PlainPrimitive → List Fraction → Measure → Result (Unit {0}) MacroFault
-judged p parameters unit = judged_by p.form p.lengths parameters unit
+abbrev pub judged : Lines → PlainPrimitive → List Fraction → Measure → Result (Unit {0}) MacroFault
+judged lines p parameters unit = judged_by lines p.form p.lengths parameters unit
 
 -- the spot turned counterclockwise about the origin
 abbrev pub turned : Rotation → Spot → Spot
@@ -107,6 +123,9 @@ set_down rotation at p = record { x = at.x +ℤ (turned rotation p).x; y = at.y 
 abbrev pub disc_at : Spot → ℕ → Result (Option Figure) MacroFault
 disc_at p d = if is_placed p then Ok (Some (round (record { a = p; b = p; r = halved d }))) else Err OutOfRange
 
+abbrev pub stroke_at : Spot → Spot → ℕ → Result (Option Figure) MacroFault
+stroke_at p q w = if is_placed p && is_placed q then Ok (Some (round (record { a = p; b = q; r = halved w }))) else Err OutOfRange
+
 abbrev pub area_at : List Spot → Result (Option Figure) MacroFault
 area_at points = if list_all is_placed points then Ok (Some (filled points)) else Err OutOfRange
 
@@ -114,6 +133,7 @@ area_at points = if list_all is_placed points then Ok (Some (filled points)) els
 unfoldable pub sketch_at : Rotation → Spot → Option Sketch → Result (Option Figure) MacroFault
 sketch_at rotation at None = Ok None
 sketch_at rotation at (Some (Disc p d)) = disc_at (set_down rotation at p) d
+sketch_at rotation at (Some (Stroke p q w)) = stroke_at (set_down rotation at p) (set_down rotation at q) w
 sketch_at rotation at (Some (Rectangle low high)) = area_at (map (set_down rotation at) (rectangle low high))
 
 -- what is left of a figure, or of the points of an outline, where it is set down
@@ -123,11 +143,11 @@ sketched rotation at sketch = sketch >>= sketch_at rotation at
 abbrev pub outlined : Rotation → Spot → Result (List Spot) MacroFault → Result (Option Figure) MacroFault
 outlined rotation at points = points >>= λ ps. area_at (map (set_down rotation at) ps)
 
--- by the form of the primitive, how it is turned, and the text of its lengths
+-- by the form of the primitive, how it is turned, and the text of its lengths; whether its lines are taken `judged` has said
 unfoldable pub figure_by : Form → Rotation → List ℕ → List Fraction → Measure → Spot → Result (Option Figure) MacroFault
 figure_by Circle rotation text parameters unit at = sketched rotation at (circle_at text parameters unit)
 figure_by (Outline n) rotation text parameters unit at = outlined rotation at (outline_at n text parameters unit)
-figure_by VectorLine rotation text parameters unit at = sketched rotation at (line_at text parameters unit)
+figure_by VectorLine rotation text parameters unit at = sketched rotation at (line_at Any text parameters unit)
 figure_by CentreLine rotation text parameters unit at = sketched rotation at (centre_at text parameters unit)
 
 -- what a primitive flashes at a spot

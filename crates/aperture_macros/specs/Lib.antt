@@ -6,3 +6,4 @@ pub mod Images
 pub mod Seen
 pub mod Outlines
 pub mod Sketches
+pub mod Laws

@@ -16,11 +16,11 @@ pub enum MacroFault {
     /// A term is no whole number of u, or a width, a height or a diameter no even one.
     #[error("a length off the grid")]
     OffGrid = 4,
-    /// A term, a length or a corner is over 1 m from 0, a size is negative, or a diameter is over
+    /// A term, a length or a corner is over 1 m from 0, a size is negative, or a diameter or the width of a slanted line is over
     /// 50 mm.
     #[error("a length out of range")]
     OutOfRange = 5,
-    /// A vector line is not along an axis.
+    /// A vector line is along no axis, where those alone are taken that are.
     #[error("a slanted line")]
     Slanted = 6,
 }

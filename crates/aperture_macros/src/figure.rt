@@ -12,7 +12,7 @@ use crate::fault::{FigureFault, MacroFault};
 use crate::images::{Sketch, centre_line, circle, line};
 use crate::outline::{Outline, bounded};
 use crate::placing::Placing;
-use crate::primitive::{Form, Primitive};
+use crate::primitive::{Form, Lines, Primitive};
 use board_shapes::{Shape, rectangle};
 use contact::Capsule;
 use lengths::decimal::{Decimal, Unit};
@@ -25,18 +25,24 @@ impl<'a> Primitive<'a> {
     ///
     /// First come the lengths in the order written, each term in turn with its `OffGrid` and its
     /// `OutOfRange`, and then the length itself. Then comes `BadMacro`, where an outline's last point
-    /// is not its first, or `Slanted`, where a vector line is not along an axis.
-    pub fn judge(&self, parameters: &[Decimal], unit: Unit) -> Result<(), MacroFault>
-        ensures { result ≡ spec.judged (plain self.now) parameters.now unit }
+    /// is not its first, or of a vector line along no axis `Slanted`, where those `AlongAxes` are taken
+    /// alone, and else `OutOfRange`, where it is wider than `MOST_DIAMETER`.
+    pub fn judge(&self, lines: Lines, parameters: &[Decimal], unit: Unit) -> Result<(), MacroFault>
+        ensures { result ≡ spec.judged lines (plain self.now) parameters.now unit }
     {
-        self.has_image(parameters, unit)?;
+        self.has_image(lines, parameters, unit)?;
         Ok(())
     }
 
     /// Whether the primitive has an image with these parameters, where `judge` finds no fault.
     #[tactic(auto, unfolding(crate::specs::Images::judged_by, crate::specs::Images::figure_by, crate::specs::Images::sketch_at))]
-    pub fn has_image(&self, parameters: &[Decimal], unit: Unit) -> Result<bool, MacroFault>
-        ensures lawful { spec.is_done result ≡ spec.judged (plain self.now) parameters.now unit }
+    pub fn has_image(
+        &self,
+        lines: Lines,
+        parameters: &[Decimal],
+        unit: Unit,
+    ) -> Result<bool, MacroFault>
+        ensures lawful { spec.is_done result ≡ spec.judged lines (plain self.now) parameters.now unit }
         ensures blank { IfOk result (λ has. has ≡ false → spec.IsBlank (plain self.now) parameters.now unit) }
         ensures image { IfOk result (λ has. has ≡ true → spec.HasImage (plain self.now) parameters.now unit) }
     {
@@ -54,7 +60,7 @@ impl<'a> Primitive<'a> {
                     Err(fault) => Err(fault),
                 }
             },
-            Form::VectorLine => Ok(line(self.lengths, parameters, unit)?.is_some()),
+            Form::VectorLine => Ok(line(lines, self.lengths, parameters, unit)?.is_some()),
             Form::CentreLine => Ok(centre_line(self.lengths, parameters, unit)?.is_some()),
         }
     }
@@ -62,10 +68,11 @@ impl<'a> Primitive<'a> {
     /// What the primitive flashes at a spot within 1 m of 0, with the parameters of an aperture
     /// definition in their unit (Gerber Layer Format Specification, 4.5.1): its figure about the
     /// origin of the macro, turned counterclockwise about it and moved to the spot. `None` stands
-    /// exactly where a diameter, a width, a height or the length of a vector line is 0.
+    /// exactly where a diameter, a width, a height or the length of a vector line is 0. For a vector line
+    /// along no axis stands its stroke: the places at most half its width from the segment between its ends.
     ///
-    /// The fault of `judge` comes first, then `OutOfRange`, where the centre of a circle or a corner
-    /// is over 1 m from 0 in x or y. `NoMemory` comes for outlines and lines alone:
+    /// The fault of `judge` of `Any` lines comes first, then `OutOfRange`, where the centre of a circle, a corner or an
+    /// end is over 1 m from 0 in x or y. `NoMemory` comes for outlines and lines alone:
     /// a circle takes no memory.
     #[tactic(auto, unfolding(crate::specs::Images::figure_by))]
     pub fn figure(
@@ -92,7 +99,11 @@ impl<'a> Primitive<'a> {
                 unit,
             }
             .figure(alloc, by),
-            Form::VectorLine => set_down(alloc, by, line(self.lengths, parameters, unit)),
+            Form::VectorLine => set_down(
+                alloc,
+                by,
+                line(Lines::Any, self.lengths, parameters, unit),
+            ),
             Form::CentreLine => set_down(alloc, by, centre_line(self.lengths, parameters, unit)),
         }
     }
@@ -114,6 +125,7 @@ fn set_down(
         Ok(None) => Ok(None),
         Ok(Some(Sketch::Disc(p, d))) => disc(by.moved(p), d),
         Ok(Some(Sketch::Rectangle(low, high))) => area(alloc, by, low, high),
+        Ok(Some(Sketch::Stroke(p, q, w))) => stroke(by.moved(p), by.moved(q), w),
     }
 }
 
@@ -125,6 +137,16 @@ fn disc(p: Spot, d: u64) -> Result<Option<Shape>, FigureFault>
         return Err(FigureFault::Macro(MacroFault::OutOfRange));
     }
     Ok(Some(Shape::Round(Capsule::new(p, p, (d / 2) as i64))))
+}
+
+fn stroke(p: Spot, q: Spot, w: u64) -> Result<Option<Shape>, FigureFault>
+    requires narrow { w ≤ MOST_DIAMETER }
+    ensures { IsMade result (spec.stroke_at p q w) }
+{
+    if !(is_placed(p) && is_placed(q)) {
+        return Err(FigureFault::Macro(MacroFault::OutOfRange));
+    }
+    Ok(Some(Shape::Round(Capsule::new(p, q, (w / 2) as i64))))
 }
 
 // The area of a rectangle.

@@ -1,5 +1,5 @@
 //! Figures about the origin of the macro, before they are turned.
-ghost use Rattle.std.specs.Prelude.{◌≡◌, ◌≤◌, IfOk, Some, true};
+ghost use Rattle.std.specs.Prelude.{◌≡◌, ◌==◌, ◌≤◌, if◌then◌else◌, IfOk, None, Ok, Some, true};
 ghost use Rattle.planar.specs.Plane.{IsPlaced};
 ghost use Rattle.planar.specs.declared.TheConstants.{METRE};
 ghost use Rattle.aperture_macros.specs.Images as spec;
@@ -7,17 +7,20 @@ ghost use Rattle.aperture_macros.specs.Sketches.{IsNear, is_disc};
 
 use crate::body_word::{part, past};
 use crate::fault::MacroFault;
+use crate::primitive::Lines;
 use crate::values::{diameter, point, size};
 use board_shapes::corners_around;
+use contact::MOST_DIAMETER;
 use lengths::decimal::{Decimal, Unit};
 use planar::Spot;
 
-/// A figure about the origin: a disc by its centre and its diameter, or a rectangle by its lower left
-/// and its upper right corner.
+/// A figure about the origin: a disc by its centre and its diameter, a rectangle by its lower left
+/// and its upper right corner, or the stroke of a slanted line by its ends and its width, at most `MOST_DIAMETER`.
 #[derive(Clone, Copy, Debug, PartialEq, Eq)]
 pub enum Sketch {
     Disc(Spot, u64),
     Rectangle(Spot, Spot),
+    Stroke(Spot, Spot, u64),
 }
 
 /// The disc of `d,x,y`.
@@ -36,21 +39,85 @@ pub fn circle(text: &[u8], parameters: &[Decimal], unit: Unit) -> Result<Option<
     })
 }
 
-/// The rectangle of `w,x,y,x,y`.
+/// The rectangle of `w,x,y,x,y`, or the stroke of a slanted line. What is taken is the same whichever lines are.
 #[tactic(auto, unfolding(crate::specs::Images::line_at))]
-pub fn line(text: &[u8], parameters: &[Decimal], unit: Unit) -> Result<Option<Sketch>, MacroFault>
-    ensures value { result ≡ spec.line_at text.now parameters.now unit }
+pub fn line(
+    lines: Lines,
+    text: &[u8],
+    parameters: &[Decimal],
+    unit: Unit,
+) -> Result<Option<Sketch>, MacroFault>
+    ensures value { result ≡ spec.line_at lines text.now parameters.now unit }
+    ensures any { IfOk result (λ sketch. spec.line_at Lines.Any text.now parameters.now unit ≡ Ok sketch) }
     ensures near { IfOk result IsNear }
 {
     let w = size(part(0, text), parameters, unit)?;
     let p = point(past(1, text), parameters, unit)?;
     let q = point(past(3, text), parameters, unit)?;
+    line_between(lines, w, p, q)
+}
+
+// The same between two points.
+#[tactic(auto, unfolding(crate::specs::Images::line_between))]
+fn line_between(lines: Lines, w: u64, p: Spot, q: Spot) -> Result<Option<Sketch>, MacroFault>
+    requires width { w ≤ METRE }
+    requires start { IsPlaced p }
+    requires end { IsPlaced q }
+    ensures value { result ≡ spec.line_between lines w p q }
+    ensures any { IfOk result (λ sketch. spec.line_between Lines.Any w p q ≡ Ok sketch) }
+    ensures near { IfOk result IsNear }
+{
     if p.x == q.x {
         Ok(strip(w, p, q, w, 0))
-    } else if p.y == q.y {
+    } else {
+        level_or_slanted(lines, w, p, q)
+    }
+}
+
+fn level_or_slanted(lines: Lines, w: u64, p: Spot, q: Spot) -> Result<Option<Sketch>, MacroFault>
+    requires width { w ≤ METRE }
+    requires start { IsPlaced p }
+    requires end { IsPlaced q }
+    ensures value { result ≡ spec.level_or_slanted lines w p q }
+    ensures any { IfOk result (λ sketch. spec.level_or_slanted Lines.Any w p q ≡ Ok sketch) }
+    ensures near { IfOk result IsNear }
+{
+    if p.y == q.y {
         Ok(strip(w, p, q, 0, w))
     } else {
-        Err(MacroFault::Slanted)
+        slanted(lines, w, p, q)
+    }
+}
+
+// What a line along no axis is.
+fn slanted(lines: Lines, w: u64, p: Spot, q: Spot) -> Result<Option<Sketch>, MacroFault>
+    requires start { IsPlaced p }
+    requires end { IsPlaced q }
+    ensures value { result ≡ spec.slanted lines w p q }
+    ensures any { IfOk result (λ sketch. spec.slanted Lines.Any w p q ≡ Ok sketch) }
+    ensures near { IfOk result IsNear }
+{
+    match lines {
+        Lines::AlongAxes => Err(MacroFault::Slanted),
+        Lines::Any => if w > MOST_DIAMETER {
+            Err(MacroFault::OutOfRange)
+        } else {
+            Ok(stroke(w, p, q))
+        },
+    }
+}
+
+fn stroke(w: u64, p: Spot, q: Spot) -> Option<Sketch>
+    requires width { w ≤ MOST_DIAMETER }
+    requires start { IsPlaced p }
+    requires end { IsPlaced q }
+    ensures value { result ≡ (if w == 0 then None else Some (Sketch.Stroke p q w)) }
+    ensures near { IsNear result }
+{
+    if w == 0 {
+        None
+    } else {
+        Some(Sketch::Stroke(p, q, w))
     }
 }
 

@@ -14,6 +14,7 @@
 //! - `placing`: where a figure is set down.
 //! - `outline`: the areas of outlines.
 //! - `figure`: figures where they are flashed.
+//! - `laws`: what strokes they flash.
 #![tactic(auto)]
 
 mod body_word;
@@ -21,6 +22,7 @@ mod expression;
 mod fault;
 mod figure;
 mod images;
+pub mod laws;
 mod outline;
 mod placing;
 mod primitive;
@@ -28,4 +30,4 @@ mod values;
 
 pub use body_word::read_body;
 pub use fault::{FigureFault, MacroFault};
-pub use primitive::{Form, Primitive, Rotation};
+pub use primitive::{Form, Lines, Primitive, Rotation};

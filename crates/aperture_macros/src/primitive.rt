@@ -12,6 +12,13 @@ pub enum Form {
     CentreLine,
 }
 
+/// Which vector lines are taken: those along an axis alone, or also slanted ones, each told by its stroke.
+#[derive(Clone, Copy, Debug, PartialEq, Eq)]
+pub enum Lines {
+    AlongAxes,
+    Any,
+}
+
 /// What stands in a primitive's word: so many parts before its lengths, then sizes, then points, then the
 /// rotation, which some may lack.
 #[derive(Clone, Copy)]

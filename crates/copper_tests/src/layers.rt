@@ -1,4 +1,5 @@
 // Files, and what they are read as.
+mod loose;
 mod macros;
 mod refusals;
 mod straight;

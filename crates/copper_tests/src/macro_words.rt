@@ -1,5 +1,5 @@
 // Body words as they are read, and what primitives flash.
-use aperture_macros::{FigureFault, Primitive, read_body};
+use aperture_macros::{FigureFault, Lines, Primitive, read_body};
 use board_shapes::Shape;
 use lengths::decimal::{Decimal, Unit, read_decimal};
 use planar::{Spot, is_placed};
@@ -359,13 +359,6 @@ fn parameters(alloc: Global, text: &str) -> Result<Vec<Decimal>, AllocError> {
     Ok(found)
 }
 
-fn says_image(primitive: &Primitive, given: &[Decimal]) -> bool {
-    match primitive.has_image(given, Unit::Mm) {
-        Ok(image) => image,
-        Err(_) => false,
-    }
-}
-
 fn flashed(alloc: Global, word: &str, text: &str, at: Spot) -> Result<String, AllocError> {
     let given = parameters(alloc, text)?;
     let primitive = match read_body(word.as_bytes()) {
@@ -376,7 +369,10 @@ fn flashed(alloc: Global, word: &str, text: &str, at: Spot) -> Result<String, Al
     if !is_placed(at) {
         return String::from_str(alloc, "no spot");
     }
-    let image = says_image(&primitive, &given);
+    let image = match primitive.has_image(Lines::AlongAxes, &given, Unit::Mm) {
+        Err(fault) => return format!(in alloc; "{fault:?}"),
+        Ok(image) => image,
+    };
     match primitive.figure(alloc, &given, Unit::Mm, at) {
         Err(FigureFault::NoMemory) => String::from_str(alloc, "NoMemory"),
         Err(FigureFault::Macro(fault)) => format!(in alloc; "{fault:?}"),

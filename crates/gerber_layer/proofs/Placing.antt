@@ -1,5 +1,5 @@
 -- The pieces of a file stand on its layer.
-use Rattle.std.proofs.Common.{◌≡◌, ℕ, ◌+◌, ◌*◌, ℤ, pos, ◌*ℤ◌, ◌≤◌, Bool, true, false, cond, List, [], ◌∷◌, ◌++◌, length, map, take, drop, All, Option, Some, None, Result, Ok, Err, IfOk, refl, sym, subst}
+use Rattle.std.proofs.Common.{◌≡◌, ℕ, ◌+◌, ◌*◌, ℤ, pos, ◌*ℤ◌, ◌≤◌, Bool, true, false, cond, List, [], ◌∷◌, ◌++◌, length, map, take, drop, All, Option, Some, None, Result, Ok, Err, IfOk, refl, sym, ap, ◌∙◌, subst}
 use Rattle.std.specs.List.{flat_map, range_with_len}
 use Rattle.std.proofs.lemmas.List.{length-map, get_or-map}
 use Rattle.std.proofs.lemmas.List.Elements.{All-append, All-cons, All-nil, All-take, All-drop, All-map, All-weaker}
@@ -17,12 +17,19 @@ use Rattle.gerber_layer.specs.declared.kind.GerberKind.{GerberKind}
 use Rattle.gerber_layer.specs.declared.kind.GerberKind.TheVariants as kind
 use Rattle.gerber_layer.specs.declared.command.Code.{Code}
 use Rattle.gerber_layer.specs.declared.command.Code.TheVariants.{Draw, Move, Flash}
-use Rattle.gerber_layer.specs.CommandEffects.{Place, Known, Effect, stays, begins_macro, performs, extends, closes, opens, leaves, steps, concludes, ◌>>=◌, as_copies, with_copies, left, listed, ended_block, next_block, repeat, row, effect, code_of}
-use Rattle.gerber_layer.specs.Image.{image_by, image_of, pieces_of, known_before, made, piece_of, pieces_after, with_effect}
+use Rattle.aperture_macros.specs.BodyWord.{PlainPrimitive, primitive_at}
+use Rattle.aperture_macros.specs.declared.fault.MacroFault.{MacroFault}
+use Rattle.aperture_macros.specs.declared.primitive.Lines.TheVariants.{Any}
+use Rattle.gerber_layer.specs.declared.macro_kind.FlattenKind.TheVariants.{Gerber}
+use Rattle.gerber_layer.specs.MacroTable.{effect_loosely, gerber, macro_row}
+use Rattle.gerber_layer.specs.MacroLayer.{loose}
+use Rattle.gerber_layer.proofs.MacroOutcome.{gerber_ok, outcome_loosely}
+use Rattle.gerber_layer.specs.CommandEffects.{Place, Known, Effect, Profile, stays, begins_macro, fills_macro, is_finish, performs, extends, closes, opens, leaves, steps, concludes, ◌>>=◌, as_copies, with_copies, left, listed, ended_block, next_block, repeat, row, effect, code_of}
+use Rattle.gerber_layer.specs.Image.{image_by, known_by, pieces_by, made, piece_of, pieces_after, with_effect}
 use Rattle.gerber_words.specs.Words.{Entry}
-use Rattle.gerber_layer.specs.Dialect.{IsReadBy}
+use Rattle.gerber_layer.specs.Dialect.{Dialect, IsReadBy}
 use Rattle.gerber_layer.specs.Layer.{in_words}
-use Rattle.gerber_layer.proofs.Outcome.{bind_ok, not_body, past_test, outcome, IsEffect}
+use Rattle.gerber_layer.proofs.Outcome.{bind_ok, not_body, past_test, outcome, IsEffect, IsFilled}
 
 -- the piece is on the layer
 abbrev OnLayer : Place → PlainPiece → Type 0
@@ -129,24 +136,57 @@ effect_on p k n (names_macro name) e on h = simple_on p n k.pieces e (simple_by 
 effect_on p k n (body_word text) e on h = absurd (not_body k text e h)
 effect_on p k n other e on h = simple_on p n k.pieces e (simple_by e stays (outcome k other e h) tt) on
 
+-- a row that is the same without macros
+same_row : (k : Known) (c : Command) (e : Effect) → macro_row Any k c ≡ gerber (row k c) → effect_loosely k c ≡ Ok e → effect k c ≡ Ok e
+unfolding effect_loosely effect
+same_row k c e same h = by k.settings.ended (is_finish c) h
+  where
+    by : (b f : Bool) → cond b (cond f (Ok stays) (Err (Gerber kind.AfterEnd))) (macro_row Any k c) ≡ Ok e → cond b (cond f (Ok stays) (Err kind.AfterEnd)) (row k c) ≡ Ok e
+    by true true h = let is : stays ≡ e = cc in ap (λ (x : Effect). Ok x) is
+    by true false h = cc
+    by false f h = gerber_ok (row k c) e (sym same ∙ h)
+
+filled_on : (p : Place) (k : Known) (n : ℕ) (r : Result (Option PlainPrimitive) MacroFault) (e : Effect) → IsFilled r e → All (OnLayer p) k.pieces → All (OnLayer p) (pieces_after p n k.pieces e)
+filled_on p k n (Ok None) e is on = simple_on p n k.pieces e (simple_by e stays is tt) on
+filled_on p k n (Ok (Some primitive)) e is on = simple_on p n k.pieces e (simple_by e (fills_macro primitive) is tt) on
+filled_on p k n (Err fault) e is on = absurd is
+
+loose_on : (p : Place) (k : Known) (n : ℕ) (c : Command) (e : Effect) → All (OnLayer p) k.pieces → effect_loosely k c ≡ Ok e → All (OnLayer p) (pieces_after p n k.pieces e)
+unfolding macro_row
+loose_on p k n (names_macro name) e on h = simple_on p n k.pieces e (simple_by e (begins_macro name) (outcome_loosely k (names_macro name) e h) tt) on
+loose_on p k n (body_word text) e on h = filled_on p k n (primitive_at text) e (outcome_loosely k (body_word text) e h) on
+loose_on p k n (defines text) e on h = let o = outcome_loosely k (defines text) e h in simple_on p n k.pieces e (simple_by e _ o.is tt) on
+loose_on p k n other e on h = effect_on p k n other e on (same_row k other e refl h)
+
 -- ---- A file
 
-pieces_on : (p : Place) (earlier : List Command) → All (OnLayer p) (pieces_of p earlier)
+-- a table keeps pieces on their layer
+abbrev KeepsLayer : {W : Type 0} → Profile W → Type 0
+KeepsLayer f = (p : Place) (k : Known) (n : ℕ) (c : Command) (e : Effect) → All (OnLayer p) k.pieces → f k c ≡ Ok e → All (OnLayer p) (pieces_after p n k.pieces e)
+
+pieces_on : {W : Type 0} (f : Profile W) → KeepsLayer f → (p : Place) (earlier : List Command) → All (OnLayer p) (pieces_by f p earlier)
 unfolding image_by
-pieces_on p [] = All-nil (OnLayer p)
-pieces_on p (c ∷ earlier) = by (pieces_on p earlier) (effect (known_before p earlier) c) refl
+pieces_on f keeps p [] = All-nil (OnLayer p)
+pieces_on {W = W} f keeps p (c ∷ earlier) = by (pieces_on f keeps p earlier) (f (known_by f p earlier) c) refl
   where
-    by : All (OnLayer p) (pieces_of p earlier) → (r : Result Effect GerberKind) → effect (known_before p earlier) c ≡ r → All (OnLayer p) (with_effect p (length earlier + 1) (image_of p earlier) r).pieces
-    by on (Ok e) is = effect_on p (known_before p earlier) (length earlier + 1) c e on is
+    by : All (OnLayer p) (pieces_by f p earlier) → (r : Result Effect W) → f (known_by f p earlier) c ≡ r → All (OnLayer p) (with_effect p (length earlier + 1) (image_by f p earlier) r).pieces
+    by on (Ok e) is = keeps p (known_by f p earlier) (length earlier + 1) c e on is
     by on (Err fault) is = on
 
 -- what holds of each of the plain pieces holds of the pieces
 each_piece : (p : Place) (pieces : List (Placed Shape)) → All (OnLayer p) (plain_pieces pieces) → All (λ q. (q.top ≡ p.layer) × (q.bottom ≡ p.layer)) pieces
 each_piece p pieces h = λ i d below. subst (OnLayer p) (get_or-map plain_piece pieces i d (plain_piece d) below) (h i (plain_piece d) (rw (length-map pieces plain_piece) below))
 
+-- by a dialect
+read_on : {W : Type 0} (d : Dialect W) → KeepsLayer d.table → (file : List ℕ) (p : Place) (pieces : List (Placed Shape)) → IsReadBy d file p (plain_pieces pieces) → All (λ q. (q.top ≡ p.layer) × (q.bottom ≡ p.layer)) pieces
+read_on d keeps file p pieces read = each_piece p pieces (subst (λ xs. All (OnLayer p) xs) (sym read.2.is) (pieces_on d.table keeps p (said read.2.earlier)))
+
 -- also whatever words are read as
 pub layer_read : (command : Entry → Command) (file : List ℕ) (p : Place) (pieces : List (Placed Shape)) → IsReadBy (in_words command) file p (plain_pieces pieces) → All (λ q. (q.top ≡ p.layer) × (q.bottom ≡ p.layer)) pieces
-layer_read command file p pieces read = each_piece p pieces (subst (λ xs. All (OnLayer p) xs) (sym read.2.is) (pieces_on p (said read.2.earlier)))
+layer_read command file p pieces read = read_on (in_words command) effect_on file p pieces read
+
+pub loose_read : (file : List ℕ) (p : Place) (pieces : List (Placed Shape)) → IsReadBy loose file p (plain_pieces pieces) → All (λ q. (q.top ≡ p.layer) × (q.bottom ≡ p.layer)) pieces
+loose_read file p pieces read = read_on loose loose_on file p pieces read
 
 -- the room of a place is the reader's
 pub same_room : {E V : Type 0} (items : V → List (Placed Shape)) (r : Result V E) (room other : Room) → other ≡ room → IfOk r (λ v. length (items v) ≤ other.pieces) → IfOk r (λ v. length (items v) ≤ room.pieces)

@@ -16,7 +16,7 @@ use Rattle.gerber_layer.specs.Image.{effect_by, image_by, known_by, pieces_by, w
 use Rattle.gerber_layer.specs.Dialect.{Dialect, IsReadBy, IsRefusedBy, stop_command}
 use Rattle.gerber_layer.specs.Layer.{IsRead, standard}
 use Rattle.gerber_layer.specs.MacroLayer.{IsReadWithMacros, flat_place, with_macros}
-use Rattle.gerber_layer.specs.MacroTable.{effect_with_macros, row_with_macros}
+use Rattle.gerber_layer.specs.MacroTable.{effect_with_macros, macro_row, row_with_macros}
 use Rattle.gerber_layer.specs.declared.kind.GerberKind.TheVariants as kind
 use Rattle.gerber_layer.specs.declared.macro_kind.FlattenKind.TheVariants.{Gerber}
 use Rattle.gerber_layer.proofs.Outcome.{not_ok}
@@ -282,11 +282,11 @@ unfolding effect_with_macros
 behind_macros k c h = rw h refl
 
 unended_macros : (k : Known) → k.settings.ended ≡ false → effect_with_macros k finishes ≡ Err (Gerber kind.NotEnded)
-unfolding effect_with_macros row_with_macros row
+unfolding effect_with_macros row_with_macros macro_row row
 unended_macros k h = rw h refl
 
 faulty_macros : (k : Known) (fault : WordFault) → k.settings.ended ≡ false → effect_with_macros k (breaks fault) ≡ Err (Gerber (kind_of_word fault))
-unfolding effect_with_macros row_with_macros row
+unfolding effect_with_macros row_with_macros macro_row row
 faulty_macros k fault h = rw h refl
 
 macro_stops : JudgesStops effect_with_macros (Gerber kind.NotEnded)

@@ -44,10 +44,11 @@ few_before_end k seen.Leaves e b h = let g = area_left k e h in few_is e (leaves
 all_is : (what : Result Effect GerberKind) (all : Result Effect FlattenKind) (e : Effect) → what ≡ Ok e → (gerber what >>= few_radii) ≡ all → few_radii e ≡ all
 all_is what all e is same = sym (ap (λ (r : Result Effect GerberKind). gerber r >>= few_radii) is) ∙ same
 
-pub obeys_with : (old new : Reader) (c : Command) (what : Result Effect GerberKind) (all : Result Effect FlattenKind) (o : Obeys old c what new) → (gerber what >>= few_radii) ≡ all → few_radii o.effect_is ≡ Ok o.effect_is → Obeys old c all new
-obeys_with old new c what all o same few = record {
+-- what is obeyed is the same by another table that has the effect
+obeys_as : (old new : Reader) (c : Command) (what : Result Effect GerberKind) (all : Result Effect FlattenKind) (o : Obeys old c what new) → all ≡ Ok o.effect_is → Obeys old c all new
+obeys_as old new c what all o is = record {
   effect_is = o.effect_is;
-  clean = sym (all_is what all o.effect_is o.clean same) ∙ few;
+  clean = is;
   settings = o.settings;
   dictionary = o.dictionary;
   contour = o.contour;
@@ -56,3 +57,9 @@ obeys_with old new c what all o same few = record {
   counts = o.counts;
   place = o.place;
 }
+
+pub obeys_with : (old new : Reader) (c : Command) (what : Result Effect GerberKind) (all : Result Effect FlattenKind) (o : Obeys old c what new) → (gerber what >>= few_radii) ≡ all → few_radii o.effect_is ≡ Ok o.effect_is → Obeys old c all new
+obeys_with old new c what all o same few = obeys_as old new c what all o (sym (all_is what all o.effect_is o.clean same) ∙ few)
+
+pub obeys_loosely : (old new : Reader) (c : Command) (what : Result Effect GerberKind) (all : Result Effect FlattenKind) → Obeys old c what new → gerber what ≡ all → Obeys old c all new
+obeys_loosely old new c what all o same = obeys_as old new c what all o (sym same ∙ ap (λ (r : Result Effect GerberKind). gerber r) o.clean)

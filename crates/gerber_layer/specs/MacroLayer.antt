@@ -7,13 +7,17 @@ use Rattle.gerber_layer.specs.Dialect.{Dialect, HasOneAnswerBy, IsReadBy, IsRefu
 use Rattle.gerber_layer.specs.declared.macro_kind.FlattenKind.{FlattenKind}
 use Rattle.gerber_layer.specs.declared.macro_kind.FlattenFault.{FlattenFault}
 use Rattle.gerber_layer.specs.declared.macro_kind.FlattenFault.TheVariants as fault
-use Rattle.gerber_layer.specs.MacroCommands.{command_with_macros}
-use Rattle.gerber_layer.specs.MacroTable.{effect_with_macros}
+use Rattle.gerber_layer.specs.MacroCommands.{command_with_macros, loose_command}
+use Rattle.gerber_layer.specs.MacroTable.{effect_loosely, effect_with_macros}
 use Rattle.gerber_layer.specs.CommandEffects.{Place}
 
 -- the dialect with macros
 abbrev pub with_macros : Dialect FlattenKind
 with_macros = record { command = command_with_macros; table = effect_with_macros }
+
+-- The dialect of real copper: each arc draw is straight, and there may be macros, whose vector lines may be slanted.
+abbrev pub loose : Dialect FlattenKind
+loose = record { command = loose_command; table = effect_loosely }
 
 -- the pieces stand on layer 1 of file 0, and there is room for MOST_PIECES pieces and MOST_FLAT_EDGES edges
 abbrev pub flat_place : Place
@@ -27,10 +31,14 @@ IsReadWithMacros file pieces = IsReadBy with_macros file flat_place pieces
 abbrev pub IsRefusedWithMacros : List ℕ → FlattenKind → ℕ → ℕ → Type 0
 IsRefusedWithMacros file kind number place = IsRefusedBy with_macros file flat_place kind number place
 
--- why there are no pieces: the file is refused, or memory is wanted
+-- why there are no pieces in a dialect: the file is refused, or memory is wanted
+abbrev pub IsMacroFaultBy : Dialect FlattenKind → List ℕ → Place → FlattenFault → Type 0
+IsMacroFaultBy d file p (fault.Refused kind number place) = IsRefusedBy d file p kind number place
+IsMacroFaultBy d file p fault.NoMemory = Unit {0}
+
+-- why there are none where it is flattened
 abbrev pub IsMacroFault : List ℕ → FlattenFault → Type 0
-IsMacroFault file (fault.Refused kind number place) = IsRefusedWithMacros file kind number place
-IsMacroFault file fault.NoMemory = Unit {0}
+IsMacroFault file why = IsMacroFaultBy with_macros file flat_place why
 
 -- Each file has one answer: the pieces, or the first fault.
 abbrev pub HasOneMacroAnswer : List ℕ → Type 0

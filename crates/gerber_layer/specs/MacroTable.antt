@@ -13,6 +13,8 @@ use Rattle.aperture_macros.specs.BodyWord.{PlainPrimitive, primitive_at}
 use Rattle.aperture_macros.specs.Images.{judged}
 use Rattle.aperture_macros.specs.declared.fault.MacroFault.{MacroFault}
 use Rattle.aperture_macros.specs.declared.fault.MacroFault.TheVariants as shape
+use Rattle.aperture_macros.specs.declared.primitive.Lines.{Lines}
+use Rattle.aperture_macros.specs.declared.primitive.Lines.TheVariants.{AlongAxes, Any}
 use Rattle.gerber_layer.specs.Command.{Command, defines, functions, names_macro, body_word}
 use Rattle.gerber_layer.specs.declared.TheConstants.{MOST_APERTURES}
 use Rattle.gerber_layer.specs.declared.kind.GerberKind.{GerberKind}
@@ -62,22 +64,22 @@ unfoldable pub fill_macro : Known → List ℕ → Result Effect FlattenKind
 fill_macro k text = fill_by (has_room k.macros.latest) (primitive_at text)
 
 -- the first fault of the primitives with these parameters, if one has a fault
-unfoldable pub all_judged : List PlainPrimitive → List Fraction → Measure → Result (Unit {0}) MacroFault
-all_judged [] parameters unit = Ok tt
-all_judged (p ∷ body) parameters unit = judged p parameters unit >>= λ done. all_judged body parameters unit
+unfoldable pub all_judged : Lines → List PlainPrimitive → List Fraction → Measure → Result (Unit {0}) MacroFault
+all_judged lines [] parameters unit = Ok tt
+all_judged lines (p ∷ body) parameters unit = judged lines p parameters unit >>= λ done. all_judged lines body parameters unit
 
--- an aperture n of the macro of this name and body with these parameters
-unfoldable pub compose_as : Known → ℕ → List ℕ → List PlainPrimitive → List Fraction → Measure → Result Effect FlattenKind
-compose_as k n name body parameters unit =
+-- an aperture n of the macro of this name and body with these parameters, where these vector lines are taken
+unfoldable pub compose_as : Lines → Known → ℕ → List ℕ → List PlainPrimitive → List Fraction → Measure → Result Effect FlattenKind
+compose_as lines k n name body parameters unit =
     unless (is_some (k.defined n)) (Gerber kind.ApertureTwice) (unless (nat_le MOST_APERTURES k.definitions) (Gerber kind.TooManyApertures)
-    (as_macro (all_judged body parameters unit) >>= λ done. Ok (makes n (composed name parameters unit))))
+    (as_macro (all_judged lines body parameters unit) >>= λ done. Ok (makes n (composed name parameters unit))))
 
 -- a definition of an aperture by a macro
-unfoldable pub compose : Known → List ℕ → Measure → Result Effect FlattenKind
-compose k text unit = do
+unfoldable pub compose : Lines → Known → List ℕ → Measure → Result Effect FlattenKind
+compose lines k text unit = do
   body ← needed NoMacro (macro_named k.macros (name_of (name_text text)))
   parameters ← needed BadMacro (parameters_in (name_text text))
-  compose_as k (digits_value 10 (number_digits text)) (name_of (name_text text)) body parameters unit
+  compose_as lines k (digits_value 10 (number_digits text)) (name_of (name_text text)) body parameters unit
 
 -- the name is none of a standard aperture
 abbrev pub is_of_macro : Result (ℕ × Aperture) ApertureFault → Bool
@@ -85,18 +87,26 @@ is_of_macro (Err aperture.Macro) = true
 is_of_macro other = false
 
 -- the row of a definition
-unfoldable pub define_any : Known → List ℕ → Result Effect FlattenKind
-define_any k text =
+unfoldable pub define_any : Lines → Known → List ℕ → Result Effect FlattenKind
+define_any lines k text =
     needed (Gerber kind.MissingUnit) k.settings.unit >>= λ unit.
-    if is_of_macro (aperture_at text unit) then compose k text unit else gerber (define k text)
+    if is_of_macro (aperture_at text unit) then compose lines k text unit else gerber (define k text)
 
--- The rows where a file may have macros. A file's function is any.
+-- The rows where a file may have macros.
+unfoldable pub macro_row : Lines → Known → Command → Result Effect FlattenKind
+macro_row lines k (names_macro name) = name_macro k name
+macro_row lines k (body_word text) = fill_macro k text
+macro_row lines k (defines text) = define_any lines k text
+macro_row lines k other = gerber (row k other)
+
+-- a word of the file's function
+abbrev pub is_function : Command → Bool
+is_function (functions function layer) = true
+is_function other = false
+
+-- Where copper is flattened, vector lines run along an axis, and a file's function is any.
 unfoldable pub row_with_macros : Known → Command → Result Effect FlattenKind
-row_with_macros k (names_macro name) = name_macro k name
-row_with_macros k (body_word text) = fill_macro k text
-row_with_macros k (defines text) = define_any k text
-row_with_macros k (functions function layer) = Ok stays
-row_with_macros k other = gerber (row k other)
+row_with_macros k c = if is_function c then Ok stays else macro_row AlongAxes k c
 
 -- where the file ends, its image has at most MOST_APERTURES radii
 abbrev pub few_radii : Effect → Result Effect FlattenKind
@@ -108,7 +118,13 @@ abbrev pub with_few_radii : Result Effect FlattenKind → Result Effect FlattenK
 with_few_radii what = what >>= few_radii
 
 -- behind the end nothing may stand but the file's end
+abbrev pub behind_end : Command → Result Effect FlattenKind
+behind_end c = if is_finish c then Ok stays else Err (Gerber kind.AfterEnd)
+
+-- the table of copper that is flattened
 unfoldable pub effect_with_macros : Known → Command → Result Effect FlattenKind
-effect_with_macros k c =
-    if k.settings.ended then (if is_finish c then Ok stays else Err (Gerber kind.AfterEnd))
-    else with_few_radii (row_with_macros k c)
+effect_with_macros k c = if k.settings.ended then behind_end c else with_few_radii (row_with_macros k c)
+
+-- The table of real copper: vector lines may be slanted, a file's function is judged as without macros, and radii are not counted.
+unfoldable pub effect_loosely : Known → Command → Result Effect FlattenKind
+effect_loosely k c = if k.settings.ended then behind_end c else macro_row Any k c

@@ -1,4 +1,5 @@
-//! The dialects of copper files: by the standard apertures alone, also with straight arcs, and with macros.
+//! The dialects of copper files: by the standard apertures alone, also with straight arcs, with macros,
+//! and of real copper.
 ghost use Rattle.std.specs.Prelude.{◌≡◌, ◌+◌, ◌^◌, ◌<◌, IfErr, OnOk};
 ghost use Rattle.gerber_words.specs.Stepping.{entry_of};
 ghost use Rattle.gerber_words.specs.Words.{Entry};
@@ -6,7 +7,7 @@ ghost use Rattle.gerber_layer.specs.Command.{Command as PlainCommand, view};
 ghost use Rattle.gerber_layer.specs.Dialect as spec;
 ghost use Rattle.gerber_layer.specs.Lawful.{IsLawfulCommand};
 ghost use Rattle.gerber_layer.specs.Layer.{in_words};
-ghost use Rattle.gerber_layer.specs.MacroLayer.{with_macros};
+ghost use Rattle.gerber_layer.specs.MacroLayer.{loose, with_macros};
 ghost use Rattle.gerber_layer.specs.Reader.{IsLawfulReader, Obeys, Stops, known_of};
 ghost use Rattle.gerber_layer.specs.StraightCommands.{straight_command};
 ghost use Rattle.gerber_layer.specs.WordCommands.{command_of};
@@ -16,7 +17,7 @@ use crate::kind::GerberKind;
 use crate::macro_kind::FlattenKind;
 use crate::macro_rows::any_halt;
 use crate::reader::Reader;
-use crate::straight_commands::read_straight_command;
+use crate::straight_commands::{read_loose_command, read_straight_command};
 use crate::word_commands::{read_command, read_macro_command};
 use file_reading::Halt;
 use gerber_words::Word;
@@ -132,6 +133,31 @@ impl Dialect for WithMacros {
             reader.has_few_radii(alloc)
         } else {
             Ok(())
+        }
+    }
+}
+
+/// Real copper: each arc draw is straight, and there may be aperture macros, whose vector lines may be slanted.
+pub struct Loose;
+
+impl Dialect for Loose {
+    type Kind = FlattenKind;
+
+    ghost dialect = { loose };
+
+    fn read<'a>(word: Word<'a>) -> Command<'a> {
+        read_loose_command(word)
+    }
+
+    fn obey<'a>(
+        reader: &mut Reader<'a>,
+        alloc: Global,
+        command: &Command<'a>,
+    ) -> Result<(), Halt<FlattenKind>> {
+        let effect = reader.effect_loosely(alloc, command)?;
+        match reader.go_on(alloc, command, effect) {
+            Ok(()) => Ok(()),
+            Err(halt) => Err(any_halt(halt)),
         }
     }
 }

@@ -9,7 +9,7 @@ ghost use Rattle.gerber_layer.specs.MacroReader.{any_halt};
 ghost use Rattle.gerber_layer.specs.MacroTable.{as_macro, gerber};
 ghost use Rattle.gerber_layer.specs.Reader.{AreBlank, Stops, body_of};
 ghost use Rattle.gerber_layer.specs.Tools.{macro_named};
-ghost use Rattle.gerber_layer.specs.CommandEffects.{concludes, row};
+ghost use Rattle.gerber_layer.specs.CommandEffects.{concludes, row, stays};
 
 use crate::MOST_APERTURES;
 use crate::command::Command;
@@ -21,7 +21,7 @@ use crate::parameters::{name_text, number, parameters};
 use crate::radii::Radii;
 use crate::reader::Reader;
 use crate::tool::Tool;
-use aperture_macros::{Primitive, read_body};
+use aperture_macros::{Lines, Primitive, read_body};
 use apertures::{ApertureFault, read_aperture};
 use file_reading::Halt;
 use lengths::decimal::{Decimal, Unit};
@@ -49,17 +49,18 @@ fn is_of_macro(text: &[u8], unit: Unit) -> bool
 #[tactic(auto, unfolding(crate::specs::MacroTable::all_judged))]
 fn judge(
     alloc: Global,
+    lines: Lines,
     body: &[Primitive],
     parameters: &[Decimal],
     unit: Unit,
 ) -> Result<Vec<bool>, Halt<FlattenKind>>
-    ensures ok { IfOk result (λ marks. spec.all_judged (body_of body.now) parameters.now unit ≡ Ok tt) }
+    ensures ok { IfOk result (λ marks. spec.all_judged lines (body_of body.now) parameters.now unit ≡ Ok tt) }
     ensures blank { IfOk result (λ marks. AreBlank (body_of body.now) parameters.now unit marks.items) }
-    ensures halt { IfErr result (Stops (as_macro (spec.all_judged (body_of body.now) parameters.now unit))) }
+    ensures halt { IfErr result (Stops (as_macro (spec.all_judged lines (body_of body.now) parameters.now unit))) }
 {
     let mut marks = Vec::new(alloc);
     for primitive in body {
-        let has_image = match primitive.has_image(parameters, unit) {
+        let has_image = match primitive.has_image(lines, parameters, unit) {
             Ok(has_image) => has_image,
             Err(fault) => return Err(Halt::Fault(FlattenKind::from(fault))),
         };
@@ -68,6 +69,28 @@ fn judge(
         }
     }
     Ok(marks)
+}
+
+// What a command behind the end of the file does.
+fn behind_end<'a>(command: &Command<'a>) -> Result<Effect<'a>, Halt<FlattenKind>>
+    ensures ok { IfOk result (λ e. (e ≡ Effect.Stays) × (spec.behind_end (view command.now) ≡ Ok stays)) }
+    ensures halt { IfErr result (Stops (spec.behind_end (view command.now))) }
+{
+    if is_finish(command) {
+        Ok(Effect::Stays)
+    } else {
+        Err(Halt::Fault(FlattenKind::Gerber(GerberKind::AfterEnd)))
+    }
+}
+
+// Whether a word is of the file's function.
+fn is_function(command: &Command) -> bool
+    ensures { result ≡ spec.is_function (view command.now) }
+{
+    match command {
+        Command::Function(_, _) => true,
+        _ => false,
+    }
 }
 
 impl<'a> Reader<'a> {
@@ -116,13 +139,14 @@ impl<'a> Reader<'a> {
     fn compose(
         &self,
         alloc: Global,
+        lines: Lines,
         text: &'a [u8],
         unit: Unit,
     ) -> Result<Effect<'a>, Halt<FlattenKind>>
         requires { spec.is_of_macro (aperture_at text.now unit) ≡ true }
-        ensures ok { IfOk result (λ e. gerber (shown (known_of self.now) e) ≡ spec.compose (known_of self.now) text.now unit) }
+        ensures ok { IfOk result (λ e. gerber (shown (known_of self.now) e) ≡ spec.compose lines (known_of self.now) text.now unit) }
         ensures fit { IfOk result (IsFit self.now.dictionary) }
-        ensures halt { IfErr result (Stops (spec.compose (known_of self.now) text.now unit)) }
+        ensures halt { IfErr result (Stops (spec.compose lines (known_of self.now) text.now unit)) }
     {
         let word = name_text(text);
         let name = before_byte(word, b',');
@@ -135,7 +159,7 @@ impl<'a> Reader<'a> {
         let Some(parameters) = parameters else {
             return Err(Halt::Fault(FlattenKind::BadMacro));
         };
-        self.compose_as(alloc, number(text), name, body, parameters, unit)
+        self.compose_as(alloc, lines, number(text), name, body, parameters, unit)
     }
 
     // An aperture of the macro of this name and body.
@@ -143,6 +167,7 @@ impl<'a> Reader<'a> {
     fn compose_as(
         &self,
         alloc: Global,
+        lines: Lines,
         n: u32,
         name: &'a [u8],
         body: &[Primitive],
@@ -150,9 +175,9 @@ impl<'a> Reader<'a> {
         unit: Unit,
     ) -> Result<Effect<'a>, Halt<FlattenKind>>
         requires found { macro_named (macros_in self.now.dictionary) name.now ≡ Some (body_of body.now) }
-        ensures ok { IfOk result (λ e. gerber (shown (known_of self.now) e) ≡ spec.compose_as (known_of self.now) n name.now (body_of body.now) parameters.items unit) }
+        ensures ok { IfOk result (λ e. gerber (shown (known_of self.now) e) ≡ spec.compose_as lines (known_of self.now) n name.now (body_of body.now) parameters.items unit) }
         ensures fit { IfOk result (IsFit self.now.dictionary) }
-        ensures halt { IfErr result (Stops (spec.compose_as (known_of self.now) n name.now (body_of body.now) parameters.items unit)) }
+        ensures halt { IfErr result (Stops (spec.compose_as lines (known_of self.now) n name.now (body_of body.now) parameters.items unit)) }
     {
         if self.dictionary.defines(n) {
             return Err(Halt::Fault(FlattenKind::Gerber(GerberKind::ApertureTwice)));
@@ -160,22 +185,27 @@ impl<'a> Reader<'a> {
         if self.dictionary.len() >= MOST_APERTURES {
             return Err(Halt::Fault(FlattenKind::Gerber(GerberKind::TooManyApertures)));
         }
-        let marks = judge(alloc, body, &parameters, unit)?;
+        let marks = judge(alloc, lines, body, &parameters, unit)?;
         Ok(Effect::Makes(n, Tool::Composed(name, parameters, unit, marks)))
     }
 
     // `AD`.
     #[tactic(auto, unfolding(crate::specs::MacroTable::define_any))]
-    fn define_any(&self, alloc: Global, text: &'a [u8]) -> Result<Effect<'a>, Halt<FlattenKind>>
-        ensures ok { IfOk result (λ e. gerber (shown (known_of self.now) e) ≡ spec.define_any (known_of self.now) text.now) }
+    fn define_any(
+        &self,
+        alloc: Global,
+        lines: Lines,
+        text: &'a [u8],
+    ) -> Result<Effect<'a>, Halt<FlattenKind>>
+        ensures ok { IfOk result (λ e. gerber (shown (known_of self.now) e) ≡ spec.define_any lines (known_of self.now) text.now) }
         ensures fit { IfOk result (IsFit self.now.dictionary) }
-        ensures halt { IfErr result (Stops (spec.define_any (known_of self.now) text.now)) }
+        ensures halt { IfErr result (Stops (spec.define_any lines (known_of self.now) text.now)) }
     {
         let Some(unit) = self.settings.unit else {
             return Err(Halt::Fault(FlattenKind::Gerber(GerberKind::MissingUnit)));
         };
         if is_of_macro(text, unit) {
-            return self.compose(alloc, text, unit);
+            return self.compose(alloc, lines, text, unit);
         }
         self.define(text)
             .map_err(|kind| Halt::Fault(FlattenKind::Gerber(kind)))
@@ -195,31 +225,26 @@ impl<'a> Reader<'a> {
             .map_err(|kind| Halt::Fault(FlattenKind::Gerber(kind)))
     }
 
-    /// What a command does where the file may have macros, or its fault.
-    #[tactic(auto, unfolding(crate::specs::MacroTable::effect_with_macros, crate::specs::MacroTable::row_with_macros))]
-    pub fn effect_with_macros(
+    // The row of a command where the file may have macros.
+    #[tactic(auto, unfolding(crate::specs::MacroTable::macro_row))]
+    fn macro_row(
         &self,
         alloc: Global,
+        lines: Lines,
         command: &Command<'a>,
     ) -> Result<Effect<'a>, Halt<FlattenKind>>
         requires lawful { IsLawfulReader self.now }
         requires command { IsLawfulCommand (view command.now) }
-        ensures ok { IfOk result (λ e. spec.with_few_radii (gerber (shown (known_of self.now) e)) ≡ spec.effect_with_macros (known_of self.now) (view command.now)) }
+        requires before_end { self.now.settings.ended ≡ false }
+        ensures ok { IfOk result (λ e. gerber (shown (known_of self.now) e) ≡ spec.macro_row lines (known_of self.now) (view command.now)) }
         ensures fit { IfOk result (IsFit self.now.dictionary) }
-        ensures halt { IfErr result (Stops (spec.effect_with_macros (known_of self.now) (view command.now))) }
+        ensures halt { IfErr result (Stops (spec.macro_row lines (known_of self.now) (view command.now))) }
     {
-        if self.settings.ended {
-            return if is_finish(command) {
-                Ok(Effect::Stays)
-            } else {
-                Err(Halt::Fault(FlattenKind::Gerber(GerberKind::AfterEnd)))
-            };
-        }
         match *command {
             Command::Macro(name) => self.name_macro(name).map_err(Halt::Fault),
             Command::Body(text) => self.fill_macro(text).map_err(Halt::Fault),
-            Command::Define(text) => self.define_any(alloc, text),
-            Command::Function(_, _) => Ok(Effect::Stays),
+            Command::Define(text) => self.define_any(alloc, lines, text),
+            Command::Function(_, _) => self.standard_row(command),
             Command::Nothing => self.standard_row(command),
             Command::Refused(_) => self.standard_row(command),
             Command::Format(_) => self.standard_row(command),
@@ -233,6 +258,47 @@ impl<'a> Reader<'a> {
             Command::Broken(_) => self.standard_row(command),
             Command::Finish => self.standard_row(command),
         }
+    }
+
+    /// What a command does where the file may have macros and is flattened, or its fault.
+    #[tactic(auto, unfolding(crate::specs::MacroTable::effect_with_macros, crate::specs::MacroTable::row_with_macros))]
+    pub fn effect_with_macros(
+        &self,
+        alloc: Global,
+        command: &Command<'a>,
+    ) -> Result<Effect<'a>, Halt<FlattenKind>>
+        requires lawful { IsLawfulReader self.now }
+        requires command { IsLawfulCommand (view command.now) }
+        ensures ok { IfOk result (λ e. spec.with_few_radii (gerber (shown (known_of self.now) e)) ≡ spec.effect_with_macros (known_of self.now) (view command.now)) }
+        ensures fit { IfOk result (IsFit self.now.dictionary) }
+        ensures halt { IfErr result (Stops (spec.effect_with_macros (known_of self.now) (view command.now))) }
+    {
+        if self.settings.ended {
+            return behind_end(command);
+        }
+        if is_function(command) {
+            return Ok(Effect::Stays);
+        }
+        self.macro_row(alloc, Lines::AlongAxes, command)
+    }
+
+    /// What a command does in a file of real copper, or its fault.
+    #[tactic(auto, unfolding(crate::specs::MacroTable::effect_loosely))]
+    pub fn effect_loosely(
+        &self,
+        alloc: Global,
+        command: &Command<'a>,
+    ) -> Result<Effect<'a>, Halt<FlattenKind>>
+        requires lawful { IsLawfulReader self.now }
+        requires command { IsLawfulCommand (view command.now) }
+        ensures ok { IfOk result (λ e. gerber (shown (known_of self.now) e) ≡ spec.effect_loosely (known_of self.now) (view command.now)) }
+        ensures fit { IfOk result (IsFit self.now.dictionary) }
+        ensures halt { IfErr result (Stops (spec.effect_loosely (known_of self.now) (view command.now))) }
+    {
+        if self.settings.ended {
+            return behind_end(command);
+        }
+        self.macro_row(alloc, Lines::Any, command)
     }
 
     /// The pieces have at most `MOST_APERTURES` radii.

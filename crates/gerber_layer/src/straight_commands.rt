@@ -3,13 +3,14 @@ ghost use Rattle.std.specs.Prelude.{◌≡◌, ◌≤◌, length};
 ghost use Rattle.std.specs.Option.{option_copied};
 ghost use Rattle.gerber_layer.specs.Command.{view};
 ghost use Rattle.gerber_layer.specs.Lawful.{IsLawfulCommand};
+ghost use Rattle.gerber_layer.specs.MacroCommands.{loose_command};
 ghost use Rattle.gerber_layer.specs.StraightCommands as spec;
 ghost use Rattle.gerber_words.specs.Stepping.{entry_of};
 
 use crate::command::Command;
 use crate::kind::GerberKind;
 use crate::word_commands::{
-    Offsets, behind_line_code, code_in, from_x, goes_on, is_number_if, part, read_command,
+    Offsets, behind_line_code, code_in, from_x, goes_on, is_number_if, macro_or, part, read_command,
 };
 use gerber_words::Word;
 use texts::{begins, run_len};
@@ -117,4 +118,12 @@ pub fn read_straight_command<'a>(word: Word<'a>) -> Command<'a>
     } else {
         command
     }
+}
+
+/// The same where the file may have macros.
+pub fn read_loose_command<'a>(word: Word<'a>) -> Command<'a>
+    ensures value { view result ≡ loose_command (entry_of word.entry) }
+    ensures lawful { IsLawfulCommand (view result) }
+{
+    macro_or(read_straight_command(word), word)
 }

@@ -5,7 +5,7 @@ ghost use Rattle.std.specs.Option.{option_copied};
 ghost use Rattle.lengths.specs.Decimal.{decimal};
 ghost use Rattle.gerber_layer.specs.Command.{operates, view};
 ghost use Rattle.gerber_layer.specs.Lawful.{IsLawfulCommand, IsWhole};
-ghost use Rattle.gerber_layer.specs.MacroCommands.{command_with_macros};
+ghost use Rattle.gerber_layer.specs.MacroCommands.{command_with_macros, macro_or};
 ghost use Rattle.gerber_layer.specs.WordCommands as spec;
 ghost use Rattle.gerber_words.specs.Attributes.{plain_attribute, plain_attributes};
 ghost use Rattle.gerber_words.specs.Stepping.{entry_of};
@@ -106,9 +106,18 @@ pub fn read_command<'a>(word: Word<'a>) -> Command<'a>
 }
 
 /// The command that a word is where the file may have macros.
-#[tactic(auto, unfolding(crate::specs::MacroCommands::command_with_macros))]
 pub fn read_macro_command<'a>(word: Word<'a>) -> Command<'a>
     ensures value { view result ≡ command_with_macros (entry_of word.entry) }
+    ensures lawful { IsLawfulCommand (view result) }
+{
+    macro_or(read_command(word), word)
+}
+
+/// The command of a macro that a word is, or the other.
+#[tactic(auto, unfolding(crate::specs::MacroCommands::macro_or))]
+pub fn macro_or<'a>(other: Command<'a>, word: Word<'a>) -> Command<'a>
+    requires { IsLawfulCommand (view other) }
+    ensures value { view result ≡ macro_or (view other.entry) (entry_of word.entry) }
     ensures lawful { IsLawfulCommand (view result) }
 {
     if word.body {
@@ -117,7 +126,7 @@ pub fn read_macro_command<'a>(word: Word<'a>) -> Command<'a>
     if word.extended && begins(word.text, b"AM") {
         return Command::Macro(&word.text[2..]);
     }
-    read_command(word)
+    other
 }
 
 // What an attribute says of the layer, if it says something.

@@ -20,7 +20,7 @@ use Rattle.gerber_layer.specs.Image.{effect_by, known_by, pieces_after, pieces_b
 use Rattle.gerber_layer.specs.Layer.{stop_command}
 use Rattle.gerber_layer.specs.MacroLayer.{flat_place}
 use Rattle.gerber_layer.specs.MacroCommands.{command_with_macros}
-use Rattle.gerber_layer.specs.MacroTable.{effect_with_macros, few_radii, row_with_macros}
+use Rattle.gerber_layer.specs.MacroTable.{effect_with_macros, few_radii, macro_row, row_with_macros}
 use Rattle.gerber_layer.proofs.MacroOutcome.{outcome_with_macros}
 use Rattle.gerber_layer.proofs.Outcome.{not_ok}
 use Rattle.macro_flatten.specs.FlatText.{figures_in, pens_after, pens_of, with_pen, with_pen_of}
@@ -110,7 +110,7 @@ few_radii_behind (c ∷ h) clean over = by (effect_with_macros (known_here h) c)
 
 -- and a file that stops without a fault has ended
 ended_at_stop : (h : List Command) (stop : Stop) → IsOk (effect_with_macros (known_here h) (stop_command stop)) → has_ended (stop_command stop ∷ h) ≡ true
-unfolding effect_with_macros row_with_macros row
+unfolding effect_with_macros row_with_macros macro_row row
 ended_at_stop h ended ok = by (has_ended h) refl ok
   where
     by : (b : Bool) → has_ended h ≡ b → IsOk {T = Effect} (cond b (Ok stays) (Err (Gerber kind.NotEnded))) → has_ended h ≡ true

@@ -15,14 +15,15 @@ use Rattle.lengths.specs.Decimal.{Fraction, is_decimal, fraction}
 use Rattle.lengths.specs.declared.decimal.Unit.{Unit as Measure}
 use Rattle.texts.specs.Words.{begins, is_word}
 use Rattle.aperture_macros.specs.declared.fault.MacroFault.{MacroFault}
-use Rattle.aperture_macros.specs.declared.fault.MacroFault.TheVariants.{BadMacro, ExposureOff, OffGrid, OutOfRange, Slanted}
+use Rattle.aperture_macros.specs.declared.fault.MacroFault.TheVariants.{BadMacro, ExposureOff, OffGrid, OutOfRange}
 use Rattle.aperture_macros.specs.declared.images.Sketch.{Sketch}
-use Rattle.aperture_macros.specs.declared.images.Sketch.TheVariants.{Disc, Rectangle}
+use Rattle.aperture_macros.specs.declared.images.Sketch.TheVariants.{Disc, Rectangle, Stroke}
 use Rattle.aperture_macros.specs.declared.primitive.Form.{Form}
 use Rattle.aperture_macros.specs.declared.primitive.Form.TheVariants.{Circle, Outline, VectorLine, CentreLine}
+use Rattle.aperture_macros.specs.declared.primitive.Lines.TheVariants.{Any}
 use Rattle.aperture_macros.specs.declared.primitive.Rotation.{Rotation}
 use Rattle.aperture_macros.specs.BodyWord.{PlainPrimitive, ◌>>=◌, are_expressions, commas, count, fits, form_at, form_in, form_of, is_number, outline_of, part, past, primitive_at, rotation_of, rotation_text, row, some_form, turned_at}
-use Rattle.aperture_macros.specs.Images.{area_at, circle_at, centre_at, centred, disc_at, figure_at, figure_by, line_at, outline_at, set_down, sketch_at, sketched, outlined, strip}
+use Rattle.aperture_macros.specs.Images.{area_at, circle_at, centre_at, centred, disc_at, figure_at, figure_by, line_at, line_between, outline_at, set_down, sketch_at, sketched, slanted, stroke_at, outlined, strip}
 use Rattle.aperture_macros.specs.Outlines.{closing_at, moved_from}
 use Rattle.aperture_macros.specs.Sized.{IsSized}
 use Rattle.aperture_macros.specs.Values.{as_size, coordinate_at, diameter_at, point_at, size_at}
@@ -106,10 +107,14 @@ read_sized word p h = by (begins word (codes "0")) (form_at word (commas word)) 
 
 -- ---- Sketches
 
--- a disc has the diameter of a pen
+-- a disc has the diameter of a pen, and so has a stroke
+abbrev HasPen : ℕ → Type 0
+HasPen d = (d % 2 ≡ 0) × (d ≤ MOST_DIAMETER) × (eqb d 0 ≡ false)
+
 IsPen : Option Sketch → Type 0
 IsPen None = Unit {0}
-IsPen (Some (Disc p d)) = (d % 2 ≡ 0) × (d ≤ MOST_DIAMETER) × (eqb d 0 ≡ false)
+IsPen (Some (Disc p d)) = HasPen d
+IsPen (Some (Stroke p q w)) = HasPen w
 IsPen (Some (Rectangle low high)) = Unit {0}
 
 size_even : (text : List ℕ) (given : List Fraction) (unit : Measure) (w : ℕ) → size_at text given unit ≡ Ok w → w % 2 ≡ 0
@@ -150,19 +155,30 @@ strip_pen true b low high low' high' = tt
 strip_pen false true low high low' high' = tt
 strip_pen false false low high low' high' = tt
 
-line_pen : (text : List ℕ) (given : List Fraction) (unit : Measure) (s : Option Sketch) → line_at text given unit ≡ Ok s → IsPen s
-unfolding line_at
+-- a slanted line
+slanted_pen : (w : ℕ) (p q : Spot) (s : Option Sketch) → w % 2 ≡ 0 → slanted Any w p q ≡ Ok s → IsPen s
+unfolding IsPen
+slanted_pen w p q s even h =
+    let few = passed (nat_lt MOST_DIAMETER w) OutOfRange (Ok (cond (eqb w 0) None (Some (Stroke p q w)))) s h in
+    by (eqb w 0) refl (ltb-false _ _ few.0) few.1
+  where
+    by : (b : Bool) → eqb w 0 ≡ b → w ≤ MOST_DIAMETER → ◌≡◌ {A = Result (Option Sketch) MacroFault} (Ok (cond b None (Some (Stroke p q w)))) (Ok s) → IsPen s
+    by true none few h = let same : None ≡ s = cc in subst IsPen same tt
+    by false some few h = let same : Some (Stroke p q w) ≡ s = cc in subst IsPen same (even, few, some)
+
+line_pen : (text : List ℕ) (given : List Fraction) (unit : Measure) (s : Option Sketch) → line_at Any text given unit ≡ Ok s → IsPen s
+unfolding line_at line_between
 line_pen text given unit s h =
-    let sketch = λ (w : ℕ) (p q : Spot). cond (int_eq p.x q.x) (Ok (strip w p q w 0)) (cond (int_eq p.y q.y) (Ok (strip w p q 0 w)) (Err Slanted)) in
+    let sketch = λ (w : ℕ) (p q : Spot). cond (int_eq p.x q.x) (Ok (strip w p q w 0)) (cond (int_eq p.y q.y) (Ok (strip w p q 0 w)) (slanted Any w p q)) in
     let w = then_ok (size_at (part 0 text) given unit) (λ w. point_at (past 1 text) given unit >>= λ p. point_at (past 3 text) given unit >>= λ q. sketch w p q) s h in
     let p = then_ok (point_at (past 1 text) given unit) (λ p. point_at (past 3 text) given unit >>= λ q. sketch w.0 p q) s w.2 in
     let q = then_ok (point_at (past 3 text) given unit) (λ q. sketch w.0 p.0 q) s p.2 in
-    by w.0 p.0 q.0 (int_eq p.0.x q.0.x) (int_eq p.0.y q.0.y) q.2
+    by w.0 p.0 q.0 (size_even (part 0 text) given unit w.0 w.1) (int_eq p.0.x q.0.x) (int_eq p.0.y q.0.y) q.2
   where
-    by : (w : ℕ) (p q : Spot) (a b : Bool) → ◌≡◌ {A = Result (Option Sketch) MacroFault} (cond a (Ok (strip w p q w 0)) (cond b (Ok (strip w p q 0 w)) (Err Slanted))) (Ok s) → IsPen s
-    by w p q true b h = let same : strip w p q w 0 ≡ s = cc in subst IsPen same (strip_pen _ _ _ _ _ _)
-    by w p q false true h = let same : strip w p q 0 w ≡ s = cc in subst IsPen same (strip_pen _ _ _ _ _ _)
-    by w p q false false h = cc
+    by : (w : ℕ) (p q : Spot) → w % 2 ≡ 0 → (a b : Bool) → ◌≡◌ {A = Result (Option Sketch) MacroFault} (cond a (Ok (strip w p q w 0)) (cond b (Ok (strip w p q 0 w)) (slanted Any w p q))) (Ok s) → IsPen s
+    by w p q even true b h = let same : strip w p q w 0 ≡ s = cc in subst IsPen same (strip_pen _ _ _ _ _ _)
+    by w p q even false true h = let same : strip w p q 0 w ≡ s = cc in subst IsPen same (strip_pen _ _ _ _ _ _)
+    by w p q even false false h = slanted_pen w p q s even h
 
 centre_pen : (text : List ℕ) (given : List Fraction) (unit : Measure) (s : Option Sketch) → centre_at text given unit ≡ Ok s → IsPen s
 unfolding centre_at
@@ -202,10 +218,21 @@ disc_drawn p d f even few some h = by (is_placed p) refl h
         let there = spot_placed p e in
         same_figure (round (record { a = p; b = p; r = halved d })) f h (there, there, r.0, r.1)
 
+stroke_drawn : (p q : Spot) (w : ℕ) (f : Figure) → HasPen w → stroke_at p q w ≡ Ok (Some f) → IsDrawn f
+stroke_drawn p q w f pen h = by (is_placed p) (is_placed q) refl refl h
+  where
+    by : (a b : Bool) → is_placed p ≡ a → is_placed q ≡ b → cond (a && b) (Ok (Some (round (record { a = p; b = q; r = halved w })))) (Err OutOfRange) ≡ Ok (Some f) → IsDrawn f
+    by false b e g h = cc
+    by true false e g h = cc
+    by true true e g h =
+        let r = half_drawn w pen.0 pen.1 pen.2 in
+        same_figure (round (record { a = p; b = q; r = halved w })) f h (spot_placed p e, spot_placed q g, r.0, r.1)
+
 sketch_drawn : (rotation : Rotation) (at : Spot) (s : Option Sketch) (f : Figure) → IsPen s → sketch_at rotation at s ≡ Ok (Some f) → IsDrawn f
 unfolding sketch_at IsPen
 sketch_drawn rotation at None f pen h = cc
 sketch_drawn rotation at (Some (Disc p d)) f pen h = disc_drawn (set_down rotation at p) d f pen.0 pen.1 pen.2 h
+sketch_drawn rotation at (Some (Stroke p q w)) f pen h = stroke_drawn (set_down rotation at p) (set_down rotation at q) w f pen h
 sketch_drawn rotation at (Some (Rectangle low high)) f pen h = area_drawn (map (set_down rotation at) (rectangle low high)) f refl (omega arith) (omega arith) h
 
 sketched_drawn : (rotation : Rotation) (at : Spot) (r : Result (Option Sketch) MacroFault) (f : Figure) → ((s : Option Sketch) → r ≡ Ok s → IsPen s) → sketched rotation at r ≡ Ok (Some f) → IsDrawn f
@@ -233,7 +260,7 @@ figure_by_drawn : (form : Form) (rotation : Rotation) (text : List ℕ) (given :
 unfolding figure_by
 figure_by_drawn Circle rotation text given unit at f sized h = sketched_drawn rotation at (circle_at text given unit) f (circle_pen text given unit) h
 figure_by_drawn (Outline n) rotation text given unit at f sized h = outline_drawn n rotation text given unit at f sized.0 sized.1 h
-figure_by_drawn VectorLine rotation text given unit at f sized h = sketched_drawn rotation at (line_at text given unit) f (line_pen text given unit) h
+figure_by_drawn VectorLine rotation text given unit at f sized h = sketched_drawn rotation at (line_at Any text given unit) f (line_pen text given unit) h
 figure_by_drawn CentreLine rotation text given unit at f sized h = sketched_drawn rotation at (centre_at text given unit) f (centre_pen text given unit) h
 
 -- what a primitive of lawful size flashes

@@ -8,7 +8,7 @@ use Rattle.gerber_layer.specs.declared.kind.GerberKind.TheVariants as kind
 use Rattle.gerber_layer.specs.declared.macro_kind.FlattenKind.TheVariants.{Gerber, TooManyRadii}
 use Rattle.gerber_layer.specs.Radii.{radii_of}
 use Rattle.gerber_layer.specs.CommandEffects.{Known, Effect, Profile, ◌>>=◌, concludes, row, effect}
-use Rattle.gerber_layer.specs.MacroTable.{effect_with_macros, few_radii, gerber, row_with_macros}
+use Rattle.gerber_layer.specs.MacroTable.{effect_with_macros, few_radii, gerber, macro_row, row_with_macros}
 use Rattle.gerber_layer.proofs.Outcome.{Outcome, bind_ok, outcome, past_test}
 use Rattle.gerber_layer.proofs.MacroOutcome.{outcome_with_macros}
 use Rattle.gerber_layer.specs.declared.TheConstants.{MOST_APERTURES}
@@ -71,7 +71,7 @@ both k c e is h = let r = counted_row k c e h in (gerber_ok (row k c) e (sym is 
 
 -- the row that both have, and few radii
 pub shared_by_macros : (k : Known) (c : Command) (e : Effect) → IsShared c → effect_with_macros k c ≡ Ok e → (row k c ≡ Ok e) × HasFewRadii e
-unfolding effect_with_macros row_with_macros
+unfolding effect_with_macros row_with_macros macro_row
 shared_by_macros k (operates x y code) e s h = both k (operates x y code) e refl (past_test k.settings.ended (Gerber kind.AfterEnd) (gerber (row k (operates x y code)) >>= few_radii) e h)
 shared_by_macros k opens_region e s h = both k opens_region e refl (past_test k.settings.ended (Gerber kind.AfterEnd) (gerber (row k opens_region) >>= few_radii) e h)
 shared_by_macros k closes_region e s h = both k closes_region e refl (past_test k.settings.ended (Gerber kind.AfterEnd) (gerber (row k closes_region) >>= few_radii) e h)

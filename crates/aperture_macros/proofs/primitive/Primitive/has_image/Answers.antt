@@ -3,7 +3,7 @@ use Rattle.aperture_macros.proofs.Closings.{judged_is}
 use Rattle.aperture_macros.proofs.primitive.Primitive.has_image.Goals as goal
 
 pub returns-in-Ok-clause-lawful : goal.returns-in-Ok-clause-lawful
-returns-in-Ok-clause-lawful c = rw c.in-Outline.is (c.in-Ok.ensures ∙ judged_is c.in-Outline.edges c.args.self.now.lengths.now c.args.parameters.now c.args.unit)
+returns-in-Ok-clause-lawful c = rw c.in-Outline.is (c.in-Ok.ensures ∙ judged_is c.args.lines c.in-Outline.edges c.args.self.now.lengths.now c.args.parameters.now c.args.unit)
 
 pub returns-in-Err-clause-lawful : goal.returns-in-Err-clause-lawful
-returns-in-Err-clause-lawful c = rw c.in-Outline.is (c.in-Err.ensures ∙ judged_is c.in-Outline.edges c.args.self.now.lengths.now c.args.parameters.now c.args.unit)
+returns-in-Err-clause-lawful c = rw c.in-Outline.is (c.in-Err.ensures ∙ judged_is c.args.lines c.in-Outline.edges c.args.self.now.lengths.now c.args.parameters.now c.args.unit)
