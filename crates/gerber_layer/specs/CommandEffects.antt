@@ -219,13 +219,16 @@ unfoldable pub edges_for : Known → Option Figure → Result (Option Figure) Ge
 edges_for k None = Ok None
 edges_for k (Some figure) = unless (exceed k (figure_edges figure)) kind.TooManyVertices (Ok (Some figure))
 
--- a flash of a standard aperture
-unfoldable pub flash_by : Known → Aperture → Spot → Result Effect GerberKind
-flash_by k aperture to = do
-  flash ← flashed (flash_of aperture to)
+-- the figure of a flash, if there is room for it
+abbrev pub flash_in_room : Known → Spot → Option Figure → Result Effect GerberKind
+flash_in_room k to flash = do
   piece ← room_for k flash
   figure ← edges_for k piece
   Ok (performs to (listed figure))
+
+-- a flash of a standard aperture
+unfoldable pub flash_by : Known → Aperture → Spot → Result Effect GerberKind
+flash_by k aperture to = flashed (flash_of aperture to) >>= λ flash. flash_in_room k to flash
 
 -- what the primitives of a macro flash, in order
 unfoldable pub figures_of : List PlainPrimitive → List Fraction → Measure → Spot → Result (List Figure) MacroFault

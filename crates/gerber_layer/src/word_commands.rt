@@ -1,8 +1,8 @@
 //! How a command is read from a word.
-ghost use Rattle.std.specs.Prelude.{◌≡◌, option_map, IfSome};
+ghost use Rattle.std.specs.Prelude.{◌≡◌, ◌≤◌, ◌&&◌, nat_le, nat_lt, length, take, drop, option_map, IfSome};
 ghost use Rattle.std.specs.List.{before_first, list_all, slice_split};
 ghost use Rattle.std.specs.Option.{option_copied};
-ghost use Rattle.lengths.specs.Decimal.{decimal};
+ghost use Rattle.lengths.specs.Decimal.{decimal, unsigned as unsigned_text};
 ghost use Rattle.gerber_layer.specs.Command.{operates, view};
 ghost use Rattle.gerber_layer.specs.Lawful.{IsLawfulCommand, IsWhole};
 ghost use Rattle.gerber_layer.specs.MacroCommands.{command_with_macros, macro_or};
@@ -14,20 +14,17 @@ use crate::command::{Code, Command, Format};
 use crate::kind::GerberKind;
 use gerber_words::{Attribute, AttributeKind, Word, is_field};
 use lengths::decimal::{Unit, read_decimal, small_value, unsigned};
-use texts::{ByteClass, all_digits, begins, is_digit, is_word, run_len};
+use texts::{ByteClass, Digit, all_digits, begins, is_digit, is_word, run_len};
 
 #[tactic(auto, unfolding(crate::specs::WordCommands::code_in))]
 pub fn code_in(text: &[u8]) -> Option<Code>
     ensures { result ≡ spec.code_in text.now }
 {
-    if is_word(text, b"D01") || is_word(text, b"D1") {
-        Some(Code::Draw)
-    } else if is_word(text, b"D02") || is_word(text, b"D2") {
-        Some(Code::Move)
-    } else if is_word(text, b"D03") || is_word(text, b"D3") {
-        Some(Code::Flash)
-    } else {
-        None
+    match text {
+        [b'D', b'0', b'1'] | [b'D', b'1'] => Some(Code::Draw),
+        [b'D', b'0', b'2'] | [b'D', b'2'] => Some(Code::Move),
+        [b'D', b'0', b'3'] | [b'D', b'3'] => Some(Code::Flash),
+        _ => None,
     }
 }
 
@@ -74,20 +71,67 @@ impl ByteClass for Offsets {
     }
 }
 
+// Whether so many digits are as many as a number has.
+fn are_few(digits: usize) -> bool
+    ensures { result ≡ (nat_le 1 digits && nat_le digits 13) }
+{
+    digits >= 1 && digits <= 13
+}
+
+// What stands behind so many bytes.
+fn behind(text: &[u8], len: usize) -> &[u8]
+    requires { len ≤ length text.now }
+    ensures { result.now ≡ drop len text.now }
+{
+    &text[len..]
+}
+
+fn is_signed(text: &[u8]) -> bool
+    ensures { result ≡ nat_lt (length (unsigned_text text.now)) (length text.now) }
+{
+    unsigned(text).len() < text.len()
+}
+
+// How many digits and signs stand in front, and whether they are a number. Each byte is looked at once, unless a sign stands
+// behind a digit.
+fn number_front(text: &[u8]) -> (usize, bool)
+    ensures len { result.0 ≡ spec.number_len text.now }
+    ensures within { result.0 ≤ length text.now }
+    ensures number { result.1 ≡ spec.is_number (take result.0 text.now) }
+{
+    let body = unsigned(text);
+    let digits = run_len::<Digit>(body);
+    if is_signed(behind(body, digits)) {
+        let len = run_len::<Numeric>(text);
+        return (len, is_number(&text[..len]));
+    }
+    (text.len() - body.len() + digits, are_few(digits))
+}
+
+// The number behind a letter, if the text begins with it; whether it is one; and what stands behind.
+fn judged_part(text: &[u8], letter: u8) -> (Option<&[u8]>, bool, &[u8])
+    ensures number { option_copied result.0 ≡ spec.number_in letter text.now }
+    ensures good { result.1 ≡ spec.is_number_if (spec.number_in letter text.now) }
+    ensures behind { result.2.now ≡ spec.behind letter text.now }
+{
+    match text {
+        [] => (None, true, text),
+        [c, rest @ ..] => if *c == letter {
+            let (len, is_number) = number_front(rest);
+            (Some(&rest[..len]), is_number, &rest[len..])
+        } else {
+            (None, true, text)
+        },
+    }
+}
+
 /// The number behind a letter, if the text begins with it, and what stands behind.
 pub fn part(text: &[u8], letter: u8) -> (Option<&[u8]>, &[u8])
     ensures number { option_copied result.0 ≡ spec.number_in letter text.now }
     ensures behind { result.1.now ≡ spec.behind letter text.now }
 {
-    match text {
-        [] => (None, text),
-        [c, rest @ ..] => if *c == letter {
-            let len = run_len::<Numeric>(rest);
-            (Some(&rest[..len]), &rest[len..])
-        } else {
-            (None, text)
-        },
-    }
+    let (number, _, rest) = judged_part(text, letter);
+    (number, rest)
 }
 
 /// The command that a word is where the file has no macros.
@@ -324,8 +368,22 @@ fn is_neutral(text: &[u8]) -> bool
         || is_attribute(text)
 }
 
-#[tactic(auto, unfolding(crate::specs::WordCommands::plain))]
+// Most words are coordinates or a selection, which their first letter tells.
+#[tactic(auto, unfolding(crate::specs::WordCommands::plain, crate::specs::WordCommands::coded, crate::specs::WordCommands::operation))]
 fn plain(text: &[u8]) -> Command<'_>
+    ensures value { view result ≡ spec.plain text.now }
+    ensures lawful { IsLawfulCommand (view result) }
+{
+    match text {
+        [b'X', ..] => from_x(text),
+        [b'Y', ..] => from_x(text),
+        [b'D', ..] => coded(text),
+        _ => general(text),
+    }
+}
+
+#[tactic(auto, unfolding(crate::specs::WordCommands::plain))]
+fn general(text: &[u8]) -> Command<'_>
     ensures value { view result ≡ spec.plain text.now }
     ensures lawful { IsLawfulCommand (view result) }
 {
@@ -442,9 +500,9 @@ pub fn from_x(text: &[u8]) -> Command<'_>
     ensures value { view result ≡ spec.from_x text.now }
     ensures lawful { IsLawfulCommand (view result) }
 {
-    let (x, rest) = part(text, b'X');
-    let (y, rest) = part(rest, b'Y');
-    from_i(x, y, rest)
+    let (x, x_good, rest) = judged_part(text, b'X');
+    let (y, y_good, rest) = judged_part(rest, b'Y');
+    from_i(x, y, x_good && y_good, rest)
 }
 
 fn is_offset_letter(b: u8) -> bool
@@ -470,13 +528,15 @@ fn are_numbers(text: &[u8]) -> bool
         .all(|digits| is_number(digits))
 }
 
+// The numbers are good where both are numbers.
 #[tactic(auto, unfolding(crate::specs::WordCommands::from_i))]
-fn from_i<'a>(x: Option<&'a [u8]>, y: Option<&'a [u8]>, text: &'a [u8]) -> Command<'a>
+fn from_i<'a>(x: Option<&'a [u8]>, y: Option<&'a [u8]>, good: bool, text: &'a [u8]) -> Command<'a>
+    requires good { good ≡ (spec.is_number_if (option_copied x) && spec.is_number_if (option_copied y)) }
     ensures value { view result ≡ spec.from_i (option_copied x.entry) (option_copied y.entry) text.now }
     ensures lawful { IsLawfulCommand (view result) }
 {
     let len = run_len::<Offsets>(text);
-    operation_of(x, y, &text[..len], &text[len..])
+    operation_of(x, y, good, &text[..len], &text[len..])
 }
 
 // An operation by its parts, where behind them stands a text.
@@ -484,13 +544,15 @@ fn from_i<'a>(x: Option<&'a [u8]>, y: Option<&'a [u8]>, text: &'a [u8]) -> Comma
 fn operation_of<'a>(
     x: Option<&'a [u8]>,
     y: Option<&'a [u8]>,
+    good: bool,
     offsets: &[u8],
     text: &[u8],
 ) -> Command<'a>
+    requires good { good ≡ (spec.is_number_if (option_copied x) && spec.is_number_if (option_copied y)) }
     ensures value { view result ≡ spec.operation_of (option_copied x.entry) (option_copied y.entry) offsets.now text.now }
     ensures lawful { IsLawfulCommand (view result) }
 {
-    if !(is_number_if(x) && is_number_if(y)) {
+    if !good {
         return Command::Refused(GerberKind::BadWord);
     }
     if !are_offsets(offsets) {
@@ -509,6 +571,7 @@ fn operation_of<'a>(
     Command::Operate(x, y, code)
 }
 
+/// Whether there is no number in digits, or one.
 pub fn is_number_if(digits: Option<&[u8]>) -> bool
     ensures { result ≡ spec.is_number_if (option_copied digits.entry) }
 {

@@ -44,17 +44,22 @@ step_of Inch = 25400
 unfoldable pub placed : Measure → Coordinate → Result ℤ RecordKind
 placed unit c = unless (nat_lt METRE (c.steps * step_of unit)) kind.OutOfRange (Ok (signed c.negative (c.steps * step_of unit)))
 
+-- a test record by its coordinates, with the unit, the name and the access before them
+abbrev pub located : Known → TestFields → Measure → List ℕ → ℕ → Result Effect RecordKind
+located k f unit name access = do
+  x ← needed kind.BadNumber f.x
+  y ← needed kind.BadNumber f.y
+  to_x ← placed unit x
+  to_y ← placed unit y
+  unless (nat_le MOST_RECORDS k.records) kind.TooManyRecords (Ok (adds name access (record { x = to_x; y = to_y })))
+
 -- a test record, by its conditions in order
 unfoldable pub test_record : Known → TestFields → Result Effect RecordKind
 test_record k f = do
   unit ← needed kind.MissingUnits k.unit
   name ← needed kind.BadName f.name
   access ← needed kind.BadAccess (within k.layers f.access)
-  x ← needed kind.BadNumber f.x
-  y ← needed kind.BadNumber f.y
-  to_x ← placed unit x
-  to_y ← placed unit y
-  unless (nat_le MOST_RECORDS k.records) kind.TooManyRecords (Ok (adds name access (record { x = to_x; y = to_y })))
+  located k f unit name access
 
 -- a parameter record with the word `UNITS`
 unfoldable pub set_unit : Option Measure → Option Measure → Result Effect RecordKind

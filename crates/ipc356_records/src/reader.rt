@@ -61,6 +61,22 @@ impl<'a> Reader<'a> {
         let unit = needed(RecordKind::MissingUnits, self.unit)?;
         let name = needed(RecordKind::BadName, fields.name)?;
         let access = needed(RecordKind::BadAccess, within(self.layers, fields.access))?;
+        self.located(fields, unit, name, access)
+    }
+
+    // A test record by its coordinates. A row of seven question marks would cost its proof twice.
+    fn located(
+        &self,
+        fields: TestFields,
+        unit: Unit,
+        name: &'a [u8],
+        access: u32,
+    ) -> Result<Effect<'a>, RecordKind>
+        requires lawful { IsName (Some name.now) }
+        requires within { access ≤ self.now.layers }
+        ensures value { showing result ≡ spec.located (known_of self.now) (view_fields fields.entry) unit name.now access }
+        ensures fit { IfOk result (λ e. IsFit self.now (shown e)) }
+    {
         let x = needed(RecordKind::BadNumber, fields.x)?;
         let y = needed(RecordKind::BadNumber, fields.y)?;
         let x = placed(unit, x)?;

@@ -182,17 +182,15 @@ fn coded<'a>(line: &Record<'a>) -> RecordLine<'a>
     ensures value { view result ≡ spec.coded line.now.text.now }
     ensures lawful { IsLawfulForm (view result) }
 {
-    let text = line.text;
-    if begins(text, b"999") {
-        RecordLine::End
-    } else if begins(text, b"017") || begins(text, b"027") {
-        RecordLine::Continuation
-    } else if begins(text, b"317") || begins(text, b"327") {
-        RecordLine::Test(fields_in(line))
-    } else if is_other(text) {
-        RecordLine::Unread
-    } else {
-        RecordLine::Unknown
+    match line.text {
+        [b'9', b'9', b'9', ..] => RecordLine::End,
+        [b'0', b'1' | b'2', b'7', ..] => RecordLine::Continuation,
+        [b'3', b'1' | b'2', b'7', ..] => RecordLine::Test(fields_in(line)),
+        text => if is_other(text) {
+            RecordLine::Unread
+        } else {
+            RecordLine::Unknown
+        },
     }
 }
 
@@ -203,12 +201,11 @@ pub fn read_form<'a>(line: &Record<'a>) -> RecordLine<'a>
     ensures lawful { IsLawfulForm (view result) }
 {
     if all_blank(line.columns(1, 57)) {
-        RecordLine::Blank
-    } else if begins(line.text, b"C") {
-        RecordLine::Unread
-    } else if begins(line.text, b"P") {
-        parameter(line.columns(2, 57))
-    } else {
-        coded(line)
+        return RecordLine::Blank;
+    }
+    match line.text {
+        [b'C', ..] => RecordLine::Unread,
+        [b'P', ..] => parameter(line.columns(2, 57)),
+        _ => coded(line),
     }
 }

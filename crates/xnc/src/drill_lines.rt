@@ -254,12 +254,15 @@ fn command(text: &[u8]) -> DrillLine
     body_line(text)
 }
 
-#[tactic(auto, unfolding(crate::specs::DrillLines::within_blanks))]
+// Most lines are places, which their first letter tells.
+#[tactic(auto, unfolding(crate::specs::DrillLines::within_blanks, crate::specs::DrillLines::command, crate::specs::DrillLines::body_line))]
 fn within_blanks(span: Span, text: &[u8]) -> DrillLine
     ensures { result ≡ spec.within_blanks span.from span.to text.now }
 {
     match text {
         [] => DrillLine::Blank,
+        [b'X', ..] => place_line(text),
+        [b'Y', ..] => place_line(text),
         [b';', ..] => comment(span, text),
         _ => command(text),
     }
