@@ -1,26 +1,29 @@
 -- A real board is covered by a board above whose pieces stand for its own, and covers one below.
 use Rattle.std.proofs.Common.{◌≡◌, ◌⊎◌, inl, inr, ℕ, suc, option_map, ◌+◌, ◌≤◌, ◌<◌, ℤ, pos, List, [], ◌∷◌, length, map, take, sum, All, Some, slice_get, refl, sym, ap, ◌∙◌, subst, arith}
 use Rattle.std.proofs.lemmas.List.{length-map}
-use Rattle.std.proofs.lemmas.List.Elements.{All-head, All-tail}
+use Rattle.std.proofs.lemmas.List.Elements.{All-head, All-same, All-tail}
 use Rattle.std.proofs.lemmas.Option.{same_Some, slice_get-map, slice_get_cases, slice_get_within}
 use Rattle.planar.specs.Plane.{Point}
 use Rattle.planar.specs.declared.Spot.{Spot}
-use Rattle.board_shapes.specs.Figures.{Figure, InFigure, figure_of, round}
+use Rattle.board_shapes.specs.Figures.{Figure, InFigure, figure_of, filled, round}
 use Rattle.board_shapes.specs.Pieces.{PlainPiece}
 use Rattle.board_shapes.specs.Plain.{PlainBoard}
 use Rattle.board_shapes.specs.declared.placed.Placed.{Placed}
-use Rattle.covers.specs.Boards.{Layout, Span}
+use Rattle.contact.specs.Solid.{SharePoint}
+use Rattle.covers.specs.Boards.{Layout, Span, TouchAt}
 use Rattle.covers.specs.Covering.{IsCovered}
+use Rattle.arc_regions.specs.Copper.{InRegion}
 use Rattle.covers.specs.Plain.{InPiece, layout_of, span_of}
-use Rattle.arc_covers.specs.Bounds.{AreBounds, IsOn, StandFor, capsules_from, capsules_of, figures_of, share_of}
+use Rattle.arc_covers.specs.Bounds.{AreBounds, HoldTogether, InSome, IsOn, StandFor, capsules_from, capsules_of, figures_of, share_of}
 use Rattle.covers.specs.Laws as covers
 use Rattle.verdict.specs.declared.verdict.Verdict.{Verdict}
 use Rattle.arc_covers.specs.Laws.{AreBoundsOf, AreJudged, LiesBetween}
 use Rattle.arc_covers.specs.RealBoards.{IsCopperOf, IsReal, real_span}
-use Rattle.arcs.specs.declared.real_shape.RealShape.{RealShape}
-use Rattle.arcs.specs.declared.real_shape.RealShape.TheVariants.{Plain, ArcDraw}
+use Rattle.real_shapes.specs.declared.RealShape.{RealShape}
+use Rattle.real_shapes.specs.declared.RealShape.TheVariants.{Plain, ArcDraw, Region, Slanted}
 use Rattle.arc_covers.specs.declared.side.Side.TheVariants.{Below, Above}
-use Rattle.arc_covers.proofs.Covered.{AreChain, AreLinks, by_piece, covered, linked}
+use Rattle.arc_covers.proofs.Figures.{as_many}
+use Rattle.arc_covers.proofs.Covered.{AreChain, AreLinks, by_piece, covered, linked, star}
 use Rattle.arc_covers.proofs.Shares.{IsAt, placed, share_at, share_length}
 
 -- ---- pieces of a board of figures
@@ -58,10 +61,6 @@ chain_at : (b : PlainBoard) (span : Span) (r : ℤ) (first : ℕ) (chain : List 
 chain_at b span r first [] part at same on = tt
 chain_at b span r first (a ∷ rest) part at same on = links b span r first a rest part at same on
 
-as_many : (a : Spot) (rest : List Spot) (r : ℤ) → length (capsules_from a rest r) ≡ length rest
-as_many a [] r = refl
-as_many a (b ∷ rest) r = ap suc (as_many b rest r)
-
 chain_length : (chain : List Spot) (r : ℤ) (part : List PlainPiece) (j first : ℕ) → figures_of part ≡ capsules_of chain r → first ≤ j → j < first + length part → j + 1 < first + length chain
 chain_length [] r part j first same from to =
     let n : length (figures_of part) ≡ 0 = ap length same in
@@ -77,30 +76,109 @@ chain_length (a ∷ rest) r part j first same from to =
 past_end : (holds : ℕ → Point → Type 0) (b : Layout) (holds' : ℕ → Point → Type 0) (c : Layout) (i : ℕ) → length b.spans ≤ i → IsCovered holds b holds' c i
 past_end holds b holds' c i past = record { cover = []; covers = λ layer p h. let within = slice_get_within b.spans i h.span h.span_is in absurd (omega arith); joined = λ j k (n, within, same) g. absurd (omega arith) }
 
+-- ---- pieces that hold together
+
+some_piece : (b : PlainBoard) (span : Span) (ps : List PlainPiece) (first : ℕ) → IsAt b.pieces first ps → All (IsOn span.top span.bottom) ps → (q : Point) → InSome (figures_of ps) q
+    → (j : ℕ) × (first ≤ j) × (j < first + length ps) × (slice_get (map span_of b.pieces) j ≡ Some span) × InPiece b j q
+some_piece b span [] first at on q h = absurd h
+some_piece b span (p ∷ ps) first (here, more) on q (inl h) = (first, omega arith, omega arith, has_span b span first p here (All-head (IsOn span.top span.bottom) p ps on), in_piece b first p p.figure q here refl h)
+some_piece b span (p ∷ ps) first (here, more) on q (inr h) =
+    let w = some_piece b span ps (suc first) more (All-tail (IsOn span.top span.bottom) p ps on) q h in
+    let from = w.1 in
+    let to = w.2 in
+    (w.0, omega arith, omega arith, w.3, w.4)
+
+-- the piece touches each of the others
+touching : (b : PlainBoard) (span : Span) → span.top ≤ span.bottom → (first : ℕ) (p : PlainPiece) (f : Figure) → slice_get b.pieces first ≡ Some p → p.figure ≡ f → IsOn span.top span.bottom p
+    → (ps : List PlainPiece) (n : ℕ) → IsAt b.pieces n ps → All (IsOn span.top span.bottom) ps → All (λ g. SharePoint (InFigure f) (InFigure g)) (figures_of ps)
+    → (j : ℕ) → n ≤ j → j < n + length ps → TouchAt (InPiece b) (layout_of b) first j × TouchAt (InPiece b) (layout_of b) j first
+touching b span some first p f there figure on [] n at each meet j from to = absurd (omega arith)
+touching b span some first p f there figure on (q ∷ ps) n (here, more) each meet j from to = elim (cases n j from) [
+  | inl same ↦ subst (λ (m : ℕ). TouchAt (InPiece b) (layout_of b) first m × TouchAt (InPiece b) (layout_of b) m first) same (both (All-head (λ g. SharePoint (InFigure f) (InFigure g)) q.figure (figures_of ps) meet))
+  | inr after ↦ touching b span some first p f there figure on ps (suc n) more (All-tail (IsOn span.top span.bottom) q ps each) (All-tail (λ g. SharePoint (InFigure f) (InFigure g)) q.figure (figures_of ps) meet) j after (omega arith)
+]
+  where
+    cases : (n m : ℕ) → n ≤ m → (n ≡ m) ⊎ (suc n ≤ m)
+    cases n m h = grind arith
+
+    both : SharePoint (InFigure f) (InFigure q.figure) → TouchAt (InPiece b) (layout_of b) first n × TouchAt (InPiece b) (layout_of b) n first
+    both s = (
+      record {
+        first = span;
+        second = span;
+        first_is = has_span b span first p there on;
+        second_is = has_span b span n q here (All-head (IsOn span.top span.bottom) q ps each);
+        layer = omega (arith, some);
+        share = record { point = s.point; in_first = in_piece b first p f s.point there figure s.in_first; in_second = in_piece b n q q.figure s.point here refl s.in_second };
+      },
+      record {
+        first = span;
+        second = span;
+        first_is = has_span b span n q here (All-head (IsOn span.top span.bottom) q ps each);
+        second_is = has_span b span first p there on;
+        layer = omega (arith, some);
+        share = record { point = s.point; in_first = in_piece b n q q.figure s.point here refl s.in_second; in_second = in_piece b first p f s.point there figure s.in_first };
+      },
+    )
+
 -- ---- one piece of the real board and its share
 
 module _ (holds : ℕ → Point → Type 0) (real : Layout) (b : PlainBoard) (span : Span) (i first : ℕ) (there : slice_get real.spans i ≡ Some span) (some : span.top ≤ span.bottom) (part : List PlainPiece) (at : IsAt b.pieces first part) (on : All (IsOn span.top span.bottom) part) where
-  above_shape : (shape : RealShape) → IsCopperOf shape (holds i) → StandFor Above shape (figures_of part) → IsCovered holds real (InPiece b) (layout_of b) i
-  above_shape (Plain shape) copper same = one part at on same where
-    one : (ps : List PlainPiece) → IsAt b.pieces first ps → All (IsOn span.top span.bottom) ps → figures_of ps ≡ figure_of shape ∷ [] → IsCovered holds real (InPiece b) (layout_of b) i
+  -- one figure that holds the copper
+  above_one : (f : Figure) → figures_of part ≡ f ∷ [] → ((q : Point) → holds i q → InFigure f q) → IsCovered holds real (InPiece b) (layout_of b) i
+  above_one f same all = one part at on same where
+    one : (ps : List PlainPiece) → IsAt b.pieces first ps → All (IsOn span.top span.bottom) ps → figures_of ps ≡ f ∷ [] → IsCovered holds real (InPiece b) (layout_of b) i
     one [] at on same = absurd cc
     one (p ∷ ps) (here, more) on same =
-        let figure : p.figure ≡ figure_of shape = cc in
-        by_piece holds real (InPiece b) (layout_of b) span (pos 0) first (has_span b span first p here (All-head (IsOn span.top span.bottom) p ps on)) i there (λ q h. in_piece b first p (figure_of shape) q here figure ((copper q).1 h))
-  above_shape (ArcDraw arc) copper (chain, r, same, bound) = covered holds real (InPiece b) (layout_of b) span (pos r) some i first chain there (chain_at b span (pos r) first chain part at same on) (λ p h. bound p (copper.most p h))
+        let figure : p.figure ≡ f = cc in
+        by_piece holds real (InPiece b) (layout_of b) span (pos 0) first (has_span b span first p here (All-head (IsOn span.top span.bottom) p ps on)) i there (λ q h. in_piece b first p f q here figure (all q h))
 
-  below_shape : (shape : RealShape) → IsCopperOf shape (holds i) → StandFor Below shape (figures_of part) → (j : ℕ) → first ≤ j → j < first + length part → IsCovered (InPiece b) (layout_of b) holds real j
-  below_shape (Plain shape) copper same j from to = one part at on same to where
-    one : (ps : List PlainPiece) → IsAt b.pieces first ps → All (IsOn span.top span.bottom) ps → figures_of ps ≡ figure_of shape ∷ [] → j < first + length ps → IsCovered (InPiece b) (layout_of b) holds real j
+  -- one figure that lies in it
+  below_one : (f : Figure) → figures_of part ≡ f ∷ [] → ((q : Point) → InFigure f q → holds i q) → (j : ℕ) → first ≤ j → j < first + length part → IsCovered (InPiece b) (layout_of b) holds real j
+  below_one f same all j from to = one part at on same to where
+    one : (ps : List PlainPiece) → IsAt b.pieces first ps → All (IsOn span.top span.bottom) ps → figures_of ps ≡ f ∷ [] → j < first + length ps → IsCovered (InPiece b) (layout_of b) holds real j
     one [] at on same to = absurd cc
     one (p ∷ q ∷ ps) at on same to = absurd cc
     one (p ∷ []) (here, more) on same to =
-        let figure : p.figure ≡ figure_of shape = cc in
+        let figure : p.figure ≡ f = cc in
         let only : first ≡ j = omega arith in
         subst (λ (n : ℕ). IsCovered (InPiece b) (layout_of b) holds real n) only
-        (by_piece (InPiece b) (layout_of b) holds real span (pos 0) i there first (has_span b span first p here (All-head (IsOn span.top span.bottom) p [] on)) (λ q h. (copper q).0 (out_of_piece b first p (figure_of shape) q here figure h)))
+        (by_piece (InPiece b) (layout_of b) holds real span (pos 0) i there first (has_span b span first p here (All-head (IsOn span.top span.bottom) p [] on)) (λ q h. all q (out_of_piece b first p f q here figure h)))
+
+  below_none : figures_of part ≡ [] → (j : ℕ) → first ≤ j → j < first + length part → IsCovered (InPiece b) (layout_of b) holds real j
+  below_none none j from to =
+      let n : length (figures_of part) ≡ 0 = ap length none in
+      let m = length-map part (λ (p : PlainPiece). p.figure) in
+      absurd (omega arith)
+
+  -- figures that hold it together: each touches the first
+  above_all : (P : Point → Type 0) → ((q : Point) → holds i q → P q) → HoldTogether P (figures_of part) → IsCovered holds real (InPiece b) (layout_of b) i
+  above_all P inside h = all part at on h.are where
+    all : (ps : List PlainPiece) → IsAt b.pieces first ps → All (IsOn span.top span.bottom) ps → figures_of ps ≡ h.first ∷ h.rest → IsCovered holds real (InPiece b) (layout_of b) i
+    all [] at on same = absurd cc
+    all (p ∷ ps) (here, more) on same =
+        let figure : p.figure ≡ h.first = cc in
+        let others : figures_of ps ≡ h.rest = cc in
+        let heads = All-head (IsOn span.top span.bottom) p ps on in
+        let tails = All-tail (IsOn span.top span.bottom) p ps on in
+        star holds real (InPiece b) (layout_of b) span i first (length ps) there
+        (λ q k. some_piece b span (p ∷ ps) first (here, more) on q (subst (λ (fs : List Figure). InSome fs q) (sym same) (subst (λ (fs : List Figure). InSome fs q) h.are (h.hold q (inside q k)))))
+        (touching b span some first p h.first here figure heads ps (suc first) more tails (All-same (λ g. SharePoint (InFigure h.first) (InFigure g)) (figures_of ps) h.rest others h.meet))
+
+  above_shape : (shape : RealShape) → IsCopperOf shape (holds i) → StandFor Above shape (figures_of part) → IsCovered holds real (InPiece b) (layout_of b) i
+  above_shape (Plain shape) copper same = above_one (figure_of shape) same (λ q h. (copper q).1 h)
+  above_shape (ArcDraw arc) copper (chain, r, same, bound) = covered holds real (InPiece b) (layout_of b) span (pos r) some i first chain there (chain_at b span (pos r) first chain part at same on) (λ p h. bound p (copper.most p h))
+  above_shape (Slanted line) copper (points, same, bound) = above_one (filled points) same (λ q h. bound q ((copper q).1 h))
+  above_shape (Region area) copper together = above_all (InRegion area.start area.parts.items) (λ q h. (copper q).1 h) together
+
+  below_shape : (shape : RealShape) → IsCopperOf shape (holds i) → StandFor Below shape (figures_of part) → (j : ℕ) → first ≤ j → j < first + length part → IsCovered (InPiece b) (layout_of b) holds real j
+  below_shape (Plain shape) copper same j from to = below_one (figure_of shape) same (λ q h. (copper q).0 h) j from to
   below_shape (ArcDraw arc) copper (chain, r, same, bound) j from to =
       linked (InPiece b) (layout_of b) holds real span (pos r) i there first chain (chain_at b span (pos r) first chain part at same on) (λ p h. copper.least p (bound p h)) j from (chain_length chain (pos r) part j first same from to)
+  below_shape (Slanted line) copper (inl none) j from to = below_none none j from to
+  below_shape (Slanted line) copper (inr (points, same, bound)) j from to = below_one (filled points) same (λ q h. (copper q).0 (bound q h)) j from to
+  below_shape (Region area) copper (inl none) j from to = below_none none j from to
+  below_shape (Region area) copper (inr (points, same, bound)) j from to = below_one (filled points) same (λ q h. (copper q).0 (bound q h)) j from to
 
 -- ---- whole boards
 

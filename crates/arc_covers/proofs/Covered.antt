@@ -79,6 +79,49 @@ module _ (holds : ℕ → Point → Type 0) (b : Layout) (holds' : ℕ → Point
     joined = joined first a rest links;
   }
 
+-- ---- pieces that hold it together, the first of which touches each other
+
+abbrev upto : ℕ → ℕ → List ℕ
+upto first zero = []
+upto first (suc n) = first ∷ upto (suc first) n
+
+in_upto : (first n j : ℕ) → first ≤ j → j < first + n → Contains (upto first n) j
+in_upto first zero j from to = absurd (omega arith)
+in_upto first (suc n) j from to = elim (cases first j from) [
+  | inl same ↦ (0, omega arith, same)
+  | inr more ↦ later first j (upto (suc first) n) (in_upto (suc first) n j more (omega arith))
+]
+  where
+    cases : (n m : ℕ) → n ≤ m → (n ≡ m) ⊎ (suc n ≤ m)
+    cases n m h = grind arith
+
+of_upto : (first n j : ℕ) → Contains (upto first n) j → (first ≤ j) × (j < first + n)
+of_upto first zero j (k, within, same) = absurd (omega arith)
+of_upto first (suc n) j h = elim (first_or_later first j (upto (suc first) n) h) [
+  | inl same ↦ (omega arith, omega arith)
+  | inr k ↦ let w = of_upto (suc first) n j k in let from = w.0 in let to = w.1 in (omega arith, omega arith)
+]
+
+pub star : (holds : ℕ → Point → Type 0) (b : Layout) (holds' : ℕ → Point → Type 0) (c : Layout) (span : Span) (i first n : ℕ) → slice_get b.spans i ≡ Some span
+    → ((p : Point) → holds i p → (j : ℕ) × (first ≤ j) × (j < first + suc n) × (slice_get c.spans j ≡ Some span) × holds' j p)
+    → ((j : ℕ) → suc first ≤ j → j < suc first + n → TouchAt holds' c first j × TouchAt holds' c j first) → IsCovered holds b holds' c i
+star holds b holds' c span i first n is holds_all touch = record {
+  cover = upto first (suc n);
+  covers = λ layer p h.
+      let same : h.span ≡ span = same_Some h.span span (sym h.span_is ∙ is) in
+      let w = holds_all p h.place in (w.0, in_upto first (suc n) w.0 w.1 w.2, record { span = span; span_is = w.3; layers = subst (λ (s : Span). InSpan s.top s.bottom layer) same h.layers; place = w.4 });
+  joined = λ j k h g. by j k (first_or_later first j (upto (suc first) n) h) (first_or_later first k (upto (suc first) n) g);
+}
+  where
+    near : (j : ℕ) → Contains (upto (suc first) n) j → TouchAt holds' c first j × TouchAt holds' c j first
+    near j h = let w = of_upto (suc first) n j h in touch j w.0 w.1
+
+    by : (j k : ℕ) → (first ≡ j) ⊎ Contains (upto (suc first) n) j → (first ≡ k) ⊎ Contains (upto (suc first) n) k → Joined holds' c j k
+    by j k (inl x) (inl y) = ([], sym x ∙ y)
+    by j k (inl x) (inr y) = (k ∷ [], (subst (λ (m : ℕ). TouchAt holds' c m k) x (near k y).0, refl))
+    by j k (inr x) (inl y) = (k ∷ [], (subst (λ (m : ℕ). TouchAt holds' c j m) y (near j x).1, refl))
+    by j k (inr x) (inr y) = (first ∷ k ∷ [], ((near j x).1, ((near k y).0, refl)))
+
 -- ---- and the other way round: each capsule of a chain that lies in a piece is covered by it
 
 module _ (holds : ℕ → Point → Type 0) (b : Layout) (holds' : ℕ → Point → Type 0) (c : Layout) (span : Span) (r : ℤ) (i : ℕ) (there : slice_get c.spans i ≡ Some span) where

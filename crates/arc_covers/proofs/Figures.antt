@@ -1,5 +1,5 @@
 -- Figures that are the same, and rows of capsules.
-use Rattle.std.proofs.Common.{◌≡◌, ◌↔◌, ◌&&◌, inl, inr, ℕ, ◌+◌, ◌≤◌, ◌<◌, ℤ, pos, unsigned_abs, List, [], ◌∷◌, ◌++◌, length, take, drop, All, Bool, false, IsTrue, Result, Ok, Err, IfOk, Option, Some, None, IfSome, IfNone, slice_get, get_or, refl, sym, ap, ◌∙◌, subst, append-nil}
+use Rattle.std.proofs.Common.{◌≡◌, ◌↔◌, ◌&&◌, inl, inr, ℕ, suc, ◌+◌, ◌≤◌, ◌<◌, ℤ, pos, unsigned_abs, List, [], ◌∷◌, ◌++◌, length, take, drop, All, Bool, false, IsTrue, Result, Ok, Err, IfOk, Option, Some, None, IfSome, IfNone, slice_get, get_or, refl, sym, ap, ◌∙◌, subst, append-nil}
 use Rattle.std.specs.Bool.{Decides}
 use Rattle.std.specs.Ordering.{int_eq}
 use Rattle.std.proofs.lemmas.Bool.Decides.{Decides-and, Decides-int_eq, Decides-like}
@@ -15,10 +15,14 @@ use Rattle.arcs.specs.declared.Arc.{Arc}
 use Rattle.lengths.specs.declared.rows.NoMemory.{NoMemory}
 use Rattle.arcs.specs.Copper.{InChain}
 use Rattle.arcs.specs.Laws.{TakenIsBetween}
-use Rattle.arc_covers.specs.Bounds.{IsBound, IsOn, PiecesStandFor, StandFor, capsules_from, capsules_of, figures_of}
-use Rattle.arc_covers.specs.Taken.{IsTaken, PiecesAreTaken, StandTaken}
-use Rattle.arcs.specs.declared.real_shape.RealShape.{RealShape}
-use Rattle.arcs.specs.declared.real_shape.RealShape.TheVariants.{ArcDraw, Plain}
+use Rattle.slants.specs.Laws as slants
+use Rattle.slants.specs.declared.Slant.{Slant}
+use Rattle.arc_covers.specs.Bounds.{BoundRegion, IsBound, IsLineBound, IsOn, ContourFor, PiecesStandFor, StandFor, capsules_from, capsules_of, figures_of}
+use Rattle.arc_regions.specs.Copper.{InRegion}
+use Rattle.arc_regions.specs.declared.Region.{Region as Contour}
+use Rattle.arc_covers.specs.Taken.{IsLineTaken, IsTaken, PiecesAreTaken, RegionTaken, StandTaken}
+use Rattle.real_shapes.specs.declared.RealShape.{RealShape}
+use Rattle.real_shapes.specs.declared.RealShape.TheVariants.{ArcDraw, Plain, Region, Slanted}
 use Rattle.arc_covers.specs.declared.side.Side.{Side}
 use Rattle.arc_covers.specs.declared.side.Side.TheVariants.{Above, Below}
 
@@ -82,16 +86,21 @@ one_chain (a ∷ b ∷ rest) (c ∷ d ∷ other) r s f figures is same =
     let head = round_parts a b c d (pos r) (pos s) parts.0 in
     (cons_is head.0 (cons_is head.1 (one_rest b d rest other (pos r) (pos s) parts.1)), same_number r s head.2)
 
+-- as many as spots behind the first
+pub as_many : (a : Spot) (rest : List Spot) (r : ℤ) → length (capsules_from a rest r) ≡ length rest
+as_many a [] r = refl
+as_many a (b ∷ rest) r = ap suc (as_many b rest r)
+
 -- the first of the capsules
-first_stroke : (chain : List Spot) (s : ℤ) (f : Figure) (figures : List Figure) → f ∷ figures ≡ capsules_of chain s → (a : Spot) × (b : Spot) × (rest : List Spot) × (f ≡ round (record { a = a; b = b; r = s })) × (f ∷ figures ≡ capsules_from a (b ∷ rest) s)
+pub first_stroke : (chain : List Spot) (s : ℤ) (f : Figure) (figures : List Figure) → f ∷ figures ≡ capsules_of chain s → (a : Spot) × (b : Spot) × (rest : List Spot) × (f ≡ round (record { a = a; b = b; r = s })) × (f ∷ figures ≡ capsules_from a (b ∷ rest) s)
 first_stroke [] s f figures is = absurd cc
 first_stroke (a ∷ []) s f figures is = absurd cc
 first_stroke (a ∷ b ∷ rest) s f figures is = (a, b, rest, (cons_parts f (round (record { a = a; b = b; r = s })) figures (capsules_from b rest s) is).0, is)
 
 -- ---- walking along a chain
 
-pub cut_at : (pieces : List (Placed Shape)) (i : ℕ) (piece : Placed Shape) → i < length pieces → piece ≡ get_or pieces i piece → drop i pieces ≡ piece ∷ drop (i + 1) pieces
-cut_at pieces i piece below is = drop_more pieces i piece below ∙ ap (λ (p : Placed Shape). p ∷ drop (i + 1) pieces) (sym is)
+pub cut_at : {X : Type 0} (xs : List X) (i : ℕ) (x : X) → i < length xs → x ≡ get_or xs i x → drop i xs ≡ x ∷ drop (i + 1) xs
+cut_at xs i x below is = drop_more xs i x below ∙ ap (λ (y : _). y ∷ drop (i + 1) xs) (sym is)
 
 pub some_of : {A : Type 0} (o : Option A) (x : A) (P : A → Type 0) → o ≡ Some x → IfSome o P → P x
 some_of o x P e h = subst (λ (q : Option _). IfSome q P) e h
@@ -170,23 +179,34 @@ pieces_taken side real shape pieces b is on told = (
   λ t. told.1 (subst (λ (s : RealShape). StandTaken side s (figures_of (plain_pieces pieces))) is t.figures),
 )
 
-pub chain_pieces_taken : (side : Side) (real : Placed RealShape) (arc : Arc) (pieces : List (Placed Shape)) (r : Result Bool NoMemory) → real.shape ≡ ArcDraw arc → All (λ (p : Placed Shape). IsOn real.top real.bottom (plain_piece p)) pieces
-    → IfOk r (λ yes. IsTrue yes ↔ StandTaken side (ArcDraw arc) (figures_of (plain_pieces pieces))) → IfOk r (λ yes. IsTrue yes ↔ PiecesAreTaken side real (plain_pieces pieces))
-chain_pieces_taken side real arc pieces (Ok answer) is on told = pieces_taken side real (ArcDraw arc) pieces answer is on told
-chain_pieces_taken side real arc pieces (Err e) is on told = tt
+pub answer_taken : (side : Side) (real : Placed RealShape) (shape : RealShape) (pieces : List (Placed Shape)) (r : Result Bool NoMemory) → real.shape ≡ shape → All (λ (p : Placed Shape). IsOn real.top real.bottom (plain_piece p)) pieces
+    → IfOk r (λ yes. IsTrue yes ↔ StandTaken side shape (figures_of (plain_pieces pieces))) → IfOk r (λ yes. IsTrue yes ↔ PiecesAreTaken side real (plain_pieces pieces))
+answer_taken side real shape pieces (Ok answer) is on told = pieces_taken side real shape pieces answer is on told
+answer_taken side real shape pieces (Err e) is on told = tt
 
 pub layers_refused : (side : Side) (real : Placed RealShape) (pieces : List (Placed Shape)) (b on : Bool) → b ≡ false → on ≡ false → IsTrue on ↔ All (λ (p : Placed Shape). IsOn real.top real.bottom (plain_piece p)) pieces → IsTrue b ↔ PiecesAreTaken side real (plain_pieces pieces)
 layers_refused side real pieces b on is off told = (λ yes. absurd cc, λ t. let yes = told.1 (of_pieces (IsOn real.top real.bottom) pieces t.layers) in absurd cc)
 
 -- what is taken stands
-pub stands : (side : Side) (real : Placed RealShape) (pieces : List PlainPiece) → TakenIsBetween → PiecesAreTaken side real pieces → PiecesStandFor side real pieces
-stands side real pieces law t = record { figures = by side real.shape t.figures; layers = t.layers }
+pub stands : (side : Side) (real : Placed RealShape) (pieces : List PlainPiece) → TakenIsBetween → slants.TakenIsBetween → ((side : Side) (area : Contour) (figures : List Figure) → RegionTaken side area figures → BoundRegion side (InRegion area.start area.parts.items) figures) → PiecesAreTaken side real pieces → PiecesStandFor side real pieces
+stands side real pieces law lines regions t = record { figures = by side real.shape t.figures; layers = t.layers }
   where
     bound : (side : Side) (arc : Arc) (chain : List Spot) (r : ℕ) → IsTaken side arc chain r → IsBound side arc chain (pos r)
     bound Below arc chain r (inl none) = λ p inside. absurd (subst (λ (c : List Spot). InChain c (pos r) p) none inside)
     bound Below arc chain r (inr taken) = λ p inside. (law arc chain r p).0 taken inside
     bound Above arc chain r taken = λ p inside. (law arc chain r p).1 taken inside
 
+    line_bound : (side : Side) (line : Slant) (points : List Spot) → IsLineTaken side line points → IsLineBound side line points
+    line_bound Below line points taken = λ p inside. (lines line points p).0 taken inside
+    line_bound Above line points taken = λ p inside. (lines line points p).1 taken inside
+
+    one_area : (side : Side) (P Q : List Spot → Type 0) (figures : List Figure) → ((points : List Spot) → P points → Q points) → ContourFor side P figures → ContourFor side Q figures
+    one_area Below P Q figures more (inl none) = inl none
+    one_area Below P Q figures more (inr (points, same, h)) = inr (points, same, more points h)
+    one_area Above P Q figures more (points, same, h) = (points, same, more points h)
+
     by : (side : Side) (shape : RealShape) → StandTaken side shape (figures_of pieces) → StandFor side shape (figures_of pieces)
     by side (Plain shape) same = same
     by side (ArcDraw arc) (chain, r, same, taken) = (chain, r, same, bound side arc chain r taken)
+    by side (Slanted line) h = one_area side (IsLineTaken side line) (IsLineBound side line) (figures_of pieces) (line_bound side line) h
+    by side (Region area) h = regions side area (figures_of pieces) h

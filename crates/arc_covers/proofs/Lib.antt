@@ -1,8 +1,13 @@
 mod Bounded
+mod Contours
 mod Counted
 mod Covered
 mod Figures
 mod Findings
 mod Listed
+mod Lying
+mod Parts
 mod Shares
 mod Steps
+mod Told
+mod Turning

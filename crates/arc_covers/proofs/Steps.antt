@@ -8,7 +8,7 @@ use Rattle.board_shapes.specs.declared.placed.Placed.{Placed}
 use Rattle.board_shapes.specs.declared.shape.Shape.{Shape}
 use Rattle.arc_covers.specs.Bounds.{AddUp, share_of}
 use Rattle.arc_covers.specs.Taken.{FirstTaken, PiecesAreTaken}
-use Rattle.arcs.specs.declared.real_shape.RealShape.{RealShape}
+use Rattle.real_shapes.specs.declared.RealShape.{RealShape}
 use Rattle.arc_covers.specs.declared.side.Side.{Side}
 
 -- what is cut out of the pieces is the share

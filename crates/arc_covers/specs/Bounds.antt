@@ -1,14 +1,18 @@
 -- What stands for the pieces of a real board on a board below it, and on one above it.
-use Rattle.std.specs.Prelude.{ℕ, ℤ, pos, ◌≡◌, ◌<◌, List, [], ◌∷◌, Some, length, map, slice_get, slice_index, sum, take, drop, All}
+use Rattle.std.specs.Prelude.{ℕ, ℤ, pos, ◌≡◌, ◌⊎◌, ◌<◌, List, [], ◌∷◌, Some, length, map, slice_get, slice_index, sum, take, drop, All}
 use Rattle.planar.specs.Plane.{Point}
 use Rattle.planar.specs.declared.Spot.{Spot}
-use Rattle.board_shapes.specs.Figures.{Figure, round, figure_of}
+use Rattle.board_shapes.specs.Figures.{Figure, InFigure, filled, round, figure_of}
 use Rattle.board_shapes.specs.Pieces.{PlainPiece}
 use Rattle.board_shapes.specs.declared.placed.Placed.{Placed}
 use Rattle.arcs.specs.Copper.{InChain, Possibly, Surely}
 use Rattle.arcs.specs.declared.Arc.{Arc}
-use Rattle.arcs.specs.declared.real_shape.RealShape.{RealShape}
-use Rattle.arcs.specs.declared.real_shape.RealShape.TheVariants.{Plain, ArcDraw}
+use Rattle.real_shapes.specs.declared.RealShape.{RealShape}
+use Rattle.real_shapes.specs.declared.RealShape.TheVariants.{Plain, ArcDraw, Slanted, Region}
+use Rattle.slants.specs.Copper.{InSlant}
+use Rattle.arc_regions.specs.Copper.{InRegion}
+use Rattle.contact.specs.Solid.{SharePoint}
+use Rattle.slants.specs.declared.Slant.{Slant}
 use Rattle.arc_covers.specs.declared.side.Side.{Side}
 use Rattle.arc_covers.specs.declared.side.Side.TheVariants.{Below, Above}
 
@@ -26,10 +30,45 @@ abbrev pub capsules_of : List Spot → ℤ → List Figure
 capsules_of [] r = []
 capsules_of (a ∷ rest) r = capsules_from a rest r
 
--- for a figure stands the figure itself, for an arc draw the capsules of one chain of one radius that is a bound: below it maybe none
+-- what a contour bounds lies in the slanted line, or holds it
+abbrev pub IsLineBound : Side → Slant → List Spot → Type 0
+IsLineBound Below line points = (p : Point) → InFigure (filled points) p → InSlant line p
+IsLineBound Above line points = (p : Point) → InSlant line p → InFigure (filled points) p
+
+-- the figures are one contour of which P holds
+abbrev pub OneContour : (List Spot → Type 0) → List Figure → Type 0
+OneContour P figures = (points : List Spot) × (figures ≡ filled points ∷ []) × P points
+
+-- so they are, or below there are none
+abbrev pub ContourFor : Side → (List Spot → Type 0) → List Figure → Type 0
+ContourFor Below P figures = (figures ≡ []) ⊎ OneContour P figures
+ContourFor Above P figures = OneContour P figures
+
+-- the point lies in one of the figures
+abbrev pub InSome : List Figure → Point → Type 0
+InSome [] p = ⊥
+InSome (f ∷ rest) p = InFigure f p ⊎ InSome rest p
+
+-- the figures hold all points of which P holds, and each shares a point with the first
+pub record HoldTogether (P : Point → Type 0) (figures : List Figure) : Type 0 where
+  pub first : Figure
+  pub rest : List Figure
+  pub are : figures ≡ first ∷ rest
+  pub meet : All (λ f. SharePoint (InFigure first) (InFigure f)) rest
+  pub hold : (p : Point) → P p → InSome figures p
+
+-- below they are one contour that lies in the region, or none; above they hold it
+abbrev pub BoundRegion : Side → (Point → Type 0) → List Figure → Type 0
+BoundRegion Below P figures = ContourFor Below (λ points. (p : Point) → InFigure (filled points) p → P p) figures
+BoundRegion Above P figures = HoldTogether P figures
+
+-- for a figure stands the figure itself, for an arc draw the capsules of one chain of one radius that is a bound: below it maybe none; for a slanted line one contour that is: below it maybe none;
+-- for a region below one contour that lies in it or none, above figures that hold it together
 abbrev pub StandFor : Side → RealShape → List Figure → Type 0
 StandFor side (Plain shape) figures = figures ≡ figure_of shape ∷ []
 StandFor side (ArcDraw arc) figures = (chain : List Spot) × (r : ℕ) × (figures ≡ capsules_of chain (pos r)) × IsBound side arc chain (pos r)
+StandFor side (Slanted line) figures = ContourFor side (IsLineBound side line) figures
+StandFor side (Region area) figures = BoundRegion side (InRegion area.start area.parts.items) figures
 
 -- the figures of the pieces
 abbrev pub figures_of : List PlainPiece → List Figure

@@ -6,7 +6,7 @@ use Rattle.arc_covers.specs.Bounds.{AddUp, share_of}
 use Rattle.arc_covers.specs.Taken.{FirstTaken, PiecesAreTaken}
 use Rattle.arc_covers.specs.declared.between.BoundsFault.{BoundsFault}
 use Rattle.arc_covers.specs.declared.between.BoundsFault.TheVariants.{Counts, Piece, NoMemory}
-use Rattle.arcs.specs.declared.real_shape.RealShape.{RealShape}
+use Rattle.real_shapes.specs.declared.RealShape.{RealShape}
 use Rattle.arc_covers.specs.declared.side.Side.{Side}
 use Rattle.arc_covers.specs.declared.side.Side.TheVariants.{Below, Above}
 

@@ -1,17 +1,21 @@
--- Boards of figures and arc draws, and the copper that these may have.
+-- Boards of figures, arc draws, slanted lines and regions with arcs, and the copper that these may have.
 use Rattle.std.specs.Prelude.{ℕ, ◌≡◌, ◌↔◌, List, Some, map, slice_get}
 use Rattle.planar.specs.Plane.{Point}
 use Rattle.board_shapes.specs.Figures.{InFigure, figure_of}
 use Rattle.board_shapes.specs.declared.placed.Placed.{Placed}
 use Rattle.arcs.specs.Copper.{IsCopper}
 use Rattle.covers.specs.Boards.{Layout, Span}
-use Rattle.arcs.specs.declared.real_shape.RealShape.{RealShape}
-use Rattle.arcs.specs.declared.real_shape.RealShape.TheVariants.{Plain, ArcDraw}
+use Rattle.real_shapes.specs.declared.RealShape.{RealShape}
+use Rattle.real_shapes.specs.declared.RealShape.TheVariants.{Plain, ArcDraw, Slanted, Region}
+use Rattle.slants.specs.Copper.{InSlant}
+use Rattle.arc_regions.specs.Copper.{InRegion}
 
--- the points are those of the figure, or a copper of the arc draw
+-- the points are those of the figure, a copper of the arc draw, or those of the slanted line or the region
 abbrev pub IsCopperOf : RealShape → (Point → Type 0) → Type 0
 IsCopperOf (Plain shape) holds = (p : Point) → InFigure (figure_of shape) p ↔ holds p
 IsCopperOf (ArcDraw arc) holds = IsCopper arc holds
+IsCopperOf (Slanted line) holds = (p : Point) → InSlant line p ↔ holds p
+IsCopperOf (Region area) holds = (p : Point) → InRegion area.start area.parts.items p ↔ holds p
 
 -- the layers of the piece
 abbrev pub real_span : Placed RealShape → Span

@@ -6,9 +6,14 @@ use Rattle.board_shapes.specs.Pieces.{PlainPiece}
 use Rattle.board_shapes.specs.declared.placed.Placed.{Placed}
 use Rattle.arcs.specs.Taken.{TakenAbove, TakenBelow}
 use Rattle.arcs.specs.declared.Arc.{Arc}
-use Rattle.arcs.specs.declared.real_shape.RealShape.{RealShape}
-use Rattle.arcs.specs.declared.real_shape.RealShape.TheVariants.{Plain, ArcDraw}
-use Rattle.arc_covers.specs.Bounds.{AddUp, IsOn, capsules_of, figures_of, share_of}
+use Rattle.real_shapes.specs.declared.RealShape.{RealShape}
+use Rattle.real_shapes.specs.declared.RealShape.TheVariants.{Plain, ArcDraw, Slanted, Region}
+use Rattle.slants.specs.Taken as slants
+use Rattle.slants.specs.declared.Slant.{Slant}
+use Rattle.arc_regions.specs.declared.Region.{Region as Contour}
+use Rattle.arc_covers.specs.Quarters.{LiesBelow}
+use Rattle.arc_covers.specs.Regions.{RegionAbove}
+use Rattle.arc_covers.specs.Bounds.{AddUp, IsOn, ContourFor, capsules_of, figures_of, share_of}
 use Rattle.arc_covers.specs.declared.side.Side.{Side}
 use Rattle.arc_covers.specs.declared.side.Side.TheVariants.{Below, Above}
 
@@ -17,11 +22,23 @@ abbrev pub IsTaken : Side → Arc → List Spot → ℕ → Type 0
 IsTaken Below arc chain r = (chain ≡ []) ⊎ TakenBelow arc chain r
 IsTaken Above arc chain r = TakenAbove arc chain r
 
--- For a figure that figure, for an arc draw the capsules of one chain of one radius that is taken. Capsules have one chain; no capsules are those of none and of each single
+-- the checks of `slants` take the contour
+abbrev pub IsLineTaken : Side → Slant → List Spot → Type 0
+IsLineTaken Below line points = slants.TakenBelow line points
+IsLineTaken Above line points = slants.TakenAbove line points
+
+-- below they are one contour that is taken, or none; above the polygon and the capsules of chains that are
+abbrev pub RegionTaken : Side → Contour → List Figure → Type 0
+RegionTaken Below area figures = ContourFor Below (LiesBelow area.start area.parts.items) figures
+RegionTaken Above area figures = RegionAbove area.start area.parts.items figures
+
+-- For a figure that figure, for a slanted line one contour that is taken or below none. For an arc draw the capsules of one chain of one radius that is taken. Capsules have one chain; no capsules are those of none and of each single
 -- spot, of which the former is taken below and nothing above
 abbrev pub StandTaken : Side → RealShape → List Figure → Type 0
 StandTaken side (Plain shape) figures = figures ≡ figure_of shape ∷ []
 StandTaken side (ArcDraw arc) figures = (chain : List Spot) × (r : ℕ) × (figures ≡ capsules_of chain (pos r)) × IsTaken side arc chain r
+StandTaken side (Slanted line) figures = ContourFor side (IsLineTaken side line) figures
+StandTaken side (Region area) figures = RegionTaken side area figures
 
 -- the pieces are taken for the real piece, all on its layers
 pub record PiecesAreTaken (side : Side) (real : Placed RealShape) (pieces : List PlainPiece) : Type 0 where

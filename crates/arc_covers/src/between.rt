@@ -8,11 +8,12 @@ ghost use Rattle.board_shapes.specs.Pieces.{plain_pieces};
 ghost use Rattle.std.specs.Prelude.{IfErr, IfOk, IsTrue, drop, length, sum, take, ◌+◌, ◌≡◌, ◌≤◌, ◌↔◌};
 
 use crate::laws::taken_are_bounds;
-use crate::rows::{are_chain, are_on, is_itself};
+use crate::regions::is_region;
+use crate::rows::{are_chain, are_contour, are_on, is_itself};
 use crate::side::Side;
-use arcs::{RealPiece, RealShape};
 use board_shapes::Piece;
 use lengths::rows::NoMemory;
+use real_shapes::{RealPiece, RealShape};
 use std::alloc::Global;
 use thiserror::Error;
 
@@ -67,8 +68,9 @@ fn part(pieces: &[Piece], start: usize, count: u32) -> &[Piece]
     &rest[..count as usize]
 }
 
-/// Whether the pieces are taken for the real piece on that side: they are its figure, or the capsules of
-/// a chain that the checks take for its arc draw, on its layers. `NoMemory` where memory is wanted.
+/// Whether the pieces are taken for the real piece on that side: they are its figure, the capsules of
+/// a chain that the checks take for its arc draw, a contour that they take for its slanted line, or what
+/// they take for its region, on its layers. `NoMemory` where memory is wanted.
 fn stand(alloc: Global, side: Side, real: &RealPiece, pieces: &[Piece]) -> Result<bool, NoMemory>
     ensures { IfOk result (λ yes. IsTrue yes ↔ PiecesAreTaken side real.now (plain_pieces pieces.now)) }
 {
@@ -78,6 +80,8 @@ fn stand(alloc: Global, side: Side, real: &RealPiece, pieces: &[Piece]) -> Resul
     match &real.shape {
         RealShape::Plain(shape) => Ok(is_itself(shape, pieces)),
         RealShape::ArcDraw(arc) => are_chain(alloc, side, arc, pieces),
+        RealShape::Slanted(line) => Ok(are_contour(side, line, pieces)),
+        RealShape::Region(region) => is_region(alloc, side, region, pieces),
     }
 }
 

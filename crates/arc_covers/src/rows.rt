@@ -1,18 +1,20 @@
 //! Rows of pieces: chains of capsules, and single figures.
-ghost use Rattle.arc_covers.specs.Bounds.{IsOn, capsules_from, capsules_of, figures_of};
-ghost use Rattle.arc_covers.specs.Taken.{StandTaken};
-ghost use Rattle.arcs.specs.declared.real_shape.RealShape.TheVariants.{ArcDraw, Plain};
+ghost use Rattle.arc_covers.specs.Bounds.{IsOn, OneContour, capsules_from, capsules_of, figures_of};
+ghost use Rattle.arc_covers.specs.Taken.{IsLineTaken, StandTaken};
+ghost use Rattle.arc_covers.specs.declared.side.Side.TheVariants.{Below};
+ghost use Rattle.real_shapes.specs.declared.RealShape.TheVariants.{ArcDraw, Slanted};
 ghost use Rattle.board_shapes.specs.Figures.{Figure, area_figure, capsule_figure, figure_of, round};
 ghost use Rattle.board_shapes.specs.Pieces.{plain_piece, plain_pieces};
 ghost use Rattle.planar.specs.declared.Spot.{Spot};
 ghost use Rattle.std.specs.Prelude.{All, IfNone, IfOk, IfSome, IsTrue, List, length, pos, ◌≡◌, ◌↔◌, ◌∷◌, []};
 
-use crate::side::{Side, is_taken};
+use crate::side::{Side, is_line_taken, is_taken};
 use arcs::{Arc, Spot};
 use area_contact::Area;
 use board_shapes::{Piece, Shape};
 use contact::Capsule;
 use lengths::rows::NoMemory;
+use slants::Slant;
 use std::alloc::Global;
 
 /// Whether the piece is on the layers from `top` to `bottom` and on no others.
@@ -71,7 +73,7 @@ pub fn is_itself(shape: &Shape, pieces: &[Piece]) -> bool
 }
 
 /// Where the capsule leads that begins at `from` with radius `r`, if the shape is one.
-fn next_spot(shape: &Shape, from: Spot, r: u64) -> Option<Spot>
+pub fn next_spot(shape: &Shape, from: Spot, r: u64) -> Option<Spot>
     ensures some { IfSome result (λ to. figure_of shape.now ≡ round (record { a = from; b = to; r = pos r })) }
     ensures none { IfNone result ((to : Spot) → ¬ (figure_of shape.now ≡ round (record { a = from; b = to; r = pos r }))) }
 {
@@ -140,5 +142,35 @@ pub fn are_chain(alloc: Global, side: Side, arc: &Arc, pieces: &[Piece]) -> Resu
             Shape::Round(capsule) => begin_chain(alloc, side, arc, pieces, capsule),
             Shape::Filled(_) => Ok(false),
         },
+    }
+}
+
+fn is_lower(side: Side) -> bool
+    ensures { IsTrue result ↔ (side ≡ Below) }
+{
+    match side {
+        Side::Below => true,
+        Side::Above => false,
+    }
+}
+
+/// Whether the shape is a contour that is taken for the slanted line.
+fn is_contour(side: Side, line: &Slant, shape: &Shape) -> bool
+    ensures { IsTrue result ↔ OneContour (IsLineTaken side line.now) (figure_of shape.now ∷ []) }
+{
+    match shape {
+        Shape::Filled(area) => is_line_taken(side, line, &area.points),
+        Shape::Round(_) => false,
+    }
+}
+
+/// Whether the pieces are one contour that is taken for the slanted line; below, none are taken too.
+pub fn are_contour(side: Side, line: &Slant, pieces: &[Piece]) -> bool
+    ensures { IsTrue result ↔ StandTaken side (Slanted line.now) (figures_of (plain_pieces pieces.now)) }
+{
+    match pieces {
+        [] => is_lower(side),
+        [only] => is_contour(side, line, &only.shape),
+        _ => false,
     }
 }

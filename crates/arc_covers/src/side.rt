@@ -1,8 +1,9 @@
 //! The board below a real one, and the board above.
-ghost use Rattle.arc_covers.specs.Taken.{IsTaken};
+ghost use Rattle.arc_covers.specs.Taken.{IsLineTaken, IsTaken};
 ghost use Rattle.std.specs.Prelude.{IsTrue, ◌↔◌};
 
 use arcs::{Arc, Spot, is_above, is_below};
+use slants::Slant;
 
 /// On which side of a real board another lies.
 #[derive(Clone, Copy, Debug, PartialEq, Eq)]
@@ -20,5 +21,15 @@ pub fn is_taken(side: Side, arc: &Arc, chain: &[Spot], r: u64) -> bool
     match side {
         Side::Below => chain.is_empty() || is_below(arc, chain, r),
         Side::Above => is_above(arc, chain, r),
+    }
+}
+
+/// Whether the contour is taken as a bound of the slanted line.
+pub fn is_line_taken(side: Side, line: &Slant, points: &[Spot]) -> bool
+    ensures { IsTrue result ↔ IsLineTaken side line.now points.now }
+{
+    match side {
+        Side::Below => slants::is_below(line, points),
+        Side::Above => slants::is_above(line, points),
     }
 }

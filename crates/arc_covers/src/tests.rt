@@ -2,10 +2,15 @@
 ghost use Rattle.planar.specs.Plane.{IsPlaced};
 
 use crate::{BoundsFault, CountsFault, Side, check_between, read_counts};
-use arcs::{Arc, RealPiece, RealShape, Spot};
+use arc_regions::{Bend, Part, Region};
+use arcs::{Arc, Spot};
+use area_contact::Area;
 use board_shapes::{Origin, Piece, Placed, Shape};
 use contact::Capsule;
 use lengths::rows::NoMemory;
+use planar::are_placed;
+use real_shapes::{RealPiece, RealShape};
+use slants::Slant;
 use std::alloc::Global;
 use std::test::Fail;
 
@@ -229,6 +234,190 @@ fn nothing_below(rt: HostRuntime) -> Result<(), Fail> {
     assert!(rt; found == Ok(()));
     let other = check_between(alloc, &real, &lower, &[1, 0], &lower, &[1, 0]);
     assert!(rt; other == Err(BoundsFault::Piece(Side::Above, 1)));
+    Ok(())
+}
+
+/// A contour of four corners, the first of which is given and again the last.
+fn contour(alloc: Global, first: (i16, i16)) -> Result<Shape, Fail> {
+    let mut points = Vec::new(alloc);
+    for corner in [first, (3400, 3700), (2600, 4300), (-400, 300), first] {
+        points.push(spot(corner))?;
+    }
+    if !are_placed(&points) {
+        return Ok(pad(1));
+    }
+    Ok(Shape::Filled(Area::new(alloc, points)?))
+}
+
+/// The rectangle about a slanted line has whole corners: it bounds the line on both sides. With one corner a u
+/// further out it lies above, a u further in below. A capsule does neither, and no piece lies below alone.
+#[test]
+fn a_slanted_line(rt: HostRuntime) -> Result<(), Fail> {
+    let alloc = rt.alloc();
+    let mut real = Vec::new(alloc);
+    let line = Slant {
+        start: spot((0, 0)),
+        end: spot((3000, 4000)),
+        width: 1000,
+    };
+    real.push(Placed {
+        shape: RealShape::Slanted(line),
+        top: 1,
+        bottom: 1,
+        origin: ORIGIN,
+    })?;
+    for (first, below, above) in [
+        ((400, -300), true, true),
+        ((401, -301), false, true),
+        ((399, -299), true, false),
+        ((401, -299), false, false),
+    ] {
+        let mut pieces = Vec::new(alloc);
+        pieces.push(on(1, contour(alloc, first)?))?;
+        let none = check_between(alloc, &real, &[], &[0], &pieces, &[1]);
+        let over = if above {
+            Ok(())
+        } else {
+            Err(BoundsFault::Piece(Side::Above, 0))
+        };
+        assert!(rt; none == over);
+        let found = check_between(alloc, &real, &pieces, &[1], &pieces, &[1]);
+        let told = if below {
+            over
+        } else {
+            Err(BoundsFault::Piece(Side::Below, 0))
+        };
+        assert!(rt; found == told);
+    }
+    let mut pieces = Vec::new(alloc);
+    pieces.push(on(1, capsule((0, 0), (300, 400), 1)))?;
+    let found = check_between(alloc, &real, &pieces, &[1], &pieces, &[1]);
+    assert!(rt; found == Err(BoundsFault::Piece(Side::Below, 0)));
+    let other = check_between(alloc, &real, &[], &[0], &[], &[0]);
+    assert!(rt; other == Err(BoundsFault::Piece(Side::Above, 0)));
+    Ok(())
+}
+
+/// Half a disc of radius 5,000 u about 0, of which the arc goes counterclockwise or back.
+fn half_disc(alloc: Global, back: bool) -> Result<RealPiece, Fail> {
+    let (first, last) = if back { (5000, -5000) } else { (-5000, 5000) };
+    let bend = Bend {
+        centre: spot((0, 0)),
+        end: spot((0, last)),
+        counterclockwise: !back,
+    };
+    let mut parts = Vec::new(alloc);
+    parts.push(Part::Curved(bend))?;
+    parts.push(Part::Straight(spot((0, first))))?;
+    Ok(Placed {
+        shape: RealShape::Region(Region {
+            start: spot((0, first)),
+            parts,
+        }),
+        top: 1,
+        bottom: 1,
+        origin: ORIGIN,
+    })
+}
+
+/// The polygon of its chain, and the capsules of radius `r` along it, counterclockwise.
+fn around(alloc: Global, back: bool, r: u16) -> Result<Vec<Piece>, Fail> {
+    let chain = [
+        (0, -5000),
+        (3000, -4000),
+        (4000, -3000),
+        (5000, 0),
+        (4000, 3000),
+        (3000, 4000),
+        (0, 5000),
+    ];
+    let mut points = Vec::new(alloc);
+    for corner in chain {
+        points.push(spot(corner))?;
+    }
+    if back {
+        points.reverse();
+    }
+    points.push(if back {
+        spot((0, 5000))
+    } else {
+        spot((0, -5000))
+    })?;
+    if !are_placed(&points) {
+        return Ok(Vec::new(alloc));
+    }
+    let mut pieces = Vec::new(alloc);
+    pieces.push(on(1, Shape::Filled(Area::new(alloc, points)?)))?;
+    for i in 1..chain.len() {
+        pieces.push(on(1, capsule(chain[i - 1], chain[i], r)))?;
+    }
+    Ok(pieces)
+}
+
+/// A region: the chords leave its circle by less than 257 u, and by more than 256. Nothing lies below it.
+#[test]
+fn regions(rt: HostRuntime) -> Result<(), Fail> {
+    let alloc = rt.alloc();
+    for (back, turned, r, told) in [
+        (false, false, 257, Ok(())),
+        (true, true, 257, Ok(())),
+        (false, false, 256, Err(BoundsFault::Piece(Side::Above, 0))),
+        (true, false, 257, Err(BoundsFault::Piece(Side::Above, 0))),
+        (false, true, 257, Err(BoundsFault::Piece(Side::Above, 0))),
+    ] {
+        let mut real = Vec::new(alloc);
+        real.push(half_disc(alloc, back)?)?;
+        let upper = around(alloc, turned, r)?;
+        let found = check_between(alloc, &real, &[], &[0], &upper, &[7]);
+        assert!(rt; found == told);
+        let fewer = check_between(alloc, &real, &[], &[0], &upper[..6], &[6]);
+        assert!(rt; fewer == Err(BoundsFault::Piece(Side::Above, 0)));
+        let lower = check_between(alloc, &real, &upper[..1], &[1], &upper, &[7]);
+        assert!(rt; lower == Err(BoundsFault::Piece(Side::Below, 0)));
+    }
+    Ok(())
+}
+
+/// A box from `left` to `right`, 2,000 u high.
+fn pane(alloc: Global, left: i16, right: i16) -> Result<Vec<Piece>, Fail> {
+    let mut points = Vec::new(alloc);
+    for corner in [
+        (left, -1000),
+        (right, -1000),
+        (right, 1000),
+        (left, 1000),
+        (left, -1000),
+    ] {
+        points.push(spot(corner))?;
+    }
+    let mut pieces = Vec::new(alloc);
+    if are_placed(&points) {
+        pieces.push(on(1, Shape::Filled(Area::new(alloc, points)?)))?;
+    }
+    Ok(pieces)
+}
+
+/// Boxes below it: more than 1,502 u from the chords of both quarter turns, and off the straight part.
+#[test]
+fn boxes_below(rt: HostRuntime) -> Result<(), Fail> {
+    let alloc = rt.alloc();
+    for back in [false, true] {
+        let upper = around(alloc, back, 257)?;
+        let mut real = Vec::new(alloc);
+        real.push(half_disc(alloc, back)?)?;
+        for (left, right, told) in [
+            (1, 1875, true),
+            (1, 1876, false),
+            (0, 1000, false),
+            (-1000, 1000, false),
+            (-1000, -1, false),
+        ] {
+            let lower = pane(alloc, left, right)?;
+            let found = check_between(alloc, &real, &lower, &[1], &upper, &[7]);
+            let lies = found == Ok(());
+            assert!(rt; lies == told, "at {right}");
+        }
+    }
     Ok(())
 }
 

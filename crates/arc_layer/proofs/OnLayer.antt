@@ -8,7 +8,7 @@ use Rattle.board_shapes.specs.declared.placed.Placed.{Placed}
 use Rattle.board_shapes.specs.declared.shape.Shape.{Shape}
 use Rattle.arc_layer.specs.Real.{PlainReal, plain_real, plain_reals, real_piece}
 use Rattle.arc_layer.specs.declared.draws.Bend.{Bend}
-use Rattle.arcs.specs.declared.real_shape.RealShape.{RealShape}
+use Rattle.real_shapes.specs.declared.RealShape.{RealShape}
 
 abbrev OnLayer : ℕ → PlainReal → Type 0
 OnLayer layer q = (q.top ≡ layer) × (q.bottom ≡ layer)

@@ -16,7 +16,8 @@ mod real;
 mod state;
 mod words;
 
-pub use arcs::{Arc, RealPiece, RealShape};
+pub use arcs::Arc;
 pub use draws::Bend;
 pub use kind::{RealFault, RealKind};
 pub use real::read_real;
+pub use real_shapes::{RealPiece, RealShape};

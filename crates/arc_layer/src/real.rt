@@ -13,12 +13,13 @@ use crate::bends::{Bends, read_bends};
 use crate::centres::moved;
 use crate::draws::Bend;
 use crate::kind::{RealFault, RealKind};
-use arcs::{Arc, RealPiece, RealShape};
+use arcs::Arc;
 use board_shapes::{MOST_LAYERS, Piece, Placed, Room, Shape};
 use contact::Capsule;
 use gerber_layer::laws::one_straight_answer;
 use gerber_layer::{GerberKind, LayerFault, Straight, read_layer_by};
 use gerber_words::laws::words_lie_ahead;
+use real_shapes::{RealPiece, RealShape};
 use std::alloc::Global;
 use texts::MOST_BYTES;
 

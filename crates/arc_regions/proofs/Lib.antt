@@ -4,6 +4,7 @@ mod Turning
 mod Lengths
 mod Slivers
 mod Chords
+pub mod Edges
 mod Fans
 mod Sectors
 mod Arcs

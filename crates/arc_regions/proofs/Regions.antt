@@ -21,10 +21,10 @@ use Rattle.arcs.specs.Taken.{TakenAbove as ChainAbove}
 use Rattle.arcs.specs.declared.Arc.{Arc}
 use Rattle.arc_regions.specs.Copper.{InRegion, InSegment, IsOver, OddOver, OnBorder, OnCircle, OnPart, end_of}
 use Rattle.arc_regions.specs.Laws.{TakenHolds, TakenLies}
-use Rattle.arc_regions.specs.Taken.{AreAround, AreClear, AreStretches, InCapsules, IsClear, IsPartClear, InLinks, StandsAs, StandsFor, behind_first, corners_behind, corners_by, odd_part, odd_past, odd_round, parts_of}
+use Rattle.arc_regions.specs.Taken.{AreAround, AreClear, AreStretches, Chained, InCapsules, IsClear, IsPartClear, InLinks, StandsAs, StandsFor, behind_first, corners_behind, corners_by, odd_part, odd_past, odd_round, parts_of}
 use Rattle.arc_regions.specs.declared.Part.{Part}
 use Rattle.arc_regions.specs.declared.Part.TheVariants.{Straight, Curved}
-use Rattle.arc_regions.specs.declared.Stretch.{Stretch}
+use Rattle.arc_regions.proofs.Edges.{end_append, some_before, some_behind}
 use Rattle.arc_regions.proofs.Shifted.{IsNarrow}
 use Rattle.arc_regions.proofs.Fans.{ArePlaced, first_two, or-swap}
 use Rattle.arc_regions.proofs.Sectors.{false-back}
@@ -45,19 +45,6 @@ odd_append a [] ys x y n = refl
 odd_append a (b ∷ xs) ys x y n =
     ap (λ (z : Bool). xor (crossed (record { start = a; end = b }) x y n) z) (odd_append b xs ys x y n)
     ∙ sym (xor-assoc (crossed (record { start = a; end = b }) x y n) (odd (edges_from b xs) x y n) (odd (edges_from (end_from b xs) ys) x y n))
-
-end_append : (a : Spot) (xs ys : List Spot) → end_from a (xs ++ ys) ≡ end_from (end_from a xs) ys
-end_append a [] ys = refl
-end_append a (b ∷ xs) ys = end_append b xs ys
-
-some_behind : (P : Edge → Type 0) (a : Spot) (xs ys : List Spot) → SomeEdge P (edges_from (end_from a xs) ys) → SomeEdge P (edges_from a (xs ++ ys))
-some_behind P a [] ys h = h
-some_behind P a (b ∷ xs) ys h = inr (some_behind P b xs ys h)
-
-some_before : (P : Edge → Type 0) (a : Spot) (xs ys : List Spot) → SomeEdge P (edges_from a xs) → SomeEdge P (edges_from a (xs ++ ys))
-some_before P a [] ys h = absurd h
-some_before P a (b ∷ xs) ys (inl h) = inl h
-some_before P a (b ∷ xs) ys (inr h) = inr (some_before P b xs ys h)
 
 some_of : (P : Edge → Type 0) (a : Spot) (xs ys : List Spot) → SomeEdge P (edges_from a (xs ++ ys)) → SomeEdge P (edges_from a xs) ⊎ SomeEdge P (edges_from (end_from a xs) ys)
 some_of P a [] ys h = inr h
@@ -253,20 +240,20 @@ module _ (p : Point) (possible : PossiblyOfEach) (between : TakenIsBetween) wher
 
   -- ---- the contour
 
-  record AllTold (a : Spot) (xs : List Stretch) : Type 0 where
+  record AllTold (a : Spot) (xs : List Chained) : Type 0 where
     over : Bool
     over_is : IsTrue over ↔ OddOver a (parts_of xs) p
     same : (odd (edges_from a (corners_behind xs)) p.x p.y p.n ≡ over) ⊎ InCapsules xs p
     border : OnBorder a (parts_of xs) p → SomeEdge (OnEdge p) (edges_from a (corners_behind xs)) ⊎ InCapsules xs p
 
-  all_told : (z a : Spot) (xs : List Stretch) → AreStretches z a xs → AllTold a xs
+  all_told : (z a : Spot) (xs : List Chained) → AreStretches z a xs → AllTold a xs
   all_told z a [] h = record { over = false; over_is = (none, absurd); same = inl refl; border = absurd }
     where
       none : IsTrue false → ⊥
       none h = cc
-  all_told z a (x ∷ rest) h = join (part_told a x.part x.chain.items x.radius h.0) (all_told z (end_of x.part) rest h.1)
+  all_told z a (x ∷ rest) h = join (part_told a x.part x.chain x.radius h.0) (all_told z (end_of x.part) rest h.1)
     where
-      join : Told p a x.part x.chain.items x.radius → AllTold (end_of x.part) rest → AllTold a (x ∷ rest)
+      join : Told p a x.part x.chain x.radius → AllTold (end_of x.part) rest → AllTold a (x ∷ rest)
       join t o = record {
         over = xor t.over o.over;
         over_is = one_is t.over o.over t.over_is o.over_is;
@@ -274,8 +261,8 @@ module _ (p : Point) (possible : PossiblyOfEach) (between : TakenIsBetween) wher
           | inr k ↦ inr (inl k)
           | inl k ↦ elim o.same [
             | inr l ↦ inr (inr l)
-            | inl l ↦ inl (odd_append a (corners_by x.part x.chain.items) (corners_behind rest) p.x p.y p.n
-                ∙ ap (λ (s : Spot). xor (odd (edges_from a (corners_by x.part x.chain.items)) p.x p.y p.n) (odd (edges_from s (corners_behind rest)) p.x p.y p.n)) t.ends
+            | inl l ↦ inl (odd_append a (corners_by x.part x.chain) (corners_behind rest) p.x p.y p.n
+                ∙ ap (λ (s : Spot). xor (odd (edges_from a (corners_by x.part x.chain)) p.x p.y p.n) (odd (edges_from s (corners_behind rest)) p.x p.y p.n)) t.ends
                 ∙ ap (λ (s : Bool). xor s (odd (edges_from (end_of x.part) (corners_behind rest)) p.x p.y p.n)) k ∙ ap (λ (s : Bool). xor t.over s) l)
           ]
         ];
@@ -283,9 +270,9 @@ module _ (p : Point) (possible : PossiblyOfEach) (between : TakenIsBetween) wher
       }
         where
           on : OnBorder a (parts_of (x ∷ rest)) p → SomeEdge (OnEdge p) (edges_from a (corners_behind (x ∷ rest))) ⊎ InCapsules (x ∷ rest) p
-          on (inl k) = elim (t.border k) [ inl l ↦ inl (some_before (OnEdge p) a (corners_by x.part x.chain.items) (corners_behind rest) l) | inr l ↦ inr (inl l) ]
+          on (inl k) = elim (t.border k) [ inl l ↦ inl (some_before (OnEdge p) a (corners_by x.part x.chain) (corners_behind rest) l) | inr l ↦ inr (inl l) ]
           on (inr k) = elim (o.border k) [
-            | inl l ↦ inl (some_behind (OnEdge p) a (corners_by x.part x.chain.items) (corners_behind rest) (subst (λ (s : Spot). SomeEdge (OnEdge p) (edges_from s (corners_behind rest))) (sym t.ends) l))
+            | inl l ↦ inl (some_behind (OnEdge p) a (corners_by x.part x.chain) (corners_behind rest) (subst (λ (s : Spot). SomeEdge (OnEdge p) (edges_from s (corners_behind rest))) (sym t.ends) l))
             | inr l ↦ inr (inr l)
           ]
 
@@ -354,32 +341,32 @@ module _ (frame : Frame) (points : List Spot) where
   part_clear a (Curved t) chain r q h clear = curved_clear a t.centre t.end t.counterclockwise chain r q h clear
 
   -- the same of the contour from a to z, whose parity o is known before
-  record AllClear (z q : Spot) (o : Bool) (a : Spot) (xs : List Stretch) : Type 0 where
+  record AllClear (z q : Spot) (o : Bool) (a : Spot) (xs : List Chained) : Type 0 where
     stretches : AreStretches z a xs
     ends : end_from a (corners_behind xs) ≡ z
     edges : (p : Point) → InArea (edges_of points) p → SomeEdge (OnEdge p) (edges_from a (corners_behind xs)) → ⊥
     links : (p : Point) → InArea (edges_of points) p → InCapsules xs p → ⊥
     inside : IsTrue (xor o (odd (edges_from a (corners_behind xs)) q.x q.y (pos 1)))
 
-  all_clear : (possible : PossiblyOfEach) (between : TakenIsBetween) (z q : Spot) (o : Bool) (a : Spot) (xs : List Stretch) → AreAround frame points z q o a xs → AllClear z q o a xs
+  all_clear : (possible : PossiblyOfEach) (between : TakenIsBetween) (z q : Spot) (o : Bool) (a : Spot) (xs : List Chained) → AreAround frame points z q o a xs → AllClear z q o a xs
   all_clear possible between z q o a [] h = record { stretches = h.0; ends = h.0; edges = λ p inside on. on; links = λ p inside on. on; inside = false-back o ∙ h.1 }
   all_clear possible between z q o a (x ∷ rest) h =
-      join (part_told (at q) possible between a x.part x.chain.items x.radius h.0.0) (part_clear a x.part x.chain.items x.radius q h.0.0 h.0.1) (all_clear possible between z q (xor o (odd_part q a x.part x.chain.items)) (end_of x.part) rest h.1)
+      join (part_told (at q) possible between a x.part x.chain x.radius h.0.0) (part_clear a x.part x.chain x.radius q h.0.0 h.0.1) (all_clear possible between z q (xor o (odd_part q a x.part x.chain)) (end_of x.part) rest h.1)
     where
-      join : Told (at q) a x.part x.chain.items x.radius → Clear points a x.part x.chain.items x.radius q → AllClear z q (xor o (odd_part q a x.part x.chain.items)) (end_of x.part) rest → AllClear z q o a (x ∷ rest)
+      join : Told (at q) a x.part x.chain x.radius → Clear points a x.part x.chain x.radius q → AllClear z q (xor o (odd_part q a x.part x.chain)) (end_of x.part) rest → AllClear z q o a (x ∷ rest)
       join t c r = record {
         stretches = (h.0.0, r.stretches);
-        ends = end_append a (corners_by x.part x.chain.items) (corners_behind rest) ∙ ap (λ (s : Spot). end_from s (corners_behind rest)) t.ends ∙ r.ends;
-        edges = λ p inside on. elim (some_of (OnEdge p) a (corners_by x.part x.chain.items) (corners_behind rest) on) [
+        ends = end_append a (corners_by x.part x.chain) (corners_behind rest) ∙ ap (λ (s : Spot). end_from s (corners_behind rest)) t.ends ∙ r.ends;
+        edges = λ p inside on. elim (some_of (OnEdge p) a (corners_by x.part x.chain) (corners_behind rest) on) [
           | inl k ↦ c.edges p inside k
           | inr k ↦ r.edges p inside (subst (λ (s : Spot). SomeEdge (OnEdge p) (edges_from s (corners_behind rest))) t.ends k)
         ];
         links = λ p inside on. elim on [ inl k ↦ c.links p inside k | inr k ↦ r.links p inside k ];
         inside =
-            ap (λ (b : Bool). xor o b) (odd_append a (corners_by x.part x.chain.items) (corners_behind rest) q.x q.y (pos 1)
-            ∙ ap (λ (s : Spot). xor (odd (edges_from a (corners_by x.part x.chain.items)) q.x q.y (pos 1)) (odd (edges_from s (corners_behind rest)) q.x q.y (pos 1))) t.ends
+            ap (λ (b : Bool). xor o b) (odd_append a (corners_by x.part x.chain) (corners_behind rest) q.x q.y (pos 1)
+            ∙ ap (λ (s : Spot). xor (odd (edges_from a (corners_by x.part x.chain)) q.x q.y (pos 1)) (odd (edges_from s (corners_behind rest)) q.x q.y (pos 1))) t.ends
             ∙ ap (λ (b : Bool). xor b (odd (edges_from (end_of x.part) (corners_behind rest)) q.x q.y (pos 1))) c.same)
-            ∙ sym (xor-assoc o (odd_part q a x.part x.chain.items) (odd (edges_from (end_of x.part) (corners_behind rest)) q.x q.y (pos 1))) ∙ r.inside;
+            ∙ sym (xor-assoc o (odd_part q a x.part x.chain) (odd (edges_from (end_of x.part) (corners_behind rest)) q.x q.y (pos 1))) ∙ r.inside;
       }
 
 pub taken_lies : PossiblyOfEach → TakenIsBetween → TakenLies

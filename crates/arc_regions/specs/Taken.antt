@@ -47,16 +47,29 @@ abbrev pub StandsAs : Spot → Part → List Spot → ℕ → Type 0
 StandsAs a (Straight b) chain r = IsPlaced b
 StandsAs a (Curved t) chain r = StandsFor a t chain r
 
-abbrev pub IsStretch : Spot → Stretch → Type 0
-IsStretch a x = StandsAs a x.part x.chain.items x.radius
+-- a part with its chain, and with the radius of the capsules along that
+pub record Chained : Type 0 where
+  pub part : Part
+  pub chain : List Spot
+  pub radius : ℕ
+
+-- a stretch is one, without where its chain lies in memory
+abbrev pub chained : Stretch → Chained
+chained x = record { part = x.part; chain = x.chain.items; radius = x.radius }
+
+abbrev pub all_chained : List Stretch → List Chained
+all_chained xs = map chained xs
+
+abbrev pub IsStretch : Spot → Chained → Type 0
+IsStretch a x = StandsAs a x.part x.chain x.radius
 
 -- each of the list is one, of which the first begins at a, and the last ends at z
-abbrev pub AreStretches : Spot → Spot → List Stretch → Type 0
+abbrev pub AreStretches : Spot → Spot → List Chained → Type 0
 AreStretches z a [] = a ≡ z
 AreStretches z a (x ∷ rest) = IsStretch a x × AreStretches z (end_of x.part) rest
 
 -- a closed contour
-pub record TakenAbove (a : Spot) (stretches : List Stretch) : Type 0 where
+pub record TakenAbove (a : Spot) (stretches : List Chained) : Type 0 where
   pub start : IsPlaced a
   pub parts : AreStretches a a stretches
 
@@ -87,20 +100,20 @@ odd_part q a (Curved t) chain = odd (edges_of chain) q.x q.y (pos 1)
 
 -- each of the list, of which the first begins at a, is a part with its chain and clear of the area; the last ends at z; and the ray from q to the right crosses an odd number of the edges that stand
 -- for them, with one more where o holds
-abbrev pub AreAround : Frame → List Spot → Spot → Spot → Bool → Spot → List Stretch → Type 0
+abbrev pub AreAround : Frame → List Spot → Spot → Spot → Bool → Spot → List Chained → Type 0
 AreAround frame points z q o a [] = (a ≡ z) × IsTrue o
-AreAround frame points z q o a (x ∷ rest) = (IsStretch a x × IsPartClear frame points a x.part x.chain.items x.radius) × AreAround frame points z q (xor o (odd_part q a x.part x.chain.items)) (end_of x.part) rest
+AreAround frame points z q o a (x ∷ rest) = (IsStretch a x × IsPartClear frame points a x.part x.chain x.radius) × AreAround frame points z q (xor o (odd_part q a x.part x.chain)) (end_of x.part) rest
 
 -- a closed contour whose polygon, with chains in place of the arcs, has the first corner of the area inside. The area is clear of its edges and of the capsules along the chains
-pub record TakenBelow (frame : Frame) (a : Spot) (stretches : List Stretch) (points : List Spot) : Type 0 where
+pub record TakenBelow (frame : Frame) (a : Spot) (stretches : List Chained) (points : List Spot) : Type 0 where
   pub start : IsPlaced a
   pub inside : IsInside (area_box points) frame
   pub parts : AreAround frame points a (first_of points) false a stretches
 
 -- ---- the figures
 
-abbrev pub parts_of : List Stretch → List Part
-parts_of xs = map (λ (x : Stretch). x.part) xs
+abbrev pub parts_of : List Chained → List Part
+parts_of xs = map (λ (x : Chained). x.part) xs
 
 -- all but the first
 abbrev pub behind_first : List Spot → List Spot
@@ -112,12 +125,12 @@ abbrev pub corners_by : Part → List Spot → List Spot
 corners_by (Straight b) chain = b ∷ []
 corners_by (Curved t) chain = behind_first (if t.counterclockwise then chain else reverse chain)
 
-abbrev pub corners_behind : List Stretch → List Spot
+abbrev pub corners_behind : List Chained → List Spot
 corners_behind [] = []
-corners_behind (x ∷ rest) = corners_by x.part x.chain.items ++ corners_behind rest
+corners_behind (x ∷ rest) = corners_by x.part x.chain ++ corners_behind rest
 
 -- the polygon with the chains in place of the arcs
-abbrev pub corners_of : Spot → List Stretch → List Spot
+abbrev pub corners_of : Spot → List Chained → List Spot
 corners_of a stretches = a ∷ corners_behind stretches
 
 -- the point lies in a capsule along the chain of an arc
@@ -125,6 +138,6 @@ abbrev pub InLinks : Part → List Spot → ℕ → Point → Type 0
 InLinks (Straight b) chain r p = ⊥
 InLinks (Curved t) chain r p = InChain chain (pos r) p
 
-abbrev pub InCapsules : List Stretch → Point → Type 0
+abbrev pub InCapsules : List Chained → Point → Type 0
 InCapsules [] p = ⊥
-InCapsules (x ∷ rest) p = InLinks x.part x.chain.items x.radius p ⊎ InCapsules rest p
+InCapsules (x ∷ rest) p = InLinks x.part x.chain x.radius p ⊎ InCapsules rest p

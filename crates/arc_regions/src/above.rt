@@ -1,6 +1,6 @@
 //! Whether a polygon, with capsules, holds a region.
 ghost use Rattle.arc_regions.specs.Copper.{InRegion, end_of};
-ghost use Rattle.arc_regions.specs.Taken.{InCapsules, arc_of, odd_round, IsStretch, StandsFor, TakenAbove, corners_of, parts_of};
+ghost use Rattle.arc_regions.specs.Taken.{InCapsules, IsStretch, StandsAs, StandsFor, TakenAbove, all_chained, arc_of, chained, corners_of, odd_round, parts_of};
 ghost use Rattle.area_contact.specs.Contour.{InArea, edges_of};
 ghost use Rattle.planar.specs.Plane.{IsPlaced, Point, dot_of};
 ghost use Rattle.std.specs.Prelude.{All, IsTrue, ◌≡◌, ◌↔◌, ◌⊎◌};
@@ -31,7 +31,7 @@ fn is_even(start: Spot, bend: &Bend) -> bool
 }
 
 /// The arc from `start`, as a draw of no width.
-fn draw_of(start: Spot, bend: &Bend) -> Arc
+pub fn draw_of(start: Spot, bend: &Bend) -> Arc
     ensures { result ≡ arc_of start bend.now }
 {
     let (first, last) = if bend.counterclockwise {
@@ -67,14 +67,22 @@ fn stands_for(start: Spot, bend: &Bend, chain: &[Spot], radius: u64) -> bool
     is_even(start, bend) && turns_as(&draw, chain) && arcs::is_above(&draw, chain, radius)
 }
 
+/// Whether the chain with the radius may stand for the part from `start`. For a straight part both are not
+/// read: it has to end within a metre.
+pub fn is_part(start: Spot, part: Part, chain: &[Spot], radius: u64) -> bool
+    ensures { IsTrue result ↔ StandsAs start part chain.now radius }
+{
+    match part {
+        Part::Straight(end) => is_placed(end),
+        Part::Curved(bend) => stands_for(start, &bend, chain, radius),
+    }
+}
+
 /// Whether the stretch from `start` is one.
 pub fn is_stretch(start: Spot, stretch: &Stretch) -> bool
-    ensures { IsTrue result ↔ IsStretch start stretch.now }
+    ensures { IsTrue result ↔ IsStretch start (chained stretch.now) }
 {
-    match stretch.part {
-        Part::Straight(end) => is_placed(end),
-        Part::Curved(bend) => stands_for(start, &bend, &stretch.chain, stretch.radius),
-    }
+    is_part(start, stretch.part, &stretch.chain, stretch.radius)
 }
 
 /// Where the part ends.
@@ -91,8 +99,8 @@ pub fn end_of(part: Part) -> Spot
 /// chains, holds the region whose contour begins at `start`. Where it says so, they do; others that
 /// do are refused.
 pub fn is_above(start: Spot, stretches: &[Stretch]) -> bool
-    ensures taken { IsTrue result ↔ TakenAbove start stretches.now }
-    ensures copper { IsTrue result → (p : Point) → InRegion start (parts_of stretches.now) p → InArea (edges_of (corners_of start stretches.now)) p ⊎ InCapsules stretches.now p }
+    ensures taken { IsTrue result ↔ TakenAbove start (all_chained stretches.now) }
+    ensures copper { IsTrue result → (p : Point) → InRegion start (parts_of (all_chained stretches.now)) p → InArea (edges_of (corners_of start (all_chained stretches.now))) p ⊎ InCapsules (all_chained stretches.now) p }
 {
     taken_holds();
     if !is_placed(start) {

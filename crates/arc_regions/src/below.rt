@@ -1,6 +1,6 @@
 //! Whether a polygon lies in a region.
 ghost use Rattle.arc_regions.specs.Copper.{InRegion};
-ghost use Rattle.arc_regions.specs.Taken.{AreClear, IsClear, IsPartClear, IsStretch, TakenBelow, odd_part, parts_of};
+ghost use Rattle.arc_regions.specs.Taken.{AreClear, IsClear, IsPartClear, IsStretch, TakenBelow, all_chained, chained, odd_part, parts_of};
 ghost use Rattle.area_contact.specs.Contour.{InArea, area_box, edges_from, edges_of, first_of};
 ghost use Rattle.area_contact.specs.Parity.{crossed, odd};
 ghost use Rattle.arcs.specs.Chains.{EachFrom};
@@ -163,7 +163,7 @@ fn chain_odd(p: Spot, chain: &[Spot]) -> bool
 fn part_odd(p: Spot, start: Spot, stretch: &Stretch) -> bool
     requires p_placed { IsPlaced p }
     requires start_placed { IsPlaced start }
-    requires stretch { IsStretch start stretch.now }
+    requires stretch { IsStretch start (chained stretch.now) }
     ensures { result ≡ odd_part p start stretch.now.part stretch.now.chain.items }
 {
     match stretch.part {
@@ -181,7 +181,7 @@ fn stands_clear<L: Ledger>(
     tests: &mut Steps<L>,
 ) -> bool
     requires inside { IsInside (area_box area.now.points.items) frame }
-    ensures { IsTrue result ↔ (IsStretch start stretch.now × IsPartClear frame area.now.points.items start stretch.now.part stretch.now.chain.items stretch.now.radius) }
+    ensures { IsTrue result ↔ (IsStretch start (chained stretch.now) × IsPartClear frame area.now.points.items start stretch.now.part stretch.now.chain.items stretch.now.radius) }
 {
     is_stretch(start, stretch) && part_clear(area, start, stretch, frame, tests)
 }
@@ -205,8 +205,8 @@ pub fn is_below<L: Ledger>(
     frame: Frame,
     tests: &mut Steps<L>,
 ) -> bool
-    ensures taken { IsTrue result ↔ TakenBelow frame start stretches.now area.now.points.items }
-    ensures copper { IsTrue result → (p : Point) → InArea (edges_of area.now.points.items) p → InRegion start (parts_of stretches.now) p }
+    ensures taken { IsTrue result ↔ TakenBelow frame start (all_chained stretches.now) area.now.points.items }
+    ensures copper { IsTrue result → (p : Point) → InArea (edges_of area.now.points.items) p → InRegion start (parts_of (all_chained stretches.now)) p }
 {
     taken_lies();
     if !(is_placed(start) && area.bounds().inside(frame)) {

@@ -15,7 +15,7 @@ mod below;
 pub mod laws;
 mod links;
 
-pub use above::is_above;
+pub use above::{draw_of, end_of, is_above, is_part, is_same};
 pub use below::is_below;
 pub use planar::Spot;
 
@@ -33,6 +33,13 @@ pub struct Bend {
 pub enum Part {
     Straight(Spot),
     Curved(Bend),
+}
+
+/// A region: its contour begins at `start`, and each part where the part before it ends.
+#[derive(Drop)]
+pub struct Region {
+    pub start: Spot,
+    pub parts: Vec<Part>,
 }
 
 /// A part of a contour. For an arc stand the links of a chain, each from a spot of it to the next:

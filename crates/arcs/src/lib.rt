@@ -6,7 +6,6 @@
 //! - `above`: whether a chain holds the copper of an arc.
 //! - `below`: whether a chain lies in the copper of every curve of the arc.
 //! - `chords`: whether a chord lies in a ring, and a chord in a turn.
-//! - `real_shape`: pieces that may be arc draws.
 //! - `rings`: whole numbers round the radii of an arc.
 //! - `alike`: whether its ends are alike enough for it to be meant.
 //! - `laws`: a law over the definitions alone.
@@ -17,13 +16,11 @@ mod alike;
 mod below;
 mod chords;
 pub mod laws;
-mod real_shape;
 mod rings;
 
 pub use above::is_above;
 pub use below::is_below;
 pub use planar::Spot;
-pub use real_shape::{RealPiece, RealShape};
 
 /// An arc draw with a round pen of the diameter `width`: counterclockwise about `centre`, from `start`
 /// to `end`. One that goes clockwise has the same copper as the one that goes back.

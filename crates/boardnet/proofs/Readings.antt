@@ -7,7 +7,7 @@ use Rattle.arc_covers.specs.declared.side.Side.{Side}
 use Rattle.arc_covers.specs.declared.between.BoundsFault.{BoundsFault}
 use Rattle.arc_covers.specs.declared.between.BoundsFault.TheVariants as bounds
 use Rattle.arc_layer.specs.Real.{PlainReal, plain_real, plain_reals}
-use Rattle.arcs.specs.declared.real_shape.RealShape.{RealShape}
+use Rattle.real_shapes.specs.declared.RealShape.{RealShape}
 use Rattle.board_io.specs.Handed.{Grows, Handed}
 use Rattle.board_io.specs.Package.{IsFaultless}
 use Rattle.board_package.proofs.Lift.{faultless_both, kept, kept_after}

@@ -20,7 +20,7 @@ use Rattle.arc_covers.specs.Findings.{IsWithoutCopper}
 use Rattle.arc_covers.specs.Laws.{CertainFindings}
 use Rattle.arc_covers.specs.RealBoards.{IsReal}
 use Rattle.arc_layer.specs.Real.{plain_reals}
-use Rattle.arcs.specs.declared.real_shape.RealShape.{RealShape}
+use Rattle.real_shapes.specs.declared.RealShape.{RealShape}
 use Rattle.board_shapes.specs.declared.placed.Placed.{Placed}
 use Rattle.boardnet.specs.declared.words.Version.{Version}
 use Rattle.boardnet.specs.declared.words.Version.TheVariants.{One, Two}

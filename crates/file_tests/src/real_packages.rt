@@ -1,9 +1,9 @@
 // Packages whose copper has arcs.
-use arcs::RealShape;
 use board_io::MemoryPackage;
 use board_package::build;
 use lengths::text::Text;
 use real_package::{RealBuildFault, RealPiece, build_real, has_its_netlist};
+use real_shapes::RealShape;
 use std::alloc::Global;
 use std::test::Fail;
 

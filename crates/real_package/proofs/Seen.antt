@@ -1,7 +1,7 @@
 -- What the parts of a real board are, seen as plain data.
 use Rattle.std.proofs.Common.{◌≡◌, ℕ, List, [], ◌++◌}
 use Rattle.arc_layer.specs.Real.{PlainReal, plain_real, plain_reals}
-use Rattle.arcs.specs.declared.real_shape.RealShape.{RealShape}
+use Rattle.real_shapes.specs.declared.RealShape.{RealShape}
 use Rattle.board_package.proofs.Seen.{seen}
 use Rattle.board_package.specs.Parts.{Has}
 use Rattle.board_package.specs.declared.parts.Parts.{Parts}

@@ -1,7 +1,7 @@
 -- Boards of figures and arc draws as plain data, and what such a board keeps.
 use Rattle.std.specs.Prelude.{◌≡◌, ℕ, List, [], ◌++◌, map, sum_by, length}
 use Rattle.arc_layer.specs.Real.{PlainReal, RealFigure, plain, bent, plain_reals}
-use Rattle.arcs.specs.declared.real_shape.RealShape.{RealShape}
+use Rattle.real_shapes.specs.declared.RealShape.{RealShape}
 use Rattle.board_shapes.specs.Figures.{figure_edges}
 use Rattle.board_shapes.specs.Pieces.{PlainPiece}
 use Rattle.board_shapes.specs.Plain.{PlainBoard}

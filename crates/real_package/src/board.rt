@@ -6,10 +6,10 @@ ghost use Rattle.real_package.specs.RealBoards as spec;
 ghost use Rattle.real_package.specs.RealBoards.{HasNetlistOf, as_reals, plain_real_board, real_edges};
 ghost use Rattle.std.specs.Prelude.{◌≡◌, ◌<◌, ◌≤◌, ◌^◌, ◌↔◌, length, IfOk, IsTrue};
 
-use arcs::{RealPiece, RealShape};
 use board_package::{Parts, room_for};
 use board_shapes::{Board, MOST_PIECES, Piece, Placed, Room};
 use lengths::rows::NoMemory;
+use real_shapes::{RealPiece, RealShape};
 use std::alloc::Global;
 
 /// A real board: pieces that are figures or arc draws, with the test points, names and layers of its package.

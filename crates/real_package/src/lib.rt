@@ -11,7 +11,7 @@ mod fault;
 pub mod laws;
 mod stages;
 
-pub use arcs::RealPiece;
 pub use board::{RealBoard, has_its_netlist};
 pub use fault::RealBuildFault;
+pub use real_shapes::RealPiece;
 pub use stages::build_real;

@@ -1,6 +1,6 @@
 use Rattle.std.proofs.Common.{refl}
-use Rattle.arc_covers.proofs.Figures.{chain_pieces_taken, layers_refused, pieces_taken}
-use Rattle.arcs.specs.declared.real_shape.RealShape.TheVariants.{Plain}
+use Rattle.arc_covers.proofs.Figures.{answer_taken, layers_refused, pieces_taken}
+use Rattle.real_shapes.specs.declared.RealShape.TheVariants.{ArcDraw, Plain, Region, Slanted}
 use Rattle.arc_covers.proofs.between.stand.Goals as goal
 
 pub returns-then-not-are_on : goal.returns-then-not-are_on
@@ -10,4 +10,10 @@ pub returns-in-Plain : goal.returns-in-Plain
 returns-in-Plain c = pieces_taken c.args.side c.args.real.now (Plain c.in-Plain.shape) c.args.pieces.now c.is_itself.result c.in-Plain.is (c.are_on.ensures.0 c.if-not-are_on.false) c.is_itself.ensures
 
 pub returns-in-ArcDraw : goal.returns-in-ArcDraw
-returns-in-ArcDraw c = chain_pieces_taken c.args.side c.args.real.now c.in-ArcDraw.arc c.args.pieces.now c.are_chain.result c.in-ArcDraw.is (c.are_on.ensures.0 c.if-not-are_on.false) c.are_chain.ensures
+returns-in-ArcDraw c = answer_taken c.args.side c.args.real.now (ArcDraw c.in-ArcDraw.arc) c.args.pieces.now c.are_chain.result c.in-ArcDraw.is (c.are_on.ensures.0 c.if-not-are_on.false) c.are_chain.ensures
+
+pub returns-in-Slanted : goal.returns-in-Slanted
+returns-in-Slanted c = pieces_taken c.args.side c.args.real.now (Slanted c.in-Slanted.line) c.args.pieces.now c.are_contour.result c.in-Slanted.is (c.are_on.ensures.0 c.if-not-are_on.false) c.are_contour.ensures
+
+pub returns-in-Region : goal.returns-in-Region
+returns-in-Region c = answer_taken c.args.side c.args.real.now (Region c.in-Region.region) c.args.pieces.now c.is_region.result c.in-Region.is (c.are_on.ensures.0 c.if-not-are_on.false) c.is_region.ensures

@@ -1,0 +1,48 @@
+-- Single contours.
+use Rattle.std.proofs.Common.{◌≡◌, ◌↔◌, ◌⊎◌, inl, inr, ℕ, ◌+◌, ◌≤◌, ◌<◌, length, List, [], ◌∷◌, Bool, false, IsTrue, get_or, refl, sym, ap, subst, arith}
+use Rattle.planar.specs.declared.Spot.{Spot}
+use Rattle.board_shapes.specs.Figures.{Figure, Stroke, figure_of, filled, round}
+use Rattle.board_shapes.specs.Pieces.{plain_pieces}
+use Rattle.board_shapes.specs.declared.placed.Placed.{Placed}
+use Rattle.board_shapes.specs.declared.shape.Shape.{Shape}
+use Rattle.arc_covers.specs.Bounds.{ContourFor, OneContour, figures_of}
+use Rattle.arc_covers.specs.declared.side.Side.{Side}
+use Rattle.arc_covers.specs.declared.side.Side.TheVariants.{Above, Below}
+
+pub of_contour : (P : List Spot → Type 0) (points : List Spot) (b : Bool) → IsTrue b ↔ P points → IsTrue b ↔ OneContour P (filled points ∷ [])
+of_contour P points b told = (λ yes. (points, refl, told.0 yes), λ (other, same, taken). told.1 (let one : other ≡ points = cc in subst P one taken))
+
+pub of_capsule : (P : List Spot → Type 0) (s : Stroke) (b : Bool) → b ≡ false → IsTrue b ↔ OneContour P (round s ∷ [])
+of_capsule P s b off = (λ yes. absurd cc, λ (other, same, taken). absurd cc)
+
+pub of_one : (side : Side) (P : List Spot → Type 0) (f : Figure) (figures : List Figure) (b : Bool) → figures ≡ f ∷ [] → IsTrue b ↔ OneContour P (f ∷ []) → IsTrue b ↔ ContourFor side P figures
+of_one Above P f figures b is told = (λ yes. subst (OneContour P) (sym is) (told.0 yes), λ h. told.1 (subst (OneContour P) is h))
+of_one Below P f figures b is told = (λ yes. inr (subst (OneContour P) (sym is) (told.0 yes)), back)
+  where
+    back : (figures ≡ []) ⊎ OneContour P figures → IsTrue b
+    back (inl none) = absurd cc
+    back (inr h) = told.1 (subst (OneContour P) is h)
+
+pub of_none : (side : Side) (P : List Spot → Type 0) (figures : List Figure) (b : Bool) → figures ≡ [] → IsTrue b ↔ (side ≡ Below) → IsTrue b ↔ ContourFor side P figures
+of_none Above P figures b is told = (λ yes. absurd (let no : Above ≡ Below = told.0 yes in cc), λ (points, same, taken). absurd cc)
+of_none Below P figures b is told = (λ yes. inl is, λ h. told.1 refl)
+
+pub of_more : (side : Side) (P : List Spot → Type 0) (f g : Figure) (rest figures : List Figure) (b : Bool) → b ≡ false → figures ≡ f ∷ g ∷ rest → IsTrue b ↔ ContourFor side P figures
+of_more Above P f g rest figures b off is = (λ yes. absurd cc, λ (points, same, taken). absurd cc)
+of_more Below P f g rest figures b off is = (λ yes. absurd cc, back)
+  where
+    back : (figures ≡ []) ⊎ OneContour P figures → IsTrue b
+    back (inl none) = absurd cc
+    back (inr (points, same, taken)) = absurd cc
+
+-- ---- one piece, or more
+
+pub one_piece : (pieces : List (Placed Shape)) (p : Placed Shape) → 1 ≤ length pieces → length pieces < 2 → p ≡ get_or pieces 0 p → figures_of (plain_pieces pieces) ≡ figure_of p.shape ∷ []
+one_piece [] p some few is = absurd (omega arith)
+one_piece (q ∷ []) p some few is = let same : q ≡ p = sym is in ap (λ (x : Placed Shape). figure_of x.shape ∷ []) same
+one_piece (q ∷ r ∷ rest) p some few is = absurd (omega arith)
+
+pub more_pieces : (side : Side) (P : List Spot → Type 0) (pieces : List (Placed Shape)) → 2 ≤ length pieces → IsTrue false ↔ ContourFor side P (figures_of (plain_pieces pieces))
+more_pieces side P [] some = absurd (omega arith)
+more_pieces side P (p ∷ []) some = absurd (omega arith)
+more_pieces side P (p ∷ q ∷ rest) some = of_more side P (figure_of p.shape) (figure_of q.shape) (figures_of (plain_pieces rest)) (figures_of (plain_pieces (p ∷ q ∷ rest))) false refl refl
