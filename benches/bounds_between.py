@@ -1,4 +1,4 @@
-"""Made packages whose copper outside the profile is arc draws alone, and how many of them `between` takes, by what `show` says."""
+"""Made packages whose copper outside the profile `between` reads, and how many of them it takes, by what `show` says."""
 import json
 import math
 import os
@@ -6,6 +6,7 @@ import random
 import subprocess
 import sys
 import tempfile
+from collections import Counter
 
 from bounds_files import FORMATS
 
@@ -23,12 +24,13 @@ def is_meant(centre, start, end):
 
 
 class Layer:
-    """A copper file: figures, arc draws of every kind, blocks. `arcs` counts these draws; lengths are counted in the file's units."""
+    """A copper file: figures, arc draws of every kind, macros with slanted lines, regions with arcs, blocks. `arcs` counts the draws, and
+    `made` what else of the file is outside the profile; lengths are counted in the file's units."""
 
     def __init__(self, rng, arcs, most=METRE // 20):
-        self.rng, self.arcs, (digits, unit, self.unit) = rng, 0, rng.choice(FORMATS)
+        self.rng, self.arcs, self.made, (digits, unit, self.unit) = rng, 0, Counter(), rng.choice(FORMATS)
         self.scale, self.most = 254 * 10 ** 6 if unit == "IN" else 10 ** 7, most // self.unit
-        self.lines = [f"%FSLAX{digits}Y{digits}*%", f"%MO{unit}*%", *self.apertures(), "G01*"]
+        self.lines = [f"%FSLAX{digits}Y{digits}*%", f"%MO{unit}*%", *self.apertures(), *self.macros(), "G01*"]
         while self.arcs < arcs:
             self.block() if rng.random() < .03 else self.object()
         self.lines += ["G01*", "M02*"]
@@ -52,7 +54,7 @@ class Layer:
         self.lines.append(f"{before}X{spot[0]}Y{spot[1]}{behind}D0{code}*")
 
     def object(self):
-        self.rng.choice((self.arc, self.arc, self.arc, self.arc, self.draw, self.flash, self.area))()
+        self.rng.choice((self.arc, self.arc, self.arc, self.arc, self.draw, self.flash, self.area, self.macro, self.bent))()
 
     def block(self):
         gap = self.rng.randrange(1, 10 ** 7) * self.step() / self.scale
@@ -80,6 +82,59 @@ class Layer:
         for spot in [*rest, first]:
             self.go(spot, 1)
         self.lines.append("G37*")
+
+    # ---- macros and regions
+
+    def length(self, most):
+        """A place or half a size for a macro."""
+        return self.step() * self.rng.randint(1, most // self.step())
+
+    def macros(self):
+        """Macros of slanted lines and other primitives, by quarter turns."""
+        for k in range(40, 50):
+            yield f"%AMM{k}*"
+            words = [self.primitive(10 ** self.rng.randint(3, 7)) for _ in range(self.rng.randrange(1, 5))]
+            yield from (f"{word},{90 * self.rng.randrange(4)}*" for word in words[:-1])
+            yield from (f"{words[-1]},{90 * self.rng.randrange(4)}*%", f"%ADD{k}M{k},0.1*%")
+
+    def primitive(self, size):
+        text = lambda u: f"{u / self.scale:.7f}"
+        w, x, y, dx, dy = (self.length(size) * self.rng.choice((-1, 1)) for _ in range(5))
+        w, end = 2 * abs(w), self.rng.choice(((x + dx, y + dy),) * 4 + ((x + dx, y), (x, y + dy)))
+        return self.rng.choice((f"20,1,{text(w)},{text(x)},{text(y)},{text(end[0])},{text(end[1])}",) * 3 + (
+            f"1,1,{text(w)},{text(x)},{text(y)}", f"21,1,{text(w)},{text(2 * abs(dx))},{text(x)},{text(y)}", "20,1,0,0,0,0.1,0.1"))
+
+    def macro(self):
+        self.pick(40, 49)
+        self.go(self.place(), 3)
+        self.made["flashes of macros"] += 1
+
+    def bent(self):
+        """Boxes whose corners are rounded outwards or inwards, or not, either way round, in one region."""
+        self.lines += ["G75*", "G36*"]
+        for _ in range(self.rng.randrange(1, 4)):
+            (x, y), parts = self.place(), self.box()
+            self.go((parts[0][0] + x, parts[0][1] + y), 2, "G01")
+            last = parts[0]
+            for centre, end, way in parts[1:]:
+                word, offset = ("G01", "") if centre is None else ("G03" if way else "G02", f"I{centre[0] - last[0]}J{centre[1] - last[1]}")
+                self.go((end[0] + x, end[1] + y), 1, word, offset)
+                last = end
+            self.made["contours with arcs"] += any(part[0] for part in parts[1:])
+        self.lines += ["G37*", "G01*"]
+
+    def box(self):
+        """A spot, and parts (centre or None, end, counterclockwise); over 9 u wide."""
+        rng, r = self.rng, 9 + int(10 ** self.rng.uniform(0, math.log10(self.most // 4)))
+        w, h = (r + rng.choice((0, 1, rng.randrange(1, 4 * r))) for _ in "xy")
+        parts = [((r, 0), None, True)]
+        for inner, outer, first, last in (((w, r), (w + r, 0), (w, 0), (w + r, r)), ((w, h), (w + r, h + r), (w + r, h), (w, h + r)),
+                                          ((r, h), (0, h + r), (r, h + r), (0, h)), ((r, r), (0, 0), (0, r), (r, 0))):
+            parts += [(first, None, True), (last, *rng.choice(((inner, True), (inner, True), (outer, False), (None, True))))]
+        if rng.random() < .5:       # the other way round
+            spots = [spot for spot, _, _ in parts]
+            parts = [(spots[-1], None, True), *((spot, centre, not way) for spot, (_, centre, way) in zip(spots[-2::-1], parts[:0:-1]))]
+        return [parts[0][0], *((centre, spot, way) for spot, centre, way in parts[1:])]
 
     # ---- arcs
 
@@ -133,7 +188,7 @@ class Layer:
 
 
 def package(rng, folder, arcs):
-    """A package of two layers, a through drill file and two points; how many arc draws it has."""
+    """A package of two layers, a through drill file and two points; how many arc draws it has, and what else outside the profile."""
     layers = [Layer(rng, arcs // 2) for _ in "tb"]
     files = {f"{k}.gbr": its.text() for k, its in enumerate(layers)}
     files["d.drl"] = "\n".join(["M48", "METRIC", "T1C0.3", "%", "T1", *(f"X{rng.uniform(-40, 40):.4f}Y{rng.uniform(-40, 40):.4f}" for _ in range(9)), "M30", ""])
@@ -143,12 +198,12 @@ def package(rng, folder, arcs):
     for name, text in files.items():
         with open(os.path.join(folder, name), "w", encoding="ascii") as file:
             file.write(text)
-    return sum(its.arcs for its in layers)
+    return sum((its.made for its in layers), Counter({"arc draws": sum(its.arcs for its in layers)}))
 
 
 def tried(packages, seed, arcs=100):
     """Prints how many packages are taken; 1 where one is not."""
-    taken, count = 0, 0
+    taken, count = 0, Counter()
     for number in range(packages):
         with tempfile.TemporaryDirectory() as folder:
             count += package(random.Random(f"{seed} {number}"), folder, arcs)
@@ -158,5 +213,5 @@ def tried(packages, seed, arcs=100):
             taken += 1
         else:
             print(f"not taken: package {number} of seed {seed}: {said}")
-    print(f"{taken} of {packages} packages taken, {count} arc draws")
+    print(f"{taken} of {packages} packages taken: {', '.join(f'{many} {what}' for what, many in count.items())}")
     return 0 if taken == packages else 1

@@ -3,9 +3,9 @@
 Each piece of the lower board lies in copper of the board, joined in itself, and the board's copper in pieces of the upper one;
 drills, netlist and names are the same. So what is joined below is joined on the board, and what is joined there is joined above
 (the law `verdicts_decide` of the crate `covers`): no opens and no missing points below and no shorts above make the board agree;
-shorts below, and opens and missing points above, are the board's (a point of such an open may be missing there). What only one of
-them has is undecided. That the two boards are such bounds is not proved, but where the program says so (`proved`): this script makes
-them, by whole numbers, and its tests compare them with fractions.
+shorts below, and opens and missing points above, are the board's (a point of such an open may be missing there). Other opens and
+missing points below, and other shorts above, are undecided. That the two boards are such bounds is not proved, but where the program
+says so (`proved`): this script makes them, by whole numbers, and its tests compare them with fractions.
 """
 import os
 import re
@@ -39,14 +39,16 @@ class Bounded(NamedTuple):
 
 
 class Sides(NamedTuple):
-    """The two packages of a board, with the words' sources by side and file, and what is left out below. `arcs` are the commands of
-    arc draws by file, None where a file has other copper outside the profile; `unlike` those that make other copper on both sides."""
+    """The two packages of a board, with the words' sources by side and file, and what is left out below. `rows` are by file those of
+    the commands that `between` reads, None where a file has other copper outside the profile; `unlike` are the commands that make
+    other copper on both sides."""
 
     packages: tuple
     sources: tuple
     left_out: list
-    arcs: dict
+    rows: dict
     unlike: dict
+    is_coarse: bool
 
 
 def is_outside(line):
@@ -61,24 +63,37 @@ def outline_of(package):
     return negative.outline_of(negative.profile_of(package.home or package.folder), texts, lambda text: two_sides.Copper(text, cuts=True).objects)
 
 
-def sides_of(package, name):
+def sides_of(package, name, is_fine=False):
     from . import two_sides     # most boards have no bounds, and loading takes longer than a small board
     try:
-        return two_sides.of_text(package.read(name).decode("latin-1"), lambda: outline_of(package))
+        return two_sides.of_text(package.read(name).decode("latin-1"), lambda: outline_of(package), is_fine)
     except Refused as why:
         raise Refused(f"{name}: {why}") from None
     except Exception as fault:
         raise fault_of(package.told_path(name), fault) from fault
 
 
-def of_package(package):
+def rows_of(copper):
+    """Those of its commands, where `between` reads all that is written otherwise."""
+    return copper.rows if copper.replaced == len(copper.rows) else None
+
+
+def coppers_of(package, is_fine):
+    """Both sides of each copper file; fine ones, where `between` does not read all of them."""
+    found = {name: sides_of(package, name, is_fine) for name in dict.fromkeys(package.manifest.copper)}
+    if None in map(rows_of, found.values()):
+        found.update((name, sides_of(package, name, True)) for name, copper in found.items() if copper.is_coarse)
+    return found
+
+
+def of_package(package, is_fine):
     """Both sides of each copper file that holds something outside the profile; the others are the same files."""
-    files, sources, left_out, arcs, unlike, replaced = ({}, {}), ({}, {}), [], {}, {}, 0
-    for name in dict.fromkeys(package.manifest.copper):
-        copper = sides_of(package, name)
+    files, sources, left_out, rows, unlike, replaced = ({}, {}), ({}, {}), [], {}, {}, 0
+    coppers = coppers_of(package, is_fine)
+    for name, copper in coppers.items():
         left_out += [f"{name}: {what}" for what in copper.lost]
         replaced += copper.replaced
-        arcs[name] = set(copper.bent) if copper.replaced == len(copper.bent) else None
+        rows[name] = rows_of(copper)
         unlike[name] = copper.unlike
         for side, data, origin in zip(copper.sides, files, sources):
             if copper.replaced:
@@ -88,7 +103,7 @@ def of_package(package):
     if not replaced:
         raise Refused("nothing in the copper files is of a kind that has bounds")
     made = tuple(package.changed(beside(package, side), data) for side, data in zip(SIDES, files))
-    return Sides(made, sources, left_out, arcs, unlike)
+    return Sides(made, sources, left_out, rows, unlike, any(it.is_coarse for it in coppers.values()))
 
 
 def both_judged(program, sides):
@@ -122,12 +137,22 @@ def answered(program, package, sides, low, high, ties):
     return Bounded(status, line, [it[:4] for it in findings], sides.left_out, tuple(it[4] for it in findings), sides.sources)
 
 
+def tried(program, package, ties, is_fine):
+    """(sides, answer, lower, upper) of a package."""
+    sides = of_package(package, is_fine)
+    low, high = both_judged(program, sides)
+    return sides, answered(program, package, sides, low, high, ties), low, high
+
+
 def judge(program, package, ties=Ties()):
-    """(answer, lower, upper) of a package, made once; Refused where no bounds can be given."""
+    """(answer, lower, upper) of a package, made once, from fine sides where coarse ones leave it undecided; Refused where no bounds can be
+    given."""
     if not package.between:
-        sides = package.sides = of_package(package)
-        low, high = both_judged(program, sides)
-        package.between = answered(program, package, sides, low, high, ties), low, high
+        found = tried(program, package, ties, False)
+        if found[0].is_coarse and found[1].status == UNDECIDED:
+            fine = tried(program, package, ties, True)
+            found = found if fine[1].status == UNDECIDED else fine
+        package.sides, *package.between = found
     return package.between
 
 

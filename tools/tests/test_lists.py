@@ -107,11 +107,11 @@ class Lists(unittest.TestCase):
 
 
 def answers():
-    """The rows of the table of answers in docs/ARCHITECTURE.md: crate, calls, causes, clauses."""
+    """The rows of the table of answers in docs/ARCHITECTURE.md: crate, calls, causes."""
     text = (lists.TOP / "docs/ARCHITECTURE.md").read_text().split("<!-- answers: tried by tools/tests/test_lists -->")[1].split("<!-- answers end -->")[0]
     for line in text.splitlines()[3:]:
-        crate, calls, causes, clauses = (cell.strip() for cell in line.strip("|").split(" | "))
-        yield crate.strip("`"), names(calls), causes, names(clauses)
+        crate, calls, causes = (cell.strip() for cell in line.strip("|").split(" | "))
+        yield crate.strip("`"), names(calls), causes
 
 
 def names(cell):
@@ -126,26 +126,22 @@ def source_of(crate):
 
 
 class Answers(unittest.TestCase):
-    """The table of answers names calls, clauses and faults that are there. A call that a root gives on has a row, or one answer, and then its page has it."""
+    """The table of answers names calls and faults that are there. A call that a root gives on has a row, or one answer, and then its page has it."""
 
     def test_rows(self):
-        for crate, calls, _, clauses in answers():
+        for crate, calls, _ in answers():
             source = source_of(crate)
-            # A crate's answers may stand in the trait that it implements.
-            source += source_of("contact") if crate == "area_contact" else ""
             for call in calls:
                 self.assertTrue(re.search(rf"\bfn {call}\b", source), f"{crate} has no call {call}")
-            for clause in clauses:
-                self.assertTrue(re.search(rf"\bensures {clause} {{", source), f"{crate} has no clause {clause} ({calls})")
 
-    def test_pages_have_calls_and_clauses(self):
-        for crate, calls, _, clauses in answers():
+    def test_pages_have_calls(self):
+        for crate, calls, _ in answers():
             page = (lists.TOP / "crates" / crate / "README.md").read_text()
-            for name in [*calls, *clauses]:
+            for name in calls:
                 self.assertTrue(re.search(rf"\b{name}\b", page), f"{crate}: its page has no {name}")
 
     def test_calls_of_roots(self):
-        told = {(crate, call) for crate, calls, _, _ in answers() for call in calls}
+        told = {(crate, call) for crate, calls, _ in answers() for call in calls}
         for crate in lists.crates((lists.TOP / "crates.txt").read_text()):
             root = lists.TOP / "crates" / crate / "src/lib.rt"
             given = re.findall(r"(?ms)^pub use \w+::(?:\{(.*?)\}|(\w+));", root.read_text()) if root.exists() else []
@@ -154,7 +150,7 @@ class Answers(unittest.TestCase):
                 self.assertTrue((crate, name) in told or re.search(rf"\b{name}\b", page), (crate, name))
 
     def test_faults(self):
-        told = " ".join(causes for _, _, causes, _ in answers())
+        told = " ".join(causes for _, _, causes in answers())
         for crate in lists.crates((lists.TOP / "crates.txt").read_text()):
             for enum, body in re.findall(r"(?s)\npub enum (\w*Fault) \{(.*?)\n\}", source_of(crate)):
                 for variant in re.findall(r"(?m)^    ([A-Z]\w*)", body):

@@ -1,32 +1,33 @@
--- How far the bends of a file are read.
+-- How far the marks of a file are read.
 use Rattle.std.proofs.Common.{◌≡◌, ℕ, ◌+◌, ◌<◌, ◌==◌, Bool, true, false, cond, ◌&&◌, List, [], ◌∷◌, length, Option, Some, None, is_some, Ok, Err, IsOk, refl, sym, ap, ◌∙◌, subst, arith}
 use mathlib.Core.Path.{fun_ext}
+use Rattle.std.specs.Prelude.{IfSome}
 use Rattle.std.proofs.lemmas.List.{length-map}
 use Rattle.file_reading.specs.Reading.{Item, IsReadTo, IsRefused, said}
 use Rattle.file_reading.proofs.Turning.{read-start, read-more, read-fault}
 use Rattle.gerber_words.specs.Words.{Ahead, Entry, Stop, ended, broken, HasWords, start}
 use Rattle.gerber_words.specs.Items.{word_item, stop_item, items_with}
 use Rattle.gerber_words.specs.Laws.{HasOneReadingAhead}
-use Rattle.arc_layer.specs.Bends.{AreBends, AreSayings, AreShort, IsShort, IsBendRefused, bend_behind, bend_of, bends_in, ok_bend}
-use Rattle.arc_layer.specs.Reading.{Takes, bends_so_far}
+use Rattle.arc_layer.specs.Marks.{AreMarks, AreSayings, AreShort, IsShortMark, IsBendRefused, mark_behind, mark_of, marks_in, ok_mark}
+use Rattle.arc_layer.specs.Reading.{Takes, marks_so_far}
 use Rattle.arc_layer.specs.State.{state_before, state_behind}
 use Rattle.arc_layer.specs.Words.{Saying, saying, stop_saying}
-use Rattle.arc_layer.specs.declared.bends.Reader.{Reader}
-use Rattle.arc_layer.specs.declared.draws.Bend.{Bend}
+use Rattle.arc_layer.specs.declared.marks.Reader.{Reader}
+use Rattle.arc_layer.specs.declared.mark.Mark.{Mark}
 use Rattle.arc_layer.specs.declared.kind.RealKind.{RealKind}
 use Rattle.arc_layer.specs.declared.state.State.{State}
 
 -- what the reader keeps is what looking back finds
 pub record Knows (earlier : List Saying) (r : Reader) : Type 0 where
   pub state : r.state ≡ state_before earlier
-  pub bends : (n : ℕ) → bends_so_far r n ≡ bends_in earlier n
+  pub marks : (n : ℕ) → marks_so_far r n ≡ marks_in earlier n
   pub counts : r.commands ≡ length earlier
 
 -- the file is read to these words
 pub record ReadToWords (file : List ℕ) (earlier : List (Item Saying)) (words : List Entry) (stop : Stop) : Type 0 where
   pub all : List (Item Saying)
   pub are : AreSayings file all
-  pub read : IsReadTo bend_behind all earlier (items_with saying stop_saying (length file) words stop)
+  pub read : IsReadTo mark_behind all earlier (items_with saying stop_saying (length file) words stop)
 
 -- whatever words lie ahead, the file is read to them, and the reader knows what looking back finds
 pub record ReadSoFar (file : List ℕ) (a : Ahead) (r : Reader) : Type 0 where
@@ -34,44 +35,44 @@ pub record ReadSoFar (file : List ℕ) (a : Ahead) (r : Reader) : Type 0 where
   pub extends : (words : List Entry) (stop : Stop) → HasWords a words stop → ReadToWords file earlier words stop
   pub knows : Knows (said earlier) r
 
-pub nothing-read : (file : List ℕ) (r : Reader) → r.state ≡ state_before [] → ((n : ℕ) → bends_so_far r n ≡ None) → r.commands ≡ 0 → ReadSoFar file (start file) r
-nothing-read file r state bends none = record {
+pub nothing-read : (file : List ℕ) (r : Reader) → r.state ≡ state_before [] → ((n : ℕ) → marks_so_far r n ≡ None) → r.commands ≡ 0 → ReadSoFar file (start file) r
+nothing-read file r state marks none = record {
   earlier = [];
-  extends = λ words stop h. record { all = items_with saying stop_saying (length file) words stop; are = record { words = words; stop = stop; cut = h; are = refl }; read = read-start bend_behind _ };
-  knows = record { state = state; bends = bends; counts = none };
+  extends = λ words stop h. record { all = items_with saying stop_saying (length file) words stop; are = record { words = words; stop = stop; cut = h; are = refl }; read = read-start mark_behind _ };
+  knows = record { state = state; marks = marks; counts = none };
 }
 
--- no command has a bend that does not stand yet
-none_later : (earlier : List Saying) (n : ℕ) → length earlier < n → bends_in earlier n ≡ None
+-- no command has a mark that does not stand yet
+none_later : (earlier : List Saying) (n : ℕ) → length earlier < n → marks_in earlier n ≡ None
 none_later [] n h = refl
 none_later (w ∷ earlier) n h = by (length earlier + 1 == n) refl (none_later earlier n (omega (arith, h)))
   where
-    by : (b : Bool) → (length earlier + 1 == n) ≡ b → bends_in earlier n ≡ None → cond b (ok_bend (bend_behind earlier w)) (bends_in earlier n) ≡ None
+    by : (b : Bool) → (length earlier + 1 == n) ≡ b → marks_in earlier n ≡ None → cond b (ok_mark (mark_behind earlier w)) (marks_in earlier n) ≡ None
     by true is none = absurd (grind (arith, is, h))
     by false is none = none
 
--- the bends with one word more
-one_more : (earlier : List Saying) (w : Saying) (bend : Option Bend) (r r' : Reader) (n : ℕ) → Knows earlier r → Takes r w r' → bends_so_far r' n ≡ bends_in (w ∷ earlier) n
-one_more earlier w bend r r' n k t = subst (λ m. bends_so_far r' n ≡ cond (m + 1 == n) (ok_bend (bend_behind earlier w)) (bends_in earlier n)) k.counts (t.bends n ∙ by t.bend (r.commands + 1 == n) refl has)
+-- the marks with one word more
+one_more : (earlier : List Saying) (w : Saying) (mark : Option Mark) (r r' : Reader) (n : ℕ) → Knows earlier r → Takes r w r' → marks_so_far r' n ≡ marks_in (w ∷ earlier) n
+one_more earlier w mark r r' n k t = subst (λ m. marks_so_far r' n ≡ cond (m + 1 == n) (ok_mark (mark_behind earlier w)) (marks_in earlier n)) k.counts (t.marks n ∙ by t.mark (r.commands + 1 == n) refl has)
   where
-    has : ok_bend (bend_behind earlier w) ≡ t.bend
-    has = subst (λ (s : State). ok_bend (bend_of s w) ≡ t.bend) k.state (ap ok_bend t.clean)
+    has : ok_mark (mark_behind earlier w) ≡ t.mark
+    has = subst (λ (s : State). ok_mark (mark_of s w) ≡ t.mark) k.state (ap ok_mark t.clean)
 
-    by : (b : Option Bend) (at : Bool) → (r.commands + 1 == n) ≡ at → ok_bend (bend_behind earlier w) ≡ b → cond (is_some b && at) b (bends_so_far r n) ≡ cond at (ok_bend (bend_behind earlier w)) (bends_in earlier n)
+    by : (b : Option Mark) (at : Bool) → (r.commands + 1 == n) ≡ at → ok_mark (mark_behind earlier w) ≡ b → cond (is_some b && at) b (marks_so_far r n) ≡ cond at (ok_mark (mark_behind earlier w)) (marks_in earlier n)
     by (Some x) true is h = sym h
-    by (Some x) false is h = k.bends n
-    by None true is h = k.bends n ∙ none_later earlier n (let c = k.counts in grind (arith, is, c)) ∙ sym h
-    by None false is h = k.bends n
+    by (Some x) false is h = k.marks n
+    by None true is h = k.marks n ∙ none_later earlier n (let c = k.counts in grind (arith, is, c)) ∙ sym h
+    by None false is h = k.marks n
 
 pub knows-more : (earlier : List Saying) (w : Saying) (r r' : Reader) → Knows earlier r → Takes r w r' → Knows (w ∷ earlier) r'
 knows-more earlier w r r' k t = record {
   state = t.state ∙ ap (λ (s : State). state_behind s w) k.state;
-  bends = λ n. one_more earlier w t.bend r r' n k t;
+  marks = λ n. one_more earlier w t.mark r r' n k t;
   counts = let a = t.counts in let b = k.counts in omega (arith, a, b);
 }
 
-takes-ok : (earlier : List Saying) (w : Saying) (r r' : Reader) → Knows earlier r → Takes r w r' → IsOk (bend_behind earlier w)
-takes-ok earlier w r r' k t = let g : bend_behind earlier w ≡ Ok t.bend = subst (λ (s : State). bend_of s w ≡ Ok t.bend) k.state t.clean in rw g refl
+takes-ok : (earlier : List Saying) (w : Saying) (r r' : Reader) → Knows earlier r → Takes r w r' → IsOk (mark_behind earlier w)
+takes-ok earlier w r r' k t = let g : mark_behind earlier w ≡ Ok t.mark = subst (λ (s : State). mark_of s w ≡ Ok t.mark) k.state t.clean in rw g refl
 
 -- a word that was taken
 pub word-read : (file : List ℕ) (old new : Ahead) (w : Entry) (r r' : Reader) → ReadSoFar file old r → ((words : List Entry) (stop : Stop) → HasWords new words stop → HasWords old (w ∷ words) stop) → Takes r (saying w) r' → ReadSoFar file new r'
@@ -79,45 +80,45 @@ word-read file old new w r r' s next t = record {
   earlier = word_item saying w ∷ s.earlier;
   extends = λ words stop h.
       let x = s.extends (w ∷ words) stop (next words stop h) in
-      record { all = x.all; are = x.are; read = read-more bend_behind x.all s.earlier (items_with saying stop_saying (length file) words stop) (word_item saying w) x.read (takes-ok (said s.earlier) (saying w) r r' s.knows t) };
+      record { all = x.all; are = x.are; read = read-more mark_behind x.all s.earlier (items_with saying stop_saying (length file) words stop) (word_item saying w) x.read (takes-ok (said s.earlier) (saying w) r r' s.knows t) };
   knows = knows-more (said s.earlier) (saying w) r r' s.knows t;
 }
 
 -- a word that stops the reader
-pub word-fault : ((a : Ahead) → HasOneReadingAhead a) → (file : List ℕ) (old new : Ahead) (w : Entry) (r : Reader) (kind : RealKind) (number : ℕ) → ReadSoFar file old r → ((words : List Entry) (stop : Stop) → HasWords new words stop → HasWords old (w ∷ words) stop) → number ≡ r.commands + 1 → bend_of r.state (saying w) ≡ Err kind → IsBendRefused file kind number w.at
+pub word-fault : ((a : Ahead) → HasOneReadingAhead a) → (file : List ℕ) (old new : Ahead) (w : Entry) (r : Reader) (kind : RealKind) (number : ℕ) → ReadSoFar file old r → ((words : List Entry) (stop : Stop) → HasWords new words stop → HasWords old (w ∷ words) stop) → number ≡ r.commands + 1 → mark_of r.state (saying w) ≡ Err kind → IsBendRefused file kind number w.at
 word-fault one file old new w r kind number s next is h =
     let more = one new in
     let x = s.extends (w ∷ more.words) more.stop (next more.words more.stop more.is) in
-    let why : bend_behind (said s.earlier) (saying w) ≡ Err kind = subst (λ (t : State). bend_of t (saying w) ≡ Err kind) s.knows.state h in
+    let why : mark_behind (said s.earlier) (saying w) ≡ Err kind = subst (λ (t : State). mark_of t (saying w) ≡ Err kind) s.knows.state h in
     let counted : number ≡ length s.earlier + 1 = is ∙ ap (λ (k : ℕ). k + 1) (s.knows.counts ∙ length-map s.earlier (λ i. i.says)) in
-    let refused = read-fault bend_behind x.all s.earlier (items_with saying stop_saying (length file) more.words more.stop) (word_item saying w) kind x.read why in
-    (x.all, x.are, subst (λ (k : ℕ). IsRefused bend_behind x.all kind k w.at) (sym counted) refused)
+    let refused = read-fault mark_behind x.all s.earlier (items_with saying stop_saying (length file) more.words more.stop) (word_item saying w) kind x.read why in
+    (x.all, x.are, subst (λ (k : ℕ). IsRefused mark_behind x.all kind k w.at) (sym counted) refused)
 
--- the stop has no bend
-stop-ok : (earlier : List Saying) (stop : Stop) → IsOk (bend_behind earlier (stop_saying stop))
+-- the stop has no mark
+pub stop-ok : (earlier : List Saying) (stop : Stop) → IsOk (mark_behind earlier (stop_saying stop))
 stop-ok earlier ended = refl
 stop-ok earlier (broken fault at) = refl
 
-idle : (earlier : List Saying) (n : ℕ) (b : Bool) → (length earlier + 1 == n) ≡ b → cond b None (bends_in earlier n) ≡ bends_in earlier n
+idle : (earlier : List Saying) (n : ℕ) (b : Bool) → (length earlier + 1 == n) ≡ b → cond b None (marks_in earlier n) ≡ marks_in earlier n
 idle earlier n true is = sym (none_later earlier n (grind (arith, is)))
 idle earlier n false is = refl
 
-stop-none : (earlier : List Saying) (stop : Stop) (n : ℕ) → bends_in (stop_saying stop ∷ earlier) n ≡ bends_in earlier n
+pub stop-none : (earlier : List Saying) (stop : Stop) (n : ℕ) → marks_in (stop_saying stop ∷ earlier) n ≡ marks_in earlier n
 stop-none earlier ended n = idle earlier n (length earlier + 1 == n) refl
 stop-none earlier (broken fault at) n = idle earlier n (length earlier + 1 == n) refl
 
-pub stop-read : (file : List ℕ) (old : Ahead) (stop : Stop) (r : Reader) (bends : ℕ → Option Bend) → ReadSoFar file old r → HasWords old [] stop → ((n : ℕ) → bends n ≡ bends_so_far r n) → AreBends file bends
-stop-read file old stop r bends s had same =
+pub stop-read : (file : List ℕ) (old : Ahead) (stop : Stop) (r : Reader) (marks : ℕ → Option Mark) → ReadSoFar file old r → HasWords old [] stop → ((n : ℕ) → marks n ≡ marks_so_far r n) → AreMarks file marks
+stop-read file old stop r marks s had same =
     let x = s.extends [] stop had in (
       x.all,
       x.are,
       record {
         earlier = stop_item stop_saying (length file) stop ∷ s.earlier;
-        whole = read-more bend_behind x.all s.earlier [] (stop_item stop_saying (length file) stop) x.read (stop-ok (said s.earlier) stop);
-        is = fun_ext (λ n. same n ∙ s.knows.bends n ∙ sym (stop-none (said s.earlier) stop n));
+        whole = read-more mark_behind x.all s.earlier [] (stop_item stop_saying (length file) stop) x.read (stop-ok (said s.earlier) stop);
+        is = fun_ext (λ n. same n ∙ s.knows.marks n ∙ sym (stop-none (said s.earlier) stop n));
       },
     )
 
 -- where there are none, each is short
-pub none_short : (bends : ℕ → Option Bend) → ((n : ℕ) → bends n ≡ None) → AreShort bends
-none_short bends none = λ n. subst IsShort (sym (none n)) tt
+pub none_short : (marks : ℕ → Option Mark) → ((n : ℕ) → marks n ≡ None) → AreShort marks
+none_short marks none = λ n. subst (λ (m : Option Mark). IfSome m IsShortMark) (sym (none n)) tt

@@ -1,11 +1,8 @@
--- The bends of a copper file: what the straight reading of its arc draws leaves out (Gerber Layer Format Specification, 4.7 and 4.8).
-use Rattle.std.specs.Prelude.{ℕ, ◌+◌, Bool, true, false, ◌&&◌, ◌||◌, not, ◌==◌, if◌then◌else◌, List, [], ◌∷◌, length, pos, Option, Some, None, is_none, is_some, Result, Ok, Err, IfSome}
+-- The bend of an arc draw: what the straight reading of its arc draws leaves out (Gerber Layer Format Specification, 4.7 and 4.8).
+use Rattle.std.specs.Prelude.{Bool, true, false, ◌&&◌, ◌||◌, not, if◌then◌else◌, pos, Option, Some, None, is_none, is_some, Result, Ok, Err, IfSome}
 use Rattle.planar.specs.Plane.{IsPlaced, is_placed}
 use Rattle.planar.specs.declared.Spot.{Spot}
 use Rattle.file_reading.specs.Conditions.{◌>>=◌, unless, needed}
-use Rattle.file_reading.specs.Reading as reading
-use Rattle.file_reading.specs.Reading.{Item}
-use Rattle.gerber_words.specs.Items as words
 use Rattle.gerber_layer.specs.Command.{Command, operates}
 use Rattle.gerber_layer.specs.CommandEffects.{code_of, coordinate}
 use Rattle.lengths.specs.declared.decimal.Unit.{Unit as Measure}
@@ -13,17 +10,16 @@ use Rattle.gerber_layer.specs.declared.command.Format.{Format}
 use Rattle.gerber_layer.specs.declared.command.Code.{Code}
 use Rattle.gerber_layer.specs.declared.command.Code.TheVariants.{Draw, Move, Flash}
 use Rattle.gerber_layer.specs.declared.kind.GerberKind.{GerberKind}
-use Rattle.gerber_layer.specs.declared.kind.GerberKind.TheVariants as gerber
+use Rattle.gerber_layer.specs.declared.kind.GerberKind.TheVariants as kind
 use Rattle.gerber_layer.specs.WordCommands.{is_number_if}
 use Rattle.arc_layer.specs.Centres.{centre_at, choice, same_spot}
-use Rattle.arc_layer.specs.State.{curve_at, point_behind, state_before}
-use Rattle.arc_layer.specs.Words.{Saying, saying, stop_saying}
+use Rattle.arc_layer.specs.Kinds.{gerber}
+use Rattle.arc_layer.specs.State.{curve_at, point_behind}
+use Rattle.arc_layer.specs.Words.{Saying}
 use Rattle.arc_layer.specs.declared.centres.Draw.{Draw as Sought}
 use Rattle.arc_layer.specs.declared.draws.Bend.{Bend}
-use Rattle.arc_layer.specs.declared.kind.RealFault.{RealFault}
-use Rattle.arc_layer.specs.declared.kind.RealFault.TheVariants as fault
 use Rattle.arc_layer.specs.declared.kind.RealKind.{RealKind}
-use Rattle.arc_layer.specs.declared.kind.RealKind.TheVariants.{Gerber, NoOffsets, OffsetsAmiss, NoQuadrants, NoCentre}
+use Rattle.arc_layer.specs.declared.kind.RealKind.TheVariants.{NoOffsets, OffsetsAmiss, NoQuadrants, NoCentre}
 use Rattle.arc_layer.specs.declared.state.State.{State}
 use Rattle.arc_layer.specs.declared.words.Curve.{Curve}
 use Rattle.arc_layer.specs.declared.words.Curve.TheVariants.{Line, Clockwise, Counterclockwise}
@@ -33,7 +29,7 @@ use Rattle.arc_layer.specs.declared.words.Quadrants.TheVariants.{Single, Multi}
 -- a fault of a coordinate
 abbrev pub as_real : {A : Type 0} → Result A GerberKind → Result A RealKind
 as_real (Ok x) = Ok x
-as_real (Err why) = Err (Gerber why)
+as_real (Err why) = Err (gerber why)
 
 -- the way that the offsets of a word say, in u; one that is missing is 0
 unfoldable pub way_of : Format → Measure → Saying → Result Spot RealKind
@@ -48,7 +44,7 @@ bend_by clockwise way = record { clockwise = clockwise; to_centre = way }
 
 -- in multi quadrant mode the offsets lead to the centre
 abbrev pub any_bend : Sought → Spot → Result (Option Bend) RealKind
-any_bend d way = if is_placed (centre_at d way) then Ok (Some (bend_by d.clockwise way)) else Err (Gerber gerber.OutOfRange)
+any_bend d way = if is_placed (centre_at d way) then Ok (Some (bend_by d.clockwise way)) else Err (gerber kind.OutOfRange)
 
 -- in single quadrant mode they lead there but for their signs, and there is no whole turn
 abbrev pub chosen_bend : Sought → Option Spot → Result (Option Bend) RealKind
@@ -74,10 +70,10 @@ are_numbers w = is_number_if w.i && is_number_if w.j
 -- The row of an arc: its conditions in order, and its bend.
 unfoldable pub arc_of : State → Saying → Bool → Result (Option Bend) RealKind
 arc_of s w clockwise =
-    unless s.region (Gerber gerber.Arc) (unless (w.more || not (are_numbers w)) OffsetsAmiss (unless (is_none w.i && is_none w.j) NoOffsets (do
+    unless s.region (gerber kind.Arc) (unless (w.more || not (are_numbers w)) OffsetsAmiss (unless (is_none w.i && is_none w.j) NoOffsets (do
       quadrants ← needed NoQuadrants s.quadrants
-      format ← needed (Gerber gerber.MissingFormat) s.format
-      unit ← needed (Gerber gerber.MissingUnit) s.unit
+      format ← needed (gerber kind.MissingFormat) s.format
+      unit ← needed (gerber kind.MissingUnit) s.unit
       way ← way_of format unit w
       bend_in quadrants (sought s w clockwise format unit) way)))
 
@@ -105,39 +101,6 @@ command_bend other s w = Ok None
 abbrev pub bend_of : State → Saying → Result (Option Bend) RealKind
 bend_of s w = command_bend w.command s w
 
--- so behind a history
-abbrev pub bend_behind : List Saying → Saying → Result (Option Bend) RealKind
-bend_behind earlier w = bend_of (state_before earlier) w
-
-abbrev pub ok_bend : Result (Option Bend) RealKind → Option Bend
-ok_bend (Ok bend) = bend
-ok_bend (Err why) = None
-
--- the bends of a history: that of the command of each number, from 1
-abbrev pub bends_in : List Saying → ℕ → Option Bend
-bends_in [] n = None
-bends_in (w ∷ earlier) n = if length earlier + 1 == n then ok_bend (bend_behind earlier w) else bends_in earlier n
-
--- these are the words of a file and its stop, by what they say
-abbrev pub AreSayings : List ℕ → List (Item Saying) → Type 0
-AreSayings file items = words.AreItems saying stop_saying file items
-
--- no arc of the file has a fault, and these are the bends of its commands
-abbrev pub AreBends : List ℕ → (ℕ → Option Bend) → Type 0
-AreBends file bends = (items : List (Item Saying)) × AreSayings file items × reading.IsRead bend_behind bends_in items bends
-
--- the first command with a fault of its arc, its number and its place
-abbrev pub IsBendRefused : List ℕ → RealKind → ℕ → ℕ → Type 0
-IsBendRefused file kind number place = (items : List (Item Saying)) × AreSayings file items × reading.IsRefused bend_behind items kind number place
-
--- the way of each bend is at most a metre long in x and y
+-- the way of a bend is at most a metre long in x and y
 abbrev pub IsShort : Option Bend → Type 0
 IsShort bend = IfSome bend (λ b. IsPlaced b.to_centre)
-
-abbrev pub AreShort : (ℕ → Option Bend) → Type 0
-AreShort bends = (n : ℕ) → IsShort (bends n)
-
--- why there are no bends: the file is refused, or memory is wanted
-abbrev pub IsBendFault : List ℕ → RealFault → Type 0
-IsBendFault file (fault.Refused kind number place) = IsBendRefused file kind number place
-IsBendFault file fault.NoMemory = Unit {0}

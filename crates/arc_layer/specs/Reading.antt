@@ -1,24 +1,24 @@
--- What the reader of bends keeps.
+-- What the reader of marks keeps.
 use Rattle.std.specs.Prelude.{◌≡◌, ℕ, ◌+◌, ◌&&◌, ◌==◌, nat_eq, if◌then◌else◌, Option, is_some, Ok}
 use Rattle.std.specs.HashMap.{get}
-use Rattle.arc_layer.specs.Bends.{bend_of}
+use Rattle.arc_layer.specs.Marks.{mark_of}
 use Rattle.arc_layer.specs.State.{state_behind}
 use Rattle.arc_layer.specs.Words.{Saying}
-use Rattle.arc_layer.specs.declared.bends.Bends.{Bends}
-use Rattle.arc_layer.specs.declared.bends.Reader.{Reader}
-use Rattle.arc_layer.specs.declared.draws.Bend.{Bend}
+use Rattle.arc_layer.specs.declared.marks.Marks.{Marks}
+use Rattle.arc_layer.specs.declared.marks.Reader.{Reader}
+use Rattle.arc_layer.specs.declared.mark.Mark.{Mark}
 
--- the bends by their commands
-abbrev pub bends_of : Bends → ℕ → Option Bend
-bends_of b n = get nat_eq b.bends n
+-- the marks by their commands
+abbrev pub marks_of : Marks → ℕ → Option Mark
+marks_of m n = get nat_eq m.marks n
 
-abbrev pub bends_so_far : Reader → ℕ → Option Bend
-bends_so_far r n = get nat_eq r.bends n
+abbrev pub marks_so_far : Reader → ℕ → Option Mark
+marks_so_far r n = get nat_eq r.marks n
 
 -- The reader has taken a word, which has no fault.
 pub record Takes (old : Reader) (w : Saying) (new : Reader) : Type 0 where
-  pub bend : Option Bend
-  pub clean : bend_of old.state w ≡ Ok bend
+  pub mark : Option Mark
+  pub clean : mark_of old.state w ≡ Ok mark
   pub state : new.state ≡ state_behind old.state w
-  pub bends : (n : ℕ) → bends_so_far new n ≡ (if is_some bend && (old.commands + 1 == n) then bend else bends_so_far old n)
+  pub marks : (n : ℕ) → marks_so_far new n ≡ (if is_some mark && (old.commands + 1 == n) then mark else marks_so_far old n)
   pub counts : new.commands ≡ old.commands + 1

@@ -1,5 +1,6 @@
--- What is in force for an arc. A history is a list of what words say, the last first.
-use Rattle.std.specs.Prelude.{List, map}
+-- What is in force for an arc, and for a flash. A history is a list of what words say, the last first.
+use Rattle.std.specs.Prelude.{◌||◌, List, map}
+use Rattle.std.specs.List.{list_any}
 use Rattle.std.specs.Option.{option_or}
 use Rattle.planar.specs.declared.Spot.{Spot}
 use Rattle.planar.specs.Plane.{IsPlaced}
@@ -16,7 +17,7 @@ use Rattle.arc_layer.specs.declared.words.Curve.TheVariants.{Line}
 abbrev pub commands_of : List Saying → List Command
 commands_of earlier = map (λ s. s.command) earlier
 
--- Before a word: format, unit, current point and region as for straight draws; the last curve, lines at first; the last quadrants.
+-- Before a word: format, unit, current point and region as for straight draws; the last curve, lines at first; the last quadrants; whether a macro has begun.
 abbrev pub state_before : List Saying → State
 state_before earlier = record {
   format = format_before (commands_of earlier);
@@ -25,6 +26,7 @@ state_before earlier = record {
   region = region_open (commands_of earlier);
   curve = last_or Line (λ s. s.curve) earlier;
   quadrants = last_said (λ s. s.quadrants) earlier;
+  macros = list_any (λ s. s.names) earlier;
 }
 
 -- where a command leads
@@ -44,6 +46,7 @@ state_behind s w = record {
   region = latest (region_in w.command) s.region;
   curve = curve_at s w;
   quadrants = option_or w.quadrants s.quadrants;
+  macros = w.names || s.macros;
 }
 
 -- a format in range, and a current point within one metre

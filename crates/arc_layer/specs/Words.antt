@@ -1,18 +1,20 @@
--- What a word says of arcs (Gerber Layer Format Specification, 4.7 and 4.8).
-use Rattle.std.specs.Prelude.{ℕ, Bool, false, ◌&&◌, ◌||◌, if◌then◌else◌, List, drop, codes, Option, Some, None, option_map}
+-- What a word says of arcs (Gerber Layer Format Specification, 4.7 and 4.8), and whether it begins a macro (4.5).
+use Rattle.std.specs.Prelude.{◌≡◌, ℕ, Bool, true, false, ◌&&◌, ◌||◌, ◌==◌, not, nat_lt, if◌then◌else◌, List, [], ◌∷◌, drop, codes, Option, Some, None, option_map}
 use Rattle.texts.specs.Words.{begins, is_word}
-use Rattle.gerber_words.specs.Words.{Entry, Stop}
+use Rattle.file_reading.specs.LookingBack.{latest}
+use Rattle.gerber_words.specs.Words.{Entry, Stop, begins_macro}
 use Rattle.gerber_layer.specs.Command.{Command, view}
 use Rattle.gerber_layer.specs.Dialect.{stop_command}
 use Rattle.gerber_layer.specs.WordCommands.{behind, goes_on, number_in}
-use Rattle.gerber_layer.specs.StraightCommands.{behind_code, straight_command}
+use Rattle.gerber_layer.specs.MacroCommands.{loose_command}
+use Rattle.gerber_layer.specs.StraightCommands.{behind_code}
 use Rattle.arc_layer.specs.declared.words.Curve.{Curve}
 use Rattle.arc_layer.specs.declared.words.Curve.TheVariants.{Line, Clockwise, Counterclockwise}
 use Rattle.arc_layer.specs.declared.words.Quadrants.{Quadrants}
 use Rattle.arc_layer.specs.declared.words.Quadrants.TheVariants.{Single, Multi}
 use Rattle.arc_layer.specs.declared.words.Saying.{Saying as Seen}
 
--- what a word says: its command where arcs are straight, the curve and the quadrants that it sets, and its offsets
+-- what a word says: its command where arcs are straight, the curve and the quadrants that it sets, its offsets, and whether it begins a macro
 pub record Saying : Type 0 where
   pub command : Command
   pub curve : Option Curve
@@ -21,6 +23,7 @@ pub record Saying : Type 0 where
   pub j : Option (List ℕ)
   -- there are further offsets
   pub more : Bool
+  pub names : Bool
 
 -- the same without where it lies in memory
 abbrev pub saying_of : Seen → Saying
@@ -31,6 +34,7 @@ saying_of s = record {
   i = option_map (λ t. t.now) s.i;
   j = option_map (λ t. t.now) s.j;
   more = s.more;
+  names = s.names;
 }
 
 -- a short code of arcs is told apart from longer codes by what follows it
@@ -54,8 +58,11 @@ abbrev pub begins_offset : List ℕ → Bool
 begins_offset text = begins text (codes "I") || begins text (codes "J")
 
 -- what stands behind the numbers of X and Y
+abbrev pub behind_numbers : List ℕ → List ℕ
+behind_numbers text = behind 89 (behind 88 text)
+
 abbrev pub from_offsets : List ℕ → List ℕ
-from_offsets text = behind 89 (behind 88 (behind_code text))
+from_offsets text = behind_numbers (behind_code text)
 
 -- a plain word: `I` and then `J` are its offsets
 abbrev pub plain : Command → List ℕ → Saying
@@ -66,16 +73,48 @@ plain command text = record {
   i = number_in 73 (from_offsets text);
   j = number_in 74 (behind 73 (from_offsets text));
   more = begins_offset (behind 74 (behind 73 (from_offsets text)));
+  names = false;
 }
 
--- a word that says nothing of arcs
-abbrev pub silent : Command → Saying
-silent command = record { command = command; curve = None; quadrants = None; i = None; j = None; more = false }
+-- a word that says nothing of arcs, and may begin a macro
+abbrev pub silent : Command → Bool → Saying
+silent command names = record { command = command; curve = None; quadrants = None; i = None; j = None; more = false; names = names }
 
--- Of arcs only plain words say something.
+-- Of arcs only plain words say something, and extended words alone begin macros.
 abbrev pub saying : Entry → Saying
-saying w = if w.extended then silent (straight_command w) else plain (straight_command w) w.text
+saying w = if w.extended then silent (loose_command w) (begins_macro w.text) else plain (loose_command w) w.text
 
 -- and the stop of a file says nothing
 abbrev pub stop_saying : Stop → Saying
-stop_saying stop = silent (stop_command stop)
+stop_saying stop = silent (stop_command stop) false
+
+-- no other curve than a line
+abbrev pub is_line : Option Curve → Bool
+is_line None = true
+is_line (Some Line) = true
+is_line (Some Clockwise) = false
+is_line (Some Counterclockwise) = false
+
+-- a plain word sets no other curve than a line, and has no offsets
+abbrev pub is_quiet : List ℕ → Bool
+is_quiet text = is_line (curve_in text) && not (begins_offset (from_offsets text))
+
+-- a byte that no code of curves and no offset begins with: none from `G` to `J`
+abbrev pub is_mute : ℕ → Bool
+is_mute b = nat_lt b 71 || nat_lt 74 b
+
+-- bytes that say nothing of arcs, and begin no macro
+abbrev pub is_free : ℕ → List ℕ → Bool
+is_free b bytes = is_mute b && not (65 == b && begins bytes (codes "M"))
+
+abbrev pub are_free : List ℕ → Bool
+are_free [] = true
+are_free (b ∷ bytes) = is_free b bytes && are_free bytes
+
+-- so of any word by what it says: behind lines, it makes no arc and has no fault of one; and it begins no macro
+pub record IsQuiet (w : Saying) : Type 0 where
+  pub line : latest w.curve Line ≡ Line
+  pub i : w.i ≡ None
+  pub j : w.j ≡ None
+  pub more : w.more ≡ false
+  pub names : w.names ≡ false

@@ -1,15 +1,16 @@
 //! Why copper with arcs is refused.
+ghost use Rattle.arc_layer.specs.Kinds as spec;
 ghost use Rattle.arc_layer.specs.Kinds.{real_name, real_number};
 ghost use Rattle.std.specs.Prelude.{◌≡◌};
 
-use gerber_layer::GerberKind;
+use gerber_layer::{FlattenKind, GerberKind};
 
 /// Why a command of a copper file with arcs is refused. Sections are those of the Gerber Layer Format
 /// Specification.
 #[derive(Clone, Copy, Debug, PartialEq, Eq)]
 pub enum RealKind {
-    /// As where no draw is an arc; `Arc` is an arc in a region.
-    Gerber(GerberKind),
+    /// As where no draw is an arc; `Arc` is an arc in a region. A slanted line is none of these.
+    Copper(FlattenKind),
     /// An arc without `I` and `J` (4.8.2).
     NoOffsets,
     /// Offsets that are not `I` and then `J`, each at most once, or that are those of no arc.
@@ -20,13 +21,20 @@ pub enum RealKind {
     NoCentre,
 }
 
+/// As where there are neither arcs nor macros.
+pub fn gerber(kind: GerberKind) -> RealKind
+    ensures { result ≡ spec.gerber kind }
+{
+    RealKind::Copper(FlattenKind::Gerber(kind))
+}
+
 impl RealKind {
-    /// Its number, from 1 to 41; none is that of another kind of a copper file, also of one with macros.
+    /// Its number, from 1 to 41; none is that of another kind of a copper file with macros.
     pub fn number(self) -> u32
         ensures { result ≡ real_number self }
     {
         match self {
-            RealKind::Gerber(kind) => kind.number(),
+            RealKind::Copper(kind) => kind.number(),
             RealKind::NoOffsets => 38,
             RealKind::OffsetsAmiss => 39,
             RealKind::NoQuadrants => 40,
@@ -39,7 +47,7 @@ impl RealKind {
         ensures { result.now ≡ real_name self }
     {
         match self {
-            RealKind::Gerber(kind) => kind.name(),
+            RealKind::Copper(kind) => kind.name(),
             RealKind::NoOffsets => "NoOffsets",
             RealKind::OffsetsAmiss => "OffsetsAmiss",
             RealKind::NoQuadrants => "NoQuadrants",

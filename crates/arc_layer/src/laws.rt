@@ -4,7 +4,7 @@ ghost use Rattle.arc_layer.specs.Real.{HasOneRealAnswer};
 ghost use Rattle.gerber_layer.specs.CommandEffects.{Place};
 ghost use Rattle.std.specs.Prelude.{ℕ, List};
 
-use gerber_layer::laws::{kinds_have_own_numbers, one_straight_answer};
+use gerber_layer::laws::{kinds_have_own_numbers, one_loose_answer};
 use gerber_words::laws::words_lie_ahead;
 
 /// Each file has one answer: its real copper, or the first fault.
@@ -12,7 +12,7 @@ pub fn one_real_answer()
     ensures { (file : List ℕ) (p : Place) → HasOneRealAnswer file p }
 {
     words_lie_ahead();
-    one_straight_answer();
+    one_loose_answer();
 }
 
 /// Each kind of refusal has a number of its own, which no other kind of a copper file has.

@@ -7,11 +7,12 @@
 //! stands in `laws`.
 #![tactic(auto)]
 
-mod bends;
 mod centres;
 mod draws;
 mod kind;
 pub mod laws;
+mod mark;
+mod marks;
 mod real;
 mod state;
 mod words;

@@ -1,26 +1,29 @@
 //! Real copper.
-ghost use Rattle.arc_layer.specs.Bends.{AreShort, IsShort};
+ghost use Rattle.arc_layer.specs.Marks.{AreShort, IsShortMark};
 ghost use Rattle.arc_layer.specs.Real as spec;
 ghost use Rattle.arc_layer.specs.Real.{IsRealCopper, IsRealFault, plain_real, plain_reals, real_figure};
-ghost use Rattle.arc_layer.specs.Reading.{bends_of};
+ghost use Rattle.arc_layer.specs.Reading.{marks_of};
 ghost use Rattle.board_shapes.specs.Figures.{figure_of};
+ghost use Rattle.board_shapes.specs.declared.shape.Shape.TheVariants as shape;
 ghost use Rattle.board_shapes.specs.Pieces.{plain_piece, plain_pieces};
 ghost use Rattle.planar.specs.Plane.{IsPlaced};
 ghost use Rattle.std.specs.Option.{option_copied};
-ghost use Rattle.std.specs.Prelude.{◌≡◌, ◌≤◌, All, length, map, IfErr, IfOk, Some};
+ghost use Rattle.std.specs.Prelude.{◌≡◌, ◌≤◌, All, length, map, IfErr, IfOk, IfSome, Some};
 
-use crate::bends::{Bends, read_bends};
+use crate::marks::{Marks, read_marks};
 use crate::centres::moved;
 use crate::draws::Bend;
 use crate::kind::{RealFault, RealKind};
+use crate::mark::Mark;
 use arcs::Arc;
 use board_shapes::{MOST_LAYERS, Piece, Placed, Room, Shape};
 use contact::Capsule;
-use gerber_layer::laws::one_straight_answer;
-use gerber_layer::{GerberKind, LayerFault, Straight, read_layer_by};
+use gerber_layer::laws::one_loose_answer;
+use gerber_layer::{FlattenFault, FlattenKind, read_loosely};
 use gerber_words::laws::words_lie_ahead;
 use real_shapes::{RealPiece, RealShape};
 use std::alloc::Global;
+use slants::Slant;
 use texts::MOST_BYTES;
 
 /// The arc of a bend between the ends of a straight draw.
@@ -47,26 +50,58 @@ fn arc_of(bend: &Bend, stroke: &Capsule) -> Arc
     }
 }
 
-fn with_bend(bend: Option<&Bend>, shape: Shape) -> RealShape
-    requires { IsShort (option_copied bend) }
-    ensures { real_figure result ≡ spec.with_bend (option_copied bend.entry) (figure_of shape) }
+// Whether a stroke runs along no axis.
+fn is_slanted(stroke: &Capsule) -> bool
+    ensures { result ≡ spec.is_slanted (record { a = stroke.now.a; b = stroke.now.b; r = stroke.now.r }) }
 {
-    match bend {
+    !(stroke.a.x == stroke.b.x || stroke.a.y == stroke.b.y)
+}
+
+/// The line of a macro whose stroke this is.
+fn slant_of(stroke: &Capsule) -> Slant
+    ensures { result ≡ spec.slant_of (record { a = stroke.now.a; b = stroke.now.b; r = stroke.now.r }) }
+{
+    Slant {
+        start: stroke.a,
+        end: stroke.b,
+        width: 2 * stroke.r.unsigned_abs(),
+    }
+}
+
+fn marked(mark: &Mark, stroke: Capsule) -> RealShape
+    requires { IsShortMark mark.now }
+    ensures { real_figure result ≡ spec.with_mark (Some mark.now) (figure_of (shape.Round stroke)) }
+{
+    match mark {
+        Mark::Arc(bend) => RealShape::ArcDraw(arc_of(bend, &stroke)),
+        Mark::Flash => if is_slanted(&stroke) {
+            RealShape::Slanted(slant_of(&stroke))
+        } else {
+            RealShape::Plain(Shape::Round(stroke))
+        },
+    }
+}
+
+fn with_mark(mark: Option<&Mark>, shape: Shape) -> RealShape
+    requires { IfSome (option_copied mark) IsShortMark }
+    ensures { real_figure result ≡ spec.with_mark (option_copied mark.entry) (figure_of shape) }
+{
+    match mark {
         None => RealShape::Plain(shape),
-        Some(bend) => match shape {
-            Shape::Round(stroke) => RealShape::ArcDraw(arc_of(bend, &stroke)),
+        Some(mark) => match shape {
+            Shape::Round(stroke) => marked(mark, stroke),
             Shape::Filled(area) => RealShape::Plain(Shape::Filled(area)),
         },
     }
 }
 
-/// A piece of the straight reading with the bend of its command.
-fn real_piece(piece: Piece, bends: &Bends) -> RealPiece
-    requires short { AreShort (bends_of bends.now) }
-    ensures { plain_real result ≡ spec.real_piece (bends_of bends.now) (plain_piece piece) }
+/// A piece of the first reading with the mark of its command.
+fn real_piece(piece: Piece, marks: &Marks) -> RealPiece
+    requires short { AreShort (marks_of marks.now) }
+    ensures { plain_real result ≡ spec.real_piece (marks_of marks.now) (plain_piece piece) }
 {
     Placed {
-        shape: with_bend(bends.find(piece.origin.command), piece.shape),
+        shape: with_mark(marks.find(piece.origin.command), piece.shape),
         top: piece.top,
         bottom: piece.bottom,
         origin: piece.origin,
@@ -76,23 +111,25 @@ fn real_piece(piece: Piece, bends: &Bends) -> RealPiece
 fn real_pieces(
     alloc: Global,
     pieces: Vec<Piece>,
-    bends: &Bends,
+    marks: &Marks,
 ) -> Result<Vec<RealPiece>, RealFault>
-    requires short { AreShort (bends_of bends.now) }
-    ensures are { IfOk result (λ reals. plain_reals reals.items ≡ map (spec.real_piece (bends_of bends.now)) (plain_pieces pieces.items)) }
+    requires short { AreShort (marks_of marks.now) }
+    ensures are { IfOk result (λ reals. plain_reals reals.items ≡ map (spec.real_piece (marks_of marks.now)) (plain_pieces pieces.items)) }
     ensures fault { IfErr result (λ why. why ≡ RealFault.NoMemory) }
 {
-    let mut reals = Vec::new(alloc);
+    let Ok(mut reals) = Vec::with_capacity(alloc, pieces.len()) else {
+        return Err(RealFault::NoMemory);
+    };
     for piece in pieces {
-        if let Err(_) = reals.push(real_piece(piece, bends)) {
+        if let Err(_) = reals.push(real_piece(piece, marks)) {
             return Err(RealFault::NoMemory);
         }
     }
     Ok(reals)
 }
 
-// The refusal of the bends, where it comes before that of the straight reading.
-fn earlier(kind: GerberKind, command: u32, at: usize, bends: RealFault) -> RealFault
+// The refusal of an arc, where it comes before that of the first reading.
+fn earlier(kind: FlattenKind, command: u32, at: usize, bends: RealFault) -> RealFault
     ensures { result ≡ spec.earlier kind command at bends }
 {
     match bends {
@@ -109,7 +146,7 @@ fn earlier(kind: GerberKind, command: u32, at: usize, bends: RealFault) -> RealF
             }
         } else {
             RealFault::Refused {
-                kind: RealKind::Gerber(kind),
+                kind: RealKind::Copper(kind),
                 command,
                 at,
             }
@@ -117,16 +154,16 @@ fn earlier(kind: GerberKind, command: u32, at: usize, bends: RealFault) -> RealF
     }
 }
 
-// Why there are no pieces, where the straight reading has none.
-fn first_fault(straight: LayerFault, bends: Result<Bends, RealFault>) -> RealFault
-    ensures { result ≡ spec.first_fault straight (spec.fault_of bends) }
+// Why there are no pieces, where the first reading has none.
+fn first_fault(straight: FlattenFault, marks: Result<Marks, RealFault>) -> RealFault
+    ensures { result ≡ spec.first_fault straight (spec.fault_of marks) }
 {
-    let LayerFault::Refused { kind, command, at } = straight else {
+    let FlattenFault::Refused { kind, command, at } = straight else {
         return RealFault::NoMemory;
     };
-    match bends {
+    match marks {
         Ok(_) => RealFault::Refused {
-            kind: RealKind::Gerber(kind),
+            kind: RealKind::Copper(kind),
             command,
             at,
         },
@@ -135,8 +172,8 @@ fn first_fault(straight: LayerFault, bends: Result<Bends, RealFault>) -> RealFau
 }
 
 /// The real copper of a layer, in the order of the commands that make it; all lengths are in u, a tenth of
-/// a nanometre. A draw under `G02` or `G03` is its arc, each other piece what `read_layer_by` has of
-/// `Straight` words.
+/// a nanometre. A draw under `G02` or `G03` is its arc, a vector line of a macro that runs along no axis its
+/// rectangle, and each other piece what `read_loosely` has.
 ///
 /// `layer`, `file_number` and `room` are as for `read_layer`. `Refused` is the first command with a
 /// fault, also of an arc, and the first condition of its row that holds; want of memory is `NoMemory`.
@@ -156,14 +193,14 @@ pub fn read_real(
     ensures fault { IfErr result (IsRealFault file.now (record { layer = layer; file = file_number; room = room })) }
 {
     words_lie_ahead();
-    one_straight_answer();
-    let straight = read_layer_by::<Straight>(alloc, file, layer, file_number, room);
-    let bends = read_bends(alloc, file);
+    one_loose_answer();
+    let straight = read_loosely(alloc, file, layer, file_number, room);
+    let marks = read_marks(alloc, file);
     match straight {
-        Ok(pieces) => match bends {
-            Ok(bends) => real_pieces(alloc, pieces, &bends),
+        Ok(pieces) => match marks {
+            Ok(marks) => real_pieces(alloc, pieces, &marks),
             Err(fault) => Err(fault),
         },
-        Err(fault) => Err(first_fault(fault, bends)),
+        Err(fault) => Err(first_fault(fault, marks)),
     }
 }

@@ -1,4 +1,4 @@
-//! What is in force for an arc.
+//! What is in force for an arc, and for a flash.
 ghost use Rattle.arc_layer.specs.State as spec;
 ghost use Rattle.arc_layer.specs.State.{IsLawfulState};
 ghost use Rattle.arc_layer.specs.Words.{saying_of};
@@ -27,6 +27,8 @@ pub struct State {
     pub region: bool,
     pub curve: Curve,
     pub quadrants: Option<Quadrants>,
+    /// A macro has begun.
+    pub macros: bool,
 }
 
 /// Before the first word.
@@ -41,6 +43,7 @@ pub fn at_start() -> State
         region: false,
         curve: Curve::Line,
         quadrants: None,
+        macros: false,
     }
 }
 
@@ -153,6 +156,7 @@ impl State {
                 Some(quadrants) => Some(quadrants),
                 None => self.quadrants,
             },
+            macros: word.names || self.macros,
         }
     }
 }

@@ -1,12 +1,13 @@
-//! What a word says of arcs.
+//! What a word says of arcs, and whether it begins a macro.
 ghost use Rattle.arc_layer.specs.Words as spec;
 ghost use Rattle.gerber_layer.specs.Command.{view};
 ghost use Rattle.gerber_layer.specs.Lawful.{IsLawfulCommand};
 ghost use Rattle.gerber_words.specs.Stepping.{entry_of};
+ghost use Rattle.gerber_words.specs.Words as words;
 ghost use Rattle.std.specs.Option.{option_copied};
-ghost use Rattle.std.specs.Prelude.{◌≡◌, ◌≤◌, length, option_map};
+ghost use Rattle.std.specs.Prelude.{◌≡◌, ◌≤◌, true, length, option_map};
 
-use gerber_layer::{Command, behind_code, goes_on, part, read_straight_command};
+use gerber_layer::{Command, behind_code, goes_on, part, read_loose_command};
 use gerber_words::Word;
 use texts::{begins, is_word};
 
@@ -36,6 +37,14 @@ pub struct Saying<'a> {
     pub j: Option<&'a [u8]>,
     /// There are further offsets.
     pub more: bool,
+    /// It begins a macro.
+    pub names: bool,
+}
+
+fn begins_macro(text: &[u8]) -> bool
+    ensures { result ≡ words.begins_macro text.now }
+{
+    begins(text, b"AM")
 }
 
 fn is_short(text: &[u8]) -> bool
@@ -78,13 +87,20 @@ fn begins_offset(text: &[u8]) -> bool
     begins(text, b"I") || begins(text, b"J")
 }
 
+// What stands behind the numbers of X and Y that a text may begin with.
+fn behind_numbers(text: &[u8]) -> &[u8]
+    ensures { result.now ≡ spec.behind_numbers text.now }
+{
+    let (_, text) = part(text, b'X');
+    let (_, text) = part(text, b'Y');
+    text
+}
+
 /// What stands behind the numbers of X and Y.
 fn from_offsets(text: &[u8]) -> &[u8]
     ensures { result.now ≡ spec.from_offsets text.now }
 {
-    let (_, text) = part(behind_code(text), b'X');
-    let (_, text) = part(text, b'Y');
-    text
+    behind_numbers(behind_code(text))
 }
 
 fn plain<'a>(command: Command<'a>, text: &'a [u8]) -> Saying<'a>
@@ -99,12 +115,13 @@ fn plain<'a>(command: Command<'a>, text: &'a [u8]) -> Saying<'a>
         i,
         j,
         more: begins_offset(rest),
+        names: false,
     }
 }
 
-/// A word that says nothing of arcs.
-pub fn silent<'a>(command: Command<'a>) -> Saying<'a>
-    ensures { spec.saying_of result ≡ spec.silent (view command.entry) }
+// A word that says nothing of arcs, and may begin a macro.
+fn silent<'a>(command: Command<'a>, names: bool) -> Saying<'a>
+    ensures { spec.saying_of result ≡ spec.silent (view command.entry) names }
 {
     Saying {
         command,
@@ -113,6 +130,7 @@ pub fn silent<'a>(command: Command<'a>) -> Saying<'a>
         i: None,
         j: None,
         more: false,
+        names,
     }
 }
 
@@ -121,10 +139,76 @@ pub fn read_word<'a>(word: Word<'a>) -> Saying<'a>
     ensures value { spec.saying_of result ≡ spec.saying (entry_of word.entry) }
     ensures lawful { IsLawfulCommand (view result.command) }
 {
-    let command = read_straight_command(word);
+    let command = read_loose_command(word);
     if word.extended {
-        silent(command)
+        silent(command, begins_macro(word.text))
     } else {
         plain(command, word.text)
+    }
+}
+
+fn is_line(curve: Option<Curve>) -> bool
+    ensures { result ≡ spec.is_line curve }
+{
+    match curve {
+        None => true,
+        Some(Curve::Line) => true,
+        Some(Curve::Clockwise) => false,
+        Some(Curve::Counterclockwise) => false,
+    }
+}
+
+fn is_mute(byte: u8) -> bool
+    ensures { result ≡ spec.is_mute byte }
+{
+    byte < b'G' || b'J' < byte
+}
+
+fn goes_free(b: u8, rest: &[u8]) -> bool
+    ensures { result ≡ spec.is_free b rest.now }
+{
+    is_mute(b) && !(b'A' == b && begins(rest, b"M"))
+}
+
+// Most bytes are no letters from `A` to `J`.
+fn is_free(b: u8, rest: &[u8]) -> bool
+    ensures { result ≡ spec.is_free b rest.now }
+{
+    b < b'A' || b'J' < b || goes_free(b, rest)
+}
+
+/// Whether no byte is from `G` to `J` and no macro begins, so that no word of these bytes says anything.
+pub fn are_free(bytes: &[u8]) -> bool
+    ensures { result ≡ spec.are_free bytes.now }
+{
+    let mut left = bytes;
+    while let [b, rest @ ..] = left {
+        if !is_free(*b, rest) {
+            return false;
+        }
+        left = rest;
+    }
+    true
+}
+
+// Most words begin with no code: they set no curve.
+fn is_quiet_text(text: &[u8]) -> bool
+    ensures { result ≡ spec.is_quiet text.now }
+{
+    if begins(text, b"G") {
+        is_line(curve_in(text)) && !begins_offset(from_offsets(text))
+    } else {
+        !begins_offset(behind_numbers(text))
+    }
+}
+
+/// Whether a word says nothing of arcs and begins no macro, so that behind lines its command need not be read.
+pub fn is_quiet(word: Word) -> bool
+    ensures { result ≡ true → spec.IsQuiet (spec.saying (entry_of word.entry)) }
+{
+    if word.extended {
+        !begins_macro(word.text)
+    } else {
+        is_quiet_text(word.text)
     }
 }

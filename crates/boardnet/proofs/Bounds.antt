@@ -8,9 +8,11 @@ use Rattle.arc_covers.specs.Taken.{FirstTaken, PiecesAreTaken, StandTaken}
 use Rattle.arc_covers.specs.declared.between.BoundsFault.TheVariants as fault
 use Rattle.arc_covers.specs.declared.side.Side.{Side}
 use Rattle.arc_covers.specs.declared.side.Side.TheVariants.{Below, Above}
-use Rattle.arc_layer.specs.Real.{PlainReal, plain_real, plain_reals, real_figure}
+use Rattle.arc_covers.specs.Regions.{RegionAbove}
+use Rattle.arc_regions.specs.Copper.{InRegion}
+use Rattle.arc_layer.specs.Real.{PlainReal, RealFigure, plain, bent, slanted, curved, plain_real, plain_reals, real_figure}
 use Rattle.real_shapes.specs.declared.RealShape.{RealShape}
-use Rattle.real_shapes.specs.declared.RealShape.TheVariants.{Plain, ArcDraw}
+use Rattle.real_shapes.specs.declared.RealShape.TheVariants.{Plain, ArcDraw, Slanted, Region}
 use Rattle.board_shapes.specs.Figures.{Figure, InFigure, figure_of}
 use Rattle.board_shapes.specs.Pieces.{PlainPiece}
 use Rattle.board_shapes.specs.Plain.{PlainBoard}
@@ -37,11 +39,23 @@ piece_at (a ∷ xs) (b ∷ ys) e (suc i) x at = piece_at xs ys (cc e) i x at
 as_many : (xs ys : List (Placed RealShape)) → plain_reals xs ≡ plain_reals ys → length xs ≡ length ys
 as_many xs ys e = let p = length-map xs plain_real in let q = length-map ys plain_real in let r = ap length e in omega (arith, p, q, r)
 
+-- what stands for a piece, by its figure alone
+abbrev StandBy : Side → RealFigure → List Figure → Type 0
+StandBy side (plain figure) figures = figures ≡ figure ∷ []
+StandBy side (bent arc) figures = StandTaken side (ArcDraw arc) figures
+StandBy side (slanted line) figures = StandTaken side (Slanted line) figures
+StandBy Below (curved begins parts) figures = figures ≡ []
+StandBy Above (curved begins parts) figures = RegionAbove begins parts figures
+
+stand_by : (side : Side) (s : RealShape) (figures : List Figure) → StandTaken side s figures ↔ StandBy side (real_figure s) figures
+stand_by side (Plain s) figures = (λ h. h, λ h. h)
+stand_by side (ArcDraw a) figures = (λ h. h, λ h. h)
+stand_by side (Slanted a) figures = (λ h. h, λ h. h)
+stand_by Below (Region a) figures = (λ h. h, λ h. h)
+stand_by Above (Region a) figures = (λ h. h, λ h. h)
+
 stand_alike : (side : Side) (s t : RealShape) (figures : List Figure) → real_figure s ≡ real_figure t → StandTaken side s figures → StandTaken side t figures
-stand_alike side (Plain s) (Plain t) figures e h = h ∙ (let same : figure_of s ≡ figure_of t = cc e in ap (λ (f : Figure). f ∷ []) same)
-stand_alike side (Plain s) (ArcDraw b) figures e h = absurd cc
-stand_alike side (ArcDraw a) (Plain t) figures e h = absurd cc
-stand_alike side (ArcDraw a) (ArcDraw b) figures e h = let same : a ≡ b = cc e in subst (λ z. StandTaken side (ArcDraw z) figures) same h
+stand_alike side s t figures e h = (stand_by side t figures).1 (subst (λ (f : RealFigure). StandBy side f figures) e ((stand_by side s figures).0 h))
 
 taken_alike : (side : Side) (x y : Placed RealShape) (pieces : List PlainPiece) → plain_real x ≡ plain_real y → PiecesAreTaken side x pieces → PiecesAreTaken side y pieces
 taken_alike side x y pieces e h = record {
@@ -52,11 +66,20 @@ taken_alike side x y pieces e h = record {
       subst (λ (b : ℕ). All (IsOn y.top b) pieces) bottom (subst (λ (t : ℕ). All (IsOn t x.bottom) pieces) top h.layers);
 }
 
+abbrev CopperBy : RealFigure → (Point → Type 0) → Type 0
+CopperBy (plain figure) holds = (p : Point) → InFigure figure p ↔ holds p
+CopperBy (bent arc) holds = IsCopperOf (ArcDraw arc) holds
+CopperBy (slanted line) holds = IsCopperOf (Slanted line) holds
+CopperBy (curved begins parts) holds = (p : Point) → InRegion begins parts p ↔ holds p
+
+copper_by : (s : RealShape) (holds : Point → Type 0) → IsCopperOf s holds ↔ CopperBy (real_figure s) holds
+copper_by (Plain s) holds = (λ h. h, λ h. h)
+copper_by (ArcDraw a) holds = (λ h. h, λ h. h)
+copper_by (Slanted a) holds = (λ h. h, λ h. h)
+copper_by (Region a) holds = (λ h. h, λ h. h)
+
 copper_alike : (s t : RealShape) (holds : Point → Type 0) → real_figure s ≡ real_figure t → IsCopperOf s holds → IsCopperOf t holds
-copper_alike (Plain s) (Plain t) holds e h = let same : figure_of s ≡ figure_of t = cc e in subst (λ (f : Figure). (p : Point) → InFigure f p ↔ holds p) same h
-copper_alike (Plain s) (ArcDraw b) holds e h = absurd cc
-copper_alike (ArcDraw a) (Plain t) holds e h = absurd cc
-copper_alike (ArcDraw a) (ArcDraw b) holds e h = let same : a ≡ b = cc e in subst (λ z. IsCopperOf (ArcDraw z) holds) same h
+copper_alike s t holds e h = (copper_by t holds).1 (subst (λ (f : RealFigure). CopperBy f holds) e ((copper_by s holds).0 h))
 
 spans_alike : (xs ys : List (Placed RealShape)) → plain_reals xs ≡ plain_reals ys → map real_span xs ≡ map real_span ys
 spans_alike [] [] e = refl

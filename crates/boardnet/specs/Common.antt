@@ -33,7 +33,7 @@ place_of (Netlist kind line) = at_item (codes "line") line
 abbrev pub refusal_line : List ℕ → Refusal → List ℕ
 refusal_line name why = kind_line name (form_of why) (refusal_number why) (refusal_name why) (place_of why)
 
--- The line of a copper file that is refused for an arc.
+-- The line of a copper file that is refused for an arc or a macro.
 abbrev pub arc_line : List ℕ → RealKind → ℕ → ℕ → List ℕ
 arc_line name kind command byte = kind_line name (codes "Gerber") (real_number kind) (real_name kind) (at_byte (codes "command") command byte)
 

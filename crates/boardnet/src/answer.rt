@@ -176,7 +176,8 @@ pub enum Unanswered {
         command: u32,
         at: usize,
     },
-    /// The copper file is refused for an arc, by its first faulty command, from 1, and the place of its first byte, from 0.
+    /// The copper file is refused for an arc or a macro, by its first faulty command, from 1, and the place of its first byte,
+    /// from 0.
     Bent {
         file: Text,
         kind: RealKind,

@@ -30,6 +30,11 @@ fn shown(alloc: Global, piece: &RealPiece) -> Result<String, AllocError> {
                 c.x, c.y, s.x, s.y, e.x, e.y
             )?;
         },
+        RealShape::Slanted(slant) => {
+            let (a, b) = (slant.start, slant.end);
+            write!(line, "[{} {}, {} {}] {}", a.x, a.y, b.x, b.y, slant.width)?;
+        },
+        RealShape::Region(_) => line.push_str("a region")?,
     }
     write!(line, " by {}.{}", piece.origin.command, piece.origin.copy)?;
     Ok(line)
@@ -211,7 +216,7 @@ fn of_refusals() -> [(&'static str, &'static str); 20] {
         ("G75*G02X1000000I1J1D02*M02*", "OffsetsAmiss at command 6"),
         (
             "G75*G36*G02X1000000I500000J0D01*G01*X0D01*G37*M02*",
-            "Gerber(Arc) at command 7",
+            "Copper(Gerber(Arc)) at command 7",
         ),
         (
             "G75*G02X1000000J500000I0D01*M02*",
@@ -220,7 +225,7 @@ fn of_refusals() -> [(&'static str, &'static str); 20] {
         ("G75*G02X1000000I1I2D01*M02*", "OffsetsAmiss at command 6"),
         (
             "%FSLAX27Y27*%%MOIN*%%ADD10C,0.1*%D10*G75*G02X10I1J0D01*M02*",
-            "Gerber(OffGrid) at command 6",
+            "Copper(Gerber(OffGrid)) at command 6",
         ),
         (
             "%FSLAX27Y27*%%MOIN*%%ADD10C,0.1*%D10*G74*G03X1000Y1005I0J1000D01*M02*",
@@ -228,26 +233,60 @@ fn of_refusals() -> [(&'static str, &'static str); 20] {
         ),
         (
             "G75*G02X1I12000000000J0D01*M02*",
-            "Gerber(OutOfRange) at command 6",
+            "Copper(Gerber(OutOfRange)) at command 6",
         ),
         (
             "X1000000000D02*G75*G02X999999999I1J0D01*M02*",
-            "Gerber(OutOfRange) at command 7",
+            "Copper(Gerber(OutOfRange)) at command 7",
         ),
         (
             "X1000000000D02*G74*G03X999999988Y-12I1J13D01*M02*",
-            "Gerber(OutOfRange) at command 7",
+            "Copper(Gerber(OutOfRange)) at command 7",
         ),
         (
             "G74*G03X10Y10I5J5D01*I5J5*M02*",
-            "Gerber(BadWord) at command 7",
+            "Copper(Gerber(BadWord)) at command 7",
         ),
-        ("G75*G02X1J0D01*G20*M02*", "Gerber(BadWord) at command 7"),
+        ("G75*G02X1J0D01*G20*M02*", "Copper(Gerber(BadWord)) at command 7"),
         ("G75*G02X1D01*G20*M02*", "NoOffsets at command 6"),
-        ("D11*G75*G02X1D01*M02*", "Gerber(NoAperture) at command 5"),
+        ("D11*G75*G02X1D01*M02*", "Copper(Gerber(NoAperture)) at command 5"),
         (
             "G36*G75*G02D03*G37*M02*",
-            "Gerber(NotInRegion) at command 7",
+            "Copper(Gerber(NotInRegion)) at command 7",
+        ),
+    ]
+}
+
+// Vector lines of macros, all of this crate's own: one that runs along no axis is slanted, and no draw is one.
+fn of_lines() -> [(&'static str, &'static str); 7] {
+    [
+        (
+            "%AMV*20,1,0.2,0,0,1.0,0.5,0*%%ADD11V*%D11*X0Y0D03*M02*",
+            "[0 0, 10000000 5000000] 2000000 by 9.0",
+        ),
+        (
+            "%AMV*20,1,0.2,0,0,1.0,0.5,90*%%ADD11V*%D11*X1000000Y0D03*M02*",
+            "[10000000 0, 5000000 10000000] 2000000 by 9.0",
+        ),
+        (
+            "%AMV*20,1,0.2,0,0,1.0,0,0*%%ADD11V*%D11*X0Y0D03*M02*",
+            "an area by 9.0",
+        ),
+        (
+            "%AMV*20,1,$1,0,0,1.0,0.5,0*%%ADD11V,0.1*%D11*X0Y0D03*D10*X1000000Y1000000D01*M02*",
+            "[0 0, 10000000 5000000] 1000000 by 9.0\n0 0, 10000000 10000000, 5000000 by 11.0",
+        ),
+        (
+            "X1000000Y1000000D01*%AMV*1,1,1.0,0,0*%%ADD11V*%D11*X0Y0D03*M02*",
+            "0 0, 10000000 10000000, 5000000 by 5.0\n0 0, 0 0, 5000000 by 10.0",
+        ),
+        (
+            "%AMV*20,1,0.2,0,0,1.0,0.5,45*%%ADD11V*%D11*X0Y0D03*M02*",
+            "Copper(Turn) at command 6",
+        ),
+        (
+            "%AMV*20,1,0.2,0,0,1.0,0.5,0*%%ADD11V*%G75*D10*G03X1000000I500000J0D01*D11*G01*X0Y0D03*M02*",
+            "(5000000 0) 0 0, 10000000 0, 10000000 by 10.0\n[0 0, 10000000 5000000] 2000000 by 13.0",
         ),
     ]
 }
@@ -255,6 +294,10 @@ fn of_refusals() -> [(&'static str, &'static str); 20] {
 #[test]
 fn arcs_are_read(rt: HostRuntime) -> Result<(), Fail> {
     for (words, expected) in of_any_arcs() {
+        let read = told(rt.alloc(), words)?;
+        assert_eq!(rt; read.as_str(), expected);
+    }
+    for (words, expected) in of_lines() {
         let read = told(rt.alloc(), words)?;
         assert_eq!(rt; read.as_str(), expected);
     }

@@ -1,4 +1,4 @@
-// Packages whose copper has arcs.
+// Packages whose copper has arcs, and slanted lines of macros.
 use board_io::MemoryPackage;
 use board_package::build;
 use lengths::text::Text;
@@ -31,16 +31,18 @@ fn package_of(alloc: Global, words: &str, barrels: &[u8]) -> Result<MemoryPackag
     Ok(package)
 }
 
-// What comes of a package: how many pieces, arcs and probes, or the fault; and how often a file was taken.
+// What comes of a package: how many pieces, arcs, slanted lines and probes, or the fault; and how often a file was taken.
 fn outcome(alloc: Global, package: &mut MemoryPackage) -> Result<String, Fail> {
     let manifest = Text::new(alloc, b"m.json")?;
     let given = match build_real(alloc, &manifest, package) {
         Ok(real) => {
             let bent = |piece: &&RealPiece| matches!(piece.shape, RealShape::ArcDraw(_));
             let arcs = real.pieces.iter().filter(bent).count();
+            let slanted = |piece: &&RealPiece| matches!(piece.shape, RealShape::Slanted(_));
+            let lines = real.pieces.iter().filter(slanted).count();
             let probes = real.probes.as_slice().len();
             format!(in alloc;
-                "layers {} pieces {} arcs {arcs} probes {probes}",
+                "layers {} pieces {} arcs {arcs} lines {lines} probes {probes}",
                 real.layers,
                 real.pieces.len()
             )?
@@ -68,11 +70,21 @@ fn outcome(alloc: Global, package: &mut MemoryPackage) -> Result<String, Fail> {
 #[test]
 fn real_packages(rt: HostRuntime) -> Result<(), Fail> {
     let alloc = rt.alloc();
-    let rows: [(&str, &[u8], &str); 7] = [
+    let rows: [(&str, &[u8], &str); 9] = [
+        (
+            "%AMV*20,1,0.2,0,0,1.0,0.5,0*%%ADD11V*%D11*X0Y0D03*",
+            BARRELS,
+            "layers 2 pieces 3 arcs 0 lines 1 probes 2, 5 files",
+        ),
+        (
+            "%AMV*20,1,0.2,0,0,1.0,0.5,45*%",
+            b"",
+            "t.gbr 35 Turn 6 42, 2 files",
+        ),
         (
             "G75*G02X1000000I500000J0D01*G01X0D01*",
             BARRELS,
-            "layers 2 pieces 4 arcs 1 probes 2, 5 files",
+            "layers 2 pieces 4 arcs 1 lines 0 probes 2, 5 files",
         ),
         (
             "G75*G02X1000000I500000J0D01*",

@@ -5,6 +5,7 @@ use Rattle.arc_layer.specs.declared.kind.RealFault.{RealFault}
 use Rattle.arc_layer.specs.declared.kind.RealFault.TheVariants as real_fault
 use Rattle.arc_layer.specs.declared.kind.RealKind.{RealKind}
 use Rattle.arc_layer.specs.declared.kind.RealKind.TheVariants as kinds
+use Rattle.gerber_layer.specs.declared.macro_kind.FlattenKind.TheVariants as flatten
 use Rattle.board_shapes.specs.declared.placed.Room.{Room}
 use Rattle.ipc356_records.specs.NetlistFile as netlist_file
 use Rattle.ipc356_records.specs.declared.kind.RecordFault.{RecordFault}
@@ -39,8 +40,15 @@ copper_by e layer bytes before kind command at given is refuses own (inr g) = su
 
 copper_as : (e : Entry) (layer : ℕ) (bytes : List ℕ) (before : PlainRealBoard) (kind : RealKind) (command at : ℕ) (given : RealBuildFault) → e.role ≡ role.Copper layer
     → IsRealRefused bytes (layer_in (room_left before.pieces) layer e.number) kind command at → IsCopperRefusal e.name kind command at given → HaltsReal e bytes before given
-copper_as e layer bytes before (kinds.Gerber kind) command at given is refuses (why, g, has) =
+copper_as e layer bytes before (kinds.Copper (flatten.Gerber kind)) command at given is refuses (why, g, has) =
     subst (λ (f : RealBuildFault). HaltsReal e bytes before f) (sym g) (halts_as e (role.Copper layer) bytes before (refusal.Layer kind command at) why is refuses has)
+copper_as e layer bytes before (kinds.Copper flatten.BadMacro) command at given is refuses has = copper_by e layer bytes before (kinds.Copper flatten.BadMacro) command at given is refuses tt has
+copper_as e layer bytes before (kinds.Copper flatten.MacroTwice) command at given is refuses has = copper_by e layer bytes before (kinds.Copper flatten.MacroTwice) command at given is refuses tt has
+copper_as e layer bytes before (kinds.Copper flatten.NoMacro) command at given is refuses has = copper_by e layer bytes before (kinds.Copper flatten.NoMacro) command at given is refuses tt has
+copper_as e layer bytes before (kinds.Copper flatten.ExposureOff) command at given is refuses has = copper_by e layer bytes before (kinds.Copper flatten.ExposureOff) command at given is refuses tt has
+copper_as e layer bytes before (kinds.Copper flatten.Turn) command at given is refuses has = copper_by e layer bytes before (kinds.Copper flatten.Turn) command at given is refuses tt has
+copper_as e layer bytes before (kinds.Copper flatten.Slanted) command at given is refuses has = copper_by e layer bytes before (kinds.Copper flatten.Slanted) command at given is refuses tt has
+copper_as e layer bytes before (kinds.Copper flatten.TooManyRadii) command at given is refuses has = copper_by e layer bytes before (kinds.Copper flatten.TooManyRadii) command at given is refuses tt has
 copper_as e layer bytes before kinds.NoOffsets command at given is refuses has = copper_by e layer bytes before kinds.NoOffsets command at given is refuses tt has
 copper_as e layer bytes before kinds.OffsetsAmiss command at given is refuses has = copper_by e layer bytes before kinds.OffsetsAmiss command at given is refuses tt has
 copper_as e layer bytes before kinds.NoQuadrants command at given is refuses has = copper_by e layer bytes before kinds.NoQuadrants command at given is refuses tt has

@@ -2,7 +2,7 @@
 use Rattle.std.proofs.Common.{◌≡◌, inl, inr, ℕ, List, refl, sym, ap, subst, ◌∙◌}
 use Rattle.arc_layer.specs.Real.{HasOneRealAnswer}
 use Rattle.arc_layer.specs.declared.kind.RealKind.{RealKind}
-use Rattle.arc_layer.specs.declared.kind.RealKind.TheVariants.{Gerber}
+use Rattle.arc_layer.specs.Kinds.{gerber}
 use Rattle.board_io.specs.Package.{Files}
 use Rattle.board_shapes.specs.Pieces.{PlainPiece}
 use Rattle.gerber_layer.specs.CommandEffects.{Place as LayerPlace}
@@ -43,7 +43,7 @@ reads_one all role.Netlist n bytes before x y (a, names, read, is) (b, names', r
     is ∙ (ap (λ (l : Netlist). with_points before l.probes l.names) e ∙ sym is')
 
 reads_not_refused : HaveOneAnswer → (r : Role) (n : ℕ) (bytes : List ℕ) (before x : PlainRealBoard) (why : Refusal) → ReadsReal r n bytes before x → RefusesReal r n bytes before why → ⊥
-reads_not_refused all (role.Copper layer) n bytes before x (refusal.Layer kind command at) (a, read, is) no' = (all.copper bytes (layer_in (room_left before.pieces) layer n)).not_both a (Gerber kind) command at read no'
+reads_not_refused all (role.Copper layer) n bytes before x (refusal.Layer kind command at) (a, read, is) no' = (all.copper bytes (layer_in (room_left before.pieces) layer n)).not_both a (gerber kind) command at read no'
 reads_not_refused all (role.Drill from to) n bytes before x (refusal.Drill kind line at) (a, read, is) no' = (all.drill bytes (drill_in (room_left before.pieces) from to n)).not_both a kind line at read no'
 reads_not_refused all role.Netlist n bytes before x (refusal.Netlist kind line) (a, names, read, is) (count, no') = (all.netlist bytes before.layers).not_both (record { probes = a; names = names }) kind count line read no'
 reads_not_refused all other n bytes before x why read no' = absurd no'
@@ -54,10 +54,10 @@ reads_no_arc all other n bytes before x kind command at read no' = absurd no'
 
 refuses_one : HaveOneAnswer → (r : Role) (n : ℕ) (bytes : List ℕ) (before : PlainRealBoard) (why other : Refusal) → RefusesReal r n bytes before why → RefusesReal r n bytes before other → why ≡ other
 refuses_one all (role.Copper layer) n bytes before (refusal.Layer kind command at) (refusal.Layer kind' command' at') p q =
-    let e = (all.copper bytes (layer_in (room_left before.pieces) layer n)).one_fault (Gerber kind) (Gerber kind') command command' at at' p q in
+    let e = (all.copper bytes (layer_in (room_left before.pieces) layer n)).one_fault (gerber kind) (gerber kind') command command' at at' p q in
     let k : kind ≡ kind' = one_kind e.0 in cc (k, e.1, e.2)
   where
-    one_kind : ◌≡◌ {A = RealKind} (Gerber kind) (Gerber kind') → kind ≡ kind'
+    one_kind : ◌≡◌ {A = RealKind} (gerber kind) (gerber kind') → kind ≡ kind'
     one_kind h = cc
 refuses_one all (role.Drill from to) n bytes before (refusal.Drill kind line at) (refusal.Drill kind' line' at') p q =
     let e = (all.drill bytes (drill_in (room_left before.pieces) from to n)).one_fault kind kind' line line' at at' p q in cc (e.0, e.1, e.2)
@@ -71,7 +71,7 @@ refuses_one all r n bytes before why other p q = absurd p
 -- a file is not refused for an arc and for something else
 no_arc_too : HaveOneAnswer → (r : Role) (n : ℕ) (bytes : List ℕ) (before : PlainRealBoard) (why : Refusal) (kind : RealKind) (command at : ℕ) → RefusesReal r n bytes before why → RefusesArc r n bytes before kind command at → ⊥
 no_arc_too all (role.Copper layer) n bytes before (refusal.Layer kind command at) own number place p (of_arcs, q) =
-    let e = (all.copper bytes (layer_in (room_left before.pieces) layer n)).one_fault own (Gerber kind) number command place at q p in
+    let e = (all.copper bytes (layer_in (room_left before.pieces) layer n)).one_fault own (gerber kind) number command place at q p in
     subst IsOfArcs e.0 of_arcs
 no_arc_too all (role.Copper layer) n bytes before other own number place p q = absurd p
 no_arc_too all r n bytes before why own number place p q = absurd q

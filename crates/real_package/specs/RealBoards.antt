@@ -1,6 +1,6 @@
--- Boards of figures and arc draws as plain data, and what such a board keeps.
+-- Boards of figures and real copper as plain data, and what such a board keeps.
 use Rattle.std.specs.Prelude.{◌≡◌, ℕ, List, [], ◌++◌, map, sum_by, length}
-use Rattle.arc_layer.specs.Real.{PlainReal, RealFigure, plain, bent, plain_reals}
+use Rattle.arc_layer.specs.Real.{PlainReal, RealFigure, plain, bent, slanted, curved, plain_reals}
 use Rattle.real_shapes.specs.declared.RealShape.{RealShape}
 use Rattle.board_shapes.specs.Figures.{figure_edges}
 use Rattle.board_shapes.specs.Pieces.{PlainPiece}
@@ -10,7 +10,7 @@ use Rattle.board_shapes.specs.declared.probe.Probe.{Probe}
 use Rattle.board_package.specs.Parts.{room_for}
 use Rattle.board_package.specs.declared.parts.Parts.{Parts}
 
--- pieces that are figures or arc draws, the test points, the texts of their names, how many layers there are
+-- pieces that are figures or copper that no figure is, the test points, the texts of their names, how many layers there are
 pub record PlainRealBoard : Type 0 where
   pub pieces : List PlainReal
   pub probes : List Probe
@@ -42,10 +42,12 @@ as_reals pieces = map as_real pieces
 
 -- ---- Room
 
--- an arc draw has no edges, as a stroke has none
+-- copper that no figure is has no edges, as a stroke has none
 abbrev pub real_edges : RealFigure → ℕ
 real_edges (plain figure) = figure_edges figure
 real_edges (bent arc) = 0
+real_edges (slanted line) = 0
+real_edges (curved start parts) = 0
 
 abbrev pub edges_in : List PlainReal → ℕ
 edges_in pieces = sum_by (λ (p : PlainReal). real_edges p.figure) pieces

@@ -1,7 +1,8 @@
 -- Why a package gives no real board.
 use Rattle.std.specs.Prelude.{◌≡◌, ◌⊎◌, ℕ, List, Option, Some, None, IfSome}
 use Rattle.arc_layer.specs.declared.kind.RealKind.{RealKind}
-use Rattle.arc_layer.specs.declared.kind.RealKind.TheVariants.{Gerber}
+use Rattle.arc_layer.specs.declared.kind.RealKind.TheVariants.{Copper}
+use Rattle.gerber_layer.specs.declared.macro_kind.FlattenKind.TheVariants.{Gerber}
 use Rattle.arc_layer.specs.declared.kind.RealFault.{RealFault}
 use Rattle.arc_layer.specs.declared.kind.RealFault.TheVariants as copper
 use Rattle.board_io.specs.Package.{Files, IsFaultless}
@@ -21,7 +22,7 @@ use Rattle.real_package.specs.RealPackage.{RealStop, bent, unbuilt}
 use Rattle.real_package.specs.declared.fault.RealBuildFault.{RealBuildFault}
 use Rattle.real_package.specs.declared.fault.RealBuildFault.TheVariants as fault
 
--- Why there is no real board: as without arcs, or an arc that is refused, where the package tells.
+-- Why there is no real board: as without arcs and macros, or an arc or a macro that is refused, where the package tells.
 abbrev pub HasRealCause : Option Files → (Files → RealStop → Type 0) → (Files → List ℕ → Type 0) → ℕ → ℕ → List ℕ → RealBuildFault → Type 0
 HasRealCause held Stops Comes before now lost (fault.Build why) = HasCause held (λ files stop. Stops files (unbuilt stop)) Comes before now lost why
 HasRealCause held Stops Comes before now lost (fault.Arc name kind command at) = IfSome held (λ files. Stops files (bent name kind command at))
@@ -35,9 +36,9 @@ abbrev pub KeepsRealFaults : ℕ → List ℕ → ℕ → List ℕ → RealBuild
 KeepsRealFaults count lost count' lost' (fault.Build why) = KeepsFaults count lost count' lost' why
 KeepsRealFaults count lost count' lost' (fault.Arc name kind command at) = IsFaultless count lost count' lost'
 
--- the fault of a copper file of this name, refused as one without arcs may be, or for an arc; or want of memory
+-- the fault of a copper file of this name, refused as one without arcs and macros may be, or for one of these; or want of memory
 abbrev pub IsCopperRefusal : List ℕ → RealKind → ℕ → ℕ → RealBuildFault → Type 0
-IsCopperRefusal name (Gerber kind) command at given = (why : BuildFault) × (given ≡ fault.Build why) × HasRefusal name (refusal.Layer kind command at) why
+IsCopperRefusal name (Copper (Gerber kind)) command at given = (why : BuildFault) × (given ≡ fault.Build why) × HasRefusal name (refusal.Layer kind command at) why
 IsCopperRefusal name kind command at given = (given ≡ fault.Arc name kind command at) ⊎ (given ≡ fault.Build build.NoMemory)
 
 -- the fault of a file of this name whose reader gave this

@@ -1,8 +1,10 @@
--- What each file of a package is read as where draws may be arcs, and why it is refused.
+-- What each file of a package is read as where copper is real, and why it is refused.
 use Rattle.std.specs.Prelude.{◌≡◌, ⊤, ℕ, List}
 use Rattle.arc_layer.specs.Real.{IsRealCopper, IsRealRefused, PlainReal}
 use Rattle.arc_layer.specs.declared.kind.RealKind.{RealKind}
-use Rattle.arc_layer.specs.declared.kind.RealKind.TheVariants.{Gerber}
+use Rattle.arc_layer.specs.Kinds.{gerber}
+use Rattle.arc_layer.specs.declared.kind.RealKind.TheVariants.{Copper}
+use Rattle.gerber_layer.specs.declared.macro_kind.FlattenKind.TheVariants.{Gerber}
 use Rattle.board_shapes.specs.Pieces.{PlainPiece}
 use Rattle.board_shapes.specs.declared.probe.Probe.{Probe}
 use Rattle.xnc.specs.DrillFile as drill_file
@@ -20,19 +22,19 @@ ReadsReal (role.Copper layer) number bytes before after = (pieces : List PlainRe
 ReadsReal (role.Drill from to) number bytes before after = (pieces : List PlainPiece) × drill_file.IsRead bytes (drill_in (room_left before.pieces) from to number) pieces × (after ≡ with_reals before (as_reals pieces))
 ReadsReal role.Netlist number bytes before after = (probes : List Probe) × (names : List (List ℕ)) × netlist_file.IsRead bytes before.layers probes names × (after ≡ with_points before probes names)
 
--- the file of this role and number is refused, as one without arcs may be
+-- the file of this role and number is refused, as one without arcs and macros may be
 abbrev pub RefusesReal : Role → ℕ → List ℕ → PlainRealBoard → Refusal → Type 0
-RefusesReal (role.Copper layer) number bytes before (refusal.Layer kind command at) = IsRealRefused bytes (layer_in (room_left before.pieces) layer number) (Gerber kind) command at
+RefusesReal (role.Copper layer) number bytes before (refusal.Layer kind command at) = IsRealRefused bytes (layer_in (room_left before.pieces) layer number) (gerber kind) command at
 RefusesReal (role.Drill from to) number bytes before (refusal.Drill kind line at) = drill_file.IsRefused bytes (drill_in (room_left before.pieces) from to number) kind line at
 RefusesReal role.Netlist number bytes before (refusal.Netlist kind line) = netlist_file.IsRefused bytes before.layers kind line
 RefusesReal other number bytes before why = ⊥
 
--- the kind is one that only arcs have
+-- the kind is one that only arcs and macros have
 abbrev pub IsOfArcs : RealKind → Type 0
-IsOfArcs (Gerber kind) = ⊥
+IsOfArcs (Copper (Gerber kind)) = ⊥
 IsOfArcs other = ⊤
 
--- the copper file of this role and number is refused for an arc
+-- the copper file of this role and number is refused for an arc or a macro
 abbrev pub RefusesArc : Role → ℕ → List ℕ → PlainRealBoard → RealKind → ℕ → ℕ → Type 0
 RefusesArc (role.Copper layer) number bytes before kind command at = IsOfArcs kind × IsRealRefused bytes (layer_in (room_left before.pieces) layer number) kind command at
 RefusesArc other number bytes before kind command at = ⊥

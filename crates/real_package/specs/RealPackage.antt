@@ -8,12 +8,12 @@ use Rattle.board_package.specs.declared.entry.Entry.{Entry}
 use Rattle.real_package.specs.RealBoards.{PlainRealBoard, empty_real}
 use Rattle.real_package.specs.RealFiles.{ReadsReal, RefusesArc, RefusesReal}
 
--- why a package is no real board: a stop that one without arcs may have, or an arc of the copper file of this name, by kind, command and place
+-- why a package is no real board: a stop that one without arcs and macros may have, or an arc or a macro of the copper file of this name, by kind, command and place
 pub data RealStop : Type 0 where
   unbuilt : Stop → RealStop
   bent : List ℕ → RealKind → ℕ → ℕ → RealStop
 
--- a stop that one without arcs may have, of which P holds
+-- a stop that one without arcs and macros may have, of which P holds
 abbrev pub OfUnbuilt : (Stop → Type 0) → RealStop → Type 0
 OfUnbuilt P (unbuilt stop) = P stop
 OfUnbuilt P (bent name kind command at) = ⊥

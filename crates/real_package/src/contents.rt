@@ -1,5 +1,6 @@
 //! What the files of a package are read as.
 ghost use Rattle.std.specs.Prelude.{◌≡◌, ◌⊎◌, ◌≤◌, length, OnOk, IfErr};
+ghost use Rattle.arc_layer.specs.declared.kind.RealKind.TheVariants as own;
 ghost use Rattle.board_package.specs.Manifest.{IsOnBoard};
 ghost use Rattle.board_package.specs.declared.fault.BuildFault.TheVariants as build;
 ghost use Rattle.board_package.specs.Parts.{IsLawfulParts};
@@ -12,6 +13,7 @@ use crate::board::{RealBoard, as_real_pieces, room_left};
 use crate::fault::RealBuildFault;
 use arc_layer::{RealFault, RealKind, read_real};
 use board_package::{BuildFault, Entry, Refusal, Role, refused};
+use gerber_layer::FlattenKind;
 use ipc356_records::{RecordFault, read_netlist};
 use lengths::text::Text;
 use std::alloc::Global;
@@ -33,15 +35,25 @@ fn refused_copper(name: &Text, kind: RealKind, command: u32, at: usize) -> RealB
     ensures { IsCopperRefusal name.now kind command at result }
 {
     match kind {
-        RealKind::Gerber(kind) => {
-            let why = refused(name, Refusal::Layer { kind, command, at });
-            RealBuildFault::Build(why)
-        }
-        own => refused_arc(name, own, command, at),
+        RealKind::Copper(kind) => refused_by_file(name, kind, command, at),
+        of_arc => refused_arc(name, of_arc, command, at),
     }
 }
 
-/// The fault of one that is refused for an arc.
+/// The fault of one that is refused as where there are no arcs.
+fn refused_by_file(name: &Text, kind: FlattenKind, command: u32, at: usize) -> RealBuildFault
+    ensures { IsCopperRefusal name.now (own.Copper kind) command at result }
+{
+    match kind {
+        FlattenKind::Gerber(kind) => {
+            let why = refused(name, Refusal::Layer { kind, command, at });
+            RealBuildFault::Build(why)
+        }
+        of_macro => refused_arc(name, RealKind::Copper(of_macro), command, at),
+    }
+}
+
+/// The fault of one that is refused for an arc or a macro.
 fn refused_arc(name: &Text, kind: RealKind, command: u32, at: usize) -> RealBuildFault
     ensures { (result ≡ fault.Arc name.now kind command at) ⊎ (result ≡ fault.Build build.NoMemory) }
 {

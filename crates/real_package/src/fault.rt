@@ -10,11 +10,11 @@ use lengths::text::Text;
 /// of memory.
 #[derive(Debug, Drop)]
 pub enum RealBuildFault {
-    /// What may stop a board without arcs too; of a copper file any kind of refusal that such a file may have. It is never
-    /// the frame, which is not judged.
+    /// What may stop a board without arcs and macros too; of a copper file any kind of refusal that such a file may have. It
+    /// is never the frame, which is not judged.
     Build(BuildFault),
-    /// The copper file is refused for an arc, by the first faulty command, from 1, and the place of its first byte, from
-    /// 0. The kind is one that only arcs have.
+    /// The copper file is refused for an arc or a macro, by the first faulty command, from 1, and the place of its first
+    /// byte, from 0. The kind is one that only these have.
     Arc {
         file: Text,
         kind: RealKind,

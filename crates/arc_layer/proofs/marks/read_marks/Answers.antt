@@ -1,11 +1,11 @@
 use Rattle.std.proofs.Common.{◌≡◌, length, Err, refl, sym, ap, subst, arith}
 use Rattle.gerber_words.specs.Words.{Ahead, start, ended, broken}
 use Rattle.gerber_words.specs.Stepping.{ahead, entry_of}
-use Rattle.arc_layer.specs.Bends.{bend_of}
-use Rattle.arc_layer.specs.Reading.{bends_of}
+use Rattle.arc_layer.specs.Marks.{mark_of}
+use Rattle.arc_layer.specs.Reading.{marks_of}
 use Rattle.arc_layer.specs.Words.{Saying}
 use Rattle.arc_layer.proofs.ReadSoFar.{ReadSoFar, none_short, nothing-read, word-fault, word-read, stop-read}
-use Rattle.arc_layer.proofs.bends.read_bends.Goals as goal
+use Rattle.arc_layer.proofs.marks.read_marks.Goals as goal
 
 pub loop-word-init : goal.loop-word-init
 loop-word-init c =
@@ -13,9 +13,9 @@ loop-word-init c =
     let size : length c.new-words.result.cursor.rest.now ≡ length c.args.file.now = ap (λ (a : Ahead). length a.bytes) at_start in
     let none : c.new-reader.result.commands ≡ 0 = c.new-reader.ensures.commands in
     record {
-      read = subst (λ (a : Ahead). ReadSoFar c.args.file.now a c.new-reader.result) (sym at_start) (nothing-read c.args.file.now c.new-reader.result c.new-reader.ensures.state c.new-reader.ensures.bends none);
+      read = subst (λ (a : Ahead). ReadSoFar c.args.file.now a c.new-reader.result) (sym at_start) (nothing-read c.args.file.now c.new-reader.result c.new-reader.ensures.state c.new-reader.ensures.marks none);
       lawful = c.new-reader.ensures.lawful;
-      short = none_short _ c.new-reader.ensures.bends;
+      short = none_short _ c.new-reader.ensures.marks;
       few = omega (arith, size, none);
     }
 
@@ -33,11 +33,11 @@ loop-word-preserved c =
 pub returns-in-Err-Fault-clause-fault : goal.returns-in-Err-Fault-clause-fault
 returns-in-Err-Fault-clause-fault c =
     let halts = rw c.in-Err-Fault.field-0-is at c.in-Err-Fault.ensures.halt in
-    let stops = subst (λ (w : Saying). bend_of c.loop-word.reader.state w ≡ Err c.in-Err-Fault.kind) c.read_word.ensures.value halts in
+    let stops = subst (λ (w : Saying). mark_of c.loop-word.reader.state w ≡ Err c.in-Err-Fault.kind) c.read_word.ensures.value halts in
     rw c.in-Err-Fault.field-0-is (word-fault c.words_lie_ahead.ensures c.args.file.now (ahead c.loop-word.words) (ahead c.next_word.new.self) (entry_of c.in-Word.word) c.loop-word.reader c.in-Err-Fault.kind _ c.loop-word.invariant.read c.in-Word.ensures.next refl stops)
 
 pub returns-in-End-clause-ok : goal.returns-in-End-clause-ok
-returns-in-End-clause-ok c = stop-read c.args.file.now (ahead c.loop-word.words) ended c.loop-word.reader (bends_of (record { bends = c.loop-word.reader.bends })) c.loop-word.invariant.read c.in-End.ensures.next.0 (λ n. refl)
+returns-in-End-clause-ok c = stop-read c.args.file.now (ahead c.loop-word.words) ended c.loop-word.reader (marks_of (record { marks = c.loop-word.reader.marks })) c.loop-word.invariant.read c.in-End.ensures.next.0 (λ n. refl)
 
 pub returns-in-Broken-clause-ok : goal.returns-in-Broken-clause-ok
-returns-in-Broken-clause-ok c = stop-read c.args.file.now (ahead c.loop-word.words) (broken c.in-Broken.field-0 c.in-Broken.field-1) c.loop-word.reader (bends_of (record { bends = c.loop-word.reader.bends })) c.loop-word.invariant.read c.in-Broken.ensures.next.0 (λ n. refl)
+returns-in-Broken-clause-ok c = stop-read c.args.file.now (ahead c.loop-word.words) (broken c.in-Broken.field-0 c.in-Broken.field-1) c.loop-word.reader (marks_of (record { marks = c.loop-word.reader.marks })) c.loop-word.invariant.read c.in-Broken.ensures.next.0 (λ n. refl)

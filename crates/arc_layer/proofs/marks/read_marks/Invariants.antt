@@ -1,16 +1,16 @@
 use Rattle.std.proofs.Common.{◌+◌, ◌≤◌, length}
 use Rattle.gerber_words.specs.Stepping.{ahead}
-use Rattle.arc_layer.specs.Bends.{AreShort}
-use Rattle.arc_layer.specs.Reading.{bends_so_far}
+use Rattle.arc_layer.specs.Marks.{AreShort}
+use Rattle.arc_layer.specs.Reading.{marks_so_far}
 use Rattle.arc_layer.specs.State.{IsLawfulState}
 use Rattle.arc_layer.proofs.ReadSoFar.{ReadSoFar}
-use Rattle.arc_layer.proofs.bends.read_bends.Given as goal
+use Rattle.arc_layer.proofs.marks.read_marks.Given as goal
 
 abbrev pub invariant-loop-word : goal.invariant-loop-word
 invariant-loop-word l = record {
   read : ReadSoFar l.file (ahead l.words) l.reader;
   lawful : IsLawfulState l.reader.state;
-  short : AreShort (bends_so_far l.reader);
+  short : AreShort (marks_so_far l.reader);
   few : l.reader.commands + length (ahead l.words).bytes ≤ length l.file;
 }
 
