@@ -5,8 +5,8 @@ ghost use Rattle.arc_covers.specs.Quarters.{IsPartPlaced, LiesBelow, quarter_tur
 ghost use Rattle.arc_covers.specs.declared.side.Side.TheVariants.{Below};
 ghost use Rattle.arc_regions.specs.Taken.{TakenBelow, all_chained, chained};
 ghost use Rattle.board_shapes.specs.Pieces.{plain_pieces};
-ghost use Rattle.planar.specs.Plane.{IsPlaced, cross_of, dot_of};
-ghost use Rattle.std.specs.Prelude.{All, IfOk, IsTrue, int_lt, pos, ◌+ℤ◌, ◌-ℤ◌, ◌<◌, ◌≡◌, ◌≤◌, ◌↔◌, ◌∷◌, []};
+ghost use Rattle.planar.specs.Plane.{IsPlaced};
+ghost use Rattle.std.specs.Prelude.{All, IfOk, IsTrue, ◌+ℤ◌, ◌-ℤ◌, ◌<◌, ◌≡◌, ◌≤◌, ◌↔◌, ◌∷◌, []};
 
 use arc_regions::{Part, Region, Stretch, draw_of, end_of, is_below};
 use arcs::{Arc, Spot};
@@ -22,42 +22,6 @@ use steps::Steps;
 /// Half the side of a frame, in u.
 pub const HALF: i64 = SIDE / 2;
 
-fn is_left(c: Spot, s: Spot, e: Spot) -> bool
-    requires c_placed { IsPlaced c }
-    requires s_placed { IsPlaced s }
-    requires e_placed { IsPlaced e }
-    ensures { result ≡ int_lt (pos 0) (cross_of c s e) }
-{
-    cross(c, s, e) > 0
-}
-
-fn is_right(c: Spot, s: Spot, e: Spot) -> bool
-    requires c_placed { IsPlaced c }
-    requires s_placed { IsPlaced s }
-    requires e_placed { IsPlaced e }
-    ensures { result ≡ int_lt (cross_of c s e) (pos 0) }
-{
-    cross(c, s, e) < 0
-}
-
-fn is_ahead(c: Spot, s: Spot, e: Spot) -> bool
-    requires c_placed { IsPlaced c }
-    requires s_placed { IsPlaced s }
-    requires e_placed { IsPlaced e }
-    ensures { result ≡ int_lt (pos 0) (dot_of c s e) }
-{
-    dot(c, s, e) > 0
-}
-
-fn is_behind(c: Spot, s: Spot, e: Spot) -> bool
-    requires c_placed { IsPlaced c }
-    requires s_placed { IsPlaced s }
-    requires e_placed { IsPlaced e }
-    ensures { result ≡ int_lt (dot_of c s e) (pos 0) }
-{
-    dot(c, s, e) < 0
-}
-
 /// How many quarter turns of `s` about `c` come before `e`, counterclockwise.
 fn quarters(c: Spot, s: Spot, e: Spot) -> usize
     requires c_placed { IsPlaced c }
@@ -66,13 +30,13 @@ fn quarters(c: Spot, s: Spot, e: Spot) -> usize
     ensures is { result ≡ spec.quarters c s e }
     ensures few { result ≤ 3 }
 {
-    let behind = is_behind(c, s, e);
-    if is_left(c, s, e) {
-        if behind { 1 } else { 0 }
-    } else if is_right(c, s, e) {
-        if is_ahead(c, s, e) { 3 } else { 2 }
+    let (across, along) = (cross(c, s, e), dot(c, s, e));
+    if across > 0 {
+        if along < 0 { 1 } else { 0 }
+    } else if across < 0 {
+        if along > 0 { 3 } else { 2 }
     } else {
-        if behind { 1 } else { 3 }
+        if along < 0 { 1 } else { 3 }
     }
 }
 

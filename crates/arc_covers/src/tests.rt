@@ -370,6 +370,7 @@ fn regions(rt: HostRuntime) -> Result<(), Fail> {
         let upper = around(alloc, turned, r)?;
         let found = check_between(alloc, &real, &[], &[0], &upper, &[7]);
         assert!(rt; found == told);
+        assert!(rt; upper.len() == 7);
         let fewer = check_between(alloc, &real, &[], &[0], &upper[..6], &[6]);
         assert!(rt; fewer == Err(BoundsFault::Piece(Side::Above, 0)));
         let lower = check_between(alloc, &real, &upper[..1], &[1], &upper, &[7]);
