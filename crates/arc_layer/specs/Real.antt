@@ -70,8 +70,8 @@ is_slanted s = not (int_eq s.a.x s.b.x || int_eq s.a.y s.b.y)
 abbrev pub slant_of : Stroke → Slant
 slant_of s = record { start = s.a; end = s.b; width = 2 * unsigned_abs s.r }
 
--- A draw with a bend is its arc. A stroke along no axis that a flash makes is the line of a macro (Gerber Layer Format Specification, 4.5.1,
--- code 20): no other flash makes one. Each other figure is what it is.
+-- A draw with a bend is its arc. A stroke along no axis that a flash makes is the vector line of a macro (Gerber Layer Format Specification,
+-- 4.5.1, code 20): other primitives make none, and obrounds run along an axis. Each other figure is what it is.
 abbrev pub with_mark : Option Mark → Figure → RealFigure
 with_mark (Some (mark.Arc b)) (round s) = bent (arc_of b s)
 with_mark (Some mark.Flash) (round s) = if is_slanted s then slanted (slant_of s) else plain (round s)

@@ -103,7 +103,7 @@ is_quiet text = is_line (curve_in text) && not (begins_offset (from_offsets text
 abbrev pub is_mute : ℕ → Bool
 is_mute b = nat_lt b 71 || nat_lt 74 b
 
--- bytes that say nothing of arcs, and begin no macro
+-- a byte that begins no code of arcs, no offset and, in front of others, no macro; and bytes that are all so
 abbrev pub is_free : ℕ → List ℕ → Bool
 is_free b bytes = is_mute b && not (65 == b && begins bytes (codes "M"))
 

@@ -82,7 +82,7 @@ ReportsPass = (before after : Files) (version : Version) (manifest report text l
 
 -- ---- Boards between two others
 
--- The layout has the test points, names and layers of the real board, and its pieces, each with some copper that its figure or its arc draw may have.
+-- The layout has the test points, names and layers of the real board, and its pieces, each with some copper that its shape may have.
 pub record IsLaidOut (real : PlainRealBoard) (holds : ℕ → Point → Type 0) (b : Layout) : Type 0 where
   pub probes : b.probes ≡ real.probes
   pub names : b.names ≡ real.names

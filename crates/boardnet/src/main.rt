@@ -4,7 +4,7 @@
 //! file of its own (`commands`) and has an answer, or a reason why there is none (`answer`): `check` builds and judges the
 //! package's board (`judged`), `audit` reads a report on it and rules on that, `trial` checks a made package, `write` makes a
 //! netlist of the nets, `gaps` lists the nets that come close, `x2` judges the board by the net names in its copper files,
-//! `flatten` rewrites a copper file without aperture macros, `between` judges a board with arc draws by two that bound it
+//! `flatten` rewrites a copper file without aperture macros, `between` judges a board of real copper by two that bound it
 //! (`findings`, `between_text`, `unbound`). The text goes to the output, and a line to the notes
 //! (`putting`, `lines`, `refusing`). `certified` is a check with the audit of its report. The laws stand in `laws`.
 #![tactic(auto)]

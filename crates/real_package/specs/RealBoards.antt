@@ -1,4 +1,4 @@
--- Boards of figures and real copper as plain data, and what such a board keeps.
+-- Boards of real copper as plain data, and what such a board keeps.
 use Rattle.std.specs.Prelude.{◌≡◌, ℕ, List, [], ◌++◌, map, sum_by, length}
 use Rattle.arc_layer.specs.Real.{PlainReal, RealFigure, plain, bent, slanted, curved, plain_reals}
 use Rattle.real_shapes.specs.declared.RealShape.{RealShape}
@@ -10,7 +10,7 @@ use Rattle.board_shapes.specs.declared.probe.Probe.{Probe}
 use Rattle.board_package.specs.Parts.{room_for}
 use Rattle.board_package.specs.declared.parts.Parts.{Parts}
 
--- pieces that are figures or copper that no figure is, the test points, the texts of their names, how many layers there are
+-- pieces that are figures or other copper, the test points, the texts of their names, how many layers there are
 pub record PlainRealBoard : Type 0 where
   pub pieces : List PlainReal
   pub probes : List Probe
@@ -42,7 +42,7 @@ as_reals pieces = map as_real pieces
 
 -- ---- Room
 
--- copper that no figure is has no edges, as a stroke has none
+-- other copper has no edges, as a stroke has none
 abbrev pub real_edges : RealFigure → ℕ
 real_edges (plain figure) = figure_edges figure
 real_edges (bent arc) = 0

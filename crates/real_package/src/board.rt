@@ -1,4 +1,4 @@
-//! A board whose pieces may be copper that no figure is, as arc draws.
+//! A board whose pieces may be other copper than figures, as arc draws.
 ghost use Rattle.arc_layer.specs.Real.{plain_reals, real_figure};
 ghost use Rattle.board_shapes.specs.Pieces.{plain_pieces};
 ghost use Rattle.board_shapes.specs.Plain.{plain_board};
@@ -12,7 +12,7 @@ use lengths::rows::NoMemory;
 use real_shapes::{RealPiece, RealShape};
 use std::alloc::Global;
 
-/// A real board: pieces that are figures or copper that no figure is, with the test points, names and layers of its package.
+/// A real board: pieces that are figures or other copper, with the test points, names and layers of its package.
 pub type RealBoard = Parts<RealShape>;
 
 fn edges_of(shape: &RealShape) -> u32
