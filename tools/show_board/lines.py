@@ -22,7 +22,7 @@ def notes(shown):
 
 
 def doubt(finding):
-    """The word before a finding that only one of two boards has."""
+    """The word before a finding between two bounds that is not certain."""
     return "undecided " if finding.sure is False else ""
 
 
