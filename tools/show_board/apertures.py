@@ -3,7 +3,7 @@ from fractions import Fraction as Q
 
 from .arcs import Arc, arc_chain, chain_bounds
 from .exact import Refused, exact
-from .macros import macro_bounds, rectangle, regular, without
+from .macros import figures, rectangle, regular, rows, without
 from .outlines import convex_bounds
 from .spots import cross
 
@@ -11,10 +11,11 @@ OBROUND, RECTANGLE, CIRCLE = "O", "R", "C"
 
 
 class Shape:
-    """A flash: its pieces on both sides, and what the lower side leaves out. One that is a pen has one convex piece a side."""
+    """A flash: its pieces on both sides, and what the lower side leaves out. One that is a pen has one convex piece a side. Where
+    `between` reads it, `rows` has for each of its own pieces how many those of both sides are."""
 
-    def __init__(self, lower, upper, lost=None, is_pen=False):
-        self.both, self.lost, self.is_pen = (lower, upper), lost, is_pen
+    def __init__(self, lower, upper, lost=None, is_pen=False, rows=None):
+        self.both, self.lost, self.is_pen, self.rows = (lower, upper), lost, is_pen, rows
 
 
 class Pen:
@@ -139,8 +140,9 @@ def polygon(values, scale):
 
 
 def macro(name, body, values, scale):
-    lower, upper, lost = macro_bounds(body, values, scale)
-    return Shape(lower, upper, f"{lost} of the primitives of macro {name}" if lost else None)
+    found = list(figures(body, values, scale))
+    lower, upper, lost = without(found)
+    return Shape(lower, upper, f"{lost} of the primitives of macro {name}" if lost else None, rows=rows(found))
 
 
 # ---- draws with pens

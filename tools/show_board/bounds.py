@@ -3,9 +3,9 @@
 Each piece of the lower board lies in copper of the board, joined in itself, and the board's copper in pieces of the upper one;
 drills, netlist and names are the same. So what is joined below is joined on the board, and what is joined there is joined above
 (the law `verdicts_decide` of the crate `covers`): no opens and no missing points below and no shorts above make the board agree;
-shorts below, and opens and missing points above, are the board's (a point of such an open may be missing there). What only one of
-them has is undecided. That the two boards are such bounds is not proved, but where the program says so (`proved`): this script makes
-them, by whole numbers, and its tests compare them with fractions.
+shorts below, and opens and missing points above, are the board's (a point of such an open may be missing there). Other opens and
+missing points below, and other shorts above, are undecided. That the two boards are such bounds is not proved, but where the program
+says so (`proved`): this script makes them, by whole numbers, and its tests compare them with fractions.
 """
 import os
 import re
@@ -39,13 +39,14 @@ class Bounded(NamedTuple):
 
 
 class Sides(NamedTuple):
-    """The two packages of a board, with the words' sources by side and file, and what is left out below. `arcs` are the commands of
-    arc draws by file, None where a file has other copper outside the profile; `unlike` those that make other copper on both sides."""
+    """The two packages of a board, with the words' sources by side and file, and what is left out below. `rows` are by file those of
+    the commands that `between` reads, None where a file has other copper outside the profile; `unlike` are the commands that make
+    other copper on both sides."""
 
     packages: tuple
     sources: tuple
     left_out: list
-    arcs: dict
+    rows: dict
     unlike: dict
 
 
@@ -73,12 +74,12 @@ def sides_of(package, name):
 
 def of_package(package):
     """Both sides of each copper file that holds something outside the profile; the others are the same files."""
-    files, sources, left_out, arcs, unlike, replaced = ({}, {}), ({}, {}), [], {}, {}, 0
+    files, sources, left_out, rows, unlike, replaced = ({}, {}), ({}, {}), [], {}, {}, 0
     for name in dict.fromkeys(package.manifest.copper):
         copper = sides_of(package, name)
         left_out += [f"{name}: {what}" for what in copper.lost]
         replaced += copper.replaced
-        arcs[name] = set(copper.bent) if copper.replaced == len(copper.bent) else None
+        rows[name] = copper.rows if copper.replaced == len(copper.rows) else None
         unlike[name] = copper.unlike
         for side, data, origin in zip(copper.sides, files, sources):
             if copper.replaced:
@@ -88,7 +89,7 @@ def of_package(package):
     if not replaced:
         raise Refused("nothing in the copper files is of a kind that has bounds")
     made = tuple(package.changed(beside(package, side), data) for side, data in zip(SIDES, files))
-    return Sides(made, sources, left_out, arcs, unlike)
+    return Sides(made, sources, left_out, rows, unlike)
 
 
 def both_judged(program, sides):

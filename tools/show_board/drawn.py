@@ -22,10 +22,17 @@ def arc_beside(centre, end, radius):
 
 
 class Operations:
-    """`bent` are the commands of arc draws that are written as chains."""
+    """`rows` are the commands whose copper is outside the profile and that `between` reads: for each of their own pieces how many those
+    of both sides are."""
 
     def __init__(self):
-        self.spot, self.mode, self.quadrants, self.last, self.bent = (0, 0), STRAIGHT, None, None, []
+        self.spot, self.mode, self.quadrants, self.last, self.rows = (0, 0), STRAIGHT, None, None, {}
+
+    def stands(self, pieces):
+        """Notes these pieces, each as those that stand for it on both sides, of a command that is written otherwise."""
+        self.replaced += 1
+        if pieces is not None:
+            self.rows[self.number] = pieces
 
     def operation(self, mode, x, y, i, j, operation):
         if mode:
@@ -83,11 +90,10 @@ class Operations:
         radius = self.pen_radius()
         if self.passes():
             return
-        self.replaced += 1
-        self.bent.append(self.number)
         first, last = ends = (start, self.spot) if anticlockwise else (self.spot, start)
         back = lambda spot: spot and (spot[0] - first[0], spot[1] - first[1])
         chain, both = arc_beside(back(centre), back(last), radius)
+        self.stands([tuple(map(len, both))])
         if radius > 0 and not both[0]:
             self.lose(f"an arc at command {self.number}")
         areas = ring(centre, [(x + first[0], y + first[1]) for x, y in chain], radius.__ceil__()) if self.cuts and chain else None
@@ -136,8 +142,8 @@ class Operations:
             self.flash_block(made)
             return
         if made is not None and (self.change.alters(made) or not isinstance(made, apertures.Pen)):
-            self.replaced += 1
             shape = self.changed(made)
+            self.stands(shape.rows)
             if shape.lost:
                 self.lose(f"{shape.lost} at command {self.number}")
             if self.stays(*([moved(piece, *self.spot) for piece in pieces] for pieces in shape.both) if self.is_noted() else ((), ())):

@@ -4,7 +4,8 @@ from fractions import Fraction as Q
 
 from .clear import Object, whole
 from .exact import Refused, cos_sin, decimal, exact, limited, minus, plus, root, times, turned
-from .outlines import convex_bounds, disc_bounds, polygon_bounds
+from .outlines import convex_bounds, disc_bounds, polygon_bounds, whole_corners
+from .slants import line_bounds
 
 MOST_DEEP = 64          # brackets in one another
 TOKEN = re.compile(r"\$(\d{1,9})|(\d+\.?\d*|\.\d+)|([-+xX/()])")
@@ -97,6 +98,18 @@ def vector_line(w, x1, y1, x2, y2):
     return [at(x1, y1, -1), at(x2, y2, -1), at(x2, y2, 1), at(x1, y1, 1)]
 
 
+def line(w, x1, y1, x2, y2, turn):
+    """Along an axis a rectangle from its lower left corner on; else by its ends, where these are whole, and so is the width."""
+    if x1 == x2 or y1 == y2:
+        aside = (w / 2, 0) if x1 == x2 else (0, w / 2)
+        (left, right), (low, high) = sorted((x1, x2)), sorted((y1, y2))
+        return "convex", [turned(p, turn) for p in rectangle(left - aside[0], low - aside[1], right + aside[0], high + aside[1])]
+    ends, is_whole = whole_corners([turned((exact(x), exact(y)), turn) for x, y in ((x1, y1), (x2, y2))])
+    if is_whole and w.denominator == 1:
+        return ("line", *ends, int(w))
+    return "convex", [turned(p, turn) for p in vector_line(w, x1, y1, x2, y2)]
+
+
 def regular(n, x, y, d, first=0):
     """Corners on the circle of diameter d about (x, y), the first one at the angle `first`."""
     out = []
@@ -110,7 +123,8 @@ COUNTS = {1: (5, 6), 2: (8,), 20: (8,), 21: (7,), 22: (7,), 5: (7,)}
 
 
 def figures(body, parameters, scale):
-    """The real shapes of a macro's body: ("disc", centre, radius), ("convex", corners) or ("outline", corners), turned, in u."""
+    """The real shapes of a macro's body, turned, in u: ("disc", centre, radius), ("line", start, end, width) of whole numbers,
+    ("convex", corners) or ("outline", corners)."""
     variables = {k + 1: value for k, value in enumerate(parameters)}
     for word in body:
         word = re.sub(r"\s", "", word)
@@ -143,7 +157,7 @@ def primitive(values, scale):
     kind, corners = "convex", None
     if code in (2, 20):
         if sized(u[2]) and u[3:5] != u[5:7]:
-            corners = vector_line(*u[2:7])
+            return exposed(values[1], line(*u[2:7], turn))
     elif code == 21:
         if sized(u[2]) and sized(u[3]):
             corners = rectangle(u[4] - u[2] / 2, u[5] - u[3] / 2, u[4] + u[2] / 2, u[5] + u[3] / 2)
@@ -199,8 +213,8 @@ def outline(values, u):
 def bounds_of(figure):
     if figure[0] == "cut":
         return without(figure[1])[:2]
-    if figure[0] == "disc":
-        return disc_bounds(figure[1], figure[2])
+    if figure[0] in ("disc", "line"):
+        return (disc_bounds if figure[0] == "disc" else line_bounds)(*figure[1:])
     return (convex_bounds if figure[0] == "convex" else polygon_bounds)(figure[1])
 
 
@@ -212,6 +226,20 @@ def without(figures_in_order):
         objects.append(Object(figure[0] != "off", (low, high), n))
         lost += figure[0] != "off" and not low
     return (*whole(objects), lost)
+
+
+def rows(figures_in_order):
+    """Of figures that `between` reads, as they stand or as slanted lines, how many pieces of both sides each has; else None."""
+    told = [row(*figure) for figure in figures_in_order]
+    return None if None in told else told
+
+
+def row(kind, *parts):
+    if kind == "line":
+        return (len(line_bounds(*parts)[0]), 1) if parts[2] % 2 == 0 else None
+    if kind == "disc":
+        return (1, 1) if whole_corners(parts[:1])[1] and parts[1].denominator == 1 else None
+    return (1, 1) if kind in ("convex", "outline") and whole_corners(parts[0])[1] else None
 
 
 def macro_bounds(body, parameters, scale):

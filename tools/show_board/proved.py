@@ -1,10 +1,9 @@
-"""Whether the program takes both boards of a board as its bounds: its command `between`, where all copper outside the profile is arc draws.
+"""Whether the program takes both boards of a board as its bounds: its command `between`, where it reads all copper outside the profile.
 
-It reads the user's files with their arcs, and tests of each piece of the board that it lies between those that stand for it. A
-file of counts says how many stand for each; nothing trusts it.
+It reads the user's files with their arcs and macros, and tests of each piece of the board that it lies between those that stand for
+it. A file of counts says how many stand for each; nothing trusts it.
 """
 import copy
-from collections import Counter
 from itertools import groupby
 from operator import itemgetter
 
@@ -18,15 +17,13 @@ ANSWERS = {0: "agrees", 1: "differs", UNDECIDED: "undecided"}
 FIRST_LINE = "boardnet-bounds 1\n"
 
 
-def counts(manifest, sides, low, high):
-    """How many pieces of both boards stand for each piece of the board: of an arc draw, and each copy of it, those of its command."""
-    arcs = [sides.arcs[name] for name in manifest.copper] + [()] * len(manifest.drills)
-    below, above = (own_commands(its.report, manifest, origin).sources for its, origin in zip((low, high), sides.sources))
-    lower, told = Counter(source[:3] for source in below if source[1] in arcs[source[0]]), []
-    for key, its in groupby(above, itemgetter(0, 1, 2)):
-        many = sum(1 for _ in its)
-        told += [f"{lower[key]} {many}\n"] if key[1] in arcs[key[0]] else ["1 1\n"] * many
-    return FIRST_LINE + "".join(told)
+def counts(manifest, sides, high):
+    """How many pieces of both boards stand for each piece of the board: of a command that is written otherwise, and each copy, its rows."""
+    rows = [sides.rows[name] for name in manifest.copper] + [{}] * len(manifest.drills)
+    above, told = own_commands(high.report, manifest, sides.sources[1]).sources, []
+    for (file, command, _), its in groupby(above, itemgetter(0, 1, 2)):
+        told += rows[file].get(command) or [(1, 1) for _ in its]
+    return FIRST_LINE + "".join(f"{below} {over}\n" for below, over in told)
 
 
 def side_manifest(files, side, package, changed):
@@ -41,23 +38,23 @@ def side_manifest(files, side, package, changed):
     return name
 
 
-def asked(program, package, low, high):
+def asked(program, package, high):
     """What the program answers on the board between both."""
     files, sides = package.changed(beside(package, "proved")), package.sides
     words = [side_manifest(files, side, its, origin) for side, its, origin in zip(("lower", "upper"), sides.packages, sides.sources)]
     name = files.free_name("counts", ".txt")
-    files.put(name, counts(package.manifest, sides, low, high).encode())
+    files.put(name, counts(package.manifest, sides, high).encode())
     return program.between(files, *words, name)
 
 
 def told(program, package, answer, ties):
     """The answer on a board between two bounds, with the word where the program takes them."""
-    if not answer.sides or answer.status not in ANSWERS or None in package.sides.arcs.values():
+    if not answer.sides or answer.status not in ANSWERS or None in package.sides.rows.values():
         return answer
-    _, low, high = package.between
-    if low.report.sources is None or high.report.sources is None:
+    *_, high = package.between
+    if high.report.sources is None:
         return answer
-    its = asked(program, package, low, high)
+    its = asked(program, package, high)
     if its.status not in (0, 1):
         return answer
     said = its.out.decode("ascii", "replace").split("\n")[-2:][0]

@@ -52,7 +52,7 @@ class Files(unittest.TestCase):
             ("a number of over 60 digits", [f"%AMA*1,1,{'1' * 5000},0,0*%", *macro]), ("a number of over 60 digits", [f"%ADD10C,{'1' * 5000}*%"]),
             ("a number of over 60 digits", [f"%SRX2Y1I{'1' * 5000}J0*%"]), ("a number of over 60 digits", [f"%LR{'1' * 5000}*%"]),
             ("no expression", [f"%AMA*1,1,${'1' * 5000},0,0*%", *macro]), ("no expression", [f"%AMA*${'1' * 5000}=1*1,1,1,0,0*%", *macro]),
-            ("a line of nearly no length", [f"%AMA*20,1,.1,0,0,{'.' + '0' * 40}1,0,0*%", *macro]),
+            ("a line of nearly no length", [f"%AMA*20,1,.1,0,0,{'.' + '0' * 40}1,{'.' + '0' * 40}1,0*%", *macro]),
             ("a number of over 1000 bits", ["%AMA*" + "$1=0.123456789*" + "$1=$1x$1*" * 20 + "1,1,$1,0,0*%", *macro]),
         ]
         for words, lines in rows:
@@ -247,7 +247,8 @@ class Packages(made.Case):
         ("round macro", ["%AMA*", "1,1,0.4,0,0*%", "%ADD10A*%", "D10*", "X1000000Y-3D03*"]),
         ("inches", ["%ADD10C,0.01*%", "D10*", "X1000000Y0D02*", "Y2000000D01*"]),
         ("steps", ["%ADD10O,1.0X0.4*%", "%SRX3Y2I2.0J3.0*%", "D10*", "X0Y0D03*", "%SR*%", "X5Y5D03*"]),
-        ("turned macros", ["%AMA*", "21,1,0.4,0.2,0.1,0,90*", "4,1,3,0,0,.1,0,.1,.1,0,0,180*", "20,1,.2,0,0,.3,0,0*", "1,1,$1+$1,0,0*%", "%ADD10A,0.1*%", "D10*", "X5Y6D03*"]),
+        ("turned macros", ["%AMA*", "21,1,0.4,0.2,0.1,0,90*", "4,1,3,0,0,.1,0,.1,.1,0,0,180*", "20,1,.2,0,0,.3,0,0*", "20,1,.2,.3,0,0,0,90*", "20,1,.2,0,0,0,.3,180*", "20,1,.2,0,.3,0,0,0*",
+                           "1,1,$1+$1,0,0*%", "%ADD10A,0.1*%", "D10*", "X5Y6D03*"]),
     ]
 
     def test_as_flattened(self):

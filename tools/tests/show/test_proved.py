@@ -1,4 +1,4 @@
-"""Bounds that the program takes: what `show` asks of `between` where all copper outside the profile is arc draws, and what it says then."""
+"""Bounds that the program takes: what `show` asks of `between` where it reads all copper outside the profile, and what it says then."""
 import os
 import subprocess
 import unittest
@@ -15,6 +15,10 @@ from show_board.ties import Ties, tie
 
 HEAD = ["%FSLAX46Y46*%", "%MOMM*%", "G75*", "%ADD10C,0.2*%", "%ADD11C,1.0*%", "%ADD12R,1.0X0.4*%", "%ADD13C,0.0002*%", "D10*"]
 HALF = ["X1000000Y0D02*", "G03X-1000000Y0I-1000000J0D01*", "G01*"]
+LINES = ["%AMA*", "20,1,0.2,1,0,2,1,0*", "20,1,$1+$1,1,-2,0,-3,90*", "1,1,$1,-1,2,270*", "20,1,0,0,0,1,2,0*", "20,1,0.2,-2,1,-3,0,0*%", "%ADD20A,0.1*%"]
+PAD = ["%AMRoundRect*", "0 by thirty degrees*", "4,1,4,$2,$3,$4,$5,$6,$7,$8,$9,$2,$3,0*", *(f"1,1,$1+$1,${k},${k + 1}*" for k in (2, 4, 6, 8)),
+       *(f"20,1,$1+$1,${k},${k + 1},${m},${m + 1},0*" for k, m in ((2, 4), (4, 6), (6, 8))), "20,1,$1+$1,$8,$9,$2,$3,0*%",
+       "%ADD20RoundRect,0.25X-0.433X-0.583X0.733X0.083X0.433X0.583X-0.733X-0.083*%"]
 A, B = record("A", "J1.1", 1, 0), record("A", "J1.2", -1, 0)
 
 
@@ -55,6 +59,14 @@ class Asked(made.Case):
         self.assertEqual([program.texts[0], *program.texts[1:3]], [
             of_text(more["m.json"].encode()).text(), *(of_text(more["m.json"].replace("top.gbr", f"{side}.gbr").encode()).text() for side in ("lower", "upper"))])
 
+    def test_counts_of_macros(self):
+        """A line for each primitive that has copper, in their order; thin lines have nothing below."""
+        macro = ["%AMA*", "1,1,0.4,1,0*", "20,1,0.2,0,0,0.3,0.4,90*", "20,1,0,0,0,1,1,0*", "21,1,0.4,0.2,0,0,0*", "20,1,0.0000002,0,0,0.3,0.5,0*", "20,1,.2,1,0,0,0,0*%", "%ADD20A*%", "%AMB*", "1,1,0,0,0*%", "%ADD21B*%"]
+        program = Recorder(Answer(3, b"", "no"))
+        self.told(program, [*macro, *HALF, "D20*", "%SRX2Y1I9.0J0*%", "X0Y0D03*", "%SR*%", "D21*", "X1000000Y1000000D03*", "D11*", "X9000000Y9000000D03*"], [A, B])
+        half, flash = " ".join(str(self.links(side, 21)) for side in ("lower", "upper")), ["1 1", "1 1", "1 1", "0 1", "1 1"]
+        self.assertEqual(program.texts[3], "\n".join(["boardnet-bounds 1", half, *flash, *flash, "1 1", ""]))
+
     def links(self, side, number):
         """How many draws of a side are of a command of the top."""
         copper = bounds.sides_of(Package(None, self.path("board")), "top.gbr")
@@ -78,6 +90,8 @@ class Asked(made.Case):
         """Where other copper is outside the profile, in any file; and where there is nothing to ask."""
         rows = [["%ADD14C,0.0000003*%"], ["%LPC*%", "D11*", "X9000000Y0D03*"], ["D12*", "X0Y5000000D02*", "X1Y5000001D01*"], ["%LR90*%", "D11*", "X9000000Y0D03*"],
                 ["G36*", "X9000000Y0D02*", "G03X9000000Y0I1000000J0D01*", "G37*"], ["X0Y0D03*", "X5Y5*"],
+                ["%AMA*", "20,1,0.2,0,0,0.3,0.4,30*%", "%ADD14A*%", "D14*", "X0Y5000000D03*"], ["%AMA*", "20,1,0.0000003,0,0,0.3,0.4,0*%", "%ADD14A*%", "D14*", "X0Y5000000D03*"],
+                ["%AMA*", "1,1,0.2,0,0*", "1,0,0.1,0,0*%", "%ADD14A*%", "D14*", "X0Y5000000D03*"], ["%AMA*", "1,1,0.2,0,0*%", "%ADD14A*%", "D14*", "%LS2*%", "X0Y5000000D03*"],
                 ["%ADD14C,1X0.2*%", "D14*", "X0Y5000000D03*"], ["%ABD15*%", "D11*", "X9000000Y0D03*", "%AB*%", "D15*", "X0Y0D03*"]]
         for lines in rows:
             program = Recorder()
@@ -114,6 +128,9 @@ class Taken(made.Case):
         ("nearer than the bounds", [*HALF, "D11*", "X0Y1600200D03*"], [A, B, record("B", "J2.1", 0, 1.6002)], "undecided"),
         ("copies, figures", ["%SRX2Y2I0.5J0*%", *HALF, "D12*", "X0Y5000000D03*", "%SR*%", *made.region((0, 7), (1, 7), (0, 8))], [A, B], "agrees"),
         ("inches", ["%LPD*%", *HALF], [A, B], "agrees"),
+        ("slanted lines", [*LINES, "D20*", "X0Y0D03*"], [record("A", "J1.1", 1.9, .9), record("A", "J1.2", 1.1, .1), record("B", "J2.1", -2.1, .9), record("B", "J2.2", -2.9, .1)], "agrees"),
+        ("a short by a slanted line", [*LINES, "D20*", "X0Y0D03*"], [record("A", "J1.1", 1.9, .9), record("B", "J2.1", 1.1, .1)], "differs"),
+        ("turned pads of KiCad", [*PAD, *HALF, "D20*", "%SRX2Y1I5.0J0*%", "X1000000Y0D03*", "%SR*%"], [A, B, record("A", "J1.3", 1.5, .65), record("B", "J2.1", 6, 0)], "agrees"),
     ]
 
     def test_rows(self):
@@ -127,9 +144,10 @@ class Taken(made.Case):
                 self.assertEqual((status, out.split(" (lower")[0].split(":")[1], notes), (statuses[word], f" {word}, between two bounds, proved", ""), out)
 
     def test_kept_out(self):
-        """What is not taken, and said without the word: an arc that has no place, and one that `show` alone reads."""
+        """What is not taken, and said without the word: an arc that has no place, and an arc and a primitive that `show` alone reads."""
         program = having_between()
-        for lines in (["X1000000Y0D02*", "G03X-1000000Y0I0J0D01*"], ["X1000000Y0D02*", "G03X-1000000Y0I-1000000J0D01*", "I1J1*"]):
+        for lines in (["X1000000Y0D02*", "G03X-1000000Y0I0J0D01*"], ["X1000000Y0D02*", "G03X-1000000Y0I-1000000J0D01*", "I1J1*"],
+                      [*HALF, "%AMA*", "5,1,4,0,0,2.0,0*%", "%ADD20A*%", "D20*", "X0Y0D03*"]):
             self.board({"m.json": manifest(), "top.gbr": "\n".join([*HEAD, *lines, "M02*", ""]), "n.ipc": netlist(A, B)})
             _, out, _ = self.show("board", program=program)
             self.assertEqual(("between two bounds" in out, "proved" in out), (True, False), out)
