@@ -1,4 +1,4 @@
-"""Made packages whose copper outside the profile is arc draws alone, and how many of them `between` takes, by what `show` says."""
+"""Made packages whose copper outside the profile `between` reads, and how many of them it takes, by what `show` says."""
 import json
 import math
 import os
@@ -6,6 +6,7 @@ import random
 import subprocess
 import sys
 import tempfile
+from collections import Counter
 
 from bounds_files import FORMATS
 
@@ -23,12 +24,13 @@ def is_meant(centre, start, end):
 
 
 class Layer:
-    """A copper file: figures, arc draws of every kind, blocks. `arcs` counts these draws; lengths are counted in the file's units."""
+    """A copper file: figures, arc draws of every kind, macros with slanted lines, blocks. `arcs` counts the draws, and `made`
+    what else of the file is outside the profile; lengths are counted in the file's units."""
 
     def __init__(self, rng, arcs, most=METRE // 20):
-        self.rng, self.arcs, (digits, unit, self.unit) = rng, 0, rng.choice(FORMATS)
+        self.rng, self.arcs, self.made, (digits, unit, self.unit) = rng, 0, Counter(), rng.choice(FORMATS)
         self.scale, self.most = 254 * 10 ** 6 if unit == "IN" else 10 ** 7, most // self.unit
-        self.lines = [f"%FSLAX{digits}Y{digits}*%", f"%MO{unit}*%", *self.apertures(), "G01*"]
+        self.lines = [f"%FSLAX{digits}Y{digits}*%", f"%MO{unit}*%", *self.apertures(), *self.macros(), "G01*"]
         while self.arcs < arcs:
             self.block() if rng.random() < .03 else self.object()
         self.lines += ["G01*", "M02*"]
@@ -52,7 +54,7 @@ class Layer:
         self.lines.append(f"{before}X{spot[0]}Y{spot[1]}{behind}D0{code}*")
 
     def object(self):
-        self.rng.choice((self.arc, self.arc, self.arc, self.arc, self.draw, self.flash, self.area))()
+        self.rng.choice((self.arc, self.arc, self.arc, self.arc, self.draw, self.flash, self.area, self.macro))()
 
     def block(self):
         gap = self.rng.randrange(1, 10 ** 7) * self.step() / self.scale
@@ -80,6 +82,32 @@ class Layer:
         for spot in [*rest, first]:
             self.go(spot, 1)
         self.lines.append("G37*")
+
+    # ---- macros
+
+    def length(self, most):
+        """A place or half a size for a macro."""
+        return self.step() * self.rng.randint(1, most // self.step())
+
+    def macros(self):
+        """Macros of slanted lines and other primitives, by quarter turns."""
+        for k in range(40, 50):
+            yield f"%AMM{k}*"
+            words = [self.primitive(10 ** self.rng.randint(3, 7)) for _ in range(self.rng.randrange(1, 5))]
+            yield from (f"{word},{90 * self.rng.randrange(4)}*" for word in words[:-1])
+            yield from (f"{words[-1]},{90 * self.rng.randrange(4)}*%", f"%ADD{k}M{k},0.1*%")
+
+    def primitive(self, size):
+        text = lambda u: f"{u / self.scale:.7f}"
+        w, x, y, dx, dy = (self.length(size) * self.rng.choice((-1, 1)) for _ in range(5))
+        w, end = 2 * abs(w), self.rng.choice(((x + dx, y + dy),) * 4 + ((x + dx, y), (x, y + dy)))
+        return self.rng.choice((f"20,1,{text(w)},{text(x)},{text(y)},{text(end[0])},{text(end[1])}",) * 3 + (
+            f"1,1,{text(w)},{text(x)},{text(y)}", f"21,1,{text(w)},{text(2 * abs(dx))},{text(x)},{text(y)}", "20,1,0,0,0,0.1,0.1"))
+
+    def macro(self):
+        self.pick(40, 49)
+        self.go(self.place(), 3)
+        self.made["flashes of macros"] += 1
 
     # ---- arcs
 
@@ -133,7 +161,7 @@ class Layer:
 
 
 def package(rng, folder, arcs):
-    """A package of two layers, a through drill file and two points; how many arc draws it has."""
+    """A package of two layers, a through drill file and two points; how many arc draws it has, and what else outside the profile."""
     layers = [Layer(rng, arcs // 2) for _ in "tb"]
     files = {f"{k}.gbr": its.text() for k, its in enumerate(layers)}
     files["d.drl"] = "\n".join(["M48", "METRIC", "T1C0.3", "%", "T1", *(f"X{rng.uniform(-40, 40):.4f}Y{rng.uniform(-40, 40):.4f}" for _ in range(9)), "M30", ""])
@@ -143,12 +171,12 @@ def package(rng, folder, arcs):
     for name, text in files.items():
         with open(os.path.join(folder, name), "w", encoding="ascii") as file:
             file.write(text)
-    return sum(its.arcs for its in layers)
+    return sum((its.made for its in layers), Counter({"arc draws": sum(its.arcs for its in layers)}))
 
 
 def tried(packages, seed, arcs=100):
     """Prints how many packages are taken; 1 where one is not."""
-    taken, count = 0, 0
+    taken, count = 0, Counter()
     for number in range(packages):
         with tempfile.TemporaryDirectory() as folder:
             count += package(random.Random(f"{seed} {number}"), folder, arcs)
@@ -158,5 +186,5 @@ def tried(packages, seed, arcs=100):
             taken += 1
         else:
             print(f"not taken: package {number} of seed {seed}: {said}")
-    print(f"{taken} of {packages} packages taken, {count} arc draws")
+    print(f"{taken} of {packages} packages taken: {', '.join(f'{many} {what}' for what, many in count.items())}")
     return 0 if taken == packages else 1
