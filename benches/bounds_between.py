@@ -24,8 +24,8 @@ def is_meant(centre, start, end):
 
 
 class Layer:
-    """A copper file: figures, arc draws of every kind, macros with slanted lines, blocks. `arcs` counts the draws, and `made`
-    what else of the file is outside the profile; lengths are counted in the file's units."""
+    """A copper file: figures, arc draws of every kind, macros with slanted lines, regions with arcs, blocks. `arcs` counts the draws, and
+    `made` what else of the file is outside the profile; lengths are counted in the file's units."""
 
     def __init__(self, rng, arcs, most=METRE // 20):
         self.rng, self.arcs, self.made, (digits, unit, self.unit) = rng, 0, Counter(), rng.choice(FORMATS)
@@ -54,7 +54,7 @@ class Layer:
         self.lines.append(f"{before}X{spot[0]}Y{spot[1]}{behind}D0{code}*")
 
     def object(self):
-        self.rng.choice((self.arc, self.arc, self.arc, self.arc, self.draw, self.flash, self.area, self.macro))()
+        self.rng.choice((self.arc, self.arc, self.arc, self.arc, self.draw, self.flash, self.area, self.macro, self.bent))()
 
     def block(self):
         gap = self.rng.randrange(1, 10 ** 7) * self.step() / self.scale
@@ -83,7 +83,7 @@ class Layer:
             self.go(spot, 1)
         self.lines.append("G37*")
 
-    # ---- macros
+    # ---- macros and regions
 
     def length(self, most):
         """A place or half a size for a macro."""
@@ -108,6 +108,33 @@ class Layer:
         self.pick(40, 49)
         self.go(self.place(), 3)
         self.made["flashes of macros"] += 1
+
+    def bent(self):
+        """Boxes whose corners are rounded outwards or inwards, or not, either way round, in one region."""
+        self.lines += ["G75*", "G36*"]
+        for _ in range(self.rng.randrange(1, 4)):
+            (x, y), parts = self.place(), self.box()
+            self.go((parts[0][0] + x, parts[0][1] + y), 2, "G01")
+            last = parts[0]
+            for centre, end, way in parts[1:]:
+                word, offset = ("G01", "") if centre is None else ("G03" if way else "G02", f"I{centre[0] - last[0]}J{centre[1] - last[1]}")
+                self.go((end[0] + x, end[1] + y), 1, word, offset)
+                last = end
+            self.made["contours with arcs"] += any(part[0] for part in parts[1:])
+        self.lines += ["G37*", "G01*"]
+
+    def box(self):
+        """A spot, and parts (centre or None, end, counterclockwise); over 9 u wide."""
+        rng, r = self.rng, 9 + int(10 ** self.rng.uniform(0, math.log10(self.most // 4)))
+        w, h = (r + rng.choice((0, 1, rng.randrange(1, 4 * r))) for _ in "xy")
+        parts = [((r, 0), None, True)]
+        for inner, outer, first, last in (((w, r), (w + r, 0), (w, 0), (w + r, r)), ((w, h), (w + r, h + r), (w + r, h), (w, h + r)),
+                                          ((r, h), (0, h + r), (r, h + r), (0, h)), ((r, r), (0, 0), (0, r), (r, 0))):
+            parts += [(first, None, True), (last, *rng.choice(((inner, True), (inner, True), (outer, False), (None, True))))]
+        if rng.random() < .5:       # the other way round
+            spots = [spot for spot, _, _ in parts]
+            parts = [(spots[-1], None, True), *((spot, centre, not way) for spot, (_, centre, way) in zip(spots[-2::-1], parts[:0:-1]))]
+        return [parts[0][0], *((centre, spot, way) for spot, centre, way in parts[1:])]
 
     # ---- arcs
 

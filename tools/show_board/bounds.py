@@ -41,13 +41,14 @@ class Bounded(NamedTuple):
 class Sides(NamedTuple):
     """The two packages of a board, with the words' sources by side and file, and what is left out below. `rows` are by file those of
     the commands that `between` reads, None where a file has other copper outside the profile; `unlike` are the commands that make
-    other copper on both sides."""
+    other copper on both sides; `is_bent` says that regions with arcs are among those of `rows`."""
 
     packages: tuple
     sources: tuple
     left_out: list
     rows: dict
     unlike: dict
+    is_bent: bool
 
 
 def is_outside(line):
@@ -62,21 +63,23 @@ def outline_of(package):
     return negative.outline_of(negative.profile_of(package.home or package.folder), texts, lambda text: two_sides.Copper(text, cuts=True).objects)
 
 
-def sides_of(package, name):
+def sides_of(package, name, is_coarse=False):
     from . import two_sides     # most boards have no bounds, and loading takes longer than a small board
     try:
-        return two_sides.of_text(package.read(name).decode("latin-1"), lambda: outline_of(package))
+        return two_sides.of_text(package.read(name).decode("latin-1"), lambda: outline_of(package), is_coarse)
     except Refused as why:
         raise Refused(f"{name}: {why}") from None
     except Exception as fault:
         raise fault_of(package.told_path(name), fault) from fault
 
 
-def of_package(package):
-    """Both sides of each copper file that holds something outside the profile; the others are the same files."""
-    files, sources, left_out, rows, unlike, replaced = ({}, {}), ({}, {}), [], {}, {}, 0
+def of_package(package, is_coarse=False):
+    """Both sides of each copper file that holds something outside the profile; the others are the same files. Coarse ones have areas
+    within regions as `between` wants them."""
+    files, sources, left_out, rows, unlike, replaced, is_bent = ({}, {}), ({}, {}), [], {}, {}, 0, False
     for name in dict.fromkeys(package.manifest.copper):
-        copper = sides_of(package, name)
+        copper = sides_of(package, name, is_coarse)
+        is_bent = is_bent or copper.is_bent
         left_out += [f"{name}: {what}" for what in copper.lost]
         replaced += copper.replaced
         rows[name] = copper.rows if copper.replaced == len(copper.rows) else None
@@ -89,7 +92,7 @@ def of_package(package):
     if not replaced:
         raise Refused("nothing in the copper files is of a kind that has bounds")
     made = tuple(package.changed(beside(package, side), data) for side, data in zip(SIDES, files))
-    return Sides(made, sources, left_out, rows, unlike)
+    return Sides(made, sources, left_out, rows, unlike, is_bent)
 
 
 def both_judged(program, sides):

@@ -5,12 +5,15 @@ chords' area and the real one do not share lies in them: so the area with these 
 them lies in it. Where all arcs are exact, contours within or round it that need no draws are tried first.
 """
 from functools import lru_cache
+from typing import NamedTuple
 
-from .arcs import Arc, arc_chain
+from .arcs import Arc, arc_chain, goes_once
 from .contours import contour_bound
 from .exact import Refused
+from .insets import inset, quarter_chain, quarter_radius
 from .rounds import polygon
 from .side import FLASH, MOVE, edges_of
+from .spots import cross, dot
 from .sweep import Sweep
 
 MOST_EDGES = 100_000        # of a contour, in the profile
@@ -38,83 +41,137 @@ class Regions:
         self.contours[-1].append((centre, self.spot, anticlockwise))
 
     def end_region(self):
-        contours, self.contours, grown = self.contours, None, []
+        contours, self.contours = self.contours, None
         if self.passes():
             return
-        written = [[], []]
-        for contour in contours:
-            if len(contour) > 1:
-                for runs, more in zip(written, self.contour(contour, grown)):
-                    runs += more
-        both = [[("area", run[:-1]) for run in runs] for runs in written] if self.is_noted() else [(), ()]
+        made = [self.contour(contour) for contour in contours if len(contour) > 1]
+        is_bent = any(it.is_bent for it in made)
+        if is_bent:
+            rows = [it.row for it in made]
+            self.stands(None if None in rows else rows)
+        both = [[("area", run[:-1]) for it in made for run in it.runs[k]] for k in (0, 1)] if self.is_noted() else [(), ()]
+        grown = [piece for it in made for piece in it.grown]
         if self.stays(both[0], [*both[1], *grown]):
-            self.write_region(contours, written, grown)
-        elif any(run[0] != run[-1] or len(run) < 4 for runs in written for run in runs):
+            for its in [[it] for it in made] if is_bent else [made]:
+                self.write_region(its)
+        elif any(run[0] != run[-1] or len(run) < 4 for it in made for runs in it.runs for run in runs):
             raise Refused("a contour that is not closed")
-        if any(len(run) > MOST_EDGES for runs in written for run in runs):
+        if any(len(run) > MOST_EDGES for it in made for runs in it.runs for run in runs):
             self.long.add(self.number)
         for side in self.sides:
             side.at = None
 
-    def write_region(self, contours, written, grown):
-        edges = {key: edges_of(run) for key, run in {id(run): run for runs in written for run in runs}.items()}     # most are of both sides
-        if grown or [*map(id, written[0])] != [*map(id, written[1])]:
+    def write_region(self, made):
+        """Contours, and behind them the draws that widen the upper ones."""
+        runs, grown = [[run for it in made for run in it.runs[k]] for k in (0, 1)], [piece for it in made for piece in it.grown]
+        edges = {key: edges_of(run) for key, run in {id(run): run for its in runs for run in its}.items()}      # most are of both sides
+        if grown or [*map(id, runs[0])] != [*map(id, runs[1])]:
             self.unlike.add(self.number)
-        for side, runs in zip(self.sides, written):
-            if runs or not contours:
+        for side, its in zip(self.sides, runs):
+            if its or not made:
                 side.word("G36*", self.number)
-                for run in runs:
+                for run in its:
                     side.run(run, self.number, edges[id(run)])
                 side.word("G37*", self.number)
             side.at = None
         self.sides[1].pieces(grown, (0, 0), self.number)
 
-    def contour(self, contour, grown):
-        """The runs of places of a contour on both sides; draws that widen the upper one come to `grown`."""
+    def contour(self, contour):
+        """What stands for a contour on both sides."""
         if all(len(part) == 2 for part in contour):
-            return [contour], [contour]
+            return Contour(([contour], [contour]), [], False, (1, 1))
         x, y = contour[0]
         by = lambda spot: (spot[0] + x, spot[1] + y)
         back = lambda spot: spot and (spot[0] - x, spot[1] - y)
-        inner, outer, wide, closed = rounded_contour(tuple(back(part) if len(part) == 2 else (back(part[0]), back(part[1]), part[2]) for part in contour), self.cuts)
-        self.replaced += 1
-        grown += [("capsule", by(a), by(b), most) for _, a, b, most in wide]
-        if not closed:
-            return [[*map(by, outer)]], [[*map(by, outer)]]
-        if not inner:
+        made = rounded_contour(tuple(back(part) if len(part) == 2 else (back(part[0]), back(part[1]), part[2]) for part in contour), self.cuts, self.is_coarse)
+        self.is_bent = self.is_bent or made.is_read
+        grown = [("capsule", by(a), by(b), most) for _, a, b, most in made.wide]
+        if not made.is_closed:
+            run = [*map(by, made.outer)]
+            return Contour(([run], [run]), grown, True, None)
+        if not made.inner:
             self.lose(f"a contour with arcs of the region at command {self.number}")
         run = lambda corners: [*map(by, corners), by(corners[0])]
-        return [run(corners) for corners in inner], [run(outer)] if outer else []
+        runs = [run(corners) for corners in made.inner], [run(made.outer)] if made.outer else []
+        return Contour(runs, grown, True, (len(runs[0]), 1 + len(grown)) if made.is_read else None)
+
+
+class Contour(NamedTuple):
+    """What stands for a contour: runs of places on both sides, draws that widen the upper ones, whether it has arcs, and where `between`
+    reads it how many pieces both sides have."""
+
+    runs: tuple
+    grown: list
+    is_bent: bool
+    row: tuple
+
+
+class Rounded(NamedTuple):
+    """Corners of areas within a contour with arcs, corners round it, draws that widen these, whether it is closed and `between` reads it."""
+
+    inner: tuple
+    outer: list
+    wide: list
+    is_closed: bool = True
+    is_read: bool = False
+
+
+class Walked:
+    """The parts of a contour, with chains in place of arcs: `outline`, `spots` of that without edges of no length; `coarse` with chains of
+    quarter turns, and how far each of its edges is from its part at most."""
+
+    def __init__(self, contour):
+        self.outline, self.spots, self.coarse, self.parts = ([contour[0]] for _ in range(4))
+        self.keeps, self.wide, self.is_exact = [], [], True
+        for part in contour[1:]:
+            if len(part) == 2 or part[0] is None:
+                self.go(part if len(part) == 2 else part[1])
+            else:
+                self.turn(*part)
+
+    def go(self, end):
+        self.outline.append(end)
+        if end != self.spots[-1]:
+            self.parts.append(end)
+            self.spots.append(end)
+            self.coarse.append(end)
+            self.keeps.append(0)
+
+    def turn(self, centre, end, anticlockwise):
+        start = self.spots[-1]
+        first, last = (start, end) if anticlockwise else (end, start)
+        chain, most = arc_chain(centre, first, last)
+        is_even = dot(centre, start, start) == dot(centre, end, end)
+        self.is_exact = self.is_exact and is_even and goes_once(lambda p, q: cross(centre, p, q), chain)
+        self.wide += [("capsule", a, b, most) for a, b in zip(chain, chain[1:])]
+        chain, turns = (its if anticlockwise else its[::-1] for its in (chain, quarter_chain(centre, first, last)))
+        self.outline += chain[1:]
+        self.spots += [spot for k, spot in enumerate(chain[1:]) if spot != chain[k]]
+        self.coarse += turns[1:]
+        self.keeps += [quarter_radius(centre, start)] * (len(turns) - 1)
+        self.parts.append((centre, start, end, anticlockwise))
+
+    def bound(self, upper):
+        """The corners of an area within the contour, or round it, where its arcs are exact; None where none is found."""
+        return contour_bound([Arc(*part) if len(part) == 4 else part for part in self.parts], upper) if self.is_exact else None
 
 
 @lru_cache(1000)
-def rounded_contour(contour, cuts):
-    """(corners of areas within it, corners round it, draws that widen these, whether it is closed) of a contour with arcs."""
-    spots, parts, wide, exact = [contour[0]], [contour[0]], [], True
-    for part in contour[1:]:
-        start = spots[-1]
-        if len(part) == 2 or part[0] is None:
-            end = part if len(part) == 2 else part[1]
-            if end != start:
-                spots.append(end)
-                parts.append(end)
-            continue
-        centre, end, anticlockwise = part
-        chain, most = arc_chain(centre, *((start, end) if anticlockwise else (end, start)))
-        chain = chain if anticlockwise else chain[::-1]
-        wide += [("capsule", a, b, most) for a, b in zip(chain, chain[1:])]
-        spots += [spot for k, spot in enumerate(chain[1:]) if spot != chain[k]]
-        arc = Arc(centre, start, end, anticlockwise)
-        parts.append(arc)
-        exact = exact and arc.is_exact
-    if spots[0] != spots[-1]:
-        return (), spots, wide, False
-    corners = spots[:-1]
+def rounded_contour(contour, cuts, is_coarse):
+    """What lies within and round a contour with arcs. `between` reads one of at least three parts whose arcs are exact; it wants one area
+    within that is clear of its edges, or none."""
+    it = Walked(contour)
+    corners = it.spots[:-1]
+    if it.spots[0] != it.spots[-1]:
+        return Rounded((), it.spots, it.wide, False)
     if len(corners) < 3:
-        return (), (), wide, True
-    inner = contour_bound(parts, False) if exact else None
-    outer = contour_bound(parts, True) if exact and cuts else None
-    return (inner,) if inner else without(corners, wide), outer or corners, [] if outer else wide, True
+        return Rounded((), (), it.wide)
+    is_read = it.is_exact and len(contour) > 3
+    if is_read and is_coarse:
+        found = inset(it.coarse[:-1], it.keeps)
+        return Rounded((found,) if found else (), it.outline[:-1], it.wide, True, True)
+    inner, outer = it.bound(False), it.bound(True) if cuts else None
+    return Rounded((inner,) if inner else without(corners, it.wide), outer or corners, [] if outer else it.wide, True, is_read)
 
 
 def without(corners, wide):

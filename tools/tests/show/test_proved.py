@@ -67,6 +67,27 @@ class Asked(made.Case):
         half, flash = " ".join(str(self.links(side, 21)) for side in ("lower", "upper")), ["1 1", "1 1", "1 1", "0 1", "1 1"]
         self.assertEqual(program.texts[3], "\n".join(["boardnet-bounds 1", half, *flash, *flash, "1 1", ""]))
 
+    def test_counts_of_regions(self):
+        """A line for each contour of a region, which has one area below, or none where it is small."""
+        bent = ["X2000000Y0D02*", "X3000000Y0D01*", "X3000000Y1000000D01*", "G03X2000000Y0I0J-1000000D01*", "G01*"]
+        small = ["X7000000Y0D02*", "X7000001Y0D01*", "G03X7000000Y1I-1J0D01*", "G01X7000000Y0D01*"]
+        square = ["X7000000Y0D02*", *(f"X{x}000000Y{y}000000D01*" for x, y in ((8, 0), (8, 1), (7, 0)))]
+        program = Recorder(Answer(3, b"", "no"))
+        self.told(program, [*HALF, "G36*", *square, *bent, *small, *square, "G37*", "D11*", "X9000000Y9000000D03*"], [A, B])
+        (_, (low, high), (least, few), _) = bounds.of_package(Package(of_text(manifest().encode()), self.path("board")), True).rows["top.gbr"][30]
+        self.assertEqual((low, high > 9, least, few > 2), (1, True, 0, True))
+        half = " ".join(str(self.links(side, 10)) for side in ("lower", "upper"))
+        self.assertEqual(program.texts[3], "\n".join(["boardnet-bounds 1", half, "1 1", f"{low} {high}", f"{least} {few}", "1 1", "1 1", ""]))
+
+    def test_smaller_areas(self):
+        """With regions the word is said where the smaller areas within them say the same, and a weaker answer is none."""
+        bent = ["G36*", "X0Y0D02*", "X2000000Y0D01*", "G03X0Y2000000I-2000000J0D01*", "G01X0Y0D01*", "G37*"]
+        text = "boardnet-between 1\nreal 1\ncertain\nopens 0\nshorts {}\nmissing 0\nundecided\nopens 0\nshorts 0\nmissing 0\n{}\n"
+        for records, shorts, word, is_said in (("AA", 0, "agrees", True), ("AA", 0, "undecided", False), ("AB", 1, "differs", True), ("AB", 0, "differs", False)):
+            program = Recorder(Answer(int(word != "agrees"), text.format(shorts, word).encode(), ""))
+            told = self.told(program, bent, [record(name, f"J1.{k}", .5, .5 + k * .1) for k, name in enumerate(records)])
+            self.assertEqual(("proved" in told.line, told._replace(line="")), (is_said, self.bounded._replace(line="")))
+
     def links(self, side, number):
         """How many draws of a side are of a command of the top."""
         copper = bounds.sides_of(Package(None, self.path("board")), "top.gbr")
