@@ -61,7 +61,8 @@ class Asked(made.Case):
 
     def test_counts_of_macros(self):
         """A line for each primitive that has copper, in their order; thin lines have nothing below."""
-        macro = ["%AMA*", "1,1,0.4,1,0*", "20,1,0.2,0,0,0.3,0.4,90*", "20,1,0,0,0,1,1,0*", "21,1,0.4,0.2,0,0,0*", "20,1,0.0000002,0,0,0.3,0.5,0*", "20,1,.2,1,0,0,0,0*%", "%ADD20A*%", "%AMB*", "1,1,0,0,0*%", "%ADD21B*%"]
+        macro = ["%AMA*", "1,1,0.4,1,0*", "20,1,0.2,0,0,0.3,0.4,90*", "20,1,0,0,0,1,1,0*", "21,1,0.4,0.2,0,0,0*", "20,1,0.0000002,0,0,0.3,0.5,0*",
+                 "20,1,.2,1,0,0,0,0*%", "%ADD20A*%", "%AMB*", "1,1,0,0,0*%", "%ADD21B*%"]
         program = Recorder(Answer(3, b"", "no"))
         self.told(program, [*macro, *HALF, "D20*", "%SRX2Y1I9.0J0*%", "X0Y0D03*", "%SR*%", "D21*", "X1000000Y1000000D03*", "D11*", "X9000000Y9000000D03*"], [A, B])
         half, flash = " ".join(str(self.links(side, 21)) for side in ("lower", "upper")), ["1 1", "1 1", "1 1", "0 1", "1 1"]
