@@ -16,6 +16,9 @@ from show_board.ties import Ties, tie
 HEAD = ["%FSLAX46Y46*%", "%MOMM*%", "G75*", "%ADD10C,0.2*%", "%ADD11C,1.0*%", "%ADD12R,1.0X0.4*%", "%ADD13C,0.0002*%", "D10*"]
 HALF = ["X1000000Y0D02*", "G03X-1000000Y0I-1000000J0D01*", "G01*"]
 LINES = ["%AMA*", "20,1,0.2,1,0,2,1,0*", "20,1,$1+$1,1,-2,0,-3,90*", "1,1,$1,-1,2,270*", "20,1,0,0,0,1,2,0*", "20,1,0.2,-2,1,-3,0,0*%", "%ADD20A,0.1*%"]
+ROUNDED = ["G36*", "X500000Y0D02*", "X1500000Y0D01*", "G03X2000000Y500000I0J500000D01*", "G01X2000000Y1000000D01*", "G03X1500000Y1500000I-500000J0D01*",
+           "G01X500000Y1500000D01*", "G02X0Y1000000I-500000J0D01*", "G01X0Y500000D01*", "G03X500000Y0I500000J0D01*", "G01*",
+           "X7000000Y0D02*", "X8000000Y0D01*", "X8000000Y1000000D01*", "X7000000Y0D01*", "G37*"]
 PAD = ["%AMRoundRect*", "0 by thirty degrees*", "4,1,4,$2,$3,$4,$5,$6,$7,$8,$9,$2,$3,0*", *(f"1,1,$1+$1,${k},${k + 1}*" for k in (2, 4, 6, 8)),
        *(f"20,1,$1+$1,${k},${k + 1},${m},${m + 1},0*" for k, m in ((2, 4), (4, 6), (6, 8))), "20,1,$1+$1,$8,$9,$2,$3,0*%",
        "%ADD20RoundRect,0.25X-0.433X-0.583X0.733X0.083X0.433X0.583X-0.733X-0.083*%"]
@@ -61,7 +64,8 @@ class Asked(made.Case):
 
     def test_counts_of_macros(self):
         """A line for each primitive that has copper, in their order; thin lines have nothing below."""
-        macro = ["%AMA*", "1,1,0.4,1,0*", "20,1,0.2,0,0,0.3,0.4,90*", "20,1,0,0,0,1,1,0*", "21,1,0.4,0.2,0,0,0*", "20,1,0.0000002,0,0,0.3,0.5,0*", "20,1,.2,1,0,0,0,0*%", "%ADD20A*%", "%AMB*", "1,1,0,0,0*%", "%ADD21B*%"]
+        macro = ["%AMA*", "1,1,0.4,1,0*", "20,1,0.2,0,0,0.3,0.4,90*", "20,1,0,0,0,1,1,0*", "21,1,0.4,0.2,0,0,0*", "20,1,0.0000002,0,0,0.3,0.5,0*",
+                 "20,1,.2,1,0,0,0,0*%", "%ADD20A*%", "%AMB*", "1,1,0,0,0*%", "%ADD21B*%"]
         program = Recorder(Answer(3, b"", "no"))
         self.told(program, [*macro, *HALF, "D20*", "%SRX2Y1I9.0J0*%", "X0Y0D03*", "%SR*%", "D21*", "X1000000Y1000000D03*", "D11*", "X9000000Y9000000D03*"], [A, B])
         half, flash = " ".join(str(self.links(side, 21)) for side in ("lower", "upper")), ["1 1", "1 1", "1 1", "0 1", "1 1"]
@@ -152,6 +156,7 @@ class Taken(made.Case):
         ("slanted lines", [*LINES, "D20*", "X0Y0D03*"], [record("A", "J1.1", 1.9, .9), record("A", "J1.2", 1.1, .1), record("B", "J2.1", -2.1, .9), record("B", "J2.2", -2.9, .1)], "agrees"),
         ("a short by a slanted line", [*LINES, "D20*", "X0Y0D03*"], [record("A", "J1.1", 1.9, .9), record("B", "J2.1", 1.1, .1)], "differs"),
         ("turned pads of KiCad", [*PAD, *HALF, "D20*", "%SRX2Y1I5.0J0*%", "X1000000Y0D03*", "%SR*%"], [A, B, record("A", "J1.3", 1.5, .65), record("B", "J2.1", 6, 0)], "agrees"),
+        ("regions with arcs", ROUNDED, [record("A", "J1.1", 1, .5), record("A", "J1.2", .5, 1), record("B", "J2.1", 7.5, .4)], "agrees"),
     ]
 
     def test_rows(self):
