@@ -10,7 +10,7 @@ use Rattle.gerber_layer.specs.MacroLayer.{loose as loose_words}
 use Rattle.gerber_layer.specs.declared.macro_kind.FlattenKind.{FlattenKind}
 use Rattle.arc_layer.specs.Marks.{AreMarks, IsBendRefused}
 use Rattle.arc_layer.specs.Real.{HasOneRealAnswer, IsRealCopper, IsRealRefused, PlainReal, by_bend, by_straight, real_piece}
-use Rattle.arc_layer.specs.declared.mark.Mark.{Mark}
+use Rattle.arc_layer.specs.Marks.{PlainMark}
 use Rattle.arc_layer.specs.declared.kind.RealKind.{RealKind}
 use Rattle.arc_layer.specs.declared.kind.RealKind.TheVariants.{Copper}
 use Rattle.arc_layer.proofs.Refusals.{HasOneBendAnswer, one_bend_answer}
@@ -29,7 +29,7 @@ refused_first file p straight bends kind number place own n at h k = by (nat_lt 
 some_answer : (file : List ℕ) (p : Place) → HasOneAnswerBy loose_words file p → HasOneBendAnswer file → ((pieces : List PlainReal) × IsRealCopper file p pieces) ⊎ Refusal file p
 some_answer file p straight bends = by straight.some_answer bends.some_answer
   where
-    by : ((pieces : List PlainPiece) × IsReadBy loose_words file p pieces) ⊎ ((why : FlattenKind) × (number : ℕ) × (place : ℕ) × IsRefusedBy loose_words file p why number place) → ((b : ℕ → Option Mark) × AreMarks file b) ⊎ ((why : RealKind) × (number : ℕ) × (place : ℕ) × IsBendRefused file why number place) → ((pieces : List PlainReal) × IsRealCopper file p pieces) ⊎ Refusal file p
+    by : ((pieces : List PlainPiece) × IsReadBy loose_words file p pieces) ⊎ ((why : FlattenKind) × (number : ℕ) × (place : ℕ) × IsRefusedBy loose_words file p why number place) → ((b : ℕ → Option PlainMark) × AreMarks file b) ⊎ ((why : RealKind) × (number : ℕ) × (place : ℕ) × IsBendRefused file why number place) → ((pieces : List PlainReal) × IsRealCopper file p pieces) ⊎ Refusal file p
     by (inl s) (inl b) = inl (map (real_piece b.0) s.0, record { straight = s.0; marks = b.0; read = s.1; marked = b.1; are = refl })
     by (inl s) (inr b) = inr (b.0, b.1, b.2, by_bend b.0 b.1 b.2 b.3 (λ other m q r. absurd (straight.not_both s.0 other m q s.1 r)))
     by (inr s) (inl b) = inr (Copper s.0, s.1, s.2, by_straight s.0 s.1 s.2 s.3 (λ other m q r. absurd (bends.not_both b.0 other m q b.1 r)))
@@ -39,7 +39,7 @@ one_value : (file : List ℕ) (p : Place) → HasOneAnswerBy loose_words file p 
 one_value file p straight bends pieces others h k =
     h.are ∙
     ap (λ (v : List PlainPiece). map (real_piece h.marks) v) (straight.one_value h.straight k.straight h.read k.read) ∙
-    ap (λ (b : ℕ → Option Mark). map (real_piece b) k.straight) (bends.one_value h.marks k.marks h.marked k.marked) ∙
+    ap (λ (b : ℕ → Option PlainMark). map (real_piece b) k.straight) (bends.one_value h.marks k.marks h.marked k.marked) ∙
     sym k.are
 
 not_both : (file : List ℕ) (p : Place) → HasOneAnswerBy loose_words file p → HasOneBendAnswer file → (pieces : List PlainReal) (why : RealKind) (number place : ℕ) → IsRealCopper file p pieces → IsRealRefused file p why number place → ⊥

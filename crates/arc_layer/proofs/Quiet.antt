@@ -1,19 +1,20 @@
 -- Words that say nothing of arcs, and begin no macro, make no marks.
-use Rattle.std.proofs.Common.{◌≡◌, ℕ, ◌+◌, ◌==◌, Bool, true, false, cond, ◌&&◌, ◌||◌, not, nat_eq, List, [], ◌∷◌, length, Option, Some, None, Ok, Result, refl, sym, ap, ◌∙◌, subst, arith}
+use Rattle.std.specs.List.{list_any}
+use Rattle.std.proofs.lemmas.List.Folds.{list_any-append}
+use Rattle.std.proofs.Common.{is_some, ◌≡◌, ℕ, ◌+◌, ◌==◌, Bool, true, false, cond, ◌&&◌, ◌||◌, not, nat_eq, List, [], ◌∷◌, length, Option, Some, None, Ok, Result, refl, sym, ap, ◌∙◌, subst, arith}
 use mathlib.Core.Path.{fun_ext}
 use Rattle.file_reading.specs.LookingBack.{latest}
 use Rattle.file_reading.specs.Reading.{IsRead, IsReadTo, Item, said}
 use Rattle.file_reading.proofs.Turning.{read-start, read-more}
 use Rattle.gerber_words.specs.Words.{Ahead, Entry, Stop, HasWords, start}
 use Rattle.gerber_words.specs.Items.{word_item, stop_item, items_with}
-use Rattle.gerber_layer.specs.Command.{Command, operates}
+use Rattle.gerber_layer.specs.Command.{Command, operates, opens_region, closes_region}
 use Rattle.gerber_layer.specs.CommandEffects.{code_of}
 use Rattle.gerber_layer.specs.WordCommands.{behind, number_in}
 use Rattle.gerber_layer.specs.declared.command.Code.{Code}
 use Rattle.gerber_layer.specs.declared.command.Code.TheVariants.{Draw, Move, Flash}
 use Rattle.arc_layer.specs.Bends.{command_bend, curve_of, operation_by}
-use Rattle.arc_layer.specs.Marks.{AreSayings, HasNoMarks, flashes, mark_behind, marked, marks_in, ok_mark}
-use Rattle.arc_layer.specs.declared.mark.Mark.{Mark}
+use Rattle.arc_layer.specs.Marks.{AreSayings, HasNoMarks, PlainMark, closes, contour_mark, edge_by, edges_before, edges_by, flashes, mark_behind, mark_by, marked, marks_in, ok_bend, ok_mark}
 use Rattle.arc_layer.specs.declared.kind.RealKind.{RealKind}
 use Rattle.arc_layer.specs.State.{state_before}
 use Rattle.arc_layer.specs.Words.{IsQuiet, Saying, begins_offset, curve_in, from_offsets, is_line, is_quiet, plain, saying, stop_saying}
@@ -83,21 +84,46 @@ no_flash other s none = refl
 pub record Still (earlier : List Saying) : Type 0 where
   pub line : (state_before earlier).curve ≡ Line
   pub macros : (state_before earlier).macros ≡ false
+  pub edges : list_any is_some (edges_before earlier) ≡ false
   pub none : (n : ℕ) → marks_in earlier n ≡ None
 
-no_more : (b : Bool) (mark : Option Mark) (earlier : Option Mark) → mark ≡ None → earlier ≡ None → cond b mark earlier ≡ None
+no_more : (b : Bool) (mark : Option PlainMark) (earlier : Option PlainMark) → mark ≡ None → earlier ≡ None → cond b mark earlier ≡ None
 no_more true mark earlier h k = h
 no_more false mark earlier h k = k
+
+-- no edge is an arc
+unmarked : (closed : Bool) (edges : List (Option Bend)) → list_any is_some edges ≡ false → cond closed (contour_mark edges) (mark_by None false) ≡ None
+unmarked true edges none = rw none refl
+unmarked false edges none = refl
+
+edge_none : (code : Code) (inside : Bool) (edges : List (Option Bend)) → list_any is_some edges ≡ false → list_any is_some (edge_by code inside edges None) ≡ false
+edge_none Draw true edges none = list_any-append is_some edges (None ∷ []) ∙ rw none refl
+edge_none Draw false edges none = none
+edge_none Move true edges none = refl
+edge_none Move false edges none = none
+edge_none Flash inside edges none = none
+
+edges_none : (c : Command) (inside : Bool) (edges : List (Option Bend)) → list_any is_some edges ≡ false → list_any is_some (edges_by c inside edges None) ≡ false
+edges_none (operates x y code) inside edges none = edge_none (code_of code) inside edges none
+edges_none opens_region inside edges none = refl
+edges_none closes_region inside edges none = refl
+edges_none other inside edges none = none
 
 mark_none : (earlier : List Saying) (w : Saying) → Still earlier → IsQuiet w → mark_behind earlier w ≡ Ok None
 mark_none earlier w s q =
     let state = state_before earlier in
-    ap (λ (r : Result (Option Bend) RealKind). marked r (flashes w.command state)) (quiet_bend w.command state w s.line q) ∙ ap (λ (b : Bool). marked (Ok None) b) (no_flash w.command state s.macros)
+    let edges = edges_before earlier in
+    ap (λ (r : Result (Option Bend) RealKind). marked r (closes w.command state) edges (flashes w.command state)) (quiet_bend w.command state w s.line q)
+    ∙ ap (λ (b : Bool). marked (Ok None) (closes w.command state) edges b) (no_flash w.command state s.macros)
+    ∙ ap (λ (m : Option PlainMark). Ok m) (unmarked (closes w.command state) edges s.edges)
 
 still : (earlier : List Saying) (w : Saying) → Still earlier → IsQuiet w → Still (w ∷ earlier)
 still earlier w s q = record {
   line = ap (λ (c : Curve). latest w.curve c) s.line ∙ q.line;
   macros = ap (λ (b : Bool). b || (state_before earlier).macros) q.names ∙ s.macros;
+  edges =
+      let e : edges_before (w ∷ earlier) ≡ edges_by w.command (state_before earlier).region (edges_before earlier) None = ap (λ (r : Result (Option Bend) RealKind). edges_by w.command (state_before earlier).region (edges_before earlier) (ok_bend r)) (quiet_bend w.command (state_before earlier) w s.line q) in
+      ap (λ (xs : List (Option Bend)). list_any is_some xs) e ∙ edges_none w.command (state_before earlier).region (edges_before earlier) s.edges;
   none = λ n. no_more (length earlier + 1 == n) (ok_mark (mark_behind earlier w)) (marks_in earlier n) (ap ok_mark (mark_none earlier w s q)) (s.none n);
 }
 
@@ -107,7 +133,7 @@ pub record StillTo (all earlier rest : List (Item Saying)) : Type 0 where
   pub still : Still (said earlier)
 
 pub still_start : (all : List (Item Saying)) → StillTo all [] all
-still_start all = record { read = read-start mark_behind all; still = record { line = refl; macros = refl; none = λ n. refl } }
+still_start all = record { read = read-start mark_behind all; still = record { line = refl; macros = refl; edges = refl; none = λ n. refl } }
 
 pub still_more : (all earlier rest : List (Item Saying)) (item : Item Saying) → StillTo all earlier (item ∷ rest) → IsQuiet item.says → StillTo all (item ∷ earlier) rest
 still_more all earlier rest item s q = record {

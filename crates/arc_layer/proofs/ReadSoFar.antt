@@ -8,20 +8,25 @@ use Rattle.file_reading.proofs.Turning.{read-start, read-more, read-fault}
 use Rattle.gerber_words.specs.Words.{Ahead, Entry, Stop, ended, broken, HasWords, start}
 use Rattle.gerber_words.specs.Items.{word_item, stop_item, items_with}
 use Rattle.gerber_words.specs.Laws.{HasOneReadingAhead}
-use Rattle.arc_layer.specs.Marks.{AreMarks, AreSayings, AreShort, IsShortMark, IsBendRefused, mark_behind, mark_of, marks_in, ok_mark}
+use Rattle.arc_layer.specs.Marks.{AreMarks, AreSayings, AreShort, PlainMark, IsShortMark, IsBendRefused, edges_before, edges_behind, mark_behind, mark_of, marks_in, ok_mark}
 use Rattle.arc_layer.specs.Reading.{Takes, marks_so_far}
 use Rattle.arc_layer.specs.State.{state_before, state_behind}
 use Rattle.arc_layer.specs.Words.{Saying, saying, stop_saying}
 use Rattle.arc_layer.specs.declared.marks.Reader.{Reader}
-use Rattle.arc_layer.specs.declared.mark.Mark.{Mark}
+use Rattle.arc_layer.specs.declared.draws.Bend.{Bend}
 use Rattle.arc_layer.specs.declared.kind.RealKind.{RealKind}
 use Rattle.arc_layer.specs.declared.state.State.{State}
 
 -- what the reader keeps is what looking back finds
 pub record Knows (earlier : List Saying) (r : Reader) : Type 0 where
   pub state : r.state ≡ state_before earlier
+  pub edges : r.edges.items ≡ edges_before earlier
   pub marks : (n : ℕ) → marks_so_far r n ≡ marks_in earlier n
   pub counts : r.commands ≡ length earlier
+
+-- the reader's mark of a word is that behind the history
+behind : (earlier : List Saying) (w : Saying) (r : Reader) → Knows earlier r → mark_of r.state r.edges.items w ≡ mark_behind earlier w
+behind earlier w r k = ap (λ (s : State). mark_of s r.edges.items w) k.state ∙ ap (λ (e : List (Option Bend)). mark_of (state_before earlier) e w) k.edges
 
 -- the file is read to these words
 pub record ReadToWords (file : List ℕ) (earlier : List (Item Saying)) (words : List Entry) (stop : Stop) : Type 0 where
@@ -35,11 +40,11 @@ pub record ReadSoFar (file : List ℕ) (a : Ahead) (r : Reader) : Type 0 where
   pub extends : (words : List Entry) (stop : Stop) → HasWords a words stop → ReadToWords file earlier words stop
   pub knows : Knows (said earlier) r
 
-pub nothing-read : (file : List ℕ) (r : Reader) → r.state ≡ state_before [] → ((n : ℕ) → marks_so_far r n ≡ None) → r.commands ≡ 0 → ReadSoFar file (start file) r
-nothing-read file r state marks none = record {
+pub nothing-read : (file : List ℕ) (r : Reader) → r.state ≡ state_before [] → r.edges.items ≡ [] → ((n : ℕ) → marks_so_far r n ≡ None) → r.commands ≡ 0 → ReadSoFar file (start file) r
+nothing-read file r state edges marks none = record {
   earlier = [];
   extends = λ words stop h. record { all = items_with saying stop_saying (length file) words stop; are = record { words = words; stop = stop; cut = h; are = refl }; read = read-start mark_behind _ };
-  knows = record { state = state; marks = marks; counts = none };
+  knows = record { state = state; edges = edges; marks = marks; counts = none };
 }
 
 -- no command has a mark that does not stand yet
@@ -52,13 +57,13 @@ none_later (w ∷ earlier) n h = by (length earlier + 1 == n) refl (none_later e
     by false is none = none
 
 -- the marks with one word more
-one_more : (earlier : List Saying) (w : Saying) (mark : Option Mark) (r r' : Reader) (n : ℕ) → Knows earlier r → Takes r w r' → marks_so_far r' n ≡ marks_in (w ∷ earlier) n
+one_more : (earlier : List Saying) (w : Saying) (mark : Option PlainMark) (r r' : Reader) (n : ℕ) → Knows earlier r → Takes r w r' → marks_so_far r' n ≡ marks_in (w ∷ earlier) n
 one_more earlier w mark r r' n k t = subst (λ m. marks_so_far r' n ≡ cond (m + 1 == n) (ok_mark (mark_behind earlier w)) (marks_in earlier n)) k.counts (t.marks n ∙ by t.mark (r.commands + 1 == n) refl has)
   where
     has : ok_mark (mark_behind earlier w) ≡ t.mark
-    has = subst (λ (s : State). ok_mark (mark_of s w) ≡ t.mark) k.state (ap ok_mark t.clean)
+    has = ap ok_mark (sym (behind earlier w r k) ∙ t.clean)
 
-    by : (b : Option Mark) (at : Bool) → (r.commands + 1 == n) ≡ at → ok_mark (mark_behind earlier w) ≡ b → cond (is_some b && at) b (marks_so_far r n) ≡ cond at (ok_mark (mark_behind earlier w)) (marks_in earlier n)
+    by : (b : Option PlainMark) (at : Bool) → (r.commands + 1 == n) ≡ at → ok_mark (mark_behind earlier w) ≡ b → cond (is_some b && at) b (marks_so_far r n) ≡ cond at (ok_mark (mark_behind earlier w)) (marks_in earlier n)
     by (Some x) true is h = sym h
     by (Some x) false is h = k.marks n
     by None true is h = k.marks n ∙ none_later earlier n (let c = k.counts in grind (arith, is, c)) ∙ sym h
@@ -67,12 +72,13 @@ one_more earlier w mark r r' n k t = subst (λ m. marks_so_far r' n ≡ cond (m 
 pub knows-more : (earlier : List Saying) (w : Saying) (r r' : Reader) → Knows earlier r → Takes r w r' → Knows (w ∷ earlier) r'
 knows-more earlier w r r' k t = record {
   state = t.state ∙ ap (λ (s : State). state_behind s w) k.state;
+  edges = t.edges ∙ ap (λ (s : State). edges_behind s r.edges.items w) k.state ∙ ap (λ (e : List (Option Bend)). edges_behind (state_before earlier) e w) k.edges;
   marks = λ n. one_more earlier w t.mark r r' n k t;
   counts = let a = t.counts in let b = k.counts in omega (arith, a, b);
 }
 
 takes-ok : (earlier : List Saying) (w : Saying) (r r' : Reader) → Knows earlier r → Takes r w r' → IsOk (mark_behind earlier w)
-takes-ok earlier w r r' k t = let g : mark_behind earlier w ≡ Ok t.mark = subst (λ (s : State). mark_of s w ≡ Ok t.mark) k.state t.clean in rw g refl
+takes-ok earlier w r r' k t = let g : mark_behind earlier w ≡ Ok t.mark = sym (behind earlier w r k) ∙ t.clean in rw g refl
 
 -- a word that was taken
 pub word-read : (file : List ℕ) (old new : Ahead) (w : Entry) (r r' : Reader) → ReadSoFar file old r → ((words : List Entry) (stop : Stop) → HasWords new words stop → HasWords old (w ∷ words) stop) → Takes r (saying w) r' → ReadSoFar file new r'
@@ -85,11 +91,11 @@ word-read file old new w r r' s next t = record {
 }
 
 -- a word that stops the reader
-pub word-fault : ((a : Ahead) → HasOneReadingAhead a) → (file : List ℕ) (old new : Ahead) (w : Entry) (r : Reader) (kind : RealKind) (number : ℕ) → ReadSoFar file old r → ((words : List Entry) (stop : Stop) → HasWords new words stop → HasWords old (w ∷ words) stop) → number ≡ r.commands + 1 → mark_of r.state (saying w) ≡ Err kind → IsBendRefused file kind number w.at
+pub word-fault : ((a : Ahead) → HasOneReadingAhead a) → (file : List ℕ) (old new : Ahead) (w : Entry) (r : Reader) (kind : RealKind) (number : ℕ) → ReadSoFar file old r → ((words : List Entry) (stop : Stop) → HasWords new words stop → HasWords old (w ∷ words) stop) → number ≡ r.commands + 1 → mark_of r.state r.edges.items (saying w) ≡ Err kind → IsBendRefused file kind number w.at
 word-fault one file old new w r kind number s next is h =
     let more = one new in
     let x = s.extends (w ∷ more.words) more.stop (next more.words more.stop more.is) in
-    let why : mark_behind (said s.earlier) (saying w) ≡ Err kind = subst (λ (t : State). mark_of t (saying w) ≡ Err kind) s.knows.state h in
+    let why : mark_behind (said s.earlier) (saying w) ≡ Err kind = sym (behind (said s.earlier) (saying w) r s.knows) ∙ h in
     let counted : number ≡ length s.earlier + 1 = is ∙ ap (λ (k : ℕ). k + 1) (s.knows.counts ∙ length-map s.earlier (λ i. i.says)) in
     let refused = read-fault mark_behind x.all s.earlier (items_with saying stop_saying (length file) more.words more.stop) (word_item saying w) kind x.read why in
     (x.all, x.are, subst (λ (k : ℕ). IsRefused mark_behind x.all kind k w.at) (sym counted) refused)
@@ -107,7 +113,7 @@ pub stop-none : (earlier : List Saying) (stop : Stop) (n : ℕ) → marks_in (st
 stop-none earlier ended n = idle earlier n (length earlier + 1 == n) refl
 stop-none earlier (broken fault at) n = idle earlier n (length earlier + 1 == n) refl
 
-pub stop-read : (file : List ℕ) (old : Ahead) (stop : Stop) (r : Reader) (marks : ℕ → Option Mark) → ReadSoFar file old r → HasWords old [] stop → ((n : ℕ) → marks n ≡ marks_so_far r n) → AreMarks file marks
+pub stop-read : (file : List ℕ) (old : Ahead) (stop : Stop) (r : Reader) (marks : ℕ → Option PlainMark) → ReadSoFar file old r → HasWords old [] stop → ((n : ℕ) → marks n ≡ marks_so_far r n) → AreMarks file marks
 stop-read file old stop r marks s had same =
     let x = s.extends [] stop had in (
       x.all,
@@ -120,5 +126,5 @@ stop-read file old stop r marks s had same =
     )
 
 -- where there are none, each is short
-pub none_short : (marks : ℕ → Option Mark) → ((n : ℕ) → marks n ≡ None) → AreShort marks
-none_short marks none = λ n. subst (λ (m : Option Mark). IfSome m IsShortMark) (sym (none n)) tt
+pub none_short : (marks : ℕ → Option PlainMark) → ((n : ℕ) → marks n ≡ None) → AreShort marks
+none_short marks none = λ n. subst (λ (m : Option PlainMark). IfSome m IsShortMark) (sym (none n)) tt

@@ -16,7 +16,7 @@ use Rattle.gerber_layer.specs.declared.macro_kind.FlattenFault.TheVariants as la
 use Rattle.arc_layer.specs.Marks.{AreMarks, AreSayings, IsBendFault, IsBendRefused, mark_behind, marks_in}
 use Rattle.arc_layer.specs.Real.{IsRealFault, NoBendBefore, NoneUpTo, by_bend, by_straight, earlier, fault_of, first_fault}
 use Rattle.arc_layer.specs.Words.{saying, stop_saying}
-use Rattle.arc_layer.specs.declared.mark.Mark.{Mark}
+use Rattle.arc_layer.specs.Marks.{PlainMark}
 use Rattle.arc_layer.specs.declared.kind.RealFault.{RealFault}
 use Rattle.arc_layer.specs.declared.kind.RealFault.TheVariants as fault
 use Rattle.arc_layer.specs.declared.kind.RealKind.TheVariants.{Copper}
@@ -49,7 +49,7 @@ earlier_is words one file p kind number place (fault.Refused bent n at) straight
     by false is = by_straight kind number place straight (none is)
 
 -- the straight reading refuses something
-pub first_is : ((a : Ahead) → HasOneReadingAhead a) → ((file : List ℕ) (p : Place) → HasOneAnswerBy loose_words file p) → {B : Type 0} (marks_of : B → ℕ → Option Mark) (file : List ℕ) (p : Place) (straight : FlattenFault) (bends : Result B RealFault) → IsMacroFaultBy loose_words file p straight → IfOk bends (λ b. AreMarks file (marks_of b)) → IfErr bends (IsBendFault file) → IsRealFault file p (first_fault straight (fault_of bends))
+pub first_is : ((a : Ahead) → HasOneReadingAhead a) → ((file : List ℕ) (p : Place) → HasOneAnswerBy loose_words file p) → {B : Type 0} (marks_of : B → ℕ → Option PlainMark) (file : List ℕ) (p : Place) (straight : FlattenFault) (bends : Result B RealFault) → IsMacroFaultBy loose_words file p straight → IfOk bends (λ b. AreMarks file (marks_of b)) → IfErr bends (IsBendFault file) → IsRealFault file p (first_fault straight (fault_of bends))
 first_is words one marks_of file p layer.NoMemory bends h read refused = tt
 first_is words one marks_of file p (layer.Refused kind number place) (Ok b) h read refused = by_straight kind number place h (λ other n q r. absurd ((one_bend_answer words file).not_both (marks_of b) other n q read r))
 first_is words one marks_of file p (layer.Refused kind number place) (Err why) h read refused = earlier_is words one file p kind number place why h refused

@@ -70,12 +70,12 @@ are_numbers w = is_number_if w.i && is_number_if w.j
 -- The row of an arc: its conditions in order, and its bend.
 unfoldable pub arc_of : State → Saying → Bool → Result (Option Bend) RealKind
 arc_of s w clockwise =
-    unless s.region (gerber kind.Arc) (unless (w.more || not (are_numbers w)) OffsetsAmiss (unless (is_none w.i && is_none w.j) NoOffsets (do
+    unless (w.more || not (are_numbers w)) OffsetsAmiss (unless (is_none w.i && is_none w.j) NoOffsets (do
       quadrants ← needed NoQuadrants s.quadrants
       format ← needed (gerber kind.MissingFormat) s.format
       unit ← needed (gerber kind.MissingUnit) s.unit
       way ← way_of format unit w
-      bend_in quadrants (sought s w clockwise format unit) way)))
+      bend_in quadrants (sought s w clockwise format unit) way))
 
 -- an operation that is no arc has no offsets
 abbrev pub no_bend : Saying → Result (Option Bend) RealKind

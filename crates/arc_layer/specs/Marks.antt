@@ -1,14 +1,15 @@
 -- The marks of a copper file: what its first reading leaves out, by the numbers of its commands.
-use Rattle.std.specs.Prelude.{ℕ, ◌+◌, Bool, true, false, ◌&&◌, ◌==◌, if◌then◌else◌, List, [], ◌∷◌, length, Option, Some, None, Result, Ok, Err, IfSome}
+use Rattle.std.specs.Prelude.{ℕ, ◌+◌, Bool, true, false, ◌&&◌, ◌==◌, if◌then◌else◌, List, [], ◌∷◌, ◌++◌, length, All, Option, Some, None, is_some, Result, Ok, Err, IfSome}
+use Rattle.std.specs.List.{list_any}
 use Rattle.planar.specs.Plane.{IsPlaced}
 use Rattle.file_reading.specs.Reading as reading
 use Rattle.file_reading.specs.Reading.{Item}
 use Rattle.gerber_words.specs.Items as words
-use Rattle.gerber_layer.specs.Command.{Command, operates}
+use Rattle.gerber_layer.specs.Command.{Command, operates, opens_region, closes_region}
 use Rattle.gerber_layer.specs.CommandEffects.{code_of}
 use Rattle.gerber_layer.specs.declared.command.Code.{Code}
 use Rattle.gerber_layer.specs.declared.command.Code.TheVariants.{Draw, Move, Flash}
-use Rattle.arc_layer.specs.Bends.{bend_of}
+use Rattle.arc_layer.specs.Bends.{IsShort, bend_of}
 use Rattle.arc_layer.specs.State.{state_before}
 use Rattle.arc_layer.specs.Words.{Saying, saying, stop_saying}
 use Rattle.arc_layer.specs.declared.draws.Bend.{Bend}
@@ -16,43 +17,97 @@ use Rattle.arc_layer.specs.declared.kind.RealFault.{RealFault}
 use Rattle.arc_layer.specs.declared.kind.RealFault.TheVariants as fault
 use Rattle.arc_layer.specs.declared.kind.RealKind.{RealKind}
 use Rattle.arc_layer.specs.declared.mark.Mark.{Mark}
-use Rattle.arc_layer.specs.declared.mark.Mark.TheVariants as mark
+use Rattle.arc_layer.specs.declared.mark.Mark.TheVariants as seen
 use Rattle.arc_layer.specs.declared.state.State.{State}
+
+-- a mark without where its list lies in memory
+pub data PlainMark : Type 0 where
+  arc : Bend → PlainMark
+  flash : PlainMark
+  contour : List (Option Bend) → PlainMark
+
+abbrev pub plain_mark : Mark → PlainMark
+plain_mark (seen.Arc bend) = arc bend
+plain_mark seen.Flash = flash
+plain_mark (seen.Contour edges) = contour edges.items
 
 abbrev pub is_flash : Code → Bool
 is_flash Draw = false
 is_flash Move = false
 is_flash Flash = true
 
+abbrev pub is_move : Code → Bool
+is_move Draw = false
+is_move Move = true
+is_move Flash = false
+
 -- a flash behind the name of a macro
 abbrev pub flashes : Command → State → Bool
 flashes (operates x y code) s = s.macros && is_flash (code_of code)
 flashes other s = false
 
+-- a contour ends: a move in a region, or the end of the region (4.10)
+abbrev pub closes : Command → State → Bool
+closes (operates x y code) s = s.region && is_move (code_of code)
+closes closes_region s = s.region
+closes other s = false
+
 -- an arc is marked by its bend, and such a flash as one
-abbrev pub mark_by : Option Bend → Bool → Option Mark
-mark_by (Some bend) flash = Some (mark.Arc bend)
-mark_by None true = Some mark.Flash
+abbrev pub mark_by : Option Bend → Bool → Option PlainMark
+mark_by (Some bend) flashed = Some (arc bend)
+mark_by None true = Some flash
 mark_by None false = None
 
-abbrev pub marked : Result (Option Bend) RealKind → Bool → Result (Option Mark) RealKind
-marked (Ok bend) flash = Ok (mark_by bend flash)
-marked (Err why) flash = Err why
+-- the end of a contour with an arc is marked by the bends of its edges
+abbrev pub contour_mark : List (Option Bend) → Option PlainMark
+contour_mark edges = if list_any is_some edges then Some (contour edges) else None
+
+abbrev pub mark_with : Bool → List (Option Bend) → Option Bend → Bool → Option PlainMark
+mark_with closed edges bend flashed = if closed then contour_mark edges else mark_by bend flashed
+
+abbrev pub marked : Result (Option Bend) RealKind → Bool → List (Option Bend) → Bool → Result (Option PlainMark) RealKind
+marked (Ok bend) closed edges flashed = Ok (mark_with closed edges bend flashed)
+marked (Err why) closed edges flashed = Err why
 
 -- The mark of a word, if it has one, or why its arc is refused.
-abbrev pub mark_of : State → Saying → Result (Option Mark) RealKind
-mark_of s w = marked (bend_of s w) (flashes w.command s)
+abbrev pub mark_of : State → List (Option Bend) → Saying → Result (Option PlainMark) RealKind
+mark_of s edges w = marked (bend_of s w) (closes w.command s) edges (flashes w.command s)
+
+-- The bends of the edges of the open contour: none behind `G36`, `G37` and each move of a region, and one more, if it is an arc, behind each draw of a region.
+abbrev pub edge_by : Code → Bool → List (Option Bend) → Option Bend → List (Option Bend)
+edge_by Draw true edges bend = edges ++ bend ∷ []
+edge_by Draw false edges bend = edges
+edge_by Move true edges bend = []
+edge_by Move false edges bend = edges
+edge_by Flash inside edges bend = edges
+
+abbrev pub edges_by : Command → Bool → List (Option Bend) → Option Bend → List (Option Bend)
+edges_by (operates x y code) inside edges bend = edge_by (code_of code) inside edges bend
+edges_by opens_region inside edges bend = []
+edges_by closes_region inside edges bend = []
+edges_by other inside edges bend = edges
+
+abbrev pub ok_bend : Result (Option Bend) RealKind → Option Bend
+ok_bend (Ok bend) = bend
+ok_bend (Err why) = None
+
+abbrev pub edges_behind : State → List (Option Bend) → Saying → List (Option Bend)
+edges_behind s edges w = edges_by w.command s.region edges (ok_bend (bend_of s w))
+
+abbrev pub edges_before : List Saying → List (Option Bend)
+edges_before [] = []
+edges_before (w ∷ earlier) = edges_behind (state_before earlier) (edges_before earlier) w
 
 -- so behind a history
-abbrev pub mark_behind : List Saying → Saying → Result (Option Mark) RealKind
-mark_behind earlier w = mark_of (state_before earlier) w
+abbrev pub mark_behind : List Saying → Saying → Result (Option PlainMark) RealKind
+mark_behind earlier w = mark_of (state_before earlier) (edges_before earlier) w
 
-abbrev pub ok_mark : Result (Option Mark) RealKind → Option Mark
+abbrev pub ok_mark : Result (Option PlainMark) RealKind → Option PlainMark
 ok_mark (Ok mark) = mark
 ok_mark (Err why) = None
 
 -- the marks of a history: that of the command of each number, from 1
-abbrev pub marks_in : List Saying → ℕ → Option Mark
+abbrev pub marks_in : List Saying → ℕ → Option PlainMark
 marks_in [] n = None
 marks_in (w ∷ earlier) n = if length earlier + 1 == n then ok_mark (mark_behind earlier w) else marks_in earlier n
 
@@ -61,7 +116,7 @@ abbrev pub AreSayings : List ℕ → List (Item Saying) → Type 0
 AreSayings file items = words.AreItems saying stop_saying file items
 
 -- no arc of the file has a fault, and these are the marks of its commands
-abbrev pub AreMarks : List ℕ → (ℕ → Option Mark) → Type 0
+abbrev pub AreMarks : List ℕ → (ℕ → Option PlainMark) → Type 0
 AreMarks file marks = (items : List (Item Saying)) × AreSayings file items × reading.IsRead mark_behind marks_in items marks
 
 -- and no command has one
@@ -73,11 +128,12 @@ abbrev pub IsBendRefused : List ℕ → RealKind → ℕ → ℕ → Type 0
 IsBendRefused file kind number place = (items : List (Item Saying)) × AreSayings file items × reading.IsRefused mark_behind items kind number place
 
 -- the way of each bend is at most a metre long in x and y
-abbrev pub IsShortMark : Mark → Type 0
-IsShortMark (mark.Arc bend) = IsPlaced bend.to_centre
-IsShortMark mark.Flash = Unit {0}
+abbrev pub IsShortMark : PlainMark → Type 0
+IsShortMark (arc bend) = IsPlaced bend.to_centre
+IsShortMark flash = Unit {0}
+IsShortMark (contour edges) = All IsShort edges
 
-abbrev pub AreShort : (ℕ → Option Mark) → Type 0
+abbrev pub AreShort : (ℕ → Option PlainMark) → Type 0
 AreShort marks = (n : ℕ) → IfSome (marks n) IsShortMark
 
 -- why there are no marks: the file is refused, or memory is wanted

@@ -1,5 +1,5 @@
 -- Real copper: the pieces of a copper file in which draws may be arcs, and macros may have slanted lines.
-use Rattle.std.specs.Prelude.{◌≡◌, ℕ, ◌*◌, ◌<◌, ◌≤◌, Bool, ◌||◌, not, nat_lt, if◌then◌else◌, List, map, Option, Some, None, unsigned_abs, Result, Ok, Err}
+use Rattle.std.specs.Prelude.{◌≡◌, ℕ, ◌*◌, ◌<◌, ◌≤◌, Bool, ◌||◌, not, nat_lt, if◌then◌else◌, List, [], ◌∷◌, map, Option, Some, None, unsigned_abs, Result, Ok, Err}
 use Rattle.std.specs.Ordering.{int_eq}
 use Rattle.planar.specs.declared.Spot.{Spot}
 use Rattle.board_shapes.specs.Figures.{Figure, Stroke, round, filled, figure_of}
@@ -9,6 +9,7 @@ use Rattle.board_shapes.specs.declared.placed.Placed.{Placed}
 use Rattle.arcs.specs.declared.Arc.{Arc}
 use Rattle.slants.specs.declared.Slant.{Slant}
 use Rattle.arc_regions.specs.declared.Part.{Part}
+use Rattle.arc_regions.specs.declared.Part.TheVariants.{Straight, Curved}
 use Rattle.file_reading.specs.Reading as reading
 use Rattle.gerber_layer.specs.CommandEffects.{Place}
 use Rattle.gerber_layer.specs.Dialect.{IsReadBy, IsRefusedBy}
@@ -16,15 +17,13 @@ use Rattle.gerber_layer.specs.MacroLayer.{loose as loose_words}
 use Rattle.gerber_layer.specs.declared.macro_kind.FlattenFault.{FlattenFault}
 use Rattle.gerber_layer.specs.declared.macro_kind.FlattenFault.TheVariants as layer
 use Rattle.gerber_layer.specs.declared.macro_kind.FlattenKind.{FlattenKind}
-use Rattle.arc_layer.specs.Marks.{AreMarks, IsBendRefused}
+use Rattle.arc_layer.specs.Marks.{AreMarks, IsBendRefused, PlainMark, arc, contour, flash}
 use Rattle.arc_layer.specs.Centres.{moved}
 use Rattle.arc_layer.specs.declared.draws.Bend.{Bend}
 use Rattle.arc_layer.specs.declared.kind.RealFault.{RealFault}
 use Rattle.arc_layer.specs.declared.kind.RealFault.TheVariants as fault
 use Rattle.arc_layer.specs.declared.kind.RealKind.{RealKind}
 use Rattle.arc_layer.specs.declared.kind.RealKind.TheVariants.{Copper}
-use Rattle.arc_layer.specs.declared.mark.Mark.{Mark}
-use Rattle.arc_layer.specs.declared.mark.Mark.TheVariants as mark
 use Rattle.real_shapes.specs.declared.RealShape.{RealShape}
 use Rattle.real_shapes.specs.declared.RealShape.TheVariants as shape
 
@@ -70,22 +69,46 @@ is_slanted s = not (int_eq s.a.x s.b.x || int_eq s.a.y s.b.y)
 abbrev pub slant_of : Stroke → Slant
 slant_of s = record { start = s.a; end = s.b; width = 2 * unsigned_abs s.r }
 
--- A draw with a bend is its arc. A stroke along no axis that a flash makes is the vector line of a macro (Gerber Layer Format Specification,
+-- The region of a contour: between two of its points, the edge straight or by its bend, whose way to the centre leads from the first.
+abbrev pub part_by : Spot → Spot → Option Bend → Part
+part_by p q None = Straight q
+part_by p q (Some b) = Curved (record { centre = moved p b.to_centre; end = q; counterclockwise = not b.clockwise })
+
+abbrev pub first_edge : List (Option Bend) → Option Bend
+first_edge [] = None
+first_edge (e ∷ edges) = e
+
+abbrev pub other_edges : List (Option Bend) → List (Option Bend)
+other_edges [] = []
+other_edges (e ∷ edges) = edges
+
+abbrev pub parts_from : Spot → List Spot → List (Option Bend) → List Part
+parts_from p [] edges = []
+parts_from p (q ∷ points) edges = part_by p q (first_edge edges) ∷ parts_from q points (other_edges edges)
+
+abbrev pub region_by : List Spot → List (Option Bend) → RealFigure
+region_by [] edges = plain (filled [])
+region_by (p ∷ points) edges = curved p (parts_from p points edges)
+
+-- A draw with a bend is its arc, and an area behind the bends of its contour the region that they bound. A stroke along no axis that a flash makes is the vector line of a macro (Gerber Layer Format Specification,
 -- 4.5.1, code 20): other primitives make none, and obrounds run along an axis. Each other figure is what it is.
-abbrev pub with_mark : Option Mark → Figure → RealFigure
-with_mark (Some (mark.Arc b)) (round s) = bent (arc_of b s)
-with_mark (Some mark.Flash) (round s) = if is_slanted s then slanted (slant_of s) else plain (round s)
-with_mark (Some m) (filled points) = plain (filled points)
+abbrev pub with_mark : Option PlainMark → Figure → RealFigure
+with_mark (Some (arc b)) (round s) = bent (arc_of b s)
+with_mark (Some flash) (round s) = if is_slanted s then slanted (slant_of s) else plain (round s)
+with_mark (Some (contour edges)) (round s) = plain (round s)
+with_mark (Some (contour edges)) (filled points) = region_by points edges
+with_mark (Some (arc b)) (filled points) = plain (filled points)
+with_mark (Some flash) (filled points) = plain (filled points)
 with_mark None figure = plain figure
 
 -- a piece of the first reading, with the mark of its command
-abbrev pub real_piece : (ℕ → Option Mark) → PlainPiece → PlainReal
+abbrev pub real_piece : (ℕ → Option PlainMark) → PlainPiece → PlainReal
 real_piece marks p = record { figure = with_mark (marks p.origin.command) p.figure; top = p.top; bottom = p.bottom; origin = p.origin }
 
 -- The real copper of a file: neither reading refuses it, and each piece of the first reading has the mark of its command.
 pub record IsRealCopper (file : List ℕ) (p : Place) (pieces : List PlainReal) : Type 0 where
   pub straight : List PlainPiece
-  pub marks : ℕ → Option Mark
+  pub marks : ℕ → Option PlainMark
   pub read : IsReadBy loose_words file p straight
   pub marked : AreMarks file marks
   pub are : pieces ≡ map (real_piece marks) straight

@@ -1,8 +1,6 @@
 //! The bend of a draw.
 ghost use Rattle.arc_layer.specs.Bends as spec;
 ghost use Rattle.arc_layer.specs.Bends.{IsShort};
-ghost use Rattle.arc_layer.specs.Marks as marks;
-ghost use Rattle.arc_layer.specs.Marks.{IsShortMark};
 ghost use Rattle.arc_layer.specs.Centres.{IsLawfulDraw};
 ghost use Rattle.arc_layer.specs.State.{IsLawfulState};
 ghost use Rattle.arc_layer.specs.Words.{saying_of};
@@ -11,11 +9,10 @@ ghost use Rattle.gerber_layer.specs.CommandEffects as effects;
 ghost use Rattle.gerber_layer.specs.Lawful.{IsLawfulCommand, IsWhole};
 ghost use Rattle.planar.specs.Plane.{IsPlaced, IsReached};
 ghost use Rattle.std.specs.Option.{option_copied};
-ghost use Rattle.std.specs.Prelude.{◌≡◌, ◌≤◌, pos, IfOk, IfSome};
+ghost use Rattle.std.specs.Prelude.{◌≡◌, ◌≤◌, pos, IfOk};
 
 use crate::centres::{Draw, moved, same_spot};
 use crate::kind::{RealKind, gerber};
-use crate::mark::Mark;
 use crate::state::State;
 use crate::words::{Curve, Quadrants, Saying};
 use gerber_layer::{Code, Command, Format, GerberKind, Here, code_of, coordinate, is_number_if};
@@ -106,9 +103,6 @@ fn arc_of(state: &State, word: &Saying, clockwise: bool) -> Result<Option<Bend>,
     ensures value { result ≡ spec.arc_of state.now (saying_of word.now) clockwise }
     ensures short { IfOk result IsShort }
 {
-    if state.region {
-        return Err(gerber(GerberKind::Arc));
-    }
     if word.more || !are_numbers(word) {
         return Err(RealKind::OffsetsAmiss);
     }
@@ -177,8 +171,8 @@ fn operation_by(curve: Curve, state: &State, word: &Saying) -> Result<Option<Ben
     }
 }
 
-// The bend of a word, if it has one, or why it is refused.
-fn bend_of(state: &State, word: &Saying) -> Result<Option<Bend>, RealKind>
+/// The bend of a word, if it has one, or why it is refused.
+pub fn bend_of(state: &State, word: &Saying) -> Result<Option<Bend>, RealKind>
     requires lawful { IsLawfulState state.now }
     requires command { IsLawfulCommand (view word.now.command) }
     ensures value { result ≡ spec.bend_of state.now (saying_of word.now) }
@@ -187,53 +181,5 @@ fn bend_of(state: &State, word: &Saying) -> Result<Option<Bend>, RealKind>
     match word.command {
         Command::Operate(_, _, code) => operation_by(curve_of(code, state, word), state, word),
         _ => Ok(None),
-    }
-}
-
-fn is_flash(code: Code) -> bool
-    ensures { result ≡ marks.is_flash code }
-{
-    match code {
-        Code::Draw => false,
-        Code::Move => false,
-        Code::Flash => true,
-    }
-}
-
-// Whether a command is a flash behind the name of a macro.
-fn flashes(command: &Command, state: &State) -> bool
-    ensures { result ≡ marks.flashes (view command.now) state.now }
-{
-    match *command {
-        Command::Operate(_, _, code) => state.macros && is_flash(code_of(code)),
-        _ => false,
-    }
-}
-
-fn mark_by(bend: Option<Bend>, flash: bool) -> Option<Mark>
-    requires { IsShort bend }
-    ensures value { result ≡ marks.mark_by bend flash }
-    ensures short { IfSome result IsShortMark }
-{
-    match bend {
-        Some(bend) => Some(Mark::Arc(bend)),
-        None => if flash {
-            Some(Mark::Flash)
-        } else {
-            None
-        },
-    }
-}
-
-/// The mark of a word, if it has one, or why its arc is refused.
-pub fn mark_of(state: &State, word: &Saying) -> Result<Option<Mark>, RealKind>
-    requires lawful { IsLawfulState state.now }
-    requires command { IsLawfulCommand (view word.now.command) }
-    ensures value { result ≡ marks.mark_of state.now (saying_of word.now) }
-    ensures short { IfOk result (λ mark. IfSome mark IsShortMark) }
-{
-    match bend_of(state, word) {
-        Ok(bend) => Ok(mark_by(bend, flashes(&word.command, state))),
-        Err(kind) => Err(kind),
     }
 }

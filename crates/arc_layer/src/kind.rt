@@ -9,7 +9,7 @@ use gerber_layer::{FlattenKind, GerberKind};
 /// Specification.
 #[derive(Clone, Copy, Debug, PartialEq, Eq)]
 pub enum RealKind {
-    /// As where no draw is an arc; `Arc` is an arc in a region. A slanted line is none of these.
+    /// As where no draw is an arc and no line slanted; never `Arc` or `Slanted`.
     Copper(FlattenKind),
     /// An arc without `I` and `J` (4.8.2).
     NoOffsets,

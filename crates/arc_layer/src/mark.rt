@@ -1,10 +1,11 @@
 //! The mark of a command.
 use crate::draws::Bend;
 
-/// What the first reading of a command leaves out: that its draw is an arc, or that it is a flash behind the name of a
-/// macro, which alone makes slanted lines.
-#[derive(Clone, Copy, Debug, PartialEq, Eq)]
+/// What the first reading of a command leaves out: that its draw is an arc; that it is a flash behind the name of a macro,
+/// which alone makes slanted lines; or that it ends a contour with arcs, whose edges have these bends, or none.
+#[derive(Drop)]
 pub enum Mark {
     Arc(Bend),
     Flash,
+    Contour(Vec<Option<Bend>>),
 }

@@ -1,24 +1,28 @@
 //! The marks of a file.
-ghost use Rattle.arc_layer.specs.Marks.{AreMarks, AreShort, HasNoMarks, IsBendFault, mark_of as mark_spec};
-ghost use Rattle.arc_layer.specs.Reading.{Takes, marks_of, marks_so_far};
+ghost use Rattle.arc_layer.specs.Bends.{IsShort};
+ghost use Rattle.arc_layer.specs.Marks.{AreMarks, AreShort, HasNoMarks, IsBendFault, IsShortMark, closes, contour_mark, edges_by, flashes, mark_by, mark_of as mark_spec, mark_with, plain_mark};
+ghost use Rattle.arc_layer.specs.Reading.{IsMarked, Takes, marks_of, marks_so_far};
 ghost use Rattle.arc_layer.specs.State.{IsLawfulState, state_before};
 ghost use Rattle.arc_layer.specs.Words.{saying_of};
 ghost use Rattle.gerber_layer.specs.Command.{view};
 ghost use Rattle.gerber_layer.specs.Lawful.{IsLawfulCommand};
 ghost use Rattle.gerber_layer.specs.Reader.{Stops};
-ghost use Rattle.std.specs.Option.{option_copied};
-ghost use Rattle.std.specs.Prelude.{◌≡◌, ◌+◌, ◌^◌, ◌<◌, ◌≤◌, ℕ, true, [], length, IfErr, IfOk, None, OnOk};
+ghost use Rattle.file_reading.specs.declared.halt.Halt.TheVariants as halt;
+ghost use Rattle.std.specs.Prelude.{◌≡◌, ◌+◌, ◌^◌, ◌<◌, ◌≤◌, ◌==◌, ◌&&◌, if◌then◌else◌, ℕ, true, [], All, is_some, length, option_map, IfErr, IfOk, IfSome, None, OnOk};
 
-use crate::draws::mark_of;
+use crate::draws::{Bend, bend_of};
+use crate::edges::{closes, contour_mark, edges_behind, flashes, mark_by};
 use crate::kind::{RealFault, RealKind};
 use crate::mark::Mark;
 use crate::state::{State, at_start};
 use crate::words::{Saying, are_free, is_quiet, read_word};
 use file_reading::Halt;
+use gerber_layer::Command;
 use gerber_words::laws::words_lie_ahead;
 use gerber_words::{Step, Words};
 use std::alloc::Global;
 use std::collections::HashMap;
+use std::mem::replace;
 use texts::MOST_BYTES;
 
 /// The marks of a file, by the numbers of its commands, from 1.
@@ -30,16 +34,17 @@ pub struct Marks {
 impl Marks {
     /// The mark of the command of this number, if it has one.
     pub fn find(&self, command: u32) -> Option<&Mark>
-        ensures { option_copied result ≡ marks_of self.now command }
+        ensures { option_map (λ m. plain_mark m.now) result ≡ marks_of self.now command }
     {
         self.marks.get(&command)
     }
 }
 
-/// What the words of a file so far have set and made; `commands` counts them.
+/// What the words of a file so far have set and made; `commands` counts them. The edges are those of the open contour.
 #[derive(Drop)]
 struct Reader {
     state: State,
+    edges: Vec<Option<Bend>>,
     marks: HashMap<u32, Mark>,
     commands: u32,
 }
@@ -48,35 +53,112 @@ impl Reader {
     fn new(alloc: Global) -> Reader
         ensures state { result.state ≡ state_before [] }
         ensures lawful { IsLawfulState result.state }
+        ensures edges { result.edges.items ≡ [] }
         ensures marks { (n : ℕ) → marks_so_far result n ≡ None }
         ensures commands { result.commands ≡ 0 }
     {
         Reader {
             state: at_start(),
+            edges: Vec::new(alloc),
             marks: HashMap::new(alloc),
             commands: 0,
         }
     }
 
-    // Takes a word. An `Err` leaves a reader that is of no more use.
-    fn take(&mut self, word: &Saying) -> Result<(), Halt<RealKind>>
-        requires lawful { IsLawfulState self.old.state }
-        requires command { IsLawfulCommand (view word.now.command) }
-        requires few { self.old.commands + 1 < 2 ^ 32 }
+    // Puts the mark of the last command, if it has one.
+    fn put(&mut self, mark: Option<Mark>) -> Result<(), Halt<RealKind>>
         requires short { AreShort (marks_so_far self.old) }
-        ensures takes { OnOk result (Takes self.old (saying_of word.now) self.new) }
-        ensures lawful { OnOk result (IsLawfulState self.new.state) }
+        requires mark { IfSome (option_map plain_mark mark) IsShortMark }
+        ensures marked { OnOk result (IsMarked self.old (option_map plain_mark mark) self.new) }
+        ensures edges { self.new.edges ≡ self.old.edges }
         ensures short { OnOk result (AreShort (marks_so_far self.new)) }
-        ensures halt { IfErr result (Stops (mark_spec self.old.state (saying_of word.now))) }
+        ensures halt { IfErr result (λ h. h ≡ halt.NoMemory) }
     {
-        let mark = mark_of(&self.state, word)?;
-        self.commands += 1;
         if let Some(mark) = mark {
             if let Err(_) = self.marks.insert(self.commands, mark) {
                 return Err(Halt::NoMemory);
             }
         }
-        self.state = self.state.behind(word);
+        Ok(())
+    }
+
+    // Ends the open contour.
+    fn close(&mut self, alloc: Global) -> Result<(), Halt<RealKind>>
+        requires short { AreShort (marks_so_far self.old) }
+        requires edges { All IsShort self.old.edges.items }
+        ensures marked { OnOk result (IsMarked self.old (contour_mark self.old.edges.items) self.new) }
+        ensures edges { OnOk result (self.new.edges.items ≡ []) }
+        ensures short { OnOk result (AreShort (marks_so_far self.new)) }
+        ensures halt { IfErr result (λ h. h ≡ halt.NoMemory) }
+    {
+        let edges = replace(&mut self.edges, Vec::new(alloc));
+        self.put(contour_mark(edges))
+    }
+
+    // Goes on with the open contour, if there is one.
+    fn go_on(
+        &mut self,
+        alloc: Global,
+        state: &State,
+        command: &Command,
+        bend: Option<Bend>,
+    ) -> Result<(), Halt<RealKind>>
+        requires short { AreShort (marks_so_far self.old) }
+        requires edges { All IsShort self.old.edges.items }
+        requires bend { IsShort bend }
+        ensures marked { OnOk result (IsMarked self.old (mark_by bend (flashes (view command.now) state.now)) self.new) }
+        ensures edges { OnOk result (self.new.edges.items ≡ edges_by (view command.now) state.now.region self.old.edges.items bend) }
+        ensures short { OnOk result (AreShort (marks_so_far self.new)) }
+        ensures shorts { OnOk result (All IsShort self.new.edges.items) }
+        ensures halt { IfErr result (λ h. h ≡ halt.NoMemory) }
+    {
+        let edges = replace(&mut self.edges, Vec::new(alloc));
+        self.edges = edges_behind(command, state.region, edges, bend)?;
+        self.put(mark_by(bend, flashes(command, state)))
+    }
+
+    // Takes the last command.
+    fn mark(
+        &mut self,
+        alloc: Global,
+        state: &State,
+        command: &Command,
+        bend: Option<Bend>,
+    ) -> Result<(), Halt<RealKind>>
+        requires short { AreShort (marks_so_far self.old) }
+        requires edges { All IsShort self.old.edges.items }
+        requires bend { IsShort bend }
+        ensures marked { OnOk result (IsMarked self.old (mark_with (closes (view command.now) state.now) self.old.edges.items bend (flashes (view command.now) state.now)) self.new) }
+        ensures edges { OnOk result (self.new.edges.items ≡ edges_by (view command.now) state.now.region self.old.edges.items bend) }
+        ensures short { OnOk result (AreShort (marks_so_far self.new)) }
+        ensures shorts { OnOk result (All IsShort self.new.edges.items) }
+        ensures halt { IfErr result (λ h. h ≡ halt.NoMemory) }
+    {
+        if closes(command, state) {
+            self.close(alloc)
+        } else {
+            self.go_on(alloc, state, command, bend)
+        }
+    }
+
+    // Takes a word. An `Err` leaves a reader that is of no more use.
+    fn take(&mut self, alloc: Global, word: &Saying) -> Result<(), Halt<RealKind>>
+        requires lawful { IsLawfulState self.old.state }
+        requires command { IsLawfulCommand (view word.now.command) }
+        requires few { self.old.commands + 1 < 2 ^ 32 }
+        requires short { AreShort (marks_so_far self.old) }
+        requires edges { All IsShort self.old.edges.items }
+        ensures takes { OnOk result (Takes self.old (saying_of word.now) self.new) }
+        ensures lawful { OnOk result (IsLawfulState self.new.state) }
+        ensures short { OnOk result (AreShort (marks_so_far self.new)) }
+        ensures edges { OnOk result (All IsShort self.new.edges.items) }
+        ensures halt { IfErr result (Stops (mark_spec self.old.state self.old.edges.items (saying_of word.now))) }
+    {
+        let state = self.state;
+        let bend = bend_of(&state, word)?;
+        self.commands += 1;
+        self.mark(alloc, &state, &word.command, bend)?;
+        self.state = state.behind(word);
         Ok(())
     }
 }
@@ -122,7 +204,7 @@ pub fn read_marks(alloc: Global, file: &[u8]) -> Result<Marks, RealFault>
         match words.next_word() {
             Step::Word(word) => {
                 let command = reader.commands + 1;
-                match reader.take(&read_word(word)) {
+                match reader.take(alloc, &read_word(word)) {
                     Ok(()) => (),
                     Err(Halt::Fault(kind)) => return Err(RealFault::Refused {
                         kind,

@@ -1,5 +1,6 @@
 //! Real copper.
-ghost use Rattle.arc_layer.specs.Marks.{AreShort, IsShortMark};
+ghost use Rattle.arc_layer.specs.Bends.{IsShort};
+ghost use Rattle.arc_layer.specs.Marks.{AreShort, IsShortMark, plain_mark};
 ghost use Rattle.arc_layer.specs.Real as spec;
 ghost use Rattle.arc_layer.specs.Real.{IsRealCopper, IsRealFault, plain_real, plain_reals, real_figure};
 ghost use Rattle.arc_layer.specs.Reading.{marks_of};
@@ -7,14 +8,15 @@ ghost use Rattle.board_shapes.specs.Figures.{figure_of};
 ghost use Rattle.board_shapes.specs.declared.shape.Shape.TheVariants as shape;
 ghost use Rattle.board_shapes.specs.Pieces.{plain_piece, plain_pieces};
 ghost use Rattle.planar.specs.Plane.{IsPlaced};
-ghost use Rattle.std.specs.Option.{option_copied};
-ghost use Rattle.std.specs.Prelude.{◌≡◌, ◌≤◌, All, length, map, IfErr, IfOk, IfSome, Some};
+ghost use Rattle.std.specs.Prelude.{◌≡◌, ◌≤◌, All, length, map, option_map, IfErr, IfOk, IfSome, Some};
 
 use crate::marks::{Marks, read_marks};
 use crate::centres::moved;
 use crate::draws::Bend;
 use crate::kind::{RealFault, RealKind};
 use crate::mark::Mark;
+use arc_regions::{Bend as Curve, Part, Region};
+use area_contact::Area;
 use arcs::Arc;
 use board_shapes::{MOST_LAYERS, Piece, Placed, Room, Shape};
 use contact::Capsule;
@@ -23,6 +25,7 @@ use gerber_layer::{FlattenFault, FlattenKind, read_loosely};
 use gerber_words::laws::words_lie_ahead;
 use real_shapes::{RealPiece, RealShape};
 use std::alloc::Global;
+use planar::Spot;
 use slants::Slant;
 use texts::MOST_BYTES;
 
@@ -69,8 +72,8 @@ fn slant_of(stroke: &Capsule) -> Slant
 }
 
 fn marked(mark: &Mark, stroke: Capsule) -> RealShape
-    requires { IsShortMark mark.now }
-    ensures { real_figure result ≡ spec.with_mark (Some mark.now) (figure_of (shape.Round stroke)) }
+    requires { IsShortMark (plain_mark mark.now) }
+    ensures { real_figure result ≡ spec.with_mark (Some (plain_mark mark.now)) (figure_of (shape.Round stroke)) }
 {
     match mark {
         Mark::Arc(bend) => RealShape::ArcDraw(arc_of(bend, &stroke)),
@@ -79,33 +82,125 @@ fn marked(mark: &Mark, stroke: Capsule) -> RealShape
         } else {
             RealShape::Plain(Shape::Round(stroke))
         },
+        Mark::Contour(_) => RealShape::Plain(Shape::Round(stroke)),
     }
 }
 
-fn with_mark(mark: Option<&Mark>, shape: Shape) -> RealShape
-    requires { IfSome (option_copied mark) IsShortMark }
-    ensures { real_figure result ≡ spec.with_mark (option_copied mark.entry) (figure_of shape) }
+// An edge of a contour, by its bend.
+fn part_by(from: Spot, to: Spot, bend: Option<Bend>) -> Part
+    requires spot { IsPlaced from }
+    requires short { IsShort bend }
+    ensures { result ≡ spec.part_by from to bend }
+{
+    match bend {
+        None => Part::Straight(to),
+        Some(bend) => Part::Curved(Curve {
+            centre: moved(from, bend.to_centre),
+            end: to,
+            counterclockwise: !bend.clockwise,
+        }),
+    }
+}
+
+// The first edge, and the others.
+fn first_edge(edges: &[Option<Bend>]) -> (Option<Bend>, &[Option<Bend>])
+    requires { All IsShort edges.now }
+    ensures first { result.0 ≡ spec.first_edge edges.now }
+    ensures others { result.1.now ≡ spec.other_edges edges.now }
+    ensures short { IsShort result.0 }
+    ensures shorts { All IsShort result.1.now }
+{
+    match edges {
+        [] => (None, &[]),
+        [edge, rest @ ..] => (*edge, rest),
+    }
+}
+
+// The parts of a contour that begins at a spot.
+fn parts_from(
+    alloc: Global,
+    start: Spot,
+    points: &[Spot],
+    edges: &[Option<Bend>],
+) -> Result<Vec<Part>, RealFault>
+    requires start { IsPlaced start }
+    requires points { All IsPlaced points.now }
+    requires edges { All IsShort edges.now }
+    ensures value { IfOk result (λ parts. parts.items ≡ spec.parts_from start points.now edges.now) }
+    ensures fault { IfErr result (λ why. why ≡ RealFault.NoMemory) }
+{
+    let Ok(mut parts) = Vec::with_capacity(alloc, points.len()) else {
+        return Err(RealFault::NoMemory);
+    };
+    let mut from = start;
+    let mut left = edges;
+    for to in points {
+        let (bend, others) = first_edge(left);
+        if let Err(_) = parts.push(part_by(from, *to, bend)) {
+            return Err(RealFault::NoMemory);
+        }
+        from = *to;
+        left = others;
+    }
+    Ok(parts)
+}
+
+// The region of an area whose edges have these bends.
+fn region_by(alloc: Global, area: Area, edges: &[Option<Bend>]) -> Result<RealShape, RealFault>
+    requires edges { All IsShort edges.now }
+    ensures value { IfOk result (λ made. real_figure made ≡ spec.region_by area.points.items edges.now) }
+    ensures fault { IfErr result (λ why. why ≡ RealFault.NoMemory) }
+{
+    match area.points.as_slice() {
+        [] => Ok(RealShape::Plain(Shape::Filled(area))),
+        [start, rest @ ..] => {
+            let start = *start;
+            let parts = parts_from(alloc, start, rest, edges)?;
+            Ok(RealShape::Region(Region { start, parts }))
+        }
+    }
+}
+
+fn marked_area(alloc: Global, mark: &Mark, area: Area) -> Result<RealShape, RealFault>
+    requires { IsShortMark (plain_mark mark.now) }
+    ensures value { IfOk result (λ made. real_figure made ≡ spec.with_mark (Some (plain_mark mark.now)) (figure_of (shape.Filled area))) }
+    ensures fault { IfErr result (λ why. why ≡ RealFault.NoMemory) }
 {
     match mark {
-        None => RealShape::Plain(shape),
+        Mark::Contour(edges) => region_by(alloc, area, edges),
+        Mark::Arc(_) => Ok(RealShape::Plain(Shape::Filled(area))),
+        Mark::Flash => Ok(RealShape::Plain(Shape::Filled(area))),
+    }
+}
+
+fn with_mark(alloc: Global, mark: Option<&Mark>, shape: Shape) -> Result<RealShape, RealFault>
+    requires { IfSome (option_map (λ m. plain_mark m.now) mark) IsShortMark }
+    ensures value { IfOk result (λ made. real_figure made ≡ spec.with_mark (option_map (λ m. plain_mark m.now) mark.entry) (figure_of shape)) }
+    ensures fault { IfErr result (λ why. why ≡ RealFault.NoMemory) }
+{
+    match mark {
+        None => Ok(RealShape::Plain(shape)),
         Some(mark) => match shape {
-            Shape::Round(stroke) => marked(mark, stroke),
-            Shape::Filled(area) => RealShape::Plain(Shape::Filled(area)),
+            Shape::Round(stroke) => Ok(marked(mark, stroke)),
+            Shape::Filled(area) => marked_area(alloc, mark, area),
         },
     }
 }
 
 /// A piece of the first reading with the mark of its command.
-fn real_piece(piece: Piece, marks: &Marks) -> RealPiece
+fn real_piece(alloc: Global, piece: Piece, marks: &Marks) -> Result<RealPiece, RealFault>
     requires short { AreShort (marks_of marks.now) }
-    ensures { plain_real result ≡ spec.real_piece (marks_of marks.now) (plain_piece piece) }
+    ensures value { IfOk result (λ made. plain_real made ≡ spec.real_piece (marks_of marks.now) (plain_piece piece)) }
+    ensures fault { IfErr result (λ why. why ≡ RealFault.NoMemory) }
 {
-    Placed {
-        shape: with_mark(marks.find(piece.origin.command), piece.shape),
+    let origin = piece.origin;
+    let shape = with_mark(alloc, marks.find(origin.command), piece.shape)?;
+    Ok(Placed {
+        shape,
         top: piece.top,
         bottom: piece.bottom,
-        origin: piece.origin,
-    }
+        origin,
+    })
 }
 
 fn real_pieces(
@@ -121,7 +216,8 @@ fn real_pieces(
         return Err(RealFault::NoMemory);
     };
     for piece in pieces {
-        if let Err(_) = reals.push(real_piece(piece, marks)) {
+        let real = real_piece(alloc, piece, marks)?;
+        if let Err(_) = reals.push(real) {
             return Err(RealFault::NoMemory);
         }
     }

@@ -1,6 +1,7 @@
 // Files in which draws may be arcs, and their copper. The rows without a comment are what the script of
 // bounds, tools/show_board, makes of them.
 use arc_layer::{Arc, RealFault, RealPiece, RealShape, read_real};
+use arc_regions::Part;
 use board_shapes::{Room, Shape};
 use std::alloc::{AllocError, Global};
 use std::fmt::Write;
@@ -34,7 +35,18 @@ fn shown(alloc: Global, piece: &RealPiece) -> Result<String, AllocError> {
             let (a, b) = (slant.start, slant.end);
             write!(line, "[{} {}, {} {}] {}", a.x, a.y, b.x, b.y, slant.width)?;
         },
-        RealShape::Region(_) => line.push_str("a region")?,
+        RealShape::Region(region) => {
+            write!(line, "from {} {}", region.start.x, region.start.y)?;
+            for part in &region.parts {
+                match part {
+                    Part::Straight(to) => write!(line, ", {} {}", to.x, to.y)?,
+                    Part::Curved(bend) => {
+                        let (c, to, turn) = (bend.centre, bend.end, bend.counterclockwise);
+                        write!(line, ", ({} {}) {turn} {} {}", c.x, c.y, to.x, to.y)?;
+                    },
+                }
+            }
+        },
     }
     write!(line, " by {}.{}", piece.origin.command, piece.origin.copy)?;
     Ok(line)
@@ -216,7 +228,7 @@ fn of_refusals() -> [(&'static str, &'static str); 20] {
         ("G75*G02X1000000I1J1D02*M02*", "OffsetsAmiss at command 6"),
         (
             "G75*G36*G02X1000000I500000J0D01*G01*X0D01*G37*M02*",
-            "Copper(Gerber(Arc)) at command 7",
+            "Copper(Gerber(ShortContour)) at command 10",
         ),
         (
             "G75*G02X1000000J500000I0D01*M02*",
@@ -291,6 +303,36 @@ fn of_lines() -> [(&'static str, &'static str); 7] {
     ]
 }
 
+// Contours with arcs, all of this crate's own; one without is an area.
+fn of_regions() -> [(&'static str, &'static str); 6] {
+    [
+        (
+            "X0Y0D02*G36*G01X1000000D01*G75*G03X0Y1000000I-1000000J0D01*G01X0Y0D01*G37*M02*",
+            "from 0 0, 10000000 0, (0 0) true 0 10000000, 0 0 by 11.0",
+        ),
+        (
+            "G36*X0Y0D02*G01Y1000000D01*G74*G02X1000000Y0I0J1000000D01*G01X0Y0D01*G37*M02*",
+            "from 0 0, 0 10000000, (0 0) false 10000000 0, 0 0 by 11.0",
+        ),
+        (
+            "G75*G36*X0Y0D02*G03X1000000I500000J0D01*X0I-500000D01*X0I-500000D01*X3000000Y0D02*G01X4000000D01*Y1000000D01*X3000000Y0D01*G37*M02*",
+            "from 0 0, (5000000 0) true 10000000 0, (5000000 0) true 0 0, (-5000000 0) true 0 0 by 11.0\nan area by 15.0",
+        ),
+        (
+            "%SRX2Y1I3.0J0*%G75*G36*X0Y0D02*G01X1000000D01*Y1000000D01*G03X0Y0I-500000J-500000D01*G37*%SR*%M02*",
+            "from 0 0, 10000000 0, 10000000 10000000, (5000000 5000000) true 0 0 by 12.0\nfrom 30000000 0, 40000000 0, 40000000 10000000, (35000000 5000000) true 30000000 0 by 12.1",
+        ),
+        (
+            "G36*X0Y0D02*G02X1000000I500000J0D01*G01X0Y1000000D01*Y0D01*G37*M02*",
+            "NoQuadrants at command 7",
+        ),
+        (
+            "G75*G36*X0Y0D02*G02X1000000I500000J0D01*G01X0Y1000000D01*G37*M02*",
+            "Copper(Gerber(OpenContour)) at command 10",
+        ),
+    ]
+}
+
 #[test]
 fn arcs_are_read(rt: HostRuntime) -> Result<(), Fail> {
     for (words, expected) in of_any_arcs() {
@@ -298,6 +340,10 @@ fn arcs_are_read(rt: HostRuntime) -> Result<(), Fail> {
         assert_eq!(rt; read.as_str(), expected);
     }
     for (words, expected) in of_lines() {
+        let read = told(rt.alloc(), words)?;
+        assert_eq!(rt; read.as_str(), expected);
+    }
+    for (words, expected) in of_regions() {
         let read = told(rt.alloc(), words)?;
         assert_eq!(rt; read.as_str(), expected);
     }
