@@ -25,12 +25,12 @@ def is_meant(centre, start, end):
 
 class Layer:
     """A copper file: figures, arc draws of every kind, macros with slanted lines, regions with arcs, blocks. `arcs` counts the draws, and
-    `made` what else of the file is outside the profile; lengths are counted in the file's units."""
+    `made` what else of the file is outside the profile; lengths are counted in the file's units. At 0 is a pad for both points."""
 
     def __init__(self, rng, arcs, most=METRE // 20):
         self.rng, self.arcs, self.made, (digits, unit, self.unit) = rng, 0, Counter(), rng.choice(FORMATS)
         self.scale, self.most = 254 * 10 ** 6 if unit == "IN" else 10 ** 7, most // self.unit
-        self.lines = [f"%FSLAX{digits}Y{digits}*%", f"%MO{unit}*%", *self.apertures(), *self.macros(), "G01*"]
+        self.lines = [f"%FSLAX{digits}Y{digits}*%", f"%MO{unit}*%", *self.apertures(), *self.macros(), "%ADD60C,0.01*%", "G01*", "D60*", "X0Y0D03*"]
         while self.arcs < arcs:
             self.block() if rng.random() < .03 else self.object()
         self.lines += ["G01*", "M02*"]

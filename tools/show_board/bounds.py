@@ -41,14 +41,14 @@ class Bounded(NamedTuple):
 class Sides(NamedTuple):
     """The two packages of a board, with the words' sources by side and file, and what is left out below. `rows` are by file those of
     the commands that `between` reads, None where a file has other copper outside the profile; `unlike` are the commands that make
-    other copper on both sides."""
+    other copper on both sides; `is_bent` says that regions with arcs are among those of `rows`."""
 
     packages: tuple
     sources: tuple
     left_out: list
     rows: dict
     unlike: dict
-    is_coarse: bool
+    is_bent: bool
 
 
 def is_outside(line):
@@ -63,37 +63,26 @@ def outline_of(package):
     return negative.outline_of(negative.profile_of(package.home or package.folder), texts, lambda text: two_sides.Copper(text, cuts=True).objects)
 
 
-def sides_of(package, name, is_fine=False):
+def sides_of(package, name, is_coarse=False):
     from . import two_sides     # most boards have no bounds, and loading takes longer than a small board
     try:
-        return two_sides.of_text(package.read(name).decode("latin-1"), lambda: outline_of(package), is_fine)
+        return two_sides.of_text(package.read(name).decode("latin-1"), lambda: outline_of(package), is_coarse)
     except Refused as why:
         raise Refused(f"{name}: {why}") from None
     except Exception as fault:
         raise fault_of(package.told_path(name), fault) from fault
 
 
-def rows_of(copper):
-    """Those of its commands, where `between` reads all that is written otherwise."""
-    return copper.rows if copper.replaced == len(copper.rows) else None
-
-
-def coppers_of(package, is_fine):
-    """Both sides of each copper file; fine ones, where `between` does not read all of them."""
-    found = {name: sides_of(package, name, is_fine) for name in dict.fromkeys(package.manifest.copper)}
-    if None in map(rows_of, found.values()):
-        found.update((name, sides_of(package, name, True)) for name, copper in found.items() if copper.is_coarse)
-    return found
-
-
-def of_package(package, is_fine):
-    """Both sides of each copper file that holds something outside the profile; the others are the same files."""
-    files, sources, left_out, rows, unlike, replaced = ({}, {}), ({}, {}), [], {}, {}, 0
-    coppers = coppers_of(package, is_fine)
-    for name, copper in coppers.items():
+def of_package(package, is_coarse=False):
+    """Both sides of each copper file that holds something outside the profile; the others are the same files. Coarse ones have areas
+    within regions as `between` wants them."""
+    files, sources, left_out, rows, unlike, replaced, is_bent = ({}, {}), ({}, {}), [], {}, {}, 0, False
+    for name in dict.fromkeys(package.manifest.copper):
+        copper = sides_of(package, name, is_coarse)
+        is_bent = is_bent or copper.is_bent
         left_out += [f"{name}: {what}" for what in copper.lost]
         replaced += copper.replaced
-        rows[name] = rows_of(copper)
+        rows[name] = copper.rows if copper.replaced == len(copper.rows) else None
         unlike[name] = copper.unlike
         for side, data, origin in zip(copper.sides, files, sources):
             if copper.replaced:
@@ -103,7 +92,7 @@ def of_package(package, is_fine):
     if not replaced:
         raise Refused("nothing in the copper files is of a kind that has bounds")
     made = tuple(package.changed(beside(package, side), data) for side, data in zip(SIDES, files))
-    return Sides(made, sources, left_out, rows, unlike, any(it.is_coarse for it in coppers.values()))
+    return Sides(made, sources, left_out, rows, unlike, is_bent)
 
 
 def both_judged(program, sides):
@@ -137,22 +126,12 @@ def answered(program, package, sides, low, high, ties):
     return Bounded(status, line, [it[:4] for it in findings], sides.left_out, tuple(it[4] for it in findings), sides.sources)
 
 
-def tried(program, package, ties, is_fine):
-    """(sides, answer, lower, upper) of a package."""
-    sides = of_package(package, is_fine)
-    low, high = both_judged(program, sides)
-    return sides, answered(program, package, sides, low, high, ties), low, high
-
-
 def judge(program, package, ties=Ties()):
-    """(answer, lower, upper) of a package, made once, from fine sides where coarse ones leave it undecided; Refused where no bounds can be
-    given."""
+    """(answer, lower, upper) of a package, made once; Refused where no bounds can be given."""
     if not package.between:
-        found = tried(program, package, ties, False)
-        if found[0].is_coarse and found[1].status == UNDECIDED:
-            fine = tried(program, package, ties, True)
-            found = found if fine[1].status == UNDECIDED else fine
-        package.sides, *package.between = found
+        sides = package.sides = of_package(package)
+        low, high = both_judged(program, sides)
+        package.between = answered(program, package, sides, low, high, ties), low, high
     return package.between
 
 

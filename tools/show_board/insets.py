@@ -1,14 +1,27 @@
-"""Contours within regions with arcs, as the crate `arc_regions` takes them: clear of the straight edges, and of draws along the chains of arcs.
+"""Contours within regions with arcs, as `between` takes them: clear of the straight edges, and of draws along chains of quarter turns for arcs.
 
 How the corners were found does not matter: they are tested.
 """
+from itertools import groupby
 from math import isqrt
 
 from .arcs import rounded
 from .spots import Segments, cross, dot, edges, odd_inside, segments_within
 
 FURTHER = (2, 4, 16)    # u that edges are moved more than they have to be
-ROUNDS = 8              # of leaving edges out
+ROUNDS = 16             # of leaving edges out
+
+
+def quarter_chain(centre, first, last):
+    """A chain of quarter turns from one place to another, counterclockwise, and of what is left; equal places are a whole turn apart."""
+    (x, y), turn, ahead = (first[0] - centre[0], first[1] - centre[1]), cross(centre, first, last), dot(centre, first, last)
+    many = int(ahead < 0) if turn > 0 or turn == 0 > ahead else 3 if turn == 0 or ahead > 0 else 2
+    return [first, *((centre[0] + u, centre[1] + v) for u, v in ((-y, x), (-x, -y), (y, -x))[:many]), last]
+
+
+def quarter_radius(centre, start):
+    """More than a quarter turn leaves its chord by."""
+    return (abs(start[0] - centre[0]) + abs(start[1] - centre[1])) * 3 // 10 + 2
 
 
 def inset(corners, keeps):
@@ -23,34 +36,39 @@ def inset(corners, keeps):
 
 
 def moved(corners, keeps, k, order, more):
-    """The lines that stand for an edge, each by a place, its way and how far it is moved to the left, times its length and 2^20: the edge
-    moved inwards, and with steps across, by more near ends where a neighbour is kept further off."""
+    """The lines that stand for an edge, each by a place, its way, how far it is moved to the left, times its length and 2^20, and how long it
+    is: the edge moved inwards, and with steps across, by more near ends where a neighbour is kept further off."""
     a, b, keep = corners[k], corners[(k + 1) % len(corners)], keeps[k]
     way, length = (b[0] - a[0], b[1] - a[1]), isqrt(dot(a, b, b) << 40)
     first, last = (max(keep, keeps[at % len(keeps)]) for at in (k - 1, k + 1))
-    line, steps = lambda by: (a, way, order * (by + more) * length), [by + 2 * more if by > keep else 0 for by in (first, last)]
+    steps = [by + 2 * more if by > keep else 0 for by in (first, last)]
+    line = lambda by, size: (a, way, order * (by + more) * length, size)
     if sum(steps) << 20 >= length:
-        return [line(max(first, last))]
+        return [line(max(first, last), length >> 20)]
     across, at = (-way[1] * order, way[0] * order), lambda end, by: tuple(v + rounded(part * by << 20, length) for v, part in zip(end, way))
-    before = [line(first), (at(a, steps[0]), (-across[0], -across[1]), 0)] if steps[0] else []
-    behind = [(at(b, -steps[1]), across, 0), line(last)] if steps[1] else []
-    return [*before, line(keep), *behind]
+    before = [line(first, steps[0]), (at(a, steps[0]), (-across[0], -across[1]), 0, 0)] if steps[0] else []
+    behind = [(at(b, -steps[1]), across, 0, 0), line(last, steps[1])] if steps[1] else []
+    return [*before, line(keep, (length >> 20) - sum(steps)), *behind]
 
 
 def met(lines):
-    """The corners where neighbours of a ring of lines meet; lines that would run the other way then are left out."""
+    """The corners where neighbours of a ring of lines meet. Of lines in a row that would run the other way then the shortest is left out."""
     for _ in range(ROUNDS):
         tips = [tip(lines[k - 1], lines[k]) for k in range(len(lines))]
-        stay = [line for line, (p, q) in zip(lines, edges(tips)) if (q[0] - p[0]) * line[1][0] + (q[1] - p[1]) * line[1][1] > 0]
-        if len(stay) in (len(lines), 0):
-            return tips if stay else None
-        lines = stay
+        runs = [(q[0] - p[0]) * line[1][0] + (q[1] - p[1]) * line[1][1] > 0 for line, (p, q) in zip(lines, edges(tips))]
+        if all(runs):
+            return tips
+        rows = [[*row] for _, row in groupby(range(len(lines)), runs.__getitem__)]
+        out = {min(row, key=lambda k: lines[k][3]) for row in rows if not runs[row[0]]}
+        lines = [line for k, line in enumerate(lines) if k not in out]
+        if len(lines) < 3:
+            break
     return None
 
 
 def tip(one, two):
     """Where two lines meet."""
-    (a, v, left), (b, w, right) = one, two
+    (a, v, left, _), (b, w, right, _) = one, two
     turn, left = v[0] * w[1] - v[1] * w[0], left + (((b[0] - a[0]) * v[1] - (b[1] - a[1]) * v[0]) << 20)
     if not turn:
         turn, to = w[0] ** 2 + w[1] ** 2, (-w[1] * right, w[0] * right)

@@ -10,7 +10,7 @@ from typing import NamedTuple
 from .arcs import Arc, arc_chain, goes_once
 from .contours import contour_bound
 from .exact import Refused
-from .insets import inset
+from .insets import inset, quarter_chain, quarter_radius
 from .rounds import polygon
 from .side import FLASH, MOVE, edges_of
 from .spots import cross, dot
@@ -83,8 +83,8 @@ class Regions:
         x, y = contour[0]
         by = lambda spot: (spot[0] + x, spot[1] + y)
         back = lambda spot: spot and (spot[0] - x, spot[1] - y)
-        made = rounded_contour(tuple(back(part) if len(part) == 2 else (back(part[0]), back(part[1]), part[2]) for part in contour), self.cuts, self.is_fine or self.is_noted())
-        self.is_coarse = self.is_coarse or made.is_read
+        made = rounded_contour(tuple(back(part) if len(part) == 2 else (back(part[0]), back(part[1]), part[2]) for part in contour), self.cuts, self.is_coarse)
+        self.is_bent = self.is_bent or made.is_read
         grown = [("capsule", by(a), by(b), most) for _, a, b, most in made.wide]
         if not made.is_closed:
             run = [*map(by, made.outer)]
@@ -117,11 +117,11 @@ class Rounded(NamedTuple):
 
 
 class Walked:
-    """The parts of a contour with chains in place of arcs: `outline`, and without edges of no length `spots` and how far each edge may be
-    from its part."""
+    """The parts of a contour, with chains in place of arcs: `outline`, `spots` of that without edges of no length; `coarse` with chains of
+    quarter turns, and how far each of its edges is from its part at most."""
 
     def __init__(self, contour):
-        self.outline, self.spots, self.parts = ([contour[0]] for _ in range(3))
+        self.outline, self.spots, self.coarse, self.parts = ([contour[0]] for _ in range(4))
         self.keeps, self.wide, self.is_exact = [], [], True
         for part in contour[1:]:
             if len(part) == 2 or part[0] is None:
@@ -134,18 +134,21 @@ class Walked:
         if end != self.spots[-1]:
             self.parts.append(end)
             self.spots.append(end)
+            self.coarse.append(end)
             self.keeps.append(0)
 
     def turn(self, centre, end, anticlockwise):
         start = self.spots[-1]
-        chain, most = arc_chain(centre, *((start, end) if anticlockwise else (end, start)))
+        first, last = (start, end) if anticlockwise else (end, start)
+        chain, most = arc_chain(centre, first, last)
         is_even = dot(centre, start, start) == dot(centre, end, end)
         self.is_exact = self.is_exact and is_even and goes_once(lambda p, q: cross(centre, p, q), chain)
         self.wide += [("capsule", a, b, most) for a, b in zip(chain, chain[1:])]
-        chain = chain if anticlockwise else chain[::-1]
-        self.keeps += [most for a, b in zip(chain, chain[1:]) if a != b]
-        self.spots += [spot for k, spot in enumerate(chain[1:]) if spot != chain[k]]
+        chain, turns = (its if anticlockwise else its[::-1] for its in (chain, quarter_chain(centre, first, last)))
         self.outline += chain[1:]
+        self.spots += [spot for k, spot in enumerate(chain[1:]) if spot != chain[k]]
+        self.coarse += turns[1:]
+        self.keeps += [quarter_radius(centre, start)] * (len(turns) - 1)
         self.parts.append((centre, start, end, anticlockwise))
 
     def bound(self, upper):
@@ -154,20 +157,21 @@ class Walked:
 
 
 @lru_cache(1000)
-def rounded_contour(contour, cuts, is_fine):
-    """What lies within and round a contour with arcs. `between` reads one of at least three parts whose arcs are exact, and within it one
-    area that is clear of its edges: so where it need not be `is_fine`."""
+def rounded_contour(contour, cuts, is_coarse):
+    """What lies within and round a contour with arcs. `between` reads one of at least three parts whose arcs are exact; it wants one area
+    within that is clear of its edges, or none."""
     it = Walked(contour)
     corners = it.spots[:-1]
     if it.spots[0] != it.spots[-1]:
         return Rounded((), it.spots, it.wide, False)
     if len(corners) < 3:
         return Rounded((), (), it.wide)
-    found = inset(corners, it.keeps) if it.is_exact and len(contour) > 3 and not is_fine else None
-    if found:
-        return Rounded((found,), it.outline[:-1], it.wide, True, True)
+    is_read = it.is_exact and len(contour) > 3
+    if is_read and is_coarse:
+        found = inset(it.coarse[:-1], it.keeps)
+        return Rounded((found,) if found else (), it.outline[:-1], it.wide, True, True)
     inner, outer = it.bound(False), it.bound(True) if cuts else None
-    return Rounded((inner,) if inner else without(corners, it.wide), outer or corners, [] if outer else it.wide)
+    return Rounded((inner,) if inner else without(corners, it.wide), outer or corners, [] if outer else it.wide, True, is_read)
 
 
 def without(corners, wide):

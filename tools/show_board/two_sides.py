@@ -18,9 +18,9 @@ MODES = ("G01", "G1", "G02", "G2", "G03", "G3")
 MOST_OBJECTS = 400_000
 
 
-def of_text(text, outline=None, is_fine=False):
+def of_text(text, outline=None, is_coarse=False):
     """Both sides of a copper file; `outline` gives the box of the board where it is asked for."""
-    copper = Copper(text, is_fine=is_fine)
+    copper = Copper(text, is_coarse=is_coarse)
     if copper.long and not copper.cuts:
         copper = Copper(text, cuts=True)
     if not copper.clears and not copper.long and not copper.negative:
@@ -42,18 +42,18 @@ class Copper(Settings, Definitions, Operations, Regions):
 
     `lost` says what LOWER leaves out, `replaced` counts what is written otherwise. `objects` is all that the file makes, in order,
     where it is asked for; `negative` is the command that says that they are none. Dark objects of commands of `taken` are not written, but at the end what is `written`.
-    `unlike` are the commands that make other copper on both sides, but for pens off the grid. `is_coarse` says that areas within regions
-    leave out their edges, as `between` wants it; with `is_fine` none do.
+    `unlike` are the commands that make other copper on both sides, but for pens off the grid. `is_bent` says that `between` reads regions
+    with arcs, if areas within them are as it wants: they are where `is_coarse` asks for that.
     """
 
-    def __init__(self, text, taken=(), written=((), ()), cuts=False, is_fine=False):
+    def __init__(self, text, taken=(), written=((), ()), cuts=False, is_coarse=False):
         for part in (Settings, Definitions, Operations, Regions):
             part.__init__(self)
         self.sides = self.files = (Side(), Side())
         self.lost, self.replaced, self.number = [], len(taken), None
         self.taken, self.written, self.objects, self.copies = taken, written, [], None
         self.clear, self.clears, self.negative, self.unlike = False, False, None, {source for its in written for _, source in its}
-        self.is_fine, self.is_coarse = is_fine, False
+        self.is_coarse, self.is_bent = is_coarse, False
         self.cuts = cuts or "LPC*" in text or "IPNEG*" in text or ".FilePolarity,Negative" in text
         self.number = 0
         for extended, word, first in words_of(text, True):

@@ -12,21 +12,6 @@ TOOLS = Path(__file__).resolve().parent.parent
 loader = importlib.machinery.SourceFileLoader("lists", str(TOOLS / "lists"))
 loader.exec_module(lists := importlib.util.module_from_spec(importlib.util.spec_from_loader("lists", loader)))
 
-MAP = "# r\n<!-- crates: made by tools/lists -->\n<!-- crates end -->\nbehind\n"
-FILES = {
-    "crates.txt": "# lowest first\nlow:\nhigh: low serde_json\n",
-    "crates/low/src/lib.rt": "//! Numbers (`a`,\n//! `b`) of boards. And more.\n//!\n//! Further.\n#![tactic(auto)]\n",
-    "crates/low/README.md": "# `low`\n",
-    "crates/high/src/main.rt": "//! high: what is it?\n",
-    "crates/high/README.md": "# `high`\n",
-    "docs/ARCHITECTURE.md": MAP,
-}
-SENTENCES = [
-    ("//! One thing. Two things.\n", "One thing"),
-    ("//! One thing: 0.1 nm\n//! of it (or `two`, or three).\n", "One thing"),
-    ("//! Is it?\n", "Is it"),
-    ("//! Without a point\n//!\n//! More.\n", "Without a point"),
-]
 
 
 def kinds(enum, rows):
@@ -47,8 +32,6 @@ class Lists(unittest.TestCase):
         folder = tempfile.TemporaryDirectory()
         self.addCleanup(folder.cleanup)
         self.top = Path(folder.name)
-        for name, text in FILES.items():
-            self.put(name, text)
         for _, source, enum in lists.KINDS:
             self.put(source, kinds(enum, [(1, "Bad")] if enum == "GerberKind" else []))
         self.put("docs/using/refusals.md", refusals("| 1 | `Bad` | Mend it. |\n"))
@@ -71,17 +54,6 @@ class Lists(unittest.TestCase):
     def test_readme_is_short(self):
         self.assertLessEqual(len((lists.TOP / "README.md").read_bytes()), 5000)
 
-    def test_first_sentences(self):
-        for source, wanted in SENTENCES:
-            self.assertEqual(lists.first_sentence(source), wanted)
-
-    def test_table_of_crates(self):
-        self.assertEqual(self.run_lists()[0], 0)
-        rows = (self.top / "docs/ARCHITECTURE.md").read_text().splitlines()
-        self.assertEqual(rows[4], "| `low` | Numbers of boards |")
-        self.assertEqual(rows[5:], ["| `high` | high: what is it |", "<!-- crates end -->", "behind"])
-        self.assertEqual(self.run_lists("--check"), (0, "lists: current\n"))
-
     def test_a_new_kind_wants_its_way_out(self):
         self.run_lists()
         self.put(lists.KINDS[0][1], kinds("GerberKind", [(1, "Bad"), (2, "Worse")]))
@@ -95,12 +67,8 @@ class Lists(unittest.TestCase):
         self.assertEqual(lists.variants(source, "Kind"), [(31, "Bad")])
 
     def test_what_is_amiss_is_said(self):
-        self.run_lists()
-        (self.top / "crates/low/README.md").unlink()
-        self.assertEqual(self.run_lists("--check"), (1, "crates/low has no root file or no README.md\n"))
-        self.put("docs/ARCHITECTURE.md", "# r\n")
-        self.put("crates/low/README.md", FILES["crates/low/README.md"])
-        self.assertEqual(self.run_lists(), (1, "the markers of crates do not stand once\n"))
+        self.put("docs/using/refusals.md", "# r\n")
+        self.assertEqual(self.run_lists("--check"), (1, "the markers of GerberKind do not stand once\n"))
 
     def test_other_words_are_refused(self):
         self.assertEqual(self.run_lists("--chek")[0], 2)
@@ -112,6 +80,12 @@ def answers():
     for line in text.splitlines()[3:]:
         crate, calls, causes = (cell.strip() for cell in line.strip("|").split(" | "))
         yield crate.strip("`"), names(calls), causes
+
+
+def crates():
+    """The names in crates.txt, in order."""
+    lines = (lists.TOP / "crates.txt").read_text().splitlines()
+    return [line.split()[0].rstrip(":") for line in lines if line.strip() and not line.startswith("#")]
 
 
 def names(cell):
@@ -142,7 +116,7 @@ class Answers(unittest.TestCase):
 
     def test_calls_of_roots(self):
         told = {(crate, call) for crate, calls, _ in answers() for call in calls}
-        for crate in lists.crates((lists.TOP / "crates.txt").read_text()):
+        for crate in crates():
             root = lists.TOP / "crates" / crate / "src/lib.rt"
             given = re.findall(r"(?ms)^pub use \w+::(?:\{(.*?)\}|(\w+));", root.read_text()) if root.exists() else []
             for name in re.findall(r"\b[a-z_]\w*\b", " ".join(" ".join(it) for it in given)):
@@ -151,7 +125,7 @@ class Answers(unittest.TestCase):
 
     def test_faults(self):
         told = " ".join(causes for _, _, causes in answers())
-        for crate in lists.crates((lists.TOP / "crates.txt").read_text()):
+        for crate in crates():
             for enum, body in re.findall(r"(?s)\npub enum (\w*Fault) \{(.*?)\n\}", source_of(crate)):
                 for variant in re.findall(r"(?m)^    ([A-Z]\w*)", body):
                     if variant not in ("NoMemory", "CannotRead", "Build", "Macro", "Gerber"):

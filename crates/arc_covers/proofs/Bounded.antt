@@ -177,7 +177,8 @@ module _ (holds : ℕ → Point → Type 0) (real : Layout) (b : PlainBoard) (sp
       linked (InPiece b) (layout_of b) holds real span (pos r) i there first chain (chain_at b span (pos r) first chain part at same on) (λ p h. copper.least p (bound p h)) j from (chain_length chain (pos r) part j first same from to)
   below_shape (Slanted line) copper (inl none) j from to = below_none none j from to
   below_shape (Slanted line) copper (inr (points, same, bound)) j from to = below_one (filled points) same (λ q h. (copper q).0 (bound q h)) j from to
-  below_shape (Region area) copper none j from to = below_none none j from to
+  below_shape (Region area) copper (inl none) j from to = below_none none j from to
+  below_shape (Region area) copper (inr (points, same, bound)) j from to = below_one (filled points) same (λ q h. (copper q).0 (bound q h)) j from to
 
 -- ---- whole boards
 

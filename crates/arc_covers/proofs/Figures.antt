@@ -17,11 +17,9 @@ use Rattle.arcs.specs.Copper.{InChain}
 use Rattle.arcs.specs.Laws.{TakenIsBetween}
 use Rattle.slants.specs.Laws as slants
 use Rattle.slants.specs.declared.Slant.{Slant}
-use Rattle.arc_covers.specs.Bounds.{BoundRegion, HoldTogether, IsBound, IsLineBound, IsOn, ContourFor, PiecesStandFor, StandFor, capsules_from, capsules_of, figures_of}
+use Rattle.arc_covers.specs.Bounds.{BoundRegion, IsBound, IsLineBound, IsOn, ContourFor, PiecesStandFor, StandFor, capsules_from, capsules_of, figures_of}
 use Rattle.arc_regions.specs.Copper.{InRegion}
-use Rattle.arc_regions.specs.declared.Part.{Part}
 use Rattle.arc_regions.specs.declared.Region.{Region as Contour}
-use Rattle.arc_covers.specs.Regions.{RegionAbove}
 use Rattle.arc_covers.specs.Taken.{IsLineTaken, IsTaken, PiecesAreTaken, RegionTaken, StandTaken}
 use Rattle.real_shapes.specs.declared.RealShape.{RealShape}
 use Rattle.real_shapes.specs.declared.RealShape.TheVariants.{ArcDraw, Plain, Region, Slanted}
@@ -190,7 +188,7 @@ pub layers_refused : (side : Side) (real : Placed RealShape) (pieces : List (Pla
 layers_refused side real pieces b on is off told = (λ yes. absurd cc, λ t. let yes = told.1 (of_pieces (IsOn real.top real.bottom) pieces t.layers) in absurd cc)
 
 -- what is taken stands
-pub stands : (side : Side) (real : Placed RealShape) (pieces : List PlainPiece) → TakenIsBetween → slants.TakenIsBetween → ((a : Spot) (parts : List Part) (figures : List Figure) → RegionAbove a parts figures → HoldTogether (InRegion a parts) figures) → PiecesAreTaken side real pieces → PiecesStandFor side real pieces
+pub stands : (side : Side) (real : Placed RealShape) (pieces : List PlainPiece) → TakenIsBetween → slants.TakenIsBetween → ((side : Side) (area : Contour) (figures : List Figure) → RegionTaken side area figures → BoundRegion side (InRegion area.start area.parts.items) figures) → PiecesAreTaken side real pieces → PiecesStandFor side real pieces
 stands side real pieces law lines regions t = record { figures = by side real.shape t.figures; layers = t.layers }
   where
     bound : (side : Side) (arc : Arc) (chain : List Spot) (r : ℕ) → IsTaken side arc chain r → IsBound side arc chain (pos r)
@@ -207,12 +205,8 @@ stands side real pieces law lines regions t = record { figures = by side real.sh
     one_area Below P Q figures more (inr (points, same, h)) = inr (points, same, more points h)
     one_area Above P Q figures more (points, same, h) = (points, same, more points h)
 
-    region_bound : (side : Side) (area : Contour) (figures : List Figure) → RegionTaken side area figures → BoundRegion side (InRegion area.start area.parts.items) figures
-    region_bound Below area figures none = none
-    region_bound Above area figures taken = regions area.start area.parts.items figures taken
-
     by : (side : Side) (shape : RealShape) → StandTaken side shape (figures_of pieces) → StandFor side shape (figures_of pieces)
     by side (Plain shape) same = same
     by side (ArcDraw arc) (chain, r, same, taken) = (chain, r, same, bound side arc chain r taken)
     by side (Slanted line) h = one_area side (IsLineTaken side line) (IsLineBound side line) (figures_of pieces) (line_bound side line) h
-    by side (Region area) h = region_bound side area (figures_of pieces) h
+    by side (Region area) h = regions side area (figures_of pieces) h

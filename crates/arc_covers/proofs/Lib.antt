@@ -5,7 +5,9 @@ mod Covered
 mod Figures
 mod Findings
 mod Listed
+mod Lying
 mod Parts
 mod Shares
 mod Steps
 mod Told
+mod Turning

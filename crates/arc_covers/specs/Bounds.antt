@@ -57,13 +57,13 @@ pub record HoldTogether (P : Point → Type 0) (figures : List Figure) : Type 0 
   pub meet : All (λ f. SharePoint (InFigure first) (InFigure f)) rest
   pub hold : (p : Point) → P p → InSome figures p
 
--- below none of the figures stands for the region, above they hold it
+-- below they are one contour that lies in the region, or none; above they hold it
 abbrev pub BoundRegion : Side → (Point → Type 0) → List Figure → Type 0
-BoundRegion Below P figures = figures ≡ []
+BoundRegion Below P figures = ContourFor Below (λ points. (p : Point) → InFigure (filled points) p → P p) figures
 BoundRegion Above P figures = HoldTogether P figures
 
 -- for a figure stands the figure itself, for an arc draw the capsules of one chain of one radius that is a bound: below it maybe none; for a slanted line one contour that is: below it maybe none;
--- for a region above figures that hold it together, below none
+-- for a region below one contour that lies in it or none, above figures that hold it together
 abbrev pub StandFor : Side → RealShape → List Figure → Type 0
 StandFor side (Plain shape) figures = figures ≡ figure_of shape ∷ []
 StandFor side (ArcDraw arc) figures = (chain : List Spot) × (r : ℕ) × (figures ≡ capsules_of chain (pos r)) × IsBound side arc chain (pos r)

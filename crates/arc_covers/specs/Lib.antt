@@ -4,6 +4,7 @@ pub mod CountsReading
 pub mod Faults
 pub mod Findings
 pub mod Laws
+pub mod Quarters
 pub mod RealBoards
 pub mod Regions
 pub mod Taken

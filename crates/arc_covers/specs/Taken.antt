@@ -11,6 +11,7 @@ use Rattle.real_shapes.specs.declared.RealShape.TheVariants.{Plain, ArcDraw, Sla
 use Rattle.slants.specs.Taken as slants
 use Rattle.slants.specs.declared.Slant.{Slant}
 use Rattle.arc_regions.specs.declared.Region.{Region as Contour}
+use Rattle.arc_covers.specs.Quarters.{LiesBelow}
 use Rattle.arc_covers.specs.Regions.{RegionAbove}
 use Rattle.arc_covers.specs.Bounds.{AddUp, IsOn, ContourFor, capsules_of, figures_of, share_of}
 use Rattle.arc_covers.specs.declared.side.Side.{Side}
@@ -26,9 +27,9 @@ abbrev pub IsLineTaken : Side → Slant → List Spot → Type 0
 IsLineTaken Below line points = slants.TakenBelow line points
 IsLineTaken Above line points = slants.TakenAbove line points
 
--- below none of the figures is taken, above they are the polygon and the capsules of chains that are
+-- below they are one contour that is taken, or none; above the polygon and the capsules of chains that are
 abbrev pub RegionTaken : Side → Contour → List Figure → Type 0
-RegionTaken Below area figures = figures ≡ []
+RegionTaken Below area figures = ContourFor Below (LiesBelow area.start area.parts.items) figures
 RegionTaken Above area figures = RegionAbove area.start area.parts.items figures
 
 -- For a figure that figure, for a slanted line one contour that is taken or below none. For an arc draw the capsules of one chain of one radius that is taken. Capsules have one chain; no capsules are those of none and of each single

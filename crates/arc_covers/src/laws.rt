@@ -1,7 +1,7 @@
 //! Laws over real boards between two others, and over files of counts. Their calls do nothing.
 ghost use Rattle.arc_covers.specs.Laws.{BoundsLieBetween, CountsAreOne, CountsHaveNoOther, FindingsAreCertain, FirstOtherIsOne, RealBoardAgrees, RealBoardIsDecided, TakenAreBounds};
 
-use arc_regions::laws::taken_holds;
+use arc_regions::laws::{taken_holds, taken_lies};
 use board_shapes::laws::tables_are_unique;
 use covers::Copper;
 use covers::laws::verdicts_decide;
@@ -13,6 +13,7 @@ pub fn taken_are_bounds()
     arcs::laws::taken_is_between();
     slants::laws::taken_is_between();
     taken_holds();
+    taken_lies();
 }
 
 /// A board of figures, arc draws and slanted lines lies between two whose pieces stand for its own, whatever copper

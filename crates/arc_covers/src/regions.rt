@@ -11,6 +11,7 @@ ghost use Rattle.planar.specs.Plane.{IsPlaced};
 ghost use Rattle.planar.specs.declared.Spot.{Spot};
 ghost use Rattle.std.specs.Prelude.{All, IfNone, IfOk, IfSome, IsTrue, List, ℕ, drop, length, pos, take, ◌≡◌, ◌≢◌, ◌≤◌, ◌↔◌, ◌∷◌};
 
+use crate::quarters::is_inside;
 use crate::rows::next_spot;
 use crate::side::Side;
 use arc_regions::{Bend, Part, Region, end_of, is_part, is_same};
@@ -250,7 +251,7 @@ fn is_above(alloc: Global, region: &Region, pieces: &[Piece]) -> Result<bool, No
     }
 }
 
-/// Whether the pieces are taken for the region; below, none are.
+/// Whether the pieces are taken for the region.
 pub fn is_region(
     alloc: Global,
     side: Side,
@@ -260,7 +261,7 @@ pub fn is_region(
     ensures { IfOk result (λ yes. IsTrue yes ↔ RegionTaken side region.now (figures_of (plain_pieces pieces.now))) }
 {
     match side {
-        Side::Below => Ok(pieces.is_empty()),
+        Side::Below => is_inside(alloc, region, pieces),
         Side::Above => is_above(alloc, region, pieces),
     }
 }

@@ -338,7 +338,11 @@ fn around(alloc: Global, back: bool, r: u16) -> Result<Vec<Piece>, Fail> {
     if back {
         points.reverse();
     }
-    points.push(points[0])?;
+    points.push(if back {
+        spot((0, 5000))
+    } else {
+        spot((0, -5000))
+    })?;
     if !are_placed(&points) {
         return Ok(Vec::new(alloc));
     }
@@ -366,10 +370,54 @@ fn regions(rt: HostRuntime) -> Result<(), Fail> {
         let upper = around(alloc, turned, r)?;
         let found = check_between(alloc, &real, &[], &[0], &upper, &[7]);
         assert!(rt; found == told);
+        assert!(rt; upper.len() == 7);
         let fewer = check_between(alloc, &real, &[], &[0], &upper[..6], &[6]);
         assert!(rt; fewer == Err(BoundsFault::Piece(Side::Above, 0)));
         let lower = check_between(alloc, &real, &upper[..1], &[1], &upper, &[7]);
         assert!(rt; lower == Err(BoundsFault::Piece(Side::Below, 0)));
+    }
+    Ok(())
+}
+
+/// A box from `left` to `right`, 2,000 u high.
+fn pane(alloc: Global, left: i16, right: i16) -> Result<Vec<Piece>, Fail> {
+    let mut points = Vec::new(alloc);
+    for corner in [
+        (left, -1000),
+        (right, -1000),
+        (right, 1000),
+        (left, 1000),
+        (left, -1000),
+    ] {
+        points.push(spot(corner))?;
+    }
+    let mut pieces = Vec::new(alloc);
+    if are_placed(&points) {
+        pieces.push(on(1, Shape::Filled(Area::new(alloc, points)?)))?;
+    }
+    Ok(pieces)
+}
+
+/// Boxes below it: more than 1,502 u from the chords of both quarter turns, and off the straight part.
+#[test]
+fn boxes_below(rt: HostRuntime) -> Result<(), Fail> {
+    let alloc = rt.alloc();
+    for back in [false, true] {
+        let upper = around(alloc, back, 257)?;
+        let mut real = Vec::new(alloc);
+        real.push(half_disc(alloc, back)?)?;
+        for (left, right, told) in [
+            (1, 1875, true),
+            (1, 1876, false),
+            (0, 1000, false),
+            (-1000, 1000, false),
+            (-1000, -1, false),
+        ] {
+            let lower = pane(alloc, left, right)?;
+            let found = check_between(alloc, &real, &lower, &[1], &upper, &[7]);
+            let lies = found == Ok(());
+            assert!(rt; lies == told, "at {right}");
+        }
     }
     Ok(())
 }

@@ -31,7 +31,7 @@ fn is_even(start: Spot, bend: &Bend) -> bool
 }
 
 /// The arc from `start`, as a draw of no width.
-fn draw_of(start: Spot, bend: &Bend) -> Arc
+pub fn draw_of(start: Spot, bend: &Bend) -> Arc
     ensures { result ≡ arc_of start bend.now }
 {
     let (first, last) = if bend.counterclockwise {

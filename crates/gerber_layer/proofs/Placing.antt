@@ -26,9 +26,8 @@ use Rattle.gerber_layer.specs.MacroLayer.{loose}
 use Rattle.gerber_layer.proofs.MacroOutcome.{gerber_ok, outcome_loosely}
 use Rattle.gerber_layer.specs.CommandEffects.{Place, Known, Effect, Profile, stays, begins_macro, fills_macro, is_finish, performs, extends, closes, opens, leaves, steps, concludes, ◌>>=◌, as_copies, with_copies, left, listed, ended_block, next_block, repeat, row, effect, code_of}
 use Rattle.gerber_layer.specs.Image.{image_by, known_by, pieces_by, made, piece_of, pieces_after, with_effect}
-use Rattle.gerber_words.specs.Words.{Entry}
 use Rattle.gerber_layer.specs.Dialect.{Dialect, IsReadBy}
-use Rattle.gerber_layer.specs.Layer.{in_words}
+use Rattle.gerber_layer.specs.Layer.{IsRead, standard}
 use Rattle.gerber_layer.proofs.Outcome.{bind_ok, not_body, past_test, outcome, IsEffect, IsFilled}
 
 -- the piece is on the layer
@@ -181,9 +180,8 @@ each_piece p pieces h = λ i d below. subst (OnLayer p) (get_or-map plain_piece 
 read_on : {W : Type 0} (d : Dialect W) → KeepsLayer d.table → (file : List ℕ) (p : Place) (pieces : List (Placed Shape)) → IsReadBy d file p (plain_pieces pieces) → All (λ q. (q.top ≡ p.layer) × (q.bottom ≡ p.layer)) pieces
 read_on d keeps file p pieces read = each_piece p pieces (subst (λ xs. All (OnLayer p) xs) (sym read.2.is) (pieces_on d.table keeps p (said read.2.earlier)))
 
--- also whatever words are read as
-pub layer_read : (command : Entry → Command) (file : List ℕ) (p : Place) (pieces : List (Placed Shape)) → IsReadBy (in_words command) file p (plain_pieces pieces) → All (λ q. (q.top ≡ p.layer) × (q.bottom ≡ p.layer)) pieces
-layer_read command file p pieces read = read_on (in_words command) effect_on file p pieces read
+pub layer_read : (file : List ℕ) (p : Place) (pieces : List (Placed Shape)) → IsRead file p (plain_pieces pieces) → All (λ q. (q.top ≡ p.layer) × (q.bottom ≡ p.layer)) pieces
+layer_read file p pieces read = read_on standard effect_on file p pieces read
 
 pub loose_read : (file : List ℕ) (p : Place) (pieces : List (Placed Shape)) → IsReadBy loose file p (plain_pieces pieces) → All (λ q. (q.top ≡ p.layer) × (q.bottom ≡ p.layer)) pieces
 loose_read file p pieces read = read_on loose loose_on file p pieces read

@@ -1,28 +1,23 @@
-//! The dialects of copper files: by the standard apertures alone, also with straight arcs, with macros,
-//! and of real copper.
+//! The dialects of copper files: by the standard apertures alone, with macros, and of real copper.
 ghost use Rattle.std.specs.Prelude.{◌≡◌, ◌+◌, ◌^◌, ◌<◌, IfErr, OnOk};
 ghost use Rattle.gerber_words.specs.Stepping.{entry_of};
-ghost use Rattle.gerber_words.specs.Words.{Entry};
-ghost use Rattle.gerber_layer.specs.Command.{Command as PlainCommand, view};
+ghost use Rattle.gerber_layer.specs.Command.{view};
 ghost use Rattle.gerber_layer.specs.Dialect as spec;
 ghost use Rattle.gerber_layer.specs.Lawful.{IsLawfulCommand};
-ghost use Rattle.gerber_layer.specs.Layer.{in_words};
+ghost use Rattle.gerber_layer.specs.Layer.{standard};
 ghost use Rattle.gerber_layer.specs.MacroLayer.{loose, with_macros};
 ghost use Rattle.gerber_layer.specs.Reader.{IsLawfulReader, Obeys, Stops, known_of};
-ghost use Rattle.gerber_layer.specs.StraightCommands.{straight_command};
-ghost use Rattle.gerber_layer.specs.WordCommands.{command_of};
 
 use crate::command::Command;
 use crate::kind::GerberKind;
 use crate::macro_kind::FlattenKind;
 use crate::macro_rows::any_halt;
 use crate::reader::Reader;
-use crate::straight_commands::{read_loose_command, read_straight_command};
+use crate::straight_commands::read_loose_command;
 use crate::word_commands::{read_command, read_macro_command};
 use file_reading::Halt;
 use gerber_words::Word;
 use std::alloc::Global;
-use std::marker::PhantomData;
 
 /// A dialect: what a word says, and what a command does.
 pub trait Dialect {
@@ -51,50 +46,16 @@ pub trait Dialect {
         ensures halt { IfErr result (Stops (dialect.table (known_of reader.old) (view command.now))) };
 }
 
-/// How words are read where the standard apertures stand alone.
-pub trait Wording {
-    /// What a word says.
-    ghost command: { Entry → PlainCommand };
-
-    /// What a word says.
-    fn command<'a>(word: Word<'a>) -> Command<'a>
-        ensures value { view result ≡ command (entry_of word.entry) }
-        ensures lawful { IsLawfulCommand (view result) };
-}
-
-/// As they stand.
-pub struct Standard;
-
-impl Wording for Standard {
-    ghost command = { command_of };
-
-    fn command<'a>(word: Word<'a>) -> Command<'a> {
-        read_command(word)
-    }
-}
-
-/// Each arc draw is the straight draw from its start to its end, and offsets say nothing. So no word is
-/// refused as an `Arc`; whether its arc is one is not judged.
-pub struct Straight;
-
-impl Wording for Straight {
-    ghost command = { straight_command };
-
-    fn command<'a>(word: Word<'a>) -> Command<'a> {
-        read_straight_command(word)
-    }
-}
-
 /// The standard apertures alone.
-pub struct Plain<W: Wording>(PhantomData<W>);
+pub struct Plain;
 
-impl<W: Wording> Dialect for Plain<W> {
+impl Dialect for Plain {
     type Kind = GerberKind;
 
-    ghost dialect = { in_words W.command };
+    ghost dialect = { standard };
 
     fn read<'a>(word: Word<'a>) -> Command<'a> {
-        W::command(word)
+        read_command(word)
     }
 
     fn obey<'a>(

@@ -1,10 +1,9 @@
 //! Reads a layer.
 ghost use Rattle.std.specs.Prelude.{◌≡◌, ◌≤◌, length, All, IfOk, IfErr};
 ghost use Rattle.board_shapes.specs.Pieces.{plain_pieces};
-ghost use Rattle.gerber_layer.specs.Dialect.{IsReadBy};
-ghost use Rattle.gerber_layer.specs.Layer.{IsFault, IsFaultBy, IsRead, in_words};
+ghost use Rattle.gerber_layer.specs.Layer.{IsFault, IsRead};
 
-use crate::dialect::{Plain, Standard, Wording};
+use crate::dialect::Plain;
 use crate::file::{Stopped, read_by};
 use crate::kind::LayerFault;
 use board_shapes::{MOST_LAYERS, Piece, Room};
@@ -33,25 +32,7 @@ pub fn read_layer(
     ensures layers { IfOk result (λ pieces. All (λ piece. (piece.top ≡ layer) × (piece.bottom ≡ layer)) pieces.items) }
     ensures fault { IfErr result (IsFault file.now (record { layer = layer; file = file_number; room = room })) }
 {
-    read_layer_by::<Standard>(alloc, file, layer, file_number, room)
-}
-
-/// As `read_layer`, but `W` says how words are read: `Standard`, as they stand, or `Straight`.
-pub fn read_layer_by<W: Wording>(
-    alloc: Global,
-    file: &[u8],
-    layer: u8,
-    file_number: u32,
-    room: Room,
-) -> Result<Vec<Piece>, LayerFault>
-    requires layer { (1 ≤ layer) × (layer ≤ MOST_LAYERS) }
-    requires size { length file.now ≤ MOST_BYTES }
-    ensures ok { IfOk result (λ pieces. IsReadBy (in_words W.command) file.now (record { layer = layer; file = file_number; room = room }) (plain_pieces pieces.items)) }
-    ensures few { IfOk result (λ pieces. length pieces.items ≤ room.pieces) }
-    ensures layers { IfOk result (λ pieces. All (λ piece. (piece.top ≡ layer) × (piece.bottom ≡ layer)) pieces.items) }
-    ensures fault { IfErr result (IsFaultBy (in_words W.command) file.now (record { layer = layer; file = file_number; room = room })) }
-{
-    match read_by::<Plain<W>>(alloc, file, layer, file_number, room) {
+    match read_by::<Plain>(alloc, file, layer, file_number, room) {
         Ok(pieces) => Ok(pieces),
         Err(Stopped { halt, command, at }) => match halt {
             Halt::Fault(kind) => Err(LayerFault::Refused { kind, command, at }),

@@ -12,8 +12,8 @@ use file_reading::Halt;
 use std::alloc::Global;
 use texts::MOST_BYTES;
 
-/// The pieces of a layer of real copper as `read_layer` has them, but each arc draw is straight, as by
-/// `Straight`, and the file may have aperture macros (Gerber Layer Format Specification, 4.5), with any
+/// The pieces of a layer of real copper as `read_layer` has them, but each arc draw is straight, from its
+/// start to its end, whatever its offsets say, and the file may have aperture macros (Gerber Layer Format Specification, 4.5), with any
 /// number of radii. For a vector line along no axis stands its stroke: a flash makes a capsule that runs
 /// along no axis for such a line alone. The fault is the first, by its kind, command and byte.
 pub fn read_loosely(

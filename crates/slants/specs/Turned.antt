@@ -15,7 +15,7 @@ use Rattle.slants.specs.declared.turns.Turn.{Turn}
 use Rattle.slants.specs.declared.turns.TheConstants.{MOST_PART}
 
 -- Of one turn, (x/n, y/n) are its cosine and its sine: it is counterclockwise, by twice the angle from (1, 0) to (t.x, t.y).
--- Of two, that is where the tangents of the circle at both of these places meet
+-- Of two whose ways are less than a right angle apart, that is where the tangents of the circle at both of these places meet
 abbrev pub meet_of : Turn → Turn → Heading
 meet_of u v = record { x = u.x *ℤ v.x -ℤ u.y *ℤ v.y; y = u.x *ℤ v.y +ℤ u.y *ℤ v.x; n = u.x *ℤ v.x +ℤ u.y *ℤ v.y }
 
@@ -73,7 +73,7 @@ AreBounded a = IsWithin (4 * TWO_METRES * TWO_METRES) a.still × IsWithin (4 * T
 abbrev pub lean_of : Motions → Spot → Spot → Heading → Spot → ℤ
 lean_of m b c d q = cross_of b c m.to *ℤ d.n +ℤ (cross_of b c q -ℤ cross_of b c m.from) *ℤ d.x +ℤ (dot_of b c q -ℤ dot_of b c m.from) *ℤ d.y
 
--- the spot is on the left at the three corners of a triangle that holds each direction of the cone
+-- the spot is on the left at three corners: where the ways are less than a right angle apart, of a triangle that holds each direction of the cone
 abbrev pub Leans : Motions → Spot → Spot → Spot → Type 0
 Leans m b c q = (pos 0 ≤ℤ lean_of m b c (meet_of m.first m.first) q) × (pos 0 ≤ℤ lean_of m b c (meet_of m.first m.last) q) × (pos 0 ≤ℤ lean_of m b c (meet_of m.last m.last) q)
 

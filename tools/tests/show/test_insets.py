@@ -1,4 +1,5 @@
-"""The bounds of contours with arcs in tools/show_board/regions.py, by the checks in crates/arc_regions, written anew from their definitions."""
+"""The bounds of contours with arcs in tools/show_board/regions.py, by the checks in crates/arc_covers and crates/arc_regions, written anew
+from their definitions."""
 import random
 import unittest
 
@@ -47,19 +48,43 @@ def is_above(told):
     return all(len(part) == 2 or stands_for(start, part, chain, radius) for start, part, chain, radius in told)
 
 
+def turned(centre, spot):
+    return centre[0] - (spot[1] - centre[1]), centre[1] + (spot[0] - centre[0])
+
+
+def quarters(centre, first, last):
+    """How many quarter turns come before the last place."""
+    turn, ahead = cross(centre, first, last), dot(centre, first, last)
+    if turn > 0:
+        return 1 if ahead < 0 else 0
+    if turn < 0:
+        return 3 if ahead > 0 else 2
+    return 1 if ahead < 0 else 3
+
+
+def by_quarters(told):
+    """The parts with chains of quarter turns."""
+    for start, part, chain, _ in told:
+        if len(part) == 2:
+            yield start, part, chain, 0
+        else:
+            centre, end, anticlockwise = part
+            first, last = (start, end) if anticlockwise else (end, start)
+            turns = [first]
+            for _ in range(quarters(centre, first, last)):
+                turns.append(turned(centre, turns[-1]))
+            yield start, part, [*turns, last], 3 * (abs(start[0] - centre[0]) + abs(start[1] - centre[1])) // 10 + 2
+
+
 def is_below(told, points):
-    """No place of the area is on the outline or in a draw along a chain, and the outline has its first corner inside."""
-    odd = False
+    """No place of the area is on a straight part or in a draw along a chain of quarter turns, and the outline has its first corner inside."""
+    odd, told = False, [*by_quarters(told)]
     for _, _, chain, radius in told:
         for a, b in zip(chain, chain[1:]):
             if any(are_near(p, q, a, b, radius) and segments_within(p, q, a, b, radius) for p, q in edges(points)) or odd_inside(points, a):
                 return False
             odd ^= crosses(points[0], a, b)
     return is_above(told) and odd
-
-
-def doubled(corners):
-    return sum(cross((0, 0), a, b) for a, b in edges(corners))
 
 
 def are_near(p, q, a, b, r):
@@ -100,29 +125,26 @@ def walk(rng):
 
 class TestInsets(unittest.TestCase):
     def tried(self, contour):
-        made = rounded_contour(tuple(contour), False, False)
+        made = rounded_contour(tuple(contour), False, True)
         if made.is_read:
             told = stretches(contour, [made.outer, *made.wide])
             with self.subTest(contour=contour):
                 self.assertTrue(is_above(told))
-                self.assertTrue(is_below(told, made.inner[0]))
+                self.assertTrue(all(is_below(told, points) for points in made.inner))
         return made
 
     def test_boxes_are_taken(self):
-        """What is made for a box with arcs, where it is wide enough; the area within is less by what the draws are wide."""
+        """What is made for a box with arcs, where it is wide enough."""
         rng = random.Random(64)
-        for _ in range(150):
+        for _ in range(200):
             contour = ring(rng)
-            made, wide = self.tried(contour), max([2 * draw[3] for draw in rounded_contour(tuple(contour), False, False).wide], default=0)
-            self.assertTrue(made.is_read or not made.inner or contour[0][0] < 9, contour)
-            if made.is_read:
-                length = sum(abs(v - w) for a, b in edges(made.outer) for v, w in zip(a, b))
-                self.assertLess(abs(doubled(made.outer)) - abs(doubled(made.inner[0])), 2 * length * (wide + 4), contour)
+            made = self.tried(contour)
+            self.assertTrue(len(made.inner) == 1 or not made.wide or contour[0][0] < 30, contour)
 
     def test_walks_are_taken(self):
         rng = random.Random(65)
-        read = sum(self.tried(walk(rng)).is_read for _ in range(300))
-        self.assertGreater(read, 30)
+        found = sum(len(its.inner) for its in (self.tried(walk(rng)) for _ in range(300)) if its.is_read)
+        self.assertGreater(found, 30)
 
     def test_straight_edges_are_kept(self):
         """But near arcs they are moved by 2 u alone, also behind one that turns inwards."""
@@ -132,16 +154,15 @@ class TestInsets(unittest.TestCase):
     def test_what_is_not_taken(self):
         """The checks refuse an arc whose ends are not as far, draws that are a u less wide, and an area that touches the outline."""
         contour = [(0, 0), (4000, 0), ((0, 0), (0, 4000), True), (0, 0)]
-        made = rounded_contour(tuple(contour), False, False)
+        made = rounded_contour(tuple(contour), False, True)
         told = stretches(contour, [made.outer, *made.wide])
         self.assertTrue(is_below(told, made.inner[0]))
-        self.assertFalse(rounded_contour(tuple(contour), False, True).is_read)
         self.assertFalse(is_above([(start, part, chain, radius - (len(part) == 3)) for start, part, chain, radius in told]))
         self.assertFalse(is_below(told, [(0, 0), (100, 0), (0, 100)]))
         self.assertFalse(is_below(told, [(10, 10), (-100, 10), (-10, -100)]))
         self.assertFalse(is_below(told, [(-10, -10), (-100, -10), (-10, -100)]))
-        self.assertFalse(rounded_contour(((0, 0), (4000, 0), ((0, 0), (1, 4000), True), (0, 0)), False, False).is_read)
-        self.assertFalse(rounded_contour(((0, 0), ((9000, 0), (0, 0), True)), False, False).is_read)
+        self.assertFalse(rounded_contour(((0, 0), (4000, 0), ((0, 0), (1, 4000), True), (0, 0)), False, True).is_read)
+        self.assertFalse(rounded_contour(((0, 0), ((9000, 0), (0, 0), True)), False, True).is_read)
 
 
 if __name__ == "__main__":

@@ -16,6 +16,9 @@ from show_board.ties import Ties, tie
 HEAD = ["%FSLAX46Y46*%", "%MOMM*%", "G75*", "%ADD10C,0.2*%", "%ADD11C,1.0*%", "%ADD12R,1.0X0.4*%", "%ADD13C,0.0002*%", "D10*"]
 HALF = ["X1000000Y0D02*", "G03X-1000000Y0I-1000000J0D01*", "G01*"]
 LINES = ["%AMA*", "20,1,0.2,1,0,2,1,0*", "20,1,$1+$1,1,-2,0,-3,90*", "1,1,$1,-1,2,270*", "20,1,0,0,0,1,2,0*", "20,1,0.2,-2,1,-3,0,0*%", "%ADD20A,0.1*%"]
+ROUNDED = ["G36*", "X500000Y0D02*", "X1500000Y0D01*", "G03X2000000Y500000I0J500000D01*", "G01X2000000Y1000000D01*", "G03X1500000Y1500000I-500000J0D01*",
+           "G01X500000Y1500000D01*", "G02X0Y1000000I-500000J0D01*", "G01X0Y500000D01*", "G03X500000Y0I500000J0D01*", "G01*",
+           "X7000000Y0D02*", "X8000000Y0D01*", "X8000000Y1000000D01*", "X7000000Y0D01*", "G37*"]
 PAD = ["%AMRoundRect*", "0 by thirty degrees*", "4,1,4,$2,$3,$4,$5,$6,$7,$8,$9,$2,$3,0*", *(f"1,1,$1+$1,${k},${k + 1}*" for k in (2, 4, 6, 8)),
        *(f"20,1,$1+$1,${k},${k + 1},${m},${m + 1},0*" for k, m in ((2, 4), (4, 6), (6, 8))), "20,1,$1+$1,$8,$9,$2,$3,0*%",
        "%ADD20RoundRect,0.25X-0.433X-0.583X0.733X0.083X0.433X0.583X-0.733X-0.083*%"]
@@ -59,29 +62,35 @@ class Asked(made.Case):
         self.assertEqual([program.texts[0], *program.texts[1:3]], [
             of_text(more["m.json"].encode()).text(), *(of_text(more["m.json"].replace("top.gbr", f"{side}.gbr").encode()).text() for side in ("lower", "upper"))])
 
-    def test_counts_of_macros_and_regions(self):
-        """A line for each primitive that has copper, in their order, and for each contour of a region; thin lines have nothing below."""
-        macro = ["%AMA*", "1,1,0.4,1,0*", "20,1,0.2,0,0,0.3,0.4,90*", "20,1,0,0,0,1,1,0*", "21,1,0.4,0.2,0,0,0*", "20,1,0.0000002,0,0,0.3,0.5,0*", "20,1,.2,1,0,0,0,0*%", "%ADD20A*%", "%AMB*", "1,1,0,0,0*%", "%ADD21B*%"]
-        bent = ["X2000000Y0D02*", "X3000000Y0D01*", "X3000000Y1000000D01*", "G03X2000000Y0I0J-1000000D01*", "G01*"]
-        square = ["X7000000Y0D02*", *(f"X{x}000000Y{y}000000D01*" for x, y in ((8, 0), (8, 1), (7, 0)))]
-        lines = [*macro, "D20*", "%SRX2Y1I9.0J0*%", "X0Y0D03*", "%SR*%", "D21*", "X1000000Y1000000D03*", "G36*", *square, *bent, *square, "G37*", "D11*", "X9000000Y9000000D03*"]
+    def test_counts_of_macros(self):
+        """A line for each primitive that has copper, in their order; thin lines have nothing below."""
+        macro = ["%AMA*", "1,1,0.4,1,0*", "20,1,0.2,0,0,0.3,0.4,90*", "20,1,0,0,0,1,1,0*", "21,1,0.4,0.2,0,0,0*", "20,1,0.0000002,0,0,0.3,0.5,0*",
+                 "20,1,.2,1,0,0,0,0*%", "%ADD20A*%", "%AMB*", "1,1,0,0,0*%", "%ADD21B*%"]
         program = Recorder(Answer(3, b"", "no"))
-        self.told(program, lines, [A, B])
-        rows = bounds.sides_of(Package(None, self.path("board")), "top.gbr").rows
-        (_, (low, high), _) = rows[max(rows)]
-        self.assertEqual((low, high > 9), (1, True))
-        flash = ["1 1", "1 1", "1 1", "0 1", "1 1"]
-        self.assertEqual(program.texts[3], "\n".join(["boardnet-bounds 1", *flash, *flash, "1 1", f"{low} {high}", "1 1", "1 1", ""]))
+        self.told(program, [*macro, *HALF, "D20*", "%SRX2Y1I9.0J0*%", "X0Y0D03*", "%SR*%", "D21*", "X1000000Y1000000D03*", "D11*", "X9000000Y9000000D03*"], [A, B])
+        half, flash = " ".join(str(self.links(side, 21)) for side in ("lower", "upper")), ["1 1", "1 1", "1 1", "0 1", "1 1"]
+        self.assertEqual(program.texts[3], "\n".join(["boardnet-bounds 1", half, *flash, *flash, "1 1", ""]))
 
-    def test_fine(self):
-        """Copper that touches the very edge of a region: its coarse area below leaves that undecided, its fine one does not."""
-        bent = ["X0Y0D02*", "X2000000Y0D01*", "G03X0Y2000000I-2000000J0D01*", "G01X0Y0D01*"]
-        for x, files in ((-500000, ["coarse", "fine"]), (-499999, ["coarse"])):
-            program = Recorder(Answer(0, b"agrees\n", ""))
-            with mock.patch.object(bounds, "of_package", side_effect=lambda package, is_fine, of=bounds.of_package: [of(package, is_fine), tried.append("fine" if is_fine else "coarse")][0]):
-                tried = []
-                told = self.told(program, ["G36*", *bent, "G37*", "D11*", f"X{x}Y500000D03*"], [record("A", "J1.1", -.5, .5), record("A", "J1.2", .5, .5)])
-            self.assertEqual((told.status, tried, "proved" in told.line), (0, files, files == ["coarse"]))
+    def test_counts_of_regions(self):
+        """A line for each contour of a region, which has one area below, or none where it is small."""
+        bent = ["X2000000Y0D02*", "X3000000Y0D01*", "X3000000Y1000000D01*", "G03X2000000Y0I0J-1000000D01*", "G01*"]
+        small = ["X7000000Y0D02*", "X7000001Y0D01*", "G03X7000000Y1I-1J0D01*", "G01X7000000Y0D01*"]
+        square = ["X7000000Y0D02*", *(f"X{x}000000Y{y}000000D01*" for x, y in ((8, 0), (8, 1), (7, 0)))]
+        program = Recorder(Answer(3, b"", "no"))
+        self.told(program, [*HALF, "G36*", *square, *bent, *small, *square, "G37*", "D11*", "X9000000Y9000000D03*"], [A, B])
+        (_, (low, high), (least, few), _) = bounds.of_package(Package(of_text(manifest().encode()), self.path("board")), True).rows["top.gbr"][30]
+        self.assertEqual((low, high > 9, least, few > 2), (1, True, 0, True))
+        half = " ".join(str(self.links(side, 10)) for side in ("lower", "upper"))
+        self.assertEqual(program.texts[3], "\n".join(["boardnet-bounds 1", half, "1 1", f"{low} {high}", f"{least} {few}", "1 1", "1 1", ""]))
+
+    def test_smaller_areas(self):
+        """With regions the word is said where the smaller areas within them say the same, and a weaker answer is none."""
+        bent = ["G36*", "X0Y0D02*", "X2000000Y0D01*", "G03X0Y2000000I-2000000J0D01*", "G01X0Y0D01*", "G37*"]
+        text = "boardnet-between 1\nreal 1\ncertain\nopens 0\nshorts {}\nmissing 0\nundecided\nopens 0\nshorts 0\nmissing 0\n{}\n"
+        for records, shorts, word, is_said in (("AA", 0, "agrees", True), ("AA", 0, "undecided", False), ("AB", 1, "differs", True), ("AB", 0, "differs", False)):
+            program = Recorder(Answer(int(word != "agrees"), text.format(shorts, word).encode(), ""))
+            told = self.told(program, bent, [record(name, f"J1.{k}", .5, .5 + k * .1) for k, name in enumerate(records)])
+            self.assertEqual(("proved" in told.line, told._replace(line="")), (is_said, self.bounded._replace(line="")))
 
     def links(self, side, number):
         """How many draws of a side are of a command of the top."""
@@ -108,7 +117,6 @@ class Asked(made.Case):
                 ["G36*", "X9000000Y0D02*", "G03X9000000Y0I1000000J0D01*", "G37*"], ["X0Y0D03*", "X5Y5*"],
                 ["%AMA*", "20,1,0.2,0,0,0.3,0.4,30*%", "%ADD14A*%", "D14*", "X0Y5000000D03*"], ["%AMA*", "20,1,0.0000003,0,0,0.3,0.4,0*%", "%ADD14A*%", "D14*", "X0Y5000000D03*"],
                 ["%AMA*", "1,1,0.2,0,0*", "1,0,0.1,0,0*%", "%ADD14A*%", "D14*", "X0Y5000000D03*"], ["%AMA*", "1,1,0.2,0,0*%", "%ADD14A*%", "D14*", "%LS2*%", "X0Y5000000D03*"],
-                ["G36*", "X8000000Y0D02*", "X9000000Y0D01*", "G03X8000000Y999999I-1000000J0D01*", "G01X8000000Y0D01*", "G37*"],
                 ["%ADD14C,1X0.2*%", "D14*", "X0Y5000000D03*"], ["%ABD15*%", "D11*", "X9000000Y0D03*", "%AB*%", "D15*", "X0Y0D03*"]]
         for lines in rows:
             program = Recorder()
@@ -148,6 +156,7 @@ class Taken(made.Case):
         ("slanted lines", [*LINES, "D20*", "X0Y0D03*"], [record("A", "J1.1", 1.9, .9), record("A", "J1.2", 1.1, .1), record("B", "J2.1", -2.1, .9), record("B", "J2.2", -2.9, .1)], "agrees"),
         ("a short by a slanted line", [*LINES, "D20*", "X0Y0D03*"], [record("A", "J1.1", 1.9, .9), record("B", "J2.1", 1.1, .1)], "differs"),
         ("turned pads of KiCad", [*PAD, *HALF, "D20*", "%SRX2Y1I5.0J0*%", "X1000000Y0D03*", "%SR*%"], [A, B, record("A", "J1.3", 1.5, .65), record("B", "J2.1", 6, 0)], "agrees"),
+        ("regions with arcs", ROUNDED, [record("A", "J1.1", 1, .5), record("A", "J1.2", .5, 1), record("B", "J2.1", 7.5, .4)], "agrees"),
     ]
 
     def test_rows(self):

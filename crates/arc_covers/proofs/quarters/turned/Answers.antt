@@ -1,0 +1,14 @@
+use Rattle.std.proofs.Common.{refl}
+use Rattle.arc_covers.proofs.Turning.{less_read, more_read}
+use Rattle.arc_covers.proofs.quarters.turned.Goals as goal
+
+pub returns : goal.returns
+returns c =
+    rw (
+      less_read c.args.c.x c.args.s.y c.args.c.y c.requires.c_placed.0 c.requires.s_placed.1 c.requires.c_placed.1,
+      more_read c.args.c.y c.args.s.x c.args.c.x c.requires.c_placed.1 c.requires.s_placed.0 c.requires.c_placed.0,
+      less_read c.args.c.x c.args.s.x c.args.c.x c.requires.c_placed.0 c.requires.s_placed.0 c.requires.c_placed.0,
+      less_read c.args.c.y c.args.s.y c.args.c.y c.requires.c_placed.1 c.requires.s_placed.1 c.requires.c_placed.1,
+      more_read c.args.c.x c.args.s.y c.args.c.y c.requires.c_placed.0 c.requires.s_placed.1 c.requires.c_placed.1,
+      less_read c.args.c.y c.args.s.x c.args.c.x c.requires.c_placed.1 c.requires.s_placed.0 c.requires.c_placed.0,
+    ) refl
