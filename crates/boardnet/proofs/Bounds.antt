@@ -1,13 +1,14 @@
 -- Two boards bound a real one or they do not, for one reason.
 use Rattle.std.proofs.Common.{◌≡◌, inl, inr, ◌↔◌, ℕ, suc, zero, ◌+◌, ◌<◌, List, [], ◌∷◌, length, map, Some, All, slice_get, ap, refl, subst, sym, ◌∙◌, arith}
 use Rattle.std.proofs.lemmas.List.{length-map}
-use Rattle.arc_covers.specs.Bounds.{AddUp, IsOn, figures_of, share_of}
+use Rattle.arc_covers.specs.Bounds.{AddUp, ContourFor, IsOn, figures_of, share_of}
 use Rattle.arc_covers.specs.Faults.{AreFirstOff, IsFirstFault, on_side}
 use Rattle.arc_covers.specs.RealBoards.{IsCopperOf, IsReal, real_span}
 use Rattle.arc_covers.specs.Taken.{FirstTaken, PiecesAreTaken, StandTaken}
 use Rattle.arc_covers.specs.declared.between.BoundsFault.TheVariants as fault
 use Rattle.arc_covers.specs.declared.side.Side.{Side}
 use Rattle.arc_covers.specs.declared.side.Side.TheVariants.{Below, Above}
+use Rattle.arc_covers.specs.Quarters.{LiesBelow}
 use Rattle.arc_covers.specs.Regions.{RegionAbove}
 use Rattle.arc_regions.specs.Copper.{InRegion}
 use Rattle.arc_layer.specs.Real.{PlainReal, RealFigure, plain, bent, slanted, curved, plain_real, plain_reals, real_figure}
@@ -44,7 +45,7 @@ abbrev StandBy : Side → RealFigure → List Figure → Type 0
 StandBy side (plain figure) figures = figures ≡ figure ∷ []
 StandBy side (bent arc) figures = StandTaken side (ArcDraw arc) figures
 StandBy side (slanted line) figures = StandTaken side (Slanted line) figures
-StandBy Below (curved begins parts) figures = figures ≡ []
+StandBy Below (curved begins parts) figures = ContourFor Below (LiesBelow begins parts) figures
 StandBy Above (curved begins parts) figures = RegionAbove begins parts figures
 
 stand_by : (side : Side) (s : RealShape) (figures : List Figure) → StandTaken side s figures ↔ StandBy side (real_figure s) figures
