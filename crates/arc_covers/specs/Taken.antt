@@ -33,7 +33,7 @@ RegionTaken Below area figures = ContourFor Below (LiesBelow area.start area.par
 RegionTaken Above area figures = RegionAbove area.start area.parts.items figures
 
 -- For a figure that figure, for a slanted line one contour that is taken or below none. For an arc draw the capsules of one chain of one radius that is taken. Capsules have one chain; no capsules are those of none and of each single
--- spot, of which the former is taken below and nothing above
+-- spot, of which the former is taken below and nothing above. For a region what its own check takes
 abbrev pub StandTaken : Side → RealShape → List Figure → Type 0
 StandTaken side (Plain shape) figures = figures ≡ figure_of shape ∷ []
 StandTaken side (ArcDraw arc) figures = (chain : List Spot) × (r : ℕ) × (figures ≡ capsules_of chain (pos r)) × IsTaken side arc chain r

@@ -64,11 +64,7 @@ pub fn mark_by(bend: Option<Bend>, flash: bool) -> Option<Mark>
 {
     match bend {
         Some(bend) => Some(Mark::Arc(bend)),
-        None => if flash {
-            Some(Mark::Flash)
-        } else {
-            None
-        },
+        None => if flash { Some(Mark::Flash) } else { None },
     }
 }
 
@@ -92,7 +88,10 @@ pub fn contour_mark(edges: Vec<Option<Bend>>) -> Option<Mark>
     }
 }
 
-fn lengthened(edges: Vec<Option<Bend>>, bend: Option<Bend>) -> Result<Vec<Option<Bend>>, Halt<RealKind>>
+fn lengthened(
+    edges: Vec<Option<Bend>>,
+    bend: Option<Bend>,
+) -> Result<Vec<Option<Bend>>, Halt<RealKind>>
     requires edges { All IsShort edges.items }
     requires bend { IsShort bend }
     ensures short { IfOk result (λ longer. All IsShort longer.items) }

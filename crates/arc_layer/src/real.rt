@@ -10,23 +10,23 @@ ghost use Rattle.board_shapes.specs.Pieces.{plain_piece, plain_pieces};
 ghost use Rattle.planar.specs.Plane.{IsPlaced};
 ghost use Rattle.std.specs.Prelude.{◌≡◌, ◌≤◌, All, length, map, option_map, IfErr, IfOk, IfSome, Some};
 
-use crate::marks::{Marks, read_marks};
 use crate::centres::moved;
 use crate::draws::Bend;
 use crate::kind::{RealFault, RealKind};
 use crate::mark::Mark;
+use crate::marks::{Marks, read_marks};
 use arc_regions::{Bend as Curve, Part, Region};
-use area_contact::Area;
 use arcs::Arc;
+use area_contact::Area;
 use board_shapes::{MOST_LAYERS, Piece, Placed, Room, Shape};
 use contact::Capsule;
 use gerber_layer::laws::one_loose_answer;
 use gerber_layer::{FlattenFault, FlattenKind, read_loosely};
 use gerber_words::laws::words_lie_ahead;
-use real_shapes::{RealPiece, RealShape};
-use std::alloc::Global;
 use planar::Spot;
+use real_shapes::{RealPiece, RealShape};
 use slants::Slant;
+use std::alloc::Global;
 use texts::MOST_BYTES;
 
 /// The arc of a bend between the ends of a straight draw.

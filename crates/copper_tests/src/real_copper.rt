@@ -259,9 +259,15 @@ fn of_refusals() -> [(&'static str, &'static str); 20] {
             "G74*G03X10Y10I5J5D01*I5J5*M02*",
             "Copper(Gerber(BadWord)) at command 7",
         ),
-        ("G75*G02X1J0D01*G20*M02*", "Copper(Gerber(BadWord)) at command 7"),
+        (
+            "G75*G02X1J0D01*G20*M02*",
+            "Copper(Gerber(BadWord)) at command 7",
+        ),
         ("G75*G02X1D01*G20*M02*", "NoOffsets at command 6"),
-        ("D11*G75*G02X1D01*M02*", "Copper(Gerber(NoAperture)) at command 5"),
+        (
+            "D11*G75*G02X1D01*M02*",
+            "Copper(Gerber(NoAperture)) at command 5",
+        ),
         (
             "G36*G75*G02D03*G37*M02*",
             "Copper(Gerber(NotInRegion)) at command 7",
