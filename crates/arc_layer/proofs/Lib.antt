@@ -1,3 +1,4 @@
+pub mod EachEdge
 pub mod Mute
 pub mod Numbers
 pub mod OnLayer

@@ -1,6 +1,7 @@
 pub mod Bends
 pub mod Centres
 pub mod Kinds
+pub mod Laws
 pub mod Marks
 pub mod Reading
 pub mod Real
