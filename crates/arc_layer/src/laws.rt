@@ -1,6 +1,6 @@
 //! Laws over the definitions alone.
 ghost use Rattle.arc_layer.specs.Kinds.{RealKindsHaveOwnNumbers};
-ghost use Rattle.arc_layer.specs.Laws.{EachEdgeHasABend};
+ghost use Rattle.arc_layer.specs.Laws.{EachEdgeHasABend, MarksFitAreas};
 ghost use Rattle.arc_layer.specs.Real.{HasOneRealAnswer};
 ghost use Rattle.gerber_layer.specs.CommandEffects.{Place};
 ghost use Rattle.std.specs.Prelude.{ℕ, List};
@@ -23,8 +23,9 @@ pub fn real_kinds_have_own_numbers()
     kinds_have_own_numbers();
 }
 
-/// Behind any commands, the open contour has as many bends of edges as edges: so the contour that a command ends has one for
-/// each edge, where it has an arc.
+/// Behind any commands, the open contour has as many bends of edges as edges; and so has the mark of a command that ends a
+/// contour with an arc, of the area that it closes.
 pub fn each_edge_has_a_bend()
-    ensures { EachEdgeHasABend }
+    ensures bends { EachEdgeHasABend }
+    ensures fit { MarksFitAreas }
 {}
