@@ -1,8 +1,13 @@
 """Which crates are proved next, and on how many processors each."""
 import re
 
-# A check gains little from more; and one that all wait for gets so many while others run.
-MOST_JOBS, JOBS_OF_THE_LAST = 4, 3
+# A check gains little from more.
+MOST_JOBS = 4
+
+
+def places(processors):
+    """How many jobs keep so many processors busy: a check does a quarter of its work alone, while its other jobs wait."""
+    return processors * 7 // 4
 
 
 def name_of(line):
@@ -54,7 +59,7 @@ def chosen(ready, chain, work, running, processors):
             break
         jobs = max(1, idle // (len(waiting) - at))
         if chain[name] * processors > sum(work.values()):
-            jobs = max(jobs, min(JOBS_OF_THE_LAST, idle + 1))
+            jobs = max(jobs, min(MOST_JOBS, idle + 1))
         begun[name] = min(MOST_JOBS, jobs)
         idle -= begun[name]
     return begun
