@@ -73,7 +73,7 @@ marked (Err why) closed edges flashed = Err why
 abbrev pub mark_of : State → List (Option Bend) → Saying → Result (Option PlainMark) RealKind
 mark_of s edges w = marked (bend_of s w) (closes w.command s) edges (flashes w.command s)
 
--- The bends of the edges of the open contour: none behind `G36`, `G37` and each move of a region, and one more, if it is an arc, behind each draw of a region.
+-- The bends of the edges of the open contour: none behind `G36`, `G37` and each move of a region, and one more behind each draw of a region: the bend of an arc, or none.
 abbrev pub edge_by : Code → Bool → List (Option Bend) → Option Bend → List (Option Bend)
 edge_by Draw true edges bend = edges ++ bend ∷ []
 edge_by Draw false edges bend = edges

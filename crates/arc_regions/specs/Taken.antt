@@ -22,7 +22,7 @@ use Rattle.arc_regions.specs.declared.Stretch.{Stretch}
 abbrev pub arc_of : Spot → Bend → Arc
 arc_of a t = record { centre = t.centre; start = early a t; end = late a t; width = 0 }
 
--- the link from a to b goes past the direction of s from c, or comes to it
+-- the link from a to b, which goes counterclockwise round c by less than a half turn, goes past the direction of s from c, or comes to it
 abbrev pub is_past : Spot → Spot → Spot → Spot → Bool
 is_past c s a b = int_lt (cross_of c s a) (pos 0) && not (int_lt (cross_of c s b) (pos 0))
 
@@ -104,7 +104,7 @@ abbrev pub AreAround : Frame → List Spot → Spot → Spot → Bool → Spot �
 AreAround frame points z q o a [] = (a ≡ z) × IsTrue o
 AreAround frame points z q o a (x ∷ rest) = (IsStretch a x × IsPartClear frame points a x.part x.chain x.radius) × AreAround frame points z q (xor o (odd_part q a x.part x.chain)) (end_of x.part) rest
 
--- a closed contour whose polygon, with chains in place of the arcs, has the first corner of the area inside. The area is clear of its edges and of the capsules along the chains
+-- a closed contour whose polygon, with chains in place of the arcs, has the first corner of the area inside, all in the frame. The area is clear of its edges and of the capsules along the chains
 pub record TakenBelow (frame : Frame) (a : Spot) (stretches : List Chained) (points : List Spot) : Type 0 where
   pub start : IsPlaced a
   pub inside : IsInside (area_box points) frame

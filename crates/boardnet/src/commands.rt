@@ -66,7 +66,7 @@ pub enum Command<'a> {
     Flatten {
         file: &'a str,
     },
-    /// `between REAL LOWER UPPER COUNTS`: judge the package of REAL, whose draws may be arcs, by those of LOWER and UPPER.
+    /// `between REAL LOWER UPPER COUNTS`: judge the package of REAL, which may have arcs and macros, by those of LOWER and UPPER.
     Between {
         real: &'a str,
         lower: &'a str,

@@ -33,7 +33,7 @@ use std::alloc::Global;
 /// and lists the nets that come that close. `x2 MANIFEST` checks the package as `check` does, by the net names in its
 /// copper files in place of its netlist, which it does not take. `flatten FILE` takes one copper file, which may have
 /// aperture macros, and puts a copper file without them that every layer reads as exactly the same shapes. `between REAL
-/// LOWER UPPER COUNTS` builds the board of REAL, whose draws may be arcs, those of LOWER and UPPER, checks by the counts that
+/// LOWER UPPER COUNTS` builds the board of REAL, which may have arcs and macros, those of LOWER and UPPER, checks by the counts that
 /// they bound it, judges both, and puts what is certain of the real board and what is undecided.
 ///
 /// | Status | When |

@@ -1,4 +1,4 @@
--- The command `between REAL LOWER UPPER COUNTS`: a package whose draws may be arcs is judged by two packages that bound it.
+-- The command `between REAL LOWER UPPER COUNTS`: a package that may have arcs and macros is judged by two packages that bound it.
 use Rattle.std.specs.Prelude.{◌≡◌, ◌⊎◌, ⊤, ℕ, List, [], ◌∷◌, codes, map, string_bytes, String, Option, Some, None}
 use Rattle.std.specs.declared.alloc.Global.{Global}
 use Rattle.board_package.specs.PackageBoard.{Stop, not_json, bad_manifest, frame_too_large}
