@@ -1,5 +1,3 @@
-use Rattle.area_contact.specs.Contour.{Reaches, SomeEdge}
-use Rattle.area_contact.specs.Bands.{edges_at}
 use Rattle.area_contact.proofs.RunBoxes.{run_apart}
 use Rattle.area_contact.proofs.search.Search.in_run.Goals as goal
 
