@@ -1,11 +1,13 @@
 -- Runs of 64 edges and the boxes about them.
-use Rattle.std.proofs.Common.{ℕ, zero, suc, ◌+◌, ◌-◌, ◌*◌, ◌≤◌, ◌<◌, min, Bool, true, false, IsTrue, List, [], ◌∷◌, ◌++◌, length, map, get_or, take, drop, All, ◌≡◌, ◌↔◌, ◌⊎◌, ℤ, ◌≤ℤ◌, inl, inr, refl, sym, ap, ◌∙◌, subst, pos, arith}
+use Rattle.std.proofs.Common.{ℕ, zero, suc, ◌+◌, ◌-◌, ◌*◌, ◌≤◌, ◌<◌, min, Bool, true, false, IsTrue, List, [], ◌∷◌, ◌++◌, length, map, get_or, take, drop, All, ◌≡◌, ◌↔◌, ◌⊎◌, ◌||◌, ◌==◌, ℤ, ◌≤ℤ◌, inl, inr, refl, sym, ap, ◌∙◌, subst, pos, arith}
+use Rattle.std.proofs.lemmas.Bool.{eq-eqb, eqb-true}
 use Rattle.std.proofs.lemmas.Int.{ints, clamps}
 use Rattle.std.proofs.lemmas.List.{drop_all, take_all, take-append-drop, length-drop, get_or_append_left, get_or_push, length_push}
 use Rattle.std.proofs.lemmas.List.Elements.{All-drop, All-take}
 use Rattle.std.proofs.lemmas.List.FromFn.{length-range_with_len}
-use Rattle.std.proofs.lemmas.List.Sums.{count_by-le-length, length-filter}
+use Rattle.std.proofs.lemmas.List.Sorted.{All-permutation, length_permutation, list_any-IsPermutation}
 use Rattle.std.specs.Int.{int_max, int_min}
+use Rattle.std.specs.List.Sorted.{IsPermutation}
 use Rattle.planar.specs.declared.Spot.{Spot}
 use Rattle.planar.specs.Plane.{IsPlaced}
 use Rattle.contact.proofs.Boxes.{overlap_share}
@@ -14,9 +16,11 @@ use Rattle.contact.specs.Round.{box_of, IsLawful}
 use Rattle.contact.specs.RoundLaws.{boxes_share}
 use Rattle.contact.specs.Solid.{InBox, SharePoint, joined}
 use Rattle.area_contact.specs.declared.Edge.{Edge}
-use Rattle.area_contact.specs.Bands.{AreAbout, AreEdges, IsAbout, all_numbers, edge_at, edges_at, is_tall, tall_numbers}
-use Rattle.area_contact.specs.Contour.{Reaches, SomeEdge}
+use Rattle.area_contact.specs.Bands.{AreAbout, AreAllEdges, AreEdges, IsAbout, all_numbers, edge_at, edges_at, has_number}
+use Rattle.area_contact.specs.Contour.{Reaches, SomeEdge, edges_of}
 use Rattle.area_contact.proofs.Apart.{edge_lawful}
+use Rattle.area_contact.proofs.Ladders.{number_in}
+use Rattle.area_contact.proofs.Split.{all_numbered}
 
 -- ---- One run after the other
 
@@ -33,6 +37,18 @@ drop_drop (suc m) n (x ∷ xs) = let e : suc m + n ≡ suc (m + n) = omega arith
 parted : (k : ℕ) (xs : List ℕ) → drop (64 * k) xs ≡ take 64 (drop (64 * k) xs) ++ drop (64 * (k + 1)) xs
 parted k xs = let e : 64 * k + 64 ≡ 64 * (k + 1) = omega arith in sym (take-append-drop 64 (drop (64 * k) xs)) ∙ ap (λ (ys : List ℕ). take 64 (drop (64 * k) xs) ++ ys) (drop_drop (64 * k) 64 xs ∙ ap (λ (n : ℕ). drop n xs) e)
 
+or_left : (a b : Bool) → a ≡ true → (a || b) ≡ true
+or_left true b h = refl
+or_left false b h = absurd cc
+
+or_right : (a b : Bool) → b ≡ true → (a || b) ≡ true
+or_right true b h = refl
+or_right false b h = h
+
+or_cases : (a b : Bool) → (a || b) ≡ true → (a ≡ true) ⊎ (b ≡ true)
+or_cases true b h = inl refl
+or_cases false b h = inr h
+
 module _ (P : Edge → Type 0) (f : ℕ → Edge) where
   either : (xs ys : List ℕ) → SomeEdge P (map f (xs ++ ys)) → SomeEdge P (map f xs) ⊎ SomeEdge P (map f ys)
   either [] ys h = inr h
@@ -47,6 +63,23 @@ module _ (P : Edge → Type 0) (f : ℕ → Edge) where
   later : (xs ys : List ℕ) → SomeEdge P (map f ys) → SomeEdge P (map f (xs ++ ys))
   later [] ys h = h
   later (x ∷ xs) ys h = inr (later xs ys h)
+
+  -- ---- In whatever order
+
+  named : (xs : List ℕ) → SomeEdge P (map f xs) → (i : ℕ) × (has_number i xs ≡ true) × P (f i)
+  named [] h = absurd h
+  named (x ∷ xs) (inl h) = (x, or_left (x == x) (has_number x xs) (eq-eqb x x refl), h)
+  named (x ∷ xs) (inr h) = let r = named xs h in (r.0, or_right (x == r.0) (has_number r.0 xs) r.1, r.2)
+
+  by_number : (xs : List ℕ) (i : ℕ) → has_number i xs ≡ true → P (f i) → SomeEdge P (map f xs)
+  by_number [] i h p = absurd cc
+  by_number (x ∷ xs) i h p = elim (or_cases (x == i) (has_number i xs) h) [
+    | inl k ↦ inl (let e : x ≡ i = eqb-true x i k in subst (λ (n : ℕ). P (f n)) (sym e) p)
+    | inr k ↦ inr (by_number xs i k p)
+  ]
+
+  pub reordered : (xs ys : List ℕ) → ((i : ℕ) → has_number i xs ≡ has_number i ys) → SomeEdge P (map f xs) → SomeEdge P (map f ys)
+  reordered xs ys same h = let r = named xs h in by_number ys r.0 (sym (same r.0) ∙ r.1) r.2
 
 module _ (P : Edge → Type 0) (points : List Spot) (numbers : List ℕ) (k : ℕ) where
   pub run_found : (run : List ℕ) (t : Bool) → run ≡ take 64 (drop (64 * k) numbers) → IsTrue t ↔ SomeEdge P (edges_at points run) → t ≡ true → SomeEdge P (edges_at points numbers) ↔ SomeEdge P (edges_at points (drop (64 * k) numbers)) → IsTrue true ↔ SomeEdge P (edges_at points numbers)
@@ -124,13 +157,20 @@ some_at P points (x ∷ xs) (inl h) = (0, omega arith, h)
 some_at P points (x ∷ xs) (inr h) = let r = some_at P points xs h in (suc r.0, (let l = r.1 in omega arith), r.2)
 
 pub about_run : (points : List Spot) (b : Bounds) (numbers : List ℕ) (n : ℕ) → All IsPlaced points → AreEdges points numbers → length numbers ≤ n → AreOver points b numbers n → IsAbout points b numbers
-about_run points b numbers n placed edges all over u v f g apart some =
-    let at = some_at (Reaches u v (pos 0)) points numbers some in
+about_run points b numbers n placed edges all over u v r law apart some =
+    let at = some_at (Reaches u v r) points numbers some in
     let i : ℕ = get_or numbers at.0 0 in
     let below = edges at.0 0 at.1 in
     let lawful : IsLawful (edge_at points i).start (edge_at points i).end (pos 0) = edge_lawful (edge_at points i).start (edge_at points i).end (placed i (record { x = pos 0; y = pos 0 }) (omega arith)) (placed (i + 1) (record { x = pos 0; y = pos 0 }) (omega arith)) in
-    apart (over_meets b (box_of u v (pos 0)) (edge_at points i).start (edge_at points i).end (over at.0 (let l = at.1 in omega arith))
-    (boxes_share (edge_at points i).start (edge_at points i).end (pos 0) u v (pos 0) lawful (edge_lawful u v f g) record { point = at.2.point; in_first = at.2.in_first; in_second = at.2.in_second }))
+    apart (over_meets b (box_of u v r) (edge_at points i).start (edge_at points i).end (over at.0 (let l = at.1 in omega arith))
+    (boxes_share (edge_at points i).start (edge_at points i).end (pos 0) u v r lawful law record { point = at.2.point; in_first = at.2.in_first; in_second = at.2.in_second }))
+
+-- what does not meet the box about a run comes into none of its edges
+pub run_apart : (points : List Spot) (numbers : List ℕ) (b around : Bounds) (u v : Spot) (r : ℤ) (t : Bool) → IsAbout points b numbers → IsLawful u v r → around ≡ box_of u v r → t ≡ false → IsTrue t ↔ SharePoint (InBox b) (InBox around) → IsTrue false ↔ SomeEdge (Reaches u v r) (edges_at points numbers)
+run_apart points numbers b around u v r t about lawful is none meet = (λ h. absurd cc, λ h. absurd (about u v r lawful not h))
+  where
+    not : SharePoint (InBox b) (InBox (box_of u v r)) → ⊥
+    not m = let k : t ≡ true = meet.1 (subst (λ (x : Bounds). SharePoint (InBox b) (InBox x)) (sym is) m) in cc
 
 -- ---- The boxes of the runs
 
@@ -149,10 +189,24 @@ about_more points numbers run boxes k b long is here before j d below = elim (le
 pub run_edges : (points : List Spot) (numbers run : List ℕ) (k : ℕ) → run ≡ take 64 (drop (64 * k) numbers) → AreEdges points numbers → AreEdges points run
 run_edges points numbers run k is edges = subst (AreEdges points) (sym is) (All-take (λ i. i + 1 < length points) 64 (drop (64 * k) numbers) (All-drop (λ i. i + 1 < length points) (64 * k) numbers edges))
 
--- there are no more tall edges than points
-pub few_tall : (points : List Spot) (low : ℤ) (height : ℕ) → length (tall_numbers points low height) ≤ length points
-few_tall points low height =
-    let kept = length-filter (λ i. is_tall low height (edge_at points i)) (all_numbers points) in
-    let most = count_by-le-length (λ i. is_tall low height (edge_at points i)) (all_numbers points) in
-    let all = length-range_with_len 0 (length points - 1) in
-    omega arith
+-- all edges, in whatever order
+pub all_reach : (points told : List Spot) (numbers : List ℕ) (u v : Spot) (r : ℤ) (t : Bool) → told ≡ points → AreAllEdges points numbers → IsTrue t ↔ SomeEdge (Reaches u v r) (edges_at told numbers) → IsTrue t ↔ SomeEdge (Reaches u v r) (edges_of points)
+all_reach points told numbers u v r t is all d =
+    let k : IsTrue t ↔ SomeEdge (Reaches u v r) (edges_at points numbers) = subst (λ (ps : List Spot). IsTrue t ↔ SomeEdge (Reaches u v r) (edges_at ps numbers)) is d in (
+      λ h. subst (λ (es : List Edge). SomeEdge (Reaches u v r) es) (sym (all_numbered points)) (reordered (Reaches u v r) (edge_at points) numbers (all_numbers points) all (k.0 h)),
+      λ h. k.1 (reordered (Reaches u v r) (edge_at points) (all_numbers points) numbers (λ i. sym (all i)) (subst (λ (es : List Edge). SomeEdge (Reaches u v r) es) (all_numbered points) h)),
+    )
+
+module _ (points : List Spot) (xs ys : List ℕ) (is : xs ≡ all_numbers points) (same : IsPermutation xs ys) where
+  pub put_edges : AreEdges points ys
+  put_edges = All-permutation (λ i. i + 1 < length points) xs ys same (subst (AreEdges points) (sym is) (number_in points))
+
+  pub put_all : AreAllEdges points ys
+  put_all i = sym (list_any-IsPermutation (λ n. n == i) xs ys same) ∙ ap (has_number i) is
+
+  pub put_few : length ys ≤ length points
+  put_few =
+      let long = length_permutation xs ys same in
+      let all = ap length is in
+      let range = length-range_with_len 0 (length points - 1) in
+      omega arith

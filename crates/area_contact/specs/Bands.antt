@@ -1,11 +1,11 @@
 -- The bands of a contour: its box is cut into strips of one height, from its low side up. An edge stands in each strip from
 -- that of its lower end to that of its upper end; an edge that would stand in more than 8 is tall, and stands in none.
-use Rattle.std.specs.Prelude.{ℕ, ◌+◌, ◌-◌, ◌*◌, ◌/◌, ◌≤◌, ◌<◌, ◌≡◌, Bool, not, ◌&&◌, cond, nat_le, nat_lt, List, map, filter, take, drop, length, get_or, slice_index, slice_range, ℤ, pos, ◌-ℤ◌, ◌≤ℤ◌, nat_abs, All}
+use Rattle.std.specs.Prelude.{ℕ, ◌+◌, ◌-◌, ◌*◌, ◌/◌, ◌≤◌, ◌<◌, ◌≡◌, Bool, not, ◌&&◌, cond, nat_le, nat_lt, List, map, filter, take, drop, length, get_or, slice_index, slice_range, ℤ, pos, ◌-ℤ◌, ◌≤ℤ◌, nat_abs, All, ◌==◌}
 use Rattle.std.specs.Int.{int_min, int_max}
-use Rattle.std.specs.List.{range_with_len}
-use Rattle.planar.specs.Plane.{IsPlaced, IsReached}
+use Rattle.std.specs.List.{list_any, range_with_len}
+use Rattle.planar.specs.Plane.{IsReached}
 use Rattle.planar.specs.declared.Spot.{Spot}
-use Rattle.contact.specs.Round.{box_of}
+use Rattle.contact.specs.Round.{IsLawful, box_of}
 use Rattle.contact.specs.Solid.{InBox, SharePoint}
 use Rattle.contact.specs.declared.Bounds.{Bounds}
 use Rattle.area_contact.specs.declared.Edge.{Edge}
@@ -105,10 +105,18 @@ IsTable points low height starts numbers = (k : ℕ) → k < 64 → IsCut starts
 abbrev pub AllFrom : ℤ → List Spot → Type 0
 AllFrom low points = All (λ p. low ≤ℤ p.y) points
 
--- no segment whose box does not meet this one reaches one of the edges of these numbers
+-- no capsule whose box does not meet this one holds a point of one of the edges of these numbers
 abbrev pub IsAbout : List Spot → Bounds → List ℕ → Type 0
-IsAbout points b numbers = (u v : Spot) → IsPlaced u → IsPlaced v → (SharePoint (InBox b) (InBox (box_of u v (pos 0))) → ⊥) → SomeEdge (Reaches u v (pos 0)) (edges_at points numbers) → ⊥
+IsAbout points b numbers = (u v : Spot) (r : ℤ) → IsLawful u v r → (SharePoint (InBox b) (InBox (box_of u v r)) → ⊥) → SomeEdge (Reaches u v r) (edges_at points numbers) → ⊥
 
 -- each box is about its run of 64 of the edges
 abbrev pub AreAbout : List Spot → List ℕ → List Bounds → Type 0
 AreAbout points numbers boxes = (k : ℕ) (d : Bounds) → k < length boxes → IsAbout points (get_or boxes k d) (take 64 (drop (64 * k) numbers))
+
+-- the number is one of these
+abbrev pub has_number : ℕ → List ℕ → Bool
+has_number i numbers = list_any (λ n. n == i) numbers
+
+-- the numbers are those of all edges, in whatever order
+abbrev pub AreAllEdges : List Spot → List ℕ → Type 0
+AreAllEdges points numbers = (i : ℕ) → has_number i numbers ≡ has_number i (all_numbers points)

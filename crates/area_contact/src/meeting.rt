@@ -4,7 +4,7 @@
 ghost use Rattle.area_contact.specs.AreaLaws.{boxed, shared_by_itself};
 ghost use Rattle.area_contact.specs.Contour.{InArea, area_box, edges_of};
 ghost use Rattle.contact.specs.Round.{box_of};
-ghost use Rattle.contact.specs.RoundLaws.{boxed as round_boxed, shared_by_itself as round_shared, turned};
+ghost use Rattle.contact.specs.RoundLaws.{boxed as round_boxed, shared_by_itself as round_shared};
 ghost use Rattle.contact.specs.Solid.{IsInside, SharePoint};
 ghost use Rattle.planar.specs.Plane.{InCapsule};
 ghost use Rattle.std.specs.Prelude.{IsTrue, ◌↔◌};
@@ -40,18 +40,22 @@ fn area_and_capsule(area: &Area, capsule: &Capsule, frame: Frame) -> bool
 
 /// Whether edges of the areas share a point, or the first corner of one has an odd number of edges of
 /// the other to its right.
-fn touches_area(first: &Area, second: &Area) -> bool
+fn touches_area(first: &Area, second: &Area, frame: Frame) -> bool
+    requires first_inside { IsInside (area_box first.now.points.items) frame }
+    requires second_inside { IsInside (area_box second.now.points.items) frame }
     ensures { IsTrue result ↔ SharePoint (InArea (edges_of first.now.points.items)) (InArea (edges_of second.now.points.items)) }
 {
-    first.meets_edges(second) || first.is_around(second)
+    first.meets_edges(second, frame) || first.is_around(second)
 }
 
 /// Whether some point lies in both areas.
-fn area_and_area(first: &Area, second: &Area) -> bool
+fn area_and_area(first: &Area, second: &Area, frame: Frame) -> bool
+    requires first_inside { IsInside (area_box first.now.points.items) frame }
+    requires second_inside { IsInside (area_box second.now.points.items) frame }
     ensures { IsTrue result ↔ SharePoint (InArea (edges_of first.now.points.items)) (InArea (edges_of second.now.points.items)) }
 {
     if first.bounds().meet(&second.bounds()) {
-        touches_area(first, second)
+        touches_area(first, second, frame)
     } else {
         false
     }
@@ -62,8 +66,6 @@ impl Meets<Capsule> for Area {
         tests.tick();
         area_and_capsule(self, other, frame)
     }
-
-    ghost symmetric = { λ s t h k m. turned m };
 
     ghost reflexive = { λ s h. shared_by_itself s.points.items h };
 
@@ -76,20 +78,16 @@ impl Meets<Area> for Capsule {
         area_and_capsule(other, self, frame)
     }
 
-    ghost symmetric = { λ s t h k m. turned m };
-
     ghost reflexive = { λ s h. round_shared s.a s.b s.r h };
 
     ghost within_boxes = { λ s t h k m. record { point = m.point; in_first = round_boxed s.a s.b s.r m.point h m.in_first; in_second = boxed t.points.items m.point k m.in_second } };
 }
 
 impl Meets<Area> for Area {
-    fn meets<L: Ledger>(&self, other: &Area, _frame: Frame, tests: &mut Steps<L>) -> bool {
+    fn meets<L: Ledger>(&self, other: &Area, frame: Frame, tests: &mut Steps<L>) -> bool {
         tests.tick();
-        area_and_area(self, other)
+        area_and_area(self, other, frame)
     }
-
-    ghost symmetric = { λ s t h k m. turned m };
 
     ghost reflexive = { λ s h. shared_by_itself s.points.items h };
 

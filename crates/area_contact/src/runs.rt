@@ -1,18 +1,113 @@
-//! Runs of 64 edges, by their numbers, and a box about each, so that a search passes by the runs far away.
-ghost use Rattle.area_contact.specs.Bands.{AreAbout, AreEdges, IsAbout, edges_at};
-ghost use Rattle.area_contact.specs.Contour.{Reaches, SomeEdge};
-ghost use Rattle.contact.specs.Round.{box_of};
+//! All edges of a contour in runs of 64 that stand near one another, and a box about each, so that a search passes by the
+//! runs far away.
+//!
+//! They stand by their middles along a curve that fills the contour's box. In what order, no clause says: a search finds
+//! the same in any.
+ghost use Rattle.area_contact.specs.Bands.{AreAbout, AreAllEdges, AreEdges, IsAbout, all_numbers};
 ghost use Rattle.planar.specs.Plane.{IsPlaced};
-ghost use Rattle.std.specs.Prelude.{All, IfOk, IsTrue, drop, length, pos, take, ◌*◌, ◌≤◌, ◌<◌, ◌≡◌, ◌↔◌};
+ghost use Rattle.std.specs.List.Sorted.{IsPermutation};
+ghost use Rattle.std.specs.Prelude.{All, IfOk, drop, length, take, ◌*◌, ◌≤◌, ◌<◌, ◌≡◌};
 
-use super::lines::{numbers_meet, segment_box};
+use super::lines::segment_box;
 use crate::MOST_CONTOUR_POINTS;
-use contact::Bounds;
+use contact::{Bounds, NO_BOX};
 use planar::Spot;
 use std::alloc::{AllocError, Global};
 
+/// The numbers of all edges, and a box about each run of them.
+#[derive(Drop)]
+pub struct Runs {
+    pub numbers: Vec<u32>,
+    pub boxes: Vec<Bounds>,
+}
+
+/// The runs of a contour, whose box is `extent`; none where there are fewer than 64 edges.
+pub fn make_runs(alloc: Global, points: &[Spot], extent: Bounds) -> Result<Runs, AllocError>
+    requires some { 1 ≤ length points.now }
+    requires few { length points.now ≤ MOST_CONTOUR_POINTS }
+    requires placed { All IsPlaced points.now }
+    ensures edges { IfOk result (λ r. AreEdges points.now r.numbers.items) }
+    ensures each { IfOk result (λ r. 64 < length points.now → AreAllEdges points.now r.numbers.items) }
+    ensures few { IfOk result (λ r. length r.numbers.items ≤ MOST_CONTOUR_POINTS) }
+    ensures about { IfOk result (λ r. AreAbout points.now r.numbers.items r.boxes.items) }
+    ensures all { IfOk result (λ r. length r.numbers.items ≤ 64 * length r.boxes.items) }
+    ensures few_boxes { IfOk result (λ r. length r.boxes.items ≤ MOST_CONTOUR_POINTS) }
+{
+    if points.len() > 64 {
+        full_runs(alloc, points, extent)
+    } else {
+        Ok(Runs {
+            numbers: Vec::new(alloc),
+            boxes: Vec::new(alloc),
+        })
+    }
+}
+
+/// The runs of all edges.
+fn full_runs(alloc: Global, points: &[Spot], extent: Bounds) -> Result<Runs, AllocError>
+    requires some { 1 ≤ length points.now }
+    requires few { length points.now ≤ MOST_CONTOUR_POINTS }
+    requires placed { All IsPlaced points.now }
+    ensures edges { IfOk result (λ r. AreEdges points.now r.numbers.items) }
+    ensures each { IfOk result (λ r. AreAllEdges points.now r.numbers.items) }
+    ensures few { IfOk result (λ r. length r.numbers.items ≤ MOST_CONTOUR_POINTS) }
+    ensures about { IfOk result (λ r. AreAbout points.now r.numbers.items r.boxes.items) }
+    ensures all { IfOk result (λ r. length r.numbers.items ≤ 64 * length r.boxes.items) }
+    ensures few_boxes { IfOk result (λ r. length r.boxes.items ≤ MOST_CONTOUR_POINTS) }
+{
+    let mut numbers = numbers_of(alloc, points)?;
+    put_near(&mut numbers, points, extent);
+    let boxes = run_boxes(alloc, points, &numbers)?;
+    Ok(Runs { numbers, boxes })
+}
+
+/// The numbers of all edges, rising.
+fn numbers_of(alloc: Global, points: &[Spot]) -> Result<Vec<u32>, AllocError>
+    requires some { 1 ≤ length points.now }
+    requires few { length points.now ≤ MOST_CONTOUR_POINTS }
+    ensures { IfOk result (λ v. v.items ≡ all_numbers points.now) }
+{
+    let mut numbers = Vec::new(alloc);
+    for i in 0..points.len() - 1 {
+        numbers.push(i as u32)?;
+    }
+    Ok(numbers)
+}
+
+/// Puts edges that stand near one another side by side.
+fn put_near(numbers: &mut Vec<u32>, points: &[Spot], extent: Bounds)
+    ensures { IsPermutation numbers.old.items numbers.new.items }
+{
+    numbers.sort_unstable_by_key(|number| place_on_curve(points, extent, *number as usize));
+}
+
+/// How far along the curve the middle of the edge stands.
+fn place_on_curve(points: &[Spot], extent: Bounds, number: usize) -> u64 {
+    let (Some(start), Some(end)) = (points.get(number), points.get(number.wrapping_add(1))) else {
+        return 0;
+    };
+    let across = part_of(start.x, end.x, extent.left, extent.right);
+    let up = part_of(start.y, end.y, extent.low, extent.high);
+    spread(across) | spread(up) << 1
+}
+
+/// Which of the 2^16 parts of the side from `low` to `high` has the middle of `a` and `b`.
+fn part_of(a: i64, b: i64, low: i64, high: i64) -> u64 {
+    let twice = a.abs_diff(low).wrapping_add(b.abs_diff(low));
+    let part = (high.abs_diff(low) >> 15).wrapping_add(1);
+    (twice / part).min(65_535)
+}
+
+/// The bits of a number below 2^16, each with a 0 before it.
+fn spread(bits: u64) -> u64 {
+    let bits = (bits | bits << 8) & 0x00FF_00FF;
+    let bits = (bits | bits << 4) & 0x0F0F_0F0F;
+    let bits = (bits | bits << 2) & 0x3333_3333;
+    (bits | bits << 1) & 0x5555_5555
+}
+
 /// A box about each run of the edges with these numbers.
-pub fn run_boxes(alloc: Global, points: &[Spot], numbers: &[u32]) -> Result<Vec<Bounds>, AllocError>
+fn run_boxes(alloc: Global, points: &[Spot], numbers: &[u32]) -> Result<Vec<Bounds>, AllocError>
     requires placed { All IsPlaced points.now }
     requires edges { AreEdges points.now numbers.now }
     requires few { length numbers.now ≤ MOST_CONTOUR_POINTS }
@@ -28,7 +123,7 @@ pub fn run_boxes(alloc: Global, points: &[Spot], numbers: &[u32]) -> Result<Vec<
 }
 
 /// Run `k` of the numbers.
-fn run(numbers: &[u32], k: usize) -> &[u32]
+pub fn run(numbers: &[u32], k: usize) -> &[u32]
     requires few { length numbers.now ≤ MOST_CONTOUR_POINTS }
     requires known { k ≤ MOST_CONTOUR_POINTS }
     ensures { result.now ≡ take 64 (drop (64 * k) numbers.now) }
@@ -44,69 +139,10 @@ fn run_box(points: &[Spot], numbers: &[u32]) -> Bounds
     requires edges { AreEdges points.now numbers.now }
     ensures { IsAbout points.now result numbers.now }
 {
-    let mut all = Bounds {
-        left: i64::MAX,
-        low: i64::MAX,
-        right: i64::MIN,
-        high: i64::MIN,
-    };
+    let mut all = NO_BOX;
     for number in numbers {
         let i = *number as usize;
         all = all.joined_with(&segment_box(points[i], points[i + 1]));
     }
     all
-}
-
-/// Whether one of the edges with these numbers, about which the box is, shares a point with the segment from `u` to `v`,
-/// whose box is `around`.
-fn run_meets(
-    points: &[Spot],
-    numbers: &[u32],
-    about: &Bounds,
-    u: Spot,
-    v: Spot,
-    around: &Bounds,
-) -> bool
-    requires placed { All IsPlaced points.now }
-    requires edges { AreEdges points.now numbers.now }
-    requires about { IsAbout points.now about.now numbers.now }
-    requires u_placed { IsPlaced u }
-    requires v_placed { IsPlaced v }
-    requires around { around.now ≡ box_of u v (pos 0) }
-    ensures { IsTrue result ↔ SomeEdge (Reaches u v (pos 0)) (edges_at points.now numbers.now) }
-{
-    if about.meet(around) {
-        numbers_meet(points, numbers, u, v, around)
-    } else {
-        false
-    }
-}
-
-/// Whether one of the edges with these numbers shares a point with the segment from `u` to `v`, whose box is `around`.
-/// The boxes are about their runs.
-pub fn runs_meet(
-    points: &[Spot],
-    numbers: &[u32],
-    boxes: &[Bounds],
-    u: Spot,
-    v: Spot,
-    around: &Bounds,
-) -> bool
-    requires placed { All IsPlaced points.now }
-    requires edges { AreEdges points.now numbers.now }
-    requires few { length numbers.now ≤ MOST_CONTOUR_POINTS }
-    requires few_boxes { length boxes.now ≤ MOST_CONTOUR_POINTS }
-    requires about { AreAbout points.now numbers.now boxes.now }
-    requires all { length numbers.now ≤ 64 * length boxes.now }
-    requires u_placed { IsPlaced u }
-    requires v_placed { IsPlaced v }
-    requires around { around.now ≡ box_of u v (pos 0) }
-    ensures { IsTrue result ↔ SomeEdge (Reaches u v (pos 0)) (edges_at points.now numbers.now) }
-{
-    for k in 0..boxes.len() {
-        if run_meets(points, run(numbers, k), &boxes[k], u, v, around) {
-            return true;
-        }
-    }
-    false
 }

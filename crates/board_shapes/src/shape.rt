@@ -2,7 +2,6 @@
 ghost use Rattle.area_contact.specs.Contour.{IsClosed};
 ghost use Rattle.board_shapes.specs.Figures.{figure_edges, figure_of, filled};
 ghost use Rattle.board_shapes.specs.Shapes.{InShape, IsShapeLawful, boxed, not_empty, shape_box};
-ghost use Rattle.contact.specs.RoundLaws.{turned};
 ghost use Rattle.planar.specs.Plane.{IsPlaced};
 ghost use Rattle.std.specs.Prelude.{All, IfOk, length, ◌≡◌, ◌≤◌};
 
@@ -86,8 +85,6 @@ impl Meets<Shape> for Shape {
             (Shape::Filled(first), Shape::Filled(second)) => first.meets(second, frame, tests),
         }
     }
-
-    ghost symmetric = { λ s t h k m. turned m };
 
     ghost reflexive = { λ s h. let p = not_empty s h in record { point = p.0; in_first = p.1; in_second = p.1 } };
 

@@ -99,7 +99,7 @@ kept_start near old = record {
   all = λ j h. absurd (omega arith);
 }
 
-pub kept_more : (near : ℕ → Type 0) (old : List ℕ) (k kept q : ℕ) (now : List ℕ) → IsStrictlyIncreasing old → k < length old → q ≡ get_or now k 0 → near q → IsKept near old k kept now → IsKept near old (k + 1) (kept + 1) (set now kept q)
+kept_more : (near : ℕ → Type 0) (old : List ℕ) (k kept q : ℕ) (now : List ℕ) → IsStrictlyIncreasing old → k < length old → q ≡ get_or now k 0 → near q → IsKept near old k kept now → IsKept near old (k + 1) (kept + 1) (set now kept q)
 kept_more near old k kept q now rises inside is holds s =
     let order = s.order in
     let long = s.long in
@@ -124,7 +124,7 @@ kept_more near old k kept q now rises inside is holds s =
       ]);
     }
 
-pub kept_skip : (near : ℕ → Type 0) (old : List ℕ) (k kept q : ℕ) (now : List ℕ) → q ≡ get_or now k 0 → (near q → ⊥) → IsKept near old k kept now → IsKept near old (k + 1) kept now
+kept_skip : (near : ℕ → Type 0) (old : List ℕ) (k kept q : ℕ) (now : List ℕ) → q ≡ get_or now k 0 → (near q → ⊥) → IsKept near old k kept now → IsKept near old (k + 1) kept now
 kept_skip near old k kept q now is not s =
     let order = s.order in
     let at : q ≡ get_or old k 0 = is ∙ s.ahead k (omega arith) in record {
@@ -140,7 +140,7 @@ kept_skip near old k kept q now is not s =
       ];
     }
 
-pub kept_all : (near : ℕ → Type 0) (old : List ℕ) (k kept : ℕ) (now : List ℕ) → length old ≤ k → IsKept near old k kept now → Lists (λ q. near q × Contains old q) (take kept now)
+kept_all : (near : ℕ → Type 0) (old : List ℕ) (k kept : ℕ) (now : List ℕ) → length old ≤ k → IsKept near old k kept now → Lists (λ q. near q × Contains old q) (take kept now)
 kept_all near old k kept now past s = record {
   rising = s.rising;
   only = s.only;
@@ -150,6 +150,16 @@ kept_all near old k kept now past s = record {
       let is : get_or old at.0 0 ≡ q = get_or_default old at.0 0 q at.1 ∙ at.2 in
       subst (λ (x : ℕ). Contains (take kept now) x) is (s.all at.0 (omega arith) (subst near (sym is) h.0)));
 }
+
+-- the same, where the loop tells the number and the list by equations
+pub kept_more_told : (near : ℕ → Type 0) (old : List ℕ) (k kept m q : ℕ) (now after : List ℕ) → IsStrictlyIncreasing old → k < length old → q ≡ get_or now k 0 → near q → after ≡ set now kept q → m ≡ kept + 1 → IsKept near old k kept now → IsKept near old (k + 1) m after
+kept_more_told near old k kept m q now after rises inside is holds e f s = rw (e, f) (kept_more near old k kept q now rises inside is holds s)
+
+pub kept_skip_told : (near : ℕ → Type 0) (old : List ℕ) (k kept m q : ℕ) (now after : List ℕ) → q ≡ get_or now k 0 → (near q → ⊥) → after ≡ now → m ≡ kept → IsKept near old k kept now → IsKept near old (k + 1) m after
+kept_skip_told near old k kept m q now after is not e f s = rw (e, f) (kept_skip near old k kept q now is not s)
+
+pub kept_all_told : (near : ℕ → Type 0) (old : List ℕ) (k kept : ℕ) (now after : List ℕ) → length old ≤ k → after ≡ take kept now → IsKept near old k kept now → Lists (λ q. near q × Contains old q) after
+kept_all_told near old k kept now after past e s = rw e (kept_all near old k kept now past s)
 
 -- the number ahead, or n at the end
 abbrev pub next_of : List ℕ → ℕ → ℕ → ℕ

@@ -1,5 +1,5 @@
 -- Stretched boxes meet where the boxes do, and hold the stretched spots.
-use Rattle.std.proofs.Common.{FitsSigned, w64, to_z, of_z, to_z-of_z, ◌≡◌, inl, inr, ℕ, ◌+◌, ◌<◌, true, ℤ, pos, ◌+ℤ◌, ◌-ℤ◌, ◌*ℤ◌, ◌≤ℤ◌, ◌^◌, List, [], ◌∷◌, ◌++◌, length, Some, slice_get, refl, sym, ap, subst, ◌∙◌, arith}
+use Rattle.std.proofs.Common.{All, ◌≤◌, FitsSigned, w64, to_z, of_z, to_z-of_z, ◌≡◌, inl, inr, ℕ, ◌+◌, ◌<◌, true, ℤ, pos, ◌+ℤ◌, ◌-ℤ◌, ◌*ℤ◌, ◌≤ℤ◌, ◌^◌, List, [], ◌∷◌, ◌++◌, length, Some, slice_get, refl, sym, ap, subst, ◌∙◌, arith}
 use Rattle.std.proofs.lemmas.Bool.{cases_eq}
 use Rattle.std.proofs.lemmas.Int.{ints, clamps}
 use Rattle.std.proofs.lemmas.List.{get_or_append_left, get_or_push, length_push}
@@ -16,7 +16,6 @@ use Rattle.planar.specs.declared.Spot.{Spot}
 use Rattle.planar.specs.declared.TheConstants.{SIDE}
 use Rattle.cell_index.specs.Among.{TouchAmong, UnderAmong, extent_in}
 use Rattle.cell_index.specs.Field.{boxes_meet}
-use Rattle.cell_index.specs.Rows.{CanBeFiled}
 use Rattle.cell_index.specs.Stretched.{AreCopies, box_over, copy_in, corner, place_of, spot_over}
 use Rattle.cell_index.specs.declared.plate.Plate.{Plate}
 use Rattle.cell_index.specs.declared.stretch.Side.{Side}
@@ -126,9 +125,5 @@ copies_hold holds box s items copies k held spot layer p u = subst (λ (b : Boun
 pub copies_few : {A : Type 0} (box : A → Bounds) (s : Stretch) (items : List (Placed A)) (copies : List (Placed Plate)) → length items < 2 ^ 32 → AreCopies box s items (length items) copies → length copies < 2 ^ 32
 copies_few box s items copies few a = rw a.long few
 
-pub copies_filed : {A : Type 0} (box : A → Bounds) (s : Stretch) (items : List (Placed A)) (copies : List (Placed Plate)) → length items < 2 ^ 32 → AreCopies box s items (length items) copies → CanBeFiled (λ s. s.bounds) corner copies
-copies_filed box s items copies few a = record {
-  few = copies_few box s items copies few a;
-  inside = a.inside;
-  spans = λ k d h. (let flat = a.flat k d h in omega (arith, flat.0, flat.1));
-}
+pub copies_spans : (copies : List (Placed Plate)) → All (λ c. (c.top ≡ 1) × (c.bottom ≡ 1)) copies → All (λ c. c.top ≤ c.bottom) copies
+copies_spans copies flat k d h = let here = flat k d h in omega (arith, here.0, here.1)

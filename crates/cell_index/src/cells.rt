@@ -3,7 +3,7 @@ ghost use Rattle.cell_index.specs.Among.{TouchAmong, UnderAmong};
 ghost use Rattle.cell_index.specs.Bins.{bin_of};
 ghost use Rattle.cell_index.specs.Cells.{cell_of, wide_of};
 ghost use Rattle.cell_index.specs.Field.{boxes_meet};
-ghost use Rattle.cell_index.specs.Rows.{CanBeFiled, IsSheet, row_of};
+ghost use Rattle.cell_index.specs.Rows.{row_of};
 ghost use Rattle.cell_index.specs.Stretched.{copy_in, spot_over};
 ghost use Rattle.cell_index.specs.declared.bins.Bins.{Bins};
 ghost use Rattle.contact.specs.Solid.{InBox, IsInside};
@@ -12,7 +12,7 @@ ghost use Rattle.planar.specs.declared.Spot.{Spot};
 ghost use Rattle.std.specs.Prelude.{◌≡◌, ℕ, ◌+◌, ◌*◌, ◌<◌, ◌≤◌, ◌^◌, true, Some, slice_get, All, IfOk, length};
 
 use crate::bins::Bins;
-use crate::filing::{WIDE, sheet};
+use crate::filing::{Plan, WIDE};
 use crate::finer::Finer;
 use crate::patch::CELLS;
 use board_shapes::Placed;
@@ -56,7 +56,7 @@ impl<'a, S: Meets<S>> Cells<'a, S> {
         ensures frame { IfOk result (λ c. c.frame ≡ frame) }
         ensures layers { IfOk result (λ c. c.layers ≡ layers) }
     {
-        let sheets = sheets_of(alloc, items, frame, layers)?;
+        let sheets = Plan { items, frame }.sheets(alloc, layers)?;
         let finer = Finer::new(alloc, items)?;
         Ok(Cells {
             items,
@@ -94,23 +94,4 @@ impl<'a, S: Meets<S>> Cells<'a, S> {
         let sheet = &self.sheets[layer as usize - 1];
         sheet.row(row as usize)
     }
-}
-
-// The rows of each layer.
-fn sheets_of<S: Meets<S>>(
-    alloc: Global,
-    items: &[Placed<S>],
-    frame: Frame,
-    layers: u8,
-) -> Result<Vec<Bins>, NoMemory>
-    requires filed { CanBeFiled S.extent frame items.now }
-    ensures many { IfOk result (λ v. length v.items ≡ layers) }
-    ensures each { IfOk result (λ v. (k : ℕ) (b : Bins) → slice_get v.items k ≡ Some b → IsSheet S.extent frame items.now (k + 1) b) }
-{
-    let mut sheets = Vec::new(alloc);
-    for layer in 0..layers {
-        let next = sheet(alloc, items, frame, layer + 1)?;
-        sheets.push(next)?;
-    }
-    Ok(sheets)
 }

@@ -1,8 +1,9 @@
 //! The pieces of a layer, filed under its cells.
 ghost use Rattle.cell_index.specs.Bins.{pieces_in};
-ghost use Rattle.cell_index.specs.Rows.{CanBeFiled, Files, IsSheet, in_patch, in_row, in_run, row_of};
+ghost use Rattle.cell_index.specs.Rows.{Files, IsSheet, in_patch, in_row, in_run, row_of};
+ghost use Rattle.cell_index.specs.declared.bins.Bins.{Bins};
 ghost use Rattle.contact.specs.Solid.{IsInside};
-ghost use Rattle.std.specs.Prelude.{◌≡◌, ℕ, ◌+◌, ◌<◌, ◌≤◌, ◌^◌, All, IfOk, OnOk, length};
+ghost use Rattle.std.specs.Prelude.{◌≡◌, ℕ, ◌+◌, ◌<◌, ◌≤◌, ◌^◌, All, IfOk, OnOk, Some, length, slice_get};
 
 use crate::bins::{Bins, Filing};
 use crate::patch::{CELLS, Patch};
@@ -18,40 +19,55 @@ pub const ROWS: u32 = 16_385;
 /// The row of the wide list.
 pub const WIDE: u32 = 16_384;
 
-/// The rows of a layer, whose pieces are filed one after the other.
-pub fn sheet<S: Closed>(
-    alloc: Global,
-    items: &[Placed<S>],
-    frame: Frame,
-    layer: u8,
-) -> Result<Bins, NoMemory>
-    requires filed { CanBeFiled S.extent frame items.now }
-    ensures sheet { IfOk result (IsSheet S.extent frame items.now layer) }
-{
-    let filings = filings_of(alloc, items, frame, layer)?;
-    let rows = Bins::new(alloc, ROWS as usize, filings.as_slice())?;
-    Ok(rows)
+/// Placed solids that are to be filed under the cells of the frame.
+#[derive(Drop)]
+pub struct Plan<'a, S: Closed> {
+    pub items: &'a [Placed<S>],
+    pub frame: Frame,
+    ghost few: { length items.now < 2 ^ 32 },
+    ghost inside: { All (λ p. IsInside (S.extent p.shape) frame) items.now },
+    ghost spans: { All (λ p. p.top ≤ p.bottom) items.now },
 }
 
-// The pieces of a layer, each filed under its rows.
-fn filings_of<S: Closed>(
-    alloc: Global,
-    items: &[Placed<S>],
-    frame: Frame,
-    layer: u8,
-) -> Result<Vec<Filing>, NoMemory>
-    requires filed { CanBeFiled S.extent frame items.now }
-    ensures rows { IfOk result (λ v. All (λ f. f.row < 16385) v.items) }
-    ensures each { IfOk result (λ v. (row : ℕ) → row < 16385 → pieces_in row v.items ≡ row_of S.extent frame items.now layer row) }
-{
-    let mut filings = Vec::new(alloc);
-    for p in 0..items.len() {
-        let item = &items[p];
-        if item.top <= layer && layer <= item.bottom {
-            file(item, p as u32, frame, &mut filings)?;
+impl<'a, S: Closed> Plan<'a, S> {
+    /// The rows of each layer.
+    pub fn sheets(&self, alloc: Global, layers: u8) -> Result<Vec<Bins>, NoMemory>
+        ensures many { IfOk result (λ v. length v.items ≡ layers) }
+        ensures each { IfOk result (λ v. (k : ℕ) (b : Bins) → slice_get v.items k ≡ Some b → IsSheet S.extent self.now.frame self.now.items.now (k + 1) b) }
+    {
+        let mut sheets = Vec::new(alloc);
+        for layer in 0..layers {
+            let next = self.sheet(alloc, layer + 1)?;
+            sheets.push(next)?;
+        }
+        Ok(sheets)
+    }
+
+    /// The rows of a layer, whose pieces are filed one after the other.
+    pub fn sheet(&self, alloc: Global, layer: u8) -> Result<Bins, NoMemory>
+        ensures { IfOk result (IsSheet S.extent self.now.frame self.now.items.now layer) }
+    {
+        match self.filings(alloc, layer) {
+            Ok(filings) => Bins::new(alloc, ROWS as usize, filings.as_slice()),
+            Err(_) => Err(NoMemory),
         }
     }
-    Ok(filings)
+
+    // The pieces of a layer, each filed under its rows.
+    fn filings(&self, alloc: Global, layer: u8) -> Result<Vec<Filing>, NoMemory>
+        ensures rows { IfOk result (λ v. All (λ f. f.row < 16385) v.items) }
+        ensures each { IfOk result (λ v. (row : ℕ) → row < 16385 → pieces_in row v.items ≡ row_of S.extent self.now.frame self.now.items.now layer row) }
+    {
+        let items = self.items;
+        let mut filings = Vec::new(alloc);
+        for p in 0..items.len() {
+            let item = &items[p];
+            if item.top <= layer && layer <= item.bottom {
+                file(item, p as u32, self.frame, &mut filings)?;
+            }
+        }
+        Ok(filings)
+    }
 }
 
 // Files the piece under its cells, or as a wide one.

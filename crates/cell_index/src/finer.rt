@@ -12,13 +12,13 @@ ghost use Rattle.std.specs.List.Sorted.{IsStrictlyIncreasing};
 ghost use Rattle.std.specs.Prelude.{◌≡◌, ◌⊎◌, ℕ, ◌+◌, ◌*◌, ◌<◌, ◌≤◌, ◌≤ℤ◌, ◌^◌, ◌↔◌, IsTrue, pos, true, All, Contains, IfOk, OnOk, length};
 
 use crate::bins::Bins;
-use crate::filing::{WIDE, sheet};
+use crate::filing::{Plan, WIDE};
 use crate::patch::{CELL, CELLS, Patch};
 use crate::plate::Plate;
 use crate::stretch::Stretch;
 use crate::wanted::Wanted;
 use board_shapes::Placed;
-use contact::{Bounds, Closed};
+use contact::{Bounds, Closed, NO_BOX};
 use lengths::rows::NoMemory;
 use planar::{Frame, Spot};
 use std::alloc::Global;
@@ -49,7 +49,11 @@ impl Finer {
     {
         let stretch = Stretch::over(common_box(items));
         let copies = copies_of(alloc, items, stretch)?;
-        let rows = sheet(alloc, copies.as_slice(), CORNER, 1)?;
+        let plan = Plan {
+            items: copies.as_slice(),
+            frame: CORNER,
+        };
+        let rows = plan.sheet(alloc, 1)?;
         Ok(Finer {
             stretch,
             copies,
@@ -204,12 +208,7 @@ impl Finer {
 
 // A box about all pieces. It decides how fine the cells are, and nothing else.
 fn common_box<S: Closed>(items: &[Placed<S>]) -> Bounds {
-    let mut all = Bounds {
-        left: i64::MAX,
-        low: i64::MAX,
-        right: i64::MIN,
-        high: i64::MIN,
-    };
+    let mut all = NO_BOX;
     for item in items {
         all = all.joined_with(&item.shape.bounds());
     }

@@ -34,6 +34,14 @@ pub struct Bounds {
     pub high: i64,
 }
 
+/// The box of nothing: joined with another it is that one.
+pub const NO_BOX: Bounds = Bounds {
+    left: i64::MAX,
+    low: i64::MAX,
+    right: i64::MIN,
+    high: i64::MIN,
+};
+
 /// A solid: a closed set of points. A point (x, y, n) with n at least 1 means (x/n, y/n).
 pub trait Closed {
     /// Which points lie in the solid.
@@ -74,7 +82,7 @@ pub trait Meets<T: Closed>: Closed {
         ensures one_test { tests.new ≡ tests.old + 1 };
 
     /// Sharing is symmetric.
-    ghost symmetric: { (s : Self) (t : T) → Self.is_lawful s → T.is_lawful t → SharePoint (Self.holds s) (T.holds t) → SharePoint (T.holds t) (Self.holds s) };
+    ghost symmetric: { (s : Self) (t : T) → Self.is_lawful s → T.is_lawful t → SharePoint (Self.holds s) (T.holds t) → SharePoint (T.holds t) (Self.holds s) } = { λ s t h k m. record { point = m.point; in_first = m.in_second; in_second = m.in_first } };
 
     /// A solid shares a point with itself.
     ghost reflexive: { (s : Self) → Self.is_lawful s → SharePoint (Self.holds s) (Self.holds s) };

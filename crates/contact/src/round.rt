@@ -1,6 +1,6 @@
 //! The capsule as a solid.
 ghost use Rattle.contact.specs.Round.{IsCapsuleRadius, IsLawful, box_of};
-ghost use Rattle.contact.specs.RoundLaws.{boxed, boxes_share, not_empty, shared_by_itself, turned};
+ghost use Rattle.contact.specs.RoundLaws.{boxed, boxes_share, not_empty, shared_by_itself};
 ghost use Rattle.contact.specs.Solid.{IsInside, SharePoint};
 ghost use Rattle.planar.specs.Plane.{InCapsule, IsPlaced};
 ghost use Rattle.std.specs.Int.{int_max, int_min};
@@ -101,8 +101,6 @@ impl Meets<Capsule> for Capsule {
         tests.tick();
         capsules_share(self, other, frame)
     }
-
-    ghost symmetric = { λ s t h k m. turned m };
 
     ghost reflexive = { λ s h. shared_by_itself s.a s.b s.r h };
 
