@@ -99,10 +99,13 @@ end_number file layers a r s none =
     let number = s.number in
     omega arith
 
--- what stops the reader at a line is that line's fault
-pub line-fault : (file : List ℕ) (layers : ℕ) (old : Ahead) (line : PlainLine) (lines : List PlainLine) (r : Reader) (why : Halt RecordKind) (number : ℕ) → ReadSoFar file layers old r → lines_from old ≡ line ∷ lines → Halts (known_of r) (form_of line.text) why → number ≡ line.number → IsFault file layers (fault_at why number)
-line-fault file layers old line lines r (halt.Fault why) number s next h at = refused file layers s.earlier (items_with file lines) (item_of line) r why number (ahead_is file layers old r (line ∷ lines) s next) s.state h at
-line-fault file layers old line lines r halt.NoMemory number s next h at = tt
+line-halt : (file : List ℕ) (layers : ℕ) (old : Ahead) (line : PlainLine) (lines : List PlainLine) (r : Reader) (why : Halt RecordKind) (number : ℕ) → ReadSoFar file layers old r → lines_from old ≡ line ∷ lines → Halts (known_of r) (form_of line.text) why → number ≡ line.number → IsFault file layers (fault_at why number)
+line-halt file layers old line lines r (halt.Fault why) number s next h at = refused file layers s.earlier (items_with file lines) (item_of line) r why number (ahead_is file layers old r (line ∷ lines) s next) s.state h at
+line-halt file layers old line lines r halt.NoMemory number s next h at = tt
+
+-- the fault of a line at which the reader stops is the file's
+pub line-fault : (file : List ℕ) (layers : ℕ) (old : Ahead) (line : PlainLine) (lines : List PlainLine) (r : Reader) (why : RecordFault) (number : ℕ) → ReadSoFar file layers old r → lines_from old ≡ line ∷ lines → number ≡ line.number → Faults r (form_of line.text) number why → IsFault file layers why
+line-fault file layers old line lines r why number s next at f = subst (IsFault file layers) (sym f.is) (line-halt file layers old line lines r f.halt number s next f.halts at)
 
 end-halt : (file : List ℕ) (layers : ℕ) (a : Ahead) (r : Reader) (why : Halt RecordKind) → ReadSoFar file layers a r → lines_from a ≡ [] → Halts (known_of r) finishes why → IsFault file layers (fault_at why a.number)
 end-halt file layers a r (halt.Fault why) s none h = refused file layers s.earlier [] (end_of file) r why a.number (ahead_is file layers a r [] s none) s.state h (end_number file layers a r s none)
