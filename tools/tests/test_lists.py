@@ -14,16 +14,16 @@ loader.exec_module(lists := importlib.util.module_from_spec(importlib.util.spec_
 
 
 
-def kinds(enum, rows):
-    """A root file with an enum of kinds."""
-    return f"pub enum {enum} {{\n" + "".join(f"    /// {n}.\n    {name} = {n},\n" for n, name in rows) + "}\n"
+def kinds(kind, rows):
+    """A file of specs/ with a table of kinds."""
+    return f"row_of : {kind} → Row\nrow_of = elim [\n" + "".join(f'  | {name} ↦ row {n} "{name}"\n' for n, name in rows) + "]\n"
 
 
 def refusals(ways):
-    """A page with the three tables, of which the first has these rows."""
+    """A page with the four tables, of which the first has these rows."""
     text = ""
-    for _, _, enum in lists.KINDS:
-        text += f"<!-- {enum}: made by tools/lists -->\n" + (ways if enum == "GerberKind" else "") + f"<!-- {enum} end -->\n"
+    for _, _, kind in lists.KINDS:
+        text += f"<!-- {kind}: made by tools/lists -->\n" + (ways if kind == "GerberKind" else "| 1 | `Bad` | Wait. |\n") + f"<!-- {kind} end -->\n"
     return text
 
 
@@ -32,8 +32,8 @@ class Lists(unittest.TestCase):
         folder = tempfile.TemporaryDirectory()
         self.addCleanup(folder.cleanup)
         self.top = Path(folder.name)
-        for _, source, enum in lists.KINDS:
-            self.put(source, kinds(enum, [(1, "Bad")] if enum == "GerberKind" else []))
+        for _, source, kind in lists.KINDS:
+            self.put(source, kinds(kind, [(1, "Bad")]))
         self.put("docs/using/refusals.md", refusals("| 1 | `Bad` | Mend it. |\n"))
 
     def put(self, name, text):
@@ -62,9 +62,13 @@ class Lists(unittest.TestCase):
         self.assertIn("| 1 | `Bad` | Mend it. |\n| 2 | `Worse` |  |\n", (self.top / "docs/using/refusals.md").read_text())
         self.assertEqual(self.run_lists("--check"), (1, "refusals.md: the way out of Worse is still to be written\n"))
 
-    def test_kinds_that_a_call_numbers(self):
-        source = "pub enum Kind {\n    Other(Low),\n    Bad,\n}\nmatch self {\n    Kind::Other(it) => it.number(),\n    Kind::Bad => 31,\n}\nKind::Bad => \"Bad\",\n"
-        self.assertEqual(lists.variants(source, "Kind"), [(31, "Bad")])
+    def test_a_kind_that_holds_others_has_no_row(self):
+        table = kinds("Kind", [(31, "Bad"), (32, "Worse")]).replace("  | Bad", "  | Other kind ↦ row_of kind\n  | Bad")
+        self.assertEqual(lists.rows(table, "Kind"), [(31, "Bad"), (32, "Worse")])
+
+    def test_no_table(self):
+        self.put(lists.KINDS[0][1], "row_of : GerberKind → Row\n")
+        self.assertEqual(self.run_lists("--check"), (1, "no table of GerberKind\n"))
 
     def test_what_is_amiss_is_said(self):
         self.put("docs/using/refusals.md", "# r\n")

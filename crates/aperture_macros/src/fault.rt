@@ -6,23 +6,23 @@ use thiserror::Error;
 pub enum MacroFault {
     /// The word is none of the forms of a primitive, or an outline's last point is not its first.
     #[error("not a primitive that is taken")]
-    BadMacro = 1,
+    BadMacro,
     /// The exposure is not equal to 1.
     #[error("an exposure that is not on")]
-    ExposureOff = 2,
+    ExposureOff,
     /// The rotation is not equal to 0, 90, 180 or 270 degrees.
     #[error("a turn that is no quarter turn")]
-    Turn = 3,
+    Turn,
     /// A term is no whole number of u, or a width, a height or a diameter no even one.
     #[error("a length off the grid")]
-    OffGrid = 4,
+    OffGrid,
     /// A term, a length or a corner is over 1 m from 0, a size is negative, or a diameter or the width of a slanted line is over
     /// 50 mm.
     #[error("a length out of range")]
-    OutOfRange = 5,
+    OutOfRange,
     /// A vector line is along no axis, where those alone are taken that are.
     #[error("a slanted line")]
-    Slanted = 6,
+    Slanted,
 }
 
 /// Why a primitive gives no shape.

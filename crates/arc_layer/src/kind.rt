@@ -1,8 +1,9 @@
 //! Why copper with arcs is refused.
 ghost use Rattle.arc_layer.specs.Kinds as spec;
-ghost use Rattle.arc_layer.specs.Kinds.{real_name, real_number};
+ghost use Rattle.arc_layer.specs.Kinds.{real_row};
 ghost use Rattle.std.specs.Prelude.{◌≡◌};
 
+use file_reading::{RefusalKind, name_of};
 use gerber_layer::{FlattenKind, GerberKind};
 
 /// Why a command of a copper file with arcs is refused. Sections are those of the Gerber Layer Format
@@ -28,30 +29,20 @@ pub fn gerber(kind: GerberKind) -> RealKind
     RealKind::Copper(FlattenKind::Gerber(kind))
 }
 
-impl RealKind {
-    /// Its number, from 1 to 41; none is that of another kind of a copper file with macros.
-    pub fn number(self) -> u32
-        ensures { result ≡ real_number self }
-    {
+impl RefusalKind for RealKind {
+    ghost row = { real_row };
+
+    fn name(self) -> &'static str {
+        name_of!(self, RealKind(Copper): NoOffsets OffsetsAmiss NoQuadrants NoCentre)
+    }
+
+    fn number(self) -> u32 {
         match self {
             RealKind::Copper(kind) => kind.number(),
             RealKind::NoOffsets => 38,
             RealKind::OffsetsAmiss => 39,
             RealKind::NoQuadrants => 40,
             RealKind::NoCentre => 41,
-        }
-    }
-
-    /// Its name.
-    pub fn name(self) -> &'static str
-        ensures { result.now ≡ real_name self }
-    {
-        match self {
-            RealKind::Copper(kind) => kind.name(),
-            RealKind::NoOffsets => "NoOffsets",
-            RealKind::OffsetsAmiss => "OffsetsAmiss",
-            RealKind::NoQuadrants => "NoQuadrants",
-            RealKind::NoCentre => "NoCentre",
         }
     }
 }

@@ -9,6 +9,7 @@ use crate::entry::{Entry, Role};
 use crate::fault::{BuildFault, refused};
 use crate::parts::{Parts, room_left};
 use board_shapes::Shape;
+use file_reading::RefusalKind;
 use gerber_layer::{GerberKind, LayerFault, read_layer};
 use ipc356_records::{RecordFault, RecordKind, read_netlist};
 use std::alloc::Global;
@@ -36,11 +37,11 @@ pub enum Refusal {
 }
 
 impl Refusal {
-    ghost use Rattle.board_package.specs.Refusals.{refusal_name, refusal_number};
+    ghost use Rattle.board_package.specs.Refusals.{refusal_row};
 
     /// The number of its kind, from 1.
     pub fn number(self) -> u32
-        ensures { result ≡ refusal_number self }
+        ensures { result ≡ (refusal_row self).number }
     {
         match self {
             Refusal::Layer { kind, .. } => kind.number(),
@@ -51,7 +52,7 @@ impl Refusal {
 
     /// The name of its kind.
     pub fn name(self) -> &'static str
-        ensures { result.now ≡ refusal_name self }
+        ensures { result.now ≡ (refusal_row self).name }
     {
         match self {
             Refusal::Layer { kind, .. } => kind.name(),

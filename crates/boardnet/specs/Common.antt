@@ -1,9 +1,9 @@
 -- What the commands share: the status of a verdict, the lines of refusals, and what an outcome is.
 use Rattle.std.specs.Prelude.{◌≡◌, ◌⊎◌, ℕ, List, length, codes}
-use Rattle.arc_layer.specs.Kinds.{real_name, real_number}
+use Rattle.arc_layer.specs.Kinds.{real_row}
 use Rattle.arc_layer.specs.declared.kind.RealKind.{RealKind}
 use Rattle.board_package.specs.PackageBoard.{Stop, absent, longer, not_json, bad_manifest, refused, frame_too_large}
-use Rattle.board_package.specs.Refusals.{refusal_number, refusal_name}
+use Rattle.board_package.specs.Refusals.{refusal_row}
 use Rattle.board_package.specs.declared.contents.Refusal.{Refusal}
 use Rattle.board_package.specs.declared.contents.Refusal.TheVariants.{Layer, Drill, Netlist}
 use Rattle.boardnet.specs.Lines.{at_byte, at_item, plain_line, file_line, frame_line, kind_line, findings_line}
@@ -31,11 +31,11 @@ place_of (Netlist kind line) = at_item (codes "line") line
 
 -- The line of a file that is refused.
 abbrev pub refusal_line : List ℕ → Refusal → List ℕ
-refusal_line name why = kind_line name (form_of why) (refusal_number why) (refusal_name why) (place_of why)
+refusal_line name why = kind_line name (form_of why) (refusal_row why).number (refusal_row why).name (place_of why)
 
 -- The line of a copper file that is refused for an arc or a macro.
 abbrev pub arc_line : List ℕ → RealKind → ℕ → ℕ → List ℕ
-arc_line name kind command byte = kind_line name (codes "Gerber") (real_number kind) (real_name kind) (at_byte (codes "command") command byte)
+arc_line name kind command byte = kind_line name (codes "Gerber") (real_row kind).number (real_row kind).name (at_byte (codes "command") command byte)
 
 -- The line of a stop that is a refusal. A file that is not held is none.
 abbrev pub IsLineOf : List ℕ → Stop → List ℕ → Type 0

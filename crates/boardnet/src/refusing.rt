@@ -11,6 +11,7 @@ use crate::commands::Command;
 use crate::lines::{self, Kind};
 use board_io::Sink;
 use board_package::{BuildFault, Refusal};
+use file_reading::RefusalKind;
 use lengths::text::Text;
 use std::alloc::Global;
 

@@ -5,6 +5,7 @@ mod refusals;
 mod straight;
 
 use board_shapes::{MOST_LAYERS, Piece, Room, Shape};
+use file_reading::RefusalKind;
 use gerber_layer::{LayerFault, read_layer};
 use std::alloc::{AllocError, Global};
 use std::fmt::Write;

@@ -1,3 +1,4 @@
 pub mod Ending
 pub mod OneAnswer
+pub mod OwnNumbers
 pub mod Turning

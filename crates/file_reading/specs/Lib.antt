@@ -1,3 +1,4 @@
 pub mod Conditions
+pub mod Kinds
 pub mod LookingBack
 pub mod Reading

@@ -2,19 +2,11 @@
 //!
 //! The definitions (specs/Reading.antt) speak of items of any kind, such as commands and lines, and of
 //! any table of what an item does; each reader gives its own table. `Halt` is what stops a reader at an
-//! item.
+//! item, and `RefusalKind` what a report says of a fault (specs/Kinds.antt).
 #![tactic(auto)]
 
 mod halt;
+mod kind;
 
 pub use halt::Halt;
-
-/// The name of a kind of refusal: its variant's.
-#[macro_export]
-macro_rules! name_of {
-    ($kind:expr, $of:ident: $($name:ident)*) => {
-        match $kind {
-            $($of::$name => stringify!($name),)*
-        }
-    };
-}
+pub use kind::RefusalKind;

@@ -1,5 +1,6 @@
 // Files, and what they are read as.
 use board_shapes::{MOST_LAYERS, Probe};
+use file_reading::RefusalKind;
 use ipc356_records::{RecordFault, RecordKind, Records, read_netlist};
 use planar::Spot;
 use std::alloc::Global;

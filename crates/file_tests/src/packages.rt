@@ -5,6 +5,7 @@ use board_io::MemoryPackage;
 use board_package::{
     BuildFault, LabelledFault, ManifestFault, Role, build, build_labelled, read_manifest,
 };
+use file_reading::RefusalKind;
 use lengths::text::Text;
 use std::alloc::{AllocError, Global};
 use std::fmt::Write;

@@ -1,6 +1,7 @@
 // Packages whose copper has arcs, and slanted lines of macros.
 use board_io::MemoryPackage;
 use board_package::build;
+use file_reading::RefusalKind;
 use lengths::text::Text;
 use real_package::{RealBuildFault, RealPiece, build_real, has_its_netlist};
 use real_shapes::RealShape;

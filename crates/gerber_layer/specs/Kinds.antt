@@ -1,43 +1,39 @@
--- The numbers and the names of the kinds of refusal.
-use Rattle.std.specs.Prelude.{ℕ, List, codes}
+-- The table of the kinds of refusal of copper files without macros.
+use Rattle.file_reading.specs.Kinds.{Row, row}
 use Rattle.gerber_layer.specs.declared.kind.GerberKind.{GerberKind}
-use Rattle.gerber_layer.specs.declared.kind.GerberKind.TheVariants as kind
+use Rattle.gerber_layer.specs.declared.kind.GerberKind.TheVariants.{BadWord, LineBreakInWord, NotEnded, AfterEnd, MissingFormat, MissingUnit, BadFormat, UnitConflict, Incremental, ClearPolarity, Arc, Macro, Block, Polygon, Hole, Transform, NoAperture, ApertureTwice, PenNotCircle, NotInRegion, OpenContour, ShortContour, OffGrid, OutOfRange, WrongLayer, NegativeFile, TooManyPieces, TooManyVertices, NoOperation, TooManyApertures}
 
--- how a report numbers a kind, and names it
-abbrev pub line_of : GerberKind → ℕ × List ℕ
-line_of kind.BadWord = (1, codes "BadWord")
-line_of kind.LineBreakInWord = (2, codes "LineBreakInWord")
-line_of kind.NotEnded = (3, codes "NotEnded")
-line_of kind.AfterEnd = (4, codes "AfterEnd")
-line_of kind.MissingFormat = (5, codes "MissingFormat")
-line_of kind.MissingUnit = (6, codes "MissingUnit")
-line_of kind.BadFormat = (7, codes "BadFormat")
-line_of kind.UnitConflict = (8, codes "UnitConflict")
-line_of kind.Incremental = (9, codes "Incremental")
-line_of kind.ClearPolarity = (10, codes "ClearPolarity")
-line_of kind.Arc = (11, codes "Arc")
-line_of kind.Macro = (12, codes "Macro")
-line_of kind.Block = (13, codes "Block")
-line_of kind.Polygon = (14, codes "Polygon")
-line_of kind.Hole = (15, codes "Hole")
-line_of kind.Transform = (16, codes "Transform")
-line_of kind.NoAperture = (17, codes "NoAperture")
-line_of kind.ApertureTwice = (18, codes "ApertureTwice")
-line_of kind.PenNotCircle = (19, codes "PenNotCircle")
-line_of kind.NotInRegion = (20, codes "NotInRegion")
-line_of kind.OpenContour = (21, codes "OpenContour")
-line_of kind.ShortContour = (22, codes "ShortContour")
-line_of kind.OffGrid = (23, codes "OffGrid")
-line_of kind.OutOfRange = (24, codes "OutOfRange")
-line_of kind.WrongLayer = (25, codes "WrongLayer")
-line_of kind.NegativeFile = (26, codes "NegativeFile")
-line_of kind.TooManyPieces = (27, codes "TooManyPieces")
-line_of kind.TooManyVertices = (28, codes "TooManyVertices")
-line_of kind.NoOperation = (29, codes "NoOperation")
-line_of kind.TooManyApertures = (30, codes "TooManyApertures")
-
-abbrev pub kind_number : GerberKind → ℕ
-kind_number kind = (line_of kind).0
-
-abbrev pub kind_name : GerberKind → List ℕ
-kind_name kind = (line_of kind).1
+-- the row of a kind, which is also that of `FlattenKind` and `RealKind`
+abbrev pub row_of : GerberKind → Row
+row_of = elim [
+  | BadWord ↦ row 1 "BadWord"
+  | LineBreakInWord ↦ row 2 "LineBreakInWord"
+  | NotEnded ↦ row 3 "NotEnded"
+  | AfterEnd ↦ row 4 "AfterEnd"
+  | MissingFormat ↦ row 5 "MissingFormat"
+  | MissingUnit ↦ row 6 "MissingUnit"
+  | BadFormat ↦ row 7 "BadFormat"
+  | UnitConflict ↦ row 8 "UnitConflict"
+  | Incremental ↦ row 9 "Incremental"
+  | ClearPolarity ↦ row 10 "ClearPolarity"
+  | Arc ↦ row 11 "Arc"
+  | Macro ↦ row 12 "Macro"
+  | Block ↦ row 13 "Block"
+  | Polygon ↦ row 14 "Polygon"
+  | Hole ↦ row 15 "Hole"
+  | Transform ↦ row 16 "Transform"
+  | NoAperture ↦ row 17 "NoAperture"
+  | ApertureTwice ↦ row 18 "ApertureTwice"
+  | PenNotCircle ↦ row 19 "PenNotCircle"
+  | NotInRegion ↦ row 20 "NotInRegion"
+  | OpenContour ↦ row 21 "OpenContour"
+  | ShortContour ↦ row 22 "ShortContour"
+  | OffGrid ↦ row 23 "OffGrid"
+  | OutOfRange ↦ row 24 "OutOfRange"
+  | WrongLayer ↦ row 25 "WrongLayer"
+  | NegativeFile ↦ row 26 "NegativeFile"
+  | TooManyPieces ↦ row 27 "TooManyPieces"
+  | TooManyVertices ↦ row 28 "TooManyVertices"
+  | NoOperation ↦ row 29 "NoOperation"
+  | TooManyApertures ↦ row 30 "TooManyApertures"
+]

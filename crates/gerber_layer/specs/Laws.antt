@@ -9,12 +9,12 @@ use Rattle.gerber_words.specs.Laws.{star_of}
 use Rattle.gerber_layer.specs.Command.{Command, opens_region, operates, repeats, ends}
 use Rattle.gerber_layer.specs.declared.command.Code.{Code}
 use Rattle.gerber_layer.specs.declared.command.Code.TheVariants.{Draw, Move, Flash}
-use Rattle.gerber_layer.specs.declared.kind.GerberKind.{GerberKind}
 use Rattle.gerber_layer.specs.declared.kind.GerberKind.TheVariants as kind
 use Rattle.gerber_layer.specs.declared.macro_kind.FlattenKind.{FlattenKind}
 use Rattle.gerber_layer.specs.declared.macro_kind.FlattenKind.TheVariants.{Gerber}
-use Rattle.gerber_layer.specs.Kinds.{kind_number}
-use Rattle.gerber_layer.specs.MacroKinds.{flatten_number}
+use Rattle.file_reading.specs.Kinds.{HaveOwnNumbers}
+use Rattle.gerber_layer.specs.Kinds.{row_of}
+use Rattle.gerber_layer.specs.MacroKinds.{flatten_row}
 use Rattle.gerber_layer.specs.CommandEffects.{Place, code_of, is_drawing}
 use Rattle.gerber_layer.specs.Settings.{code_in, contour_before, is_end, point_before, region_open}
 use Rattle.gerber_layer.specs.Image.{effect_before, image_of, pieces_of}
@@ -111,4 +111,4 @@ MacroPrefixesAreRefused file = PrefixesAreRefusedBy with_macros (Gerber kind.Not
 -- Each kind of both tables of copper files has a number of its own, from 1 to 37; those without macros keep theirs where there may
 -- be some.
 abbrev pub KindsHaveOwnNumbers : Type 0
-KindsHaveOwnNumbers = ((a b : FlattenKind) → flatten_number a ≡ flatten_number b → a ≡ b) × ((a b : GerberKind) → kind_number a ≡ kind_number b → a ≡ b) × ((a : FlattenKind) → (1 ≤ flatten_number a) × (flatten_number a ≤ 37))
+KindsHaveOwnNumbers = HaveOwnNumbers flatten_row × HaveOwnNumbers row_of × ((a : FlattenKind) → (1 ≤ (flatten_row a).number) × ((flatten_row a).number ≤ 37))

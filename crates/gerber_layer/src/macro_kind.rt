@@ -1,10 +1,11 @@
 //! Kinds of refusal where a file may have macros.
 ghost use Rattle.std.specs.Prelude.{◌≡◌};
-ghost use Rattle.gerber_layer.specs.MacroKinds.{flatten_name, flatten_number};
+ghost use Rattle.gerber_layer.specs.MacroKinds.{flatten_row};
 ghost use Rattle.gerber_layer.specs.MacroTable.{kind_of_macro};
 
 use crate::kind::GerberKind;
 use aperture_macros::MacroFault;
+use file_reading::{RefusalKind, name_of};
 
 /// Why a command of a copper file is refused where the file may have aperture macros. Sections are
 /// those of the Gerber Layer Format Specification; the numbers are from 1 to 37.
@@ -30,11 +31,15 @@ pub enum FlattenKind {
     TooManyRadii,
 }
 
-impl FlattenKind {
-    /// Its number, from 1 to 37.
-    pub fn number(self) -> u32
-        ensures { result ≡ flatten_number self }
-    {
+impl RefusalKind for FlattenKind {
+    ghost row = { flatten_row };
+
+    fn name(self) -> &'static str {
+        name_of!(self, FlattenKind(Gerber):
+            BadMacro MacroTwice NoMacro ExposureOff Turn Slanted TooManyRadii)
+    }
+
+    fn number(self) -> u32 {
         match self {
             FlattenKind::Gerber(kind) => kind.number(),
             FlattenKind::BadMacro => 31,
@@ -44,22 +49,6 @@ impl FlattenKind {
             FlattenKind::Turn => 35,
             FlattenKind::Slanted => 36,
             FlattenKind::TooManyRadii => 37,
-        }
-    }
-
-    /// Its name.
-    pub fn name(self) -> &'static str
-        ensures { result.now ≡ flatten_name self }
-    {
-        match self {
-            FlattenKind::Gerber(kind) => kind.name(),
-            FlattenKind::BadMacro => "BadMacro",
-            FlattenKind::MacroTwice => "MacroTwice",
-            FlattenKind::NoMacro => "NoMacro",
-            FlattenKind::ExposureOff => "ExposureOff",
-            FlattenKind::Turn => "Turn",
-            FlattenKind::Slanted => "Slanted",
-            FlattenKind::TooManyRadii => "TooManyRadii",
         }
     }
 }

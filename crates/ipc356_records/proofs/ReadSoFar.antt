@@ -99,14 +99,16 @@ end_number file layers a r s none =
     let number = s.number in
     omega arith
 
--- what stops the reader at a line is that line's fault
-pub line-fault : (file : List ℕ) (layers : ℕ) (old : Ahead) (line : PlainLine) (lines : List PlainLine) (r : Reader) (why : Halt RecordKind) (number : ℕ) → ReadSoFar file layers old r → lines_from old ≡ line ∷ lines → Halts (known_of r) (form_of line.text) why → number ≡ line.number → IsFault file layers (fault_at why number)
-line-fault file layers old line lines r (halt.Fault why) number s next h at = refused file layers s.earlier (items_with file lines) (item_of line) r why number (ahead_is file layers old r (line ∷ lines) s next) s.state h at
-line-fault file layers old line lines r halt.NoMemory number s next h at = tt
+-- the fault of an item at which the reader stops is the file's
+item-fault : (file : List ℕ) (layers : ℕ) (earlier later : List (Item RecordLine)) (item : Item RecordLine) (r : Reader) (why : RecordFault) (number : ℕ) → IsReadTo (effect_at layers) (items file) earlier (item ∷ later) → State layers (said earlier) r → number ≡ item.at → Faults r item.says number why → IsFault file layers why
+item-fault file layers earlier later item r why number read state at f = subst (IsFault file layers) (sym f.is) (halted f.halt f.halts)
+  where
+    halted : (h : Halt RecordKind) → Halts (known_of r) item.says h → IsFault file layers (fault_at h number)
+    halted (halt.Fault kind) is = refused file layers earlier later item r kind number read state is at
+    halted halt.NoMemory is = tt
 
-end-halt : (file : List ℕ) (layers : ℕ) (a : Ahead) (r : Reader) (why : Halt RecordKind) → ReadSoFar file layers a r → lines_from a ≡ [] → Halts (known_of r) finishes why → IsFault file layers (fault_at why a.number)
-end-halt file layers a r (halt.Fault why) s none h = refused file layers s.earlier [] (end_of file) r why a.number (ahead_is file layers a r [] s none) s.state h (end_number file layers a r s none)
-end-halt file layers a r halt.NoMemory s none h = tt
+pub line-fault : (file : List ℕ) (layers : ℕ) (old : Ahead) (line : PlainLine) (lines : List PlainLine) (r : Reader) (why : RecordFault) (number : ℕ) → ReadSoFar file layers old r → lines_from old ≡ line ∷ lines → number ≡ line.number → Faults r (form_of line.text) number why → IsFault file layers why
+line-fault file layers old line lines r why number s next at f = item-fault file layers s.earlier (items_with file lines) (item_of line) r why number (ahead_is file layers old r (line ∷ lines) s next) s.state at f
 
 -- the answer at the file's end
 pub end-read : (probes : List Probe) (names : List (List ℕ)) (file : List ℕ) (layers : ℕ) (a : Ahead) (r : Reader) → ReadSoFar file layers a r → lines_from a ≡ [] → Leaves r finishes probes names → IsRead file layers probes names
@@ -115,9 +117,7 @@ end-read probes names file layers a r s none h =
     subst (λ (ps : List Probe). IsRead file layers ps names) (sym h.probes_are) (subst (λ (ns : List (List ℕ)). IsRead file layers h.last.probes ns) (sym h.names_are) read)
 
 pub end-fault : (why : RecordFault) (number : ℕ) (file : List ℕ) (layers : ℕ) (a : Ahead) (r : Reader) → ReadSoFar file layers a r → lines_from a ≡ [] → number ≡ a.number → Faults r finishes number why → IsFault file layers why
-end-fault why number file layers a r s none at h =
-    let stop = end-halt file layers a r h.halt s none h.halts in
-    subst (IsFault file layers) (sym (h.is ∙ ap (fault_at h.halt) at)) stop
+end-fault why number file layers a r s none at f = item-fault file layers s.earlier [] (end_of file) r why number (ahead_is file layers a r [] s none) s.state (at ∙ end_number file layers a r s none) f
 
 pub if-read : {V : Type 0} (probes : V → List Probe) (names : V → List (List ℕ)) (result : Result V RecordFault) (file : List ℕ) (layers : ℕ) (a : Ahead) (r : Reader) → ReadSoFar file layers a r → lines_from a ≡ [] → IfOk result (λ v. Leaves r finishes (probes v) (names v)) → IfOk result (λ v. IsRead file layers (probes v) (names v))
 if-read probes names (Ok v) file layers a r s none h = end-read (probes v) (names v) file layers a r s none h

@@ -2,7 +2,8 @@
 use Rattle.std.specs.Prelude.{◌≡◌, ℕ, ◌+◌, ◌<◌, List, ◌∷◌, ◌++◌, take}
 use Rattle.board_shapes.specs.declared.probe.Probe.{Probe}
 use Rattle.texts.specs.Lines.{PlainLine, lines_of}
-use Rattle.ipc356_records.specs.Kind.{number_of_kind}
+use Rattle.file_reading.specs.Kinds.{HaveOwnNumbers}
+use Rattle.ipc356_records.specs.Kind.{row_of}
 use Rattle.ipc356_records.specs.declared.kind.RecordKind.{RecordKind}
 use Rattle.ipc356_records.specs.Line.{ends}
 use Rattle.ipc356_records.specs.RecordLines.{form_of}
@@ -25,4 +26,4 @@ PrefixIsRefused file layers =
 
 -- Each kind of refusal has a number of its own.
 abbrev pub KindsHaveOwnNumbers : Type 0
-KindsHaveOwnNumbers = (a b : RecordKind) → number_of_kind a ≡ number_of_kind b → a ≡ b
+KindsHaveOwnNumbers = HaveOwnNumbers row_of

@@ -1,8 +1,6 @@
 //! Kinds of refusal.
-ghost use Rattle.std.specs.Prelude.{◌≡◌};
-ghost use Rattle.ipc356_records.specs.Kind.{name_of_kind, number_of_kind};
 
-use file_reading::name_of;
+use file_reading::{RefusalKind, name_of};
 
 /// Why a netlist is refused.
 #[derive(Clone, Copy, Debug, PartialEq, Eq)]
@@ -10,44 +8,42 @@ pub enum RecordKind {
     /// A line with no known code.
     UnknownCode = 1,
     /// A continuation record, `017` or `027`.
-    Continuation = 2,
+    Continuation,
     /// A test record before the `UNITS` parameter.
-    MissingUnits = 3,
+    MissingUnits,
     /// A second `UNITS` parameter.
-    UnitsTwice = 4,
+    UnitsTwice,
     /// A `UNITS` parameter that is neither `CUST 0` nor `CUST 1`.
-    BadUnits = 5,
+    BadUnits,
     /// An access code that is no number from 0 to the number of layers.
-    BadAccess = 6,
+    BadAccess,
     /// A coordinate that is not its letter, a sign and a number.
-    BadNumber = 7,
+    BadNumber,
     /// A net name with a byte that is not from 33 to 126.
-    BadName = 8,
+    BadName,
     /// A place over 1 m from 0.
-    OutOfRange = 9,
+    OutOfRange,
     /// The file's end before `999`.
-    NotEnded = 10,
+    NotEnded,
     /// A line after `999` that is not blank.
-    AfterEnd = 11,
+    AfterEnd,
     /// A test record after `MOST_RECORDS` others.
-    TooManyRecords = 12,
+    TooManyRecords,
 }
 
-impl RecordKind {
-    /// The number of the kind.
-    pub fn number(self) -> u32
-        ensures number { result ≡ number_of_kind self }
-    {
-        self as u32
-    }
+impl RefusalKind for RecordKind {
+    ghost use Rattle.ipc356_records.specs.Kind.{row_of};
 
-    /// The name of the kind.
-    pub fn name(self) -> &'static str
-        ensures name { result.now ≡ name_of_kind self }
-    {
+    ghost row = { row_of };
+
+    fn name(self) -> &'static str {
         name_of!(self, RecordKind:
             UnknownCode Continuation MissingUnits UnitsTwice BadUnits BadAccess BadNumber BadName
             OutOfRange NotEnded AfterEnd TooManyRecords)
+    }
+
+    fn number(self) -> u32 {
+        self as u32
     }
 }
 

@@ -1,8 +1,9 @@
 //! Reads a netlist.
 ghost use Rattle.std.specs.Prelude.{◌≡◌, ◌+◌, ◌^◌, ◌<◌, ◌≤◌, length, IfOk, IfErr, OnOk};
-ghost use Rattle.ipc356_records.specs.Line.{finishes};
+ghost use Rattle.ipc356_records.specs.Lawful.{IsLawfulForm};
+ghost use Rattle.ipc356_records.specs.Line.{finishes, view};
 ghost use Rattle.ipc356_records.specs.NetlistFile.{FitsBoard, IsFault, IsRead};
-ghost use Rattle.ipc356_records.specs.Reader.{Faults, IsLawfulReader, Leaves, fault_at};
+ghost use Rattle.ipc356_records.specs.Reader.{Faults, IsLawfulReader, Leaves, Obeys, fault_at};
 
 use crate::kind::{RecordFault, RecordKind};
 use crate::line::RecordLine;
@@ -32,15 +33,24 @@ fn fault_at(halt: Halt<RecordKind>, line: u32) -> RecordFault
     }
 }
 
+// Obeys a line of this number.
+fn obey_at<'a>(reader: &mut Reader<'a>, form: &RecordLine<'a>, line: u32) -> Result<(), RecordFault>
+    requires lawful { IsLawfulReader reader.old }
+    requires form { IsLawfulForm (view form.now) }
+    ensures ok { OnOk result (Obeys reader.old (view form.now) reader.new) }
+    ensures lawful { OnOk result (IsLawfulReader reader.new) }
+    ensures fault { IfErr result (Faults reader.old (view form.now) line) }
+{
+    reader.obey(form).map_err(|halt| fault_at(halt, line))
+}
+
 // Obeys the file's end, and gives the netlist.
 fn finished(alloc: Global, mut reader: Reader, line: u32) -> Result<Netlist, RecordFault>
     requires lawful { IsLawfulReader reader }
     ensures ok { IfOk result (λ n. Leaves reader.entry finishes n.probes n.names) }
     ensures fault { IfErr result (Faults reader.entry finishes line) }
 {
-    if let Err(halt) = reader.obey(&RecordLine::Finish) {
-        return Err(fault_at(halt, line));
-    }
+    obey_at(&mut reader, &RecordLine::Finish, line)?;
     match reader.into_netlist(alloc) {
         Ok(netlist) => Ok(netlist),
         Err(_) => Err(RecordFault::NoMemory),
@@ -63,9 +73,7 @@ pub fn read_netlist(alloc: Global, file: &[u8], layers: u8) -> Result<Netlist, R
     let mut records = Records::new(file);
     let mut reader = Reader::new(alloc, layers);
     while let Some(record) = records.next_record() {
-        if let Err(halt) = reader.obey(&read_form(&record)) {
-            return Err(fault_at(halt, record.line));
-        }
+        obey_at(&mut reader, &read_form(&record), record.line)?;
     }
     finished(alloc, reader, records.line())
 }

@@ -167,13 +167,11 @@ fn parameter<'a>(text: &[u8]) -> RecordLine<'a>
 fn is_other(text: &[u8]) -> bool
     ensures { result ≡ spec.is_other text.now }
 {
-    begins(text, b"367")
-        || begins(text, b"378")
-        || begins(text, b"379")
-        || begins(text, b"389")
-        || begins(text, b"078")
-        || begins(text, b"079")
-        || begins(text, b"089")
+    match text {
+        [b'3', b'6', b'7', ..] | [b'3', b'8', b'9', ..] | [b'0', b'8', b'9', ..] => true,
+        [b'0' | b'3', b'7', b'8' | b'9', ..] => true,
+        _ => false,
+    }
 }
 
 // A record by its code.

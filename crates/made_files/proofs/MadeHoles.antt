@@ -10,6 +10,7 @@ use Rattle.std.specs.List.{AllByRecursion, after_first, before_first, flat_map, 
 use Rattle.board_maker.specs.MadeBoard.{cells, column, hit, part_text, row, tenths}
 use Rattle.board_maker.specs.declared.files.Part.TheVariants.{Holes}
 use Rattle.board_shapes.specs.Plain.{PlainPiece, round}
+use Rattle.file_reading.specs.LookingBack.{last_or}
 use Rattle.file_reading.specs.Reading.{Clean, Item, said}
 use Rattle.lengths.specs.Decimal.{Fraction, decimal}
 use Rattle.lengths.specs.Grid.{position_of, size_of}
@@ -25,7 +26,7 @@ use Rattle.xnc.specs.DrillEffects.{Effect, Known, stays, drills, barrel, body, d
 use Rattle.xnc.specs.DrillFile.{item_of, items}
 use Rattle.xnc.specs.DrillLines.{behind_x, body_line, both, command, coordinates_of, form_of, line_with, is_g, is_y, place_line, tool_line, tool_number, within_blanks}
 use Rattle.xnc.specs.FaultPlace.{Place}
-use Rattle.xnc.specs.Settings.{barrels_at, defined_at, down_at, effect_at, known_at, mode_at, piece_of, stage_at, tool_at, unit_at}
+use Rattle.xnc.specs.Settings.{barrels_at, defined_at, down_at, effect_at, known_at, mode_in, piece_of, stage_at, tool_at, unit_at}
 use Rattle.xnc.specs.declared.kind.DrillKind.{DrillKind}
 use Rattle.xnc.specs.declared.line.Coordinates.{Coordinates}
 use Rattle.xnc.specs.declared.line.DrillLine.{DrillLine}
@@ -243,7 +244,7 @@ drilled k u w x y d stage unit mode tool left up room = rw (stage, unit, mode, t
 record IsReady (p : Place) (n : ℕ) : Type 0 where
   stage : stage_at (behind n) ≡ Body
   unit : unit_at (behind n) ≡ Some Mm
-  mode : mode_at (behind n) ≡ Drill
+  mode : last_or Drill mode_in (behind n) ≡ Drill
   tool : tool_at (behind n) ≡ Some 1
   up : down_at (behind n) ≡ false
   defined : defined_at (behind n) 1 ≡ Some 4_000_000

@@ -13,9 +13,9 @@ use thiserror::Error;
 pub enum AddFault {
     /// There are `MOST_CONTOUR_EDGES` edges already.
     #[error("too many edges")]
-    TooLong = 1,
+    TooLong,
     #[error("memory is wanted")]
-    NoMemory = 2,
+    NoMemory,
 }
 
 /// Why a contour is not closed.
@@ -23,12 +23,12 @@ pub enum AddFault {
 pub enum CloseFault {
     /// There is an edge, and the last spot is not the first.
     #[error("the contour is open")]
-    Open = 1,
+    Open,
     /// It is closed with one or two edges.
     #[error("the contour has fewer than three edges")]
-    Short = 2,
+    Short,
     #[error("memory is wanted")]
-    NoMemory = 3,
+    NoMemory,
 }
 
 /// The contour of a region so far: where it began, and where each of its edges ends. Spots are in u.

@@ -6,13 +6,13 @@ use thiserror::Error;
 pub enum RepeatFault {
     /// The word has another form.
     #[error("not a step and repeat")]
-    BadText = 1,
+    BadText,
     /// A step is not a whole number of u.
     #[error("a step off the grid")]
-    OffGrid = 2,
+    OffGrid,
     /// A step is over 1 m.
     #[error("a step out of range")]
-    OutOfRange = 3,
+    OutOfRange,
 }
 
 /// Why there are no copies of a block.
@@ -20,13 +20,13 @@ pub enum RepeatFault {
 pub enum CopyFault {
     /// The copies have more pieces than the room.
     #[error("too many pieces")]
-    TooManyPieces = 1,
+    TooManyPieces,
     /// The copies' areas have more edges than the room.
     #[error("too many edges")]
-    TooManyEdges = 2,
+    TooManyEdges,
     /// An end or a corner of a copy is over 1 m from 0 in x or y.
     #[error("an end or a corner of a copy out of range")]
-    OutOfRange = 3,
+    OutOfRange,
     #[error("memory is wanted")]
-    NoMemory = 4,
+    NoMemory,
 }

@@ -16,7 +16,8 @@ use Rattle.xnc.specs.declared.reader.Reader.{Reader}
 use Rattle.xnc.specs.FaultPlace.{Place}
 use Rattle.xnc.specs.DrillEffects.{Known, Effect, stays, makes, coordinate, effect, after}
 use Rattle.std.specs.Option.{option_or}
-use Rattle.xnc.specs.Settings.{value_or, value_in, settings_at, unit_at, x_at, y_at, defined_at, tools_at, piece_of, known_with, known_at, barrels_at}
+use Rattle.file_reading.specs.LookingBack.{how_many}
+use Rattle.xnc.specs.Settings.{value_or, value_in, settings_at, unit_at, x_at, y_at, defined_at, is_tool, piece_of, known_with, known_at, barrels_at}
 use Rattle.xnc.specs.Reader.{defined_in, count_of, Adds, Turns, known_of, place_of, Obeys}
 use Rattle.xnc.proofs.Outcome.{IsPlain, Leads, Crossed, Outcome, outcome}
 
@@ -62,7 +63,7 @@ plain_turns old new other h t = t
 -- the tools of the reader are those that looking back finds
 pub record HasTools (t : Tools) (earlier : List DrillLine) : Type 0 where
   pub defined : (m : ℕ) → defined_in t m ≡ defined_at earlier m
-  pub count : count_of t ≡ tools_at earlier
+  pub count : count_of t ≡ how_many is_tool earlier
 
 kept : (old new : Tools) (earlier : List DrillLine) (e : Effect) → HasTools old earlier → IsPlain e → Turns old e new → HasTools new earlier
 kept old new earlier e h plain t = subst (λ (s : Tools). HasTools s earlier) (sym (plain_turns old new e plain t)) h
@@ -114,7 +115,7 @@ state-push p earlier r f new s o =
     let size : length new.pieces.items ≡ length (barrels_at p (f ∷ earlier)) = sym (length-map new.pieces.items plain_piece) ∙ ap length pieces in
     let place : place_of new ≡ p = o.place ∙ s.place in
     record {
-      known = same_known new.settings (settings_at (f ∷ earlier)) (defined_in new.tools) (defined_at (f ∷ earlier)) (count_of new.tools) (tools_at (f ∷ earlier)) (length new.pieces.items) (length (barrels_at p (f ∷ earlier))) new.room p.room settings (fun_ext tools.defined) tools.count size (ap (λ (q : Place). q.room) place);
+      known = same_known new.settings (settings_at (f ∷ earlier)) (defined_in new.tools) (defined_at (f ∷ earlier)) (count_of new.tools) (how_many is_tool (f ∷ earlier)) (length new.pieces.items) (length (barrels_at p (f ∷ earlier))) new.room p.room settings (fun_ext tools.defined) tools.count size (ap (λ (q : Place). q.room) place);
       pieces = pieces;
       counts = (let e = o.counts in let g = s.counts in omega arith);
       place = place;

@@ -1,6 +1,8 @@
 -- Each kind of refusal of drill files has a number of its own.
-use Rattle.std.proofs.Common.{◌≡◌, ℕ, List, [], ◌∷◌, get_or, refl, sym, ap, ◌∙◌}
-use Rattle.xnc.specs.Kind.{number_of_kind}
+use Rattle.std.proofs.Common.{◌≡◌, List, [], ◌∷◌, get_or, refl}
+use Rattle.file_reading.specs.Kinds.{HaveOwnNumbers}
+use Rattle.file_reading.proofs.OwnNumbers.{own_numbers}
+use Rattle.xnc.specs.Kind.{row_of}
 use Rattle.xnc.specs.declared.kind.DrillKind.{DrillKind}
 use Rattle.xnc.specs.declared.kind.DrillKind.TheVariants as kind
 
@@ -8,9 +10,9 @@ use Rattle.xnc.specs.declared.kind.DrillKind.TheVariants as kind
 abbrev numbered : List DrillKind
 numbered = kind.NoHeader ∷ kind.NoHeader ∷ kind.BadLine ∷ kind.MissingUnit ∷ kind.NoTool ∷ kind.ToolTwice ∷ kind.ImpliedDecimals ∷ kind.OffGrid ∷ kind.OutOfRange ∷ kind.ArcRout ∷ kind.WrongMode ∷ kind.WrongSpan ∷ kind.NotPlated ∷ kind.MixedPlating ∷ kind.NotEnded ∷ kind.AfterEnd ∷ kind.TooManyPieces ∷ kind.TooManyTools ∷ []
 
-at_its_number : (a : DrillKind) → get_or numbered (number_of_kind a) kind.NoHeader ≡ a
+at_its_number : (a : DrillKind) → get_or numbered (row_of a).number kind.NoHeader ≡ a
 at_its_number kind.NoHeader = refl
 at_its_number other = refl
 
-pub one_number : (a b : DrillKind) → number_of_kind a ≡ number_of_kind b → a ≡ b
-one_number a b same = sym (at_its_number a) ∙ (ap (λ (n : ℕ). get_or numbered n kind.NoHeader) same ∙ at_its_number b)
+pub one_number : HaveOwnNumbers row_of
+one_number = own_numbers row_of numbered kind.NoHeader at_its_number

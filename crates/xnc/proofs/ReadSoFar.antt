@@ -61,28 +61,24 @@ line-read file p old new line r r' s next o = record {
   state = state-push p (said s.earlier) r (item_of p line).says r' s.state o;
 }
 
-number_is : (earlier : List (Item DrillLine)) (r : Reader) (p : Place) (number : ℕ) → State p (said earlier) r → number ≡ r.lines + 1 → number ≡ length earlier + 1
-number_is earlier r p number s h = h ∙ ap (λ (k : ℕ). k + 1) (s.counts ∙ length-map earlier (λ i. i.says))
+-- the fault of an item at which the reader stops is the file's
+item-fault : (file : List ℕ) (p : Place) (earlier later : List (Item DrillLine)) (item : Item DrillLine) (r : Reader) (why : DrillFault) → IsReadTo (effect_at p) (items p file) earlier (item ∷ later) → State p (said earlier) r → Faults r item.says item.at why → IsFault file p why
+item-fault file p earlier later item r why read state f = rw f.is (halted f.halt f.halts)
+  where
+    halted : (h : Halt DrillKind) → Halts (known_of r) item.says h → IsFault file p (fault_at h (r.lines + 1) item.at)
+    halted (halt.Fault kind) is = record {
+      earlier = earlier;
+      item = item;
+      later = later;
+      first = read;
+      is = subst (λ (k : Known). effect k item.says ≡ Err kind) state.known is;
+      counts = ap (λ (k : ℕ). k + 1) (state.counts ∙ length-map earlier (λ i. i.says));
+      at = refl;
+    }
+    halted halt.NoMemory is = tt
 
--- what stops the reader at an item is that item's fault
-item-fault : (file : List ℕ) (p : Place) (earlier later : List (Item DrillLine)) (item : Item DrillLine) (r : Reader) (why : Halt DrillKind) (number : ℕ) → IsReadTo (effect_at p) (items p file) earlier (item ∷ later) → State p (said earlier) r → Halts (known_of r) item.says why → number ≡ r.lines + 1 → IsFault file p (fault_at why number item.at)
-item-fault file p earlier later item r (halt.Fault kind) number read state h n = record {
-  earlier = earlier;
-  item = item;
-  later = later;
-  first = read;
-  is = subst (λ (k : Known). effect k item.says ≡ Err kind) state.known h;
-  counts = number_is earlier r p number state n;
-  at = refl;
-}
-item-fault file p earlier later item r halt.NoMemory number read state h n = tt
-
-line-fault : (file : List ℕ) (p : Place) (old new : Ahead) (line : PlainLine) (r : Reader) (why : Halt DrillKind) (number : ℕ) → ReadSoFar file p old r → lines_from old ≡ line ∷ lines_from new → Halts (known_of r) (item_of p line).says why → number ≡ r.lines + 1 → IsFault file p (fault_at why number line.at)
-line-fault file p old new line r why number s next h n =
-    item-fault file p s.earlier (items_with p (length file) (lines_from new)) (item_of p line) r why number (ahead_is file p old r (line ∷ lines_from new) s next) s.state h n
-
-pub line-refused : (file : List ℕ) (p : Place) (old new : Ahead) (line : PlainLine) (r : Reader) (why : DrillFault) → ReadSoFar file p old r → lines_from old ≡ line ∷ lines_from new → Faults r (item_of p line).says line.at why → IsFault file p why
-line-refused file p old new line r why s next h = rw h.is (line-fault file p old new line r h.halt (r.lines + 1) s next h.halts refl)
+pub line-fault : (file : List ℕ) (p : Place) (old new : Ahead) (line : PlainLine) (r : Reader) (why : DrillFault) → ReadSoFar file p old r → lines_from old ≡ line ∷ lines_from new → Faults r (item_of p line).says line.at why → IsFault file p why
+line-fault file p old new line r why s next f = item-fault file p s.earlier (items_with p (length file) (lines_from new)) (item_of p line) r why (ahead_is file p old r (line ∷ lines_from new) s next) s.state f
 
 -- the file's end
 abbrev last_item : List ℕ → Item DrillLine
@@ -104,4 +100,4 @@ end-read items (Err e) file p a r s none h = tt
 
 pub end-fault : {V : Type 0} (result : Result V DrillFault) (file : List ℕ) (p : Place) (a : Ahead) (r : Reader) → ReadSoFar file p a r → lines_from a ≡ [] → IfErr result (Faults r form.Finish (length file)) → IfErr result (IsFault file p)
 end-fault (Ok v) file p a r s none h = tt
-end-fault (Err e) file p a r s none h = rw h.is (item-fault file p s.earlier [] (last_item file) r h.halt (r.lines + 1) (ahead_is file p a r [] s none) s.state h.halts refl)
+end-fault (Err e) file p a r s none f = item-fault file p s.earlier [] (last_item file) r e (ahead_is file p a r [] s none) s.state f

@@ -33,11 +33,11 @@ IsRead file p pieces = reading.IsRead (effect_at p) (barrels_at p) (items p file
 abbrev pub IsRefused : List ℕ → Place → DrillKind → ℕ → ℕ → Type 0
 IsRefused file p kind number place = reading.IsRefused (effect_at p) (items p file) kind number place
 
+-- Each file has one answer: the barrels, or the first fault.
+abbrev pub HasOneAnswer : List ℕ → Place → Type 0
+HasOneAnswer file p = reading.HasOneAnswer (IsRead file p) (IsRefused file p)
+
 -- why there are no barrels: the file is refused, or memory is wanted
 abbrev pub IsFault : List ℕ → Place → DrillFault → Type 0
 IsFault file p (fault.Refused kind number place) = IsRefused file p kind number place
 IsFault file p fault.NoMemory = Unit {0}
-
--- Each file has one answer: the barrels, or the first fault.
-abbrev pub HasOneAnswer : List ℕ → Place → Type 0
-HasOneAnswer file p = reading.HasOneAnswer (IsRead file p) (IsRefused file p)

@@ -1,30 +1,26 @@
--- The number and the name of a kind of refusal.
-use Rattle.std.specs.Prelude.{ℕ, List, codes}
+-- Why a drill file is refused, as a report says it.
+use Rattle.file_reading.specs.Kinds.{Row, row}
 use Rattle.xnc.specs.declared.kind.DrillKind.{DrillKind}
-use Rattle.xnc.specs.declared.kind.DrillKind.TheVariants as kind
+use Rattle.xnc.specs.declared.kind.DrillKind.TheVariants.{NoHeader, BadLine, MissingUnit, NoTool, ToolTwice, ImpliedDecimals, OffGrid, OutOfRange, ArcRout, WrongMode, WrongSpan, NotPlated, MixedPlating, NotEnded, AfterEnd, TooManyPieces, TooManyTools}
 
--- how a report numbers a kind, and names it
-abbrev pub line_of : DrillKind → ℕ × List ℕ
-line_of kind.NoHeader = (1, codes "NoHeader")
-line_of kind.BadLine = (2, codes "BadLine")
-line_of kind.MissingUnit = (3, codes "MissingUnit")
-line_of kind.NoTool = (4, codes "NoTool")
-line_of kind.ToolTwice = (5, codes "ToolTwice")
-line_of kind.ImpliedDecimals = (6, codes "ImpliedDecimals")
-line_of kind.OffGrid = (7, codes "OffGrid")
-line_of kind.OutOfRange = (8, codes "OutOfRange")
-line_of kind.ArcRout = (9, codes "ArcRout")
-line_of kind.WrongMode = (10, codes "WrongMode")
-line_of kind.WrongSpan = (11, codes "WrongSpan")
-line_of kind.NotPlated = (12, codes "NotPlated")
-line_of kind.MixedPlating = (13, codes "MixedPlating")
-line_of kind.NotEnded = (14, codes "NotEnded")
-line_of kind.AfterEnd = (15, codes "AfterEnd")
-line_of kind.TooManyPieces = (16, codes "TooManyPieces")
-line_of kind.TooManyTools = (17, codes "TooManyTools")
-
-abbrev pub number_of_kind : DrillKind → ℕ
-number_of_kind kind = (line_of kind).0
-
-abbrev pub name_of_kind : DrillKind → List ℕ
-name_of_kind kind = (line_of kind).1
+-- the row of a kind
+abbrev pub row_of : DrillKind → Row
+row_of = elim [
+  | NoHeader ↦ row 1 "NoHeader"
+  | BadLine ↦ row 2 "BadLine"
+  | MissingUnit ↦ row 3 "MissingUnit"
+  | NoTool ↦ row 4 "NoTool"
+  | ToolTwice ↦ row 5 "ToolTwice"
+  | ImpliedDecimals ↦ row 6 "ImpliedDecimals"
+  | OffGrid ↦ row 7 "OffGrid"
+  | OutOfRange ↦ row 8 "OutOfRange"
+  | ArcRout ↦ row 9 "ArcRout"
+  | WrongMode ↦ row 10 "WrongMode"
+  | WrongSpan ↦ row 11 "WrongSpan"
+  | NotPlated ↦ row 12 "NotPlated"
+  | MixedPlating ↦ row 13 "MixedPlating"
+  | NotEnded ↦ row 14 "NotEnded"
+  | AfterEnd ↦ row 15 "AfterEnd"
+  | TooManyPieces ↦ row 16 "TooManyPieces"
+  | TooManyTools ↦ row 17 "TooManyTools"
+]

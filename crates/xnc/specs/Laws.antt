@@ -5,7 +5,8 @@ use Rattle.board_shapes.specs.Plain.{PlainPiece}
 use Rattle.file_reading.specs.Reading.{Clean}
 use Rattle.texts.specs.Blanks.{is_blank}
 use Rattle.texts.specs.Lines.{PlainLine, lines_of}
-use Rattle.xnc.specs.Kind.{number_of_kind}
+use Rattle.file_reading.specs.Kinds.{HaveOwnNumbers}
+use Rattle.xnc.specs.Kind.{row_of}
 use Rattle.xnc.specs.declared.kind.DrillKind.{DrillKind}
 use Rattle.xnc.specs.declared.line.DrillLine.{DrillLine}
 use Rattle.xnc.specs.declared.line.DrillLine.TheVariants as form
@@ -40,4 +41,4 @@ PrefixIsRefused file p =
 
 -- Each kind of refusal has a number of its own.
 abbrev pub KindsHaveOwnNumbers : Type 0
-KindsHaveOwnNumbers = (a b : DrillKind) → number_of_kind a ≡ number_of_kind b → a ≡ b
+KindsHaveOwnNumbers = HaveOwnNumbers row_of

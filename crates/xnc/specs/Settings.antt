@@ -1,7 +1,7 @@
 -- What earlier lines have set, found by looking back. A history is a list of the forms of lines, the last first.
 use Rattle.std.specs.Prelude.{ℕ, ◌+◌, Bool, true, false, ◌==◌, if◌then◌else◌, List, [], ◌∷◌, ◌++◌, length, ℤ, pos, Option, Some, None, Result, Ok, Err}
 use Rattle.std.specs.Option.{option_or}
-use Rattle.file_reading.specs.LookingBack.{last_or, last_said}
+use Rattle.file_reading.specs.LookingBack.{how_many, last_or, last_said}
 use Rattle.lengths.specs.Decimal.{Fraction}
 use Rattle.lengths.specs.declared.decimal.Unit.{Unit as Measure}
 use Rattle.board_shapes.specs.Plain.{PlainPiece}
@@ -47,15 +47,11 @@ tool_in other = None
 abbrev pub tool_at : List DrillLine → Option ℕ
 tool_at earlier = last_or None tool_in earlier
 
--- the mode that a line asks for
+-- the mode that a line asks for: drill mode `G05`, rout mode `G00`
 abbrev pub mode_in : DrillLine → Option Mode
 mode_in form.Drill = Some Drill
 mode_in (form.Rout to) = Some Rout
 mode_in other = None
-
--- drill mode at the start and behind `G05`, rout mode behind `G00`
-abbrev pub mode_at : List DrillLine → Mode
-mode_at earlier = last_or Drill mode_in earlier
 
 -- whether the tool is down behind a line that lowers or raises it
 abbrev pub down_in : DrillLine → Option Bool
@@ -99,13 +95,13 @@ x_at earlier = named_at (λ c. c.x) earlier
 abbrev pub y_at : List DrillLine → ℤ
 y_at earlier = named_at (λ c. c.y) earlier
 
--- all settings that the next line finds
+-- The settings that the next line finds. The mode at the start is drill mode.
 abbrev pub settings_at : List DrillLine → Settings
 settings_at earlier = record {
   stage = stage_at earlier;
   unit = unit_at earlier;
   tool = tool_at earlier;
-  mode = mode_at earlier;
+  mode = last_or Drill mode_in earlier;
   down = down_at earlier;
   at = record { x = x_at earlier; y = y_at earlier };
 }
@@ -121,11 +117,10 @@ defined_at [] n = None
 defined_at (form.Tool m d ∷ earlier) n = option_or (diameter_in n m (diameter_of (unit_at earlier) d)) (defined_at earlier n)
 defined_at (other ∷ earlier) n = defined_at earlier n
 
--- how many tools are defined
-abbrev pub tools_at : List DrillLine → ℕ
-tools_at [] = 0
-tools_at (form.Tool m d ∷ earlier) = tools_at earlier + 1
-tools_at (other ∷ earlier) = tools_at earlier
+-- whether a line defines a tool
+abbrev pub is_tool : DrillLine → Bool
+is_tool (form.Tool n d) = true
+is_tool other = false
 
 -- the piece that a line of this number makes
 abbrev pub piece_of : Place → ℕ → Result Effect DrillKind → List PlainPiece
@@ -141,7 +136,7 @@ abbrev pub known_with : Place → List DrillLine → ℕ → Known
 known_with p earlier pieces = record {
   settings = settings_at earlier;
   defined = defined_at earlier;
-  tools = tools_at earlier;
+  tools = how_many is_tool earlier;
   pieces = pieces;
   room = p.room;
 }

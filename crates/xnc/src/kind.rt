@@ -1,8 +1,8 @@
 //! Kinds of refusal.
 ghost use Rattle.std.specs.Prelude.{◌≡◌};
-ghost use Rattle.xnc.specs.Kind.{name_of_kind, number_of_kind};
+ghost use Rattle.xnc.specs.Kind.{row_of};
 
-use file_reading::name_of;
+use file_reading::{RefusalKind, name_of};
 use lengths::decimal::GridFault;
 
 /// Why a drill file is refused. The forms of lines are this project's profile of the XNC Format
@@ -13,57 +13,38 @@ pub enum DrillKind {
     NoHeader = 1,
     /// A line of no known form, or of none that may stand there; a unit after the other unit; a
     /// file function that is none of `Plated`, `NonPlated`, `MixedPlating`.
-    BadLine = 2,
+    BadLine,
     /// A diameter or a place before the unit.
-    MissingUnit = 3,
+    MissingUnit,
     /// A selection of a tool that is not defined, or a hit, a slot or `M15` where none is
     /// selected.
-    NoTool = 4,
+    NoTool,
     /// A second definition of a tool's number.
-    ToolTwice = 5,
+    ToolTwice,
     /// A diameter or a coordinate without a point.
-    ImpliedDecimals = 6,
+    ImpliedDecimals,
     /// A coordinate that is no whole number of u (0.1 nm), or a diameter that is no even one.
-    OffGrid = 7,
+    OffGrid,
     /// A coordinate over 1 m from 0, or a diameter that is not above 0 or is over 50 mm.
-    OutOfRange = 8,
+    OutOfRange,
     /// A line that begins with `G02` or `G03`.
-    ArcRout = 9,
+    ArcRout,
     /// A line that asks for the other mode, or for the tool the other way, up or down.
-    WrongMode = 10,
+    WrongMode,
     /// A file function that names other layers than the span.
-    WrongSpan = 11,
+    WrongSpan,
     /// A file function of holes that are not plated.
-    NotPlated = 12,
+    NotPlated,
     /// A file function of plated and other holes.
-    MixedPlating = 13,
+    MixedPlating,
     /// The file's end before `M30`.
-    NotEnded = 14,
+    NotEnded,
     /// A line after `M30` that is neither empty nor a comment.
-    AfterEnd = 15,
+    AfterEnd,
     /// A barrel where the room for pieces is used up.
-    TooManyPieces = 16,
+    TooManyPieces,
     /// A definition after 1,000 others.
-    TooManyTools = 17,
-}
-
-impl DrillKind {
-    /// The number of the kind, from 1.
-    pub fn number(self) -> u32
-        ensures number { result ≡ number_of_kind self }
-    {
-        self as u32
-    }
-
-    /// The name of the kind.
-    pub fn name(self) -> &'static str
-        ensures name { result.now ≡ name_of_kind self }
-    {
-        name_of!(self, DrillKind:
-            NoHeader BadLine MissingUnit NoTool ToolTwice ImpliedDecimals OffGrid OutOfRange
-            ArcRout WrongMode WrongSpan NotPlated MixedPlating NotEnded AfterEnd TooManyPieces
-            TooManyTools)
-    }
+    TooManyTools,
 }
 
 /// Why a drill file is not read: its first faulty line, with its number from 1 and the offset of
@@ -88,5 +69,20 @@ impl From<GridFault> for DrillKind {
 
     fn from(fault: GridFault) -> DrillKind {
         fault.choose(DrillKind::OffGrid, DrillKind::OutOfRange)
+    }
+}
+
+impl RefusalKind for DrillKind {
+    ghost row = { row_of };
+
+    fn name(self) -> &'static str {
+        name_of!(self, DrillKind:
+            NoHeader BadLine MissingUnit NoTool ToolTwice ImpliedDecimals OffGrid OutOfRange
+            ArcRout WrongMode WrongSpan NotPlated MixedPlating NotEnded AfterEnd TooManyPieces
+            TooManyTools)
+    }
+
+    fn number(self) -> u32 {
+        self as u32
     }
 }

@@ -10,7 +10,7 @@ use Rattle.boardnet.specs.Source.{Source, IsFileBy, NextBy, StopsFileBy}
 use Rattle.boardnet.specs.Task.{Task, on_package}
 use Rattle.boardnet.specs.declared.answer.Unanswered.{Unanswered}
 use Rattle.boardnet.specs.declared.answer.Unanswered.TheVariants.{Unflat}
-use Rattle.gerber_layer.specs.MacroKinds.{flatten_number, flatten_name}
+use Rattle.gerber_layer.specs.MacroKinds.{flatten_row}
 use Rattle.gerber_layer.specs.MacroLayer.{IsReadWithMacros, IsRefusedWithMacros}
 use Rattle.gerber_layer.specs.declared.macro_kind.FlattenKind.{FlattenKind}
 use Rattle.lengths.specs.Text.{IsText}
@@ -45,7 +45,7 @@ pub record IsUnflat (source : Source) (name : List ℕ) (kind : FlattenKind) (co
 
 -- the line of a refusal of `flatten`
 abbrev pub flatten_line : List ℕ → FlattenKind → ℕ → ℕ → List ℕ
-flatten_line name kind command byte = kind_line name (codes "flatten") (flatten_number kind) (flatten_name kind) (at_byte (codes "command") command byte)
+flatten_line name kind command byte = kind_line name (codes "flatten") (flatten_row kind).number (flatten_row kind).name (at_byte (codes "command") command byte)
 
 -- The file is refused, and this is its line.
 pub record IsFlatRefusal (source : Source) (name line : List ℕ) : Type 0 where

@@ -1,6 +1,7 @@
 // Files of real copper, and what they are read as: arcs are straight, slanted lines of macros are strokes.
 use crate::layers::image;
 use board_shapes::Room;
+use file_reading::RefusalKind;
 use gerber_layer::{FlattenFault, read_loosely};
 use std::alloc::{AllocError, Global};
 use std::test::Fail;

@@ -1,5 +1,6 @@
 // Files with macros, and what they are read as.
 use crate::layers::image;
+use file_reading::RefusalKind;
 use gerber_layer::{FlattenFault, read_flat};
 use std::alloc::{AllocError, Global};
 use std::fmt::Write;

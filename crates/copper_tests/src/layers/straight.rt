@@ -1,5 +1,6 @@
 // Files in which draws may be arcs, and what they are read as where these are straight.
 use crate::layers::{ROOM, image};
+use file_reading::RefusalKind;
 use gerber_layer::{FlattenFault, read_loosely};
 use std::alloc::{AllocError, Global};
 use std::test::Fail;

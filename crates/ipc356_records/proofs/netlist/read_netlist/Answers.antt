@@ -1,4 +1,5 @@
 use Rattle.std.proofs.Common.{ap, ◌∙◌}
+use Rattle.std.proofs.lemmas.Result.{err_from_is_err_and}
 use Rattle.texts.specs.Lines.{Ahead}
 use Rattle.ipc356_records.specs.Records.{ahead}
 use Rattle.ipc356_records.proofs.Fits.{if_fits_board}
@@ -8,17 +9,18 @@ use Rattle.ipc356_records.proofs.netlist.read_netlist.Goals as goal
 pub loop-record-preserved : goal.loop-record-preserved
 loop-record-preserved c =
     let given = c.in-Some.ensures.next in
-    let obeys = rw (c.read_form.ensures.value, given.is.text) at c.in_default-obey.ensures.ok in
+    let obeys = rw (c.read_form.ensures.value, given.is.text) at c.in_ok-obey_at.ensures.ok in
     record {
-      read = line-read c.args.file.now c.args.layers (ahead c.loop-record.records) (ahead c.next_record.new.self) given.line c.loop-record.reader c.obey.new.self c.loop-record.invariant.read given.first given.counts obeys;
-      lawful = c.in_default-obey.ensures.lawful;
+      read = line-read c.args.file.now c.args.layers (ahead c.loop-record.records) (ahead c.next_record.new.self) given.line c.loop-record.reader c.obey_at.new.reader c.loop-record.invariant.read given.first given.counts obeys;
+      lawful = c.in_ok-obey_at.ensures.lawful;
     }
 
-pub returns-in-Err-clause-fault : goal.returns-in-Err-clause-fault
-returns-in-Err-clause-fault c =
+pub returns-in_err-obey_at-clause-fault : goal.returns-in_err-obey_at-clause-fault
+returns-in_err-obey_at-clause-fault c =
     let given = c.in-Some.ensures.next in
-    let halts = rw (c.read_form.ensures.value, given.is.text) at c.in-Err.ensures.halt in
-    rw c.fault_at.ensures (line-fault c.args.file.now c.args.layers (ahead c.loop-record.records) given.line _ c.loop-record.reader c.in-Err.halt c.in-Some.record.line c.loop-record.invariant.read given.first halts given.is.number)
+    let e = err_from_is_err_and c.from_residual.result c.from_residual.ensures.1 in
+    let faults = rw (c.read_form.ensures.value, given.is.text) at c.in_err-obey_at.ensures.fault in
+    rw (e.1, e.2) (line-fault c.args.file.now c.args.layers (ahead c.loop-record.records) given.line _ c.loop-record.reader c.in_err-obey_at.field-0.0 c.in-Some.record.line c.loop-record.invariant.read given.first given.is.number faults)
 
 pub returns-clause-ok : goal.returns-clause-ok
 returns-clause-ok c =

@@ -4,7 +4,7 @@ use Rattle.texts.specs.Lines.{Ahead, start}
 use Rattle.texts.specs.Stepping.{ahead, plain_line}
 use Rattle.xnc.specs.FaultPlace.{Place}
 use Rattle.xnc.proofs.Placing.{few_read, span_read}
-use Rattle.xnc.proofs.ReadSoFar.{ReadSoFar, nothing-read, line-read, line-refused, end-read, end-fault}
+use Rattle.xnc.proofs.ReadSoFar.{ReadSoFar, nothing-read, line-read, line-fault, end-read, end-fault}
 use Rattle.xnc.proofs.drill_file.read_drill.Goals as goal
 
 pub loop-reader-init : goal.loop-reader-init
@@ -34,7 +34,7 @@ returns-in_err-obey_at-in-Some-clause-fault c =
     let p : Place = record { from = c.args.span.from; to = c.args.span.to; file = c.args.file_number; room = c.args.room.pieces } in
     let e = err_from_is_err_and c.from_residual.result c.from_residual.ensures.1 in
     let faults = rw c.read_line.ensures at c.in_err-obey_at-in-Some.ensures.fault in
-    rw (e.1, e.2) (line-refused c.args.file.now p (ahead c.loop-reader.lines) (ahead c.next_line.new.self) (plain_line c.in-Some.line) c.loop-reader.reader c.in_err-obey_at-in-Some.field-0.0 c.loop-reader.invariant.read c.in-Some.ensures.next.0 faults)
+    rw (e.1, e.2) (line-fault c.args.file.now p (ahead c.loop-reader.lines) (ahead c.next_line.new.self) (plain_line c.in-Some.line) c.loop-reader.reader c.in_err-obey_at-in-Some.field-0.0 c.loop-reader.invariant.read c.in-Some.ensures.next.0 faults)
 
 pub returns-in-None-clause-ok : goal.returns-in-None-clause-ok
 returns-in-None-clause-ok c =
