@@ -13,7 +13,7 @@ use Rattle.arcs.specs.Chains.{EachFrom, IsLink, IsRoom}
 use Rattle.arc_regions.specs.Copper.{InDisc, InSegment, IsRight}
 use Rattle.arc_regions.specs.Taken.{odd_past}
 use Rattle.arc_regions.proofs.Shifted.{IsNarrow, side_over, side_under, level_rising, level_falling, level_flat}
-use Rattle.arc_regions.proofs.Lengths.{by_start, by_end}
+use Rattle.arcs.proofs.Upper.{by_start, by_end}
 use Rattle.arc_regions.proofs.Turning.{lt_false, turned}
 use Rattle.arc_regions.proofs.Fans.{ArePlaced, chain_crossed, chain_turned, first_two, on_left, over_edge, shifted, side_same, sign_of, wedges}
 use Rattle.arc_regions.proofs.Sectors.{IsAt, chorded, false-back, none_and, same_or, solved, turned_true}

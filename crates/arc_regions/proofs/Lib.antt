@@ -1,7 +1,6 @@
 mod Hits
 mod Shifted
 mod Turning
-mod Lengths
 mod Slivers
 mod Chords
 pub mod Edges

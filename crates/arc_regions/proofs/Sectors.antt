@@ -10,7 +10,7 @@ use Rattle.arcs.specs.Copper.{reach_of}
 use Rattle.arcs.specs.Copper.{side_of as side_at}
 use Rattle.arc_regions.proofs.Hits.{Sign, over, under, is_over, is_under}
 use Rattle.arc_regions.proofs.Shifted.{IsNarrow}
-use Rattle.arc_regions.proofs.Lengths.{norm, norm_from_zero, lagrange}
+use Rattle.arcs.proofs.Vectors.{norm, norm_from_zero, lagrange}
 use Rattle.arc_regions.proofs.Chords.{at_start, under_square, within}
 use Rattle.arc_regions.proofs.Turning.{lt_true, lt_false, swept, turned}
 use Rattle.arc_regions.proofs.Fans.{both_ends, chord_side, edge_back, fan, fan_by, sign_not, first_two, last_two, left_from, on_left, over_edge, right_from, shifted, shifted_back, shifted_sum, sign_of}

@@ -103,23 +103,6 @@ fn chain_clear<L: Ledger>(
     }
 }
 
-/// Whether the part from `start` is clear of the area, or its chain with its capsules.
-fn part_clear<L: Ledger>(
-    area: &Area,
-    start: Spot,
-    stretch: &Stretch,
-    frame: Frame,
-    tests: &mut Steps<L>,
-) -> bool
-    requires inside { IsInside (area_box area.now.points.items) frame }
-    ensures { IsTrue result ↔ IsPartClear frame area.now.points.items start stretch.now.part stretch.now.chain.items stretch.now.radius }
-{
-    match stretch.part {
-        Part::Straight(end) => is_clear(area, start, end, 0, frame, tests),
-        Part::Curved(_) => chain_clear(area, &stretch.chain, stretch.radius, frame, tests),
-    }
-}
-
 /// Whether the ray from `p` to the right crosses the edge.
 fn is_crossed(p: Spot, a: Spot, b: Spot) -> bool
     requires p_placed { IsPlaced p }
@@ -172,7 +155,8 @@ fn part_odd(p: Spot, start: Spot, stretch: &Stretch) -> bool
     }
 }
 
-/// Whether the part from `start` with its chain is one, and clear of the area.
+/// Whether the part from `start` with its chain is one, and clear of the area: a straight part itself, for an
+/// arc its chain with the capsules along it.
 fn stands_clear<L: Ledger>(
     area: &Area,
     start: Spot,
@@ -183,7 +167,13 @@ fn stands_clear<L: Ledger>(
     requires inside { IsInside (area_box area.now.points.items) frame }
     ensures { IsTrue result ↔ (IsStretch start (chained stretch.now) × IsPartClear frame area.now.points.items start stretch.now.part stretch.now.chain.items stretch.now.radius) }
 {
-    is_stretch(start, stretch) && part_clear(area, start, stretch, frame, tests)
+    if !is_stretch(start, stretch) {
+        return false;
+    }
+    match stretch.part {
+        Part::Straight(end) => is_clear(area, start, end, 0, frame, tests),
+        Part::Curved(_) => chain_clear(area, &stretch.chain, stretch.radius, frame, tests),
+    }
 }
 
 /// The first corner of the area.

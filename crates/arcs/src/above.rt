@@ -5,10 +5,9 @@ ghost use Rattle.planar.specs.Plane.{Point};
 ghost use Rattle.std.specs.Prelude.{IsTrue, pos, ◌↔◌};
 
 use super::Arc;
-use super::alike::is_meant;
-use super::chords::{chain_round, first_and_rest, is_same};
-use super::rings::ring_of;
-use planar::{Spot, are_placed, is_placed};
+use super::chords::chain_round;
+use super::judged::ring_for;
+use planar::Spot;
 
 /// Whether the capsules of radius `r` from each spot of the chain to the next together hold the copper
 /// of each curve of the arc, by its chords (`TakenAbove`). Where it says so, they do; others that do are
@@ -17,19 +16,12 @@ pub fn is_above(arc: &Arc, chain: &[Spot], r: u64) -> bool
     ensures taken { IsTrue result ↔ TakenAbove arc.now chain.now r }
     ensures curves { IsTrue result → (p : Point) → Possibly arc.now p → InChain chain.now (pos r) p }
 {
-    if !(is_placed(arc.centre) && is_placed(arc.start) && is_placed(arc.end) && are_placed(chain)) {
-        return false;
-    }
     let half = arc.width - arc.width / 2;
-    if r < half || chain.len() < 2 || !is_meant(arc) {
+    if r < half || chain.len() < 2 {
         return false;
     }
-    let (first, rest) = first_and_rest(chain);
-    if !is_same(first, arc.start) {
-        return false;
-    }
-    match ring_of(arc, r - half) {
-        Some(ring) => chain_round(arc.centre, ring.0, ring.1, first, rest, arc.end),
+    match ring_for(arc, chain, r - half) {
+        Some(ring) => chain_round(arc, ring, chain),
         None => false,
     }
 }

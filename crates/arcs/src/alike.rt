@@ -1,7 +1,6 @@
 //! Whether the ends of an arc are alike enough for it to be meant.
 ghost use Rattle.arcs.specs.Copper.{IsMeant, unlike};
-ghost use Rattle.arcs.specs.declared.Arc.{Arc};
-ghost use Rattle.planar.specs.Plane.{IsPlaced};
+ghost use Rattle.arcs.specs.Taken.{IsPlacedArc};
 ghost use Rattle.std.specs.Prelude.{IsTrue, pos, ◌≡◌, ◌↔◌};
 
 use super::Arc;
@@ -10,9 +9,7 @@ use planar::cross;
 
 /// The difference of the squares of the distances of the ends from the centre.
 fn unlike_of(arc: &Arc) -> u128
-    requires centre { IsPlaced arc.now.centre }
-    requires start { IsPlaced arc.now.start }
-    requires end { IsPlaced arc.now.end }
+    requires placed { IsPlacedArc arc.now }
     ensures { pos result ≡ unlike arc.now }
 {
     let (near, far) = squares_of(arc);
@@ -21,9 +18,7 @@ fn unlike_of(arc: &Arc) -> u128
 
 /// Whether the arc is meant: it is not refused for its ends.
 pub fn is_meant(arc: &Arc) -> bool
-    requires centre { IsPlaced arc.now.centre }
-    requires start { IsPlaced arc.now.start }
-    requires end { IsPlaced arc.now.end }
+    requires placed { IsPlacedArc arc.now }
     ensures { IsTrue result ↔ IsMeant arc.now }
 {
     let swing = cross(arc.centre, arc.start, arc.end);

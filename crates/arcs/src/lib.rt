@@ -8,6 +8,7 @@
 //! - `chords`: whether a chord lies in a ring, and a chord in a turn.
 //! - `rings`: whole numbers round the radii of an arc.
 //! - `alike`: whether its ends are alike enough for it to be meant.
+//! - `judged`: the ring of an arc that is judged.
 //! - `laws`: a law over the definitions alone.
 #![tactic(auto)]
 
@@ -15,6 +16,7 @@ mod above;
 mod alike;
 mod below;
 mod chords;
+mod judged;
 pub mod laws;
 mod rings;
 
