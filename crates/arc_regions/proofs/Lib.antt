@@ -6,7 +6,6 @@ mod Chords
 pub mod Edges
 mod Fans
 mod Sectors
-mod Arcs
 mod Inside
 mod Read
 mod Regions

@@ -28,9 +28,8 @@ use Rattle.arc_regions.specs.declared.Part.TheVariants.{Straight, Curved}
 use Rattle.arc_regions.proofs.Edges.{end_append, some_before, some_behind}
 use Rattle.arc_regions.proofs.Shifted.{IsNarrow}
 use Rattle.arc_regions.proofs.Fans.{ArePlaced, first_two, or-swap}
-use Rattle.arc_regions.proofs.Sectors.{false-back}
 use Rattle.arc_regions.proofs.Inside.{all_inside}
-use Rattle.arc_regions.proofs.Arcs.{arc_told, segment, segment_is}
+use Rattle.arc_regions.proofs.Sectors.{arc_told, false-back, segment, segment_is}
 
 -- ---- rows of edges
 

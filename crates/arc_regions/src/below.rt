@@ -3,7 +3,6 @@ ghost use Rattle.arc_regions.specs.Copper.{InRegion};
 ghost use Rattle.arc_regions.specs.Taken.{AreClear, IsClear, IsPartClear, IsStretch, TakenBelow, all_chained, chained, odd_part, parts_of};
 ghost use Rattle.area_contact.specs.Contour.{InArea, area_box, edges_from, edges_of, first_of};
 ghost use Rattle.area_contact.specs.Parity.{crossed, odd};
-ghost use Rattle.arcs.specs.Chains.{EachFrom};
 ghost use Rattle.contact.specs.Round.{box_of};
 ghost use Rattle.contact.specs.Solid.{IsInside, SharePoint};
 ghost use Rattle.planar.specs.Plane.{InCapsule, IsPlaced, Point};
@@ -64,29 +63,7 @@ fn is_clear<L: Ledger>(
     capsule_clear(area, &capsule, frame, tests)
 }
 
-/// Whether each capsule of the chain from `start` is.
-fn links_clear<L: Ledger>(
-    area: &Area,
-    start: Spot,
-    rest: &[Spot],
-    r: u64,
-    frame: Frame,
-    tests: &mut Steps<L>,
-) -> bool
-    requires inside { IsInside (area_box area.now.points.items) frame }
-    ensures { IsTrue result ↔ EachFrom (IsClear frame area.now.points.items r) start rest.now }
-{
-    let mut from = start;
-    for to in rest {
-        if !is_clear(area, from, *to, r, frame, tests) {
-            return false;
-        }
-        from = *to;
-    }
-    true
-}
-
-/// Whether each capsule of the chain is.
+/// Whether each capsule along the chain is.
 fn chain_clear<L: Ledger>(
     area: &Area,
     chain: &[Spot],
@@ -99,7 +76,16 @@ fn chain_clear<L: Ledger>(
 {
     match chain {
         [] => true,
-        [first, rest @ ..] => links_clear(area, *first, rest, r, frame, tests),
+        [first, rest @ ..] => {
+            let mut from = *first;
+            for to in rest {
+                if !is_clear(area, from, *to, r, frame, tests) {
+                    return false;
+                }
+                from = *to;
+            }
+            true
+        }
     }
 }
 

@@ -424,21 +424,14 @@ near_along c i k d w p some reach hd h =
 
 -- ---- the law
 
+at_spot : (a : Arc) (s : Spot) (k : ℤ) (p : Point) → MayTurn a.centre a.start a.end (at s) → inmost a ≤ℤ dot_of a.centre s s → dot_of a.centre s s ≤ℤ outmost a → pos 1 ≤ℤ k → IsNear (pos 2) (pos a.width) s p → HasPlace a k p
+at_spot a s k p turn over under some h = record { place = at s; turn = turn; ring = ring_at a.centre s (inmost a) (outmost a) k over under; near = near_at s (pos a.width) k p (omega (arith, ints)) some h }
+
 at_start : (a : Arc) (k : ℤ) (p : Point) → pos 1 ≤ℤ k → IsNear (pos 2) (pos a.width) a.start p → HasPlace a k p
-at_start a k p some h = record {
-  place = at a.start;
-  turn = turn_start a.centre a.start a.end;
-  ring = ring_at a.centre a.start (inmost a) (outmost a) k (start_over a) (start_under a);
-  near = near_at a.start (pos a.width) k p (omega (arith, ints)) some h;
-}
+at_start a k p = at_spot a a.start k p (turn_start a.centre a.start a.end) (start_over a) (start_under a)
 
 at_end : (a : Arc) (k : ℤ) (p : Point) → pos 1 ≤ℤ k → IsNear (pos 2) (pos a.width) a.end p → HasPlace a k p
-at_end a k p some h = record {
-  place = at a.end;
-  turn = turn_end a.centre a.start a.end;
-  ring = ring_at a.centre a.end (inmost a) (outmost a) k (end_over a) (end_under a);
-  near = near_at a.end (pos a.width) k p (omega (arith, ints)) some h;
-}
+at_end a k p = at_spot a a.end k p (turn_end a.centre a.start a.end) (end_over a) (end_under a)
 
 -- where the point is the centre, the pen is as long as the radius
 from_centre : (a : Arc) (p : Point) → reach_of a.centre p ≡ pos 0 → AtMostLonger (p.n *ℤ pos a.width) (square (pos 2) *ℤ (square p.n *ℤ outmost a)) (square (pos 2) *ℤ reach_of a.centre p) → IsNear (pos 2) (pos a.width) a.start p

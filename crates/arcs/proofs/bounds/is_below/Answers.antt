@@ -1,7 +1,7 @@
 use Rattle.std.proofs.Common.{arith}
 use Rattle.arcs.specs.Taken.{TakenBelow}
 use Rattle.arcs.proofs.Taken.{below_decided, below_lies, refused}
-use Rattle.arcs.proofs.below.is_below.Goals as goal
+use Rattle.arcs.proofs.bounds.is_below.Goals as goal
 
 pub returns-in-None-clause-taken : goal.returns-in-None-clause-taken
 returns-in-None-clause-taken c = refused (TakenBelow c.args.arc.now c.args.chain.now c.args.r) (λ t. c.in-None.ensures t.judged)

@@ -1,7 +1,7 @@
 use Rattle.std.proofs.Common.{arith}
 use Rattle.arcs.specs.Taken.{TakenAbove}
 use Rattle.arcs.proofs.Taken.{above_decided, above_holds, refused}
-use Rattle.arcs.proofs.above.is_above.Goals as goal
+use Rattle.arcs.proofs.bounds.is_above.Goals as goal
 
 pub returns-in-None-clause-taken : goal.returns-in-None-clause-taken
 returns-in-None-clause-taken c = refused (TakenAbove c.args.arc.now c.args.chain.now c.args.r) (λ t. c.in-None.ensures t.judged)
