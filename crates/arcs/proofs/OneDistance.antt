@@ -1,13 +1,12 @@
 -- Where both ends are at one distance, what is possible is sure.
-use Rattle.std.proofs.Common.{Bool, true, false, if◌then◌else◌, int_lt, ◌≡◌, ◌⊎◌, inl, inr, ℤ, pos, neg_ℤ, ◌+ℤ◌, ◌-ℤ◌, ◌*ℤ◌, ◌≤ℤ◌, ◌<ℤ◌, arith, refl, sym, ap, ◌∙◌, subst}
-use Rattle.std.proofs.lemmas.Int.{ints, clamps}
-use Rattle.std.specs.Int.{int_max, int_min}
+use Rattle.std.proofs.Common.{◌≡◌, ◌⊎◌, inl, inr, ℤ, pos, neg_ℤ, ◌+ℤ◌, ◌-ℤ◌, ◌*ℤ◌, ◌≤ℤ◌, ◌<ℤ◌, arith, refl, sym, ap, ◌∙◌, subst}
+use Rattle.std.proofs.lemmas.Int.{ints}
 use Rattle.planar.specs.declared.Spot.{Spot}
 use Rattle.planar.specs.Plane.{Point, cross_of, dot_of, square}
-use Rattle.planar.proofs.Ring.{ring, linear, le_or_lt, mul_assoc, over_zero, square_cancel, square_from_zero, square_mono, square_zero, times_cancel, times_from_zero, times_mono, times-zero, zero-times}
+use Rattle.planar.proofs.Ring.{ring, linear, le_or_lt, mul_assoc, over_zero, square_cancel, square_from_zero, square_mono, times_cancel, times_from_zero, times_mono, times-zero}
 use Rattle.planar.proofs.SpotWithin.{whole_from_zero}
 use Rattle.arcs.specs.declared.Arc.{Arc}
-use Rattle.arcs.specs.Copper.{AreNear, AtMostLonger, HasPlace, InRing, InTurn, IsMeant, IsNear, MayTurn, Possibly, Surely, apart, inmost, outmost, reach_of, side_of, spread, swing, times, unlike}
+use Rattle.arcs.specs.Copper.{AreNear, AtMostLonger, HasPlace, InRing, InTurn, IsMeant, IsNear, MayTurn, Possibly, Surely, apart, inmost, outmost, reach_of, side_of, unlike}
 use Rattle.arcs.specs.Laws.{PossiblyIsSurely}
 use Rattle.arcs.proofs.Closed.{Away}
 use Rattle.arcs.proofs.Crossing.{Crossed, near_end, from_less, from_more, from_half}

@@ -1,7 +1,6 @@
 -- Chains that the checks take.
 use Rattle.std.proofs.Common.{◌≡◌, ◌↔◌, ◌∙◌, All, Bool, false, IsTrue, Option, None, Some, refl, sym, subst, ap, length, [], ℕ, ◌+◌, ◌-◌, ◌/◌, ◌≤◌, ℤ, pos, ◌*ℤ◌, ◌≤ℤ◌, List, ◌∷◌, arith}
 use Rattle.std.proofs.lemmas.Int.{ints}
-use Rattle.std.specs.Bool.{⊤}
 use Rattle.planar.specs.declared.Spot.{Spot}
 use Rattle.planar.specs.Plane.{IsPlaced, Point, dot_of, square}
 use Rattle.planar.proofs.Ring.{linear, square_mono, times_mono_right}

@@ -32,5 +32,9 @@ pub fn is_meant(arc: &Arc) -> bool
     ensures { IsTrue result ↔ IsMeant arc.now }
 {
     let swing = cross(arc.centre, arc.start, arc.end);
-    are_alike(unlike_of(arc), square_of(arc.start, arc.end), swing.unsigned_abs())
+    are_alike(
+        unlike_of(arc),
+        square_of(arc.start, arc.end),
+        swing.unsigned_abs(),
+    )
 }
