@@ -1,5 +1,5 @@
 -- What the code's numbers and answers tell.
-use Rattle.std.proofs.Common.{◌≡◌, ◌↔◌, Bool, false, IsTrue, Option, Some, sym, FitsSigned, to_z, of_z, to_z-of_z, ℕ, ◌+◌, ◌*◌, ◌≤◌, ℤ, pos, negsuc, unsigned_abs, ◌+ℤ◌, ◌-ℤ◌, ◌*ℤ◌, ◌≤ℤ◌, ◌<ℤ◌, inl, inr, length, List, [], ◌∷◌, slice_index_or, suc, arith, ap, subst, refl, ◌∙◌}
+use Rattle.std.proofs.Common.{◌≡◌, ◌↔◌, Bool, false, IsTrue, Some, sym, FitsSigned, to_z, of_z, to_z-of_z, ℕ, ◌+◌, ◌*◌, ◌≤◌, ℤ, pos, negsuc, unsigned_abs, ◌+ℤ◌, ◌-ℤ◌, ◌*ℤ◌, ◌≤ℤ◌, ◌<ℤ◌, inl, inr, length, List, [], ◌∷◌, slice_index_or, suc, arith, ap, subst, refl, ◌∙◌}
 use Rattle.std.proofs.lemmas.Int.{ints}
 use Rattle.std.specs.Bool.{⊤}
 use Rattle.std.specs.Int.{w128}
@@ -9,7 +9,7 @@ use Rattle.planar.specs.Plane.{IsPlaced, IsWithin, at, cross_of, dot_of, square}
 use Rattle.planar.proofs.Ring.{ring, linear, le_or_lt, one-times, times_mono, square_mono, square-neg}
 use Rattle.area_contact.specs.Parity.{side_of}
 use Rattle.slants.specs.Copper.{InSlant, along_of}
-use Rattle.slants.specs.Taken.{AreCorners, ArePlaced, GoesRound, HasRoot, Keeps, KeepsAll, TakenAbove, TurnsLeft, band, reach}
+use Rattle.slants.specs.Taken.{AreCorners, ArePlaced, GoesRound, HasRoot, Keeps, KeepsAll, TakenAbove, band, reach}
 use Rattle.slants.specs.declared.measures.TheConstants.{FINE}
 use Rattle.slants.specs.declared.Slant.{Slant}
 use Rattle.slants.specs.declared.contours.Corners.{Corners}
