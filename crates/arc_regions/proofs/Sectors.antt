@@ -4,7 +4,7 @@ use Rattle.std.proofs.Common.{Bool, true, false, IsTrue, not, ◌&&◌, ◌||◌
 use lib.Signed.{lt_z, le_z}
 use Rattle.planar.specs.declared.Spot.{Spot}
 use Rattle.planar.specs.Plane.{IsPlaced, Point, cross_of, dot_of, square}
-use Rattle.planar.proofs.Ring.{ring, linear, le_or_lt, mul_comm, square_from_zero, square_over, square_cancel, square_zero, square-neg, times-zero, zero-times}
+use Rattle.planar.proofs.Ring.{ring, linear, le_or_lt, mul_comm, square_from_zero, square_over, square_cancel, square-neg, times-zero, zero-times}
 use Rattle.planar.proofs.EdgeLaw.{xor}
 use Rattle.area_contact.specs.Contour.{edges_from, end_from}
 use Rattle.area_contact.specs.Parity.{odd, passes, side_of, is_le, not_le, is_lt, not_lt, xor-same, xor-equal}
