@@ -39,7 +39,7 @@ end_placed a e false first last = first
 
 part_placed : (a : Spot) (x : Part) → StandsAs a x (with_quarters a x).chain (with_quarters a x).radius → IsPartPlaced x
 part_placed a (Straight b) h = h
-part_placed a (Curved t) h = (h.above.judged.centre, end_placed a t.end t.counterclockwise h.above.judged.start h.above.judged.end)
+part_placed a (Curved t) h = (h.above.judged.placed.centre, end_placed a t.end t.counterclockwise h.above.judged.placed.start h.above.judged.placed.end)
 
 parts_placed : (frame : Frame) (points : List Spot) (z q : Spot) (parts : List Part) (o : Bool) (a : Spot) → AreAround frame points z q o a (by_quarters a parts) → All IsPartPlaced parts
 parts_placed frame points z q [] o a h = All-nil IsPartPlaced

@@ -2,7 +2,7 @@
 use Rattle.std.proofs.Common.{◌≡◌, inl, inr, ℤ, pos, neg_ℤ, ◌+ℤ◌, ◌-ℤ◌, ◌*ℤ◌, ◌≤ℤ◌, ◌<ℤ◌, arith, refl, ◌∙◌}
 use Rattle.planar.specs.Plane.{square}
 use Rattle.planar.proofs.Ring.{ring, linear, le_or_lt, times_from_zero, square_from_zero, square_mono, square_cancel, square_over, times_mono, times_mono_right, times_cancel, over_zero, zero-times, neg-mul, mul-neg, square-neg}
-use Rattle.arc_regions.proofs.Lengths.{norm, norm_from_zero, lagrange}
+use Rattle.arcs.proofs.Vectors.{norm, norm_from_zero, lagrange}
 
 -- two vectors as long as one another that are not one have a scalar product under the square of that length
 pub under_square : (sx sy ex ey r : ℤ) → norm sx sy ≡ r → norm ex ey ≡ r → pos 1 ≤ℤ square (sx *ℤ ey -ℤ sy *ℤ ex) → (sx *ℤ ex +ℤ sy *ℤ ey) <ℤ r

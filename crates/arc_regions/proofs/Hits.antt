@@ -53,28 +53,28 @@ least w y h k = omega (arith, linear, times_from_zero (neg_ℤ w) (neg_ℤ y) (o
 
 -- ---- three corners at the heights a, b and c; r, s and t tell how the edges ab, bc and ca turn round the place. Two corners low, the last one high
 
+-- how the edges turn, where r is not over 0 with the others under it, nor under it with them over it, nor all are under it
+by_turns : (r s t : ℤ) → Sign r → Sign s → Sign t → (pos 0 <ℤ r → s <ℤ pos 0 → t <ℤ pos 0 → ⊥) → (r <ℤ pos 0 → pos 0 <ℤ s → pos 0 <ℤ t → ⊥) → (r <ℤ pos 0 → s <ℤ pos 0 → t <ℤ pos 0 → ⊥)
+    → (xor (lt_z (pos 0) s) (lt_z (pos 0) (neg_ℤ t)) ≡ (lt_z (pos 0) r && (lt_z (pos 0) s && lt_z (pos 0) t))) × (xor (lt_z (pos 0) (neg_ℤ s)) (lt_z (pos 0) t) ≡ (lt_z (pos 0) r && (lt_z (pos 0) s && lt_z (pos 0) t)))
+by_turns r s t (over hr r1 r2) (over hs s1 s2) (over ht t1 t2) f g never = rw (t1, t2, s1, s2, r1) (refl, refl)
+by_turns r s t (over hr r1 r2) (over hs s1 s2) (under ht t1 t2) f g never = rw (t1, t2, s1, s2, r1) (refl, refl)
+by_turns r s t (over hr r1 r2) (under hs s1 s2) (over ht t1 t2) f g never = rw (t1, t2, s1, s2, r1) (refl, refl)
+by_turns r s t (over hr r1 r2) (under hs s1 s2) (under ht t1 t2) f g never = absurd (f hr hs ht)
+by_turns r s t (under hr r1 r2) (over hs s1 s2) (over ht t1 t2) f g never = absurd (g hr hs ht)
+by_turns r s t (under hr r1 r2) (over hs s1 s2) (under ht t1 t2) f g never = rw (t1, t2, s1, s2, r1) (refl, refl)
+by_turns r s t (under hr r1 r2) (under hs s1 s2) (over ht t1 t2) f g never = rw (t1, t2, s1, s2, r1) (refl, refl)
+by_turns r s t (under hr r1 r2) (under hs s1 s2) (under ht t1 t2) f g never = absurd (never hr hs ht)
+
 one_high : (a b c r s t : ℤ) → a ≤ℤ pos 0 → b ≤ℤ pos 0 → pos 0 <ℤ c → Sign r → Sign s → Sign t → (r *ℤ c +ℤ s *ℤ a) +ℤ t *ℤ b ≡ pos 0 → (r <ℤ pos 0 → s <ℤ pos 0 → t <ℤ pos 0 → ⊥)
     → xor (lt_z (pos 0) s) (lt_z (pos 0) (neg_ℤ t)) ≡ (lt_z (pos 0) r && (lt_z (pos 0) s && lt_z (pos 0) t))
-one_high a b c r s t ha hb hc (over hr r1 r2) (over hs s1 s2) (over ht t1 t2) e never = rw (t1, t2, s1, r1) refl
-one_high a b c r s t ha hb hc (over hr r1 r2) (over hs s1 s2) (under ht t1 t2) e never = rw (t1, t2, s1, r1) refl
-one_high a b c r s t ha hb hc (over hr r1 r2) (under hs s1 s2) (over ht t1 t2) e never = rw (t1, t2, s1, r1) refl
-one_high a b c r s t ha hb hc (over hr r1 r2) (under hs s1 s2) (under ht t1 t2) e never = absurd (omega (arith, linear, e, more r c hr hc, least s a hs ha, least t b ht hb))
-one_high a b c r s t ha hb hc (under hr r1 r2) (over hs s1 s2) (over ht t1 t2) e never = absurd (omega (arith, linear, e, less r c hr hc, most s a hs ha, most t b ht hb))
-one_high a b c r s t ha hb hc (under hr r1 r2) (over hs s1 s2) (under ht t1 t2) e never = rw (t1, t2, s1, r1) refl
-one_high a b c r s t ha hb hc (under hr r1 r2) (under hs s1 s2) (over ht t1 t2) e never = rw (t1, t2, s1, r1) refl
-one_high a b c r s t ha hb hc (under hr r1 r2) (under hs s1 s2) (under ht t1 t2) e never = absurd (never hr hs ht)
+one_high a b c r s t ha hb hc dr ds dt e never =
+    (by_turns r s t dr ds dt (λ hr hs ht. omega (arith, linear, e, more r c hr hc, least s a hs ha, least t b ht hb)) (λ hr hs ht. omega (arith, linear, e, less r c hr hc, most s a hs ha, most t b ht hb)) never).0
 
 -- two corners high, the last one low
 one_low : (a b c r s t : ℤ) → pos 0 <ℤ a → pos 0 <ℤ b → c ≤ℤ pos 0 → Sign r → Sign s → Sign t → (r *ℤ c +ℤ s *ℤ a) +ℤ t *ℤ b ≡ pos 0 → (r <ℤ pos 0 → s <ℤ pos 0 → t <ℤ pos 0 → ⊥)
     → xor (lt_z (pos 0) (neg_ℤ s)) (lt_z (pos 0) t) ≡ (lt_z (pos 0) r && (lt_z (pos 0) s && lt_z (pos 0) t))
-one_low a b c r s t ha hb hc (over hr r1 r2) (over hs s1 s2) (over ht t1 t2) e never = rw (t1, s2, s1, r1) refl
-one_low a b c r s t ha hb hc (over hr r1 r2) (over hs s1 s2) (under ht t1 t2) e never = rw (t1, s2, s1, r1) refl
-one_low a b c r s t ha hb hc (over hr r1 r2) (under hs s1 s2) (over ht t1 t2) e never = rw (t1, s2, s1, r1) refl
-one_low a b c r s t ha hb hc (over hr r1 r2) (under hs s1 s2) (under ht t1 t2) e never = absurd (omega (arith, linear, e, most r c hr hc, less s a hs ha, less t b ht hb))
-one_low a b c r s t ha hb hc (under hr r1 r2) (over hs s1 s2) (over ht t1 t2) e never = absurd (omega (arith, linear, e, least r c hr hc, more s a hs ha, more t b ht hb))
-one_low a b c r s t ha hb hc (under hr r1 r2) (over hs s1 s2) (under ht t1 t2) e never = rw (t1, s2, s1, r1) refl
-one_low a b c r s t ha hb hc (under hr r1 r2) (under hs s1 s2) (over ht t1 t2) e never = rw (t1, s2, s1, r1) refl
-one_low a b c r s t ha hb hc (under hr r1 r2) (under hs s1 s2) (under ht t1 t2) e never = absurd (never hr hs ht)
+one_low a b c r s t ha hb hc dr ds dt e never =
+    (by_turns r s t dr ds dt (λ hr hs ht. omega (arith, linear, e, most r c hr hc, less s a hs ha, less t b ht hb)) (λ hr hs ht. omega (arith, linear, e, least r c hr hc, more s a hs ha, more t b ht hb)) never).1
 
 -- none high, or all: weights over 0 would not sum to nothing
 none_within : (a b c r s t : ℤ) → (Sign r) → Sign s → Sign t → (pos 0 <ℤ r → pos 0 <ℤ s → pos 0 <ℤ t → ⊥) → (lt_z (pos 0) r && (lt_z (pos 0) s && lt_z (pos 0) t)) ≡ false
@@ -93,7 +93,7 @@ turn false true false = refl
 turn false false true = refl
 turn false false false = refl
 
-swap : (a b : Bool) → xor a b ≡ xor b a
+pub swap : (a b : Bool) → xor a b ≡ xor b a
 swap true true = refl
 swap true false = refl
 swap false true = refl

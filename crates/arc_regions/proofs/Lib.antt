@@ -1,13 +1,11 @@
 mod Hits
 mod Shifted
 mod Turning
-mod Lengths
 mod Slivers
 mod Chords
 pub mod Edges
 mod Fans
 mod Sectors
-mod Arcs
 mod Inside
 mod Read
 mod Regions

@@ -1,24 +1,25 @@
 -- A whole contour, part by part.
-use Rattle.std.proofs.Common.{ℕ, ◌-◌, ◌/◌, Bool, true, false, IsTrue, int_lt, if◌then◌else◌, List, [], ◌∷◌, ◌++◌, reverse, All, ◌≡◌, ◌↔◌, ◌⊎◌, inl, inr, ℤ, pos, ◌+ℤ◌, ◌-ℤ◌, ◌*ℤ◌, ◌≤ℤ◌, ◌<ℤ◌, arith, refl, sym, ap, ◌∙◌, subst}
-use Rattle.std.specs.Int.{int_min, int_max}
-use Rattle.std.proofs.lemmas.Int.{ints, clamps}
+use Rattle.std.proofs.Common.{ℕ, ◌-◌, ◌/◌, Bool, true, false, IsTrue, List, [], ◌∷◌, ◌++◌, reverse, All, ◌≡◌, ◌↔◌, ◌⊎◌, inl, inr, ℤ, pos, ◌+ℤ◌, ◌-ℤ◌, ◌*ℤ◌, ◌≤ℤ◌, arith, refl, sym, ap, ◌∙◌, subst}
+use Rattle.std.proofs.lemmas.Int.{ints}
 use Rattle.std.proofs.lemmas.List.{reverse-append}
 use Rattle.std.proofs.lemmas.List.Elements.{All-head, All-tail}
 use Rattle.planar.specs.declared.Spot.{Spot}
 use Rattle.planar.specs.declared.Frame.{Frame}
 use Rattle.planar.specs.declared.TheConstants.{METRE}
 use Rattle.planar.specs.Plane.{InCapsule, IsPlaced, Point, at, dot_of, square}
-use Rattle.planar.proofs.Ring.{ring, linear, le_or_lt, square_from_zero, square_zero, over_zero, zero-times}
+use Rattle.planar.proofs.Ring.{ring, linear, square_from_zero, over_zero}
 use Rattle.planar.proofs.EdgeLaw.{xor}
 use Rattle.area_contact.specs.declared.Edge.{Edge}
 use Rattle.area_contact.specs.Parity.{crossed, crossed_is, odd, odd_is, one_is, passes, xor-comm}
 use Rattle.area_contact.specs.Contour.{InArea, OnEdge, SomeEdge, edges_from, edges_of, end_from}
 use Rattle.area_contact.proofs.Hits.{on_turned}
-use Rattle.arcs.specs.Copper.{InChain, InFrom, InTurn, inmost, outmost, reach_of, spread, swing, times, unlike}
+use Rattle.arcs.specs.Copper.{InChain, InFrom, InTurn, inmost, outmost, reach_of, unlike}
 use Rattle.arcs.specs.Chains.{EachFrom, EndsAt, HasRoom}
 use Rattle.arcs.specs.Laws.{PossiblyOfEach, TakenIsBetween}
 use Rattle.arcs.specs.Taken.{TakenAbove as ChainAbove}
 use Rattle.arcs.specs.declared.Arc.{Arc}
+use Rattle.arcs.proofs.Radii.{inmost_is, outmost_is, unlike_none}
+use Rattle.arcs.proofs.Vectors.{norm_some}
 use Rattle.arc_regions.specs.Copper.{InRegion, InSegment, IsOver, OddOver, OnBorder, OnCircle, OnPart, end_of}
 use Rattle.arc_regions.specs.Laws.{TakenHolds, TakenLies}
 use Rattle.arc_regions.specs.Taken.{AreAround, AreClear, AreStretches, Chained, InCapsules, IsClear, IsPartClear, InLinks, StandsAs, StandsFor, behind_first, corners_behind, corners_by, odd_part, odd_past, odd_round, parts_of}
@@ -27,9 +28,8 @@ use Rattle.arc_regions.specs.declared.Part.TheVariants.{Straight, Curved}
 use Rattle.arc_regions.proofs.Edges.{end_append, some_before, some_behind}
 use Rattle.arc_regions.proofs.Shifted.{IsNarrow}
 use Rattle.arc_regions.proofs.Fans.{ArePlaced, first_two, or-swap}
-use Rattle.arc_regions.proofs.Sectors.{false-back}
 use Rattle.arc_regions.proofs.Inside.{all_inside}
-use Rattle.arc_regions.proofs.Arcs.{arc_told, segment, segment_is}
+use Rattle.arc_regions.proofs.Sectors.{arc_told, false-back, segment, segment_is}
 
 -- ---- rows of edges
 
@@ -100,43 +100,15 @@ ends_from : (e a : Spot) (rest : List Spot) → EndsAt e a rest → end_from a r
 ends_from e a [] h = h
 ends_from e a (b ∷ rest) h = ends_from e b rest h
 
--- ---- a draw whose ends are as far from the centre: its only distance
-
-module _ (a : Arc) (even : dot_of a.centre a.start a.start ≡ dot_of a.centre a.end a.end) where
-  r_from : pos 0 ≤ℤ dot_of a.centre a.start a.start
-  r_from = omega (arith, linear, square_from_zero (a.start.x -ℤ a.centre.x), square_from_zero (a.start.y -ℤ a.centre.y))
-
-  unlike_none : unlike a ≡ pos 0
-  unlike_none = plain (dot_of a.centre a.start a.start) (dot_of a.centre a.end a.end) even
-    where
-      plain : (u v : ℤ) → u ≡ v → int_max u v -ℤ int_min u v ≡ pos 0
-      plain u v h = omega (arith, ints, clamps)
-
-  spread_none : spread a ≡ pos 0
-  spread_none = by (int_lt (swing a) (pos 0)) (unlike a) (pos (times a)) unlike_none
-    where
-      by : (b : Bool) (u t : ℤ) → u ≡ pos 0 → (if b then u *ℤ t else pos 0) ≡ pos 0
-      by true u t h = rw h (zero-times t)
-      by false u t h = refl
-
-  inmost_is : inmost a ≡ dot_of a.centre a.start a.start
-  inmost_is = plain (dot_of a.centre a.start a.start) (dot_of a.centre a.end a.end) (spread a) even spread_none r_from
-    where
-      plain : (u v d : ℤ) → u ≡ v → d ≡ pos 0 → pos 0 ≤ℤ u → int_max (int_min u v -ℤ d) (pos 0) ≡ u
-      plain u v d h k l = omega (arith, ints, clamps)
-
-  outmost_is : outmost a ≡ dot_of a.centre a.start a.start
-  outmost_is = plain (dot_of a.centre a.start a.start) (dot_of a.centre a.end a.end) (spread a) even spread_none
-    where
-      plain : (u v d : ℤ) → u ≡ v → d ≡ pos 0 → int_max u v +ℤ d ≡ u
-      plain u v d h k = omega (arith, ints, clamps)
-
 -- ---- an arc and its chain, counterclockwise from s to e
 
 module _ (p : Point) (possible : PossiblyOfEach) (between : TakenIsBetween) (c s e : Spot) (chain : List Spot) (r : ℕ) (even : dot_of c s s ≡ dot_of c e e)
     (above : ChainAbove (record { centre = c; start = s; end = e; width = 0 }) chain r) (turns : IsTrue (odd_round c chain) ↔ (s ≡ e)) where
   abbrev arc : Arc
   arc = record { centre = c; start = s; end = e; width = 0 }
+
+  one : unlike arc ≡ pos 0
+  one = unlike_none arc even
 
   placed : ArePlaced (s ∷ above.second ∷ above.rest)
   placed = each_placed (s ∷ above.second ∷ above.rest) (subst (λ (l : List Spot). All IsPlaced l) above.is above.judged.spots)
@@ -145,8 +117,8 @@ module _ (p : Point) (possible : PossiblyOfEach) (between : TakenIsBetween) (c s
   last = ends_from e above.second above.rest above.ends
 
   room : HasRoom (dot_of c s s) (dot_of c s s) above.near above.far (pos r)
-  room = subst (λ (z : ℤ). HasRoom z (dot_of c s s) above.near above.far (pos r)) (inmost_is arc even)
-      (subst (λ (z : ℤ). HasRoom (inmost arc) z above.near above.far (pos r)) (outmost_is arc even) (subst (λ (n : ℕ). HasRoom (inmost arc) (outmost arc) above.near above.far (pos n)) less above.room))
+  room = subst (λ (z : ℤ). HasRoom z (dot_of c s s) above.near above.far (pos r)) (inmost_is arc one)
+      (subst (λ (z : ℤ). HasRoom (inmost arc) z above.near above.far (pos r)) (outmost_is arc one) (subst (λ (n : ℕ). HasRoom (inmost arc) (outmost arc) above.near above.far (pos n)) less above.room))
     where
       less : r - (0 - 0 / 2) ≡ r
       less = omega arith
@@ -158,27 +130,20 @@ module _ (p : Point) (possible : PossiblyOfEach) (between : TakenIsBetween) (c s
   in_chain h = subst (λ (l : List Spot). InChain l (pos r) p) (sym above.is) h
 
   abbrev in_segment : Bool
-  in_segment = segment margin margin_from narrow p c above.judged.centre (dot_of c s s) s e above.judged.start above.judged.end refl (sym even)
+  in_segment = segment margin margin_from narrow p c above.judged.placed.centre (dot_of c s s) s e above.judged.placed.start above.judged.placed.end refl (sym even)
 
   in_segment_is : IsTrue in_segment ↔ InSegment c s e p
-  in_segment_is = segment_is margin margin_from narrow p c above.judged.centre (dot_of c s s) s e above.judged.start above.judged.end refl (sym even)
+  in_segment_is = segment_is margin margin_from narrow p c above.judged.placed.centre (dot_of c s s) s e above.judged.placed.start above.judged.placed.end refl (sym even)
 
   chain_told : (odd (edges_from s (above.second ∷ above.rest)) p.x p.y p.n ≡ xor (crossed (record { start = s; end = e }) p.x p.y p.n) in_segment) ⊎ InChain chain (pos r) p
-  chain_told = elim (arc_told margin margin_from narrow p c above.judged.centre (dot_of c s s) s e above.judged.start above.judged.end refl (sym even) room.least room.most above.near above.far (pos r) room.room
+  chain_told = elim (arc_told margin margin_from narrow p c above.judged.placed.centre (dot_of c s s) s e above.judged.placed.start above.judged.placed.end refl (sym even) room.least room.most above.near above.far (pos r) room.room
       above.second above.rest placed.1.0 placed.1.1 above.links last turns') [ inl h ↦ inl h | inr h ↦ inr (in_chain h) ]
 
   r_some : pos 1 ≤ℤ dot_of c s s
-  r_some = elim (le_or_lt (pos 1) (dot_of c s s)) [ inl l ↦ l | inr g ↦ absurd (none g) ]
-    where
-      none : dot_of c s s <ℤ pos 1 → ⊥
-      none g =
-          let fx = square_from_zero (s.x -ℤ c.x) in let fy = square_from_zero (s.y -ℤ c.y) in
-          let zx : s.x -ℤ c.x ≡ pos 0 = square_zero (s.x -ℤ c.x) (omega (arith, linear, g, fx, fy)) in
-          let zy : s.y -ℤ c.y ≡ pos 0 = square_zero (s.y -ℤ c.y) (omega (arith, linear, g, fx, fy)) in
-          first_two c s above.second above.links.0.0.left (omega (arith, linear, zx)) (omega (arith, linear, zy))
+  r_some = norm_some (s.x -ℤ c.x) (s.y -ℤ c.y) (λ zx zy. first_two c s above.second above.links.0.0.left (omega (arith, linear, zx)) (omega (arith, linear, zy)))
 
   border_told : OnCircle c s p → InTurn c s e p → InChain chain (pos r) p
-  border_told on turn = (between arc chain r p).1 above (possible arc (dot_of c s s) p (omega (arith, linear, inmost_is arc even)) (omega (arith, linear, outmost_is arc even)) off turn (ring_by (dot_of c s s) (reach_of c p) on))
+  border_told on turn = (between arc chain r p).1 above (possible arc (dot_of c s s) p (omega (arith, linear, inmost_is arc one)) (omega (arith, linear, outmost_is arc one)) off turn (ring_by (dot_of c s s) (reach_of c p) on))
     where
       off : pos 1 ≤ℤ reach_of c p
       off = rw on (over_zero (square p.n) (dot_of c s s) (over_zero p.n p.n p.positive p.positive) r_some)
@@ -203,7 +168,7 @@ module _ (p : Point) (possible : PossiblyOfEach) (between : TakenIsBetween) wher
   curved : (a c b : Spot) (w : Bool) (chain : List Spot) (r : ℕ) → StandsFor a (record { centre = c; end = b; counterclockwise = w }) chain r → Told p a (Curved (record { centre = c; end = b; counterclockwise = w })) chain r
   curved a c b true chain r h =
       let corners : corners_by (Curved (record { centre = c; end = b; counterclockwise = true })) chain ≡ h.above.second ∷ h.above.rest = ap (λ (l : List Spot). corners_by (Curved (record { centre = c; end = b; counterclockwise = true })) l) h.above.is in record {
-        placed = h.above.judged.end;
+        placed = h.above.judged.placed.end;
         ends = ap (λ (l : List Spot). end_from a l) corners ∙ ends_from b h.above.second h.above.rest h.above.ends;
         over = xor (crossed (record { start = a; end = b }) p.x p.y p.n) (in_segment p possible between c a b chain r h.even h.above h.turns);
         over_is = one_is (crossed (record { start = a; end = b }) p.x p.y p.n) (in_segment p possible between c a b chain r h.even h.above h.turns) (crossed_is (record { start = a; end = b }) p) (in_segment_is p possible between c a b chain r h.even h.above h.turns);
@@ -215,7 +180,7 @@ module _ (p : Point) (possible : PossiblyOfEach) (between : TakenIsBetween) wher
       let w = walked_back b (h.above.second ∷ h.above.rest) p.x p.y p.n in
       let last : end_from h.above.second h.above.rest ≡ a = ends_from a h.above.second h.above.rest h.above.ends in
       let corners : corners_by (Curved (record { centre = c; end = b; counterclockwise = false })) chain ≡ w.others = ap (λ (l : List Spot). corners_by (Curved (record { centre = c; end = b; counterclockwise = false })) l) h.above.is ∙ ap behind_first w.is in record {
-        placed = h.above.judged.start;
+        placed = h.above.judged.placed.start;
         ends = ap (λ (l : List Spot). end_from a l) corners ∙ ap (λ (z : Spot). end_from z w.others) (sym last) ∙ w.ends;
         over = xor (crossed (record { start = a; end = b }) p.x p.y p.n) (in_segment p possible between c b a chain r (sym h.even) h.above h.turns);
         over_is = one_is (crossed (record { start = a; end = b }) p.x p.y p.n) (in_segment p possible between c b a chain r (sym h.even) h.above h.turns) (crossed_is (record { start = a; end = b }) p) (in_segment_is p possible between c b a chain r (sym h.even) h.above h.turns);

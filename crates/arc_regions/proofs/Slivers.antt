@@ -5,20 +5,10 @@ use Rattle.planar.specs.Plane.{InCapsule, Point, cross_of, square}
 use Rattle.planar.proofs.Ring.{ring, linear, le_or_lt, times_from_zero, square_from_zero, square_mono, square_over, times_mono, zero-times, over_zero}
 use Rattle.arcs.specs.Copper.{side_of}
 use Rattle.arcs.specs.Chains.{IsChord, IsRoom}
-use Rattle.arc_regions.proofs.Lengths.{norm, norm_from_zero, square_scaled, scaled, scaled_over}
-use Rattle.arc_regions.proofs.Lengths.{sum_longer}
-use Rattle.arc_regions.proofs.Lengths.{place, place_within, place_over}
-use Rattle.arc_regions.proofs.Lengths.{off}
-
--- d times x, where d is the cross product of a and b
-spread_x : (ax ay bx by x y : ℤ) → place ((ax *ℤ y -ℤ ay *ℤ x) -ℤ (bx *ℤ y -ℤ by *ℤ x)) (ax *ℤ y -ℤ ay *ℤ x) ax bx ≡ (ax *ℤ by -ℤ ay *ℤ bx) *ℤ x
-spread_x ax ay bx by x y = simp ring (omega (arith, linear))
-
-spread_y : (ax ay bx by x y : ℤ) → place ((ax *ℤ y -ℤ ay *ℤ x) -ℤ (bx *ℤ y -ℤ by *ℤ x)) (ax *ℤ y -ℤ ay *ℤ x) ay by ≡ (ax *ℤ by -ℤ ay *ℤ bx) *ℤ y
-spread_y ax ay bx by x y = simp ring (omega (arith, linear))
-
-sum : (n m s t : ℤ) → m *ℤ (n *ℤ (s +ℤ t)) ≡ n *ℤ (m *ℤ s) +ℤ n *ℤ m *ℤ t
-sum n m s t = simp ring (omega (arith, linear))
+use Rattle.arcs.proofs.Along.{sum_longer}
+use Rattle.arcs.proofs.Lower.{place, place_within, place_over}
+use Rattle.arcs.proofs.Upper.{off, spread_x, spread_y, sum}
+use Rattle.arcs.proofs.Vectors.{norm, norm_from_zero, norm_scaled, square_scaled, scaled, scaled_over}
 
 -- two vectors along x y, of which the second is the longer
 on_line : (e f x y : ℤ) → (e *ℤ x) *ℤ (f *ℤ y -ℤ e *ℤ y) -ℤ (e *ℤ y) *ℤ (f *ℤ x -ℤ e *ℤ x) ≡ pos 0
@@ -130,9 +120,6 @@ module _ (c a b : Spot) (s least most near far k : ℤ) (room : IsRoom s s least
       nothing : (z : ℤ) → z ≡ pos 0 → square z ≡ pos 0
       nothing z h = rw h (zero-times (pos 0))
 
-      d_norm : (d x y : ℤ) → norm (d *ℤ x) (d *ℤ y) ≡ square d *ℤ norm x y
-      d_norm d x y = simp ring (omega (arith, linear))
-
       some : pos 1 ≤ℤ m
       some = elim (le_or_lt (pos 1) m) [ inl l ↦ l | inr g ↦ absurd (none (omega (arith, linear, g, m_from))) ]
         where
@@ -142,7 +129,7 @@ module _ (c a b : Spot) (s least most near far k : ℤ) (room : IsRoom s s least
               let e : square (m *ℤ far) ≡ pos 0 = nothing (m *ℤ far) (rw z (zero-times far)) in
               let g : norm (d *ℤ x) (d *ℤ y) ≤ℤ pos 0 = omega (arith, linear, rw (ex, ey) at f, e) in
               let o : pos 1 ≤ℤ (square d *ℤ norm x y) = over_zero (square d) (norm x y) (square_over d chord.left) (omega (arith, linear, disc, times_from_zero (square p.n) s (square_from_zero p.n) s_from)) in
-              omega (arith, linear, g, o, d_norm d x y)
+              omega (arith, linear, g, o, norm_scaled d x y)
 
       from : square (m *ℤ (p.n *ℤ least)) ≤ℤ norm (m *ℤ x) (m *ℤ y)
       from =

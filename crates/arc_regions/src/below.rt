@@ -3,7 +3,6 @@ ghost use Rattle.arc_regions.specs.Copper.{InRegion};
 ghost use Rattle.arc_regions.specs.Taken.{AreClear, IsClear, IsPartClear, IsStretch, TakenBelow, all_chained, chained, odd_part, parts_of};
 ghost use Rattle.area_contact.specs.Contour.{InArea, area_box, edges_from, edges_of, first_of};
 ghost use Rattle.area_contact.specs.Parity.{crossed, odd};
-ghost use Rattle.arcs.specs.Chains.{EachFrom};
 ghost use Rattle.contact.specs.Round.{box_of};
 ghost use Rattle.contact.specs.Solid.{IsInside, SharePoint};
 ghost use Rattle.planar.specs.Plane.{InCapsule, IsPlaced, Point};
@@ -64,29 +63,7 @@ fn is_clear<L: Ledger>(
     capsule_clear(area, &capsule, frame, tests)
 }
 
-/// Whether each capsule of the chain from `start` is.
-fn links_clear<L: Ledger>(
-    area: &Area,
-    start: Spot,
-    rest: &[Spot],
-    r: u64,
-    frame: Frame,
-    tests: &mut Steps<L>,
-) -> bool
-    requires inside { IsInside (area_box area.now.points.items) frame }
-    ensures { IsTrue result ↔ EachFrom (IsClear frame area.now.points.items r) start rest.now }
-{
-    let mut from = start;
-    for to in rest {
-        if !is_clear(area, from, *to, r, frame, tests) {
-            return false;
-        }
-        from = *to;
-    }
-    true
-}
-
-/// Whether each capsule of the chain is.
+/// Whether each capsule along the chain is.
 fn chain_clear<L: Ledger>(
     area: &Area,
     chain: &[Spot],
@@ -99,24 +76,16 @@ fn chain_clear<L: Ledger>(
 {
     match chain {
         [] => true,
-        [first, rest @ ..] => links_clear(area, *first, rest, r, frame, tests),
-    }
-}
-
-/// Whether the part from `start` is clear of the area, or its chain with its capsules.
-fn part_clear<L: Ledger>(
-    area: &Area,
-    start: Spot,
-    stretch: &Stretch,
-    frame: Frame,
-    tests: &mut Steps<L>,
-) -> bool
-    requires inside { IsInside (area_box area.now.points.items) frame }
-    ensures { IsTrue result ↔ IsPartClear frame area.now.points.items start stretch.now.part stretch.now.chain.items stretch.now.radius }
-{
-    match stretch.part {
-        Part::Straight(end) => is_clear(area, start, end, 0, frame, tests),
-        Part::Curved(_) => chain_clear(area, &stretch.chain, stretch.radius, frame, tests),
+        [first, rest @ ..] => {
+            let mut from = *first;
+            for to in rest {
+                if !is_clear(area, from, *to, r, frame, tests) {
+                    return false;
+                }
+                from = *to;
+            }
+            true
+        }
     }
 }
 
@@ -172,7 +141,8 @@ fn part_odd(p: Spot, start: Spot, stretch: &Stretch) -> bool
     }
 }
 
-/// Whether the part from `start` with its chain is one, and clear of the area.
+/// Whether the part from `start` with its chain is one, and clear of the area: a straight part itself, for an
+/// arc its chain with the capsules along it.
 fn stands_clear<L: Ledger>(
     area: &Area,
     start: Spot,
@@ -183,7 +153,13 @@ fn stands_clear<L: Ledger>(
     requires inside { IsInside (area_box area.now.points.items) frame }
     ensures { IsTrue result ↔ (IsStretch start (chained stretch.now) × IsPartClear frame area.now.points.items start stretch.now.part stretch.now.chain.items stretch.now.radius) }
 {
-    is_stretch(start, stretch) && part_clear(area, start, stretch, frame, tests)
+    if !is_stretch(start, stretch) {
+        return false;
+    }
+    match stretch.part {
+        Part::Straight(end) => is_clear(area, start, end, 0, frame, tests),
+        Part::Curved(_) => chain_clear(area, &stretch.chain, stretch.radius, frame, tests),
+    }
 }
 
 /// The first corner of the area.

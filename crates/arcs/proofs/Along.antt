@@ -1,8 +1,8 @@
 -- Vectors of one direction: their lengths add up.
 use Rattle.std.proofs.Common.{◌≡◌, ◌⊎◌, inl, inr, ℤ, pos, neg_ℤ, ◌+ℤ◌, ◌-ℤ◌, ◌*ℤ◌, ◌≤ℤ◌, ◌<ℤ◌, arith}
 use Rattle.planar.specs.Plane.{square}
-use Rattle.planar.proofs.Ring.{ring, linear, le_or_lt, times_from_zero, square_from_zero, square_mono, square_zero, times_mono, times_cancel, square_cancel, times-zero, zero-times}
-use Rattle.arcs.proofs.Vectors.{norm, norm_from_zero, norm_of_sum, square_of_sum, square_scaled, lagrange}
+use Rattle.planar.proofs.Ring.{ring, linear, le_or_lt, times_from_zero, square_from_zero, square_mono, times_mono, times_cancel, square_cancel, times-zero, zero-times}
+use Rattle.arcs.proofs.Vectors.{norm, norm_from_zero, norm_of_sum, norm_some, square_of_sum, square_scaled, lagrange}
 
 over_product : (a t u d : ℤ) → pos 0 ≤ℤ d → square a ≤ℤ u → square t ≤ℤ d → square (a *ℤ t) ≤ℤ (u *ℤ d)
 over_product a t u d hd h k =
@@ -34,15 +34,10 @@ module _ (zx zy sx sy a b t : ℤ) (ha : pos 0 ≤ℤ a) (hb : pos 0 ≤ℤ b) (
 
   -- where it is the shorter
   some : (sx *ℤ (zx -ℤ sx) +ℤ sy *ℤ (zy -ℤ sy)) <ℤ pos 0 → pos 1 ≤ℤ norm sx sy
-  some h = elim (le_or_lt (pos 1) (norm sx sy)) [ inl l ↦ l | inr g ↦ absurd (none g) ]
-    where
-      none : norm sx sy <ℤ pos 1 → ⊥
-      none g =
-          let fx = square_from_zero sx in let fy = square_from_zero sy in
-          let zero_x : sx ≡ pos 0 = square_zero sx (omega (arith, linear, g, fx, fy)) in
-          let zero_y : sy ≡ pos 0 = square_zero sy (omega (arith, linear, g, fx, fy)) in
-          let k : (pos 0 *ℤ (zx -ℤ pos 0) +ℤ pos 0 *ℤ (zy -ℤ pos 0)) <ℤ pos 0 = rw (zero_x, zero_y) at h in
-          omega (arith, linear, k, zero-times (zx -ℤ pos 0), zero-times (zy -ℤ pos 0))
+  some h = norm_some sx sy (λ zero_x zero_y. (
+      let k : (pos 0 *ℤ (zx -ℤ pos 0) +ℤ pos 0 *ℤ (zy -ℤ pos 0)) <ℤ pos 0 = rw (zero_x, zero_y) at h in
+      omega (arith, linear, k, zero-times (zx -ℤ pos 0), zero-times (zy -ℤ pos 0))
+      ))
 
   onward : (sx *ℤ (zx -ℤ sx) +ℤ sy *ℤ (zy -ℤ sy)) <ℤ pos 0 → pos 0 ≤ℤ (zx *ℤ (sx -ℤ zx) +ℤ zy *ℤ (sy -ℤ zy))
   onward h =

@@ -3,14 +3,14 @@ use Rattle.std.proofs.Common.{◌≡◌, ◌⊎◌, inl, inr, ℕ, ℤ, pos, ◌
 use Rattle.std.proofs.lemmas.Int.{ints}
 use Rattle.planar.specs.declared.Spot.{Spot}
 use Rattle.planar.specs.Plane.{InCapsule, Point, cross_of, dot_of}
-use Rattle.planar.proofs.Ring.{ring, linear, le_or_lt, mul_comm, neg-mul, mul-neg, over_zero, square_from_zero, square_zero, times_cancel, times_from_zero, times-zero, zero-times}
+use Rattle.planar.proofs.Ring.{ring, linear, le_or_lt, mul_comm, neg-mul, mul-neg, over_zero, times_cancel, times_from_zero, times-zero, zero-times}
 use Rattle.planar.proofs.SpotWithin.{whole_from_zero}
 use Rattle.arcs.specs.declared.Arc.{Arc}
 use Rattle.arcs.specs.Copper.{InChain, InFrom, InTurn, IsMeant, MayTurn, Surely, inmost, outmost, side_of}
 use Rattle.arcs.specs.Chains.{EachFrom, EndsAt, HasRoom, IsChord, IsInner}
 use Rattle.arcs.proofs.Whole.{InRing, IsNear, IsRim, near_out, ring_out}
 use Rattle.arcs.proofs.Radii.{end_over, end_under, inmost_from, start_over, start_under}
-use Rattle.arcs.proofs.Vectors.{norm}
+use Rattle.arcs.proofs.Vectors.{norm, norm_some}
 use Rattle.arcs.proofs.Ends.{chord_below}
 use Rattle.arcs.proofs.Upper.{chord_holds_ring}
 
@@ -74,15 +74,7 @@ one_way sx sy ex ey x y flat way h =
     seen = simp ring (omega (arith, linear))
 
     some : pos 1 ≤ℤ norm sx sy
-    some = elim (le_or_lt (pos 1) (norm sx sy)) [ inl l ↦ l | inr l ↦ absurd (none l) ]
-      where
-        none : norm sx sy <ℤ pos 1 → ⊥
-        none l =
-            let fx = square_from_zero sx in let fy = square_from_zero sy in
-            let zero_x : sx ≡ pos 0 = square_zero sx (omega (arith, linear, l, fx, fy)) in
-            let zero_y : sy ≡ pos 0 = square_zero sy (omega (arith, linear, l, fx, fy)) in
-            let b : (pos 0 *ℤ y -ℤ pos 0 *ℤ x) <ℤ pos 0 = rw (zero_x, zero_y) at h in
-            omega (arith, linear, b, zero-times x, zero-times y)
+    some = norm_some sx sy (λ zero_x zero_y. (let b : (pos 0 *ℤ y -ℤ pos 0 *ℤ x) <ℤ pos 0 = rw (zero_x, zero_y) at h in omega (arith, linear, b, zero-times x, zero-times y)))
 
 pub flat_self : (c s e : Spot) → s ≡ e → cross_of c s e ≡ pos 0
 flat_self c s e same = subst (λ (z : Spot). cross_of c s z ≡ pos 0) same (omega (arith, linear, mul_comm (s.x -ℤ c.x) (s.y -ℤ c.y)))

@@ -1,8 +1,8 @@
 -- Where the way from a place of the arc's turn to a point outside leaves the turn.
 use Rattle.std.proofs.Common.{◌≡◌, ◌⊎◌, inl, inr, ℤ, pos, neg_ℤ, ◌+ℤ◌, ◌-ℤ◌, ◌*ℤ◌, ◌≤ℤ◌, ◌<ℤ◌, arith}
 use Rattle.planar.specs.Plane.{square}
-use Rattle.planar.proofs.Ring.{ring, linear, mul_assoc, mul_comm, neg-mul, mul-neg, le_or_lt, times_from_zero, square_from_zero, square_mono, square_zero, times_mono, times_cancel, times-zero, zero-times}
-use Rattle.arcs.proofs.Vectors.{norm, norm_from_zero, sum_within, part_over, scaled, scaled_over, unscaled}
+use Rattle.planar.proofs.Ring.{ring, linear, mul_assoc, mul_comm, neg-mul, mul-neg, le_or_lt, times_from_zero, square_mono, times_mono, times_cancel, times-zero, zero-times}
+use Rattle.arcs.proofs.Vectors.{norm, norm_from_zero, norm_some, sum_within, part_over, scaled, scaled_over, unscaled}
 use Rattle.arcs.proofs.Along.{apart_along}
 
 -- h q + f p is a place of the ray from 0 through s
@@ -145,24 +145,25 @@ module _ (px py qx qy sx sy ex ey : ℤ) where
   abbrev pub eq : ℤ
   eq = ex *ℤ qy -ℤ ey *ℤ qx
 
+  -- where the way from q to p crosses the line of s
+  abbrev cx : ℤ
+  cx = neg_ℤ (sx *ℤ py -ℤ sy *ℤ px) *ℤ qx +ℤ (sx *ℤ qy -ℤ sy *ℤ qx) *ℤ px
+
+  abbrev cy : ℤ
+  cy = neg_ℤ (sx *ℤ py -ℤ sy *ℤ px) *ℤ qy +ℤ (sx *ℤ qy -ℤ sy *ℤ qx) *ℤ py
+
+  on_line : sx *ℤ cy -ℤ sy *ℤ cx ≡ pos 0
+  on_line = rw (crosses sq (neg_ℤ sp) qx qy px py sx sy) (both_ways sq sp)
+
   -- by the ray through s: q is on its left or on it, p on its right
   by_first : pos 0 ≤ℤ sq → sp <ℤ pos 0 → ((pos 1 ≤ℤ (sx *ℤ ey -ℤ sy *ℤ ex)) × ((sq *ℤ ep) ≤ℤ (sp *ℤ eq))) ⊎ (((sx *ℤ ey -ℤ sy *ℤ ex) <ℤ pos 0) × ((sp *ℤ eq) ≤ℤ (sq *ℤ ep))) → Crossed px py qx qy sx sy
-  by_first from right way = record { f = sq; h = neg_ℤ sp; from = from; some = omega (arith, linear, right); line = line; same = elim way [ inl w ↦ onto sx sy ex ey zx zy line w.0 (omega (arith, linear, e, seen, d, w.1)) | inr w ↦ onto_back sx sy ex ey zx zy line w.0 (omega (arith, linear, e, seen, d, w.1)) ] }
+  by_first from right way = record { f = sq; h = neg_ℤ sp; from = from; some = omega (arith, linear, right); line = on_line; same = elim way [ inl w ↦ onto sx sy ex ey cx cy on_line w.0 (omega (arith, linear, e, seen, d, w.1)) | inr w ↦ onto_back sx sy ex ey cx cy on_line w.0 (omega (arith, linear, e, seen, d, w.1)) ] }
     where
-      zx : ℤ
-      zx = neg_ℤ (sx *ℤ py -ℤ sy *ℤ px) *ℤ qx +ℤ (sx *ℤ qy -ℤ sy *ℤ qx) *ℤ px
-
-      zy : ℤ
-      zy = neg_ℤ (sx *ℤ py -ℤ sy *ℤ px) *ℤ qy +ℤ (sx *ℤ qy -ℤ sy *ℤ qx) *ℤ py
-
-      line : sx *ℤ zy -ℤ sy *ℤ zx ≡ pos 0
-      line = rw (crosses sq (neg_ℤ sp) qx qy px py sx sy) (both_ways sq sp)
-
-      e : ex *ℤ zy -ℤ ey *ℤ zx ≡ neg_ℤ sp *ℤ eq +ℤ sq *ℤ ep
+      e : ex *ℤ cy -ℤ ey *ℤ cx ≡ neg_ℤ sp *ℤ eq +ℤ sq *ℤ ep
       e = crosses sq (neg_ℤ sp) qx qy px py ex ey
 
-      seen : zx *ℤ ey -ℤ zy *ℤ ex ≡ neg_ℤ (ex *ℤ zy -ℤ ey *ℤ zx)
-      seen = turned zx zy ex ey
+      seen : cx *ℤ ey -ℤ cy *ℤ ex ≡ neg_ℤ (ex *ℤ cy -ℤ ey *ℤ cx)
+      seen = turned cx cy ex ey
 
       d : neg_ℤ sp *ℤ eq ≡ neg_ℤ (sp *ℤ eq)
       d = neg-mul sp eq
@@ -255,31 +256,14 @@ module _ (px py qx qy sx sy ex ey : ℤ) where
   pub from_half : sx *ℤ ey -ℤ sy *ℤ ex ≡ pos 0 → (sx *ℤ ex +ℤ sy *ℤ ey) <ℤ pos 0 → pos 0 ≤ℤ sq → (pos 0 ≤ℤ sp) ⊎ (Crossed px py qx qy sx sy ⊎ Crossed px py qx qy ex ey)
   from_half flat back hs = elim (le_or_lt (pos 0) sp) [
     | inl s ↦ inl s
-    | inr s ↦ elim (le_or_lt (pos 0) (sx *ℤ zx +ℤ sy *ℤ zy)) [
-      | inl k ↦ inr (inl (record { f = sq; h = neg_ℤ sp; from = hs; some = omega (arith, linear, s); line = line; same = k }))
+    | inr s ↦ elim (le_or_lt (pos 0) (sx *ℤ cx +ℤ sy *ℤ cy)) [
+      | inl k ↦ inr (inl (record { f = sq; h = neg_ℤ sp; from = hs; some = omega (arith, linear, s); line = on_line; same = k }))
       | inr k ↦ inr (inr (record { f = sq; h = neg_ℤ sp; from = hs; some = omega (arith, linear, s); line = other_line; same = other_same k }))
     ]
   ]
     where
-      zx : ℤ
-      zx = neg_ℤ (sx *ℤ py -ℤ sy *ℤ px) *ℤ qx +ℤ (sx *ℤ qy -ℤ sy *ℤ qx) *ℤ px
-
-      zy : ℤ
-      zy = neg_ℤ (sx *ℤ py -ℤ sy *ℤ px) *ℤ qy +ℤ (sx *ℤ qy -ℤ sy *ℤ qx) *ℤ py
-
-      line : sx *ℤ zy -ℤ sy *ℤ zx ≡ pos 0
-      line = rw (crosses sq (neg_ℤ sp) qx qy px py sx sy) (both_ways sq sp)
-
       long : pos 1 ≤ℤ norm sx sy
-      long = elim (le_or_lt (pos 1) (norm sx sy)) [ inl l ↦ l | inr l ↦ absurd (none l) ]
-        where
-          none : norm sx sy <ℤ pos 1 → ⊥
-          none l =
-              let fx = square_from_zero sx in let fy = square_from_zero sy in
-              let zero_x : sx ≡ pos 0 = square_zero sx (omega (arith, linear, l, fx, fy)) in
-              let zero_y : sy ≡ pos 0 = square_zero sy (omega (arith, linear, l, fx, fy)) in
-              let b : (pos 0 *ℤ ex +ℤ pos 0 *ℤ ey) <ℤ pos 0 = rw (zero_x, zero_y) at back in
-              omega (arith, linear, b, zero-times ex, zero-times ey)
+      long = norm_some sx sy (λ zero_x zero_y. (let b : (pos 0 *ℤ ex +ℤ pos 0 *ℤ ey) <ℤ pos 0 = rw (zero_x, zero_y) at back in omega (arith, linear, b, zero-times ex, zero-times ey)))
 
       crossed : (sx sy ex ey zx zy : ℤ) → norm sx sy *ℤ (ex *ℤ zy -ℤ ey *ℤ zx) ≡ (sx *ℤ zy -ℤ sy *ℤ zx) *ℤ (sx *ℤ ex +ℤ sy *ℤ ey) -ℤ (sx *ℤ ey -ℤ sy *ℤ ex) *ℤ (sx *ℤ zx +ℤ sy *ℤ zy)
       crossed sx sy ex ey zx zy = simp ring (omega (arith, linear))
@@ -287,19 +271,19 @@ module _ (px py qx qy sx sy ex ey : ℤ) where
       dotted : (sx sy ex ey zx zy : ℤ) → norm sx sy *ℤ (ex *ℤ zx +ℤ ey *ℤ zy) ≡ (sx *ℤ ex +ℤ sy *ℤ ey) *ℤ (sx *ℤ zx +ℤ sy *ℤ zy) +ℤ (sx *ℤ ey -ℤ sy *ℤ ex) *ℤ (sx *ℤ zy -ℤ sy *ℤ zx)
       dotted sx sy ex ey zx zy = simp ring (omega (arith, linear))
 
-      other_line : ex *ℤ zy -ℤ ey *ℤ zx ≡ pos 0
+      other_line : ex *ℤ cy -ℤ ey *ℤ cx ≡ pos 0
       other_line =
-          let id : norm sx sy *ℤ (ex *ℤ zy -ℤ ey *ℤ zx) ≡ pos 0 *ℤ (sx *ℤ ex +ℤ sy *ℤ ey) -ℤ pos 0 *ℤ (sx *ℤ zx +ℤ sy *ℤ zy) = rw (line, flat) at (crossed sx sy ex ey zx zy) in
-          let z : norm sx sy *ℤ (ex *ℤ zy -ℤ ey *ℤ zx) ≡ pos 0 = omega (arith, linear, id, zero-times (sx *ℤ ex +ℤ sy *ℤ ey), zero-times (sx *ℤ zx +ℤ sy *ℤ zy)) in
+          let id : norm sx sy *ℤ (ex *ℤ cy -ℤ ey *ℤ cx) ≡ pos 0 *ℤ (sx *ℤ ex +ℤ sy *ℤ ey) -ℤ pos 0 *ℤ (sx *ℤ cx +ℤ sy *ℤ cy) = rw (on_line, flat) at (crossed sx sy ex ey cx cy) in
+          let z : norm sx sy *ℤ (ex *ℤ cy -ℤ ey *ℤ cx) ≡ pos 0 = omega (arith, linear, id, zero-times (sx *ℤ ex +ℤ sy *ℤ ey), zero-times (sx *ℤ cx +ℤ sy *ℤ cy)) in
           let n = times-zero (norm sx sy) in
-          let over : (ex *ℤ zy -ℤ ey *ℤ zx) ≤ℤ pos 0 = times_cancel (norm sx sy) (ex *ℤ zy -ℤ ey *ℤ zx) (pos 0) long (omega (arith, linear, z, n)) in
-          let under : pos 0 ≤ℤ (ex *ℤ zy -ℤ ey *ℤ zx) = times_cancel (norm sx sy) (pos 0) (ex *ℤ zy -ℤ ey *ℤ zx) long (omega (arith, linear, z, n)) in
+          let over : (ex *ℤ cy -ℤ ey *ℤ cx) ≤ℤ pos 0 = times_cancel (norm sx sy) (ex *ℤ cy -ℤ ey *ℤ cx) (pos 0) long (omega (arith, linear, z, n)) in
+          let under : pos 0 ≤ℤ (ex *ℤ cy -ℤ ey *ℤ cx) = times_cancel (norm sx sy) (pos 0) (ex *ℤ cy -ℤ ey *ℤ cx) long (omega (arith, linear, z, n)) in
           omega (arith, linear, over, under)
 
-      other_same : (sx *ℤ zx +ℤ sy *ℤ zy) <ℤ pos 0 → pos 0 ≤ℤ (ex *ℤ zx +ℤ ey *ℤ zy)
+      other_same : (sx *ℤ cx +ℤ sy *ℤ cy) <ℤ pos 0 → pos 0 ≤ℤ (ex *ℤ cx +ℤ ey *ℤ cy)
       other_same k =
-          let id : norm sx sy *ℤ (ex *ℤ zx +ℤ ey *ℤ zy) ≡ (sx *ℤ ex +ℤ sy *ℤ ey) *ℤ (sx *ℤ zx +ℤ sy *ℤ zy) +ℤ pos 0 *ℤ (sx *ℤ zy -ℤ sy *ℤ zx) = rw flat at (dotted sx sy ex ey zx zy) in
-          let f : pos 0 ≤ℤ (neg_ℤ (sx *ℤ ex +ℤ sy *ℤ ey) *ℤ neg_ℤ (sx *ℤ zx +ℤ sy *ℤ zy)) = times_from_zero (neg_ℤ (sx *ℤ ex +ℤ sy *ℤ ey)) (neg_ℤ (sx *ℤ zx +ℤ sy *ℤ zy)) (omega (arith, linear, back)) (omega (arith, linear, k)) in
-          let a = neg-mul (sx *ℤ ex +ℤ sy *ℤ ey) (neg_ℤ (sx *ℤ zx +ℤ sy *ℤ zy)) in
-          let b = mul-neg (sx *ℤ ex +ℤ sy *ℤ ey) (sx *ℤ zx +ℤ sy *ℤ zy) in
-          times_cancel (norm sx sy) (pos 0) (ex *ℤ zx +ℤ ey *ℤ zy) long (omega (arith, linear, id, f, a, b, zero-times (sx *ℤ zy -ℤ sy *ℤ zx), times-zero (norm sx sy)))
+          let id : norm sx sy *ℤ (ex *ℤ cx +ℤ ey *ℤ cy) ≡ (sx *ℤ ex +ℤ sy *ℤ ey) *ℤ (sx *ℤ cx +ℤ sy *ℤ cy) +ℤ pos 0 *ℤ (sx *ℤ cy -ℤ sy *ℤ cx) = rw flat at (dotted sx sy ex ey cx cy) in
+          let f : pos 0 ≤ℤ (neg_ℤ (sx *ℤ ex +ℤ sy *ℤ ey) *ℤ neg_ℤ (sx *ℤ cx +ℤ sy *ℤ cy)) = times_from_zero (neg_ℤ (sx *ℤ ex +ℤ sy *ℤ ey)) (neg_ℤ (sx *ℤ cx +ℤ sy *ℤ cy)) (omega (arith, linear, back)) (omega (arith, linear, k)) in
+          let a = neg-mul (sx *ℤ ex +ℤ sy *ℤ ey) (neg_ℤ (sx *ℤ cx +ℤ sy *ℤ cy)) in
+          let b = mul-neg (sx *ℤ ex +ℤ sy *ℤ ey) (sx *ℤ cx +ℤ sy *ℤ cy) in
+          times_cancel (norm sx sy) (pos 0) (ex *ℤ cx +ℤ ey *ℤ cy) long (omega (arith, linear, id, f, a, b, zero-times (sx *ℤ cy -ℤ sy *ℤ cx), times-zero (norm sx sy)))

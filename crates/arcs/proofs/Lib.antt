@@ -1,21 +1,21 @@
-mod Along
+pub mod Along
 mod Chain
 mod Closed
 mod Crossing
 mod Each
 mod Ends
 mod Grown
-mod Lower
+pub mod Lower
 mod Moved
 mod OneDistance
 mod Places
-mod Radii
+pub mod Radii
 mod Read
 mod Ring
 mod Roots
 mod Taken
 mod Turned
 mod Turns
-mod Upper
-mod Vectors
+pub mod Upper
+pub mod Vectors
 mod Whole

@@ -2,11 +2,11 @@
 use Rattle.std.proofs.Common.{◌≡◌, ◌⊎◌, inl, inr, ℤ, pos, neg_ℤ, ◌+ℤ◌, ◌-ℤ◌, ◌*ℤ◌, ◌≤ℤ◌, ◌<ℤ◌, arith}
 use Rattle.planar.specs.declared.Spot.{Spot}
 use Rattle.planar.specs.Plane.{square}
-use Rattle.planar.proofs.Ring.{ring, linear, mul_assoc, le_or_lt, times_from_zero, square_from_zero, square_mono, square_zero, square-neg, times_mono, times_cancel, times-zero}
+use Rattle.planar.proofs.Ring.{ring, linear, mul_assoc, le_or_lt, times_from_zero, square_from_zero, square_mono, square-neg, times_mono, times_cancel, times-zero}
 use Rattle.arcs.specs.Copper.{AtMostLonger, reach_of}
 use Rattle.arcs.proofs.Whole.{RingHoldsChord}
 use Rattle.arcs.specs.Chains.{IsChord, IsRoom}
-use Rattle.arcs.proofs.Vectors.{norm, norm_from_zero, lagrange, sum_within, part_over, scaled, scaled_over, square_scaled, unscaled, unscaled_over}
+use Rattle.arcs.proofs.Vectors.{norm, norm_from_zero, norm_some, lagrange, sum_within, part_over, scaled, scaled_over, square_scaled, unscaled, unscaled_over}
 use Rattle.arcs.proofs.Ring.{longer_by, by_pen}
 
 -- ---- a place of a chord: m times the way to it from c, where a and b lead from c to the ends
@@ -53,15 +53,10 @@ way m i x n a b c = simp ring (omega (arith, linear))
 
 -- ends on two sides of a line through c are apart
 pub ends_apart : (ax ay bx by : ℤ) → pos 1 ≤ℤ (ax *ℤ by -ℤ ay *ℤ bx) → pos 1 ≤ℤ norm (bx -ℤ ax) (by -ℤ ay)
-ends_apart ax ay bx by h = elim (le_or_lt (pos 1) (norm (bx -ℤ ax) (by -ℤ ay))) [ inl l ↦ l | inr g ↦ absurd (none g) ]
-  where
-    none : norm (bx -ℤ ax) (by -ℤ ay) <ℤ pos 1 → ⊥
-    none g =
-        let sx = square_from_zero (bx -ℤ ax) in let sy = square_from_zero (by -ℤ ay) in
-        let zx : bx -ℤ ax ≡ pos 0 = square_zero (bx -ℤ ax) (omega (arith, linear, g, sx, sy)) in
-        let zy : by -ℤ ay ≡ pos 0 = square_zero (by -ℤ ay) (omega (arith, linear, g, sx, sy)) in
-        let e : ax *ℤ by -ℤ ay *ℤ bx ≡ ax *ℤ (by -ℤ ay) -ℤ ay *ℤ (bx -ℤ ax) = simp ring (omega (arith, linear)) in
-        omega (arith, linear, h, rw (zx, zy) at e, times-zero ax, times-zero ay)
+ends_apart ax ay bx by h = norm_some (bx -ℤ ax) (by -ℤ ay) (λ zx zy. (
+    let e : ax *ℤ by -ℤ ay *ℤ bx ≡ ax *ℤ (by -ℤ ay) -ℤ ay *ℤ (bx -ℤ ax) = simp ring (omega (arith, linear)) in
+    omega (arith, linear, h, rw (zx, zy) at e, times-zero ax, times-zero ay)
+    ))
 
 module _ (v k : ℤ) (hv : pos 0 ≤ℤ v) (low high least most near far : ℤ) (room : IsRoom low high least most near far k) where
   -- a point at most v from a place of the ring

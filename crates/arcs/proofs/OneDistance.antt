@@ -1,22 +1,22 @@
 -- Where both ends are at one distance, what is possible is sure.
-use Rattle.std.proofs.Common.{Bool, true, false, if◌then◌else◌, int_lt, ◌≡◌, ◌⊎◌, inl, inr, ℤ, pos, neg_ℤ, ◌+ℤ◌, ◌-ℤ◌, ◌*ℤ◌, ◌≤ℤ◌, ◌<ℤ◌, arith, refl, sym, ap, ◌∙◌, subst}
-use Rattle.std.proofs.lemmas.Int.{ints, clamps}
-use Rattle.std.specs.Int.{int_max, int_min}
+use Rattle.std.proofs.Common.{◌≡◌, ◌⊎◌, inl, inr, ℤ, pos, neg_ℤ, ◌+ℤ◌, ◌-ℤ◌, ◌*ℤ◌, ◌≤ℤ◌, ◌<ℤ◌, arith, refl, sym, ap, ◌∙◌, subst}
+use Rattle.std.proofs.lemmas.Int.{ints}
 use Rattle.planar.specs.declared.Spot.{Spot}
 use Rattle.planar.specs.Plane.{Point, cross_of, dot_of, square}
-use Rattle.planar.proofs.Ring.{ring, linear, le_or_lt, mul_assoc, over_zero, square_cancel, square_from_zero, square_mono, square_zero, times_cancel, times_from_zero, times_mono, times-zero, zero-times}
+use Rattle.planar.proofs.Ring.{ring, linear, le_or_lt, mul_assoc, over_zero, square_cancel, square_from_zero, square_mono, times_cancel, times_from_zero, times_mono, times-zero}
 use Rattle.planar.proofs.SpotWithin.{whole_from_zero}
 use Rattle.arcs.specs.declared.Arc.{Arc}
-use Rattle.arcs.specs.Copper.{AreNear, AtMostLonger, HasPlace, InRing, InTurn, IsMeant, IsNear, MayTurn, Possibly, Surely, apart, inmost, outmost, reach_of, side_of, spread, swing, times, unlike}
+use Rattle.arcs.specs.Copper.{AreNear, AtMostLonger, HasPlace, InRing, InTurn, IsMeant, IsNear, MayTurn, Possibly, Surely, apart, inmost, outmost, reach_of, side_of, unlike}
 use Rattle.arcs.specs.Laws.{PossiblyIsSurely}
 use Rattle.arcs.proofs.Closed.{Away}
 use Rattle.arcs.proofs.Crossing.{Crossed, near_end, from_less, from_more, from_half}
 use Rattle.arcs.proofs.Ends.{is_left, is_right, point_side}
 use Rattle.arcs.proofs.Places.{Root, root_of}
-use Rattle.arcs.proofs.Ring.{is_longer_by}
+use Rattle.arcs.proofs.Radii.{end_is, inmost_is, outmost_is}
+use Rattle.arcs.proofs.Ring.{is_longer_by, only_pen}
 use Rattle.arcs.proofs.Ring.{longer_by as longer_of}
 use Rattle.arcs.proofs.Whole.{longer_by}
-use Rattle.arcs.proofs.Vectors.{lagrange, norm, norm_from_zero, scaled, scaled_over, sum_within, part_over, unscaled, unscaled_over}
+use Rattle.arcs.proofs.Vectors.{lagrange, norm, norm_from_zero, norm_none, norm_scaled, scaled, scaled_over, square_scaled, sum_within, part_over, unscaled, unscaled_over}
 
 -- ---- a length that is at most w + m/k longer, for each k
 
@@ -162,12 +162,6 @@ module _ (c s e : Spot) (z p : Point) where
 
 -- ---- how far the point is from an end, and from the circle
 
-norm_scaled : (m x y : ℤ) → norm (m *ℤ x) (m *ℤ y) ≡ square m *ℤ norm x y
-norm_scaled m x y = simp ring (omega (arith, linear))
-
-squared : (m q : ℤ) → square (m *ℤ q) ≡ square m *ℤ square q
-squared m q = simp ring
-
 swap : (k n x : ℤ) → k *ℤ (n *ℤ x) ≡ n *ℤ (k *ℤ x)
 swap k n x = simp ring
 
@@ -280,7 +274,7 @@ module _ (g k N f R d : ℤ) (hg : pos 1 ≤ℤ g) (hk : pos 1 ≤ℤ k) (hN : p
 
   far_is : AtMostLonger (N *ℤ pos 1) (square k *ℤ d) (square k *ℤ (square N *ℤ f)) → (square (g *ℤ k) *ℤ f) ≤ℤ square (R +ℤ pos 1) → (square (g *ℤ k) *ℤ d) ≤ℤ square (N *ℤ ((R +ℤ pos 1) +ℤ g))
   far_is h over =
-      let b : (square N *ℤ (square (g *ℤ k) *ℤ f)) ≤ℤ square (N *ℤ (R +ℤ pos 1)) = rw (squared N (R +ℤ pos 1)) (times_mono (square N) (square (g *ℤ k) *ℤ f) (square (R +ℤ pos 1)) (square_from_zero N) over) in
+      let b : (square N *ℤ (square (g *ℤ k) *ℤ f)) ≤ℤ square (N *ℤ (R +ℤ pos 1)) = rw (square_scaled N (R +ℤ pos 1)) (times_mono (square N) (square (g *ℤ k) *ℤ f) (square (R +ℤ pos 1)) (square_from_zero N) over) in
       let r0 : pos 0 ≤ℤ (N *ℤ (R +ℤ pos 1)) = times_from_zero N (R +ℤ pos 1) (omega (arith, linear, hN)) (omega (arith, linear, hR)) in
       let l = is_longer_by (N *ℤ g) (square (g *ℤ k) *ℤ d) (square N *ℤ (square (g *ℤ k) *ℤ f)) (N *ℤ (R +ℤ pos 1)) pen0 r0 b (up h) in
       omega (arith, linear, l, b, sum N (R +ℤ pos 1) g)
@@ -296,7 +290,7 @@ module _ (g k N f R d : ℤ) (hg : pos 1 ≤ℤ g) (hk : pos 1 ≤ℤ k) (hN : p
 
       none : (square (g *ℤ k) *ℤ d) <ℤ square (N *ℤ (R -ℤ g)) → ⊥
       none o =
-          let b : square (N *ℤ R) ≤ℤ (square N *ℤ (square (g *ℤ k) *ℤ f)) = rw (squared N R) (times_mono (square N) (square R) (square (g *ℤ k) *ℤ f) (square_from_zero N) under) in
+          let b : square (N *ℤ R) ≤ℤ (square N *ℤ (square (g *ℤ k) *ℤ f)) = rw (square_scaled N R) (times_mono (square N) (square R) (square (g *ℤ k) *ℤ f) (square_from_zero N) under) in
           let r0 : pos 0 ≤ℤ (N *ℤ (R -ℤ g)) = times_from_zero N (R -ℤ g) (omega (arith, linear, hN)) (omega (arith, linear, l)) in
           let i = is_longer_by (N *ℤ g) (square N *ℤ (square (g *ℤ k) *ℤ f)) (square (g *ℤ k) *ℤ d) (N *ℤ (R -ℤ g)) pen0 r0 (omega (arith, linear, o)) (down h) in
           omega (arith, linear, i, b, o, sum N R g)
@@ -319,17 +313,14 @@ one_spot c s e len flat way = ap (λ (x : ℤ). record { x = x; y = s.y }) same_
     none : norm ((s.x -ℤ c.x) -ℤ (e.x -ℤ c.x)) ((s.y -ℤ c.y) -ℤ (e.y -ℤ c.y)) ≤ℤ pos 0
     none = omega (arith, linear, plain (s.x -ℤ c.x) (s.y -ℤ c.y) (e.x -ℤ c.x) (e.y -ℤ c.y), dot_is, len)
 
-    zero_x : (s.x -ℤ c.x) -ℤ (e.x -ℤ c.x) ≡ pos 0
-    zero_x = square_zero ((s.x -ℤ c.x) -ℤ (e.x -ℤ c.x)) (omega (arith, linear, none, square_from_zero ((s.y -ℤ c.y) -ℤ (e.y -ℤ c.y))))
-
-    zero_y : (s.y -ℤ c.y) -ℤ (e.y -ℤ c.y) ≡ pos 0
-    zero_y = square_zero ((s.y -ℤ c.y) -ℤ (e.y -ℤ c.y)) (omega (arith, linear, none, square_from_zero ((s.x -ℤ c.x) -ℤ (e.x -ℤ c.x))))
+    zeros : ((s.x -ℤ c.x) -ℤ (e.x -ℤ c.x) ≡ pos 0) × ((s.y -ℤ c.y) -ℤ (e.y -ℤ c.y) ≡ pos 0)
+    zeros = norm_none ((s.x -ℤ c.x) -ℤ (e.x -ℤ c.x)) ((s.y -ℤ c.y) -ℤ (e.y -ℤ c.y)) none
 
     same_x : s.x ≡ e.x
-    same_x = omega (arith, linear, zero_x)
+    same_x = omega (arith, linear, zeros.0)
 
     same_y : s.y ≡ e.y
-    same_y = omega (arith, linear, zero_y)
+    same_y = omega (arith, linear, zeros.1)
 
 -- ---- one place for each k
 
@@ -409,14 +400,14 @@ module _ (g w f : ℤ) (c s e : Spot) (p : Point) (hg : pos 1 ≤ℤ g) (hw : po
         first =
             let h = not_further g k w p.n z.n (p.x -ℤ p.n *ℤ c.x) (p.y -ℤ p.n *ℤ c.y) (z.x -ℤ z.n *ℤ c.x) (z.y -ℤ z.n *ℤ c.y) f R near hg hk hw p.positive z.positive hR under over hnear near_is within past close in
             let i : p.n *ℤ (((R +ℤ pos 1) +ℤ g) +ℤ (k *ℤ w +ℤ g)) ≡ p.n *ℤ R +ℤ (k *ℤ (p.n *ℤ w) +ℤ p.n *ℤ (g +ℤ (g +ℤ pos 1))) = by p.n R k w g in
-            let r : square (p.n *ℤ R) ≤ℤ (square p.n *ℤ (square (g *ℤ k) *ℤ f)) = rw (squared p.n R) (times_mono (square p.n) (square R) (square (g *ℤ k) *ℤ f) (square_from_zero p.n) under) in
+            let r : square (p.n *ℤ R) ≤ℤ (square p.n *ℤ (square (g *ℤ k) *ℤ f)) = rw (square_scaled p.n R) (times_mono (square p.n) (square R) (square (g *ℤ k) *ℤ f) (square_from_zero p.n) under) in
             longer_of (k *ℤ (p.n *ℤ w) +ℤ p.n *ℤ (g +ℤ (g +ℤ pos 1))) (square k *ℤ (square g *ℤ reach_of c p)) (square k *ℤ (square g *ℤ (square p.n *ℤ f))) (p.n *ℤ R) pen0' (times_from_zero p.n R n0' hR) (rw circled r) (rw (← (split (reach_of c p)), ← i) h)
           where
             by : (n R k w g : ℤ) → n *ℤ (((R +ℤ pos 1) +ℤ g) +ℤ (k *ℤ w +ℤ g)) ≡ n *ℤ R +ℤ (k *ℤ (n *ℤ w) +ℤ n *ℤ (g +ℤ (g +ℤ pos 1)))
             by n R k w g = simp ring (omega (arith, linear))
 
         top : (square p.n *ℤ (square (g *ℤ k) *ℤ f)) ≤ℤ square (p.n *ℤ (R +ℤ pos 1))
-        top = rw (squared p.n (R +ℤ pos 1)) (times_mono (square p.n) (square (g *ℤ k) *ℤ f) (square (R +ℤ pos 1)) (square_from_zero p.n) over)
+        top = rw (square_scaled p.n (R +ℤ pos 1)) (times_mono (square p.n) (square (g *ℤ k) *ℤ f) (square (R +ℤ pos 1)) (square_from_zero p.n) over)
 
         second : AtMostLonger (k *ℤ (p.n *ℤ w) +ℤ p.n *ℤ (g +ℤ (g +ℤ pos 1))) (square k *ℤ (square g *ℤ (square p.n *ℤ f))) (square k *ℤ (square g *ℤ reach_of c p))
         second = elim (le_or_lt (k *ℤ w +ℤ g) near) [ inl l ↦ long l | inr l ↦ short l ]
@@ -478,31 +469,6 @@ module _ (a : Arc) (p : Point) (same : unlike a ≡ pos 0) (h : Possibly a p) wh
   M0 : pos 0 ≤ℤ M
   M0 = times_from_zero p.n (pos 2 +ℤ (pos 2 +ℤ pos 1)) n0'' (omega (arith, ints))
 
-  end_is : dot_of a.centre a.end a.end ≡ f
-  end_is = by f (dot_of a.centre a.end a.end) same
-    where
-      by : (s e : ℤ) → int_max s e -ℤ int_min s e ≡ pos 0 → e ≡ s
-      by s e o = omega (arith, ints, clamps, o)
-
-  no_spread : spread a ≡ pos 0
-  no_spread = none (int_lt (swing a) (pos 0)) (unlike a) (pos (times a)) same
-    where
-      none : (b : Bool) (u t : ℤ) → u ≡ pos 0 → (if b then u *ℤ t else pos 0) ≡ pos 0
-      none true u t e = rw e (zero-times t)
-      none false u t e = refl
-
-  low : inmost a ≡ f
-  low = by f (dot_of a.centre a.end a.end) (spread a) no_spread same f0
-    where
-      by : (s e d : ℤ) → d ≡ pos 0 → int_max s e -ℤ int_min s e ≡ pos 0 → pos 0 ≤ℤ s → int_max (int_min s e -ℤ d) (pos 0) ≡ s
-      by s e d z o from = omega (arith, ints, clamps, z, o, from)
-
-  high : outmost a ≡ f
-  high = by f (dot_of a.centre a.end a.end) (spread a) no_spread same
-    where
-      by : (s e d : ℤ) → d ≡ pos 0 → int_max s e -ℤ int_min s e ≡ pos 0 → (int_max s e +ℤ d) ≡ s
-      by s e d z o = omega (arith, ints, clamps, z, o)
-
   meant : IsMeant a
   meant = inr (inl (by (unlike a) (apart a) same (whole_from_zero a.start a.end)))
     where
@@ -511,10 +477,10 @@ module _ (a : Arc) (p : Point) (same : unlike a ≡ pos 0) (h : Possibly a p) wh
 
   turn_of : (z : Point) → MayTurn a.centre a.start a.end z → InTurn a.centre a.start a.end z
   turn_of z (inl t) = t
-  turn_of z (inr o) = inr (inr (inr (one_spot a.centre a.start a.end (sym end_is) o.0 o.1)))
+  turn_of z (inr o) = inr (inr (inr (one_spot a.centre a.start a.end (sym (end_is a same)) o.0 o.1)))
 
   ring_at : (k : ℤ) (z : Point) → InRing k (pos 1) a.centre (inmost a) (outmost a) z → InRing k (pos 1) a.centre f f z
-  ring_at k z r = subst (λ (v : ℤ). InRing k (pos 1) a.centre v f z) low (subst (λ (v : ℤ). InRing k (pos 1) a.centre (inmost a) v z) high r)
+  ring_at k z r = subst (λ (v : ℤ). InRing k (pos 1) a.centre v f z) (inmost_is a same) (subst (λ (v : ℤ). InRing k (pos 1) a.centre (inmost a) v z) (outmost_is a same) r)
 
   abbrev Near : ℤ → Spot → Type 0
   Near k s = AtMostLonger (k *ℤ W +ℤ M) (square k *ℤ (square (pos 2) *ℤ reach_of s p)) (square k *ℤ pos 0)
@@ -527,9 +493,9 @@ module _ (a : Arc) (p : Point) (same : unlike a ≡ pos 0) (h : Possibly a p) wh
     where
       with_root : HasPlace a k p → Root (square (pos 2 *ℤ k) *ℤ f) → InCircleAt k × (InTurn a.centre a.start a.end p ⊎ (Near k a.start ⊎ Near k a.end))
       with_root q r = elim (le_or_lt (pos 2) r.i) [
-        | inl l ↦ one_place (pos 2) (pos a.width) f a.centre a.start a.end p two w0 f0 refl end_is k some q.place (turn_of q.place q.turn) (ring_at k q.place q.ring) q.near r.i (r.i -ℤ pos 2) r.from r.under over (omega (arith, linear, l)) (omega (arith, linear))
+        | inl l ↦ one_place (pos 2) (pos a.width) f a.centre a.start a.end p two w0 f0 refl (end_is a same) k some q.place (turn_of q.place q.turn) (ring_at k q.place q.ring) q.near r.i (r.i -ℤ pos 2) r.from r.under over (omega (arith, linear, l)) (omega (arith, linear))
             (near_over (pos 2) k q.place.n f r.i (reach_of a.centre q.place) two some q.place.positive r.from (ring_at k q.place q.ring).1 r.under l)
-        | inr l ↦ one_place (pos 2) (pos a.width) f a.centre a.start a.end p two w0 f0 refl end_is k some q.place (turn_of q.place q.turn) (ring_at k q.place q.ring) q.near r.i (pos 0) r.from r.under over record { le = tt } (omega (arith, linear, l)) none
+        | inr l ↦ one_place (pos 2) (pos a.width) f a.centre a.start a.end p two w0 f0 refl (end_is a same) k some q.place (turn_of q.place q.turn) (ring_at k q.place q.ring) q.near r.i (pos 0) r.from r.under over record { le = tt } (omega (arith, linear, l)) none
       ]
         where
           over : (square (pos 2 *ℤ k) *ℤ f) ≤ℤ square (r.i +ℤ pos 1)
@@ -553,17 +519,13 @@ module _ (a : Arc) (p : Point) (same : unlike a ≡ pos 0) (h : Possibly a p) wh
   )
 
   ring_is : InRing (pos 2) (pos a.width) a.centre (outmost a) (inmost a) p
-  ring_is = subst (λ (v : ℤ). InRing (pos 2) (pos a.width) a.centre v (inmost a) p) (sym high) (subst (λ (v : ℤ). InRing (pos 2) (pos a.width) a.centre f v p) (sym low) round)
+  ring_is = subst (λ (v : ℤ). InRing (pos 2) (pos a.width) a.centre v (inmost a) p) (sym (outmost_is a same)) (subst (λ (v : ℤ). InRing (pos 2) (pos a.width) a.centre f v p) (sym (inmost_is a same)) round)
 
   away : (s : Spot) → AtMostLonger W (square (pos 2) *ℤ reach_of s p) (pos 0) ⊎ Away (λ k. Near k s)
   away s = longer_away W M (square (pos 2) *ℤ reach_of s p) (pos 0) W0 M0 record { le = tt }
 
   near_of : (s : Spot) → AtMostLonger W (square (pos 2) *ℤ reach_of s p) (pos 0) → IsNear (pos 2) (pos a.width) s p
-  near_of s o = by (square (pos 2) *ℤ reach_of s p) W o
-    where
-      by : (r w : ℤ) → AtMostLonger w r (pos 0) → r ≤ℤ square w
-      by r w (inl l) = omega (arith, linear, l)
-      by r w (inr l) = let e : r -ℤ pos 0 -ℤ square w ≡ pos 0 = square_zero (r -ℤ pos 0 -ℤ square w) (omega (arith, linear, l, times-zero (square (w +ℤ w)))) in omega (arith, linear, e)
+  near_of s o = only_pen W (square (pos 2) *ℤ reach_of s p) o
 
   is_surely : Surely a p
   is_surely = elim (away a.start) [

@@ -3,12 +3,15 @@ use Rattle.std.proofs.Common.{◌≡◌, ◌⊎◌, inl, inr, ℕ, zero, suc, ne
 use Rattle.std.proofs.lemmas.Int.{ints}
 use Rattle.planar.specs.declared.Spot.{Spot}
 use Rattle.planar.specs.Plane.{Point, at, cross_of, dot_of, square}
-use Rattle.planar.proofs.Ring.{ring, linear, le_or_lt, over_zero, square_cancel, square_from_zero, square_mono, square_zero, times_from_zero, times_mono}
+use Rattle.planar.proofs.Ring.{ring, linear, le_or_lt, over_zero, square_cancel, square_from_zero, square_mono, one-times, times_from_zero, times_mono, times-zero}
 use Rattle.arcs.specs.declared.Arc.{Arc}
 use Rattle.arcs.specs.Copper.{AreNear, AtMostLonger, HasPlace, InRing, InTurn, IsNear, MayTurn, inmost, outmost, reach_of, side_of}
 use Rattle.arcs.specs.Laws.{PossiblyAtEnds, PossiblyOfEach, SurelyIsPossibly}
+use Rattle.arcs.proofs.Chain.{flat_self}
 use Rattle.arcs.proofs.Each.{ring_within}
 use Rattle.arcs.proofs.Radii.{end_over, end_under, in_order, inmost_from, start_over, start_under}
+use Rattle.arcs.proofs.Ring.{only_pen}
+use Rattle.arcs.proofs.Vectors.{norm_none}
 
 -- ---- the whole root of a number
 
@@ -321,56 +324,37 @@ module _ (c : Spot) (i m : ℤ) (hi : pos 0 ≤ℤ i) (some : pos 1 ≤ℤ m) (p
 
 -- ---- the ends are places
 
-turn_start : (c s e : Spot) → MayTurn c s e (at s)
-turn_start c s e = elim (le_or_lt (cross_of c s e) (pos 0)) [
-  | inr g ↦ inl (inl (g, from_itself, omega (arith, linear, g, seen)))
+-- the side of a spot is a cross product
+spot_side : (c a b : Spot) → side_of c a (at b) ≡ cross_of c a b
+spot_side c a b = rw (one-times c.x, one-times c.y) refl
+
+-- a point that lies in each kind of turn
+turn_by : (c s e : Spot) (p : Point) → (pos 0 <ℤ cross_of c s e → (pos 0 ≤ℤ side_of c s p) × (side_of c e p ≤ℤ pos 0)) → (pos 0 ≤ℤ side_of c s p) ⊎ (side_of c e p ≤ℤ pos 0) → (cross_of c s e ≡ pos 0 → pos 0 ≤ℤ side_of c s p) → MayTurn c s e p
+turn_by c s e p less more half = elim (le_or_lt (cross_of c s e) (pos 0)) [
+  | inr g ↦ (let l = less g in inl (inl (g, l.0, l.1)))
   | inl l ↦ elim (le_or_lt (pos 0) (cross_of c s e)) [
-    | inr g ↦ inl (inr (inl (g, inl from_itself)))
+    | inr g ↦ inl (inr (inl (g, more)))
     | inl k ↦ elim (le_or_lt (pos 0) (dot_of c s e)) [
       | inl f ↦ inr (omega (arith, linear, l, k), f)
-      | inr f ↦ inl (inr (inr (inl (omega (arith, linear, l, k), f, from_itself))))
+      | inr f ↦ inl (inr (inr (inl (omega (arith, linear, l, k), f, half (omega (arith, linear, l, k))))))
     ]
   ]
 ]
+
+turn_start : (c s e : Spot) → MayTurn c s e (at s)
+turn_start c s e = turn_by c s e (at s) (λ g. (itself, omega (arith, linear, g, spot_side c e s, crossed_back (s.x -ℤ c.x) (s.y -ℤ c.y) (e.x -ℤ c.x) (e.y -ℤ c.y)))) (inl itself) (λ flat. itself)
   where
-    itself : side_of c s (at s) ≡ pos 0
-    itself = by s.x s.y c.x c.y
-      where
-        by : (sx sy cx cy : ℤ) → (sx -ℤ cx) *ℤ (sy -ℤ pos 1 *ℤ cy) -ℤ (sy -ℤ cy) *ℤ (sx -ℤ pos 1 *ℤ cx) ≡ pos 0
-        by sx sy cx cy = simp ring (omega (arith, linear))
+    itself : pos 0 ≤ℤ side_of c s (at s)
+    itself = omega (arith, linear, spot_side c s s, flat_self c s s refl)
 
-    from_itself : pos 0 ≤ℤ side_of c s (at s)
-    from_itself = omega (arith, linear, itself)
-
-    seen : side_of c e (at s) ≡ neg_ℤ (cross_of c s e)
-    seen = by s.x s.y c.x c.y e.x e.y
-      where
-        by : (sx sy cx cy ex ey : ℤ) → (ex -ℤ cx) *ℤ (sy -ℤ pos 1 *ℤ cy) -ℤ (ey -ℤ cy) *ℤ (sx -ℤ pos 1 *ℤ cx) ≡ neg_ℤ ((sx -ℤ cx) *ℤ (ey -ℤ cy) -ℤ (sy -ℤ cy) *ℤ (ex -ℤ cx))
-        by sx sy cx cy ex ey = simp ring (omega (arith, linear))
+    crossed_back : (sx sy ex ey : ℤ) → ex *ℤ sy -ℤ ey *ℤ sx ≡ neg_ℤ (sx *ℤ ey -ℤ sy *ℤ ex)
+    crossed_back sx sy ex ey = simp ring (omega (arith, linear))
 
 turn_end : (c s e : Spot) → MayTurn c s e (at e)
-turn_end c s e = elim (le_or_lt (cross_of c s e) (pos 0)) [
-  | inr g ↦ inl (inl (g, omega (arith, linear, g, seen), omega (arith, linear, itself)))
-  | inl l ↦ elim (le_or_lt (pos 0) (cross_of c s e)) [
-    | inr g ↦ inl (inr (inl (g, inr (omega (arith, linear, itself)))))
-    | inl k ↦ elim (le_or_lt (pos 0) (dot_of c s e)) [
-      | inl f ↦ inr (omega (arith, linear, l, k), f)
-      | inr f ↦ inl (inr (inr (inl (omega (arith, linear, l, k), f, omega (arith, linear, l, k, seen)))))
-    ]
-  ]
-]
+turn_end c s e = turn_by c s e (at e) (λ g. (omega (arith, linear, g, spot_side c s e), itself)) (inr itself) (λ flat. omega (arith, linear, flat, spot_side c s e))
   where
-    itself : side_of c e (at e) ≡ pos 0
-    itself = by e.x e.y c.x c.y
-      where
-        by : (sx sy cx cy : ℤ) → (sx -ℤ cx) *ℤ (sy -ℤ pos 1 *ℤ cy) -ℤ (sy -ℤ cy) *ℤ (sx -ℤ pos 1 *ℤ cx) ≡ pos 0
-        by sx sy cx cy = simp ring (omega (arith, linear))
-
-    seen : side_of c s (at e) ≡ cross_of c s e
-    seen = by s.x s.y c.x c.y e.x e.y
-      where
-        by : (sx sy cx cy ex ey : ℤ) → (sx -ℤ cx) *ℤ (ey -ℤ pos 1 *ℤ cy) -ℤ (sy -ℤ cy) *ℤ (ex -ℤ pos 1 *ℤ cx) ≡ (sx -ℤ cx) *ℤ (ey -ℤ cy) -ℤ (sy -ℤ cy) *ℤ (ex -ℤ cx)
-        by sx sy cx cy ex ey = simp ring (omega (arith, linear))
+    itself : side_of c e (at e) ≤ℤ pos 0
+    itself = omega (arith, linear, spot_side c e e, flat_self c e e refl)
 
 -- a spot between two lengths from c is in their ring
 ring_at : (c a : Spot) (low high k : ℤ) → low ≤ℤ dot_of c a a → dot_of c a a ≤ℤ high → InRing k (pos 1) c low high (at a)
@@ -440,42 +424,27 @@ near_along c i k d w p some reach hd h =
 
 -- ---- the law
 
+at_spot : (a : Arc) (s : Spot) (k : ℤ) (p : Point) → MayTurn a.centre a.start a.end (at s) → inmost a ≤ℤ dot_of a.centre s s → dot_of a.centre s s ≤ℤ outmost a → pos 1 ≤ℤ k → IsNear (pos 2) (pos a.width) s p → HasPlace a k p
+at_spot a s k p turn over under some h = record { place = at s; turn = turn; ring = ring_at a.centre s (inmost a) (outmost a) k over under; near = near_at s (pos a.width) k p (omega (arith, ints)) some h }
+
 at_start : (a : Arc) (k : ℤ) (p : Point) → pos 1 ≤ℤ k → IsNear (pos 2) (pos a.width) a.start p → HasPlace a k p
-at_start a k p some h = record {
-  place = at a.start;
-  turn = turn_start a.centre a.start a.end;
-  ring = ring_at a.centre a.start (inmost a) (outmost a) k (start_over a) (start_under a);
-  near = near_at a.start (pos a.width) k p (omega (arith, ints)) some h;
-}
+at_start a k p = at_spot a a.start k p (turn_start a.centre a.start a.end) (start_over a) (start_under a)
 
 at_end : (a : Arc) (k : ℤ) (p : Point) → pos 1 ≤ℤ k → IsNear (pos 2) (pos a.width) a.end p → HasPlace a k p
-at_end a k p some h = record {
-  place = at a.end;
-  turn = turn_end a.centre a.start a.end;
-  ring = ring_at a.centre a.end (inmost a) (outmost a) k (end_over a) (end_under a);
-  near = near_at a.end (pos a.width) k p (omega (arith, ints)) some h;
-}
+at_end a k p = at_spot a a.end k p (turn_end a.centre a.start a.end) (end_over a) (end_under a)
 
 -- where the point is the centre, the pen is as long as the radius
 from_centre : (a : Arc) (p : Point) → reach_of a.centre p ≡ pos 0 → AtMostLonger (p.n *ℤ pos a.width) (square (pos 2) *ℤ (square p.n *ℤ outmost a)) (square (pos 2) *ℤ reach_of a.centre p) → IsNear (pos 2) (pos a.width) a.start p
-from_centre a p none h = by (p.x -ℤ p.n *ℤ a.centre.x) (p.y -ℤ p.n *ℤ a.centre.y) none (longest (subst (λ (z : ℤ). AtMostLonger (p.n *ℤ pos a.width) (square (pos 2) *ℤ (square p.n *ℤ outmost a)) (square (pos 2) *ℤ z)) none h))
+from_centre a p none h = rw (square_two (reach_of a.start p)) (omega (arith, linear, r, m, square_two (square p.n *ℤ outmost a), longest))
   where
-    longest : AtMostLonger (p.n *ℤ pos a.width) (square (pos 2) *ℤ (square p.n *ℤ outmost a)) (square (pos 2) *ℤ pos 0) → (square (pos 2) *ℤ (square p.n *ℤ outmost a)) ≤ℤ square (p.n *ℤ pos a.width)
-    longest (inl l) = let z : square (pos 2) *ℤ pos 0 ≡ pos 0 = omega (arith, ints) in omega (arith, linear, l, z)
-    longest (inr l) =
-        let z : square (pos 2) *ℤ pos 0 ≡ pos 0 = omega (arith, ints) in
-        let o : square (p.n *ℤ pos a.width +ℤ p.n *ℤ pos a.width) *ℤ pos 0 ≡ pos 0 = simp ring in
-        let m : square ((square (pos 2) *ℤ (square p.n *ℤ outmost a)) -ℤ (square (pos 2) *ℤ pos 0) -ℤ square (p.n *ℤ pos a.width)) ≤ℤ pos 0 = omega (arith, linear, subst (λ (u : ℤ). square ((square (pos 2) *ℤ (square p.n *ℤ outmost a)) -ℤ (square (pos 2) *ℤ pos 0) -ℤ square (p.n *ℤ pos a.width)) ≤ℤ (square (p.n *ℤ pos a.width +ℤ p.n *ℤ pos a.width) *ℤ u)) z l, o) in
-        let e : (square (pos 2) *ℤ (square p.n *ℤ outmost a)) -ℤ (square (pos 2) *ℤ pos 0) -ℤ square (p.n *ℤ pos a.width) ≡ pos 0 = square_zero ((square (pos 2) *ℤ (square p.n *ℤ outmost a)) -ℤ (square (pos 2) *ℤ pos 0) -ℤ square (p.n *ℤ pos a.width)) m in
-        omega (arith, linear, e, z)
+    longest : (square (pos 2) *ℤ (square p.n *ℤ outmost a)) ≤ℤ square (p.n *ℤ pos a.width)
+    longest = only_pen (p.n *ℤ pos a.width) (square (pos 2) *ℤ (square p.n *ℤ outmost a)) (rw (none, times-zero (square (pos 2))) at h)
 
-    by : (x y : ℤ) → square x +ℤ square y ≡ pos 0 → (square (pos 2) *ℤ (square p.n *ℤ outmost a)) ≤ℤ square (p.n *ℤ pos a.width) → IsNear (pos 2) (pos a.width) a.start p
-    by x y z l =
-        let zx : p.x -ℤ p.n *ℤ a.centre.x ≡ pos 0 = square_zero (p.x -ℤ p.n *ℤ a.centre.x) (omega (arith, linear, none, square_from_zero (p.x -ℤ p.n *ℤ a.centre.x), square_from_zero (p.y -ℤ p.n *ℤ a.centre.y))) in
-        let zy : p.y -ℤ p.n *ℤ a.centre.y ≡ pos 0 = square_zero (p.y -ℤ p.n *ℤ a.centre.y) (omega (arith, linear, none, square_from_zero (p.x -ℤ p.n *ℤ a.centre.x), square_from_zero (p.y -ℤ p.n *ℤ a.centre.y))) in
-        let r : reach_of a.start p ≡ square p.n *ℤ dot_of a.centre a.start a.start = seen p.x p.y p.n a.start.x a.start.y a.centre.x a.centre.y zx zy in
-        let m : (square p.n *ℤ dot_of a.centre a.start a.start) ≤ℤ (square p.n *ℤ outmost a) = times_mono (square p.n) (dot_of a.centre a.start a.start) (outmost a) (square_from_zero p.n) (start_under a) in
-        rw (square_two (reach_of a.start p)) (omega (arith, linear, r, m, square_two (square p.n *ℤ outmost a), l))
+    zeros : (p.x -ℤ p.n *ℤ a.centre.x ≡ pos 0) × (p.y -ℤ p.n *ℤ a.centre.y ≡ pos 0)
+    zeros = norm_none (p.x -ℤ p.n *ℤ a.centre.x) (p.y -ℤ p.n *ℤ a.centre.y) (omega (arith, linear, none))
+
+    r : reach_of a.start p ≡ square p.n *ℤ dot_of a.centre a.start a.start
+    r = seen p.x p.y p.n a.start.x a.start.y a.centre.x a.centre.y zeros.0 zeros.1
       where
         shifted : (x n s c : ℤ) → x -ℤ n *ℤ c ≡ pos 0 → x -ℤ n *ℤ s ≡ neg_ℤ (n *ℤ (s -ℤ c))
         shifted x n s c e = let f : n *ℤ (s -ℤ c) ≡ n *ℤ s -ℤ n *ℤ c = simp ring in omega (arith, linear, e, f)
@@ -485,6 +454,9 @@ from_centre a p none h = by (p.x -ℤ p.n *ℤ a.centre.x) (p.y -ℤ p.n *ℤ a.
           where
             plain : (n x y : ℤ) → square (neg_ℤ (n *ℤ x)) +ℤ square (neg_ℤ (n *ℤ y)) ≡ square n *ℤ (x *ℤ x +ℤ y *ℤ y)
             plain n x y = simp ring (omega (arith, linear))
+
+    m : (square p.n *ℤ dot_of a.centre a.start a.start) ≤ℤ (square p.n *ℤ outmost a)
+    m = times_mono (square p.n) (dot_of a.centre a.start a.start) (outmost a) (square_from_zero p.n) (start_under a)
 
 -- a place of the turn in the direction of p, at a distance between low and high
 along_turn : (a : Arc) (k : ℤ) (p : Point) (low high d : ℤ) → pos 1 ≤ℤ k → pos 0 ≤ℤ low → low ≤ℤ high → inmost a ≤ℤ low → high ≤ℤ outmost a → reach_of a.centre p ≡ d → pos 1 ≤ℤ d → InTurn a.centre a.start a.end p → InRing (pos 2) (pos a.width) a.centre high low p → HasPlace a k p

@@ -1,10 +1,11 @@
 -- The least and the greatest distance that a curve of an arc may have.
-use Rattle.std.proofs.Common.{◌≡◌, inl, inr, ℕ, ◌+◌, ◌-◌, ◌*◌, ◌/◌, ◌≤◌, negsuc, Bool, true, false, if◌then◌else◌, ℤ, pos, int_lt, unsigned_abs, FitsSigned, to_z, of_z, to_z-of_z, ◌+ℤ◌, ◌-ℤ◌, ◌*ℤ◌, ◌≤ℤ◌, ◌<ℤ◌, arith, refl, sym, ap, ◌∙◌}
+use Rattle.std.proofs.Common.{◌≡◌, ℕ, ◌+◌, ◌-◌, ◌*◌, ◌/◌, ◌≤◌, negsuc, Bool, true, false, if◌then◌else◌, ℤ, pos, int_lt, unsigned_abs, FitsSigned, to_z, of_z, to_z-of_z, ◌+ℤ◌, ◌-ℤ◌, ◌*ℤ◌, ◌≤ℤ◌, ◌<ℤ◌, arith, refl, sym, ap, ◌∙◌}
 use Rattle.std.specs.Int.{w128}
 use Rattle.std.proofs.lemmas.Int.{ints, clamps}
-use Rattle.std.specs.Int.{int_max}
+use Rattle.std.specs.Int.{int_max, int_min}
 use Rattle.planar.specs.Plane.{dot_of}
-use Rattle.planar.proofs.Ring.{ring, linear, le_or_lt, mul_comm, square_from_zero, square_zero, times_from_zero, times-zero}
+use Rattle.planar.proofs.Ring.{ring, linear, mul_comm, times_from_zero, times-zero, zero-times}
+use Rattle.arcs.proofs.Vectors.{norm_some}
 use Rattle.planar.proofs.SpotWithin.{whole_from_zero}
 use Rattle.arcs.specs.declared.Arc.{Arc}
 use Rattle.arcs.specs.Copper.{apart, greater, inmost, lesser, outmost, spread, swing, times, unlike}
@@ -32,7 +33,7 @@ spread_none a h = ap (λ (b : Bool). if b then unlike a *ℤ pos (times a) else 
 
 -- ends on two sides of the centre's line are two spots
 pub apart_some : (a : Arc) → swing a <ℤ pos 0 → pos 1 ≤ℤ apart a
-apart_some a way = elim (le_or_lt (pos 1) (apart a)) [ inl l ↦ l | inr g ↦ absurd (none g) ]
+apart_some a way = norm_some (a.end.x -ℤ a.start.x) (a.end.y -ℤ a.start.y) none
   where
     crossed : (ux uy sx sy ex ey cx cy : ℤ) → ux ≡ sx -ℤ cx → uy ≡ sy -ℤ cy → ux *ℤ (ey -ℤ cy) -ℤ uy *ℤ (ex -ℤ cx) ≡ ux *ℤ (ey -ℤ sy) -ℤ uy *ℤ (ex -ℤ sx)
     crossed ux uy sx sy ex ey cx cy hx hy =
@@ -40,11 +41,8 @@ apart_some a way = elim (le_or_lt (pos 1) (apart a)) [ inl l ↦ l | inr g ↦ a
         let f : ux *ℤ (sy -ℤ cy) -ℤ uy *ℤ (sx -ℤ cx) ≡ pos 0 = rw (← hx, ← hy) (omega (arith, linear, mul_comm ux uy)) in
         omega (arith, linear, e, f)
 
-    none : apart a <ℤ pos 1 → ⊥
-    none g =
-        let fx = square_from_zero (a.end.x -ℤ a.start.x) in let fy = square_from_zero (a.end.y -ℤ a.start.y) in
-        let zx : a.end.x -ℤ a.start.x ≡ pos 0 = square_zero (a.end.x -ℤ a.start.x) (omega (arith, linear, g, fx, fy)) in
-        let zy : a.end.y -ℤ a.start.y ≡ pos 0 = square_zero (a.end.y -ℤ a.start.y) (omega (arith, linear, g, fx, fy)) in
+    none : a.end.x -ℤ a.start.x ≡ pos 0 → a.end.y -ℤ a.start.y ≡ pos 0 → ⊥
+    none zx zy =
         let id : swing a ≡ (a.start.x -ℤ a.centre.x) *ℤ (a.end.y -ℤ a.start.y) -ℤ (a.start.y -ℤ a.centre.y) *ℤ (a.end.x -ℤ a.start.x) = crossed (a.start.x -ℤ a.centre.x) (a.start.y -ℤ a.centre.y) a.start.x a.start.y a.end.x a.end.y a.centre.x a.centre.y refl refl in
         let z : swing a ≡ (a.start.x -ℤ a.centre.x) *ℤ pos 0 -ℤ (a.start.y -ℤ a.centre.y) *ℤ pos 0 = rw (zx, zy) at id in
         omega (arith, linear, z, way, times-zero (a.start.x -ℤ a.centre.x), times-zero (a.start.y -ℤ a.centre.y))
@@ -88,3 +86,38 @@ over_outmost a z h = by (greater a) (spread a) z (omega (arith, ints, clamps, wh
   where
     by : (g s z : ℤ) → pos 0 ≤ℤ g → z ≤ℤ s → z ≤ℤ (g +ℤ s)
     by g s z hg hz = omega (arith, ints, hg, hz)
+
+-- ---- ends at one distance: a curve has no other
+
+module _ (a : Arc) (same : unlike a ≡ pos 0) where
+  pub end_is : dot_of a.centre a.end a.end ≡ dot_of a.centre a.start a.start
+  end_is = by (dot_of a.centre a.start a.start) (dot_of a.centre a.end a.end) same
+    where
+      by : (s e : ℤ) → int_max s e -ℤ int_min s e ≡ pos 0 → e ≡ s
+      by s e o = omega (arith, ints, clamps, o)
+
+  no_spread : spread a ≡ pos 0
+  no_spread = none (int_lt (swing a) (pos 0)) (unlike a) (pos (times a)) same
+    where
+      none : (b : Bool) (u t : ℤ) → u ≡ pos 0 → (if b then u *ℤ t else pos 0) ≡ pos 0
+      none true u t e = rw e (zero-times t)
+      none false u t e = refl
+
+  pub inmost_is : inmost a ≡ dot_of a.centre a.start a.start
+  inmost_is = by (dot_of a.centre a.start a.start) (dot_of a.centre a.end a.end) (spread a) no_spread same (whole_from_zero a.centre a.start)
+    where
+      by : (s e d : ℤ) → d ≡ pos 0 → int_max s e -ℤ int_min s e ≡ pos 0 → pos 0 ≤ℤ s → int_max (int_min s e -ℤ d) (pos 0) ≡ s
+      by s e d z o from = omega (arith, ints, clamps, z, o, from)
+
+  pub outmost_is : outmost a ≡ dot_of a.centre a.start a.start
+  outmost_is = by (dot_of a.centre a.start a.start) (dot_of a.centre a.end a.end) (spread a) no_spread same
+    where
+      by : (s e d : ℤ) → d ≡ pos 0 → int_max s e -ℤ int_min s e ≡ pos 0 → (int_max s e +ℤ d) ≡ s
+      by s e d z o = omega (arith, ints, clamps, z, o)
+
+-- equal squares are one distance
+pub unlike_none : (a : Arc) → dot_of a.centre a.start a.start ≡ dot_of a.centre a.end a.end → unlike a ≡ pos 0
+unlike_none a even = by (dot_of a.centre a.start a.start) (dot_of a.centre a.end a.end) even
+  where
+    by : (u v : ℤ) → u ≡ v → int_max u v -ℤ int_min u v ≡ pos 0
+    by u v h = omega (arith, ints, clamps)

@@ -1,5 +1,5 @@
 -- What the code's numbers and answers tell.
-use Rattle.std.proofs.Common.{◌≡◌, ◌↔◌, Bool, IsTrue, sym, Option, Some, None, SomeIff, ◌<◌, ◌^◌, ℕ, negsuc, ℤ, pos, ◌+◌, ◌*◌, ◌≤◌, ◌*ℤ◌, ◌≤ℤ◌, ◌<ℤ◌, unsigned_abs, FitsSigned, to_z, of_z, to_z-of_z, arith, ap, ◌∙◌}
+use Rattle.std.proofs.Common.{◌≡◌, ◌↔◌, ◌⊎◌, inl, inr, Bool, IsTrue, sym, Option, Some, None, SomeIff, ◌<◌, ◌^◌, ℕ, negsuc, ℤ, pos, ◌+◌, ◌*◌, ◌≤◌, ◌+ℤ◌, ◌*ℤ◌, ◌≤ℤ◌, ◌<ℤ◌, unsigned_abs, FitsSigned, to_z, of_z, to_z-of_z, arith, ap, ◌∙◌}
 use Rattle.std.proofs.lemmas.Int.{ints}
 use Rattle.std.specs.Int.{w128}
 use Rattle.planar.specs.Plane.{square}
@@ -8,6 +8,23 @@ use Rattle.arcs.specs.Chains.{HasRoom, IsHeld}
 from_abs : (n : ℕ) (z : ℤ) → pos 0 ≤ℤ z → n ≡ unsigned_abs z → z ≡ pos n
 from_abs n (pos m) h e = ap pos (sym e)
 from_abs n (negsuc m) h e = absurd (omega (arith, ints, h))
+
+pub meant_read : (u d k : ℕ) (z swing unlike apart : ℤ) (t : Bool) → z ≡ swing → FitsSigned w128 z → k ≡ unsigned_abs (to_z w128 (of_z w128 z)) → pos u ≡ unlike → pos d ≡ apart → IsTrue t ↔ ((k ≡ 0) ⊎ ((u ≤ d) ⊎ (u ≤ k + k)))
+    → IsTrue t ↔ ((swing ≡ pos 0) ⊎ ((unlike ≤ℤ apart) ⊎ (unlike ≤ℤ (pos (unsigned_abs swing) +ℤ pos (unsigned_abs swing)))))
+meant_read u d k z swing unlike apart t same fits e is far told = rw (← is, ← far) (λ yes. to (told.0 yes), λ h. told.1 (of h))
+  where
+    kk : k ≡ unsigned_abs swing
+    kk = e ∙ ap unsigned_abs (to_z-of_z fits) ∙ ap unsigned_abs same
+
+    to : (k ≡ 0) ⊎ ((u ≤ d) ⊎ (u ≤ k + k)) → (swing ≡ pos 0) ⊎ ((pos u ≤ℤ pos d) ⊎ (pos u ≤ℤ (pos (unsigned_abs swing) +ℤ pos (unsigned_abs swing))))
+    to (inl h) = inl (omega (arith, ints, kk, h))
+    to (inr (inl h)) = inr (inl (omega (arith, ints, h)))
+    to (inr (inr h)) = inr (inr (omega (arith, ints, kk, h)))
+
+    of : (swing ≡ pos 0) ⊎ ((pos u ≤ℤ pos d) ⊎ (pos u ≤ℤ (pos (unsigned_abs swing) +ℤ pos (unsigned_abs swing)))) → (k ≡ 0) ⊎ ((u ≤ d) ⊎ (u ≤ k + k))
+    of (inl h) = inl (omega (arith, ints, kk, h))
+    of (inr (inl h)) = inr (inl (omega (arith, ints, h)))
+    of (inr (inr h)) = inr (inr (omega (arith, ints, kk, h)))
 
 pub line_read : (near whole off : ℕ) (d k whole_is off_is : ℤ) (t : Bool) → d ≡ whole_is → k ≡ off_is → pos 0 ≤ℤ d → pos 1 ≤ℤ k → FitsSigned w128 d → FitsSigned w128 k → whole ≡ unsigned_abs (to_z w128 (of_z w128 d)) → off ≡ unsigned_abs (to_z w128 (of_z w128 k))
     → IsTrue t ↔ ((near * near * whole ≤ off * off) × (near * near * whole < 2 ^ 128)) → IsTrue t ↔ ((pos 1 ≤ℤ off_is) × ((square (pos near) *ℤ whole_is) ≤ℤ square off_is) × ((square (pos near) *ℤ whole_is) <ℤ pos (2 ^ 128)))

@@ -1,15 +1,14 @@
 -- Chains that the checks take.
-use Rattle.std.proofs.Common.{◌≡◌, ◌↔◌, ◌∙◌, Bool, false, IsTrue, sym, subst, ap, length, [], ℕ, ◌+◌, ◌-◌, ◌/◌, ◌≤◌, ℤ, pos, ◌*ℤ◌, ◌≤ℤ◌, List, ◌∷◌, arith}
+use Rattle.std.proofs.Common.{◌≡◌, ◌↔◌, ◌∙◌, All, Bool, false, IsTrue, Option, None, Some, refl, sym, subst, ap, length, [], ℕ, ◌+◌, ◌-◌, ◌/◌, ◌≤◌, ℤ, pos, ◌*ℤ◌, ◌≤ℤ◌, List, ◌∷◌, arith}
 use Rattle.std.proofs.lemmas.Int.{ints}
-use Rattle.std.specs.Bool.{⊤}
 use Rattle.planar.specs.declared.Spot.{Spot}
-use Rattle.planar.specs.Plane.{Point, dot_of, square}
+use Rattle.planar.specs.Plane.{IsPlaced, Point, dot_of, square}
 use Rattle.planar.proofs.Ring.{linear, square_mono, times_mono_right}
 use Rattle.planar.proofs.SpotWithin.{whole_from_zero}
 use Rattle.arcs.specs.declared.Arc.{Arc}
-use Rattle.arcs.specs.Chains.{EachFrom, EndsAt, IsChord, IsInner, IsLink, IsWidest}
-use Rattle.arcs.specs.Copper.{InChain, Possibly, Surely, inmost, outmost}
-use Rattle.arcs.specs.Taken.{IsJudged, TakenAbove, TakenBelow}
+use Rattle.arcs.specs.Chains.{EachFrom, EachIn, HasRoom, IsChord, IsInner, IsLink, IsRing, IsWidest, Leads}
+use Rattle.arcs.specs.Copper.{InChain, IsMeant, Possibly, Surely, inmost, outmost}
+use Rattle.arcs.specs.Taken.{IsJudged, IsPlacedArc, IsRingFor, TakenAbove, TakenBelow}
 use Rattle.arcs.proofs.Chain.{below_read}
 use Rattle.arcs.proofs.Closed.{above_read}
 
@@ -55,57 +54,43 @@ no_true t = cc
 pub refused : (X : Type 0) → (X → ⊥) → IsTrue false ↔ X
 refused X not = (λ t. absurd (no_true t), λ x. absurd (not x))
 
-abbrev EachIn : (Spot → Spot → Type 0) → List Spot → Type 0
-EachIn P [] = ⊤
-EachIn P (a ∷ rest) = EachFrom P a rest
-
-abbrev EndsIn : Spot → List Spot → Type 0
-EndsIn e [] = ⊤
-EndsIn e (a ∷ rest) = EndsAt e a rest
+pub ring_read : (arc : Arc) (chain : List Spot) (k : ℤ) (ring : Option (ℕ × ℕ)) → IsMeant arc → IsPlacedArc arc → All IsPlaced chain → IsRing ring (inmost arc) (outmost arc) k → IsRingFor ring arc chain k
+ring_read arc chain k None meant placed spots h = λ j. omega (arith, linear, h, j.fits)
+ring_read arc chain k (Some ring) meant placed spots h = (record { meant = meant; placed = placed; spots = spots; fits = h.0 }, h.1)
 
 module _ (arc : Arc) (chain : List Spot) (r near far : ℕ) (judged : IsJudged arc chain) (b : Bool) where
-  pub below_decided : (first : Spot) (rest : List Spot) → r + r ≤ arc.width → IsWidest (inmost arc) (outmost arc) (pos near) (pos far) (pos (arc.width / 2 - r)) → chain ≡ first ∷ rest
-      → IsTrue b ↔ EachFrom (IsInner arc.centre arc.start arc.end (pos near) (pos far)) first rest → IsTrue b ↔ TakenBelow arc chain r
-  below_decided first rest pen wide is told = (
-    λ yes. record {
-      judged = judged;
-      pen = pen;
-      near = pos near;
-      far = pos far;
-      room = wide.room;
-      first = first;
-      rest = rest;
-      is = is;
-      links = told.0 yes;
-    },
-    λ t. told.1 (found t),
-  )
-    where
-      found : TakenBelow arc chain r → EachFrom (IsInner arc.centre arc.start arc.end (pos near) (pos far)) first rest
-      found t = each_as (IsInner arc.centre arc.start arc.end t.near t.far) (IsInner arc.centre arc.start arc.end (pos near) (pos far))
-          (λ a d inner. (wider arc.centre (pos near) (pos far) t.near t.far (omega (arith, ints)) t.room.room.far_from (wide.nearest t.near t.far t.room) (wide.furthest t.near t.far t.room) a d inner.0, inner.1)) first rest
-          (subst (λ (xs : List Spot). EachIn (IsInner arc.centre arc.start arc.end t.near t.far) xs) (sym t.is ∙ is) t.links)
+  -- a chord of another ring is one of the widest
+  widest : (k n f : ℤ) → IsWidest (inmost arc) (outmost arc) (pos near) (pos far) k → HasRoom (inmost arc) (outmost arc) n f k → (a d : Spot) → IsLink arc.centre n f a d → IsLink arc.centre (pos near) (pos far) a d
+  widest k n f wide room = wider arc.centre (pos near) (pos far) n f (omega (arith, ints)) room.room.far_from (wide.nearest n f room) (wide.furthest n f room)
 
-  pub above_decided : (rest : List Spot) → arc.width ≤ r + r → 2 ≤ length chain → IsWidest (inmost arc) (outmost arc) (pos near) (pos far) (pos (r - (arc.width - arc.width / 2))) → chain ≡ arc.start ∷ rest
-      → IsTrue b ↔ (EachFrom (IsLink arc.centre (pos near) (pos far)) arc.start rest × EndsAt arc.end arc.start rest) → IsTrue b ↔ TakenAbove arc chain r
-  above_decided [] pen two wide is told = let n : length chain ≡ 1 = ap length is in absurd (omega (arith, n, two))
-  above_decided (second ∷ rest) pen two wide is told = (
-    λ yes. record {
-      judged = judged;
-      pen = pen;
-      near = pos near;
-      far = pos far;
-      room = wide.room;
-      second = second;
-      rest = rest;
-      is = is;
-      links = (told.0 yes).0;
-      ends = (told.0 yes).1;
-    },
-    λ t. told.1 (found t, subst (λ (xs : List Spot). EndsIn arc.end xs) (sym t.is ∙ is) t.ends),
-  )
+  pub below_decided : IsWidest (inmost arc) (outmost arc) (pos near) (pos far) (pos (arc.width / 2 - r)) → r + r ≤ arc.width → IsTrue b ↔ EachIn (IsInner arc.centre arc.start arc.end (pos near) (pos far)) chain → IsTrue b ↔ TakenBelow arc chain r
+  below_decided wide pen told = (λ yes. by chain refl (told.0 yes), λ t. told.1 (subst (EachIn (IsInner arc.centre arc.start arc.end (pos near) (pos far))) (sym t.is) (found t)))
     where
-      found : TakenAbove arc chain r → EachFrom (IsLink arc.centre (pos near) (pos far)) arc.start (second ∷ rest)
-      found t = each_as (IsLink arc.centre t.near t.far) (IsLink arc.centre (pos near) (pos far))
-          (wider arc.centre (pos near) (pos far) t.near t.far (omega (arith, ints)) t.room.room.far_from (wide.nearest t.near t.far t.room) (wide.furthest t.near t.far t.room)) arc.start (second ∷ rest)
-          (subst (λ (xs : List Spot). EachIn (IsLink arc.centre t.near t.far) xs) (sym t.is ∙ is) t.links)
+      by : (spots : List Spot) → chain ≡ spots → EachIn (IsInner arc.centre arc.start arc.end (pos near) (pos far)) spots → TakenBelow arc chain r
+      by [] is none = absurd none
+      by (first ∷ rest) is links = record { judged = judged; pen = pen; near = pos near; far = pos far; room = wide.room; first = first; rest = rest; is = is; links = links }
+
+      found : (t : TakenBelow arc chain r) → EachFrom (IsInner arc.centre arc.start arc.end (pos near) (pos far)) t.first t.rest
+      found t = each_as (IsInner arc.centre arc.start arc.end t.near t.far) (IsInner arc.centre arc.start arc.end (pos near) (pos far)) (λ a d inner. (widest (pos (arc.width / 2 - r)) t.near t.far wide t.room a d inner.0, inner.1)) t.first t.rest t.links
+
+  pub above_decided : IsWidest (inmost arc) (outmost arc) (pos near) (pos far) (pos (r - (arc.width - arc.width / 2))) → arc.width ≤ r + r → 2 ≤ length chain → IsTrue b ↔ Leads (IsLink arc.centre (pos near) (pos far)) arc.start arc.end chain → IsTrue b ↔ TakenAbove arc chain r
+  above_decided wide pen two told = (λ yes. by chain refl two (told.0 yes), λ t. told.1 (subst (Leads (IsLink arc.centre (pos near) (pos far)) arc.start arc.end) (sym t.is) (refl, found t, t.ends)))
+    where
+      by : (spots : List Spot) → chain ≡ spots → 2 ≤ length spots → Leads (IsLink arc.centre (pos near) (pos far)) arc.start arc.end spots → TakenAbove arc chain r
+      by [] is two leads = absurd leads
+      by (a ∷ []) is two leads = absurd (omega arith)
+      by (a ∷ second ∷ rest) is two leads = record {
+        judged = judged;
+        pen = pen;
+        near = pos near;
+        far = pos far;
+        room = wide.room;
+        second = second;
+        rest = rest;
+        is = is ∙ ap (λ (z : Spot). z ∷ second ∷ rest) leads.0;
+        links = subst (λ (z : Spot). EachFrom (IsLink arc.centre (pos near) (pos far)) z (second ∷ rest)) leads.0 leads.1;
+        ends = leads.2;
+      }
+
+      found : (t : TakenAbove arc chain r) → EachFrom (IsLink arc.centre (pos near) (pos far)) arc.start (t.second ∷ t.rest)
+      found t = each_as (IsLink arc.centre t.near t.far) (IsLink arc.centre (pos near) (pos far)) (widest (pos (r - (arc.width - arc.width / 2))) t.near t.far wide t.room) arc.start (t.second ∷ t.rest) t.links

@@ -2,7 +2,7 @@
 use Rattle.std.proofs.Common.{◌≡◌, ◌⊎◌, inl, inr, ℤ, pos, neg_ℤ, ◌+ℤ◌, ◌-ℤ◌, ◌*ℤ◌, ◌≤ℤ◌, ◌<ℤ◌, arith, refl, sym, ◌∙◌}
 use Rattle.planar.specs.declared.Spot.{Spot}
 use Rattle.planar.specs.Plane.{InCapsule, Point, cross_of, square}
-use Rattle.planar.proofs.Ring.{ring, linear, mul_assoc, le_or_lt, times_from_zero, square_from_zero, square_mono, square_cancel, times_mono, times_cancel, times-zero, zero-times}
+use Rattle.planar.proofs.Ring.{ring, linear, mul_assoc, le_or_lt, times_from_zero, square_from_zero, square_mono, square_cancel, times_mono, times_cancel, one-times, times-one, times-zero, zero-times}
 use Rattle.arcs.specs.Copper.{AtMostLonger, side_of}
 use Rattle.arcs.proofs.Whole.{ChordHoldsRing, IsNear}
 use Rattle.arcs.specs.Chains.{IsRoom}
@@ -64,10 +64,10 @@ module _ (w k : ℤ) (hw : pos 0 ≤ℤ w) (low high least most near far : ℤ) 
 -- ---- the place of the chord in a direction
 
 -- x times the cross product of a and b, by both
-spread_x : (ax ay bx by x y : ℤ) → place ((ax *ℤ y -ℤ ay *ℤ x) -ℤ (bx *ℤ y -ℤ by *ℤ x)) (ax *ℤ y -ℤ ay *ℤ x) ax bx ≡ (ax *ℤ by -ℤ ay *ℤ bx) *ℤ x
+pub spread_x : (ax ay bx by x y : ℤ) → place ((ax *ℤ y -ℤ ay *ℤ x) -ℤ (bx *ℤ y -ℤ by *ℤ x)) (ax *ℤ y -ℤ ay *ℤ x) ax bx ≡ (ax *ℤ by -ℤ ay *ℤ bx) *ℤ x
 spread_x ax ay bx by x y = simp ring (omega (arith, linear))
 
-spread_y : (ax ay bx by x y : ℤ) → place ((ax *ℤ y -ℤ ay *ℤ x) -ℤ (bx *ℤ y -ℤ by *ℤ x)) (ax *ℤ y -ℤ ay *ℤ x) ay by ≡ (ax *ℤ by -ℤ ay *ℤ bx) *ℤ y
+pub spread_y : (ax ay bx by x y : ℤ) → place ((ax *ℤ y -ℤ ay *ℤ x) -ℤ (bx *ℤ y -ℤ by *ℤ x)) (ax *ℤ y -ℤ ay *ℤ x) ay by ≡ (ax *ℤ by -ℤ ay *ℤ bx) *ℤ y
 spread_y ax ay bx by x y = simp ring (omega (arith, linear))
 
 on_line : (n m k x y : ℤ) → (n *ℤ (k *ℤ x)) *ℤ (m *ℤ y) -ℤ (n *ℤ (k *ℤ y)) *ℤ (m *ℤ x) ≡ pos 0
@@ -92,37 +92,23 @@ none_left k x some h =
     omega (arith, linear, over, under)
 
 -- a point at most r from an end lies in the capsule
-pub by_start : (a b : Spot) (r : ℤ) (p : Point) → IsNear r a p → InCapsule a b r p
-by_start a b r p h = record {
-  i = pos 0;
-  m = pos 1;
-  from_start = record { le = tt };
-  to_end = record { le = tt };
-  positive = record { le = tt };
-  near = rw (first p.x p.n a.x b.x, first p.y p.n a.y b.y, once p.n r) h;
-}
+by_place : (i : ℤ) (a b s : Spot) → pos 0 ≤ℤ i → i ≤ℤ pos 1 → a.x +ℤ i *ℤ (b.x -ℤ a.x) ≡ s.x → a.y +ℤ i *ℤ (b.y -ℤ a.y) ≡ s.y → (r : ℤ) (p : Point) → IsNear r s p → InCapsule a b r p
+by_place i a b s from to ex ey r p h = record { i = i; m = pos 1; from_start = from; to_end = to; positive = record { le = tt }; near = rw (there p.x p.n a.x b.x s.x ex, there p.y p.n a.y b.y s.y ey, times-one p.n) h }
   where
-    first : (x n a b : ℤ) → pos 1 *ℤ x -ℤ n *ℤ (pos 1 *ℤ a +ℤ pos 0 *ℤ (b -ℤ a)) ≡ x -ℤ n *ℤ a
-    first x n a b = simp ring (omega (arith, linear))
+    there : (x n a b s : ℤ) → a +ℤ i *ℤ (b -ℤ a) ≡ s → pos 1 *ℤ x -ℤ n *ℤ (pos 1 *ℤ a +ℤ i *ℤ (b -ℤ a)) ≡ x -ℤ n *ℤ s
+    there x n a b s e = rw (one-times x, one-times a, e) refl
 
-    once : (n r : ℤ) → n *ℤ pos 1 *ℤ r ≡ n *ℤ r
-    once n r = simp ring
+pub by_start : (a b : Spot) (r : ℤ) (p : Point) → IsNear r a p → InCapsule a b r p
+by_start a b r p h = by_place (pos 0) a b a record { le = tt } record { le = tt } (here a.x b.x) (here a.y b.y) r p h
+  where
+    here : (a b : ℤ) → a +ℤ pos 0 *ℤ (b -ℤ a) ≡ a
+    here a b = omega (arith, linear, zero-times (b -ℤ a))
 
 pub by_end : (a b : Spot) (r : ℤ) (p : Point) → IsNear r b p → InCapsule a b r p
-by_end a b r p h = record {
-  i = pos 1;
-  m = pos 1;
-  from_start = record { le = tt };
-  to_end = record { le = tt };
-  positive = record { le = tt };
-  near = rw (last p.x p.n a.x b.x, last p.y p.n a.y b.y, once p.n r) h;
-}
+by_end a b r p h = by_place (pos 1) a b b record { le = tt } record { le = tt } (here a.x b.x) (here a.y b.y) r p h
   where
-    last : (x n a b : ℤ) → pos 1 *ℤ x -ℤ n *ℤ (pos 1 *ℤ a +ℤ pos 1 *ℤ (b -ℤ a)) ≡ x -ℤ n *ℤ b
-    last x n a b = simp ring (omega (arith, linear))
-
-    once : (n r : ℤ) → n *ℤ pos 1 *ℤ r ≡ n *ℤ r
-    once n r = simp ring
+    here : (a b : ℤ) → a +ℤ pos 1 *ℤ (b -ℤ a) ≡ b
+    here a b = omega (arith, linear, one-times (b -ℤ a))
 
 -- c itself is not further from a spot than the spot from c
 from_centre : (x y n ax ay cx cy far r : ℤ) → pos 1 ≤ℤ n → pos 0 ≤ℤ far → far ≤ℤ r → x -ℤ n *ℤ cx ≡ pos 0 → y -ℤ n *ℤ cy ≡ pos 0 → norm (ax -ℤ cx) (ay -ℤ cy) ≤ℤ square far → norm (x -ℤ n *ℤ ax) (y -ℤ n *ℤ ay) ≤ℤ square (n *ℤ r)
@@ -137,7 +123,7 @@ from_centre x y n ax ay cx cy far r some hf l hx hy h =
 nothing_left : (m i a b : ℤ) → m ≡ pos 0 → i ≡ pos 0 → place m i a b ≡ pos 0
 nothing_left m i a b h k = rw (h, k) (omega (arith, linear, zero-times a, zero-times (b -ℤ a)))
 
-sum : (n m s t : ℤ) → m *ℤ (n *ℤ (s +ℤ t)) ≡ n *ℤ (m *ℤ s) +ℤ n *ℤ m *ℤ t
+pub sum : (n m s t : ℤ) → m *ℤ (n *ℤ (s +ℤ t)) ≡ n *ℤ (m *ℤ s) +ℤ n *ℤ m *ℤ t
 sum n m s t = simp ring (omega (arith, linear))
 
 difference : (n m s t : ℤ) → m *ℤ (n *ℤ (s -ℤ t)) ≡ n *ℤ (m *ℤ s) -ℤ n *ℤ m *ℤ t

@@ -1,7 +1,7 @@
 -- Lengths of sums of vectors, told by squares.
 use Rattle.std.proofs.Common.{◌≡◌, inl, inr, ℤ, pos, ◌+ℤ◌, ◌-ℤ◌, ◌*ℤ◌, ◌≤ℤ◌, arith}
 use Rattle.planar.specs.Plane.{square}
-use Rattle.planar.proofs.Ring.{ring, linear, mul_assoc, le_or_lt, times_from_zero, square_from_zero, times_mono, times_cancel, square_cancel}
+use Rattle.planar.proofs.Ring.{ring, linear, mul_assoc, le_or_lt, times_from_zero, square_from_zero, times_mono, times_cancel, square_cancel, square_zero}
 
 -- the square of a vector's length
 abbrev pub norm : ℤ → ℤ → ℤ
@@ -9,6 +9,13 @@ norm x y = square x +ℤ square y
 
 pub norm_from_zero : (x y : ℤ) → pos 0 ≤ℤ norm x y
 norm_from_zero x y = omega (arith, linear, square_from_zero x, square_from_zero y)
+
+-- a vector without length is none
+pub norm_none : (x y : ℤ) → norm x y ≤ℤ pos 0 → (x ≡ pos 0) × (y ≡ pos 0)
+norm_none x y h = (square_zero x (omega (arith, linear, h, square_from_zero y)), square_zero y (omega (arith, linear, h, square_from_zero x)))
+
+pub norm_some : (x y : ℤ) → (x ≡ pos 0 → y ≡ pos 0 → ⊥) → pos 1 ≤ℤ norm x y
+norm_some x y some = elim (le_or_lt (pos 1) (norm x y)) [ inl l ↦ l | inr g ↦ (let z = norm_none x y (omega (arith, linear, g)) in absurd (some z.0 z.1)) ]
 
 pub lagrange : (px py qx qy : ℤ) → square (px *ℤ qx +ℤ py *ℤ qy) +ℤ square (px *ℤ qy -ℤ py *ℤ qx) ≡ norm px py *ℤ norm qx qy
 lagrange px py qx qy = simp ring (omega (arith, linear))
@@ -48,7 +55,7 @@ part_over px py qx qy r s hr hs k h = elim (le_or_lt (square r) (norm px py)) [
 
 -- ---- scaling
 
-norm_scaled : (m px py : ℤ) → norm (m *ℤ px) (m *ℤ py) ≡ square m *ℤ norm px py
+pub norm_scaled : (m px py : ℤ) → norm (m *ℤ px) (m *ℤ py) ≡ square m *ℤ norm px py
 norm_scaled m px py = simp ring (omega (arith, linear))
 
 pub square_scaled : (m q : ℤ) → square (m *ℤ q) ≡ square m *ℤ square q

@@ -3,6 +3,7 @@ use Rattle.std.proofs.Common.{◌≡◌, ◌⊎◌, inl, inr, ℤ, pos, ◌+ℤ�
 use Rattle.planar.specs.declared.Spot.{Spot}
 use Rattle.planar.specs.Plane.{InCapsule, Point, dot_of, square}
 use Rattle.planar.proofs.Ring.{ring, linear, le_or_lt, times_from_zero, square_from_zero, square_mono, times_mono, times_cancel, over_zero}
+use Rattle.arcs.proofs.Vectors.{square_scaled}
 use Rattle.arcs.specs.Copper.{AtMostLonger, InTurn, reach_of, side_of}
 use Rattle.arcs.specs.Copper.{InRing as InRingBy, IsNear as IsNearBy}
 use Rattle.arcs.specs.Chains.{InTurnBoth, IsChord, IsRoom}
@@ -43,9 +44,6 @@ ChordBelow = (c s e a b : Spot) (low high least most near far k v : ℤ) (p : Po
     → InCapsule a b v p → (InTurn c s e p × InRing (v +ℤ k) c high low p) ⊎ (IsNear (v +ℤ k) s p ⊎ IsNear (v +ℤ k) e p)
 
 -- ---- a radius d/m in place of w
-
-square_scaled : (m w : ℤ) → square (m *ℤ w) ≡ square m *ℤ square w
-square_scaled m w = simp ring
 
 longer_scaled : (m w a b : ℤ) → square m *ℤ a -ℤ square m *ℤ b -ℤ square (m *ℤ w) ≡ square m *ℤ (a -ℤ b -ℤ square w)
 longer_scaled m w a b = simp ring (omega (arith, linear))

@@ -58,6 +58,16 @@ abbrev pub EndsAt : Spot → Spot → List Spot → Type 0
 EndsAt e a [] = a ≡ e
 EndsAt e a (b ∷ rest) = EndsAt e b rest
 
+-- so it is of a list that has a first
+abbrev pub EachIn : (Spot → Spot → Type 0) → List Spot → Type 0
+EachIn P [] = ⊥
+EachIn P (a ∷ rest) = EachFrom P a rest
+
+-- and the list leads from s to e
+abbrev pub Leads : (Spot → Spot → Type 0) → Spot → Spot → List Spot → Type 0
+Leads P s e [] = ⊥
+Leads P s e (a ∷ rest) = (a ≡ s) × EachFrom P a rest × EndsAt e a rest
+
 -- the number; none where it does not fit in 128 bits
 abbrev pub IsHeld : Option ℕ → ℤ → Type 0
 IsHeld None z = pos (2 ^ 128) ≤ℤ z

@@ -1,17 +1,21 @@
 -- Exactly which chains the checks take.
-use Rattle.std.specs.Prelude.{ℕ, ◌+◌, ◌-◌, ◌/◌, ◌≤◌, ℤ, pos, ◌<ℤ◌, ◌≡◌, List, ◌∷◌, All, ◌^◌}
+use Rattle.std.specs.Prelude.{ℕ, Option, None, Some, ◌+◌, ◌-◌, ◌/◌, ◌≤◌, ℤ, pos, ◌<ℤ◌, ◌≡◌, List, ◌∷◌, All, ◌^◌}
 use Rattle.planar.specs.Plane.{IsPlaced}
 use Rattle.planar.specs.declared.Spot.{Spot}
-use Rattle.arcs.specs.Chains.{EachFrom, EndsAt, HasRoom, IsInner, IsLink}
+use Rattle.arcs.specs.Chains.{EachFrom, EndsAt, HasRoom, IsInner, IsLink, IsWidest}
 use Rattle.arcs.specs.Copper.{IsMeant, inmost, outmost}
 use Rattle.arcs.specs.declared.Arc.{Arc}
 
--- the arc is meant, its spots and those of the chain lie within a metre, and the square of the greatest distance that a curve may have has 128 bits
-pub record IsJudged (a : Arc) (chain : List Spot) : Type 0 where
-  pub meant : IsMeant a
+-- the centre and both ends lie within a metre
+pub record IsPlacedArc (a : Arc) : Type 0 where
   pub centre : IsPlaced a.centre
   pub start : IsPlaced a.start
   pub end : IsPlaced a.end
+
+-- so do the spots of the chain, the arc is meant, and the square of the greatest distance that a curve may have has 128 bits
+pub record IsJudged (a : Arc) (chain : List Spot) : Type 0 where
+  pub meant : IsMeant a
+  pub placed : IsPlacedArc a
   pub spots : All IsPlaced chain
   pub fits : outmost a <ℤ pos (2 ^ 128)
 
@@ -39,3 +43,10 @@ pub record TakenAbove (a : Arc) (chain : List Spot) (r : ℕ) : Type 0 where
   pub is : chain ≡ a.start ∷ second ∷ rest
   pub links : EachFrom (IsLink a.centre near far) a.start (second ∷ rest)
   pub ends : EndsAt a.end second rest
+
+-- ---- words that only contracts want
+
+-- the widest distances of chords that are at most k off; none where arc and chain are not judged
+abbrev pub IsRingFor : Option (ℕ × ℕ) → Arc → List Spot → ℤ → Type 0
+IsRingFor None a chain k = ¬ IsJudged a chain
+IsRingFor (Some ring) a chain k = IsJudged a chain × IsWidest (inmost a) (outmost a) (pos ring.0) (pos ring.1) k

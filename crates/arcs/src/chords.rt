@@ -1,8 +1,10 @@
 //! Whether a chord lies in a ring, and a chord in a turn.
-ghost use Rattle.arcs.specs.Chains.{EachFrom, EndsAt, InTurnBoth, IsInner, IsLink, IsMeasured};
+ghost use Rattle.arcs.specs.Chains.{EachFrom, EachIn, EndsAt, InTurnBoth, IsInner, IsLink, IsMeasured, Leads};
+ghost use Rattle.arcs.specs.Taken.{IsPlacedArc};
 ghost use Rattle.planar.specs.Plane.{IsPlaced, cross_of, dot_of, square};
-ghost use Rattle.std.specs.Prelude.{All, IsTrue, length, pos, ◌*◌, ◌<◌, ◌^◌, ◌∷◌, ◌≡◌, ◌↔◌, ◌⊎◌, ◌≤◌, ◌*ℤ◌, ◌<ℤ◌, ◌≤ℤ◌};
+ghost use Rattle.std.specs.Prelude.{All, IsTrue, pos, ◌*◌, ◌<◌, ◌^◌, ◌≡◌, ◌⊎◌, ◌↔◌, ◌≤◌, ◌*ℤ◌, ◌≤ℤ◌};
 
+use super::Arc;
 use planar::{Spot, cross, dot};
 
 /// Whether `squared` is at most the square of `far`.
@@ -63,94 +65,39 @@ pub fn is_chord(c: Spot, near: u128, far: u128, a: Spot, b: Spot) -> bool
     spot_within(c, a, far) && spot_within(c, b, far) && line_over(c, a, b, near)
 }
 
-/// Whether `a` is on the left of the line from `c` through `s`, or on it.
-fn is_left(c: Spot, s: Spot, a: Spot) -> bool
-    requires c_placed { IsPlaced c }
-    requires s_placed { IsPlaced s }
-    requires a_placed { IsPlaced a }
-    ensures { IsTrue result ↔ pos 0 ≤ℤ cross_of c s a }
-{
-    cross(c, s, a) >= 0
+/// Whether a spot is on the left of the line from the centre through the start, and whether on the right of
+/// that through the end. On a line it is on both of its sides.
+#[derive(Clone, Copy)]
+struct Sides {
+    left: bool,
+    right: bool,
 }
 
-/// Whether `a` is on the right of the line from `c` through `e`, or on it.
-fn is_right(c: Spot, e: Spot, a: Spot) -> bool
-    requires c_placed { IsPlaced c }
-    requires e_placed { IsPlaced e }
-    requires a_placed { IsPlaced a }
-    ensures { IsTrue result ↔ cross_of c e a ≤ℤ pos 0 }
+fn sides_of(arc: &Arc, a: Spot) -> Sides
+    requires arc { IsPlacedArc arc.now }
+    requires placed { IsPlaced a }
+    ensures left { IsTrue result.left ↔ pos 0 ≤ℤ cross_of arc.now.centre arc.now.start a }
+    ensures right { IsTrue result.right ↔ cross_of arc.now.centre arc.now.end a ≤ℤ pos 0 }
 {
-    cross(c, e, a) <= 0
+    Sides {
+        left: cross(arc.centre, arc.start, a) >= 0,
+        right: cross(arc.centre, arc.end, a) <= 0,
+    }
 }
 
-/// Whether both spots are on the left of the line from `c` through `s`, or on it.
-fn both_left(c: Spot, s: Spot, a: Spot, b: Spot) -> bool
-    requires c_placed { IsPlaced c }
-    requires s_placed { IsPlaced s }
-    requires a_placed { IsPlaced a }
-    requires b_placed { IsPlaced b }
-    ensures { IsTrue result ↔ (pos 0 ≤ℤ cross_of c s a) × (pos 0 ≤ℤ cross_of c s b) }
+/// Whether both spots lie between the lines.
+fn are_between(a: Sides, b: Sides) -> bool
+    ensures { IsTrue result ↔ ((IsTrue a.left × IsTrue b.left) × (IsTrue a.right × IsTrue b.right)) }
 {
-    is_left(c, s, a) && is_left(c, s, b)
+    (a.left && b.left) && (a.right && b.right)
 }
 
-/// Whether both are on the right of the line from `c` through `e`, or on it.
-fn both_right(c: Spot, e: Spot, a: Spot, b: Spot) -> bool
-    requires c_placed { IsPlaced c }
-    requires e_placed { IsPlaced e }
-    requires a_placed { IsPlaced a }
-    requires b_placed { IsPlaced b }
-    ensures { IsTrue result ↔ (cross_of c e a ≤ℤ pos 0) × (cross_of c e b ≤ℤ pos 0) }
+/// Whether both lie in a turn of more than a half: on the left of the start, on the right of the end, or the
+/// first there and the last here.
+fn are_past(a: Sides, b: Sides) -> bool
+    ensures { IsTrue result ↔ ((IsTrue a.left × IsTrue b.left) ⊎ ((IsTrue a.left ⊎ IsTrue a.right) × IsTrue b.right)) }
 {
-    is_right(c, e, a) && is_right(c, e, b)
-}
-
-/// Whether both lie between the lines.
-fn both_between(c: Spot, s: Spot, e: Spot, a: Spot, b: Spot) -> bool
-    requires c_placed { IsPlaced c }
-    requires s_placed { IsPlaced s }
-    requires e_placed { IsPlaced e }
-    requires a_placed { IsPlaced a }
-    requires b_placed { IsPlaced b }
-    ensures { IsTrue result ↔ ((pos 0 ≤ℤ cross_of c s a) × (pos 0 ≤ℤ cross_of c s b)) × ((cross_of c e a ≤ℤ pos 0) × (cross_of c e b ≤ℤ pos 0)) }
-{
-    both_left(c, s, a, b) && both_right(c, e, a, b)
-}
-
-/// Whether `a` is on the left of `s`, or on the right of `e`, or on one of both.
-fn is_turned(c: Spot, s: Spot, e: Spot, a: Spot) -> bool
-    requires c_placed { IsPlaced c }
-    requires s_placed { IsPlaced s }
-    requires e_placed { IsPlaced e }
-    requires a_placed { IsPlaced a }
-    ensures { IsTrue result ↔ (pos 0 ≤ℤ cross_of c s a) ⊎ (cross_of c e a ≤ℤ pos 0) }
-{
-    is_left(c, s, a) || is_right(c, e, a)
-}
-
-/// Whether `a` is that, and `b` on the right of `e`, or on it.
-fn comes_before(c: Spot, s: Spot, e: Spot, a: Spot, b: Spot) -> bool
-    requires c_placed { IsPlaced c }
-    requires s_placed { IsPlaced s }
-    requires e_placed { IsPlaced e }
-    requires a_placed { IsPlaced a }
-    requires b_placed { IsPlaced b }
-    ensures { IsTrue result ↔ ((pos 0 ≤ℤ cross_of c s a) ⊎ (cross_of c e a ≤ℤ pos 0)) × (cross_of c e b ≤ℤ pos 0) }
-{
-    is_turned(c, s, e, a) && is_right(c, e, b)
-}
-
-/// Whether both lie in a turn of more than a half: on the left of `s`, on the right of `e`, or the one
-/// there and the other here.
-fn both_past(c: Spot, s: Spot, e: Spot, a: Spot, b: Spot) -> bool
-    requires c_placed { IsPlaced c }
-    requires s_placed { IsPlaced s }
-    requires e_placed { IsPlaced e }
-    requires a_placed { IsPlaced a }
-    requires b_placed { IsPlaced b }
-    ensures { IsTrue result ↔ ((pos 0 ≤ℤ cross_of c s a) × (pos 0 ≤ℤ cross_of c s b)) ⊎ (((pos 0 ≤ℤ cross_of c s a) ⊎ (cross_of c e a ≤ℤ pos 0)) × (cross_of c e b ≤ℤ pos 0)) }
-{
-    both_left(c, s, a, b) || comes_before(c, s, e, a, b)
+    a.left && b.left || (a.left || a.right) && b.right
 }
 
 /// Whether the spots are one.
@@ -160,68 +107,48 @@ pub fn is_same(a: Spot, b: Spot) -> bool
     a.x == b.x && a.y == b.y
 }
 
-/// Whether the chord from `a` to `b` lies in the turn from `s` to `e` about `c`. Past a half turn it
-/// may lie on the left of `s`, on the right of `e`, or lead from the one to the other.
-pub fn in_turn(c: Spot, s: Spot, e: Spot, a: Spot, b: Spot) -> bool
-    requires c_placed { IsPlaced c }
-    requires s_placed { IsPlaced s }
-    requires e_placed { IsPlaced e }
+/// Whether the chord from `a` to `b` lies in the turn of the arc. Past a half turn it may lie on the left of
+/// the start, on the right of the end, or lead from the one to the other.
+pub fn in_turn(arc: &Arc, a: Spot, b: Spot) -> bool
+    requires arc { IsPlacedArc arc.now }
     requires a_placed { IsPlaced a }
     requires b_placed { IsPlaced b }
-    ensures { IsTrue result ↔ InTurnBoth c s e a b }
+    ensures { IsTrue result ↔ InTurnBoth arc.now.centre arc.now.start arc.now.end a b }
 {
-    let way = cross(c, s, e);
+    let first = sides_of(arc, a);
+    let last = sides_of(arc, b);
+    let way = cross(arc.centre, arc.start, arc.end);
     if way > 0 {
-        both_between(c, s, e, a, b)
+        are_between(first, last)
     } else if way < 0 {
-        both_past(c, s, e, a, b)
-    } else if dot(c, s, e) < 0 {
-        both_left(c, s, a, b)
+        are_past(first, last)
+    } else if dot(arc.centre, arc.start, arc.end) < 0 {
+        first.left && last.left
     } else {
-        is_same(s, e)
+        is_same(arc.start, arc.end)
     }
 }
 
-/// Whether the link from `a` to `b` is a chord of the ring and lies in the turn.
-fn is_inner(c: Spot, s: Spot, e: Spot, near: u128, far: u128, a: Spot, b: Spot) -> bool
-    requires c_placed { IsPlaced c }
-    requires s_placed { IsPlaced s }
-    requires e_placed { IsPlaced e }
+/// Whether the link from `a` to `b` is a chord of the ring and lies in the turn of the arc.
+fn is_inner(arc: &Arc, near: u128, far: u128, a: Spot, b: Spot) -> bool
+    requires arc { IsPlacedArc arc.now }
     requires a_placed { IsPlaced a }
     requires b_placed { IsPlaced b }
-    ensures { IsTrue result ↔ IsInner c s e (pos near) (pos far) a b }
+    ensures { IsTrue result ↔ IsInner arc.now.centre arc.now.start arc.now.end (pos near) (pos far) a b }
 {
-    is_chord(c, near, far, a, b) && in_turn(c, s, e, a, b)
+    is_chord(arc.centre, near, far, a, b) && in_turn(arc, a, b)
 }
 
-/// The first spot and the others.
-pub fn first_and_rest(chain: &[Spot]) -> (Spot, &[Spot])
-    requires some { 0 < length chain.now }
-    ensures { chain.now ≡ result.0 ∷ result.1.now }
-{
-    (chain[0], &chain[1..])
-}
-
-/// Whether each chord of the chain from `start` lies in the ring and in the turn.
-pub fn chain_inside(
-    c: Spot,
-    s: Spot,
-    e: Spot,
-    near: u128,
-    far: u128,
-    start: Spot,
-    rest: &[Spot],
-) -> bool
-    requires c_placed { IsPlaced c }
-    requires s_placed { IsPlaced s }
-    requires e_placed { IsPlaced e }
+/// Whether each chord of the chain from `start` lies in the ring and in the turn of the arc.
+fn links_inside(arc: &Arc, ring: (u128, u128), start: Spot, rest: &[Spot]) -> bool
+    requires arc { IsPlacedArc arc.now }
     requires start_placed { IsPlaced start }
     requires rest_placed { All IsPlaced rest.now }
-    ensures { IsTrue result ↔ EachFrom (IsInner c s e (pos near) (pos far)) start rest.now }
+    ensures { IsTrue result ↔ EachFrom (IsInner arc.now.centre arc.now.start arc.now.end (pos ring.0) (pos ring.1)) start rest.now }
 {
     let mut from = start;
     for to in rest {
-        if !is_inner(c, s, e, near, far, from, *to) {
+        if !is_inner(arc, ring.0, ring.1, from, *to) {
             return false;
         }
         from = *to;
@@ -229,19 +156,43 @@ pub fn chain_inside(
     true
 }
 
-/// Whether each link of the chain from `start` is a chord of the ring, and its last spot is `end`.
-pub fn chain_round(c: Spot, near: u128, far: u128, start: Spot, rest: &[Spot], end: Spot) -> bool
-    requires c_placed { IsPlaced c }
+/// Whether the chain has a first spot, and each of its chords lies in the ring and in the turn of the arc.
+pub fn chain_inside(arc: &Arc, ring: (u128, u128), chain: &[Spot]) -> bool
+    requires arc { IsPlacedArc arc.now }
+    requires placed { All IsPlaced chain.now }
+    ensures { IsTrue result ↔ EachIn (IsInner arc.now.centre arc.now.start arc.now.end (pos ring.0) (pos ring.1)) chain.now }
+{
+    match chain {
+        [] => false,
+        [first, rest @ ..] => links_inside(arc, ring, *first, rest),
+    }
+}
+
+/// Whether each link of the chain from `start` is a chord of the ring, and its last spot is the end of the arc.
+fn links_round(arc: &Arc, ring: (u128, u128), start: Spot, rest: &[Spot]) -> bool
+    requires arc { IsPlacedArc arc.now }
     requires start_placed { IsPlaced start }
     requires rest_placed { All IsPlaced rest.now }
-    ensures { IsTrue result ↔ EachFrom (IsLink c (pos near) (pos far)) start rest.now × EndsAt end start rest.now }
+    ensures { IsTrue result ↔ (EachFrom (IsLink arc.now.centre (pos ring.0) (pos ring.1)) start rest.now × EndsAt arc.now.end start rest.now) }
 {
     let mut from = start;
     for to in rest {
-        if !is_chord(c, near, far, from, *to) {
+        if !is_chord(arc.centre, ring.0, ring.1, from, *to) {
             return false;
         }
         from = *to;
     }
-    is_same(from, end)
+    is_same(from, arc.end)
+}
+
+/// Whether the chain leads from the start of the arc to its end, and each of its links is a chord of the ring.
+pub fn chain_round(arc: &Arc, ring: (u128, u128), chain: &[Spot]) -> bool
+    requires arc { IsPlacedArc arc.now }
+    requires placed { All IsPlaced chain.now }
+    ensures { IsTrue result ↔ Leads (IsLink arc.now.centre (pos ring.0) (pos ring.1)) arc.now.start arc.now.end chain.now }
+{
+    match chain {
+        [] => false,
+        [first, rest @ ..] => is_same(*first, arc.start) && links_round(arc, ring, *first, rest),
+    }
 }

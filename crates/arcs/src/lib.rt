@@ -3,23 +3,22 @@
 //! A chain of spots with a radius is a row of capsules, each from a spot to the next. Whoever makes a
 //! chain, the checks here say whether its copper lies in that of the arc, or holds it.
 //!
-//! - `above`: whether a chain holds the copper of an arc.
-//! - `below`: whether a chain lies in the copper of every curve of the arc.
+//! - `bounds`: whether a chain lies in the copper of every curve of an arc, and whether it holds that of each.
 //! - `chords`: whether a chord lies in a ring, and a chord in a turn.
 //! - `rings`: whole numbers round the radii of an arc.
 //! - `alike`: whether its ends are alike enough for it to be meant.
-//! - `laws`: a law over the definitions alone.
+//! - `judged`: the ring of an arc that is judged.
+//! - `laws`: laws over the definitions alone.
 #![tactic(auto)]
 
-mod above;
 mod alike;
-mod below;
+mod bounds;
 mod chords;
+mod judged;
 pub mod laws;
 mod rings;
 
-pub use above::is_above;
-pub use below::is_below;
+pub use bounds::{is_above, is_below};
 pub use planar::Spot;
 
 /// An arc draw with a round pen of the diameter `width`: counterclockwise about `centre`, from `start`

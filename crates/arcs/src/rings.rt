@@ -1,6 +1,7 @@
 //! Whole numbers round the radii of an arc.
 ghost use Rattle.arcs.specs.Chains.{IsGreatestUnder, IsHeld, IsRing, IsRootOver};
 ghost use Rattle.arcs.specs.Copper.{greater, inmost, lesser, outmost, spread};
+ghost use Rattle.arcs.specs.Taken.{IsPlacedArc};
 ghost use Rattle.arcs.specs.declared.Arc.{Arc};
 ghost use Rattle.planar.specs.Plane.{IsPlaced, dot_of, square};
 ghost use Rattle.std.specs.Prelude.{pos, ◌*◌, ◌<◌, ◌≡◌, ◌≤◌, ◌≤ℤ◌, ◌^◌, ℕ};
@@ -39,9 +40,7 @@ pub fn square_of(a: Spot, b: Spot) -> u128
 
 /// The squares of the lesser and of the greater of the distances of the ends from the centre.
 pub fn squares_of(arc: &Arc) -> (u128, u128)
-    requires centre { IsPlaced arc.now.centre }
-    requires start { IsPlaced arc.now.start }
-    requires end { IsPlaced arc.now.end }
+    requires placed { IsPlacedArc arc.now }
     ensures near { pos result.0 ≡ lesser arc.now }
     ensures far { pos result.1 ≡ greater arc.now }
     ensures order { result.0 ≤ result.1 }
@@ -54,9 +53,7 @@ pub fn squares_of(arc: &Arc) -> (u128, u128)
 
 /// The spread of the arc; `None` where it does not fit in 128 bits.
 fn spread_of(arc: &Arc) -> Option<u128>
-    requires centre { IsPlaced arc.now.centre }
-    requires start { IsPlaced arc.now.start }
-    requires end { IsPlaced arc.now.end }
+    requires placed { IsPlacedArc arc.now }
     ensures { IsHeld result (spread arc.now) }
 {
     let swing = cross(arc.centre, arc.start, arc.end);
@@ -71,9 +68,7 @@ fn spread_of(arc: &Arc) -> Option<u128>
 
 /// The least distance that a curve may have, rounded down.
 fn least_of(arc: &Arc, more: u128) -> u128
-    requires centre { IsPlaced arc.now.centre }
-    requires start { IsPlaced arc.now.start }
-    requires end { IsPlaced arc.now.end }
+    requires placed { IsPlacedArc arc.now }
     requires is { pos more ≡ spread arc.now }
     ensures root { IsGreatestUnder (inmost arc.now) (pos result) }
     ensures small { result < 2 ^ 64 }
@@ -83,9 +78,7 @@ fn least_of(arc: &Arc, more: u128) -> u128
 
 /// The greatest distance, rounded up; `None` where the square of that distance does not fit in 128 bits.
 fn most_of(arc: &Arc, more: u128) -> Option<u128>
-    requires centre { IsPlaced arc.now.centre }
-    requires start { IsPlaced arc.now.start }
-    requires end { IsPlaced arc.now.end }
+    requires placed { IsPlacedArc arc.now }
     requires is { pos more ≡ spread arc.now }
     ensures { IsRootOver result (outmost arc.now) }
 {
@@ -98,9 +91,7 @@ fn most_of(arc: &Arc, more: u128) -> Option<u128>
 /// How near to the centre and how far from it a chord may be that is at most `k` off. `None` only where the
 /// square of the greatest distance that a curve may have does not fit in 128 bits.
 pub fn ring_of(arc: &Arc, k: u64) -> Option<(u128, u128)>
-    requires centre { IsPlaced arc.now.centre }
-    requires start { IsPlaced arc.now.start }
-    requires end { IsPlaced arc.now.end }
+    requires placed { IsPlacedArc arc.now }
     ensures { IsRing result (inmost arc.now) (outmost arc.now) (pos k) }
 {
     match spread_of(arc) {
@@ -111,9 +102,7 @@ pub fn ring_of(arc: &Arc, k: u64) -> Option<(u128, u128)>
 
 /// The same, where the spread is known.
 fn ring_by(arc: &Arc, more: u128, k: u128) -> Option<(u128, u128)>
-    requires centre { IsPlaced arc.now.centre }
-    requires start { IsPlaced arc.now.start }
-    requires end { IsPlaced arc.now.end }
+    requires placed { IsPlacedArc arc.now }
     requires is { pos more ≡ spread arc.now }
     requires small { k < 2 ^ 64 }
     ensures { IsRing result (inmost arc.now) (outmost arc.now) (pos k) }

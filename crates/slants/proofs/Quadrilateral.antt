@@ -133,40 +133,23 @@ led : (ax ay bx by x y n : ℤ) → (n *ℤ ax -ℤ x) *ℤ (n *ℤ by -ℤ y) -
 led ax ay bx by x y n = simp ring (omega (arith, linear))
 
 module _ (b c d e : Spot) (x y n : ℤ) (some : pos 1 ≤ℤ n) where
-  abbrev bx : ℤ
-  bx = n *ℤ b.x -ℤ x
+  -- the way from the point to the spot, n times
+  abbrev ox : Spot → ℤ
+  ox s = n *ℤ s.x -ℤ x
 
-  abbrev by : ℤ
-  by = n *ℤ b.y -ℤ y
+  abbrev oy : Spot → ℤ
+  oy s = n *ℤ s.y -ℤ y
 
-  abbrev cx : ℤ
-  cx = n *ℤ c.x -ℤ x
-
-  abbrev cy : ℤ
-  cy = n *ℤ c.y -ℤ y
-
-  abbrev dx : ℤ
-  dx = n *ℤ d.x -ℤ x
-
-  abbrev dy : ℤ
-  dy = n *ℤ d.y -ℤ y
-
-  abbrev ex : ℤ
-  ex = n *ℤ e.x -ℤ x
-
-  abbrev ey : ℤ
-  ey = n *ℤ e.y -ℤ y
-
-  leads : (s t : Spot) → pos 1 ≤ℤ side_of s t x y n → pos 1 ≤ℤ ((n *ℤ s.x -ℤ x) *ℤ (n *ℤ t.y -ℤ y) -ℤ (n *ℤ s.y -ℤ y) *ℤ (n *ℤ t.x -ℤ x))
+  leads : (s t : Spot) → pos 1 ≤ℤ side_of s t x y n → pos 1 ≤ℤ (ox s *ℤ oy t -ℤ oy s *ℤ ox t)
   leads s t h = rw (led s.x s.y t.x t.y x y n) (over_zero n (side_of s t x y n) some h)
 
   is_odd : pos 1 ≤ℤ side_of b c x y n → pos 1 ≤ℤ side_of c d x y n → pos 1 ≤ℤ side_of d e x y n → pos 1 ≤ℤ side_of e b x y n → odd (edges_of (b ∷ c ∷ d ∷ e ∷ b ∷ [])) x y n ≡ true
   is_odd h i j k = rw (crossed_up b c x y n h, crossed_up c d x y n i, crossed_up d e x y n j, crossed_up e b x y n k)
       (rises (up b y n) (up c y n) (up d y n) (up e y n)
-      (λ p q r s. not_all_up bx by cx cy dx dy ex ey (leads b c h) (leads c d i) (leads d e j) (leads e b k) (is_up b y n p) (is_up c y n q) (is_up d y n r) (is_up e y n s))
-      (λ p q r s. not_all_down bx by cx cy dx dy ex ey (leads b c h) (leads c d i) (leads d e j) (leads e b k) (is_down b y n p) (is_down c y n q) (is_down d y n r) (is_down e y n s))
-      (λ p q r s. not_by_turns bx by cx cy dx dy ex ey (leads b c h) (leads c d i) (leads d e j) (leads e b k) (is_down b y n p) (is_up c y n q) (is_down d y n r) (is_up e y n s))
-      (λ p q r s. not_by_turns cx cy dx dy ex ey bx by (leads c d i) (leads d e j) (leads e b k) (leads b c h) (is_down c y n q) (is_up d y n r) (is_down e y n s) (is_up b y n p)))
+      (λ p q r s. not_all_up (ox b) (oy b) (ox c) (oy c) (ox d) (oy d) (ox e) (oy e) (leads b c h) (leads c d i) (leads d e j) (leads e b k) (is_up b y n p) (is_up c y n q) (is_up d y n r) (is_up e y n s))
+      (λ p q r s. not_all_down (ox b) (oy b) (ox c) (oy c) (ox d) (oy d) (ox e) (oy e) (leads b c h) (leads c d i) (leads d e j) (leads e b k) (is_down b y n p) (is_down c y n q) (is_down d y n r) (is_down e y n s))
+      (λ p q r s. not_by_turns (ox b) (oy b) (ox c) (oy c) (ox d) (oy d) (ox e) (oy e) (leads b c h) (leads c d i) (leads d e j) (leads e b k) (is_down b y n p) (is_up c y n q) (is_down d y n r) (is_up e y n s))
+      (λ p q r s. not_by_turns (ox c) (oy c) (ox d) (oy d) (ox e) (oy e) (ox b) (oy b) (leads c d i) (leads d e j) (leads e b k) (leads b c h) (is_down c y n q) (is_up d y n r) (is_down e y n s) (is_up b y n p)))
 
 -- ---- the law
 

@@ -1,6 +1,7 @@
 -- What the code's numbers and answers tell.
-use Rattle.std.proofs.Common.{◌≡◌, ◌↔◌, Bool, IsTrue, sym, FitsSigned, to_z, of_z, to_z-of_z, ℕ, ◌+◌, ◌*◌, ◌≤◌, ℤ, pos, negsuc, unsigned_abs, ◌+ℤ◌, ◌-ℤ◌, ◌*ℤ◌, ◌≤ℤ◌, ◌<ℤ◌, inl, inr, length, List, [], ◌∷◌, get_or, suc, arith, ap, subst, refl, ◌∙◌}
+use Rattle.std.proofs.Common.{◌≡◌, ◌↔◌, Bool, false, IsTrue, Some, sym, FitsSigned, to_z, of_z, to_z-of_z, ℕ, ◌+◌, ◌*◌, ◌≤◌, ℤ, pos, negsuc, unsigned_abs, ◌+ℤ◌, ◌-ℤ◌, ◌*ℤ◌, ◌≤ℤ◌, ◌<ℤ◌, inl, inr, length, List, [], ◌∷◌, slice_index_or, suc, arith, ap, subst, refl, ◌∙◌}
 use Rattle.std.proofs.lemmas.Int.{ints}
+use Rattle.std.specs.Bool.{⊤}
 use Rattle.std.specs.Int.{w128}
 use Rattle.planar.specs.declared.Spot.{Spot}
 use Rattle.planar.specs.declared.TheConstants.{TWO_METRES}
@@ -8,9 +9,10 @@ use Rattle.planar.specs.Plane.{IsPlaced, IsWithin, at, cross_of, dot_of, square}
 use Rattle.planar.proofs.Ring.{ring, linear, le_or_lt, one-times, times_mono, square_mono, square-neg}
 use Rattle.area_contact.specs.Parity.{side_of}
 use Rattle.slants.specs.Copper.{InSlant, along_of}
-use Rattle.slants.specs.Taken.{ArePlaced, GoesRound, HasRoot, Keeps, KeepsAll, TakenAbove, TurnsLeft, band, reach}
+use Rattle.slants.specs.Taken.{AreCorners, ArePlaced, GoesRound, HasRoot, Keeps, KeepsAll, TakenAbove, band, reach}
 use Rattle.slants.specs.declared.measures.TheConstants.{FINE}
 use Rattle.slants.specs.declared.Slant.{Slant}
+use Rattle.slants.specs.declared.contours.Corners.{Corners}
 use Rattle.slants.proofs.Sums.{dot_within}
 
 -- ---- numbers of 128 bits
@@ -115,24 +117,36 @@ root_read a b c d e root t under over told = (
   },
 )
 
--- ---- five points
+-- ---- four corners
 
-abbrev Five : (Spot → Spot → Spot → Spot → Type 0) → List Spot → Type 0
-Five P (b ∷ c ∷ d ∷ e ∷ last ∷ []) = (b ≡ last) × TurnsLeft b c d e × P b c d e
-Five P points = ⊥
+abbrev Four : (Spot → Spot → Spot → Spot → Type 0) → List Spot → Type 0
+Four P (b ∷ c ∷ d ∷ e ∷ rest) = P b c d e
+Four P points = ⊥
 
-pub five_read : (P : Spot → Spot → Spot → Spot → Type 0) (points : List Spot) (d0 d1 d2 d3 d4 : Spot) (t : Bool) → length points ≡ 5
-    → IsTrue t ↔ ((get_or points 0 d0 ≡ get_or points 4 d4) × TurnsLeft (get_or points 0 d0) (get_or points 1 d1) (get_or points 2 d2) (get_or points 3 d3) × P (get_or points 0 d0) (get_or points 1 d1) (get_or points 2 d2) (get_or points 3 d3)) → IsTrue t ↔ GoesRound P points
-five_read P [] d0 d1 d2 d3 d4 t five told = absurd (omega arith)
-five_read P (b ∷ []) d0 d1 d2 d3 d4 t five told = absurd (omega arith)
-five_read P (b ∷ c ∷ []) d0 d1 d2 d3 d4 t five told = absurd (omega arith)
-five_read P (b ∷ c ∷ d ∷ []) d0 d1 d2 d3 d4 t five told = absurd (omega arith)
-five_read P (b ∷ c ∷ d ∷ e ∷ []) d0 d1 d2 d3 d4 t five told = absurd (omega arith)
-five_read P (b ∷ c ∷ d ∷ e ∷ last ∷ []) d0 d1 d2 d3 d4 t five told = (
-  λ yes. let l = told.0 yes in record { b = b; c = c; d = d; e = e; is = ap (λ (z : Spot). b ∷ c ∷ d ∷ e ∷ z ∷ []) (sym l.0); turns = l.1; holds = l.2 },
-  λ h. told.1 (subst (Five P) (sym h.is) (refl, h.turns, h.holds)),
+pub round_read : (P : Spot → Spot → Spot → Spot → Type 0) (points : List Spot) (k : Corners) (t : Bool) → AreCorners (Some k) points → IsTrue t ↔ P k.b k.c k.d k.e → IsTrue t ↔ GoesRound P points
+round_read P points k t corners told = (
+  λ yes. record { b = k.b; c = k.c; d = k.d; e = k.e; is = corners.0; turns = corners.1; holds = told.0 yes },
+  λ h. told.1 (subst (Four P) (sym h.is ∙ corners.0) h.holds),
 )
-five_read P (b ∷ c ∷ d ∷ e ∷ last ∷ f ∷ more) d0 d1 d2 d3 d4 t five told = absurd (omega arith)
 
-pub round_read : (a : Slant) (points : List Spot) (t : Bool) → ArePlaced a points → IsTrue t ↔ GoesRound (HasRoot a) points → IsTrue t ↔ TakenAbove a points
-round_read a points t placed told = (λ yes. record { placed = placed; round = told.0 yes }, λ h. told.1 h.round)
+-- points that go round four corners of which something holds go round four corners
+pub any_round : (P : Spot → Spot → Spot → Spot → Type 0) (points : List Spot) → GoesRound P points → GoesRound (λ b c d e. ⊤) points
+any_round P points h = record { b = h.b; c = h.c; d = h.d; e = h.e; is = h.is; turns = h.turns; holds = tt }
+
+pub five_is : (points : List Spot) (d : Spot) → length points ≡ 5 → slice_index_or points 0 d ≡ slice_index_or points 4 d → points ≡ slice_index_or points 0 d ∷ slice_index_or points 1 d ∷ slice_index_or points 2 d ∷ slice_index_or points 3 d ∷ slice_index_or points 0 d ∷ []
+five_is [] d five same = absurd (omega arith)
+five_is (b ∷ []) d five same = absurd (omega arith)
+five_is (b ∷ c ∷ []) d five same = absurd (omega arith)
+five_is (b ∷ c ∷ d ∷ []) z five same = absurd (omega arith)
+five_is (b ∷ c ∷ d ∷ e ∷ []) z five same = absurd (omega arith)
+five_is (b ∷ c ∷ d ∷ e ∷ last ∷ []) z five same = ap (λ (f : Spot). b ∷ c ∷ d ∷ e ∷ f ∷ []) (sym same)
+five_is (b ∷ c ∷ d ∷ e ∷ last ∷ f ∷ more) z five same = absurd (omega arith)
+
+pub above_read : (a : Slant) (points : List Spot) (t : Bool) → ArePlaced a points → IsTrue t ↔ GoesRound (HasRoot a) points → IsTrue t ↔ TakenAbove a points
+above_read a points t placed told = (λ yes. record { placed = placed; round = told.0 yes }, λ h. told.1 h.round)
+
+no_true : IsTrue false → ⊥
+no_true t = cc
+
+pub refused : (X : Type 0) → (X → ⊥) → IsTrue false ↔ X
+refused X not = (λ t. absurd (no_true t), λ x. absurd (not x))

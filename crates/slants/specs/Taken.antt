@@ -5,6 +5,7 @@ use Rattle.planar.specs.declared.Spot.{Spot}
 use Rattle.area_contact.specs.Contour.{IsClosed}
 use Rattle.slants.specs.Copper.{InSlant}
 use Rattle.slants.specs.declared.Slant.{Slant}
+use Rattle.slants.specs.declared.contours.Corners.{Corners}
 use Rattle.slants.specs.declared.measures.TheConstants.{FINE}
 
 -- what is said of a spot holds of each of the list
@@ -12,10 +13,14 @@ abbrev pub Each : (Spot → Type 0) → List Spot → Type 0
 Each P [] = ⊤
 Each P (q ∷ rest) = P q × Each P rest
 
--- start, end and the points are within a metre
-pub record ArePlaced (a : Slant) (points : List Spot) : Type 0 where
+-- start and end are within a metre
+pub record IsPlacedSlant (a : Slant) : Type 0 where
   pub start : IsPlaced a.start
   pub end : IsPlaced a.end
+
+-- so are they and the points
+pub record ArePlaced (a : Slant) (points : List Spot) : Type 0 where
+  pub slant : IsPlacedSlant a
   pub spots : All IsPlaced points
 
 -- ---- below
@@ -56,12 +61,16 @@ IsOff a root b c q = (pos 0 ≤ℤ cross_of b c q) × (pos (reach a b c) ≤ℤ 
 abbrev pub Keeps : Slant → ℤ → Spot → Spot → Type 0
 Keeps a root b c = (reach a b c < 2 ^ 128) × IsOff a root b c a.start × IsOff a root b c a.end
 
+-- what is said of two spots holds of the four edges
+pub record OfFour (P : Spot → Spot → Type 0) (b c d e : Spot) : Type 0 where
+  pub first : P b c
+  pub second : P c d
+  pub third : P d e
+  pub fourth : P e b
+
 -- the four edges do
-pub record KeepsAll (a : Slant) (root : ℤ) (b c d e : Spot) : Type 0 where
-  pub first : Keeps a root b c
-  pub second : Keeps a root c d
-  pub third : Keeps a root d e
-  pub fourth : Keeps a root e b
+abbrev pub KeepsAll : Slant → ℤ → Spot → Spot → Spot → Spot → Type 0
+KeepsAll a root b c d e = OfFour (Keeps a root) b c d e
 
 -- four corners in counterclockwise order, with a left turn at each
 pub record TurnsLeft (b c d e : Spot) : Type 0 where
@@ -91,3 +100,17 @@ pub record HasRoot (a : Slant) (b c d e : Spot) : Type 0 where
 pub record TakenAbove (a : Slant) (points : List Spot) : Type 0 where
   pub placed : ArePlaced a points
   pub round : GoesRound (HasRoot a) points
+
+-- ---- words that only contracts want
+
+-- the corners are within a metre
+pub record ArePlacedCorners (k : Corners) : Type 0 where
+  pub b : IsPlaced k.b
+  pub c : IsPlaced k.c
+  pub d : IsPlaced k.d
+  pub e : IsPlaced k.e
+
+-- the four corners that the points go round, with a left turn at each; none where they go round none
+abbrev pub AreCorners : Option Corners → List Spot → Type 0
+AreCorners None points = ¬ GoesRound (λ b c d e. ⊤) points
+AreCorners (Some k) points = (points ≡ k.b ∷ k.c ∷ k.d ∷ k.e ∷ k.b ∷ []) × TurnsLeft k.b k.c k.d k.e

@@ -7,7 +7,7 @@ use Rattle.planar.specs.declared.TheConstants.{TWO_METRES}
 use Rattle.planar.proofs.Ring.{over_zero}
 use Rattle.area_contact.specs.Contour.{IsClosed}
 use Rattle.board_shapes.specs.Figures.{InFigure, filled}
-use Rattle.slants.specs.Taken.{Each, GoesRound}
+use Rattle.slants.specs.Taken.{Each, GoesRound, OfFour}
 use Rattle.slants.specs.declared.turned.Parts.{Parts}
 use Rattle.slants.specs.declared.turns.Heading.{Heading}
 use Rattle.slants.specs.declared.turns.Motions.{Motions}
@@ -78,11 +78,8 @@ abbrev pub Leans : Motions → Spot → Spot → Spot → Type 0
 Leans m b c q = (pos 0 ≤ℤ lean_of m b c (meet_of m.first m.first) q) × (pos 0 ≤ℤ lean_of m b c (meet_of m.first m.last) q) × (pos 0 ≤ℤ lean_of m b c (meet_of m.last m.last) q)
 
 -- it is so of four edges
-pub record LeansIn (m : Motions) (b c d e q : Spot) : Type 0 where
-  pub first : Leans m b c q
-  pub second : Leans m c d q
-  pub third : Leans m d e q
-  pub fourth : Leans m e b q
+abbrev pub LeansIn : Motions → Spot → Spot → Spot → Spot → Spot → Type 0
+LeansIn m b c d e q = OfFour (λ z w. Leans m z w q) b c d e
 
 -- and of each corner of the figure
 abbrev pub EachLeans : List Spot → Motions → Spot → Spot → Spot → Spot → Type 0

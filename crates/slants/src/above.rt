@@ -2,19 +2,18 @@
 ghost use Rattle.board_shapes.specs.Figures.{InFigure, filled};
 ghost use Rattle.planar.specs.Plane.{IsPlaced, Point, cross_of, dot_of};
 ghost use Rattle.slants.specs.Copper.{InSlant};
-ghost use Rattle.slants.specs.Taken.{HasRoot, Keeps, KeepsAll, TakenAbove, TurnsLeft, reach};
-ghost use Rattle.std.specs.Prelude.{IsTrue, SomeIff, pos, unsigned_abs, ◌*◌, ◌<◌, ◌^◌, ◌≡◌, ◌≤◌, ◌*ℤ◌, ◌≤ℤ◌, ◌↔◌};
+ghost use Rattle.slants.specs.Taken.{ArePlacedCorners, HasRoot, IsPlacedSlant, Keeps, KeepsAll, TakenAbove, reach};
+ghost use Rattle.std.specs.Prelude.{IsTrue, SomeIff, pos, unsigned_abs, ◌*◌, ◌<◌, ◌^◌, ◌≤◌, ◌*ℤ◌, ◌≤ℤ◌, ◌↔◌};
 
 use super::Slant;
-use super::contours::{is_convex, is_same};
-use super::measures::{FINE, root_of};
-use planar::{Spot, are_placed, cross, dot, is_placed};
+use super::contours::{Corners, corners_of};
+use super::measures::{FINE, is_ready, root_of};
+use planar::{Spot, cross, dot};
 
 /// How far the edge from `b` to `c` goes along the line, times the width; `None` where it does not
 /// fit in 128 bits.
 fn reach_of(slant: &Slant, b: Spot, c: Spot) -> Option<u128>
-    requires start { IsPlaced slant.now.start }
-    requires end { IsPlaced slant.now.end }
+    requires slant { IsPlacedSlant slant.now }
     requires b_placed { IsPlaced b }
     requires c_placed { IsPlaced c }
     ensures { SomeIff result (reach slant.now b c < 2 ^ 128) (reach slant.now b c) }
@@ -51,8 +50,7 @@ fn is_off(b: Spot, c: Spot, least: u128, root: u128, q: Spot) -> bool
 
 /// Whether the edge from `b` to `c` has the rectangle on its left.
 fn keeps(slant: &Slant, root: u128, b: Spot, c: Spot) -> bool
-    requires start { IsPlaced slant.now.start }
-    requires end { IsPlaced slant.now.end }
+    requires slant { IsPlacedSlant slant.now }
     requires b_placed { IsPlaced b }
     requires c_placed { IsPlaced c }
     ensures { IsTrue result ↔ Keeps slant.now (pos root) b c }
@@ -65,45 +63,23 @@ fn keeps(slant: &Slant, root: u128, b: Spot, c: Spot) -> bool
 }
 
 /// Whether each of the four edges does.
-fn keeps_all(slant: &Slant, root: u128, b: Spot, c: Spot, d: Spot, e: Spot) -> bool
-    requires start { IsPlaced slant.now.start }
-    requires end { IsPlaced slant.now.end }
-    requires b_placed { IsPlaced b }
-    requires c_placed { IsPlaced c }
-    requires d_placed { IsPlaced d }
-    requires e_placed { IsPlaced e }
-    ensures { IsTrue result ↔ KeepsAll slant.now (pos root) b c d e }
+fn keeps_all(slant: &Slant, root: u128, k: &Corners) -> bool
+    requires slant { IsPlacedSlant slant.now }
+    requires corners { ArePlacedCorners k.now }
+    ensures { IsTrue result ↔ KeepsAll slant.now (pos root) k.now.b k.now.c k.now.d k.now.e }
 {
-    let near = keeps(slant, root, b, c) && keeps(slant, root, c, d);
-    let far = keeps(slant, root, d, e) && keeps(slant, root, e, b);
+    let near = keeps(slant, root, k.b, k.c) && keeps(slant, root, k.c, k.d);
+    let far = keeps(slant, root, k.d, k.e) && keeps(slant, root, k.e, k.b);
     near && far
 }
 
 /// Whether they do so for some root.
-fn has_root(slant: &Slant, b: Spot, c: Spot, d: Spot, e: Spot) -> bool
-    requires start { IsPlaced slant.now.start }
-    requires end { IsPlaced slant.now.end }
-    requires b_placed { IsPlaced b }
-    requires c_placed { IsPlaced c }
-    requires d_placed { IsPlaced d }
-    requires e_placed { IsPlaced e }
-    ensures { IsTrue result ↔ HasRoot slant.now b c d e }
+fn has_root(slant: &Slant, k: &Corners) -> bool
+    requires slant { IsPlacedSlant slant.now }
+    requires corners { ArePlacedCorners k.now }
+    ensures { IsTrue result ↔ HasRoot slant.now k.now.b k.now.c k.now.d k.now.e }
 {
-    keeps_all(slant, root_of(slant), b, c, d, e)
-}
-
-/// Whether four corners that turn left at each have the rectangle on the left of each edge, and `last`
-/// is the first.
-fn go_round(slant: &Slant, b: Spot, c: Spot, d: Spot, e: Spot, last: Spot) -> bool
-    requires start { IsPlaced slant.now.start }
-    requires end { IsPlaced slant.now.end }
-    requires b_placed { IsPlaced b }
-    requires c_placed { IsPlaced c }
-    requires d_placed { IsPlaced d }
-    requires e_placed { IsPlaced e }
-    ensures { IsTrue result ↔ (b ≡ last) × TurnsLeft b c d e × HasRoot slant.now b c d e }
-{
-    is_same(b, last) && is_convex(b, c, d, e) && has_root(slant, b, c, d, e)
+    keeps_all(slant, root_of(slant), k)
 }
 
 /// Whether the polygon of four corners and the first again holds the rectangle. It has to turn left
@@ -113,11 +89,11 @@ pub fn is_above(slant: &Slant, points: &[Spot]) -> bool
     ensures taken { IsTrue result ↔ TakenAbove slant.now points.now }
     ensures copper { IsTrue result → (p : Point) → InSlant slant.now p → InFigure (filled points.now) p }
 {
-    if !(is_placed(slant.start) && is_placed(slant.end) && are_placed(points)) {
+    if !is_ready(slant, points) {
         return false;
     }
-    if points.len() != 5 {
-        return false;
+    match corners_of(points) {
+        Some(corners) => has_root(slant, &corners),
+        None => false,
     }
-    go_round(slant, points[0], points[1], points[2], points[3], points[4])
 }

@@ -2,13 +2,13 @@
 ghost use Rattle.board_shapes.specs.Figures.{InFigure, filled};
 ghost use Rattle.planar.specs.Plane.{IsPlaced, Point, at, cross_of, dot_of, square};
 ghost use Rattle.slants.specs.Copper.{InSlant};
-ghost use Rattle.slants.specs.Taken.{Each, TakenBelow, band};
+ghost use Rattle.slants.specs.Taken.{Each, IsPlacedSlant, TakenBelow, band};
 ghost use Rattle.std.specs.Prelude.{All, IsTrue, pos, ◌*◌, ◌≡◌, ◌≤◌, ◌*ℤ◌, ◌≤ℤ◌, ◌↔◌};
 
 use super::Slant;
 use super::contours::is_closed;
-use super::measures::{band_of, length_squared};
-use planar::{Spot, are_placed, cross, dot, is_placed};
+use super::measures::{band_of, is_ready, length_squared};
+use planar::{Spot, cross, dot};
 
 /// Whether the spot is not behind `o`, on the way from there to `a`.
 fn is_ahead(o: Spot, a: Spot, q: Spot) -> bool
@@ -32,8 +32,7 @@ fn is_within(off: u128, band: u128) -> bool
 
 /// Whether the spot is at most half the width from the line through both ends.
 fn is_beside(slant: &Slant, most: u128, q: Spot) -> bool
-    requires start { IsPlaced slant.now.start }
-    requires end { IsPlaced slant.now.end }
+    requires slant { IsPlacedSlant slant.now }
     requires placed { IsPlaced q }
     requires is { pos most ≡ band slant.now }
     ensures { IsTrue result ↔ square (pos 2 *ℤ cross_of slant.now.start slant.now.end q) ≤ℤ band slant.now }
@@ -43,8 +42,7 @@ fn is_beside(slant: &Slant, most: u128, q: Spot) -> bool
 
 /// Whether it is so, and between the lines across both ends.
 fn is_about(slant: &Slant, most: u128, q: Spot) -> bool
-    requires start { IsPlaced slant.now.start }
-    requires end { IsPlaced slant.now.end }
+    requires slant { IsPlacedSlant slant.now }
     requires placed { IsPlaced q }
     requires is { pos most ≡ band slant.now }
     ensures { IsTrue result ↔ (pos 0 ≤ℤ dot_of slant.now.start slant.now.end q) × (pos 0 ≤ℤ dot_of slant.now.end slant.now.start q) × (square (pos 2 *ℤ cross_of slant.now.start slant.now.end q) ≤ℤ band slant.now) }
@@ -56,8 +54,7 @@ fn is_about(slant: &Slant, most: u128, q: Spot) -> bool
 
 /// Whether the corner lies in the rectangle.
 fn has_corner(slant: &Slant, most: u128, q: Spot) -> bool
-    requires start { IsPlaced slant.now.start }
-    requires end { IsPlaced slant.now.end }
+    requires slant { IsPlacedSlant slant.now }
     requires apart { pos 1 ≤ℤ dot_of slant.now.start slant.now.end slant.now.end }
     requires placed { IsPlaced q }
     requires is { pos most ≡ band slant.now }
@@ -68,8 +65,7 @@ fn has_corner(slant: &Slant, most: u128, q: Spot) -> bool
 
 /// Whether each of the corners does.
 fn has_corners(slant: &Slant, most: u128, points: &[Spot]) -> bool
-    requires start { IsPlaced slant.now.start }
-    requires end { IsPlaced slant.now.end }
+    requires slant { IsPlacedSlant slant.now }
     requires apart { pos 1 ≤ℤ dot_of slant.now.start slant.now.end slant.now.end }
     requires placed { All IsPlaced points.now }
     requires is { pos most ≡ band slant.now }
@@ -90,7 +86,7 @@ pub fn is_below(slant: &Slant, points: &[Spot]) -> bool
     ensures taken { IsTrue result ↔ TakenBelow slant.now points.now }
     ensures copper { IsTrue result → (p : Point) → InFigure (filled points.now) p → InSlant slant.now p }
 {
-    if !(is_placed(slant.start) && is_placed(slant.end) && are_placed(points)) {
+    if !is_ready(slant, points) {
         return false;
     }
     if length_squared(slant) == 0 || !is_closed(points) {

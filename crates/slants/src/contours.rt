@@ -1,8 +1,8 @@
 //! Closed contours, and turns.
 ghost use Rattle.area_contact.specs.Contour.{IsClosed};
 ghost use Rattle.planar.specs.Plane.{IsPlaced, cross_of};
-ghost use Rattle.slants.specs.Taken.{TurnsLeft};
-ghost use Rattle.std.specs.Prelude.{IsTrue, pos, ◌≡◌, ◌≤ℤ◌, ◌↔◌};
+ghost use Rattle.slants.specs.Taken.{AreCorners, ArePlacedCorners, TurnsLeft};
+ghost use Rattle.std.specs.Prelude.{All, IfSome, IsTrue, pos, ◌≡◌, ◌≤ℤ◌, ◌↔◌};
 
 use planar::{Spot, cross};
 
@@ -30,15 +30,46 @@ fn turns_left(a: Spot, b: Spot, c: Spot) -> bool
     cross(a, b, c) > 0
 }
 
-/// Whether the way round four corners turns left at each.
-pub fn is_convex(a: Spot, b: Spot, c: Spot, d: Spot) -> bool
-    requires a_placed { IsPlaced a }
-    requires b_placed { IsPlaced b }
-    requires c_placed { IsPlaced c }
-    requires d_placed { IsPlaced d }
-    ensures { IsTrue result ↔ TurnsLeft a b c d }
+/// The corners of a polygon of four, in their order.
+#[derive(Clone, Copy)]
+pub struct Corners {
+    pub b: Spot,
+    pub c: Spot,
+    pub d: Spot,
+    pub e: Spot,
+}
+
+/// Whether the way round the corners turns left at each.
+fn is_convex(k: &Corners) -> bool
+    requires placed { ArePlacedCorners k.now }
+    ensures { IsTrue result ↔ TurnsLeft k.now.b k.now.c k.now.d k.now.e }
 {
-    let near = turns_left(a, b, c) && turns_left(b, c, d);
-    let far = turns_left(c, d, a) && turns_left(d, a, b);
+    let near = turns_left(k.b, k.c, k.d) && turns_left(k.c, k.d, k.e);
+    let far = turns_left(k.d, k.e, k.b) && turns_left(k.e, k.b, k.c);
     near && far
+}
+
+/// The four corners that the points go round, with a left turn at each and back to the first; `None` where
+/// they do not.
+pub fn corners_of(points: &[Spot]) -> Option<Corners>
+    requires placed { All IsPlaced points.now }
+    ensures corners { AreCorners result points.now }
+    ensures placed { IfSome result ArePlacedCorners }
+{
+    match points {
+        [b, c, d, e, last] => {
+            let corners = Corners {
+                b: *b,
+                c: *c,
+                d: *d,
+                e: *e,
+            };
+            if is_same(*b, *last) && is_convex(&corners) {
+                Some(corners)
+            } else {
+                None
+            }
+        }
+        _ => None,
+    }
 }

@@ -1,12 +1,12 @@
 //! Whether polygons bound a figure that is turned by any turn between two.
 ghost use Rattle.board_shapes.specs.Figures.{InFigure, filled};
 ghost use Rattle.planar.specs.Plane.{IsPlaced, IsWithin, Point, cross_of, dot_of};
-ghost use Rattle.slants.specs.Taken.{Each, TurnsLeft};
-ghost use Rattle.slants.specs.Turned.{AreBounded, AreReady, InTurned, IsBetween, IsBounded, IsSmall, Leans, LeansIn, TurnedAbove, TurnedBelow, lean_of, meet_of};
+ghost use Rattle.slants.specs.Taken.{ArePlacedCorners};
+ghost use Rattle.slants.specs.Turned.{AreBounded, AreReady, EachLeans, InTurned, IsBetween, IsBounded, IsSmall, Leans, LeansIn, TurnedAbove, TurnedBelow, lean_of, meet_of};
 ghost use Rattle.slants.specs.declared.turns.Turn.{Turn as AnyTurn};
 ghost use Rattle.std.specs.Prelude.{All, IsTrue, pos, ◌≡◌, ◌+ℤ◌, ◌-ℤ◌, ◌*ℤ◌, ◌≤ℤ◌, ◌↔◌};
 
-use super::contours::{is_closed, is_convex, is_same};
+use super::contours::{Corners, corners_of, is_closed};
 use super::turns::{Heading, Motions, Turn, are_ready, back, meet};
 use planar::{Spot, are_placed, cross, dot};
 
@@ -71,51 +71,31 @@ fn leans(m: &Motions, b: Spot, c: Spot, q: Spot) -> bool
         && leans_so(m, b, c, m.last, m.last, q)
 }
 
-/// Whether it is so of each of four edges.
-fn leans_in(m: &Motions, b: Spot, c: Spot, d: Spot, e: Spot, q: Spot) -> bool
+/// Whether it is so of each of the four edges.
+fn leans_in(m: &Motions, k: &Corners, q: Spot) -> bool
     requires ready { AreReady m.now }
-    requires b_placed { IsPlaced b }
-    requires c_placed { IsPlaced c }
-    requires d_placed { IsPlaced d }
-    requires e_placed { IsPlaced e }
-    requires q_placed { IsPlaced q }
-    ensures { IsTrue result ↔ LeansIn m.now b c d e q }
+    requires corners { ArePlacedCorners k.now }
+    requires placed { IsPlaced q }
+    ensures { IsTrue result ↔ LeansIn m.now k.now.b k.now.c k.now.d k.now.e q }
 {
-    let near = leans(m, b, c, q) && leans(m, c, d, q);
-    let far = leans(m, d, e, q) && leans(m, e, b, q);
+    let near = leans(m, k.b, k.c, q) && leans(m, k.c, k.d, q);
+    let far = leans(m, k.d, k.e, q) && leans(m, k.e, k.b, q);
     near && far
 }
 
-/// Whether it is so of each corner.
-fn all_lean(m: &Motions, b: Spot, c: Spot, d: Spot, e: Spot, figure: &[Spot]) -> bool
+/// Whether it is so of each corner of the figure.
+fn all_lean(m: &Motions, k: &Corners, figure: &[Spot]) -> bool
     requires ready { AreReady m.now }
-    requires b_placed { IsPlaced b }
-    requires c_placed { IsPlaced c }
-    requires d_placed { IsPlaced d }
-    requires e_placed { IsPlaced e }
-    requires figure_placed { All IsPlaced figure.now }
-    ensures { IsTrue result ↔ Each (LeansIn m.now b c d e) figure.now }
+    requires corners { ArePlacedCorners k.now }
+    requires placed { All IsPlaced figure.now }
+    ensures { IsTrue result ↔ EachLeans figure.now m.now k.now.b k.now.c k.now.d k.now.e }
 {
     for q in figure {
-        if !leans_in(m, b, c, d, e, *q) {
+        if !leans_in(m, k, *q) {
             return false;
         }
     }
     true
-}
-
-/// Whether four corners that turn left at each have the figure on the left of each edge, and `last` is
-/// the first.
-fn go_round(m: &Motions, b: Spot, c: Spot, d: Spot, e: Spot, last: Spot, figure: &[Spot]) -> bool
-    requires ready { AreReady m.now }
-    requires b_placed { IsPlaced b }
-    requires c_placed { IsPlaced c }
-    requires d_placed { IsPlaced d }
-    requires e_placed { IsPlaced e }
-    requires figure_placed { All IsPlaced figure.now }
-    ensures { IsTrue result ↔ (b ≡ last) × TurnsLeft b c d e × Each (LeansIn m.now b c d e) figure.now }
-{
-    is_same(b, last) && is_convex(b, c, d, e) && all_lean(m, b, c, d, e, figure)
 }
 
 /// Whether the polygon of four corners and the first again, which has to turn left at each, holds the
@@ -128,12 +108,13 @@ pub fn is_above_turned(figure: &[Spot], m: &Motions, points: &[Spot]) -> bool
     if !(are_ready(m) && are_placed(figure) && are_placed(points)) {
         return false;
     }
-    if !is_closed(figure) || points.len() != 5 {
+    if !is_closed(figure) {
         return false;
     }
-    go_round(
-        m, points[0], points[1], points[2], points[3], points[4], figure,
-    )
+    match corners_of(points) {
+        Some(corners) => all_lean(m, &corners, figure),
+        None => false,
+    }
 }
 
 /// Whether the polygon lies in the figure of four corners and the first again, which has to turn left at each,

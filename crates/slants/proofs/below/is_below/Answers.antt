@@ -5,7 +5,7 @@ use Rattle.slants.proofs.below.is_below.Goals as goal
 
 pub returns-in-Some-clause-copper : goal.returns-in-Some-clause-copper
 returns-in-Some-clause-copper c = λ yes p. below_lies c.args.slant.now c.args.points.now p record {
-  placed = record { start = search rules; end = search rules; spots = search rules };
+  placed = search rules;
   apart = omega (arith, ints, c.length_squared.ensures.value);
   closed = search rules;
   fits = omega (arith, ints, c.in-Some.ensures);

@@ -1,7 +1,0 @@
-use Rattle.std.proofs.Common.{drop, ◌↔◌}
-use Rattle.arcs.specs.Chains.{EachFrom}
-use Rattle.arc_regions.specs.Taken.{IsClear}
-use Rattle.arc_regions.proofs.below.links_clear.Given as goal
-
-abbrev pub invariant-loop-to : goal.invariant-loop-to
-invariant-loop-to g l = EachFrom (IsClear l.frame l.area.points.items l.r) l.from (drop l.to-index l.rest) ↔ EachFrom (IsClear l.frame l.area.points.items l.r) l.fn.start l.rest
