@@ -18,21 +18,13 @@ use gerber_layer::{Code, Command, code_of};
 fn is_flash(code: Code) -> bool
     ensures { result ≡ spec.is_flash code }
 {
-    match code {
-        Code::Draw => false,
-        Code::Move => false,
-        Code::Flash => true,
-    }
+    matches!(code, Code::Flash)
 }
 
 fn is_move(code: Code) -> bool
     ensures { result ≡ spec.is_move code }
 {
-    match code {
-        Code::Draw => false,
-        Code::Move => true,
-        Code::Flash => false,
-    }
+    matches!(code, Code::Move)
 }
 
 /// Whether a command is a flash behind the name of a macro.

@@ -1,3 +1,4 @@
 pub mod Conditions
+pub mod Faults
 pub mod LookingBack
 pub mod Reading

@@ -2,11 +2,13 @@
 //!
 //! The definitions (specs/Reading.antt) speak of items of any kind, such as commands and lines, and of
 //! any table of what an item does; each reader gives its own table. `Halt` is what stops a reader at an
-//! item.
+//! item, `FileFault` why a file of commands is not read.
 #![tactic(auto)]
 
+mod fault;
 mod halt;
 
+pub use fault::FileFault;
 pub use halt::Halt;
 
 /// The name of a kind of refusal: its variant's.

@@ -5,7 +5,6 @@ ghost use Rattle.gerber_layer.specs.Command.{view};
 ghost use Rattle.gerber_layer.specs.Lawful.{IsLawfulCommand};
 ghost use Rattle.gerber_layer.specs.MacroTable as spec;
 ghost use Rattle.apertures.specs.Definition.{aperture_at};
-ghost use Rattle.gerber_layer.specs.MacroReader.{any_halt};
 ghost use Rattle.gerber_layer.specs.MacroTable.{as_macro, gerber};
 ghost use Rattle.gerber_layer.specs.Reader.{AreBlank, Stops, body_of};
 ghost use Rattle.gerber_layer.specs.Tools.{macro_named};
@@ -313,15 +312,5 @@ impl<'a> Reader<'a> {
             return Err(Halt::Fault(FlattenKind::TooManyRadii));
         }
         Ok(())
-    }
-}
-
-/// What stops the reader at a row that is the same without macros.
-pub fn any_halt(halt: Halt<GerberKind>) -> Halt<FlattenKind>
-    ensures { result ≡ any_halt halt }
-{
-    match halt {
-        Halt::Fault(kind) => Halt::Fault(FlattenKind::Gerber(kind)),
-        Halt::NoMemory => Halt::NoMemory,
     }
 }
