@@ -4,7 +4,7 @@ use Rattle.std.proofs.lemmas.Bool.Decides.{Decides-int_eq}
 use Rattle.std.proofs.lemmas.Int.{ints}
 use Rattle.std.specs.List.{list_all}
 use Rattle.std.specs.Ordering.{int_eq}
-use Rattle.std.specs.Prelude.{nat_lt}
+use Rattle.std.specs.Prelude.{nat_lt, IfOk}
 use Rattle.contact.specs.declared.TheConstants.{MOST_DIAMETER}
 use Rattle.planar.specs.Plane.{is_placed}
 use Rattle.planar.specs.declared.Spot.{Spot}
@@ -141,6 +141,11 @@ between_same w p q s h = by (int_eq p.x q.x) (int_eq p.y q.y) h
     by true b h = h
     by false true h = h
     by false false h = cc
+
+pub line_any : (lines : Lines) (text : List ℕ) (given : List Fraction) (unit : Measure) (r : Result (Option Sketch) MacroFault) → r ≡ line_at lines text given unit → IfOk r (λ s. line_at Any text given unit ≡ Ok s)
+line_any lines text given unit (Err why) h = tt
+line_any AlongAxes text given unit (Ok s) h = let l = line_is AlongAxes text given unit s (sym h) in l.all Any ∙ between_same l.w l.p l.q s l.is
+line_any Any text given unit (Ok s) h = sym h
 
 -- ---- Figures
 

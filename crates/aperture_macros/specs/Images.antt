@@ -52,13 +52,11 @@ abbrev pub slanted : Lines → ℕ → Spot → Spot → Result (Option Sketch) 
 slanted AlongAxes w p q = Err Slanted
 slanted Any w p q = if nat_lt MOST_DIAMETER w then Err OutOfRange else Ok (if w == 0 then None else Some (Stroke p q w))
 
--- a line that is not upright
-abbrev pub level_or_slanted : Lines → ℕ → Spot → Spot → Result (Option Sketch) MacroFault
-level_or_slanted lines w p q = if int_eq p.y q.y then Ok (strip w p q 0 w) else slanted lines w p q
-
 -- A line from one point to the other: along an axis it is a rectangle, and none with width or length 0.
 unfoldable pub line_between : Lines → ℕ → Spot → Spot → Result (Option Sketch) MacroFault
-line_between lines w p q = if int_eq p.x q.x then Ok (strip w p q w 0) else level_or_slanted lines w p q
+line_between lines w p q =
+    if int_eq p.x q.x then Ok (strip w p q w 0)
+    else (if int_eq p.y q.y then Ok (strip w p q 0 w) else slanted lines w p q)
 
 -- `w,x,y,x,y`: a vector line has flat ends (code 20)
 unfoldable pub line_at : Lines → List ℕ → List Fraction → Measure → Result (Option Sketch) MacroFault

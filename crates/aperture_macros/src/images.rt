@@ -64,25 +64,11 @@ fn line_between(lines: Lines, w: u64, p: Spot, q: Spot) -> Result<Option<Sketch>
     requires start { IsPlaced p }
     requires end { IsPlaced q }
     ensures value { result ≡ spec.line_between lines w p q }
-    ensures any { IfOk result (λ sketch. spec.line_between Lines.Any w p q ≡ Ok sketch) }
     ensures near { IfOk result IsNear }
 {
     if p.x == q.x {
         Ok(strip(w, p, q, w, 0))
-    } else {
-        level_or_slanted(lines, w, p, q)
-    }
-}
-
-fn level_or_slanted(lines: Lines, w: u64, p: Spot, q: Spot) -> Result<Option<Sketch>, MacroFault>
-    requires width { w ≤ METRE }
-    requires start { IsPlaced p }
-    requires end { IsPlaced q }
-    ensures value { result ≡ spec.level_or_slanted lines w p q }
-    ensures any { IfOk result (λ sketch. spec.level_or_slanted Lines.Any w p q ≡ Ok sketch) }
-    ensures near { IfOk result IsNear }
-{
-    if p.y == q.y {
+    } else if p.y == q.y {
         Ok(strip(w, p, q, 0, w))
     } else {
         slanted(lines, w, p, q)
@@ -94,7 +80,6 @@ fn slanted(lines: Lines, w: u64, p: Spot, q: Spot) -> Result<Option<Sketch>, Mac
     requires start { IsPlaced p }
     requires end { IsPlaced q }
     ensures value { result ≡ spec.slanted lines w p q }
-    ensures any { IfOk result (λ sketch. spec.slanted Lines.Any w p q ≡ Ok sketch) }
     ensures near { IfOk result IsNear }
 {
     match lines {

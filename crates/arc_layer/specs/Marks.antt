@@ -2,6 +2,8 @@
 use Rattle.std.specs.Prelude.{ℕ, ◌+◌, Bool, true, false, ◌&&◌, ◌==◌, if◌then◌else◌, List, [], ◌∷◌, ◌++◌, length, All, Option, Some, None, is_some, Result, Ok, Err, IfSome}
 use Rattle.std.specs.List.{list_any}
 use Rattle.planar.specs.Plane.{IsPlaced}
+use Rattle.file_reading.specs.Faults.{IsFault}
+use Rattle.file_reading.specs.declared.fault.FileFault.{FileFault}
 use Rattle.file_reading.specs.Reading as reading
 use Rattle.file_reading.specs.Reading.{Item}
 use Rattle.gerber_words.specs.Items as words
@@ -13,8 +15,6 @@ use Rattle.arc_layer.specs.Bends.{IsShort, bend_of}
 use Rattle.arc_layer.specs.State.{state_before}
 use Rattle.arc_layer.specs.Words.{Saying, saying, stop_saying}
 use Rattle.arc_layer.specs.declared.draws.Bend.{Bend}
-use Rattle.arc_layer.specs.declared.kind.RealFault.{RealFault}
-use Rattle.arc_layer.specs.declared.kind.RealFault.TheVariants as fault
 use Rattle.arc_layer.specs.declared.kind.RealKind.{RealKind}
 use Rattle.arc_layer.specs.declared.mark.Mark.{Mark}
 use Rattle.arc_layer.specs.declared.mark.Mark.TheVariants as seen
@@ -137,6 +137,5 @@ abbrev pub AreShort : (ℕ → Option PlainMark) → Type 0
 AreShort marks = (n : ℕ) → IfSome (marks n) IsShortMark
 
 -- why there are no marks: the file is refused, or memory is wanted
-abbrev pub IsBendFault : List ℕ → RealFault → Type 0
-IsBendFault file (fault.Refused kind number place) = IsBendRefused file kind number place
-IsBendFault file fault.NoMemory = Unit {0}
+abbrev pub IsBendFault : List ℕ → FileFault RealKind → Type 0
+IsBendFault file why = IsFault (IsBendRefused file) why

@@ -10,18 +10,17 @@ use Rattle.arcs.specs.declared.Arc.{Arc}
 use Rattle.slants.specs.declared.Slant.{Slant}
 use Rattle.arc_regions.specs.declared.Part.{Part}
 use Rattle.arc_regions.specs.declared.Part.TheVariants.{Straight, Curved}
+use Rattle.file_reading.specs.Faults.{IsFault}
 use Rattle.file_reading.specs.Reading as reading
-use Rattle.gerber_layer.specs.CommandEffects.{Place}
+use Rattle.file_reading.specs.declared.fault.FileFault.{FileFault}
+use Rattle.file_reading.specs.declared.fault.FileFault.TheVariants as fault
+use Rattle.gerber_layer.specs.declared.place.Place.{Place}
 use Rattle.gerber_layer.specs.Dialect.{IsReadBy, IsRefusedBy}
 use Rattle.gerber_layer.specs.MacroLayer.{loose as loose_words}
-use Rattle.gerber_layer.specs.declared.macro_kind.FlattenFault.{FlattenFault}
-use Rattle.gerber_layer.specs.declared.macro_kind.FlattenFault.TheVariants as layer
 use Rattle.gerber_layer.specs.declared.macro_kind.FlattenKind.{FlattenKind}
 use Rattle.arc_layer.specs.Marks.{AreMarks, IsBendRefused, PlainMark, arc, contour, flash}
 use Rattle.arc_layer.specs.Centres.{moved}
 use Rattle.arc_layer.specs.declared.draws.Bend.{Bend}
-use Rattle.arc_layer.specs.declared.kind.RealFault.{RealFault}
-use Rattle.arc_layer.specs.declared.kind.RealFault.TheVariants as fault
 use Rattle.arc_layer.specs.declared.kind.RealKind.{RealKind}
 use Rattle.arc_layer.specs.declared.kind.RealKind.TheVariants.{Copper}
 use Rattle.real_shapes.specs.declared.RealShape.{RealShape}
@@ -131,21 +130,20 @@ abbrev pub HasOneRealAnswer : List ℕ → Place → Type 0
 HasOneRealAnswer file p = reading.HasOneAnswer (IsRealCopper file p) (IsRealRefused file p)
 
 -- why there are no pieces
-abbrev pub IsRealFault : List ℕ → Place → RealFault → Type 0
-IsRealFault file p (fault.Refused kind number place) = IsRealRefused file p kind number place
-IsRealFault file p fault.NoMemory = Unit {0}
+abbrev pub IsRealFault : List ℕ → Place → FileFault RealKind → Type 0
+IsRealFault file p why = IsFault (IsRealRefused file p) why
 
 -- of two refusals that of the bends counts where its command is the lesser
-abbrev pub earlier : FlattenKind → ℕ → ℕ → RealFault → RealFault
+abbrev pub earlier : FlattenKind → ℕ → ℕ → FileFault RealKind → FileFault RealKind
 earlier kind number place fault.NoMemory = fault.NoMemory
 earlier kind number place (fault.Refused own n at) = if nat_lt n number then fault.Refused own n at else fault.Refused (Copper kind) number place
 
-abbrev pub fault_of : {A : Type 0} → Result A RealFault → Option RealFault
+abbrev pub fault_of : {A : Type 0} → Result A (FileFault RealKind) → Option (FileFault RealKind)
 fault_of (Ok x) = None
 fault_of (Err why) = Some why
 
 -- why there are no pieces, where the first reading has none
-abbrev pub first_fault : FlattenFault → Option RealFault → RealFault
-first_fault layer.NoMemory bends = fault.NoMemory
-first_fault (layer.Refused kind number place) None = fault.Refused (Copper kind) number place
-first_fault (layer.Refused kind number place) (Some why) = earlier kind number place why
+abbrev pub first_fault : FileFault FlattenKind → Option (FileFault RealKind) → FileFault RealKind
+first_fault fault.NoMemory bends = fault.NoMemory
+first_fault (fault.Refused kind number place) None = fault.Refused (Copper kind) number place
+first_fault (fault.Refused kind number place) (Some why) = earlier kind number place why

@@ -15,24 +15,19 @@ use crate::state::State;
 use file_reading::Halt;
 use gerber_layer::{Code, Command, code_of};
 
+/// The bends of the edges of a contour.
+pub type Edges = Vec<Option<Bend>>;
+
 fn is_flash(code: Code) -> bool
     ensures { result ≡ spec.is_flash code }
 {
-    match code {
-        Code::Draw => false,
-        Code::Move => false,
-        Code::Flash => true,
-    }
+    matches!(code, Code::Flash)
 }
 
 fn is_move(code: Code) -> bool
     ensures { result ≡ spec.is_move code }
 {
-    match code {
-        Code::Draw => false,
-        Code::Move => true,
-        Code::Flash => false,
-    }
+    matches!(code, Code::Move)
 }
 
 /// Whether a command is a flash behind the name of a macro.
@@ -76,7 +71,7 @@ fn is_curved(edges: &[Option<Bend>]) -> bool
 }
 
 /// The mark of the end of a contour of these edges.
-pub fn contour_mark(edges: Vec<Option<Bend>>) -> Option<Mark>
+pub fn contour_mark(edges: Edges) -> Option<Mark>
     requires { All IsShort edges.items }
     ensures value { option_map plain_mark result ≡ spec.contour_mark edges.items }
     ensures short { IfSome (option_map plain_mark result) IsShortMark }
@@ -88,10 +83,7 @@ pub fn contour_mark(edges: Vec<Option<Bend>>) -> Option<Mark>
     }
 }
 
-fn lengthened(
-    edges: Vec<Option<Bend>>,
-    bend: Option<Bend>,
-) -> Result<Vec<Option<Bend>>, Halt<RealKind>>
+fn lengthened(edges: Edges, bend: Option<Bend>) -> Result<Edges, Halt<RealKind>>
     requires edges { All IsShort edges.items }
     requires bend { IsShort bend }
     ensures short { IfOk result (λ longer. All IsShort longer.items) }
@@ -105,7 +97,7 @@ fn lengthened(
     }
 }
 
-fn none(edges: Vec<Option<Bend>>) -> Vec<Option<Bend>>
+fn none(edges: Edges) -> Edges
     ensures { result.items ≡ [] }
 {
     let mut none = edges;
@@ -113,21 +105,14 @@ fn none(edges: Vec<Option<Bend>>) -> Vec<Option<Bend>>
     none
 }
 
-fn edge_by(
-    code: Code,
-    inside: bool,
-    edges: Vec<Option<Bend>>,
-    bend: Option<Bend>,
-) -> Result<Vec<Option<Bend>>, Halt<RealKind>>
+// The edges behind an operation in a region.
+fn edge_by(code: Code, edges: Edges, bend: Option<Bend>) -> Result<Edges, Halt<RealKind>>
     requires edges { All IsShort edges.items }
     requires bend { IsShort bend }
     ensures short { IfOk result (λ later. All IsShort later.items) }
-    ensures value { IfOk result (λ later. later.items ≡ spec.edge_by code inside edges.items bend) }
+    ensures value { IfOk result (λ later. later.items ≡ spec.edge_by code true edges.items bend) }
     ensures halt { IfErr result (λ h. h ≡ halt.NoMemory) }
 {
-    if !inside {
-        return Ok(edges);
-    }
     match code {
         Code::Draw => lengthened(edges, bend),
         Code::Move => Ok(none(edges)),
@@ -139,9 +124,9 @@ fn edge_by(
 pub fn edges_behind(
     command: &Command,
     inside: bool,
-    edges: Vec<Option<Bend>>,
+    edges: Edges,
     bend: Option<Bend>,
-) -> Result<Vec<Option<Bend>>, Halt<RealKind>>
+) -> Result<Edges, Halt<RealKind>>
     requires edges { All IsShort edges.items }
     requires bend { IsShort bend }
     ensures short { IfOk result (λ later. All IsShort later.items) }
@@ -149,7 +134,11 @@ pub fn edges_behind(
     ensures halt { IfErr result (λ h. h ≡ halt.NoMemory) }
 {
     match *command {
-        Command::Operate(_, _, code) => edge_by(code_of(code), inside, edges, bend),
+        Command::Operate(_, _, code) => if inside {
+            edge_by(code_of(code), edges, bend)
+        } else {
+            Ok(edges)
+        },
         Command::OpenRegion => Ok(none(edges)),
         Command::CloseRegion => Ok(none(edges)),
         _ => Ok(edges),

@@ -3,7 +3,7 @@ ghost use Rattle.arc_layer.specs.Kinds as spec;
 ghost use Rattle.arc_layer.specs.Kinds.{real_row};
 ghost use Rattle.std.specs.Prelude.{◌≡◌};
 
-use file_reading::{RefusalKind, name_of};
+use file_reading::{FileFault, RefusalKind, name_of};
 use gerber_layer::{FlattenKind, GerberKind};
 
 /// Why a command of a copper file with arcs is refused. Sections are those of the Gerber Layer Format
@@ -47,17 +47,5 @@ impl RefusalKind for RealKind {
     }
 }
 
-/// Why a copper file with arcs is not read: its first faulty command, by its number from 1 and the place of
-/// its first byte, or want of memory.
-#[derive(Clone, Copy, Debug, PartialEq, Eq)]
-pub enum RealFault {
-    Refused {
-        kind: RealKind,
-        /// The number of the command, from 1.
-        command: u32,
-        /// The place of its first byte in the file, from 0.
-        at: usize,
-    },
-    /// Memory is wanted.
-    NoMemory,
-}
+/// Why a copper file with arcs is not read.
+pub type RealFault = FileFault<RealKind>;

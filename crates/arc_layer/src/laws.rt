@@ -2,7 +2,7 @@
 ghost use Rattle.arc_layer.specs.Kinds.{RealKindsHaveOwnNumbers};
 ghost use Rattle.arc_layer.specs.Laws.{EachEdgeHasABend, MarksFitAreas};
 ghost use Rattle.arc_layer.specs.Real.{HasOneRealAnswer};
-ghost use Rattle.gerber_layer.specs.CommandEffects.{Place};
+ghost use Rattle.gerber_layer.specs.declared.place.Place.{Place};
 ghost use Rattle.std.specs.Prelude.{ℕ, List};
 
 use gerber_layer::laws::{kinds_have_own_numbers, one_loose_answer};

@@ -95,28 +95,6 @@ impl Reader {
         self.put(contour_mark(edges))
     }
 
-    // Goes on with the open contour, if there is one.
-    fn go_on(
-        &mut self,
-        alloc: Global,
-        state: &State,
-        command: &Command,
-        bend: Option<Bend>,
-    ) -> Result<(), Halt<RealKind>>
-        requires short { AreShort (marks_so_far self.old) }
-        requires edges { All IsShort self.old.edges.items }
-        requires bend { IsShort bend }
-        ensures marked { OnOk result (IsMarked self.old (mark_by bend (flashes (view command.now) state.now)) self.new) }
-        ensures edges { OnOk result (self.new.edges.items ≡ edges_by (view command.now) state.now.region self.old.edges.items bend) }
-        ensures short { OnOk result (AreShort (marks_so_far self.new)) }
-        ensures shorts { OnOk result (All IsShort self.new.edges.items) }
-        ensures halt { IfErr result (λ h. h ≡ halt.NoMemory) }
-    {
-        let edges = replace(&mut self.edges, Vec::new(alloc));
-        self.edges = edges_behind(command, state.region, edges, bend)?;
-        self.put(mark_by(bend, flashes(command, state)))
-    }
-
     // Takes the last command.
     fn mark(
         &mut self,
@@ -135,10 +113,11 @@ impl Reader {
         ensures halt { IfErr result (λ h. h ≡ halt.NoMemory) }
     {
         if closes(command, state) {
-            self.close(alloc)
-        } else {
-            self.go_on(alloc, state, command, bend)
+            return self.close(alloc);
         }
+        let edges = replace(&mut self.edges, Vec::new(alloc));
+        self.edges = edges_behind(command, state.region, edges, bend)?;
+        self.put(mark_by(bend, flashes(command, state)))
     }
 
     // Takes a word. An `Err` leaves a reader that is of no more use.

@@ -7,6 +7,7 @@ ghost use Rattle.arc_layer.specs.Reading.{marks_of};
 ghost use Rattle.board_shapes.specs.Figures.{figure_of};
 ghost use Rattle.board_shapes.specs.declared.shape.Shape.TheVariants as shape;
 ghost use Rattle.board_shapes.specs.Pieces.{plain_piece, plain_pieces};
+ghost use Rattle.file_reading.specs.declared.fault.FileFault.TheVariants as fault;
 ghost use Rattle.planar.specs.Plane.{IsPlaced};
 ghost use Rattle.std.specs.Prelude.{◌≡◌, ◌≤◌, All, length, map, option_map, IfErr, IfOk, IfSome, Some};
 
@@ -18,10 +19,10 @@ use crate::marks::{Marks, read_marks};
 use arc_regions::{Bend as Curve, Part, Region};
 use arcs::Arc;
 use area_contact::Area;
-use board_shapes::{MOST_LAYERS, Piece, Placed, Room, Shape};
+use board_shapes::{MOST_LAYERS, Piece, Placed, Shape};
 use contact::Capsule;
 use gerber_layer::laws::one_loose_answer;
-use gerber_layer::{FlattenFault, FlattenKind, read_loosely};
+use gerber_layer::{FlattenFault, FlattenKind, Loose, Place, read_layer};
 use gerber_words::laws::words_lie_ahead;
 use planar::Spot;
 use real_shapes::{RealPiece, RealShape};
@@ -127,7 +128,7 @@ fn parts_from(
     requires points { All IsPlaced points.now }
     requires edges { All IsShort edges.now }
     ensures value { IfOk result (λ parts. parts.items ≡ spec.parts_from start points.now edges.now) }
-    ensures fault { IfErr result (λ why. why ≡ RealFault.NoMemory) }
+    ensures fault { IfErr result (λ why. why ≡ fault.NoMemory) }
 {
     let Ok(mut parts) = Vec::with_capacity(alloc, points.len()) else {
         return Err(RealFault::NoMemory);
@@ -149,7 +150,7 @@ fn parts_from(
 fn region_by(alloc: Global, area: Area, edges: &[Option<Bend>]) -> Result<RealShape, RealFault>
     requires edges { All IsShort edges.now }
     ensures value { IfOk result (λ made. real_figure made ≡ spec.region_by area.points.items edges.now) }
-    ensures fault { IfErr result (λ why. why ≡ RealFault.NoMemory) }
+    ensures fault { IfErr result (λ why. why ≡ fault.NoMemory) }
 {
     match area.points.as_slice() {
         [] => Ok(RealShape::Plain(Shape::Filled(area))),
@@ -164,7 +165,7 @@ fn region_by(alloc: Global, area: Area, edges: &[Option<Bend>]) -> Result<RealSh
 fn marked_area(alloc: Global, mark: &Mark, area: Area) -> Result<RealShape, RealFault>
     requires { IsShortMark (plain_mark mark.now) }
     ensures value { IfOk result (λ made. real_figure made ≡ spec.with_mark (Some (plain_mark mark.now)) (figure_of (shape.Filled area))) }
-    ensures fault { IfErr result (λ why. why ≡ RealFault.NoMemory) }
+    ensures fault { IfErr result (λ why. why ≡ fault.NoMemory) }
 {
     match mark {
         Mark::Contour(edges) => region_by(alloc, area, edges),
@@ -176,7 +177,7 @@ fn marked_area(alloc: Global, mark: &Mark, area: Area) -> Result<RealShape, Real
 fn with_mark(alloc: Global, mark: Option<&Mark>, shape: Shape) -> Result<RealShape, RealFault>
     requires { IfSome (option_map (λ m. plain_mark m.now) mark) IsShortMark }
     ensures value { IfOk result (λ made. real_figure made ≡ spec.with_mark (option_map (λ m. plain_mark m.now) mark.entry) (figure_of shape)) }
-    ensures fault { IfErr result (λ why. why ≡ RealFault.NoMemory) }
+    ensures fault { IfErr result (λ why. why ≡ fault.NoMemory) }
 {
     match mark {
         None => Ok(RealShape::Plain(shape)),
@@ -191,7 +192,7 @@ fn with_mark(alloc: Global, mark: Option<&Mark>, shape: Shape) -> Result<RealSha
 fn real_piece(alloc: Global, piece: Piece, marks: &Marks) -> Result<RealPiece, RealFault>
     requires short { AreShort (marks_of marks.now) }
     ensures value { IfOk result (λ made. plain_real made ≡ spec.real_piece (marks_of marks.now) (plain_piece piece)) }
-    ensures fault { IfErr result (λ why. why ≡ RealFault.NoMemory) }
+    ensures fault { IfErr result (λ why. why ≡ fault.NoMemory) }
 {
     let origin = piece.origin;
     let shape = with_mark(alloc, marks.find(origin.command), piece.shape)?;
@@ -210,7 +211,7 @@ fn real_pieces(
 ) -> Result<Vec<RealPiece>, RealFault>
     requires short { AreShort (marks_of marks.now) }
     ensures are { IfOk result (λ reals. plain_reals reals.items ≡ map (spec.real_piece (marks_of marks.now)) (plain_pieces pieces.items)) }
-    ensures fault { IfErr result (λ why. why ≡ RealFault.NoMemory) }
+    ensures fault { IfErr result (λ why. why ≡ fault.NoMemory) }
 {
     let Ok(mut reals) = Vec::with_capacity(alloc, pieces.len()) else {
         return Err(RealFault::NoMemory);
@@ -269,28 +270,22 @@ fn first_fault(straight: FlattenFault, marks: Result<Marks, RealFault>) -> RealF
 
 /// The real copper of a layer, in the order of the commands that make it; all lengths are in u, a tenth of
 /// a nanometre. A draw under `G02` or `G03` is its arc, a vector line of a macro that runs along no axis its
-/// rectangle, and each other piece what `read_loosely` has.
+/// rectangle, and each other piece what `read_layer::<Loose>` has.
 ///
-/// `layer`, `file_number` and `room` are as for `read_layer`. `Refused` is the first command with a
+/// `Refused` is the first command with a
 /// fault, also of an arc, and the first condition of its row that holds; want of memory is `NoMemory`.
 /// The file has at most `MOST_BYTES` bytes.
-pub fn read_real(
-    alloc: Global,
-    file: &[u8],
-    layer: u8,
-    file_number: u32,
-    room: Room,
-) -> Result<Vec<RealPiece>, RealFault>
-    requires layer { (1 ≤ layer) × (layer ≤ MOST_LAYERS) }
+pub fn read_real(alloc: Global, file: &[u8], place: Place) -> Result<Vec<RealPiece>, RealFault>
+    requires layer { (1 ≤ place.layer) × (place.layer ≤ MOST_LAYERS) }
     requires size { length file.now ≤ MOST_BYTES }
-    ensures ok { IfOk result (λ pieces. IsRealCopper file.now (record { layer = layer; file = file_number; room = room }) (plain_reals pieces.items)) }
-    ensures few { IfOk result (λ pieces. length pieces.items ≤ room.pieces) }
-    ensures layers { IfOk result (λ pieces. All (λ piece. (piece.top ≡ layer) × (piece.bottom ≡ layer)) pieces.items) }
-    ensures fault { IfErr result (IsRealFault file.now (record { layer = layer; file = file_number; room = room })) }
+    ensures ok { IfOk result (λ pieces. IsRealCopper file.now place (plain_reals pieces.items)) }
+    ensures few { IfOk result (λ pieces. length pieces.items ≤ place.room.pieces) }
+    ensures layers { IfOk result (λ pieces. All (λ piece. (piece.top ≡ place.layer) × (piece.bottom ≡ place.layer)) pieces.items) }
+    ensures fault { IfErr result (IsRealFault file.now place) }
 {
     words_lie_ahead();
     one_loose_answer();
-    let straight = read_loosely(alloc, file, layer, file_number, room);
+    let straight = read_layer::<Loose>(alloc, file, place);
     let marks = read_marks(alloc, file);
     match straight {
         Ok(pieces) => match marks {

@@ -4,8 +4,8 @@ use Rattle.board_shapes.specs.Plain.{PlainBoard, PlainPiece}
 use Rattle.board_shapes.specs.declared.placed.Room.{Room}
 use Rattle.gerber_layer.specs.Layer as layer_file
 use Rattle.gerber_layer.specs.declared.kind.GerberKind.{GerberKind}
-use Rattle.gerber_layer.specs.declared.kind.LayerFault.{LayerFault}
-use Rattle.gerber_layer.specs.declared.kind.LayerFault.TheVariants as layer_fault
+use Rattle.file_reading.specs.declared.fault.FileFault.{FileFault}
+use Rattle.file_reading.specs.declared.fault.FileFault.TheVariants as layer_fault
 use Rattle.ipc356_records.specs.NetlistFile as netlist_file
 use Rattle.ipc356_records.specs.declared.kind.RecordFault.{RecordFault}
 use Rattle.ipc356_records.specs.declared.kind.RecordFault.TheVariants as record_fault
@@ -27,12 +27,12 @@ use Rattle.board_package.specs.declared.contents.Refusal.TheVariants as refusal
 halts_as : (e : Entry) (r : Role) (bytes : List ℕ) (before : PlainBoard) (why : Refusal) (given : BuildFault) → e.role ≡ r → Refuses r e.number bytes before why → HasRefusal e.name why given → Halts e bytes before given
 halts_as e r bytes before why given is refuses has = inr (why, subst (λ (x : Role). Refuses x e.number bytes before why) (sym is) refuses, has)
 
-pub layer_halts : (e : Entry) (layer : ℕ) (bytes : List ℕ) (before : PlainBoard) (room : Room) (fault : LayerFault) (kind : GerberKind) (command at : ℕ) (given : BuildFault) → e.role ≡ role.Copper layer → room ≡ room_left before.pieces
+pub layer_halts : (e : Entry) (layer : ℕ) (bytes : List ℕ) (before : PlainBoard) (room : Room) (fault : FileFault GerberKind) (kind : GerberKind) (command at : ℕ) (given : BuildFault) → e.role ≡ role.Copper layer → room ≡ room_left before.pieces
     → layer_file.IsFault bytes (record { layer = layer; file = e.number; room = room }) fault → fault ≡ layer_fault.Refused kind command at → HasRefusal e.name (refusal.Layer kind command at) given → Halts e bytes before given
 layer_halts e layer bytes before room fault kind command at given is left refuses same has =
     halts_as e (role.Copper layer) bytes before (refusal.Layer kind command at) given is
     (subst (λ (q : Room). layer_file.IsRefused bytes (record { layer = layer; file = e.number; room = q }) kind command at) left
-    (subst (λ (f : LayerFault). layer_file.IsFault bytes (record { layer = layer; file = e.number; room = room }) f) same refuses))
+    (subst (λ (f : FileFault GerberKind). layer_file.IsFault bytes (record { layer = layer; file = e.number; room = room }) f) same refuses))
     has
 
 pub drill_halts : (e : Entry) (from to : ℕ) (bytes : List ℕ) (before : PlainBoard) (room : Room) (fault : DrillFault) (kind : DrillKind) (line at : ℕ) (given : BuildFault) → e.role ≡ role.Drill from to → room ≡ room_left before.pieces

@@ -12,8 +12,8 @@ use Rattle.board_maker.specs.declared.made.MakeFault.TheVariants as made
 use Rattle.boardnet.specs.Bounded.{unbound_line}
 use Rattle.boardnet.specs.Common.{arc_line}
 use Rattle.boardnet.specs.Gapped.{IsTooWide}
-use Rattle.gerber_layer.specs.declared.macro_kind.FlattenFault.{FlattenFault}
-use Rattle.gerber_layer.specs.declared.macro_kind.FlattenFault.TheVariants as flat
+use Rattle.file_reading.specs.declared.fault.FileFault.{FileFault}
+use Rattle.file_reading.specs.declared.fault.FileFault.TheVariants as flat
 use Rattle.gaps.specs.declared.listing.GapFault.{GapFault}
 use Rattle.gaps.specs.declared.listing.GapFault.TheVariants as gap
 use Rattle.boardnet.specs.Lines.{counted_line, plain_line, file_line, findings_line, frame_line, label_line, manifest_frame_line, end}
@@ -105,7 +105,7 @@ IsUngapped board nanometres (gap.FrameTooLarge box) = IsTooWide board nanometres
 IsUngapped board nanometres gap.NoMemory = Unit {0}
 
 -- why there is no answer where a copper file is not flattened
-abbrev pub unflat_of : FlattenFault → Unanswered
+abbrev pub unflat_of : FileFault FlattenKind → Unanswered
 unflat_of (flat.Refused kind command at) = Unflat kind command at
 unflat_of flat.NoMemory = Stopped fault.NoMemory
 

@@ -6,16 +6,20 @@ mod straight;
 
 use board_shapes::{MOST_LAYERS, Piece, Room, Shape};
 use file_reading::RefusalKind;
-use gerber_layer::{LayerFault, read_layer};
+use gerber_layer::{LayerFault, Place, Plain, read_layer};
 use std::alloc::{AllocError, Global};
 use std::fmt::Write;
 use std::test::Fail;
 use texts::MOST_BYTES;
 
-/// The room of every row.
-pub const ROOM: Room = Room {
-    pieces: 6,
-    edges: 16,
+/// The place and the room of a row.
+pub const PLACE: Place = Place {
+    layer: 1,
+    file: 0,
+    room: Room {
+        pieces: 6,
+        edges: 16,
+    },
 };
 
 /// Layers and files with their pieces in order, each on a line: a capsule by its ends and its radius
@@ -146,7 +150,9 @@ pub fn told(alloc: Global, layer: u8, file: &[u8]) -> Result<String, AllocError>
     if layer < 1 || layer > MOST_LAYERS || file.len() > MOST_BYTES {
         return String::from_str(alloc, "no layer");
     }
-    match read_layer(alloc, file, layer, 0, ROOM) {
+    let mut place = PLACE;
+    place.layer = layer;
+    match read_layer::<Plain>(alloc, file, place) {
         Ok(pieces) => image(alloc, &pieces),
         Err(LayerFault::NoMemory) => String::from_str(alloc, "no memory"),
         Err(LayerFault::Refused { kind, command, at }) => {

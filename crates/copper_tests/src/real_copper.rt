@@ -3,6 +3,7 @@
 use arc_layer::{Arc, RealFault, RealPiece, RealShape, read_real};
 use arc_regions::Part;
 use board_shapes::{Room, Shape};
+use gerber_layer::Place;
 use std::alloc::{AllocError, Global};
 use std::fmt::Write;
 use std::test::Fail;
@@ -76,7 +77,12 @@ fn told(alloc: Global, words: &str) -> Result<String, AllocError> {
         pieces: 6,
         edges: 16,
     };
-    match read_real(alloc, file.as_bytes(), 1, 0, room) {
+    let place = Place {
+        layer: 1,
+        file: 0,
+        room,
+    };
+    match read_real(alloc, file.as_bytes(), place) {
         Ok(pieces) => copper(alloc, &pieces),
         Err(RealFault::NoMemory) => String::from_str(alloc, "no memory"),
         Err(RealFault::Refused { kind, command, .. }) => {

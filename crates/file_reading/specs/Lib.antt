@@ -1,4 +1,5 @@
 pub mod Conditions
+pub mod Faults
 pub mod Kinds
 pub mod LookingBack
 pub mod Reading

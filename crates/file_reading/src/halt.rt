@@ -1,5 +1,8 @@
 //! Why a reader stops.
 ghost use Rattle.std.specs.Prelude.{◌≡◌};
+ghost use Rattle.file_reading.specs.Faults.{stopped_at};
+
+use crate::fault::FileFault;
 
 /// What stops a reader at an item: the item's fault, or want of memory.
 #[derive(Clone, Copy, Debug, Drop)]
@@ -8,6 +11,18 @@ pub enum Halt<W> {
     Fault(W),
     /// Memory is wanted.
     NoMemory,
+}
+
+impl<W> Halt<W> {
+    /// Why the file is not read that stops at the command of this number, from 1, at this place.
+    pub fn fault_at(self, command: u32, at: usize) -> FileFault<W>
+        ensures { result ≡ stopped_at command at self }
+    {
+        match self {
+            Halt::Fault(kind) => FileFault::Refused { kind, command, at },
+            Halt::NoMemory => FileFault::NoMemory,
+        }
+    }
 }
 
 /// So a fault climbs by `?`.

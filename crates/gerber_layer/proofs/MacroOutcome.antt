@@ -108,7 +108,7 @@ defined_any lines k text e h =
         }
     by unit is false of h = define_did k text e (gerber_ok (define k text) e h)
 
-row_did : (lines : Lines) (k : Known) (c : Command) (e : Effect) → macro_row lines k c ≡ Ok e → Outcome k c e
+pub row_did : (lines : Lines) (k : Known) (c : Command) (e : Effect) → macro_row lines k c ≡ Ok e → Outcome k c e
 unfolding macro_row
 row_did lines k (names_macro name) e h = named k name e h
 row_did lines k (body_word text) e h = filled_is k text e h
@@ -124,7 +124,7 @@ few_same : (x e : Effect) → few_radii x ≡ Ok e → x ≡ e
 few_same (concludes pieces) e h = let f : ◌≡◌ {A = Result Effect FlattenKind} (Ok (concludes pieces)) (Ok e) = past_test (nat_lt MOST_APERTURES (length (radii_of pieces))) TooManyRadii (Ok (concludes pieces)) e h in cc
 few_same other e h = cc
 
-few_ok : (r : Result Effect FlattenKind) (e : Effect) → (r >>= few_radii) ≡ Ok e → r ≡ Ok e
+pub few_ok : (r : Result Effect FlattenKind) (e : Effect) → (r >>= few_radii) ≡ Ok e → r ≡ Ok e
 few_ok r e h = let f = bind_ok r few_radii e h in f.1 ∙ ap (λ (x : Effect). Ok x) (few_same f.0 e f.2)
 
 pub outcome_with_macros : (k : Known) (c : Command) (e : Effect) → effect_with_macros k c ≡ Ok e → Outcome k c e

@@ -1,5 +1,5 @@
 -- The pieces of a file stand on its layer.
-use Rattle.std.proofs.Common.{◌≡◌, ℕ, ◌+◌, ◌*◌, ℤ, pos, ◌*ℤ◌, ◌≤◌, Bool, true, false, cond, List, [], ◌∷◌, ◌++◌, length, map, take, drop, All, Option, Some, None, Result, Ok, Err, IfOk, refl, sym, ap, ◌∙◌, subst}
+use Rattle.std.proofs.Common.{◌≡◌, ℕ, ◌+◌, ◌*◌, ℤ, pos, ◌*ℤ◌, ◌≤◌, Bool, true, false, cond, List, [], ◌∷◌, ◌++◌, length, map, take, drop, All, Option, Some, None, Result, Ok, Err, IfOk, refl, sym, subst}
 use Rattle.std.specs.List.{flat_map, range_with_len}
 use Rattle.std.proofs.lemmas.List.{length-map, get_or-map}
 use Rattle.std.proofs.lemmas.List.Elements.{All-append, All-cons, All-nil, All-take, All-drop, All-map, All-weaker}
@@ -12,27 +12,23 @@ use Rattle.board_shapes.specs.declared.shape.Shape.{Shape}
 use Rattle.step_repeat.specs.Copies.{Refusal, out_of_range, copies_at, copies_of, placed_copies, are_placed, room_fault, column_of, block_at}
 use Rattle.step_repeat.specs.declared.repeat.Repeat.{Repeat}
 use Rattle.file_reading.specs.Reading.{said}
-use Rattle.gerber_layer.specs.Command.{Command, defines, repeats, opens_region, closes_region, operates, ends, names_macro, body_word}
+use Rattle.gerber_layer.specs.Command.{Command, defines, functions, repeats, opens_region, closes_region, operates, ends, names_macro, body_word}
 use Rattle.gerber_layer.specs.declared.kind.GerberKind.{GerberKind}
 use Rattle.gerber_layer.specs.declared.kind.GerberKind.TheVariants as kind
 use Rattle.gerber_layer.specs.declared.command.Code.{Code}
 use Rattle.gerber_layer.specs.declared.command.Code.TheVariants.{Draw, Move, Flash}
 use Rattle.aperture_macros.specs.BodyWord.{PlainPrimitive, primitive_at}
 use Rattle.aperture_macros.specs.declared.fault.MacroFault.{MacroFault}
-use Rattle.aperture_macros.specs.declared.primitive.Lines.TheVariants.{Any}
+use Rattle.aperture_macros.specs.declared.primitive.Lines.{Lines}
+use Rattle.aperture_macros.specs.declared.primitive.Lines.TheVariants.{AlongAxes, Any}
 use Rattle.gerber_layer.specs.declared.macro_kind.FlattenKind.TheVariants.{Gerber}
-use Rattle.gerber_layer.specs.MacroTable.{effect_loosely, gerber, macro_row}
-use Rattle.gerber_layer.specs.MacroLayer.{loose}
-use Rattle.gerber_layer.proofs.MacroOutcome.{gerber_ok, outcome_loosely}
+use Rattle.gerber_layer.specs.MacroTable.{effect_loosely, effect_with_macros, few_radii, macro_row, row_with_macros}
+use Rattle.gerber_layer.specs.Outcomes.{KeepsLayer, OnLayer}
+use Rattle.gerber_layer.proofs.MacroOutcome.{few_ok, gerber_ok, row_did}
 use Rattle.gerber_layer.specs.CommandEffects.{Place, Known, Effect, Profile, stays, begins_macro, fills_macro, is_finish, performs, extends, closes, opens, leaves, steps, concludes, ◌>>=◌, as_copies, with_copies, left, listed, ended_block, next_block, repeat, row, effect, code_of}
 use Rattle.gerber_layer.specs.Image.{image_by, known_by, pieces_by, made, piece_of, pieces_after, with_effect}
 use Rattle.gerber_layer.specs.Dialect.{Dialect, IsReadBy}
-use Rattle.gerber_layer.specs.Layer.{IsRead, standard}
-use Rattle.gerber_layer.proofs.Outcome.{bind_ok, not_body, past_test, outcome, IsEffect, IsFilled}
-
--- the piece is on the layer
-abbrev OnLayer : Place → PlainPiece → Type 0
-OnLayer p piece = (piece.top ≡ p.layer) × (piece.bottom ≡ p.layer)
+use Rattle.gerber_layer.proofs.Outcome.{bind_ok, no_macro, ok_stays, past_test, row_outcome, IsEffect, IsFilled}
 
 -- ---- Copies
 
@@ -123,45 +119,54 @@ ends_on p k n e on h =
     let all = bind_ok (ended_block k) (λ pieces. Ok (concludes pieces)) e one in
     after_by p n k.pieces all.0 (concludes all.0) e all.2 (ended_on p k all.0 on all.1)
 
-effect_on : (p : Place) (k : Known) (n : ℕ) (c : Command) (e : Effect) → All (OnLayer p) k.pieces → effect k c ≡ Ok e → All (OnLayer p) (pieces_after p n k.pieces e)
-unfolding effect row
-effect_on p k n (repeats text) e on h = repeats_on p k n text e on (past_test k.settings.ended kind.AfterEnd (repeat k text) e h)
-effect_on p k n ends e on h = ends_on p k n e on (past_test k.settings.ended kind.AfterEnd _ e h)
-effect_on p k n (defines text) e on h = let o = outcome k (defines text) e h in simple_on p n k.pieces e (simple_by e _ o.is tt) on
-effect_on p k n (operates x y code) e on h = let o = outcome k (operates x y code) e h in simple_on p n k.pieces e (simple_effect e k.settings.region (code_of code) o.to o.is) on
-effect_on p k n opens_region e on h = simple_on p n k.pieces e (simple_by e opens (outcome k opens_region e h) tt) on
-effect_on p k n closes_region e on h = let o = outcome k closes_region e h in simple_on p n k.pieces e (simple_by e (leaves o.0) o.1 tt) on
-effect_on p k n (names_macro name) e on h = simple_on p n k.pieces e (simple_by e (begins_macro name) (outcome k (names_macro name) e h) tt) on
-effect_on p k n (body_word text) e on h = absurd (not_body k text e h)
-effect_on p k n other e on h = simple_on p n k.pieces e (simple_by e stays (outcome k other e h) tt) on
-
--- a row that is the same without macros
-same_row : (k : Known) (c : Command) (e : Effect) → macro_row Any k c ≡ gerber (row k c) → effect_loosely k c ≡ Ok e → effect k c ≡ Ok e
-unfolding effect_loosely effect
-same_row k c e same h = by k.settings.ended (is_finish c) h
-  where
-    by : (b f : Bool) → cond b (cond f (Ok stays) (Err (Gerber kind.AfterEnd))) (macro_row Any k c) ≡ Ok e → cond b (cond f (Ok stays) (Err kind.AfterEnd)) (row k c) ≡ Ok e
-    by true true h = let is : stays ≡ e = cc in ap (λ (x : Effect). Ok x) is
-    by true false h = cc
-    by false f h = gerber_ok (row k c) e (sym same ∙ h)
+row_on : (p : Place) (k : Known) (n : ℕ) (c : Command) (e : Effect) → All (OnLayer p) k.pieces → row k c ≡ Ok e → All (OnLayer p) (pieces_after p n k.pieces e)
+unfolding row
+row_on p k n (repeats text) e on h = repeats_on p k n text e on h
+row_on p k n ends e on h = ends_on p k n e on h
+row_on p k n (defines text) e on h = let o = row_outcome k (defines text) e h in simple_on p n k.pieces e (simple_by e _ o.is tt) on
+row_on p k n (operates x y code) e on h = let o = row_outcome k (operates x y code) e h in simple_on p n k.pieces e (simple_effect e k.settings.region (code_of code) o.to o.is) on
+row_on p k n opens_region e on h = simple_on p n k.pieces e (simple_by e opens (row_outcome k opens_region e h) tt) on
+row_on p k n closes_region e on h = let o = row_outcome k closes_region e h in simple_on p n k.pieces e (simple_by e (leaves o.0) o.1 tt) on
+row_on p k n (names_macro name) e on h = absurd (no_macro e h)
+row_on p k n (body_word text) e on h = absurd (no_macro e h)
+row_on p k n other e on h = simple_on p n k.pieces e (simple_by e stays (row_outcome k other e h) tt) on
 
 filled_on : (p : Place) (k : Known) (n : ℕ) (r : Result (Option PlainPrimitive) MacroFault) (e : Effect) → IsFilled r e → All (OnLayer p) k.pieces → All (OnLayer p) (pieces_after p n k.pieces e)
 filled_on p k n (Ok None) e is on = simple_on p n k.pieces e (simple_by e stays is tt) on
 filled_on p k n (Ok (Some primitive)) e is on = simple_on p n k.pieces e (simple_by e (fills_macro primitive) is tt) on
 filled_on p k n (Err fault) e is on = absurd is
 
-loose_on : (p : Place) (k : Known) (n : ℕ) (c : Command) (e : Effect) → All (OnLayer p) k.pieces → effect_loosely k c ≡ Ok e → All (OnLayer p) (pieces_after p n k.pieces e)
+macro_on : (lines : Lines) (p : Place) (k : Known) (n : ℕ) (c : Command) (e : Effect) → All (OnLayer p) k.pieces → macro_row lines k c ≡ Ok e → All (OnLayer p) (pieces_after p n k.pieces e)
 unfolding macro_row
-loose_on p k n (names_macro name) e on h = simple_on p n k.pieces e (simple_by e (begins_macro name) (outcome_loosely k (names_macro name) e h) tt) on
-loose_on p k n (body_word text) e on h = filled_on p k n (primitive_at text) e (outcome_loosely k (body_word text) e h) on
-loose_on p k n (defines text) e on h = let o = outcome_loosely k (defines text) e h in simple_on p n k.pieces e (simple_by e _ o.is tt) on
-loose_on p k n other e on h = effect_on p k n other e on (same_row k other e refl h)
+macro_on lines p k n (names_macro name) e on h = simple_on p n k.pieces e (simple_by e (begins_macro name) (row_did lines k (names_macro name) e h) tt) on
+macro_on lines p k n (body_word text) e on h = filled_on p k n (primitive_at text) e (row_did lines k (body_word text) e h) on
+macro_on lines p k n (defines text) e on h = let o = row_did lines k (defines text) e h in simple_on p n k.pieces e (simple_by e _ o.is tt) on
+macro_on lines p k n other e on h = row_on p k n other e on (gerber_ok (row k other) e h)
+
+flat_on : (p : Place) (k : Known) (n : ℕ) (c : Command) (e : Effect) → All (OnLayer p) k.pieces → row_with_macros k c ≡ Ok e → All (OnLayer p) (pieces_after p n k.pieces e)
+unfolding row_with_macros
+flat_on p k n (functions function layer) e on h = simple_on p n k.pieces e (simple_by e stays (ok_stays e h) tt) on
+flat_on p k n other e on h = macro_on AlongAxes p k n other e on h
+
+-- behind the end nothing is made
+ended_or : {W : Type 0} (p : Place) (k : Known) (n : ℕ) (ended finish : Bool) (why : W) (row : Result Effect W) (e : Effect) → All (OnLayer p) k.pieces → (row ≡ Ok e → All (OnLayer p) (pieces_after p n k.pieces e)) → cond ended (cond finish (Ok stays) (Err why)) row ≡ Ok e → All (OnLayer p) (pieces_after p n k.pieces e)
+ended_or p k n true true why row e on more h = simple_on p n k.pieces e (simple_by e stays (ok_stays e h) tt) on
+ended_or p k n true false why row e on more h = absurd (cc)
+ended_or p k n false finish why row e on more h = more h
+
+pub effect_on : KeepsLayer effect
+unfolding effect
+effect_on p k n c e on h = ended_or p k n k.settings.ended (is_finish c) kind.AfterEnd (row k c) e on (row_on p k n c e on) h
+
+pub macros_on : KeepsLayer effect_with_macros
+unfolding effect_with_macros
+macros_on p k n c e on h = ended_or p k n k.settings.ended (is_finish c) (Gerber kind.AfterEnd) (row_with_macros k c >>= few_radii) e on (λ few. flat_on p k n c e on (few_ok (row_with_macros k c) e few)) h
+
+pub loose_on : KeepsLayer effect_loosely
+unfolding effect_loosely
+loose_on p k n c e on h = ended_or p k n k.settings.ended (is_finish c) (Gerber kind.AfterEnd) (macro_row Any k c) e on (macro_on Any p k n c e on) h
 
 -- ---- A file
-
--- a table keeps pieces on their layer
-abbrev KeepsLayer : {W : Type 0} → Profile W → Type 0
-KeepsLayer f = (p : Place) (k : Known) (n : ℕ) (c : Command) (e : Effect) → All (OnLayer p) k.pieces → f k c ≡ Ok e → All (OnLayer p) (pieces_after p n k.pieces e)
 
 pieces_on : {W : Type 0} (f : Profile W) → KeepsLayer f → (p : Place) (earlier : List Command) → All (OnLayer p) (pieces_by f p earlier)
 unfolding image_by
@@ -180,11 +185,10 @@ each_piece p pieces h = λ i d below. subst (OnLayer p) (get_or-map plain_piece 
 read_on : {W : Type 0} (d : Dialect W) → KeepsLayer d.table → (file : List ℕ) (p : Place) (pieces : List (Placed Shape)) → IsReadBy d file p (plain_pieces pieces) → All (λ q. (q.top ≡ p.layer) × (q.bottom ≡ p.layer)) pieces
 read_on d keeps file p pieces read = each_piece p pieces (subst (λ xs. All (OnLayer p) xs) (sym read.2.is) (pieces_on d.table keeps p (said read.2.earlier)))
 
-pub layer_read : (file : List ℕ) (p : Place) (pieces : List (Placed Shape)) → IsRead file p (plain_pieces pieces) → All (λ q. (q.top ≡ p.layer) × (q.bottom ≡ p.layer)) pieces
-layer_read file p pieces read = read_on standard effect_on file p pieces read
-
-pub loose_read : (file : List ℕ) (p : Place) (pieces : List (Placed Shape)) → IsReadBy loose file p (plain_pieces pieces) → All (λ q. (q.top ≡ p.layer) × (q.bottom ≡ p.layer)) pieces
-loose_read file p pieces read = read_on loose loose_on file p pieces read
+-- also as the reader's result
+pub layers_read : {V W F : Type 0} (d : Dialect W) → KeepsLayer d.table → (items : V → List (Placed Shape)) (result : Result V F) (file : List ℕ) (p : Place) → IfOk result (λ v. IsReadBy d file p (plain_pieces (items v))) → IfOk result (λ v. All (λ q. (q.top ≡ p.layer) × (q.bottom ≡ p.layer)) (items v))
+layers_read d keeps items (Ok v) file p read = read_on d keeps file p (items v) read
+layers_read d keeps items (Err why) file p read = tt
 
 -- the room of a place is the reader's
 pub same_room : {E V : Type 0} (items : V → List (Placed Shape)) (r : Result V E) (room other : Room) → other ≡ room → IfOk r (λ v. length (items v) ≤ other.pieces) → IfOk r (λ v. length (items v) ≤ room.pieces)

@@ -14,12 +14,14 @@ use Rattle.board_shapes.specs.declared.placed.Placed.{Placed}
 use Rattle.board_shapes.specs.declared.shape.Shape.{Shape}
 use Rattle.file_reading.specs.declared.halt.Halt.{Halt}
 use Rattle.file_reading.specs.declared.halt.Halt.TheVariants as halt
-use Rattle.gerber_layer.specs.declared.file.Stopped.{Stopped}
+use Rattle.file_reading.specs.Faults.{stopped_at}
+use Rattle.file_reading.specs.declared.fault.FileFault.{FileFault}
+use Rattle.file_reading.specs.declared.fault.FileFault.TheVariants as fault
 use Rattle.gerber_layer.specs.declared.reader.Reader.{Reader}
 use Rattle.gerber_layer.specs.CommandEffects.{Place, Known, Effect, Profile}
 use Rattle.gerber_layer.specs.Settings.{settings_before, defined_before, macros_before}
 use Rattle.gerber_layer.specs.Image.{effect_by, image_by}
-use Rattle.gerber_layer.specs.Dialect.{Dialect, IsHaltBy, IsReadBy, IsRefusedBy, stop_command}
+use Rattle.gerber_layer.specs.Dialect.{Dialect, IsFaultBy, IsReadBy, IsRefusedBy, stop_command}
 use Rattle.gerber_layer.specs.Outcomes.{HasOutcomes}
 use Rattle.gerber_layer.specs.Reader.{known_of, contour_of, defined_in, macros_in, place_of, size_of, Obeys, IsNew, Stops, StopsAt, Leaves}
 use Rattle.gerber_layer.proofs.Bridge.{State, reader_image, state-push, same_known, same_macros}
@@ -84,22 +86,27 @@ refused f file p items earlier later item r why number are read state h n = (
 )
 
 -- what stops the reader at an item is that item's fault
-halted : {W : Type 0} (f : Dialect W) (file : List ℕ) (p : Place) (items earlier later : List (Item Command)) (item : Item Command) (r : Reader) (why : Halt W) (number : ℕ) → AreItems f.command stop_command file items → IsReadTo (effect_by f.table p) items earlier (item ∷ later) → State f.table p (said earlier) r → Stops (f.table (known_of r) item.says) why → number ≡ r.commands + 1 → IsHaltBy f file p why number item.at
-halted f file p items earlier later item r (halt.Fault why) number are read state h n = refused f file p items earlier later item r why number are read state h n
-halted f file p items earlier later item r halt.NoMemory number are read state h n = tt
+pub stopped : {W : Type 0} (f : Profile W) (r : Reader) (c : Command) (at : ℕ) (why : Halt W) → Stops (f (known_of r) c) why → StopsAt f r c at (stopped_at (r.commands + 1) at why)
+stopped f r c at (halt.Fault why) h = (h, refl, refl)
+stopped f r c at halt.NoMemory h = tt
+
+faulty : {W : Type 0} (f : Dialect W) (file : List ℕ) (p : Place) (items earlier later : List (Item Command)) (item : Item Command) (r : Reader) (why : FileFault W) → AreItems f.command stop_command file items → IsReadTo (effect_by f.table p) items earlier (item ∷ later) → State f.table p (said earlier) r → StopsAt f.table r item.says item.at why → IsFaultBy f file p why
+faulty f file p items earlier later item r (fault.Refused why number place) are read state (h, n, here) = rw here (refused f file p items earlier later item r why number are read state h n)
+faulty f file p items earlier later item r fault.NoMemory are read state h = tt
 
 -- at a word
-pub word-fault : {W : Type 0} (f : Dialect W) → ((a : Ahead) → HasOneReadingAhead a) → (file : List ℕ) (p : Place) (old new : Ahead) (w : Entry) (r : Reader) (why : Halt W) → ReadSoFar f file p old r → ((words : List Entry) (stop : Stop) → HasWords new words stop → HasWords old (w ∷ words) stop) → Stops (f.table (known_of r) (f.command w)) why → IsHaltBy f file p why (r.commands + 1) w.at
-word-fault f one file p old new w r why s next h =
+pub stopped-at-word : {W : Type 0} (f : Dialect W) → ((a : Ahead) → HasOneReadingAhead a) → (file : List ℕ) (p : Place) (old new : Ahead) (w : Entry) (r : Reader) (why : FileFault W) → ReadSoFar f file p old r → ((words : List Entry) (stop : Stop) → HasWords new words stop → HasWords old (w ∷ words) stop) → StopsAt f.table r (f.command w) w.at why → IsFaultBy f file p why
+stopped-at-word f one file p old new w r why s next h =
     let more = one new in
     let x = s.extends (w ∷ more.words) more.stop (next more.words more.stop more.is) in
-    halted f file p x.all s.earlier (items_with f.command stop_command (length file) more.words more.stop) (word_item f.command w) r why (r.commands + 1) x.are x.read s.state h refl
+    faulty f file p x.all s.earlier (items_with f.command stop_command (length file) more.words more.stop) (word_item f.command w) r why x.are x.read s.state h
 
--- at the stop
-pub stop-fault : {W : Type 0} (f : Dialect W) (file : List ℕ) (p : Place) (old : Ahead) (stop : Stop) (r : Reader) (why : Halt W) → ReadSoFar f file p old r → HasWords old [] stop → Stops (f.table (known_of r) (stop_item stop_command (length file) stop).says) why → IsHaltBy f file p why (r.commands + 1) (stop_item stop_command (length file) stop).at
-stop-fault f file p old stop r why s had h =
+-- at the stop, as the reader's result
+pub stopped-at-stop : {V W : Type 0} (f : Dialect W) (result : Result V (FileFault W)) (file : List ℕ) (p : Place) (old : Ahead) (stop : Stop) (r : Reader) → ReadSoFar f file p old r → HasWords old [] stop → IfErr result (StopsAt f.table r (stop_item stop_command (length file) stop).says (stop_item stop_command (length file) stop).at) → IfErr result (IsFaultBy f file p)
+stopped-at-stop f (Ok v) file p old stop r s had h = tt
+stopped-at-stop f (Err why) file p old stop r s had h =
     let x = s.extends [] stop had in
-    halted f file p x.all s.earlier [] (stop_item stop_command (length file) stop) r why (r.commands + 1) x.are x.read s.state h refl
+    faulty f file p x.all s.earlier [] (stop_item stop_command (length file) stop) r why x.are x.read s.state h
 
 -- the stop, where it is obeyed
 stop-obeyed : {W : Type 0} (f : Dialect W) → HasOutcomes f.table → (file : List ℕ) (p : Place) (old : Ahead) (stop : Stop) (r r' : Reader) → ReadSoFar f file p old r → HasWords old [] stop → Obeys r (stop_item stop_command (length file) stop).says (f.table (known_of r) (stop_item stop_command (length file) stop).says) r' → IsReadBy f file p (plain_pieces r'.pieces.items)
@@ -119,11 +126,3 @@ stop-obeyed f outcomes file p old stop r r' s h o =
 pub stop-read : {V W F : Type 0} (f : Dialect W) → HasOutcomes f.table → (items : V → List (Placed Shape)) (result : Result V F) (file : List ℕ) (p : Place) (old : Ahead) (stop : Stop) (r : Reader) → ReadSoFar f file p old r → HasWords old [] stop → IfOk result (λ v. Leaves f.table r (stop_item stop_command (length file) stop).says (items v)) → IfOk result (λ v. IsReadBy f file p (plain_pieces (items v)))
 stop-read f outcomes items (Ok v) file p old stop r s had h = let a = stop-obeyed f outcomes file p old stop r h.last s had h.obeys in subst (λ (t : List (Placed Shape)). IsReadBy f file p (plain_pieces t)) (sym h.are) a
 stop-read f outcomes items (Err e) file p old stop r s had h = tt
-
--- also as the reader's result
-pub stopped-at-word : {W : Type 0} (f : Dialect W) → ((a : Ahead) → HasOneReadingAhead a) → (file : List ℕ) (p : Place) (old new : Ahead) (w : Entry) (r : Reader) (why : Stopped W) → ReadSoFar f file p old r → ((words : List Entry) (stop : Stop) → HasWords new words stop → HasWords old (w ∷ words) stop) → StopsAt f.table r (f.command w) w.at why → IsHaltBy f file p why.halt why.command why.at
-stopped-at-word f one file p old new w r why s next h = rw (h.number, h.place) (word-fault f one file p old new w r why.halt s next h.halts)
-
-pub stopped-at-stop : {V W : Type 0} (f : Dialect W) (result : Result V (Stopped W)) (file : List ℕ) (p : Place) (old : Ahead) (stop : Stop) (r : Reader) → ReadSoFar f file p old r → HasWords old [] stop → IfErr result (StopsAt f.table r (stop_item stop_command (length file) stop).says (stop_item stop_command (length file) stop).at) → IfErr result (λ why. IsHaltBy f file p why.halt why.command why.at)
-stopped-at-stop f (Ok v) file p old stop r s had h = tt
-stopped-at-stop f (Err why) file p old stop r s had h = rw (h.number, h.place) (stop-fault f file p old stop r why.halt s had h.halts)

@@ -40,12 +40,7 @@ use Rattle.gerber_layer.specs.declared.command.Code.TheVariants.{Draw, Move, Fla
 use Rattle.gerber_layer.specs.declared.command.Format.{Format}
 use Rattle.gerber_layer.specs.declared.settings.Settings.{Settings}
 pub use Rattle.file_reading.specs.Conditions.{◌>>=◌, unless, needed}
-
--- The layer and the file that pieces are on, and the room for them.
-pub record Place : Type 0 where
-  pub layer : ℕ
-  pub file : ℕ
-  pub room : Room
+pub use Rattle.gerber_layer.specs.declared.place.Place.{Place}
 
 -- what is known before a command: the settings, the aperture dictionary, the macros, the contour of the open region, the
 -- pieces so far, and how many of them stand before the open block

@@ -3,8 +3,8 @@ use Rattle.std.specs.Prelude.{ℕ, List}
 use Rattle.board_shapes.specs.Pieces.{PlainPiece}
 use Rattle.file_reading.specs.Reading as reading
 use Rattle.file_reading.specs.Reading.{Item}
-use Rattle.file_reading.specs.declared.halt.Halt.{Halt}
-use Rattle.file_reading.specs.declared.halt.Halt.TheVariants as halt
+use Rattle.file_reading.specs.Faults as faults
+use Rattle.file_reading.specs.declared.fault.FileFault.{FileFault}
 use Rattle.gerber_words.specs.Words.{Entry, Stop, ended, broken}
 use Rattle.gerber_words.specs.Items as words
 use Rattle.gerber_layer.specs.Command.{Command, finishes, breaks}
@@ -33,10 +33,9 @@ IsReadBy d file p pieces = (items : List (Item Command)) × AreItemsBy d file it
 abbrev pub IsRefusedBy : {W : Type 0} → Dialect W → List ℕ → Place → W → ℕ → ℕ → Type 0
 IsRefusedBy d file p kind number place = (items : List (Item Command)) × AreItemsBy d file items × reading.IsRefused (effect_by d.table p) items kind number place
 
--- what stops the reader at a place: that refusal, or want of memory
-abbrev pub IsHaltBy : {W : Type 0} → Dialect W → List ℕ → Place → Halt W → ℕ → ℕ → Type 0
-IsHaltBy d file p (halt.Fault kind) number place = IsRefusedBy d file p kind number place
-IsHaltBy d file p halt.NoMemory number place = Unit {0}
+-- why there are no pieces: the file is refused, or memory is wanted
+abbrev pub IsFaultBy : {W : Type 0} → Dialect W → List ℕ → Place → FileFault W → Type 0
+IsFaultBy d file p why = faults.IsFault (IsRefusedBy d file p) why
 
 -- Each file has one answer: the pieces, or the first fault.
 abbrev pub HasOneAnswerBy : {W : Type 0} → Dialect W → List ℕ → Place → Type 0

@@ -2,11 +2,10 @@
 use Rattle.std.specs.Prelude.{ℕ, List}
 use Rattle.board_shapes.specs.Pieces.{PlainPiece}
 use Rattle.board_shapes.specs.declared.TheConstants.{MOST_PIECES}
+use Rattle.file_reading.specs.declared.fault.FileFault.{FileFault}
 use Rattle.gerber_layer.specs.declared.TheConstants.{MOST_FLAT_EDGES}
-use Rattle.gerber_layer.specs.Dialect.{Dialect, HasOneAnswerBy, IsReadBy, IsRefusedBy}
+use Rattle.gerber_layer.specs.Dialect.{Dialect, HasOneAnswerBy, IsFaultBy, IsReadBy, IsRefusedBy}
 use Rattle.gerber_layer.specs.declared.macro_kind.FlattenKind.{FlattenKind}
-use Rattle.gerber_layer.specs.declared.macro_kind.FlattenFault.{FlattenFault}
-use Rattle.gerber_layer.specs.declared.macro_kind.FlattenFault.TheVariants as fault
 use Rattle.gerber_layer.specs.MacroCommands.{command_with_macros, loose_command}
 use Rattle.gerber_layer.specs.MacroTable.{effect_loosely, effect_with_macros}
 use Rattle.gerber_layer.specs.CommandEffects.{Place}
@@ -31,14 +30,9 @@ IsReadWithMacros file pieces = IsReadBy with_macros file flat_place pieces
 abbrev pub IsRefusedWithMacros : List ℕ → FlattenKind → ℕ → ℕ → Type 0
 IsRefusedWithMacros file kind number place = IsRefusedBy with_macros file flat_place kind number place
 
--- why there are no pieces in a dialect: the file is refused, or memory is wanted
-abbrev pub IsMacroFaultBy : Dialect FlattenKind → List ℕ → Place → FlattenFault → Type 0
-IsMacroFaultBy d file p (fault.Refused kind number place) = IsRefusedBy d file p kind number place
-IsMacroFaultBy d file p fault.NoMemory = Unit {0}
-
--- why there are none where it is flattened
-abbrev pub IsMacroFault : List ℕ → FlattenFault → Type 0
-IsMacroFault file why = IsMacroFaultBy with_macros file flat_place why
+-- why there are no pieces: the file is refused, or memory is wanted
+abbrev pub IsMacroFault : List ℕ → FileFault FlattenKind → Type 0
+IsMacroFault file why = IsFaultBy with_macros file flat_place why
 
 -- Each file has one answer: the pieces, or the first fault.
 abbrev pub HasOneMacroAnswer : List ℕ → Type 0

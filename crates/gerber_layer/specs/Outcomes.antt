@@ -1,5 +1,5 @@
 -- What an effect says of its command, whatever the table is.
-use Rattle.std.specs.Prelude.{◌≡◌, ℕ, Bool, true, false, List, Option, Some, None, Result, Ok, Err}
+use Rattle.std.specs.Prelude.{◌≡◌, ℕ, Bool, true, false, List, All, Option, Some, None, Result, Ok, Err}
 use Rattle.planar.specs.declared.Spot.{Spot}
 use Rattle.lengths.specs.declared.decimal.Unit.{Unit as Measure}
 use Rattle.board_shapes.specs.Figures.{Figure}
@@ -12,7 +12,8 @@ use Rattle.gerber_layer.specs.declared.command.Code.{Code}
 use Rattle.gerber_layer.specs.declared.command.Code.TheVariants.{Draw, Move, Flash}
 use Rattle.gerber_layer.specs.declared.command.Format.{Format}
 use Rattle.gerber_layer.specs.Tools.{Tool, tool_in}
-use Rattle.gerber_layer.specs.CommandEffects.{Known, Effect, Profile, stays, makes, begins_macro, fills_macro, performs, extends, closes, opens, leaves, steps, concludes, code_of, coordinate, next_block}
+use Rattle.gerber_layer.specs.Image.{pieces_after}
+use Rattle.gerber_layer.specs.CommandEffects.{Place, Known, Effect, Profile, stays, makes, begins_macro, fills_macro, performs, extends, closes, opens, leaves, steps, concludes, code_of, coordinate, next_block}
 
 -- a draw and a flash go to a spot
 pub record Goes (e : Effect) (to : Spot) : Type 0 where
@@ -74,3 +75,11 @@ Outcome k other e = e ≡ stays
 -- the outcomes of a table are those of the commands
 abbrev pub HasOutcomes : {W : Type 0} → Profile W → Type 0
 HasOutcomes f = (k : Known) (c : Command) (e : Effect) → f k c ≡ Ok e → Outcome k c e
+
+-- the piece is on the layer of the place
+abbrev pub OnLayer : Place → PlainPiece → Type 0
+OnLayer p piece = (piece.top ≡ p.layer) × (piece.bottom ≡ p.layer)
+
+-- a table keeps pieces on their layer
+abbrev pub KeepsLayer : {W : Type 0} → Profile W → Type 0
+KeepsLayer f = (p : Place) (k : Known) (n : ℕ) (c : Command) (e : Effect) → All (OnLayer p) k.pieces → f k c ≡ Ok e → All (OnLayer p) (pieces_after p n k.pieces e)

@@ -29,7 +29,8 @@ use Rattle.regions.specs.Contours.{points_of}
 use Rattle.regions.specs.declared.contour.Contour.{Contour}
 use Rattle.gerber_layer.specs.declared.kind.GerberKind.{GerberKind}
 use Rattle.gerber_layer.specs.declared.kind.GerberKind.TheVariants as kind
-use Rattle.gerber_layer.specs.declared.file.Stopped.{Stopped}
+use Rattle.file_reading.specs.Faults.{IsFault}
+use Rattle.file_reading.specs.declared.fault.FileFault.{FileFault}
 use Rattle.file_reading.specs.declared.halt.Halt.{Halt}
 use Rattle.file_reading.specs.declared.halt.Halt.TheVariants as halt
 use Rattle.gerber_layer.specs.declared.effect.Effect.{Effect as Seen}
@@ -353,8 +354,6 @@ pub record Leaves {W : Type 0} (f : Profile W) (r : Reader) (c : Command) (piece
   pub obeys : Obeys r c (f (known_of r) c) last
   pub are : pieces ≡ last.pieces.items
 
--- what stops the reader at a command that stands at a place
-pub record StopsAt {W : Type 0} (f : Profile W) (r : Reader) (c : Command) (at : ℕ) (why : Stopped W) : Type 0 where
-  pub halts : Stops (f (known_of r) c) why.halt
-  pub number : why.command ≡ r.commands + 1
-  pub place : why.at ≡ at
+-- why no file is read whose reader is stopped at a command that stands at a place
+abbrev pub StopsAt : {W : Type 0} → Profile W → Reader → Command → ℕ → FileFault W → Type 0
+StopsAt f r c at why = IsFault (λ kind number place. (f (known_of r) c ≡ Err kind) × (number ≡ r.commands + 1) × (place ≡ at)) why

@@ -6,12 +6,13 @@ ghost use Rattle.gerber_layer.specs.Dialect as spec;
 ghost use Rattle.gerber_layer.specs.Lawful.{IsLawfulCommand};
 ghost use Rattle.gerber_layer.specs.Layer.{standard};
 ghost use Rattle.gerber_layer.specs.MacroLayer.{loose, with_macros};
+ghost use Rattle.gerber_layer.specs.MacroReader.{any_halt};
+ghost use Rattle.gerber_layer.specs.Outcomes.{HasOutcomes, KeepsLayer};
 ghost use Rattle.gerber_layer.specs.Reader.{IsLawfulReader, Obeys, Stops, known_of};
 
 use crate::command::Command;
 use crate::kind::GerberKind;
 use crate::macro_kind::FlattenKind;
-use crate::macro_rows::any_halt;
 use crate::reader::Reader;
 use crate::straight_commands::read_loose_command;
 use crate::word_commands::{read_command, read_macro_command};
@@ -26,6 +27,11 @@ pub trait Dialect {
 
     /// What a word says, and what a command does.
     ghost dialect: { spec.Dialect Self.Kind };
+
+    /// What an effect says of its command, and that pieces stay on their layer.
+    fn is_lawful()
+        ensures outcomes { HasOutcomes dialect.table }
+        ensures layers { KeepsLayer dialect.table };
 
     /// What a word says.
     fn read<'a>(word: Word<'a>) -> Command<'a>
@@ -54,6 +60,8 @@ impl Dialect for Plain {
 
     ghost dialect = { standard };
 
+    fn is_lawful() {}
+
     fn read<'a>(word: Word<'a>) -> Command<'a> {
         read_command(word)
     }
@@ -75,6 +83,8 @@ impl Dialect for WithMacros {
     type Kind = FlattenKind;
 
     ghost dialect = { with_macros };
+
+    fn is_lawful() {}
 
     fn read<'a>(word: Word<'a>) -> Command<'a> {
         read_macro_command(word)
@@ -106,6 +116,8 @@ impl Dialect for Loose {
 
     ghost dialect = { loose };
 
+    fn is_lawful() {}
+
     fn read<'a>(word: Word<'a>) -> Command<'a> {
         read_loose_command(word)
     }
@@ -120,5 +132,15 @@ impl Dialect for Loose {
             Ok(()) => Ok(()),
             Err(halt) => Err(any_halt(halt)),
         }
+    }
+}
+
+// What stops the reader at a row that is the same without macros.
+fn any_halt(halt: Halt<GerberKind>) -> Halt<FlattenKind>
+    ensures { result ≡ any_halt halt }
+{
+    match halt {
+        Halt::Fault(kind) => Halt::Fault(FlattenKind::Gerber(kind)),
+        Halt::NoMemory => Halt::NoMemory,
     }
 }

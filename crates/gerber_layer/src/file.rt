@@ -1,31 +1,21 @@
 //! Reads a copper file by a dialect.
-ghost use Rattle.std.specs.Prelude.{◌≡◌, ◌+◌, ◌^◌, ◌<◌, ◌≤◌, length, IfErr, IfOk, OnOk};
+ghost use Rattle.std.specs.Prelude.{◌≡◌, ◌+◌, ◌^◌, ◌<◌, ◌≤◌, length, All, IfErr, IfOk, OnOk};
 ghost use Rattle.board_shapes.specs.Pieces.{plain_pieces};
 ghost use Rattle.gerber_layer.specs.Command.{view};
-ghost use Rattle.gerber_layer.specs.Dialect.{IsHaltBy, IsReadBy};
+ghost use Rattle.gerber_layer.specs.Dialect.{IsFaultBy, IsReadBy};
 ghost use Rattle.gerber_layer.specs.Lawful.{IsLawfulCommand};
-ghost use Rattle.gerber_layer.specs.Outcomes.{HasOutcomes};
 ghost use Rattle.gerber_layer.specs.Reader.{IsLawfulReader, Leaves, Obeys, StopsAt, known_of};
 
 use crate::command::Command;
 use crate::dialect::Dialect;
+use crate::place::Place;
 use crate::reader::Reader;
-use board_shapes::{MOST_LAYERS, Piece, Room};
-use file_reading::Halt;
+use board_shapes::{MOST_LAYERS, Piece};
+use file_reading::FileFault;
 use gerber_words::laws::words_lie_ahead;
 use gerber_words::{Step, Words};
 use std::alloc::Global;
 use texts::MOST_BYTES;
-
-/// What stopped a reader.
-#[derive(Clone, Copy, Debug, Drop)]
-pub struct Stopped<W> {
-    pub halt: Halt<W>,
-    /// The number of the command, from 1.
-    pub command: u32,
-    /// The place of its first byte in the file, from 0.
-    pub at: usize,
-}
 
 // Obeys a command that stands at a place.
 fn obey_at<'a, D: Dialect>(
@@ -33,7 +23,7 @@ fn obey_at<'a, D: Dialect>(
     reader: &mut Reader<'a>,
     command: &Command<'a>,
     at: usize,
-) -> Result<(), Stopped<D::Kind>>
+) -> Result<(), FileFault<D::Kind>>
     requires lawful { IsLawfulReader reader.old }
     requires command { IsLawfulCommand (view command.now) }
     requires few { reader.old.commands + 1 < 2 ^ 32 }
@@ -44,11 +34,7 @@ fn obey_at<'a, D: Dialect>(
     let command_number = reader.commands + 1;
     match D::obey(reader, alloc, command) {
         Ok(()) => Ok(()),
-        Err(halt) => Err(Stopped {
-            halt,
-            command: command_number,
-            at,
-        }),
+        Err(halt) => Err(halt.fault_at(command_number, at)),
     }
 }
 
@@ -58,7 +44,7 @@ fn finished<'a, D: Dialect>(
     mut reader: Reader<'a>,
     command: Command<'a>,
     at: usize,
-) -> Result<Vec<Piece>, Stopped<D::Kind>>
+) -> Result<Vec<Piece>, FileFault<D::Kind>>
     requires lawful { IsLawfulReader reader }
     requires command { IsLawfulCommand (view command) }
     requires few { reader.commands + 1 < 2 ^ 32 }
@@ -70,25 +56,27 @@ fn finished<'a, D: Dialect>(
     Ok(reader.into_pieces())
 }
 
-/// The pieces of a copper file by a dialect, in the order of the commands that make them, or what
-/// stopped the reader first.
-pub fn read_by<D: Dialect>(
+/// The pieces of a layer's copper by a dialect, in the order of the commands that make them; all lengths are in u,
+/// a tenth of a nanometre.
+///
+/// `Refused` is the first command with a fault, and the first condition of its row that holds; want of memory is
+/// `NoMemory`. The file has at most `MOST_BYTES` bytes.
+pub fn read_layer<D: Dialect>(
     alloc: Global,
     file: &[u8],
-    layer: u8,
-    file_number: u32,
-    room: Room,
-) -> Result<Vec<Piece>, Stopped<D::Kind>>
-    requires layer { (1 ≤ layer) × (layer ≤ MOST_LAYERS) }
+    place: Place,
+) -> Result<Vec<Piece>, FileFault<D::Kind>>
+    requires layer { (1 ≤ place.layer) × (place.layer ≤ MOST_LAYERS) }
     requires size { length file.now ≤ MOST_BYTES }
-    requires outcomes { HasOutcomes D.dialect.table }
-    ensures ok { IfOk result (λ pieces. IsReadBy D.dialect file.now (record { layer = layer; file = file_number; room = room }) (plain_pieces pieces.items)) }
-    ensures few { IfOk result (λ pieces. length pieces.items ≤ room.pieces) }
-    ensures stops { IfErr result (λ why. IsHaltBy D.dialect file.now (record { layer = layer; file = file_number; room = room }) why.halt why.command why.at) }
+    ensures ok { IfOk result (λ pieces. IsReadBy D.dialect file.now place (plain_pieces pieces.items)) }
+    ensures few { IfOk result (λ pieces. length pieces.items ≤ place.room.pieces) }
+    ensures layers { IfOk result (λ pieces. All (λ piece. (piece.top ≡ place.layer) × (piece.bottom ≡ place.layer)) pieces.items) }
+    ensures fault { IfErr result (IsFaultBy D.dialect file.now place) }
 {
     words_lie_ahead();
+    D::is_lawful();
     let mut words = Words::new(file);
-    let mut reader = Reader::new(alloc, layer, file_number, room);
+    let mut reader = Reader::new(alloc, place);
     loop {
         match words.next_word() {
             Step::Word(word) => obey_at::<D>(alloc, &mut reader, &D::read(word), word.at)?,

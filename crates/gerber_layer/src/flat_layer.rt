@@ -5,21 +5,18 @@ ghost use Rattle.gerber_layer.specs.MacroLayer.{IsMacroFault, IsReadWithMacros};
 
 use crate::MOST_FLAT_EDGES;
 use crate::dialect::WithMacros;
-use crate::file::{Stopped, read_by};
+use crate::file::read_layer;
 use crate::macro_kind::FlattenFault;
+use crate::place::Place;
 use board_shapes::{MOST_PIECES, Piece, Room};
-use file_reading::Halt;
 use std::alloc::Global;
 use texts::MOST_BYTES;
 
 /// The pieces of a copper file that may have aperture macros (Gerber Layer Format Specification,
-/// 4.5), in the order of the commands that make them; all lengths are in u, a tenth of a nanometre.
-/// A flash of a macro makes a piece for each of its primitives that has an image. The file's
+/// 4.5), as `read_layer` has them. A flash of a macro makes a piece for each of its primitives that has an image. The file's
 /// function is any.
 ///
 /// The pieces stand on layer 1 of file 0; at most `MOST_PIECES` pieces with `MOST_FLAT_EDGES` edges in all come.
-/// `Refused` is the first command with a fault, and the first condition of its row that holds; want
-/// of memory is `NoMemory`. The file has at most `MOST_BYTES` bytes.
 pub fn read_flat(alloc: Global, file: &[u8]) -> Result<Vec<Piece>, FlattenFault>
     requires size { length file.now ≤ MOST_BYTES }
     ensures ok { IfOk result (λ pieces. IsReadWithMacros file.now (plain_pieces pieces.items)) }
@@ -30,11 +27,10 @@ pub fn read_flat(alloc: Global, file: &[u8]) -> Result<Vec<Piece>, FlattenFault>
         pieces: MOST_PIECES,
         edges: MOST_FLAT_EDGES,
     };
-    match read_by::<WithMacros>(alloc, file, 1, 0, room) {
-        Ok(pieces) => Ok(pieces),
-        Err(Stopped { halt, command, at }) => match halt {
-            Halt::Fault(kind) => Err(FlattenFault::Refused { kind, command, at }),
-            Halt::NoMemory => Err(FlattenFault::NoMemory),
-        },
-    }
+    let place = Place {
+        layer: 1,
+        file: 0,
+        room,
+    };
+    read_layer::<WithMacros>(alloc, file, place)
 }

@@ -5,7 +5,7 @@ ghost use Rattle.gerber_layer.specs.MacroTable.{kind_of_macro};
 
 use crate::kind::GerberKind;
 use aperture_macros::MacroFault;
-use file_reading::{RefusalKind, name_of};
+use file_reading::{FileFault, RefusalKind, name_of};
 
 /// Why a command of a copper file is refused where the file may have aperture macros. Sections are
 /// those of the Gerber Layer Format Specification; the numbers are from 1 to 37.
@@ -68,17 +68,5 @@ impl From<MacroFault> for FlattenKind {
     }
 }
 
-/// Why a copper file with macros is not read: its first faulty command, by its number from 1 and the
-/// place of its first byte, or want of memory.
-#[derive(Clone, Copy, Debug, PartialEq, Eq)]
-pub enum FlattenFault {
-    Refused {
-        kind: FlattenKind,
-        /// The number of the command, from 1.
-        command: u32,
-        /// The place of its first byte in the file, from 0.
-        at: usize,
-    },
-    /// Memory is wanted.
-    NoMemory,
-}
+/// Why a copper file that may have macros is not read.
+pub type FlattenFault = FileFault<FlattenKind>;

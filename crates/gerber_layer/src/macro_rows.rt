@@ -5,7 +5,6 @@ ghost use Rattle.gerber_layer.specs.Command.{view};
 ghost use Rattle.gerber_layer.specs.Lawful.{IsLawfulCommand};
 ghost use Rattle.gerber_layer.specs.MacroTable as spec;
 ghost use Rattle.apertures.specs.Definition.{aperture_at};
-ghost use Rattle.gerber_layer.specs.MacroReader.{any_halt};
 ghost use Rattle.gerber_layer.specs.MacroTable.{as_macro, gerber};
 ghost use Rattle.gerber_layer.specs.Reader.{AreBlank, Stops, body_of};
 ghost use Rattle.gerber_layer.specs.Tools.{macro_named};
@@ -27,6 +26,9 @@ use file_reading::Halt;
 use lengths::decimal::{Decimal, Unit};
 use std::alloc::Global;
 use texts::{before_byte, is_word};
+
+/// What a command does where the file may have macros, or what stops the reader there.
+pub type MacroRow<'a> = Result<Effect<'a>, Halt<FlattenKind>>;
 
 // A name that is none, or that of a standard aperture.
 fn is_reserved(name: &[u8]) -> bool
@@ -72,7 +74,7 @@ fn judge(
 }
 
 // What a command behind the end of the file does.
-fn behind_end<'a>(command: &Command<'a>) -> Result<Effect<'a>, Halt<FlattenKind>>
+fn behind_end<'a>(command: &Command<'a>) -> MacroRow<'a>
     ensures ok { IfOk result (λ e. (e ≡ Effect.Stays) × (spec.behind_end (view command.now) ≡ Ok stays)) }
     ensures halt { IfErr result (Stops (spec.behind_end (view command.now))) }
 {
@@ -136,13 +138,7 @@ impl<'a> Reader<'a> {
 
     // An aperture of a macro.
     #[tactic(auto, unfolding(crate::specs::MacroTable::compose))]
-    fn compose(
-        &self,
-        alloc: Global,
-        lines: Lines,
-        text: &'a [u8],
-        unit: Unit,
-    ) -> Result<Effect<'a>, Halt<FlattenKind>>
+    fn compose(&self, alloc: Global, lines: Lines, text: &'a [u8], unit: Unit) -> MacroRow<'a>
         requires { spec.is_of_macro (aperture_at text.now unit) ≡ true }
         ensures ok { IfOk result (λ e. gerber (shown (known_of self.now) e) ≡ spec.compose lines (known_of self.now) text.now unit) }
         ensures fit { IfOk result (IsFit self.now.dictionary) }
@@ -173,7 +169,7 @@ impl<'a> Reader<'a> {
         body: &[Primitive],
         parameters: Vec<Decimal>,
         unit: Unit,
-    ) -> Result<Effect<'a>, Halt<FlattenKind>>
+    ) -> MacroRow<'a>
         requires found { macro_named (macros_in self.now.dictionary) name.now ≡ Some (body_of body.now) }
         ensures ok { IfOk result (λ e. gerber (shown (known_of self.now) e) ≡ spec.compose_as lines (known_of self.now) n name.now (body_of body.now) parameters.items unit) }
         ensures fit { IfOk result (IsFit self.now.dictionary) }
@@ -191,12 +187,7 @@ impl<'a> Reader<'a> {
 
     // `AD`.
     #[tactic(auto, unfolding(crate::specs::MacroTable::define_any))]
-    fn define_any(
-        &self,
-        alloc: Global,
-        lines: Lines,
-        text: &'a [u8],
-    ) -> Result<Effect<'a>, Halt<FlattenKind>>
+    fn define_any(&self, alloc: Global, lines: Lines, text: &'a [u8]) -> MacroRow<'a>
         ensures ok { IfOk result (λ e. gerber (shown (known_of self.now) e) ≡ spec.define_any lines (known_of self.now) text.now) }
         ensures fit { IfOk result (IsFit self.now.dictionary) }
         ensures halt { IfErr result (Stops (spec.define_any lines (known_of self.now) text.now)) }
@@ -213,7 +204,7 @@ impl<'a> Reader<'a> {
 
     // A row that is the same without macros.
     #[tactic(auto, unfolding(crate::specs::CommandEffects::effect))]
-    fn standard_row(&self, command: &Command<'a>) -> Result<Effect<'a>, Halt<FlattenKind>>
+    fn standard_row(&self, command: &Command<'a>) -> MacroRow<'a>
         requires lawful { IsLawfulReader self.now }
         requires command { IsLawfulCommand (view command.now) }
         requires before_end { self.now.settings.ended ≡ false }
@@ -227,12 +218,7 @@ impl<'a> Reader<'a> {
 
     // The row of a command where the file may have macros.
     #[tactic(auto, unfolding(crate::specs::MacroTable::macro_row))]
-    fn macro_row(
-        &self,
-        alloc: Global,
-        lines: Lines,
-        command: &Command<'a>,
-    ) -> Result<Effect<'a>, Halt<FlattenKind>>
+    fn macro_row(&self, alloc: Global, lines: Lines, command: &Command<'a>) -> MacroRow<'a>
         requires lawful { IsLawfulReader self.now }
         requires command { IsLawfulCommand (view command.now) }
         requires before_end { self.now.settings.ended ≡ false }
@@ -262,11 +248,7 @@ impl<'a> Reader<'a> {
 
     /// What a command does where the file may have macros and is flattened, or its fault.
     #[tactic(auto, unfolding(crate::specs::MacroTable::effect_with_macros, crate::specs::MacroTable::row_with_macros))]
-    pub fn effect_with_macros(
-        &self,
-        alloc: Global,
-        command: &Command<'a>,
-    ) -> Result<Effect<'a>, Halt<FlattenKind>>
+    pub fn effect_with_macros(&self, alloc: Global, command: &Command<'a>) -> MacroRow<'a>
         requires lawful { IsLawfulReader self.now }
         requires command { IsLawfulCommand (view command.now) }
         ensures ok { IfOk result (λ e. spec.with_few_radii (gerber (shown (known_of self.now) e)) ≡ spec.effect_with_macros (known_of self.now) (view command.now)) }
@@ -284,11 +266,7 @@ impl<'a> Reader<'a> {
 
     /// What a command does in a file of real copper, or its fault.
     #[tactic(auto, unfolding(crate::specs::MacroTable::effect_loosely))]
-    pub fn effect_loosely(
-        &self,
-        alloc: Global,
-        command: &Command<'a>,
-    ) -> Result<Effect<'a>, Halt<FlattenKind>>
+    pub fn effect_loosely(&self, alloc: Global, command: &Command<'a>) -> MacroRow<'a>
         requires lawful { IsLawfulReader self.now }
         requires command { IsLawfulCommand (view command.now) }
         ensures ok { IfOk result (λ e. gerber (shown (known_of self.now) e) ≡ spec.effect_loosely (known_of self.now) (view command.now)) }
@@ -313,15 +291,5 @@ impl<'a> Reader<'a> {
             return Err(Halt::Fault(FlattenKind::TooManyRadii));
         }
         Ok(())
-    }
-}
-
-/// What stops the reader at a row that is the same without macros.
-pub fn any_halt(halt: Halt<GerberKind>) -> Halt<FlattenKind>
-    ensures { result ≡ any_halt halt }
-{
-    match halt {
-        Halt::Fault(kind) => Halt::Fault(FlattenKind::Gerber(kind)),
-        Halt::NoMemory => Halt::NoMemory,
     }
 }

@@ -462,11 +462,11 @@ fn selection(text: &[u8]) -> &[u8]
     ensures { result.now ≡ spec.selection text.now }
 {
     if begins(text, b"G54D") {
-        &text[4..]
-    } else if begins(text, b"D") {
-        &text[1..]
-    } else {
-        &[]
+        return &text[4..];
+    }
+    match text {
+        [b'D', digits @ ..] => digits,
+        _ => &[],
     }
 }
 

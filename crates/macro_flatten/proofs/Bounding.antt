@@ -11,7 +11,8 @@ use Rattle.board_shapes.specs.Pieces.{PlainPiece}
 use Rattle.apertures.specs.declared.aperture.Aperture.TheVariants.{Circle}
 use Rattle.gerber_layer.specs.Command.{Command, opens_region, closes_region}
 use Rattle.gerber_layer.specs.declared.command.Code.TheVariants.{Draw, Move}
-use Rattle.gerber_layer.specs.CommandEffects.{Place, opens, closes, extends, leaves, edges_of, edges_in}
+use Rattle.gerber_layer.specs.CommandEffects.{opens, closes, extends, leaves, edges_of, edges_in}
+use Rattle.gerber_layer.specs.declared.place.Place.{Place}
 use Rattle.gerber_layer.specs.Tools.{standard}
 use Rattle.gerber_layer.specs.Settings.{aperture_before, region_open, defined_before, point_before, contour_before, lengthened}
 use Rattle.gerber_layer.specs.Image.{known_before, pieces_of}

@@ -11,7 +11,8 @@ use Rattle.board_shapes.specs.Figures.{Figure, Stroke, round}
 use Rattle.apertures.specs.declared.aperture.Aperture.TheVariants.{Circle}
 use Rattle.gerber_layer.specs.Command.{Command, selects}
 use Rattle.gerber_layer.specs.declared.command.Code.TheVariants.{Draw, Move}
-use Rattle.gerber_layer.specs.CommandEffects.{Place, stays, performs}
+use Rattle.gerber_layer.specs.CommandEffects.{stays, performs}
+use Rattle.gerber_layer.specs.declared.place.Place.{Place}
 use Rattle.gerber_layer.specs.Tools.{Tool, standard}
 use Rattle.gerber_layer.specs.Settings.{aperture_before, region_open, defined_before, point_before}
 use Rattle.gerber_layer.specs.Image.{known_before, pieces_of}

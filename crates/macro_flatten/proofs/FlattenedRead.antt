@@ -14,7 +14,8 @@ use Rattle.gerber_words.specs.Words.{ended}
 use Rattle.gerber_layer.specs.Command.{Command, formats, counts_in, ends, finishes}
 use Rattle.gerber_layer.specs.WordCommands.{command_of}
 use Rattle.gerber_layer.specs.Tools.{standard}
-use Rattle.gerber_layer.specs.CommandEffects.{Place, stays, concludes}
+use Rattle.gerber_layer.specs.CommandEffects.{stays, concludes}
+use Rattle.gerber_layer.specs.declared.place.Place.{Place}
 use Rattle.gerber_layer.specs.Settings.{has_ended}
 use Rattle.gerber_layer.specs.Image.{effect_before, known_before, pieces_of}
 use Rattle.file_reading.specs.Reading.{Clean, Item, said}

@@ -9,7 +9,8 @@ use Rattle.board_shapes.specs.Pieces.{PlainPiece}
 use Rattle.gerber_layer.specs.Command.{Command}
 use Rattle.gerber_layer.specs.declared.command.Code.{Code}
 use Rattle.gerber_layer.specs.WordCommands.{plain, command_of}
-use Rattle.gerber_layer.specs.CommandEffects.{Place, Effect, effect}
+use Rattle.gerber_layer.specs.CommandEffects.{Effect, effect}
+use Rattle.gerber_layer.specs.declared.place.Place.{Place}
 use Rattle.gerber_layer.specs.Settings.{format_before, unit_before, block_open, has_ended, point_before, x_before, y_before}
 use Rattle.gerber_layer.specs.declared.kind.GerberKind.{GerberKind}
 use Rattle.gerber_layer.specs.Image.{image_by, image_of, with_effect, known_before, effect_before, pieces_of, pieces_after, made}

@@ -17,7 +17,8 @@ use Rattle.gerber_layer.specs.declared.command.Code.TheVariants.{Draw, Move, Fla
 use Rattle.gerber_layer.specs.declared.kind.GerberKind.{GerberKind}
 use Rattle.gerber_layer.specs.declared.kind.GerberKind.TheVariants as kind
 use Rattle.gerber_layer.specs.declared.settings.Settings.{Settings}
-use Rattle.gerber_layer.specs.CommandEffects.{Known, Place, Effect, Profile, stays, makes, begins_macro, fills_macro, performs, extends, closes, opens, leaves, steps, concludes, ◌>>=◌, needed, coordinate, target, code_of, is_drawing, edges_of, edges_in, exceed, extend, closing, perform, perform_in_region, operate, leave, repeat, next_block, ended_block, row, effect, listed}
+use Rattle.gerber_layer.specs.CommandEffects.{Known, Effect, Profile, stays, makes, begins_macro, fills_macro, performs, extends, closes, opens, leaves, steps, concludes, ◌>>=◌, needed, coordinate, target, code_of, is_drawing, edges_of, edges_in, exceed, extend, closing, perform, perform_in_region, operate, leave, repeat, next_block, ended_block, row, effect, listed}
+use Rattle.gerber_layer.specs.declared.place.Place.{Place}
 use Rattle.gerber_layer.specs.Settings.{contour_before, lengthened, point_before, region_open}
 use Rattle.gerber_layer.specs.Image.{effect_by, image_by, known_by, made, pieces_after, pieces_by, with_effect}
 use Rattle.gerber_layer.proofs.Outcome.{IsFilled, bind_ok, not_ok, past_test}

@@ -20,7 +20,8 @@ use Rattle.board_shapes.specs.Pieces.{PlainPiece}
 use Rattle.board_shapes.specs.Rectangles.{halved}
 use Rattle.file_reading.specs.Reading.{Clean, Item, said}
 use Rattle.gerber_layer.specs.Command.{Command, formats, counts_in, defines, selects, operates, ends, finishes}
-use Rattle.gerber_layer.specs.CommandEffects.{Known, Place, stays, performs, concludes, coordinate, define, draw, edges_for, edges_of, effect, ended_block, exceed, flash, flash_by, flash_with, operate, perform, room_for, row as row_of, selected, target}
+use Rattle.gerber_layer.specs.CommandEffects.{Known, stays, performs, concludes, coordinate, define, draw, edges_for, edges_of, effect, ended_block, exceed, flash, flash_by, flash_with, operate, perform, room_for, row as row_of, selected, target}
+use Rattle.gerber_layer.specs.declared.place.Place.{Place}
 use Rattle.gerber_layer.specs.Image.{effect_before, image_by, known_before, made, pieces_of}
 use Rattle.gerber_layer.specs.Settings.{block_open, defined_before, format_before, has_ended, point_before, region_open, unit_before, x_before, y_before}
 use Rattle.gerber_layer.specs.Tools.{Tool, standard}

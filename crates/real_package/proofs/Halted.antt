@@ -1,8 +1,8 @@
 -- A refusal of a reader is why the file of an entry is not read.
 use Rattle.std.proofs.Common.{◌≡◌, ◌⊎◌, inl, inr, ℕ, List, refl, sym, subst}
 use Rattle.arc_layer.specs.Real.{IsRealCopper, IsRealFault, IsRealRefused, PlainReal}
-use Rattle.arc_layer.specs.declared.kind.RealFault.{RealFault}
-use Rattle.arc_layer.specs.declared.kind.RealFault.TheVariants as real_fault
+use Rattle.file_reading.specs.declared.fault.FileFault.{FileFault}
+use Rattle.file_reading.specs.declared.fault.FileFault.TheVariants as real_fault
 use Rattle.arc_layer.specs.declared.kind.RealKind.{RealKind}
 use Rattle.arc_layer.specs.declared.kind.RealKind.TheVariants as kinds
 use Rattle.gerber_layer.specs.declared.macro_kind.FlattenKind.TheVariants as flatten
@@ -57,7 +57,7 @@ copper_as e layer bytes before kinds.NoCentre command at given is refuses has = 
 no_memory : (e : Entry) (bytes : List ℕ) (before : PlainRealBoard) (given : RealBuildFault) → given ≡ fault.Build build.NoMemory → HaltsReal e bytes before given
 no_memory e bytes before given g = subst (λ (f : RealBuildFault). HaltsReal e bytes before f) (sym g) (inl refl)
 
-pub copper_halts : (e : Entry) (layer : ℕ) (bytes : List ℕ) (before : PlainRealBoard) (room : Room) (why : RealFault) (given : RealBuildFault) → e.role ≡ role.Copper layer → room ≡ room_left before.pieces
+pub copper_halts : (e : Entry) (layer : ℕ) (bytes : List ℕ) (before : PlainRealBoard) (room : Room) (why : FileFault RealKind) (given : RealBuildFault) → e.role ≡ role.Copper layer → room ≡ room_left before.pieces
     → IsRealFault bytes (record { layer = layer; file = e.number; room = room }) why → IsCopperFault e.name why given → HaltsReal e bytes before given
 copper_halts e layer bytes before room (real_fault.Refused kind command at) given is left refuses has =
     copper_as e layer bytes before kind command at given is (subst (λ (q : Room). IsRealRefused bytes (record { layer = layer; file = e.number; room = q }) kind command at) left refuses) has

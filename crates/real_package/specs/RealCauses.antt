@@ -3,8 +3,8 @@ use Rattle.std.specs.Prelude.{◌≡◌, ◌⊎◌, ℕ, List, Option, Some, Non
 use Rattle.arc_layer.specs.declared.kind.RealKind.{RealKind}
 use Rattle.arc_layer.specs.declared.kind.RealKind.TheVariants.{Copper}
 use Rattle.gerber_layer.specs.declared.macro_kind.FlattenKind.TheVariants.{Gerber}
-use Rattle.arc_layer.specs.declared.kind.RealFault.{RealFault}
-use Rattle.arc_layer.specs.declared.kind.RealFault.TheVariants as copper
+use Rattle.file_reading.specs.declared.fault.FileFault.{FileFault}
+use Rattle.file_reading.specs.declared.fault.FileFault.TheVariants as copper
 use Rattle.board_io.specs.Package.{Files, IsFaultless}
 use Rattle.board_package.specs.Causes.{HasCause, HasRefusal, KeepsFaults}
 use Rattle.board_package.specs.declared.contents.Refusal.{Refusal}
@@ -42,7 +42,7 @@ IsCopperRefusal name (Copper (Gerber kind)) command at given = (why : BuildFault
 IsCopperRefusal name kind command at given = (given ≡ fault.Arc name kind command at) ⊎ (given ≡ fault.Build build.NoMemory)
 
 -- the fault of a file of this name whose reader gave this
-abbrev pub IsCopperFault : List ℕ → RealFault → RealBuildFault → Type 0
+abbrev pub IsCopperFault : List ℕ → FileFault RealKind → RealBuildFault → Type 0
 IsCopperFault name (copper.Refused kind command at) given = IsCopperRefusal name kind command at given
 IsCopperFault name copper.NoMemory given = given ≡ fault.Build build.NoMemory
 

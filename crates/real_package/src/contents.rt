@@ -13,7 +13,7 @@ use crate::board::{RealBoard, as_real_pieces, room_left};
 use crate::fault::RealBuildFault;
 use arc_layer::{RealFault, RealKind, read_real};
 use board_package::{BuildFault, Entry, Refusal, Role, refused};
-use gerber_layer::FlattenKind;
+use gerber_layer::{FlattenKind, Place};
 use ipc356_records::{RecordFault, read_netlist};
 use lengths::text::Text;
 use std::alloc::Global;
@@ -111,10 +111,17 @@ pub fn read_file(
 {
     let room = room_left(board.pieces.as_slice());
     match entry.role {
-        Role::Copper { layer } => match read_real(alloc, file, layer, entry.number, room) {
-            Ok(pieces) => Ok(board.add(pieces)?),
-            Err(why) => Err(copper_fault(&entry.name, why)),
-        },
+        Role::Copper { layer } => {
+            let place = Place {
+                layer,
+                file: entry.number,
+                room,
+            };
+            match read_real(alloc, file, place) {
+                Ok(pieces) => Ok(board.add(pieces)?),
+                Err(why) => Err(copper_fault(&entry.name, why)),
+            }
+        }
         Role::Drill { from, to } => {
             match read_drill(alloc, file, Span { from, to }, entry.number, room) {
                 Ok(pieces) => match as_real_pieces(alloc, pieces) {

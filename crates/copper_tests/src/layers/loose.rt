@@ -2,7 +2,7 @@
 use crate::layers::image;
 use board_shapes::Room;
 use file_reading::RefusalKind;
-use gerber_layer::{FlattenFault, read_loosely};
+use gerber_layer::{FlattenFault, Loose, Place, read_layer};
 use std::alloc::{AllocError, Global};
 use std::test::Fail;
 use texts::MOST_BYTES;
@@ -20,7 +20,12 @@ fn told_loosely(alloc: Global, words: &str) -> Result<String, AllocError> {
         pieces: 9,
         edges: 16,
     };
-    match read_loosely(alloc, file.as_bytes(), 1, 0, room) {
+    let place = Place {
+        layer: 1,
+        file: 0,
+        room,
+    };
+    match read_layer::<Loose>(alloc, file.as_bytes(), place) {
         Ok(pieces) => image(alloc, &pieces),
         Err(FlattenFault::NoMemory) => String::from_str(alloc, "no memory"),
         Err(FlattenFault::Refused { kind, command, at }) => {

@@ -2,11 +2,11 @@ use Rattle.std.proofs.Common.{◌+◌, ◌≤◌, length}
 use Rattle.gerber_words.specs.Stepping.{ahead}
 use Rattle.gerber_layer.specs.Reader.{IsLawfulReader}
 use Rattle.gerber_layer.proofs.ReadSoFar.{ReadSoFar}
-use Rattle.gerber_layer.proofs.file.read_by.Given as goal
+use Rattle.gerber_layer.proofs.file.read_layer.Given as goal
 
 abbrev pub invariant-loop-word : goal.invariant-loop-word
 invariant-loop-word g l = record {
-  read : ReadSoFar g.D.Dialect.dialect l.file (record { layer = l.fn.layer; file = l.fn.file_number; room = l.fn.room }) (ahead l.words) l.reader;
+  read : ReadSoFar g.D.Dialect.dialect l.file l.fn.place (ahead l.words) l.reader;
   lawful : IsLawfulReader l.reader;
   few : l.reader.commands + length (ahead l.words).bytes ≤ length l.file;
 }
