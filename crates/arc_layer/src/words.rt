@@ -5,7 +5,7 @@ ghost use Rattle.gerber_layer.specs.Lawful.{IsLawfulCommand};
 ghost use Rattle.gerber_words.specs.Stepping.{entry_of};
 ghost use Rattle.gerber_words.specs.Words as words;
 ghost use Rattle.std.specs.Option.{option_copied};
-ghost use Rattle.std.specs.Prelude.{◌≡◌, ◌≤◌, true, length, option_map};
+ghost use Rattle.std.specs.Prelude.{◌≡◌, ◌≤◌, ◌==◌, ◌&&◌, not, true, length, option_map};
 
 use gerber_layer::{Command, behind_code, goes_on, part, read_loose_command};
 use gerber_words::Word;
@@ -164,31 +164,25 @@ fn is_mute(byte: u8) -> bool
     byte < b'G' || b'J' < byte
 }
 
-fn goes_free(b: u8, rest: &[u8]) -> bool
-    ensures { result ≡ spec.is_free b rest.now }
+// Whether a byte behind another begins nothing, and is not the second of those that begin a macro.
+fn goes_free(before: u8, b: u8) -> bool
+    ensures { result ≡ (spec.is_mute b && not (65 == before && 77 == b)) }
 {
-    is_mute(b) && !(b'A' == b && begins(rest, b"M"))
+    is_mute(b) && !(b'A' == before && b'M' == b)
 }
 
-// Most bytes are no letters from `A` to `J`.
-fn is_free(b: u8, rest: &[u8]) -> bool
-    ensures { result ≡ spec.is_free b rest.now }
-{
-    b < b'A' || b'J' < b || goes_free(b, rest)
-}
-
-/// Whether no byte is from `G` to `J` and no macro begins, so that no word of these bytes says anything.
+/// Whether no byte is from `G` to `J` and no macro begins, so that no word of these bytes says anything. All bytes are looked
+/// at, for then a processor can look at many at a time.
 pub fn are_free(bytes: &[u8]) -> bool
     ensures { result ≡ spec.are_free bytes.now }
 {
-    let mut left = bytes;
-    while let [b, rest @ ..] = left {
-        if !is_free(*b, rest) {
-            return false;
-        }
-        left = rest;
+    let mut free = true;
+    let mut before = 0;
+    for b in bytes {
+        free = free & goes_free(before, *b);
+        before = *b;
     }
-    true
+    free
 }
 
 // Most words begin with no code: they set no curve.
