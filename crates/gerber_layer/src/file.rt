@@ -88,7 +88,7 @@ pub fn read_by<D: Dialect>(
 {
     words_lie_ahead();
     let mut words = Words::new(file);
-    let mut reader = Reader::new(alloc, layer, file_number, room);
+    let mut reader = Reader::new(alloc, file.len(), layer, file_number, room);
     loop {
         match words.next_word() {
             Step::Word(word) => obey_at::<D>(alloc, &mut reader, &D::read(word), word.at)?,

@@ -1,8 +1,7 @@
 use Rattle.std.proofs.Common.{sym, ◌∙◌}
 use Rattle.gerber_layer.specs.Command.{view}
-use Rattle.gerber_layer.specs.MacroTable.{effect_loosely}
-use Rattle.gerber_layer.specs.Reader.{known_of, shown}
-use Rattle.gerber_layer.proofs.WithMacros.{obeys_loosely, obeys_plainly, stops_plainly}
+use Rattle.gerber_layer.specs.Reader.{known_of}
+use Rattle.gerber_layer.proofs.WithMacros.{obeys_plainly, stops_plainly}
 use Rattle.gerber_layer.proofs.dialect.LooseDialect.obey.Goals as goal
 
 pub returns-in-Ok-clause-ok : goal.returns-in-Ok-clause-ok
