@@ -91,23 +91,6 @@ no_macro (b ∷ text) h =
 abbrev pub free_behind : ℕ → List ℕ → Bool
 free_behind before bytes = not (65 == before && begins bytes (codes "M")) && are_free bytes
 
-pub one_more : (free : Bool) (before b : ℕ) (bytes : List ℕ) → (free && free_behind before (b ∷ bytes)) ≡ ((free && (is_mute b && not (65 == before && 77 == b))) && free_behind b bytes)
-one_more free before b bytes =
-    ap (λ (m : Bool). free && (not (65 == before && m) && (is_free b bytes && are_free bytes))) (alone (77 == b)) ∙ by free (65 == before) (77 == b) (is_mute b) (not (65 == b && begins bytes (codes "M"))) (are_free bytes)
-  where
-    alone : (m : Bool) → (m && true) ≡ m
-    alone true = refl
-    alone false = refl
-
-    by : (free a m mute x rest : Bool) → (free && (not (a && m) && ((mute && x) && rest))) ≡ ((free && (mute && not (a && m))) && (x && rest))
-    by false a m mute x rest = refl
-    by true false m false x rest = refl
-    by true false m true x rest = refl
-    by true true false false x rest = refl
-    by true true false true x rest = refl
-    by true true true false x rest = refl
-    by true true true true x rest = refl
-
 front : (b : ℕ) (xs ys : List ℕ) → is_free b (xs ++ ys) ≡ true → is_free b xs ≡ true
 front b [] ys h = by (65 == b) refl
   where

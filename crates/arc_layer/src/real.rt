@@ -8,7 +8,7 @@ ghost use Rattle.board_shapes.specs.Figures.{figure_of};
 ghost use Rattle.board_shapes.specs.declared.shape.Shape.TheVariants as shape;
 ghost use Rattle.board_shapes.specs.Pieces.{plain_piece, plain_pieces};
 ghost use Rattle.planar.specs.Plane.{IsPlaced};
-ghost use Rattle.std.specs.Prelude.{◌≡◌, ◌≤◌, All, length, map, option_map, IfErr, IfOk, IfSome, Some};
+ghost use Rattle.std.specs.Prelude.{◌≡◌, ◌≤◌, All, length, map, IfErr, IfOk, Some};
 
 use crate::centres::moved;
 use crate::draws::Bend;

@@ -103,22 +103,6 @@ fn from_offsets(text: &[u8]) -> &[u8]
     behind_numbers(behind_code(text))
 }
 
-fn plain<'a>(command: Command<'a>, text: &'a [u8]) -> Saying<'a>
-    ensures { spec.saying_of result ≡ spec.plain (view command.entry) text.now }
-{
-    let (i, rest) = part(from_offsets(text), b'I');
-    let (j, rest) = part(rest, b'J');
-    Saying {
-        command,
-        curve: curve_in(text),
-        quadrants: quadrants_in(text),
-        i,
-        j,
-        more: begins_offset(rest),
-        names: false,
-    }
-}
-
 // A word that says nothing of arcs, and may begin a macro.
 fn silent<'a>(command: Command<'a>, names: bool) -> Saying<'a>
     ensures { spec.saying_of result ≡ spec.silent (view command.entry) names }
@@ -134,6 +118,45 @@ fn silent<'a>(command: Command<'a>, names: bool) -> Saying<'a>
     }
 }
 
+// A word of this curve and these quadrants, with what stands behind its numbers of X and Y.
+fn with_offsets<'a>(
+    command: Command<'a>,
+    curve: Option<Curve>,
+    quadrants: Option<Quadrants>,
+    offsets: &'a [u8],
+) -> Saying<'a>
+    ensures { spec.saying_of result ≡ spec.with_offsets (view command.entry) curve quadrants offsets.now }
+{
+    let (i, rest) = part(offsets, b'I');
+    let (j, rest) = part(rest, b'J');
+    Saying {
+        command,
+        curve,
+        quadrants,
+        i,
+        j,
+        more: begins_offset(rest),
+        names: false,
+    }
+}
+
+// Most words are coordinates or a selection, which their first letter tells: they set no curve.
+fn plain<'a>(command: Command<'a>, text: &'a [u8]) -> Saying<'a>
+    ensures { spec.saying_of result ≡ spec.plain (view command.entry) text.now }
+{
+    match text {
+        [b'X', ..] => with_offsets(command, None, None, behind_numbers(text)),
+        [b'Y', ..] => with_offsets(command, None, None, behind_numbers(text)),
+        [b'D', ..] => silent(command, false),
+        _ => with_offsets(
+            command,
+            curve_in(text),
+            quadrants_in(text),
+            from_offsets(text),
+        ),
+    }
+}
+
 /// What a word says.
 pub fn read_word<'a>(word: Word<'a>) -> Saying<'a>
     ensures value { spec.saying_of result ≡ spec.saying (entry_of word.entry) }
@@ -145,6 +168,22 @@ pub fn read_word<'a>(word: Word<'a>) -> Saying<'a>
     } else {
         plain(command, word.text)
     }
+}
+
+fn is_selection(command: &Command) -> bool
+    ensures { result ≡ spec.is_selection (view command.now) }
+{
+    match *command {
+        Command::Select(_) => true,
+        _ => false,
+    }
+}
+
+/// Whether a word selects an aperture and says no more, so that behind it the same is in force.
+pub fn selects_alone(word: &Saying) -> bool
+    ensures { result ≡ spec.selects_alone (spec.saying_of word.now) }
+{
+    is_selection(&word.command) && word.curve.is_none() && word.quadrants.is_none() && !word.names
 }
 
 fn is_line(curve: Option<Curve>) -> bool
