@@ -87,6 +87,10 @@ no_macro (b ∷ text) h =
     false_of true k = sym k
     false_of false k = refl
 
+-- whether bytes behind another are free, and with the first begin no macro
+abbrev pub free_behind : ℕ → List ℕ → Bool
+free_behind before bytes = not (65 == before && begins bytes (codes "M")) && are_free bytes
+
 front : (b : ℕ) (xs ys : List ℕ) → is_free b (xs ++ ys) ≡ true → is_free b xs ≡ true
 front b [] ys h = by (65 == b) refl
   where

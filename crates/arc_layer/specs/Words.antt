@@ -1,9 +1,9 @@
 -- What a word says of arcs (Gerber Layer Format Specification, 4.7 and 4.8), and whether it begins a macro (4.5).
-use Rattle.std.specs.Prelude.{◌≡◌, ℕ, Bool, true, false, ◌&&◌, ◌||◌, ◌==◌, not, nat_lt, if◌then◌else◌, List, [], ◌∷◌, drop, codes, Option, Some, None, option_map}
+use Rattle.std.specs.Prelude.{◌≡◌, ℕ, Bool, true, false, ◌&&◌, ◌||◌, ◌==◌, not, nat_lt, if◌then◌else◌, List, [], ◌∷◌, drop, codes, Option, Some, None, is_none, option_map}
 use Rattle.texts.specs.Words.{begins, is_word}
 use Rattle.file_reading.specs.LookingBack.{latest}
 use Rattle.gerber_words.specs.Words.{Entry, Stop, begins_macro}
-use Rattle.gerber_layer.specs.Command.{Command, view}
+use Rattle.gerber_layer.specs.Command.{Command, selects, view}
 use Rattle.gerber_layer.specs.Dialect.{stop_command}
 use Rattle.gerber_layer.specs.WordCommands.{behind, goes_on, number_in}
 use Rattle.gerber_layer.specs.MacroCommands.{loose_command}
@@ -64,17 +64,21 @@ behind_numbers text = behind 89 (behind 88 text)
 abbrev pub from_offsets : List ℕ → List ℕ
 from_offsets text = behind_numbers (behind_code text)
 
--- a plain word: `I` and then `J` are its offsets
-abbrev pub plain : Command → List ℕ → Saying
-plain command text = record {
+-- a word of this curve and these quadrants: `I` and then `J` are its offsets
+abbrev pub with_offsets : Command → Option Curve → Option Quadrants → List ℕ → Saying
+with_offsets command curve quadrants offsets = record {
   command = command;
-  curve = curve_in text;
-  quadrants = quadrants_in text;
-  i = number_in 73 (from_offsets text);
-  j = number_in 74 (behind 73 (from_offsets text));
-  more = begins_offset (behind 74 (behind 73 (from_offsets text)));
+  curve = curve;
+  quadrants = quadrants;
+  i = number_in 73 offsets;
+  j = number_in 74 (behind 73 offsets);
+  more = begins_offset (behind 74 (behind 73 offsets));
   names = false;
 }
+
+-- a plain word
+abbrev pub plain : Command → List ℕ → Saying
+plain command text = with_offsets command (curve_in text) (quadrants_in text) (from_offsets text)
 
 -- a word that says nothing of arcs, and may begin a macro
 abbrev pub silent : Command → Bool → Saying
@@ -87,6 +91,14 @@ saying w = if w.extended then silent (loose_command w) (begins_macro w.text) els
 -- and the stop of a file says nothing
 abbrev pub stop_saying : Stop → Saying
 stop_saying stop = silent (stop_command stop) false
+
+abbrev pub is_selection : Command → Bool
+is_selection (selects n) = true
+is_selection other = false
+
+-- a word that selects an aperture and says no more: behind it the same is in force
+abbrev pub selects_alone : Saying → Bool
+selects_alone w = is_selection w.command && (is_none w.curve && (is_none w.quadrants && not w.names))
 
 -- no other curve than a line
 abbrev pub is_line : Option Curve → Bool

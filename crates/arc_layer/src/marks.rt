@@ -15,7 +15,7 @@ use crate::edges::{closes, contour_mark, edges_behind, flashes, mark_by};
 use crate::kind::{RealFault, RealKind};
 use crate::mark::Mark;
 use crate::state::{State, at_start};
-use crate::words::{Saying, are_free, is_quiet, read_word};
+use crate::words::{Saying, are_free, is_quiet, read_word, selects_alone};
 use file_reading::Halt;
 use gerber_layer::Command;
 use gerber_words::laws::words_lie_ahead;
@@ -133,6 +133,10 @@ impl Reader {
         ensures edges { OnOk result (All IsShort self.new.edges.items) }
         ensures halt { IfErr result (Stops (mark_spec self.old.state self.old.edges.items (saying_of word.now))) }
     {
+        if selects_alone(word) {
+            self.commands += 1;
+            return Ok(());
+        }
         let state = self.state;
         let bend = bend_of(&state, word)?;
         self.commands += 1;

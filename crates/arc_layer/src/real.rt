@@ -9,7 +9,7 @@ ghost use Rattle.board_shapes.specs.declared.shape.Shape.TheVariants as shape;
 ghost use Rattle.board_shapes.specs.Pieces.{plain_piece, plain_pieces};
 ghost use Rattle.file_reading.specs.declared.fault.FileFault.TheVariants as fault;
 ghost use Rattle.planar.specs.Plane.{IsPlaced};
-ghost use Rattle.std.specs.Prelude.{◌≡◌, ◌≤◌, All, length, map, option_map, IfErr, IfOk, IfSome, Some};
+ghost use Rattle.std.specs.Prelude.{◌≡◌, ◌≤◌, All, length, map, IfErr, IfOk, Some};
 
 use crate::centres::moved;
 use crate::draws::Bend;
@@ -174,34 +174,57 @@ fn marked_area(alloc: Global, mark: &Mark, area: Area) -> Result<RealShape, Real
     }
 }
 
-fn with_mark(alloc: Global, mark: Option<&Mark>, shape: Shape) -> Result<RealShape, RealFault>
-    requires { IfSome (option_map (λ m. plain_mark m.now) mark) IsShortMark }
-    ensures value { IfOk result (λ made. real_figure made ≡ spec.with_mark (option_map (λ m. plain_mark m.now) mark.entry) (figure_of shape)) }
+fn with_mark(alloc: Global, mark: &Mark, shape: Shape) -> Result<RealShape, RealFault>
+    requires { IsShortMark (plain_mark mark.now) }
+    ensures value { IfOk result (λ made. real_figure made ≡ spec.with_mark (Some (plain_mark mark.now)) (figure_of shape)) }
     ensures fault { IfErr result (λ why. why ≡ fault.NoMemory) }
 {
-    match mark {
-        None => Ok(RealShape::Plain(shape)),
-        Some(mark) => match shape {
-            Shape::Round(stroke) => Ok(marked(mark, stroke)),
-            Shape::Filled(area) => marked_area(alloc, mark, area),
-        },
+    match shape {
+        Shape::Round(stroke) => Ok(marked(mark, stroke)),
+        Shape::Filled(area) => marked_area(alloc, mark, area),
+    }
+}
+
+// A piece whose command has a mark.
+#[inline(never)]
+fn marked_piece(alloc: Global, mark: &Mark, piece: Piece) -> Result<RealPiece, RealFault>
+    requires { IsShortMark (plain_mark mark.now) }
+    ensures value { IfOk result (λ made. plain_real made ≡ spec.real_piece (λ n. Some (plain_mark mark.now)) (plain_piece piece)) }
+    ensures fault { IfErr result (λ why. why ≡ RealFault.NoMemory) }
+{
+    let shape = with_mark(alloc, mark, piece.shape)?;
+    Ok(Placed {
+        shape,
+        top: piece.top,
+        bottom: piece.bottom,
+        origin: piece.origin,
+    })
+}
+
+// A piece whose command has none.
+#[inline(always)]
+fn unmarked(piece: Piece) -> RealPiece
+    ensures { plain_real result ≡ spec.real_piece (λ n. None) (plain_piece piece) }
+{
+    Placed {
+        shape: RealShape::Plain(piece.shape),
+        top: piece.top,
+        bottom: piece.bottom,
+        origin: piece.origin,
     }
 }
 
 /// A piece of the first reading with the mark of its command.
+#[inline(always)]
 fn real_piece(alloc: Global, piece: Piece, marks: &Marks) -> Result<RealPiece, RealFault>
     requires short { AreShort (marks_of marks.now) }
     ensures value { IfOk result (λ made. plain_real made ≡ spec.real_piece (marks_of marks.now) (plain_piece piece)) }
     ensures fault { IfErr result (λ why. why ≡ fault.NoMemory) }
 {
-    let origin = piece.origin;
-    let shape = with_mark(alloc, marks.find(origin.command), piece.shape)?;
-    Ok(Placed {
-        shape,
-        top: piece.top,
-        bottom: piece.bottom,
-        origin,
-    })
+    match marks.find(piece.origin.command) {
+        None => Ok(unmarked(piece)),
+        Some(mark) => marked_piece(alloc, mark, piece),
+    }
 }
 
 fn real_pieces(

@@ -5,7 +5,7 @@ ghost use Rattle.gerber_layer.specs.Lawful.{IsLawfulCommand};
 ghost use Rattle.gerber_words.specs.Stepping.{entry_of};
 ghost use Rattle.gerber_words.specs.Words as words;
 ghost use Rattle.std.specs.Option.{option_copied};
-ghost use Rattle.std.specs.Prelude.{◌≡◌, ◌≤◌, true, length, option_map};
+ghost use Rattle.std.specs.Prelude.{◌≡◌, ◌≤◌, ◌==◌, ◌&&◌, not, true, length, option_map};
 
 use gerber_layer::{Command, behind_code, goes_on, part, read_loose_command};
 use gerber_words::Word;
@@ -103,22 +103,6 @@ fn from_offsets(text: &[u8]) -> &[u8]
     behind_numbers(behind_code(text))
 }
 
-fn plain<'a>(command: Command<'a>, text: &'a [u8]) -> Saying<'a>
-    ensures { spec.saying_of result ≡ spec.plain (view command.entry) text.now }
-{
-    let (i, rest) = part(from_offsets(text), b'I');
-    let (j, rest) = part(rest, b'J');
-    Saying {
-        command,
-        curve: curve_in(text),
-        quadrants: quadrants_in(text),
-        i,
-        j,
-        more: begins_offset(rest),
-        names: false,
-    }
-}
-
 // A word that says nothing of arcs, and may begin a macro.
 fn silent<'a>(command: Command<'a>, names: bool) -> Saying<'a>
     ensures { spec.saying_of result ≡ spec.silent (view command.entry) names }
@@ -134,6 +118,45 @@ fn silent<'a>(command: Command<'a>, names: bool) -> Saying<'a>
     }
 }
 
+// A word of this curve and these quadrants, with what stands behind its numbers of X and Y.
+fn with_offsets<'a>(
+    command: Command<'a>,
+    curve: Option<Curve>,
+    quadrants: Option<Quadrants>,
+    offsets: &'a [u8],
+) -> Saying<'a>
+    ensures { spec.saying_of result ≡ spec.with_offsets (view command.entry) curve quadrants offsets.now }
+{
+    let (i, rest) = part(offsets, b'I');
+    let (j, rest) = part(rest, b'J');
+    Saying {
+        command,
+        curve,
+        quadrants,
+        i,
+        j,
+        more: begins_offset(rest),
+        names: false,
+    }
+}
+
+// Most words are coordinates or a selection, which their first letter tells: they set no curve.
+fn plain<'a>(command: Command<'a>, text: &'a [u8]) -> Saying<'a>
+    ensures { spec.saying_of result ≡ spec.plain (view command.entry) text.now }
+{
+    match text {
+        [b'X', ..] => with_offsets(command, None, None, behind_numbers(text)),
+        [b'Y', ..] => with_offsets(command, None, None, behind_numbers(text)),
+        [b'D', ..] => silent(command, false),
+        _ => with_offsets(
+            command,
+            curve_in(text),
+            quadrants_in(text),
+            from_offsets(text),
+        ),
+    }
+}
+
 /// What a word says.
 pub fn read_word<'a>(word: Word<'a>) -> Saying<'a>
     ensures value { spec.saying_of result ≡ spec.saying (entry_of word.entry) }
@@ -145,6 +168,22 @@ pub fn read_word<'a>(word: Word<'a>) -> Saying<'a>
     } else {
         plain(command, word.text)
     }
+}
+
+fn is_selection(command: &Command) -> bool
+    ensures { result ≡ spec.is_selection (view command.now) }
+{
+    match *command {
+        Command::Select(_) => true,
+        _ => false,
+    }
+}
+
+/// Whether a word selects an aperture and says no more, so that behind it the same is in force.
+pub fn selects_alone(word: &Saying) -> bool
+    ensures { result ≡ spec.selects_alone (spec.saying_of word.now) }
+{
+    is_selection(&word.command) && word.curve.is_none() && word.quadrants.is_none() && !word.names
 }
 
 fn is_line(curve: Option<Curve>) -> bool
@@ -164,31 +203,25 @@ fn is_mute(byte: u8) -> bool
     byte < b'G' || b'J' < byte
 }
 
-fn goes_free(b: u8, rest: &[u8]) -> bool
-    ensures { result ≡ spec.is_free b rest.now }
+// Whether a byte behind another begins nothing, and is not the second of those that begin a macro.
+fn goes_free(before: u8, b: u8) -> bool
+    ensures { result ≡ (spec.is_mute b && not (65 == before && 77 == b)) }
 {
-    is_mute(b) && !(b'A' == b && begins(rest, b"M"))
+    is_mute(b) && !(b'A' == before && b'M' == b)
 }
 
-// Most bytes are no letters from `A` to `J`.
-fn is_free(b: u8, rest: &[u8]) -> bool
-    ensures { result ≡ spec.is_free b rest.now }
-{
-    b < b'A' || b'J' < b || goes_free(b, rest)
-}
-
-/// Whether no byte is from `G` to `J` and no macro begins, so that no word of these bytes says anything.
+/// Whether no byte is from `G` to `J` and no macro begins, so that no word of these bytes says anything. All bytes are looked
+/// at, for then a processor can look at many at a time.
 pub fn are_free(bytes: &[u8]) -> bool
     ensures { result ≡ spec.are_free bytes.now }
 {
-    let mut left = bytes;
-    while let [b, rest @ ..] = left {
-        if !is_free(*b, rest) {
-            return false;
-        }
-        left = rest;
+    let mut free = true;
+    let mut before = 0;
+    for b in bytes {
+        free = free & goes_free(before, *b);
+        before = *b;
     }
-    true
+    free
 }
 
 // Most words begin with no code: they set no curve.

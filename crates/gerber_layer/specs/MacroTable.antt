@@ -99,6 +99,13 @@ macro_row lines k (body_word text) = fill_macro k text
 macro_row lines k (defines text) = define_any lines k text
 macro_row lines k other = gerber (row k other)
 
+-- the commands that have a row of their own there
+abbrev pub is_of_macros : Command → Bool
+is_of_macros (names_macro name) = true
+is_of_macros (body_word text) = true
+is_of_macros (defines text) = true
+is_of_macros other = false
+
 -- a word of the file's function
 abbrev pub is_function : Command → Bool
 is_function (functions function layer) = true

@@ -13,6 +13,7 @@ ghost use Rattle.gerber_layer.specs.Reader.{IsLawfulReader, Obeys, Stops, known_
 use crate::command::Command;
 use crate::kind::GerberKind;
 use crate::macro_kind::FlattenKind;
+use crate::macro_rows::is_of_macros;
 use crate::reader::Reader;
 use crate::straight_commands::read_loose_command;
 use crate::word_commands::{read_command, read_macro_command};
@@ -127,6 +128,12 @@ impl Dialect for Loose {
         alloc: Global,
         command: &Command<'a>,
     ) -> Result<(), Halt<FlattenKind>> {
+        if !is_of_macros(command) {
+            return match Plain::obey(reader, alloc, command) {
+                Ok(()) => Ok(()),
+                Err(halt) => Err(any_halt(halt)),
+            };
+        }
         let effect = reader.effect_loosely(alloc, command)?;
         match reader.go_on(alloc, command, effect) {
             Ok(()) => Ok(()),

@@ -76,7 +76,7 @@ pub fn read_layer<D: Dialect>(
     words_lie_ahead();
     D::is_lawful();
     let mut words = Words::new(file);
-    let mut reader = Reader::new(alloc, place);
+    let mut reader = Reader::new(alloc, file.len(), place);
     loop {
         match words.next_word() {
             Step::Word(word) => obey_at::<D>(alloc, &mut reader, &D::read(word), word.at)?,

@@ -85,6 +85,18 @@ fn behind_end<'a>(command: &Command<'a>) -> MacroRow<'a>
     }
 }
 
+/// Whether a command has another row where the file may have macros.
+pub fn is_of_macros(command: &Command) -> bool
+    ensures { result ≡ spec.is_of_macros (view command.now) }
+{
+    match command {
+        Command::Macro(_) => true,
+        Command::Body(_) => true,
+        Command::Define(_) => true,
+        _ => false,
+    }
+}
+
 // Whether a word is of the file's function.
 fn is_function(command: &Command) -> bool
     ensures { result ≡ spec.is_function (view command.now) }

@@ -1,9 +1,7 @@
-use Rattle.std.proofs.Common.{◌≡◌, length}
+use Rattle.std.proofs.Common.{◌≡◌, ◌&&◌, drop}
 use Rattle.arc_layer.specs.Words.{are_free}
+use Rattle.arc_layer.proofs.Mute.{free_behind}
 use Rattle.arc_layer.proofs.words.are_free.Given as goal
 
-abbrev pub invariant-loop-left : goal.invariant-loop-left
-invariant-loop-left l = are_free l.left ≡ are_free l.bytes
-
-abbrev pub decreases-loop-left : goal.decreases-loop-left
-decreases-loop-left l = length l.left
+abbrev pub invariant-loop-b : goal.invariant-loop-b
+invariant-loop-b l = are_free l.bytes ≡ (l.free && free_behind l.before (drop l.b-index l.bytes))
