@@ -3,11 +3,11 @@ use Rattle.std.proofs.Common.{◌≡◌, inl, inr, ℕ, List, [], ◌∷◌, Opt
 use Rattle.std.specs.List.{filter}
 use Rattle.board_io.specs.Handed.{Handed}
 use Rattle.board_io.specs.Package.{Files}
-use Rattle.board_package.specs.Causes.{HandedCause, HasCause}
+use Rattle.board_package.specs.Causes.{HandedCause, HandedCauseBy, HasCause, HasCauseBy}
 use Rattle.board_package.specs.HandedBoard.{ComesAlongHanded, ComesNext, Course, GoesHanded, StopsAmongHanded, StopsAtHanded}
 use Rattle.board_package.specs.HandedLabelled.{GoesLabelledHanded, StopsLabelledAmongHanded, unlabelled}
 use Rattle.board_package.specs.LabelledBoard.{GoesLabelled, Labelled, LabelledStop, StopsLabelledAmong, mislabelled, unbuilt}
-use Rattle.board_package.specs.LabelledCauses.{HandedLabelledCause, HasLabelledCause}
+use Rattle.board_package.specs.LabelledCauses.{labelled_faults}
 use Rattle.board_package.specs.PackageBoard.{ComesAlong, Goes, StopsAmong, StopsAt, Walks, WalksBy}
 use Rattle.board_package.specs.declared.entry.Entry.{Entry}
 use Rattle.board_package.specs.declared.entry.Naming.TheVariants.{ByNetlist}
@@ -41,7 +41,7 @@ abbrev ComesBy : List Entry → Labelled → Files → List ℕ → Type 0
 ComesBy entries start files name = ComesAlong (GoesLabelled ByNetlist files) (filter (needed ByNetlist) entries) start name
 
 pub plain_cause : (held : Option Files) (entries listed : List Entry) (start : Labelled) (before now : ℕ) (lost : List ℕ) (why : BuildFault) (given : LabelledFault) → entries ≡ listed → given ≡ fault.Build why
-    → HasLabelledCause held (StopsBy entries start) (ComesBy entries start) before now lost given
+    → HasCauseBy labelled_faults held (StopsBy entries start) (ComesBy entries start) before now lost given
     → HasCause held (λ files stop. StopsAmong files listed start.board stop) (λ files name. ComesAlong (Goes files) listed start.board name) before now lost why
 plain_cause held entries listed start before now lost why given same build cause =
     lift held (λ files stop. StopsBy entries start files (unbuilt stop)) (λ files stop. StopsAmong files listed start.board stop) (ComesBy entries start) (λ files name. ComesAlong (Goes files) listed start.board name) before before now lost why
@@ -49,7 +49,7 @@ plain_cause held entries listed start before now lost why given same build cause
       stops = λ stop s. subst (λ xs. StopsAmong files xs start.board stop) (all_needed entries ∙ same) (one_as (λ (l : Labelled). l.board) (GoesLabelled ByNetlist files) (Goes files) _ (λ e b. StopsAt files e b stop) (λ e x y g. g.goes) (λ e x p. p) _ start s);
       comes = λ name s. subst (λ xs. ComesAlong (Goes files) xs start.board name) (all_needed entries ∙ same) (one_as (λ (l : Labelled). l.board) (GoesLabelled ByNetlist files) (Goes files) _ (λ e b. e.name ≡ name) (λ e x y g. g.goes) (λ e x p. p) _ start s);
     }))
-    (omega arith) (subst (λ f. HasLabelledCause held (StopsBy entries start) (ComesBy entries start) before now lost f) build cause)
+    (omega arith) (subst (λ f. HasCauseBy labelled_faults held (StopsBy entries start) (ComesBy entries start) before now lost f) build cause)
 
 abbrev StopsHandedBy : List Entry → Course Labelled → List Handed → LabelledStop → Type 0
 StopsHandedBy entries start b stop = StopsLabelledAmongHanded ByNetlist (filter (needed ByNetlist) entries) start b stop
@@ -58,7 +58,7 @@ abbrev ComesHandedBy : List Entry → Course Labelled → List Handed → List �
 ComesHandedBy entries start b name = ComesAlongHanded (GoesLabelledHanded ByNetlist) (filter (needed ByNetlist) entries) start b name
 
 pub plain_handed : (entries listed : List Entry) (start : Course Labelled) (b : List Handed) (before now : ℕ) (lost : List ℕ) (why : BuildFault) (given : LabelledFault) → entries ≡ listed → given ≡ fault.Build why
-    → HandedLabelledCause (StopsHandedBy entries start b) (ComesHandedBy entries start b) before now lost given
+    → HandedCauseBy labelled_faults (StopsHandedBy entries start b) (ComesHandedBy entries start b) before now lost given
     → HandedCause (λ stop. StopsAmongHanded listed (unlabelled start) b stop) (λ name. ComesAlongHanded GoesHanded listed (unlabelled start) b name) before now lost why
 plain_handed entries listed start b before now lost why given same build cause =
     carry (λ stop. StopsHandedBy entries start b (unbuilt stop)) (λ stop. StopsAmongHanded listed (unlabelled start) b stop) (ComesHandedBy entries start b) (λ name. ComesAlongHanded GoesHanded listed (unlabelled start) b name) before before now lost why
@@ -66,7 +66,7 @@ plain_handed entries listed start b before now lost why given same build cause =
       stops = λ stop s. subst (λ xs. StopsAmongHanded xs (unlabelled start) b stop) (all_needed entries ∙ same) (one_as unlabelled (GoesLabelledHanded ByNetlist) GoesHanded _ (λ e c. StopsAtHanded e c b stop) (λ e x y g. g.goes) (λ e x p. p) _ start s);
       comes = λ name s. subst (λ xs. ComesAlongHanded GoesHanded xs (unlabelled start) b name) (all_needed entries ∙ same) (one_as unlabelled (GoesLabelledHanded ByNetlist) GoesHanded _ (λ e c. ComesNext c.handed b e.name name) (λ e x y g. g.goes) (λ e x p. p) _ start s);
     })
-    (omega arith) (subst (λ f. HandedLabelledCause (StopsHandedBy entries start b) (ComesHandedBy entries start b) before now lost f) build cause)
+    (omega arith) (subst (λ f. HandedCauseBy labelled_faults (StopsHandedBy entries start b) (ComesHandedBy entries start b) before now lost f) build cause)
 
 -- no label is amiss
 never : (entries : List Entry) (c : Course Labelled) (b : List Handed) (name : List ℕ) (command at : ℕ) → StopsLabelledAmongHanded ByNetlist entries c b (mislabelled name command at) → ⊥
@@ -75,6 +75,6 @@ never (e ∷ rest) c b name command at (inl s) = s.1.amiss
 never (e ∷ rest) c b name command at (inr (n, g, h)) = never rest n b name command at h
 
 pub no_labels : (entries : List Entry) (start : Course Labelled) (b : List Handed) (before now : ℕ) (lost : List ℕ) (given : LabelledFault) (name : Text) (command at : ℕ) → given ≡ fault.Label name command at
-    → HandedLabelledCause (StopsHandedBy entries start b) (ComesHandedBy entries start b) before now lost given → ⊥
+    → HandedCauseBy labelled_faults (StopsHandedBy entries start b) (ComesHandedBy entries start b) before now lost given → ⊥
 no_labels entries start b before now lost given name command at amiss cause =
-    never _ start b name command at (subst (λ f. HandedLabelledCause (StopsHandedBy entries start b) (ComesHandedBy entries start b) before now lost f) amiss cause)
+    never _ start b name command at (subst (λ f. HandedCauseBy labelled_faults (StopsHandedBy entries start b) (ComesHandedBy entries start b) before now lost f) amiss cause)

@@ -1,13 +1,13 @@
 -- Causes of a labelled board, carried from one stage to the next.
 use Rattle.std.proofs.Common.{◌≡◌, inl, inr, ℕ, ◌+◌, ◌<◌, ◌≤◌, Bool, true, List, [], ◌∷◌, length, take, get_or, Option, IfSome, refl, sym, ap, ◌∙◌, subst, arith}
 use Rattle.std.specs.List.{filter}
-use Rattle.board_io.specs.Package.{Files, IsFaultless}
+use Rattle.board_io.specs.Package.{Files}
 use Rattle.board_shapes.specs.Plain.{PlainBoard, common_box, Fits}
 use Rattle.board_shapes.specs.declared.shape.Shape.{Shape}
 use Rattle.x2_nets.specs.declared.label_table.Label.{Label}
-use Rattle.board_package.specs.Causes.{HasCause, IsFrameFault}
+use Rattle.board_package.specs.Causes.{HasCause, HasCauseBy, IsFrameFault}
 use Rattle.board_package.specs.LabelledBoard.{GoesLabelled, IsFirstLabelledStop, IsLabelledBoardOf, Labelled, LabelledComes, LabelledStop, Lists, Mislabels, StopsLabelledAmong, is_taken, labelled_board_of, labelled_order, mislabelled, nothing_labelled, unbuilt}
-use Rattle.board_package.specs.LabelledCauses.{HasLabelledCause, IsMislabelling, KeepsLabelledFaults, labelled_so_far}
+use Rattle.board_package.specs.LabelledCauses.{IsMislabelling, labelled_faults, labelled_so_far}
 use Rattle.board_package.specs.PackageBoard.{ComesAlong, Goes, IsHeld, IsManifestFile, Stop, StopsAt, StopsAtFrame, StopsAtManifest, WalksBy, frame_too_large}
 use Rattle.board_package.specs.Parts.{Has, empty_board}
 use Rattle.board_package.specs.declared.entry.Entry.{Entry}
@@ -18,7 +18,7 @@ use Rattle.board_package.specs.declared.fault.LabelledFault.{LabelledFault}
 use Rattle.board_package.specs.declared.fault.LabelledFault.TheVariants as fault
 use Rattle.board_package.specs.declared.manifest.Manifest.{Manifest}
 use Rattle.board_package.specs.declared.parts.Parts.{Parts}
-use Rattle.board_package.proofs.Lift.{Carries, faultless_both, frame_cause, kept, kept_after, lift, told, told_all, told_of}
+use Rattle.board_package.proofs.Lift.{Carries, frame_cause, lift, lift_by, told, told_all, told_of}
 use Rattle.board_package.proofs.OneOutcome.{held_one}
 use Rattle.board_package.proofs.Seen.{is_empty}
 use Rattle.board_package.proofs.Walking.{passing_at_one, passing_walk_more}
@@ -29,27 +29,6 @@ needed naming e = is_taken naming e.role
 pub nothing_yet : (parts : Parts Shape) (tables : List (List Label)) (layers : ℕ) → Has parts [] [] [] layers → tables ≡ [] → labelled_so_far parts tables ≡ nothing_labelled layers
 nothing_yet parts tables layers p q = ap (λ (b : PlainBoard). record { board = b; tables = tables }) (is_empty parts layers p) ∙ ap (λ (t : List (List Label)). record { board = empty_board layers; tables = t }) q
 
--- ---- What a package leaves
-
-pub kept_labelled : (a : ℕ) (l : List ℕ) (b : ℕ) (m : List ℕ) (why : LabelledFault) → IsFaultless a l b m → KeepsLabelledFaults a l b m why
-kept_labelled a l b m (fault.Build why) h = kept a l b m why h
-kept_labelled a l b m (fault.Label name command at) h = h
-
-pub kept_labelled_after : (a : ℕ) (l : List ℕ) (b : ℕ) (m : List ℕ) (c : ℕ) (n : List ℕ) (why : LabelledFault) → IsFaultless a l b m → KeepsLabelledFaults b m c n why → KeepsLabelledFaults a l c n why
-kept_labelled_after a l b m c n (fault.Build why) h k = kept_after a l b m c n why h k
-kept_labelled_after a l b m c n (fault.Label name command at) h k = faultless_both a l b m c n h k
-
--- ---- Causes
-
-pub lift_labelled : (held : Option Files) (S T : Files → LabelledStop → Type 0) (C D : Files → List ℕ → Type 0) (before mid now : ℕ) (lost : List ℕ) (why : LabelledFault)
-    → IfSome held (λ files. Carries (S files) (T files) (C files) (D files)) → before ≤ mid → HasLabelledCause held S C mid now lost why → HasLabelledCause held T D before now lost why
-lift_labelled held S T C D before mid now lost (fault.Build why) carries le h =
-    lift held (λ files stop. S files (unbuilt stop)) (λ files stop. T files (unbuilt stop)) C D before mid now lost why
-    (told_of held (λ files. Carries (S files) (T files) (C files) (D files)) (λ files. Carries (λ stop. S files (unbuilt stop)) (λ stop. T files (unbuilt stop)) (C files) (D files)) (λ files k. record { stops = λ stop s. k.stops (unbuilt stop) s; comes = k.comes }) carries)
-    le h
-lift_labelled held S T C D before mid now lost (fault.Label name command at) carries le h =
-    told held (λ files. Carries (S files) (T files) (C files) (D files)) (λ files. S files (mislabelled name command at)) (λ files. T files (mislabelled name command at)) (λ files k s. k.stops (mislabelled name command at) s) carries h
-
 -- ---- One file, which is taken
 
 pub only : (naming : Naming) (e : Entry) → is_taken naming e.role ≡ true → filter (needed naming) (e ∷ []) ≡ e ∷ []
@@ -58,7 +37,7 @@ only naming e is = rw is refl
 -- what stops its taking
 pub file_cause : (naming : Naming) (held : Option Files) (e : Entry) (state : Labelled) (before now : ℕ) (lost : List ℕ) (why : BuildFault) → is_taken naming e.role ≡ true
     → HasCause held (λ files stop. StopsAt files e state.board stop) (λ files name. e.name ≡ name) before now lost why
-    → HasLabelledCause held (λ files stop. StopsLabelledAmong naming files (filter (needed naming) (e ∷ [])) state stop) (λ files name. ComesAlong (GoesLabelled naming files) (filter (needed naming) (e ∷ [])) state name) before now lost (fault.Build why)
+    → HasCauseBy labelled_faults held (λ files stop. StopsLabelledAmong naming files (filter (needed naming) (e ∷ [])) state stop) (λ files name. ComesAlong (GoesLabelled naming files) (filter (needed naming) (e ∷ [])) state name) before now lost (fault.Build why)
 file_cause naming held e state before now lost why is cause =
     lift held (λ files stop. StopsAt files e state.board stop) (λ files stop. StopsLabelledAmong naming files (filter (needed naming) (e ∷ [])) state (unbuilt stop)) (λ files name. e.name ≡ name) (λ files name. ComesAlong (GoesLabelled naming files) (filter (needed naming) (e ∷ [])) state name) before before now lost why
     (told_all held (λ files. Carries (λ stop. StopsAt files e state.board stop) (λ stop. StopsLabelledAmong naming files (filter (needed naming) (e ∷ [])) state (unbuilt stop)) (λ name. e.name ≡ name) (λ name. ComesAlong (GoesLabelled naming files) (filter (needed naming) (e ∷ [])) state name))
@@ -71,7 +50,7 @@ file_cause naming held e state before now lost why is cause =
 -- it is read, and then a label is amiss, or memory is wanted
 pub label_cause : (naming : Naming) (held : Option Files) (e : Entry) (state : Labelled) (after : PlainBoard) (bytes : List ℕ) (before now : ℕ) (lost : List ℕ) (why : LabelledFault) → is_taken naming e.role ≡ true
     → IfSome held (λ files. Goes files e state.board after) → IfSome held (λ files. IsHeld files e.name bytes) → IsMislabelling naming e.role e.name bytes why
-    → HasLabelledCause held (λ files stop. StopsLabelledAmong naming files (filter (needed naming) (e ∷ [])) state stop) (λ files name. ComesAlong (GoesLabelled naming files) (filter (needed naming) (e ∷ [])) state name) before now lost why
+    → HasCauseBy labelled_faults held (λ files stop. StopsLabelledAmong naming files (filter (needed naming) (e ∷ [])) state stop) (λ files name. ComesAlong (GoesLabelled naming files) (filter (needed naming) (e ∷ [])) state name) before now lost why
 label_cause naming held e state after bytes before now lost (fault.Build why) is goes whole h =
     subst (λ w. HasCause held (λ files stop. StopsLabelledAmong naming files (filter (needed naming) (e ∷ [])) state (unbuilt stop)) (λ files name. ComesAlong (GoesLabelled naming files) (filter (needed naming) (e ∷ [])) state name) before now lost w) (sym h) tt
 label_cause naming held e state after bytes before now lost (fault.Label name command at) is goes whole h =
@@ -95,20 +74,20 @@ file_walked naming held e before after bytes is goes whole lists =
 -- a cause of a file's stage is one of the files
 pub files_cause_more : (naming : Naming) (held after : Option Files) (entries : List Entry) (i : ℕ) (e : Entry) (start mid : Labelled) (before between now : ℕ) (lost : List ℕ) (why : LabelledFault) → i < length entries → e ≡ get_or entries i e → after ≡ held → before ≤ between
     → IfSome held (λ files. WalksBy (GoesLabelled naming files) (filter (needed naming) (take i entries)) start mid)
-    → HasLabelledCause after (λ files stop. StopsLabelledAmong naming files (filter (needed naming) (e ∷ [])) mid stop) (λ files name. ComesAlong (GoesLabelled naming files) (filter (needed naming) (e ∷ [])) mid name) between now lost why
-    → HasLabelledCause held (λ files stop. StopsLabelledAmong naming files (filter (needed naming) entries) start stop) (λ files name. ComesAlong (GoesLabelled naming files) (filter (needed naming) entries) start name) before now lost why
+    → HasCauseBy labelled_faults after (λ files stop. StopsLabelledAmong naming files (filter (needed naming) (e ∷ [])) mid stop) (λ files name. ComesAlong (GoesLabelled naming files) (filter (needed naming) (e ∷ [])) mid name) between now lost why
+    → HasCauseBy labelled_faults held (λ files stop. StopsLabelledAmong naming files (filter (needed naming) entries) start stop) (λ files name. ComesAlong (GoesLabelled naming files) (filter (needed naming) entries) start name) before now lost why
 files_cause_more naming held after entries i e start mid before between now lost why below here same later walked cause =
     let S : Files → LabelledStop → Type 0 = λ files stop. StopsLabelledAmong naming files (filter (needed naming) (e ∷ [])) mid stop in
     let C : Files → List ℕ → Type 0 = λ files name. ComesAlong (GoesLabelled naming files) (filter (needed naming) (e ∷ [])) mid name in
     let T : Files → LabelledStop → Type 0 = λ files stop. StopsLabelledAmong naming files (filter (needed naming) entries) start stop in
     let D : Files → List ℕ → Type 0 = λ files name. ComesAlong (GoesLabelled naming files) (filter (needed naming) entries) start name in
-    lift_labelled held S T C D before between now lost why
+    lift_by labelled_faults held S T C D before between now lost why
     (told_of held (λ files. WalksBy (GoesLabelled naming files) (filter (needed naming) (take i entries)) start mid) (λ files. Carries (S files) (T files) (C files) (D files))
     (λ files w. record {
       stops = λ stop s. passing_at_one (GoesLabelled naming files) (needed naming) entries i e start mid _ below here w s;
       comes = λ name s. passing_at_one (GoesLabelled naming files) (needed naming) entries i e start mid _ below here w s;
     }) walked)
-    later (subst (λ h. HasLabelledCause h S C between now lost why) same cause)
+    later (subst (λ h. HasCauseBy labelled_faults h S C between now lost why) same cause)
 
 -- one file more is read
 pub files_walked_more : (naming : Naming) (held after : Option Files) (entries : List Entry) (i : ℕ) (e : Entry) (start mid end : Labelled) → i < length entries → e ≡ get_or entries i e → after ≡ held
@@ -122,7 +101,7 @@ files_walked_more naming held after entries i e start mid end below here same wa
 -- a cause of the manifest's stage is one of the package
 pub manifest_labelled_cause : (held : Option Files) (manifest : List ℕ) (before now : ℕ) (lost : List ℕ) (why : BuildFault)
     → HasCause held (λ files stop. StopsAtManifest files manifest stop) (λ files name. name ≡ manifest) before now lost why
-    → HasLabelledCause held (λ files stop. IsFirstLabelledStop files manifest stop) (λ files name. LabelledComes files manifest name) before now lost (fault.Build why)
+    → HasCauseBy labelled_faults held (λ files stop. IsFirstLabelledStop files manifest stop) (λ files name. LabelledComes files manifest name) before now lost (fault.Build why)
 manifest_labelled_cause held manifest before now lost why cause =
     lift held (λ files stop. StopsAtManifest files manifest stop) (λ files stop. IsFirstLabelledStop files manifest (unbuilt stop)) (λ files name. name ≡ manifest) (λ files name. LabelledComes files manifest name) before before now lost why
     (told_all held (λ files. Carries (λ stop. StopsAtManifest files manifest stop) (λ stop. IsFirstLabelledStop files manifest (unbuilt stop)) (λ name. name ≡ manifest) (λ name. LabelledComes files manifest name)) (λ files. record { stops = λ stop s. inl s; comes = λ name s. inl s }))
@@ -131,20 +110,20 @@ manifest_labelled_cause held manifest before now lost why cause =
 -- a cause of the files is one of the package
 pub files_labelled_cause : (held after : Option Files) (manifest : List ℕ) (listed : Manifest) (start : Labelled) (before between now : ℕ) (lost : List ℕ) (why : LabelledFault) → after ≡ held → start ≡ nothing_labelled listed.layers → before ≤ between
     → IfSome held (λ files. IsManifestFile files manifest listed)
-    → HasLabelledCause after (λ files stop. StopsLabelledAmong ByLabels files (labelled_order listed) start stop) (λ files name. ComesAlong (GoesLabelled ByLabels files) (labelled_order listed) start name) between now lost why
-    → HasLabelledCause held (λ files stop. IsFirstLabelledStop files manifest stop) (λ files name. LabelledComes files manifest name) before now lost why
+    → HasCauseBy labelled_faults after (λ files stop. StopsLabelledAmong ByLabels files (labelled_order listed) start stop) (λ files name. ComesAlong (GoesLabelled ByLabels files) (labelled_order listed) start name) between now lost why
+    → HasCauseBy labelled_faults held (λ files stop. IsFirstLabelledStop files manifest stop) (λ files name. LabelledComes files manifest name) before now lost why
 files_labelled_cause held after manifest listed start before between now lost why same empty later is cause =
     let S : Files → LabelledStop → Type 0 = λ files stop. StopsLabelledAmong ByLabels files (labelled_order listed) start stop in
     let C : Files → List ℕ → Type 0 = λ files name. ComesAlong (GoesLabelled ByLabels files) (labelled_order listed) start name in
     let T : Files → LabelledStop → Type 0 = λ files stop. IsFirstLabelledStop files manifest stop in
     let D : Files → List ℕ → Type 0 = λ files name. LabelledComes files manifest name in
-    lift_labelled held S T C D before between now lost why
+    lift_by labelled_faults held S T C D before between now lost why
     (told_of held (λ files. IsManifestFile files manifest listed) (λ files. Carries (S files) (T files) (C files) (D files))
     (λ files m. record {
       stops = λ stop s. inr (record { listed = listed; manifest = m; follows = inl (subst (λ b. StopsLabelledAmong ByLabels files (labelled_order listed) b stop) empty s) });
       comes = λ name s. inr (record { listed = listed; manifest = m; follows = subst (λ b. ComesAlong (GoesLabelled ByLabels files) (labelled_order listed) b name) empty s });
     }) is)
-    later (subst (λ h. HasLabelledCause h S C between now lost why) same cause)
+    later (subst (λ h. HasCauseBy labelled_faults h S C between now lost why) same cause)
 
 -- the frame of a board is that of its pieces, whatever its probes
 pub frame_of_pieces : (tables : List (List Label)) (b : PlainBoard) (stop : Stop) → StopsAtFrame (labelled_board_of tables b) stop → StopsAtFrame b stop
@@ -154,7 +133,7 @@ frame_of_pieces tables b other s = absurd s
 -- a frame that is too large is a cause of the package
 pub frame_labelled_cause : (held after : Option Files) (manifest : List ℕ) (listed : Manifest) (start end : Labelled) (board : PlainBoard) (before now : ℕ) (lost : List ℕ) (why : BuildFault) → after ≡ held → start ≡ nothing_labelled listed.layers → board ≡ labelled_board_of end.tables end.board
     → IfSome held (λ files. IsManifestFile files manifest listed) → IfSome after (λ files. WalksBy (GoesLabelled ByLabels files) (labelled_order listed) start end) → IsFrameFault board why
-    → HasLabelledCause held (λ files stop. IsFirstLabelledStop files manifest stop) (λ files name. LabelledComes files manifest name) before now lost (fault.Build why)
+    → HasCauseBy labelled_faults held (λ files stop. IsFirstLabelledStop files manifest stop) (λ files name. LabelledComes files manifest name) before now lost (fault.Build why)
 frame_labelled_cause held after manifest listed start end board before now lost why same empty named is walked h =
     frame_cause held (λ files stop. IsFirstLabelledStop files manifest (unbuilt stop)) (λ files name. LabelledComes files manifest name) before now lost board why
     (told held (λ files. IsManifestFile files manifest listed) (λ files. WalksBy (GoesLabelled ByLabels files) (labelled_order listed) start end) (λ files. (stop : Stop) → StopsAtFrame board stop → IsFirstLabelledStop files manifest (unbuilt stop))

@@ -6,7 +6,7 @@ use Rattle.board_io.specs.Causes.{Rose}
 use Rattle.board_io.specs.Handed.{AgreeWith, Handed}
 use Rattle.board_io.specs.Package.{Files, IsFaultless}
 use Rattle.board_shapes.specs.Plain.{PlainBoard}
-use Rattle.board_package.specs.Causes.{HasCause, HasRefusal, IsFrameFault, KeepsFaults, Leaves}
+use Rattle.board_package.specs.Causes.{CauseOf, Fault, Faults, HasCause, HasCauseBy, HasRefusal, IsFrameFault, KeepsFaults, KeepsFaultsBy, KeepsOf, Leaves, own, shared}
 use Rattle.board_package.specs.PackageBoard.{Stop, longer, not_json, bad_manifest, refused, frame_too_large, StopsAtFrame}
 use Rattle.board_package.specs.declared.fault.BuildFault.{BuildFault}
 use Rattle.board_package.specs.declared.fault.BuildFault.TheVariants as fault
@@ -65,6 +65,20 @@ lift held S T C D before mid now lost why carries le h =
     (λ stop s. told held (λ files. Carries (S files) (T files) (C files) (D files)) (λ files. S files stop) (λ files. T files stop) (λ files a b. a.stops stop b) carries s)
     (λ name c. told held (λ files. Carries (S files) (T files) (C files) (D files)) (λ files. C files name) (λ files. D files name) (λ files a b. a.comes name b) carries c) h
 
+-- the same of a layer above
+lift_of : {K : Type 0} (unbuilt : Stop → K) (held : Option Files) (S T : Files → K → Type 0) (C D : Files → List ℕ → Type 0) (before mid now : ℕ) (lost : List ℕ) (why : Fault K)
+    → IfSome held (λ files. Carries (S files) (T files) (C files) (D files)) → before ≤ mid → CauseOf unbuilt held S C mid now lost why → CauseOf unbuilt held T D before now lost why
+lift_of unbuilt held S T C D before mid now lost (shared why) carries le h =
+    lift held (λ files stop. S files (unbuilt stop)) (λ files stop. T files (unbuilt stop)) C D before mid now lost why
+    (told_of held (λ files. Carries (S files) (T files) (C files) (D files)) (λ files. Carries (λ stop. S files (unbuilt stop)) (λ stop. T files (unbuilt stop)) (C files) (D files)) (λ files k. record { stops = λ stop s. k.stops (unbuilt stop) s; comes = k.comes }) carries)
+    le h
+lift_of unbuilt held S T C D before mid now lost (own stop) carries le h =
+    told held (λ files. Carries (S files) (T files) (C files) (D files)) (λ files. S files stop) (λ files. T files stop) (λ files k s. k.stops stop s) carries h
+
+pub lift_by : {K F : Type 0} (faults : Faults K F) (held : Option Files) (S T : Files → K → Type 0) (C D : Files → List ℕ → Type 0) (before mid now : ℕ) (lost : List ℕ) (why : F)
+    → IfSome held (λ files. Carries (S files) (T files) (C files) (D files)) → before ≤ mid → HasCauseBy faults held S C mid now lost why → HasCauseBy faults held T D before now lost why
+lift_by faults held S T C D before mid now lost why carries le h = lift_of faults.unbuilt held S T C D before mid now lost (faults.told why) carries le h
+
 -- a refusal of a file is a cause
 pub refusal_cause : (held : Option Files) (S : Files → Stop → Type 0) (C : Files → List ℕ → Type 0) (before now : ℕ) (lost name : List ℕ) (why : Refusal) (given : BuildFault)
     → IfSome held (λ files. S files (refused name why)) → HasRefusal name why given → HasCause held S C before now lost given
@@ -108,6 +122,21 @@ pub kept_after : (a : ℕ) (l : List ℕ) (b : ℕ) (m : List ℕ) (c : ℕ) (n 
 kept_after a l b m c n (fault.CannotRead name) h k = tt
 kept_after a l b m c n fault.NoMemory h k = tt
 kept_after a l b m c n other h k = faultless_both a l b m c n h k
+
+-- the same of a layer above
+kept_of : {K : Type 0} (a : ℕ) (l : List ℕ) (b : ℕ) (m : List ℕ) (why : Fault K) → IsFaultless a l b m → KeepsOf a l b m why
+kept_of a l b m (shared why) h = kept a l b m why h
+kept_of a l b m (own stop) h = h
+
+pub kept_by : {K F : Type 0} (faults : Faults K F) (a : ℕ) (l : List ℕ) (b : ℕ) (m : List ℕ) (why : F) → IsFaultless a l b m → KeepsFaultsBy faults a l b m why
+kept_by faults a l b m why h = kept_of a l b m (faults.told why) h
+
+kept_after_of : {K : Type 0} (a : ℕ) (l : List ℕ) (b : ℕ) (m : List ℕ) (c : ℕ) (n : List ℕ) (why : Fault K) → IsFaultless a l b m → KeepsOf b m c n why → KeepsOf a l c n why
+kept_after_of a l b m c n (shared why) h k = kept_after a l b m c n why h k
+kept_after_of a l b m c n (own stop) h k = faultless_both a l b m c n h k
+
+pub kept_after_by : {K F : Type 0} (faults : Faults K F) (a : ℕ) (l : List ℕ) (b : ℕ) (m : List ℕ) (c : ℕ) (n : List ℕ) (why : F) → IsFaultless a l b m → KeepsFaultsBy faults b m c n why → KeepsFaultsBy faults a l c n why
+kept_after_by faults a l b m c n why h k = kept_after_of a l b m c n (faults.told why) h k
 
 pub spared : {B E : Type 0} (Left : ℕ → List ℕ → ℕ → List ℕ → E → Type 0) (a : ℕ) (l : List ℕ) (b : ℕ) (m : List ℕ) (result : Result B E) → ((why : E) → Left a l b m why) → IsFaultless a l b m → MatchResult result (λ _. IsFaultless a l b m) (Left a l b m)
 spared Left a l b m (Ok x) left calm = calm

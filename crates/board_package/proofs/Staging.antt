@@ -2,14 +2,14 @@
 use Rattle.std.proofs.Common.{◌≡◌, inl, inr, ℕ, ◌≤◌, List, [], ◌∷◌, Some, None, refl, subst, sym, arith}
 use Rattle.board_io.specs.Handed.{Handed, with_file}
 use Rattle.board_shapes.specs.Plain.{Fits, PlainBoard, common_box}
-use Rattle.board_package.specs.Causes.{Halts, HandedCause, IsFrameFault}
+use Rattle.board_package.specs.Causes.{Faults, Halts, HandedCause, HandedCauseBy, IsFrameFault}
 use Rattle.board_package.specs.HandedBoard.{ComesAlongHanded, ComesHanded, ComesNext, Course, GoesHanded, IsBoardHanded, IsFirstStopHanded, IsHanded, IsHandedWith, IsManifestHanded, StopsAmongHanded, StopsAtHanded, StopsAtManifestHanded, StopsHanding, course}
 use Rattle.board_package.specs.PackageBoard.{Stop, WalksBy, longer}
 use Rattle.board_package.specs.Parts.{empty_board}
 use Rattle.board_package.specs.declared.entry.Entry.{Entry}
 use Rattle.board_package.specs.declared.fault.BuildFault.{BuildFault}
 use Rattle.board_package.specs.declared.manifest.Manifest.{Manifest}
-use Rattle.board_package.proofs.Lift.{Carries, frame_cause, lift, refusal_cause}
+use Rattle.board_package.proofs.Lift.{Carries, frame_cause, lift, lift_by, refusal_cause}
 
 -- of one file that was handed over the bytes are one
 pub one_handed : (before : List Handed) (name x y : List ℕ) → with_file before name x ≡ with_file before name y → x ≡ y
@@ -19,6 +19,9 @@ one_handed (h ∷ before) name x y e = one_handed before name x y (cc e)
 -- a cause of one stage is one of the next
 pub carry : (S T : Stop → Type 0) (C D : List ℕ → Type 0) (before mid now : ℕ) (lost : List ℕ) (why : BuildFault) → Carries S T C D → before ≤ mid → HandedCause S C mid now lost why → HandedCause T D before now lost why
 carry S T C D before mid now lost why k le h = lift (Some (λ name. None)) (λ files stop. S stop) (λ files stop. T stop) (λ files name. C name) (λ files name. D name) before mid now lost why k le h
+
+pub carry_by : {K F : Type 0} (faults : Faults K F) (S T : K → Type 0) (C D : List ℕ → Type 0) (before mid now : ℕ) (lost : List ℕ) (why : F) → Carries S T C D → before ≤ mid → HandedCauseBy faults S C mid now lost why → HandedCauseBy faults T D before now lost why
+carry_by faults S T C D before mid now lost why k le h = lift_by faults (Some (λ name. None)) (λ files stop. S stop) (λ files stop. T stop) (λ files name. C name) (λ files name. D name) before mid now lost why k le h
 
 -- what stops the taking of the manifest, and of the file of an entry
 manifest_stop : (a b : List Handed) (name : List ℕ) (stop : Stop) → StopsHanding a b name stop → StopsAtManifestHanded a b name stop

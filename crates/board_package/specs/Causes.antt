@@ -66,12 +66,44 @@ KeepsFaults count lost count' lost' (fault.CannotRead name) = Unit {0}
 KeepsFaults count lost count' lost' fault.NoMemory = Unit {0}
 KeepsFaults count lost count' lost' why = IsFaultless count lost count' lost'
 
+-- ---- A layer above
+
+-- What a fault of a layer above tells: one that a board may have too, or a stop that only the layer has.
+pub data Fault (S : Type 0) : Type 0 where
+  shared : BuildFault → Fault S
+  own : S → Fault S
+
+-- the stops of a layer above, with those of a board among them, and what its faults tell
+pub record Faults (S F : Type 0) : Type 0 where
+  pub unbuilt : Stop → S
+  pub told : F → Fault S
+
+abbrev pub CauseOf : {S : Type 0} → (Stop → S) → Option Files → (Files → S → Type 0) → (Files → List ℕ → Type 0) → ℕ → ℕ → List ℕ → Fault S → Type 0
+CauseOf unbuilt held Stops Comes before now lost (shared why) = HasCause held (λ files stop. Stops files (unbuilt stop)) Comes before now lost why
+CauseOf unbuilt held Stops Comes before now lost (own stop) = IfSome held (λ files. Stops files stop)
+
+-- Why a layer above gives nothing: as a board would not be given, or by a stop of its own, where the package tells.
+abbrev pub HasCauseBy : {S F : Type 0} → Faults S F → Option Files → (Files → S → Type 0) → (Files → List ℕ → Type 0) → ℕ → ℕ → List ℕ → F → Type 0
+HasCauseBy faults held Stops Comes before now lost given = CauseOf faults.unbuilt held Stops Comes before now lost (faults.told given)
+
+-- The same by stops and names that speak of no files, but of what was handed over.
+abbrev pub HandedCauseBy : {S F : Type 0} → Faults S F → (S → Type 0) → (List ℕ → Type 0) → ℕ → ℕ → List ℕ → F → Type 0
+HandedCauseBy faults Stops Comes before now lost given = HasCauseBy faults (Some (λ name. None)) (λ files stop. Stops stop) (λ files name. Comes name) before now lost given
+
+abbrev pub KeepsOf : {S : Type 0} → ℕ → List ℕ → ℕ → List ℕ → Fault S → Type 0
+KeepsOf count lost count' lost' (shared why) = KeepsFaults count lost count' lost' why
+KeepsOf count lost count' lost' (own stop) = IsFaultless count lost count' lost'
+
+-- Neither the count of faults nor the lost name changed, but where a file could not be read or memory was wanted.
+abbrev pub KeepsFaultsBy : {S F : Type 0} → Faults S F → ℕ → List ℕ → ℕ → List ℕ → F → Type 0
+KeepsFaultsBy faults count lost count' lost' given = KeepsOf count lost count' lost' (faults.told given)
+
+-- ---- What the building of a board gives
+
 -- the common box of the board is too large
 abbrev pub IsFrameFault : PlainBoard → BuildFault → Type 0
 IsFrameFault board (fault.FrameTooLarge box) = StopsAtFrame board (frame_too_large box)
 IsFrameFault board other = ⊥
-
--- ---- What the building of a board gives
 
 -- the board, or why there is none: where the package tells, and by what it handed over
 abbrev pub Builds : {P : Type 0} → (P → Option Files) → (P → ℕ) → (P → List ℕ) → List ℕ → P → P → Result Board BuildFault → Type 0

@@ -2,11 +2,11 @@
 ghost use Rattle.std.specs.Prelude.{◌≡◌, ◌≤◌, [], ◌∷◌, length, All, IfSome, IfOk, IfErr, OnOk, MatchResult};
 ghost use Rattle.std.specs.List.{filter};
 ghost use Rattle.board_shapes.specs.Plain.{plain_board, common_box, Fits};
-ghost use Rattle.board_package.specs.Causes.{Builds, BuildsHanded, HandedCause, HasCause, IsFrameFault, KeepsFaults, Leaves, Spares};
+ghost use Rattle.board_package.specs.Causes.{Builds, BuildsHanded, HandedCause, HandedCauseBy, HasCause, HasCauseBy, IsFrameFault, KeepsFaults, KeepsFaultsBy, Leaves, Spares};
 ghost use Rattle.board_package.specs.HandedBoard.{ComesAlongHanded, ComesNext, GoesHanded, IsHanded, IsManifestHanded, StopsAtHanded, StopsAtManifestHanded, StopsHanding, course};
 ghost use Rattle.board_package.specs.HandedLabelled.{GoesLabelledHanded, StopsLabelledAmongHanded, IsFirstLabelledStopHanded, IsLabelledBoardHanded, LabelledComesHanded};
 ghost use Rattle.board_package.specs.LabelledBoard.{GoesLabelled, StopsLabelledAmong, is_taken, IsFirstLabelledStop, IsLabelledBoardOf, LabelledComes};
-ghost use Rattle.board_package.specs.LabelledCauses.{HandedLabelledCause, HasLabelledCause, KeepsLabelledFaults, labelled_so_far};
+ghost use Rattle.board_package.specs.LabelledCauses.{labelled_faults, labelled_so_far};
 ghost use Rattle.board_package.specs.Manifest.{IsLawful, IsOnBoard};
 ghost use Rattle.board_package.specs.PackageBoard.{ComesAlong, Goes, IsHeld, IsManifestFile, IsWithinLimits, StopsAt, StopsAtManifest, StopsTaking, WalksBy};
 ghost use Rattle.board_package.specs.Parts.{board_so_far, IsLawfulParts};
@@ -68,9 +68,9 @@ pub fn build_labelled<P: Package>(
     package: &mut P,
 ) -> Result<Board, LabelledFault>
     ensures leaves { Leaves P.held P.handed P.faults «package».old «package».new }
-    ensures spared { Spares KeepsLabelledFaults P.faults P.lost «package».old «package».new result }
-    ensures told { MatchResult result (λ board. IfSome (P.held «package».old) (λ files. IsLabelledBoardOf files manifest.now (plain_board board))) (HasLabelledCause (P.held «package».old) (λ files stop. IsFirstLabelledStop files manifest.now stop) (λ files name. LabelledComes files manifest.now name) (P.faults «package».old) (P.faults «package».new) (P.lost «package».new)) }
-    ensures handed { MatchResult result (λ board. IsLabelledBoardHanded (P.handed «package».old) (P.handed «package».new) manifest.now (plain_board board)) (HandedLabelledCause (λ stop. IsFirstLabelledStopHanded (P.handed «package».old) (P.handed «package».new) manifest.now stop) (λ name. LabelledComesHanded (P.handed «package».old) (P.handed «package».new) manifest.now name) (P.faults «package».old) (P.faults «package».new) (P.lost «package».new)) }
+    ensures spared { Spares (KeepsFaultsBy labelled_faults) P.faults P.lost «package».old «package».new result }
+    ensures told { MatchResult result (λ board. IfSome (P.held «package».old) (λ files. IsLabelledBoardOf files manifest.now (plain_board board))) (HasCauseBy labelled_faults (P.held «package».old) (λ files stop. IsFirstLabelledStop files manifest.now stop) (λ files name. LabelledComes files manifest.now name) (P.faults «package».old) (P.faults «package».new) (P.lost «package».new)) }
+    ensures handed { MatchResult result (λ board. IsLabelledBoardHanded (P.handed «package».old) (P.handed «package».new) manifest.now (plain_board board)) (HandedCauseBy labelled_faults (λ stop. IsFirstLabelledStopHanded (P.handed «package».old) (P.handed «package».new) manifest.now stop) (λ name. LabelledComesHanded (P.handed «package».old) (P.handed «package».new) manifest.now name) (P.faults «package».old) (P.faults «package».new) (P.lost «package».new)) }
     ensures limits { IfOk result (λ board. IsWithinLimits (plain_board board)) }
 {
     let listed = take_manifest(alloc, manifest, package)?;
@@ -121,13 +121,13 @@ pub fn take_files<P: Package>(
     requires roles { All (λ e. IsOnBoard parts.old.layers e.role) entries.now }
     requires rise { All Rise tables.old }
     ensures leaves { Leaves P.held P.handed P.faults «package».old «package».new }
-    ensures spared { Spares KeepsLabelledFaults P.faults P.lost «package».old «package».new result }
+    ensures spared { Spares (KeepsFaultsBy labelled_faults) P.faults P.lost «package».old «package».new result }
     ensures found { OnOk result (IfSome (P.held «package».old) (λ files. WalksBy (GoesLabelled naming files) (filter (λ e. is_taken naming e.role) entries.now) (labelled_so_far parts.old tables.old) (labelled_so_far parts.new tables.new))) }
     ensures handed { OnOk result (WalksBy (GoesLabelledHanded naming) (filter (λ e. is_taken naming e.role) entries.now) (course (P.handed «package».old) (labelled_so_far parts.old tables.old)) (course (P.handed «package».new) (labelled_so_far parts.new tables.new))) }
-    ensures handed_cause { IfErr result (HandedLabelledCause (λ stop. StopsLabelledAmongHanded naming (filter (λ e. is_taken naming e.role) entries.now) (course (P.handed «package».old) (labelled_so_far parts.old tables.old)) (P.handed «package».new) stop) (λ name. ComesAlongHanded (GoesLabelledHanded naming) (filter (λ e. is_taken naming e.role) entries.now) (course (P.handed «package».old) (labelled_so_far parts.old tables.old)) (P.handed «package».new) name) (P.faults «package».old) (P.faults «package».new) (P.lost «package».new)) }
+    ensures handed_cause { IfErr result (HandedCauseBy labelled_faults (λ stop. StopsLabelledAmongHanded naming (filter (λ e. is_taken naming e.role) entries.now) (course (P.handed «package».old) (labelled_so_far parts.old tables.old)) (P.handed «package».new) stop) (λ name. ComesAlongHanded (GoesLabelledHanded naming) (filter (λ e. is_taken naming e.role) entries.now) (course (P.handed «package».old) (labelled_so_far parts.old tables.old)) (P.handed «package».new) name) (P.faults «package».old) (P.faults «package».new) (P.lost «package».new)) }
     ensures parts { OnOk result (IsLawfulParts parts.new) }
     ensures rise { OnOk result (All Rise tables.new) }
-    ensures cause { IfErr result (HasLabelledCause (P.held «package».old) (λ files stop. StopsLabelledAmong naming files (filter (λ e. is_taken naming e.role) entries.now) (labelled_so_far parts.old tables.old) stop) (λ files name. ComesAlong (GoesLabelled naming files) (filter (λ e. is_taken naming e.role) entries.now) (labelled_so_far parts.old tables.old) name) (P.faults «package».old) (P.faults «package».new) (P.lost «package».new)) }
+    ensures cause { IfErr result (HasCauseBy labelled_faults (P.held «package».old) (λ files stop. StopsLabelledAmong naming files (filter (λ e. is_taken naming e.role) entries.now) (labelled_so_far parts.old tables.old) stop) (λ files name. ComesAlong (GoesLabelled naming files) (filter (λ e. is_taken naming e.role) entries.now) (labelled_so_far parts.old tables.old) name) (P.faults «package».old) (P.faults «package».new) (P.lost «package».new)) }
 {
     let mut file = Vec::new(alloc);
     for entry in entries {
@@ -151,14 +151,14 @@ fn take_needed<P: Package>(
     requires role { IsOnBoard parts.old.layers entry.now.role }
     requires rise { All Rise tables.old }
     ensures leaves { Leaves P.held P.handed P.faults «package».old «package».new }
-    ensures spared { Spares KeepsLabelledFaults P.faults P.lost «package».old «package».new result }
+    ensures spared { Spares (KeepsFaultsBy labelled_faults) P.faults P.lost «package».old «package».new result }
     ensures found { OnOk result (IfSome (P.held «package».old) (λ files. WalksBy (GoesLabelled naming files) (filter (λ e. is_taken naming e.role) (entry.now ∷ [])) (labelled_so_far parts.old tables.old) (labelled_so_far parts.new tables.new))) }
     ensures handed { OnOk result (WalksBy (GoesLabelledHanded naming) (filter (λ e. is_taken naming e.role) (entry.now ∷ [])) (course (P.handed «package».old) (labelled_so_far parts.old tables.old)) (course (P.handed «package».new) (labelled_so_far parts.new tables.new))) }
-    ensures handed_cause { IfErr result (HandedLabelledCause (λ stop. StopsLabelledAmongHanded naming (filter (λ e. is_taken naming e.role) (entry.now ∷ [])) (course (P.handed «package».old) (labelled_so_far parts.old tables.old)) (P.handed «package».new) stop) (λ name. ComesAlongHanded (GoesLabelledHanded naming) (filter (λ e. is_taken naming e.role) (entry.now ∷ [])) (course (P.handed «package».old) (labelled_so_far parts.old tables.old)) (P.handed «package».new) name) (P.faults «package».old) (P.faults «package».new) (P.lost «package».new)) }
+    ensures handed_cause { IfErr result (HandedCauseBy labelled_faults (λ stop. StopsLabelledAmongHanded naming (filter (λ e. is_taken naming e.role) (entry.now ∷ [])) (course (P.handed «package».old) (labelled_so_far parts.old tables.old)) (P.handed «package».new) stop) (λ name. ComesAlongHanded (GoesLabelledHanded naming) (filter (λ e. is_taken naming e.role) (entry.now ∷ [])) (course (P.handed «package».old) (labelled_so_far parts.old tables.old)) (P.handed «package».new) name) (P.faults «package».old) (P.faults «package».new) (P.lost «package».new)) }
     ensures parts { OnOk result (IsLawfulParts parts.new) }
     ensures layers { OnOk result (parts.new.layers ≡ parts.old.layers) }
     ensures rise { OnOk result (All Rise tables.new) }
-    ensures cause { IfErr result (HasLabelledCause (P.held «package».old) (λ files stop. StopsLabelledAmong naming files (filter (λ e. is_taken naming e.role) (entry.now ∷ [])) (labelled_so_far parts.old tables.old) stop) (λ files name. ComesAlong (GoesLabelled naming files) (filter (λ e. is_taken naming e.role) (entry.now ∷ [])) (labelled_so_far parts.old tables.old) name) (P.faults «package».old) (P.faults «package».new) (P.lost «package».new)) }
+    ensures cause { IfErr result (HasCauseBy labelled_faults (P.held «package».old) (λ files stop. StopsLabelledAmong naming files (filter (λ e. is_taken naming e.role) (entry.now ∷ [])) (labelled_so_far parts.old tables.old) stop) (λ files name. ComesAlong (GoesLabelled naming files) (filter (λ e. is_taken naming e.role) (entry.now ∷ [])) (labelled_so_far parts.old tables.old) name) (P.faults «package».old) (P.faults «package».new) (P.lost «package».new)) }
 {
     if !naming.takes(entry.role) {
         return Ok(());

@@ -4,8 +4,9 @@ use Rattle.std.specs.Prelude.{slice_get}
 use Rattle.std.specs.List.{AllByRecursion}
 use Rattle.std.proofs.lemmas.Option.{slice_get-get_or}
 use Rattle.board_io.specs.Handed.{Handed}
+use Rattle.board_package.specs.Causes.{HandedCauseBy, KeepsFaultsBy}
 use Rattle.board_package.specs.HandedLabelled.{IsFirstLabelledStopHanded, LabelledComesHanded}
-use Rattle.board_package.specs.LabelledCauses.{HandedLabelledCause, KeepsLabelledFaults}
+use Rattle.board_package.specs.LabelledCauses.{labelled_faults}
 use Rattle.board_package.specs.Laws.{LabelledPiecesAreUnder}
 use Rattle.board_shapes.proofs.BoardTables.{under_one}
 use Rattle.board_shapes.specs.LawfulBoard.{IsLawfulBoard}
@@ -102,11 +103,11 @@ labelled_report_is law source manifest b answer is lawful r =
 
 -- ---- Where there is no board
 
-pub left_of : (before : ℕ) (was : List ℕ) (now : ℕ) (lost : List ℕ) (why : LabelledFault) → KeepsLabelledFaults before was now lost why → LeftBy before was now lost (unlabelled_of why)
+pub left_of : (before : ℕ) (was : List ℕ) (now : ℕ) (lost : List ℕ) (why : LabelledFault) → KeepsFaultsBy labelled_faults before was now lost why → LeftBy before was now lost (unlabelled_of why)
 left_of before was now lost (labelled.Build why) h = h
 left_of before was now lost (labelled.Label name number byte) h = h
 
 pub handed_reason : (manifest : List ℕ) (a b : List Handed) (before now : ℕ) (lost : List ℕ) (why : LabelledFault)
-    → HandedLabelledCause (λ stop. IsFirstLabelledStopHanded a b manifest stop) (λ name. LabelledComesHanded a b manifest name) before now lost why → HasHandedReason (HandedOver a b) (X2 manifest) before now lost (unlabelled_of why)
+    → HandedCauseBy labelled_faults (λ stop. IsFirstLabelledStopHanded a b manifest stop) (λ name. LabelledComesHanded a b manifest name) before now lost why → HasHandedReason (HandedOver a b) (X2 manifest) before now lost (unlabelled_of why)
 handed_reason manifest a b before now lost (labelled.Build why) h = h
 handed_reason manifest a b before now lost (labelled.Label name number byte) h = h

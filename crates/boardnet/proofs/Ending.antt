@@ -1,5 +1,5 @@
 -- From the work of a command and what was put for it to what the command comes to.
-use Rattle.std.proofs.Common.{◌≡◌, ◌⊎◌, ◌≤◌, inl, inr, ℕ, Bool, true, false, List, Option, Result, Ok, Err, IfOk, MatchResult, codes, refl, sym, subst, arith}
+use Rattle.std.proofs.Common.{◌≡◌, ◌⊎◌, ◌≤◌, inl, inr, ℕ, Bool, true, false, List, Option, Result, Ok, Err, MatchResult, codes, refl, sym, subst, arith}
 use Rattle.std.specs.Prelude.{if◌then◌else◌}
 use Rattle.board_io.specs.Causes.{Rose}
 use Rattle.board_io.specs.Package.{Files, IsFaultless}
@@ -16,7 +16,7 @@ use Rattle.boardnet.specs.Answers.{IsAnswerTo, Refuses, RefusesFor, line_of, is_
 use Rattle.boardnet.specs.Ends.{Ends, HasText, Puts, StopsFor, TakesFiles, cut, whole}
 use Rattle.boardnet.specs.Kept.{LeftBy, Spares}
 use Rattle.boardnet.specs.Lines.{Says, file_line, plain_line}
-use Rattle.boardnet.specs.Outcome.{ComesFor, Held, IsLineOf, OfFilesRead, OutcomeOf, Refused, Told, read_by}
+use Rattle.boardnet.specs.Outcome.{ComesFor, Held, IsLineOf, OfFilesRead, OutcomeOf, Refused, Source, Told, read_by}
 use Rattle.boardnet.specs.Words.{Command, task_of, Flatten, Write}
 use Rattle.boardnet.specs.declared.answer.Answer.{Answer}
 use Rattle.boardnet.specs.declared.answer.Note.{Note}
@@ -216,10 +216,15 @@ not_one c (Stopped (fault.FrameTooLarge box)) status Line (is, said) one = absur
 not_one c (Stopped fault.NoMemory) status Line (is, said) one = absurd (omega (arith, is, one))
 not_one c other status Line (is, said) one = absurd (omega (arith, is, one))
 
-pub unjudged : {S N : Type 0} (got : S → Option (List ℕ)) (broken : S → ℕ) (noted : N → Option (List ℕ)) (failed : N → ℕ) (c : Command) (o o' : S) (n n' : N) (status : ℕ) (given : Result Answer Unanswered)
-    → IfOk given (λ answer. (name : List ℕ) → (c ≡ Write name) ⊎ (c ≡ Flatten name) → status_of answer.note ≡ 0)
+-- the text of a netlist or of a flattened file comes with the status 0
+zero_of : (source : Source) (c : Command) (answer : Answer) → IsAnswerTo source c answer → (name : List ℕ) → (c ≡ Write name) ⊎ (c ≡ Flatten name) → status_of answer.note ≡ 0
+zero_of source c answer is name (inl e) = let written : IsAnswerTo source (Write name) answer = subst (λ (k : Command). IsAnswerTo source k answer) e is in written.status_is
+zero_of source c answer is name (inr e) = let flat : IsAnswerTo source (Flatten name) answer = subst (λ (k : Command). IsAnswerTo source k answer) e is in flat.status_is
+
+pub unjudged : {S N : Type 0} (got : S → Option (List ℕ)) (broken : S → ℕ) (noted : N → Option (List ℕ)) (failed : N → ℕ) (source : Source) (Why : Unanswered → Type 0) (c : Command) (o o' : S) (n n' : N) (status : ℕ) (given : Result Answer Unanswered)
+    → MatchResult given (IsAnswerTo source c) Why
     → MatchResult given (λ answer. Puts got broken noted failed answer o o' n n' status) (λ why. RefusesFor c why status (Says noted failed n n') × (o' ≡ o))
     → (name : List ℕ) → (c ≡ Write name) ⊎ (c ≡ Flatten name) → status ≡ 1 → ⊥
-unjudged got broken noted failed c o o' n n' status (Ok answer) zero (whole is gains said) name asks one = let none = zero name asks in absurd (omega (arith, is, none, one))
-unjudged got broken noted failed c o o' n n' status (Ok answer) zero (cut is rose gains said) name asks one = absurd (omega (arith, is, one))
-unjudged got broken noted failed c o o' n n' status (Err why) zero put name asks one = not_one c why status (Says noted failed n n') put.0 one
+unjudged got broken noted failed source Why c o o' n n' status (Ok answer) work (whole is gains said) name asks one = let none = zero_of source c answer work name asks in absurd (omega (arith, is, none, one))
+unjudged got broken noted failed source Why c o o' n n' status (Ok answer) work (cut is rose gains said) name asks one = absurd (omega (arith, is, one))
+unjudged got broken noted failed source Why c o o' n n' status (Err why) work put name asks one = not_one c why status (Says noted failed n n') put.0 one

@@ -12,7 +12,7 @@ use Rattle.board_io.specs.Handed.{Grows, Handed}
 use Rattle.board_io.specs.Package.{IsFaultless}
 use Rattle.board_package.proofs.Lift.{faultless_both, kept, kept_after}
 use Rattle.board_package.proofs.Staging.{carry}
-use Rattle.board_package.specs.Causes.{HandedCause, KeepsFaults}
+use Rattle.board_package.specs.Causes.{HandedCause, HandedCauseBy, KeepsFaults, KeepsFaultsBy}
 use Rattle.board_package.specs.HandedBoard.{ComesHanded, ComesNext, IsBoardHanded, IsFirstStopHanded, StopsHanding}
 use Rattle.board_package.specs.PackageBoard.{Stop}
 use Rattle.board_package.specs.declared.fault.BuildFault.{BuildFault}
@@ -39,7 +39,7 @@ use Rattle.boardnet.specs.declared.unbound.Unbound.TheVariants.{NotCounts}
 use Rattle.verdict.specs.declared.verdict.Verdict.{Verdict}
 use Rattle.real_package.specs.HandedReal.{IsFirstRealStopHanded, IsRealBoardHanded, RealComesHanded}
 use Rattle.real_package.specs.RealBoards.{PlainRealBoard}
-use Rattle.real_package.specs.RealCauses.{HandedRealCause, KeepsRealFaults}
+use Rattle.real_package.specs.RealCauses.{real_faults}
 use Rattle.real_package.specs.RealPackage.{unbuilt}
 use Rattle.real_package.specs.declared.fault.RealBuildFault.{RealBuildFault}
 use Rattle.real_package.specs.declared.fault.RealBuildFault.TheVariants as real
@@ -50,7 +50,7 @@ pub left_after : (a : ℕ) (l : List ℕ) (b : ℕ) (m : List ℕ) (c : ℕ) (n 
 left_after a l b m c n (Stopped why) h k = kept_after a l b m c n why h k
 left_after a l b m c n other h k = faultless_both a l b m c n h k
 
-pub left_real : (before : ℕ) (was : List ℕ) (now : ℕ) (lost : List ℕ) (why : RealBuildFault) → KeepsRealFaults before was now lost why → LeftBy before was now lost (unreal_of why)
+pub left_real : (before : ℕ) (was : List ℕ) (now : ℕ) (lost : List ℕ) (why : RealBuildFault) → KeepsFaultsBy real_faults before was now lost why → LeftBy before was now lost (unreal_of why)
 left_real before was now lost (real.Build why) h = h
 left_real before was now lost (real.Arc name kind number byte) h = h
 
@@ -81,7 +81,7 @@ behind_reason a b name before now lost why h = of_file (λ stop. IsFirstStopHand
 -- ---- Why nothing is read
 
 pub real_reason : (names : BoundNames) (a b : List Handed) (before now : ℕ) (lost : List ℕ) (why : RealBuildFault)
-    → HandedRealCause (λ stop. IsFirstRealStopHanded a b names.real stop) (λ name. RealComesHanded a b names.real name) before now lost why → HasHandedReason (HandedOver a b) (Between names) before now lost (unreal_of why)
+    → HandedCauseBy real_faults (λ stop. IsFirstRealStopHanded a b names.real stop) (λ name. RealComesHanded a b names.real name) before now lost why → HasHandedReason (HandedOver a b) (Between names) before now lost (unreal_of why)
 real_reason names a b before now lost (real.Build why) h =
     carry (λ stop. IsFirstRealStopHanded a b names.real (unbuilt stop)) (λ stop. StopsFor (HandedOver a b) (Between names) stop) (λ name. RealComesHanded a b names.real name) (λ name. ComesFor (HandedOver a b) (Between names) name) before before now lost why
     (record { stops = λ stop s. (at_real (unbuilt stop), s, refl); comes = λ name s. inl s }) (omega arith) h

@@ -43,7 +43,7 @@ kind_line file form number kind place =
 
 -- a label of a copper file that is amiss: the command and its first byte
 abbrev pub label_line : List ℕ → ℕ → ℕ → List ℕ
-label_line file command byte = concat (begin ∷ file ∷ codes ": label at command " ∷ decimal command ∷ codes ", byte " ∷ decimal byte ∷ end ∷ [])
+label_line file command byte = concat (begin ∷ file ∷ codes ": label at " ∷ []) ++ at_byte (codes "command") command byte
 
 -- a word, and how many opens, shorts and points without copper are listed
 abbrev pub findings_line : List ℕ → ℕ → ℕ → ℕ → List ℕ

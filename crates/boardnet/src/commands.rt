@@ -1,12 +1,11 @@
 //! The commands: the words that ask for each, and its work, which has a file of its own (`gap`
 //! for `gaps`, since no module may be named as a library is).
-ghost use Rattle.boardnet.specs.Answers.{status_of};
 ghost use Rattle.boardnet.specs.Command.{asked};
 ghost use Rattle.boardnet.specs.Ends.{HasNames};
 ghost use Rattle.boardnet.specs.HandedOutcome.{WorksOn};
 ghost use Rattle.boardnet.specs.Kept.{Leaves, LeftBy, Spares};
-ghost use Rattle.boardnet.specs.Words.{CanAsk, Command as Asked, Flatten, SpelledAsk, Trial, Write};
-ghost use Rattle.std.specs.Prelude.{IfNone, IfOk, IfSome, List, [], ℕ, ◌∷◌, ◌≡◌, ◌⊎◌};
+ghost use Rattle.boardnet.specs.Words.{CanAsk, Command as Asked, SpelledAsk, Trial};
+ghost use Rattle.std.specs.Prelude.{IfNone, IfSome, [], ℕ, ◌∷◌, ◌≡◌};
 
 pub mod audit;
 pub mod between;
@@ -166,7 +165,6 @@ pub fn answer_to<P: Package>(alloc: Global, command: Command, package: &mut P) -
     ensures leaves { Leaves P.held P.handed P.faults «package».old «package».new }
     ensures spared { Spares LeftBy P.faults P.lost «package».old «package».new result }
     ensures untouched { (seed size : ℕ) → asked command.entry ≡ Trial seed size → «package».new ≡ «package».old }
-    ensures unjudged { IfOk result (λ answer. (name : List ℕ) → (asked command.entry ≡ Write name) ⊎ (asked command.entry ≡ Flatten name) → status_of answer.note ≡ 0) }
 {
     match command {
         Command::Check { version, manifest } => report(alloc, version, manifest, package),

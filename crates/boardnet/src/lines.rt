@@ -1,8 +1,8 @@
 //! The line to the notes, put in pieces and without memory.
-ghost use Rattle.boardnet.specs.Lines.{Gains, Rose, Says, at_byte, at_item, counted_line, file_line, findings_line, frame_behind, frame_line, kind_line, label_line, manifest_frame_line, plain_line};
+ghost use Rattle.boardnet.specs.Lines.{Gains, Rose, Says, at_byte, at_item, counted_line, end, file_line, findings_line, frame_behind, frame_line, kind_line, label_line, manifest_frame_line, plain_line};
 ghost use Rattle.boardnet.specs.Bounded.{not_counts_line};
-ghost use Rattle.std.specs.List.{flat_map};
-ghost use Rattle.std.specs.Prelude.{false, true, ◌≡◌};
+ghost use Rattle.std.specs.List.{concat, flat_map};
+ghost use Rattle.std.specs.Prelude.{[], codes, false, true, ◌++◌, ◌∷◌, ◌≡◌};
 
 use board_io::{Put, Sink};
 use contact::Bounds;
@@ -87,19 +87,21 @@ pub fn refused_at_byte<N: Sink>(
 {
     let number = Numeral::of(u64::from(number));
     let byte = Numeral::of(byte as u64);
-    put_kind(
-        notes,
-        file,
-        kind,
-        &[
-            item,
-            b" ",
-            number.as_bytes(),
-            b", byte ",
-            byte.as_bytes(),
-            b"\n",
-        ],
-    );
+    put_kind(notes, file, kind, &pieces_at(item, &number, &byte));
+}
+
+// The pieces of a place in a file: an item, its number and its first byte.
+fn pieces_at<'a>(item: &'a [u8], number: &'a Numeral, byte: &'a Numeral) -> [&'a [u8]; 6]
+    ensures { flat_map (λ piece. piece.now) result ≡ concat (item.now ∷ codes " " ∷ number.now ∷ codes ", byte " ∷ byte.now ∷ end ∷ []) }
+{
+    [
+        item,
+        b" ",
+        number.as_bytes(),
+        b", byte ",
+        byte.as_bytes(),
+        b"\n",
+    ]
 }
 
 /// Puts the line of a refusal of a file at an item alone, as a netlist has it.
@@ -115,7 +117,7 @@ fn put_kind<'a, N: Sink>(notes: &mut N, file: &'a [u8], kind: Kind<'a>, place: &
     ensures { Says N.got N.faults notes.old notes.new (kind_line file.now kind.entry.form.now kind.entry.number kind.entry.name.now (flat_map (λ piece. piece.now) place.now)) }
 {
     let number = Numeral::of(u64::from(kind.number));
-    let whole = put_all(
+    put_both(
         notes,
         &[
             b"boardnet: ",
@@ -128,7 +130,15 @@ fn put_kind<'a, N: Sink>(notes: &mut N, file: &'a [u8], kind: Kind<'a>, place: &
             kind.name.as_bytes(),
             b" at ",
         ],
+        place,
     );
+}
+
+// Puts the pieces of a line in two parts.
+fn put_both<N: Sink>(notes: &mut N, head: &[&[u8]], place: &[&[u8]])
+    ensures { Says N.got N.faults notes.old notes.new (flat_map (λ piece. piece.now) head.now ++ flat_map (λ piece. piece.now) place.now) }
+{
+    let whole = put_all(notes, head);
     if !whole {
         return;
     }
@@ -139,18 +149,10 @@ fn put_kind<'a, N: Sink>(notes: &mut N, file: &'a [u8], kind: Kind<'a>, place: &
 pub fn mislabelled<N: Sink>(notes: &mut N, file: &[u8], command: u32, byte: usize)
     ensures { Says N.got N.faults notes.old notes.new (label_line file.now command byte) }
 {
-    put_all(
-        notes,
-        &[
-            b"boardnet: ",
-            file,
-            b": label at command ",
-            Numeral::of(u64::from(command)).as_bytes(),
-            b", byte ",
-            Numeral::of(byte as u64).as_bytes(),
-            b"\n",
-        ],
-    );
+    let number = Numeral::of(u64::from(command));
+    let byte = Numeral::of(byte as u64);
+    let place = pieces_at(b"command", &number, &byte);
+    put_both(notes, &[b"boardnet: ", file, b": label at "], &place);
 }
 
 /// Puts the line of a file of counts that is none, at the number of a line.

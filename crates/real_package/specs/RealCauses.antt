@@ -1,12 +1,11 @@
 -- Why a package gives no real board.
-use Rattle.std.specs.Prelude.{◌≡◌, ◌⊎◌, ℕ, List, Option, Some, None, IfSome}
+use Rattle.std.specs.Prelude.{◌≡◌, ◌⊎◌, ℕ, List}
 use Rattle.arc_layer.specs.declared.kind.RealKind.{RealKind}
 use Rattle.arc_layer.specs.declared.kind.RealKind.TheVariants.{Copper}
 use Rattle.gerber_layer.specs.declared.macro_kind.FlattenKind.TheVariants.{Gerber}
 use Rattle.file_reading.specs.declared.fault.FileFault.{FileFault}
 use Rattle.file_reading.specs.declared.fault.FileFault.TheVariants as copper
-use Rattle.board_io.specs.Package.{Files, IsFaultless}
-use Rattle.board_package.specs.Causes.{HasCause, HasRefusal, KeepsFaults}
+use Rattle.board_package.specs.Causes.{Fault, Faults, HasRefusal, own, shared}
 use Rattle.board_package.specs.declared.contents.Refusal.{Refusal}
 use Rattle.board_package.specs.declared.contents.Refusal.TheVariants as refusal
 use Rattle.board_package.specs.declared.entry.Entry.{Entry}
@@ -22,19 +21,14 @@ use Rattle.real_package.specs.RealPackage.{RealStop, bent, unbuilt}
 use Rattle.real_package.specs.declared.fault.RealBuildFault.{RealBuildFault}
 use Rattle.real_package.specs.declared.fault.RealBuildFault.TheVariants as fault
 
--- Why there is no real board: as without arcs and macros, or an arc or a macro that is refused, where the package tells.
-abbrev pub HasRealCause : Option Files → (Files → RealStop → Type 0) → (Files → List ℕ → Type 0) → ℕ → ℕ → List ℕ → RealBuildFault → Type 0
-HasRealCause held Stops Comes before now lost (fault.Build why) = HasCause held (λ files stop. Stops files (unbuilt stop)) Comes before now lost why
-HasRealCause held Stops Comes before now lost (fault.Arc name kind command at) = IfSome held (λ files. Stops files (bent name kind command at))
+-- what a fault tells
+abbrev pub real_told : RealBuildFault → Fault RealStop
+real_told (fault.Build why) = shared why
+real_told (fault.Arc name kind command at) = own (bent name kind command at)
 
--- The same by stops and names that speak of no files, but of what was handed over.
-abbrev pub HandedRealCause : (RealStop → Type 0) → (List ℕ → Type 0) → ℕ → ℕ → List ℕ → RealBuildFault → Type 0
-HandedRealCause Stops Comes before now lost given = HasRealCause (Some (λ name. None)) (λ files stop. Stops stop) (λ files name. Comes name) before now lost given
-
--- Neither the count of faults nor the lost name changed, but where a file could not be read or memory was wanted.
-abbrev pub KeepsRealFaults : ℕ → List ℕ → ℕ → List ℕ → RealBuildFault → Type 0
-KeepsRealFaults count lost count' lost' (fault.Build why) = KeepsFaults count lost count' lost' why
-KeepsRealFaults count lost count' lost' (fault.Arc name kind command at) = IsFaultless count lost count' lost'
+-- Why there is no real board: as there would be no board without arcs and macros, or an arc or a macro that is refused.
+abbrev pub real_faults : Faults RealStop RealBuildFault
+real_faults = record { unbuilt = λ stop. unbuilt stop; told = real_told }
 
 -- the fault of a copper file of this name, refused as one without arcs and macros may be, or for one of these; or want of memory
 abbrev pub IsCopperRefusal : List ℕ → RealKind → ℕ → ℕ → RealBuildFault → Type 0

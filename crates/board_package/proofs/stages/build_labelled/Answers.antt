@@ -1,19 +1,20 @@
 use Rattle.std.proofs.Common.{List, IfSome, subst, ap, ◌∙◌}
 use Rattle.std.specs.List.{filter}
 use Rattle.board_io.specs.Package.{IsFaultless}
+use Rattle.board_package.specs.Causes.{HasCauseBy, HandedCauseBy}
 use Rattle.board_package.proofs.LabelStaging.{files_labelled_handed, frame_labelled_handed, labelled_board_handed, manifest_labelled_handed}
 use Rattle.board_package.specs.HandedBoard.{ComesAlongHanded, course}
 use Rattle.board_package.specs.HandedLabelled.{GoesLabelledHanded, StopsLabelledAmongHanded}
 use Rattle.board_package.specs.LabelledBoard.{GoesLabelled, StopsLabelledAmong, labelled_board_of}
-use Rattle.board_package.specs.LabelledCauses.{HandedLabelledCause, HasLabelledCause, labelled_so_far}
+use Rattle.board_package.specs.LabelledCauses.{labelled_faults, labelled_so_far}
 use Rattle.board_package.specs.PackageBoard.{ComesAlong, WalksBy}
 use Rattle.board_package.specs.Parts.{board_so_far}
 use Rattle.board_package.specs.declared.entry.Naming.TheVariants.{ByLabels}
 use Rattle.board_package.specs.declared.fault.BuildFault.TheVariants as build
 use Rattle.board_package.specs.declared.fault.LabelledFault.TheVariants as fault
 use Rattle.x2_nets.specs.declared.label_table.Label.{Label}
-use Rattle.board_package.proofs.LabelCauses.{files_labelled_cause, frame_labelled_cause, kept_labelled, kept_labelled_after, labelled_board_is, manifest_labelled_cause, needed, nothing_yet}
-use Rattle.board_package.proofs.Lift.{climbs, faultless_both, leaves_on}
+use Rattle.board_package.proofs.LabelCauses.{files_labelled_cause, frame_labelled_cause, labelled_board_is, manifest_labelled_cause, needed, nothing_yet}
+use Rattle.board_package.proofs.Lift.{climbs, faultless_both, kept_after_by, kept_by, leaves_on}
 use Rattle.board_package.proofs.stages.build_labelled.Goals as goal
 
 -- ---- The manifest
@@ -33,7 +34,7 @@ returns-in_err-take_files-clause-told g c =
     let held = g.P.Package.held c.take_manifest.new.package in
     let start = labelled_so_far c.new-parts.result c.new-tables.result in
     let why = c.in_err-take_files.field-0.0 in
-    let cause = subst (λ entries. HasLabelledCause held (λ files stop. StopsLabelledAmong ByLabels files (filter (needed ByLabels) entries) start stop) (λ files name. ComesAlong (GoesLabelled ByLabels files) (filter (needed ByLabels) entries) start name)
+    let cause = subst (λ entries. HasCauseBy labelled_faults held (λ files stop. StopsLabelledAmong ByLabels files (filter (needed ByLabels) entries) start stop) (λ files name. ComesAlong (GoesLabelled ByLabels files) (filter (needed ByLabels) entries) start name)
     (g.P.Package.faults c.take_manifest.new.package) (g.P.Package.faults c.take_files.new.package) (g.P.Package.lost c.take_files.new.package) why) c.as_slice-entries.ensures c.in_err-take_files.ensures.cause in
     climbs _ _ c.from_residual-in_err-take_files.result why c.from_residual-in_err-take_files.ensures.1
     (files_labelled_cause (g.P.Package.held c.args.package.now) held c.args.manifest.now c.in_ok-listed.listed start
@@ -43,7 +44,7 @@ returns-in_err-take_files-clause-told g c =
 pub returns-in_err-take_files-clause-spared : goal.returns-in_err-take_files-clause-spared
 returns-in_err-take_files-clause-spared g c =
     climbs _ _ c.from_residual-in_err-take_files.result c.in_err-take_files.field-0.0 c.from_residual-in_err-take_files.ensures.1
-    (kept_labelled_after _ _ _ _ _ _ c.in_err-take_files.field-0.0 c.in_ok-listed.ensures.spared c.in_err-take_files.ensures.spared)
+    (kept_after_by labelled_faults _ _ _ _ _ _ c.in_err-take_files.field-0.0 c.in_ok-listed.ensures.spared c.in_err-take_files.ensures.spared)
 
 -- ---- The labels
 
@@ -70,7 +71,7 @@ returns-in_err-board-clause-told g c =
 pub returns-in_err-board-clause-spared : goal.returns-in_err-board-clause-spared
 returns-in_err-board-clause-spared g c =
     let whole : IsFaultless (g.P.Package.faults c.args.package.now) (g.P.Package.lost c.args.package.now) (g.P.Package.faults c.take_files.new.package) (g.P.Package.lost c.take_files.new.package) = faultless_both _ _ _ _ _ _ c.in_ok-listed.ensures.spared c.in_ok-take_files.ensures.spared in
-    climbs _ _ c.from_residual-in_err-board.result (fault.Build c.in_err-board.field-0.0) c.from_residual-in_err-board.ensures.1 (kept_labelled _ _ _ _ (fault.Build c.in_err-board.field-0.0) whole)
+    climbs _ _ c.from_residual-in_err-board.result (fault.Build c.in_err-board.field-0.0) c.from_residual-in_err-board.ensures.1 (kept_by labelled_faults _ _ _ _ (fault.Build c.in_err-board.field-0.0) whole)
 
 -- ---- The board
 
@@ -100,7 +101,7 @@ returns-in_err-take_files-clause-handed g c =
     let mid = g.P.Package.handed c.take_manifest.new.package in
     let after = g.P.Package.handed c.take_files.new.package in
     let why = c.in_err-take_files.field-0.0 in
-    let cause = subst (λ entries. HandedLabelledCause (λ stop. StopsLabelledAmongHanded ByLabels (filter (needed ByLabels) entries) (course mid start) after stop) (λ name. ComesAlongHanded (GoesLabelledHanded ByLabels) (filter (needed ByLabels) entries) (course mid start) after name)
+    let cause = subst (λ entries. HandedCauseBy labelled_faults (λ stop. StopsLabelledAmongHanded ByLabels (filter (needed ByLabels) entries) (course mid start) after stop) (λ name. ComesAlongHanded (GoesLabelledHanded ByLabels) (filter (needed ByLabels) entries) (course mid start) after name)
     (g.P.Package.faults c.take_manifest.new.package) (g.P.Package.faults c.take_files.new.package) (g.P.Package.lost c.take_files.new.package) why) c.as_slice-entries.ensures c.in_err-take_files.ensures.handed_cause in
     climbs _ _ c.from_residual-in_err-take_files.result why c.from_residual-in_err-take_files.ensures.1
     (files_labelled_handed (g.P.Package.handed c.args.package.now) mid after c.args.manifest.now c.in_ok-listed.listed start

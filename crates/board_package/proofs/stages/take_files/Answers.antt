@@ -1,10 +1,10 @@
 use Rattle.std.proofs.Common.{◌∙◌}
 use Rattle.board_package.specs.HandedBoard.{course}
 use Rattle.board_package.specs.HandedLabelled.{GoesLabelledHanded}
-use Rattle.board_package.specs.LabelledCauses.{labelled_so_far}
-use Rattle.board_package.proofs.LabelCauses.{files_cause_more, files_walked_more, kept_labelled_after, needed}
+use Rattle.board_package.specs.LabelledCauses.{labelled_faults, labelled_so_far}
+use Rattle.board_package.proofs.LabelCauses.{files_cause_more, files_walked_more, needed}
 use Rattle.board_package.proofs.LabelStaging.{files_more_handed}
-use Rattle.board_package.proofs.Lift.{climbs, faultless_both, leaves_on}
+use Rattle.board_package.proofs.Lift.{climbs, faultless_both, kept_after_by, leaves_on}
 use Rattle.board_package.proofs.Walking.{passing_walk_more}
 use Rattle.board_package.proofs.stages.take_files.Goals as goal
 
@@ -31,7 +31,7 @@ loop-entry-preserved g c = record {
 pub returns-in_err-take_needed-clause-spared : goal.returns-in_err-take_needed-clause-spared
 returns-in_err-take_needed-clause-spared g c =
     climbs _ _ c.from_residual.result c.in_err-take_needed.field-0.0 c.from_residual.ensures.1
-    (kept_labelled_after _ _ _ _ _ _ c.in_err-take_needed.field-0.0 c.loop-entry.invariant.faultless c.in_err-take_needed.ensures.spared)
+    (kept_after_by labelled_faults _ _ _ _ _ _ c.in_err-take_needed.field-0.0 c.loop-entry.invariant.faultless c.in_err-take_needed.ensures.spared)
 
 pub returns-in_err-take_needed-clause-handed_cause : goal.returns-in_err-take_needed-clause-handed_cause
 returns-in_err-take_needed-clause-handed_cause g c =

@@ -1,11 +1,12 @@
 use Rattle.std.proofs.Common.{IfErr, OnOk, sym, subst}
+use Rattle.board_package.specs.Causes.{KeepsFaultsBy}
 use Rattle.board_package.specs.HandedBoard.{course}
 use Rattle.board_package.specs.LabelledBoard.{Lists}
-use Rattle.board_package.specs.LabelledCauses.{IsMislabelling, KeepsLabelledFaults, labelled_so_far}
+use Rattle.board_package.specs.LabelledCauses.{IsMislabelling, labelled_faults, labelled_so_far}
 use Rattle.board_package.specs.Parts.{board_so_far}
 use Rattle.board_package.specs.declared.fault.LabelledFault.TheVariants as fault
-use Rattle.board_package.proofs.Lift.{climbs, if_err, on_ok, spared}
-use Rattle.board_package.proofs.LabelCauses.{file_cause, file_walked, kept_labelled, label_cause}
+use Rattle.board_package.proofs.Lift.{climbs, if_err, kept_by, on_ok, spared}
+use Rattle.board_package.proofs.LabelCauses.{file_cause, file_walked, label_cause}
 use Rattle.board_package.proofs.LabelStaging.{file_handed, label_handed, walked_handed}
 use Rattle.board_package.proofs.stages.take_needed.Goals as goal
 
@@ -18,7 +19,7 @@ pub returns-in_err-take_entry-clause-spared : goal.returns-in_err-take_entry-cla
 returns-in_err-take_entry-clause-spared g c = climbs _ _ c.from_residual.result (fault.Build c.in_err-take_entry.field-0.0) c.from_residual.ensures.1 c.in_err-take_entry.ensures.spared
 
 pub returns-clause-spared : goal.returns-clause-spared
-returns-clause-spared g c = spared KeepsLabelledFaults _ _ _ _ c.list_labels.result (λ why. kept_labelled _ _ _ _ why c.in_ok-take_entry.ensures.spared) c.in_ok-take_entry.ensures.spared
+returns-clause-spared g c = spared (KeepsFaultsBy labelled_faults) _ _ _ _ c.list_labels.result (λ why. kept_by labelled_faults _ _ _ _ why c.in_ok-take_entry.ensures.spared) c.in_ok-take_entry.ensures.spared
 
 pub returns-clause-found : goal.returns-clause-found
 returns-clause-found g c =

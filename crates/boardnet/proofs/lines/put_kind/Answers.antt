@@ -1,18 +1,7 @@
-use Rattle.std.proofs.Common.{◌≡◌, ◌∙◌, ap, decimal, true, false, rules}
-use Rattle.boardnet.proofs.Says.{says_before, says_then}
+use Rattle.std.proofs.Common.{◌≡◌, ◌∙◌, ap, decimal}
 use Rattle.boardnet.proofs.lines.put_kind.Goals as goal
-
-pub returns-then-not-whole : goal.returns-then-not-whole
-returns-then-not-whole g c =
-    let cut : c.put_all-whole.result ≡ false = search rules in
-    let number : c.as_bytes-2.result.now ≡ decimal c.args.kind.number = c.as_bytes-2.ensures ∙ (c.of-number.ensures ∙ ap decimal c.from.ensures) in
-    rw (← c.as_bytes.ensures.value, ← number, ← c.as_bytes-3.ensures.value)
-    (says_before g.N.Sink.got g.N.Sink.faults _ _ _ _ (c.put_all-whole.ensures.cut cut) c.put_all-whole.ensures.says)
 
 pub returns : goal.returns
 returns g c =
-    let all : c.put_all-whole.result ≡ true = search rules in
-    let whole = c.put_all-whole.ensures.whole all in
     let number : c.as_bytes-2.result.now ≡ decimal c.args.kind.number = c.as_bytes-2.ensures ∙ (c.of-number.ensures ∙ ap decimal c.from.ensures) in
-    rw (← c.as_bytes.ensures.value, ← number, ← c.as_bytes-3.ensures.value)
-    (says_then g.N.Sink.got g.N.Sink.faults _ _ _ _ _ whole.0 whole.1 c.put_all.ensures.says)
+    rw (← c.as_bytes.ensures.value, ← number, ← c.as_bytes-3.ensures.value) c.put_both.ensures

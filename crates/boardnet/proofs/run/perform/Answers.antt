@@ -20,9 +20,9 @@ returns-clause-ends g c =
 
 pub returns-clause-unjudged : goal.returns-clause-unjudged
 returns-clause-unjudged g c =
-    unjudged g.S.Sink.got g.S.Sink.faults g.N.Sink.got g.N.Sink.faults (asked c.args.command)
+    unjudged g.S.Sink.got g.S.Sink.faults g.N.Sink.got g.N.Sink.faults (HandedOver (g.P.Package.handed c.args.package.now) (g.P.Package.handed c.answer_to-given.new.package)) _ (asked c.args.command)
     c.args.out.now c.conclude.new.out c.args.notes.now c.conclude.new.notes c.conclude.result c.answer_to-given.result
-    c.answer_to-given.ensures.unjudged c.conclude.ensures.put
+    c.answer_to-given.ensures.work c.conclude.ensures.put
 
 pub returns-clause-handed : goal.returns-clause-handed
 returns-clause-handed g c =

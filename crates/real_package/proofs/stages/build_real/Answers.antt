@@ -1,13 +1,14 @@
 use Rattle.std.proofs.Common.{IfSome, subst}
+use Rattle.board_package.specs.Causes.{HasCauseBy, HandedCauseBy}
 use Rattle.board_package.specs.PackageBoard.{ComesAlong, WalksBy}
-use Rattle.board_package.proofs.Lift.{climbs, faultless_both, leaves_on}
+use Rattle.board_package.proofs.Lift.{climbs, faultless_both, kept_after_by, leaves_on}
 use Rattle.board_package.specs.HandedBoard.{ComesAlongHanded, course}
 use Rattle.real_package.specs.HandedReal.{GoesRealHanded, StopsRealAmongHanded}
 use Rattle.real_package.specs.RealBoards.{plain_real_board}
-use Rattle.real_package.specs.RealCauses.{HandedRealCause, HasRealCause}
+use Rattle.real_package.specs.RealCauses.{real_faults}
 use Rattle.real_package.specs.RealPackage.{GoesReal, StopsRealAmong}
 use Rattle.real_package.specs.declared.fault.RealBuildFault.TheVariants as fault
-use Rattle.real_package.proofs.Carried.{board_is, files_cause, kept_real_after, manifest_cause}
+use Rattle.real_package.proofs.Carried.{board_is, files_cause, manifest_cause}
 use Rattle.real_package.proofs.Staged.{board_handed, files_handed, manifest_handed}
 use Rattle.real_package.proofs.Seen.{is_empty}
 use Rattle.real_package.proofs.stages.build_real.Goals as goal
@@ -34,7 +35,7 @@ returns-in_err-take_files-clause-told g c =
     let held = g.P.Package.held c.take_manifest.new.package in
     let start = plain_real_board c.new-board.result in
     let why = c.in_err-take_files.field-0.0 in
-    let cause = subst (λ entries. HasRealCause held (λ files stop. StopsRealAmong files entries start stop) (λ files name. ComesAlong (GoesReal files) entries start name)
+    let cause = subst (λ entries. HasCauseBy real_faults held (λ files stop. StopsRealAmong files entries start stop) (λ files name. ComesAlong (GoesReal files) entries start name)
     (g.P.Package.faults c.take_manifest.new.package) (g.P.Package.faults c.take_files.new.package) (g.P.Package.lost c.take_files.new.package) why) c.as_slice.ensures c.in_err-take_files.ensures.cause in
     climbs _ _ c.from_residual-in_err-take_files.result why c.from_residual-in_err-take_files.ensures.1
     (files_cause (g.P.Package.held c.args.package.now) held c.args.manifest.now c.in_ok-listed.listed start
@@ -47,7 +48,7 @@ returns-in_err-take_files-clause-handed g c =
     let mid = g.P.Package.handed c.take_manifest.new.package in
     let after = g.P.Package.handed c.take_files.new.package in
     let why = c.in_err-take_files.field-0.0 in
-    let cause = subst (λ entries. HandedRealCause (λ stop. StopsRealAmongHanded entries (course mid start) after stop) (λ name. ComesAlongHanded GoesRealHanded entries (course mid start) after name)
+    let cause = subst (λ entries. HandedCauseBy real_faults (λ stop. StopsRealAmongHanded entries (course mid start) after stop) (λ name. ComesAlongHanded GoesRealHanded entries (course mid start) after name)
     (g.P.Package.faults c.take_manifest.new.package) (g.P.Package.faults c.take_files.new.package) (g.P.Package.lost c.take_files.new.package) why) c.as_slice.ensures c.in_err-take_files.ensures.handed_cause in
     climbs _ _ c.from_residual-in_err-take_files.result why c.from_residual-in_err-take_files.ensures.1
     (files_handed (g.P.Package.handed c.args.package.now) mid after c.args.manifest.now c.in_ok-listed.listed start
@@ -57,7 +58,7 @@ returns-in_err-take_files-clause-handed g c =
 pub returns-in_err-take_files-clause-spared : goal.returns-in_err-take_files-clause-spared
 returns-in_err-take_files-clause-spared g c =
     climbs _ _ c.from_residual-in_err-take_files.result c.in_err-take_files.field-0.0 c.from_residual-in_err-take_files.ensures.1
-    (kept_real_after _ _ _ _ _ _ c.in_err-take_files.field-0.0 c.in_ok-listed.ensures.spared c.in_err-take_files.ensures.spared)
+    (kept_after_by real_faults _ _ _ _ _ _ c.in_err-take_files.field-0.0 c.in_ok-listed.ensures.spared c.in_err-take_files.ensures.spared)
 
 pub returns-in_err-take_files-clause-leaves : goal.returns-in_err-take_files-clause-leaves
 returns-in_err-take_files-clause-leaves g c = leaves_on c.take_manifest.ensures.leaves c.take_files.ensures.leaves

@@ -1,11 +1,12 @@
-use Rattle.board_package.proofs.Lift.{climbs, if_err, on_ok, spared}
+use Rattle.board_package.specs.Causes.{KeepsFaultsBy}
+use Rattle.board_package.proofs.Lift.{climbs, if_err, kept_by, on_ok, spared}
 use Rattle.board_package.proofs.Staging.{handed_with}
 use Rattle.board_package.proofs.Taking.{held_with}
 use Rattle.board_package.specs.HandedBoard.{course}
 use Rattle.real_package.specs.RealBoards.{plain_real_board}
-use Rattle.real_package.specs.RealCauses.{KeepsRealFaults}
+use Rattle.real_package.specs.RealCauses.{real_faults}
 use Rattle.real_package.specs.declared.fault.RealBuildFault.TheVariants as fault
-use Rattle.real_package.proofs.Carried.{halted_real, kept_real, taking_cause}
+use Rattle.real_package.proofs.Carried.{halted_real, taking_cause}
 use Rattle.real_package.proofs.Staged.{halted_handed, taking_handed}
 use Rattle.real_package.proofs.stages.take_entry.Goals as goal
 
@@ -27,7 +28,7 @@ returns-in_err-take_file-clause-handed_cause g c =
 -- ---- Its reading
 
 pub returns-clause-spared : goal.returns-clause-spared
-returns-clause-spared g c = spared KeepsRealFaults _ _ _ _ c.read_file.result (λ why. kept_real _ _ _ _ why c.in_ok-take_file.ensures.spared) c.in_ok-take_file.ensures.spared
+returns-clause-spared g c = spared (KeepsFaultsBy real_faults) _ _ _ _ c.read_file.result (λ why. kept_by real_faults _ _ _ _ why c.in_ok-take_file.ensures.spared) c.in_ok-take_file.ensures.spared
 
 pub returns-clause-found : goal.returns-clause-found
 returns-clause-found g c =

@@ -1,9 +1,9 @@
 use Rattle.std.proofs.Common.{◌∙◌}
-use Rattle.board_package.proofs.Lift.{climbs, faultless_both, leaves_on}
+use Rattle.real_package.specs.RealCauses.{real_faults}
+use Rattle.board_package.proofs.Lift.{climbs, faultless_both, kept_after_by, leaves_on}
 use Rattle.board_package.specs.HandedBoard.{course}
 use Rattle.real_package.specs.HandedReal.{GoesRealHanded}
 use Rattle.real_package.specs.RealBoards.{plain_real_board}
-use Rattle.real_package.proofs.Carried.{kept_real_after}
 use Rattle.real_package.proofs.Staged.{more_handed}
 use Rattle.real_package.proofs.Walked.{cause_more, told_more, walk_more}
 use Rattle.real_package.proofs.stages.take_files.Goals as goal
@@ -23,7 +23,7 @@ loop-entry-preserved g c = record {
 pub returns-in_err-take_entry-clause-spared : goal.returns-in_err-take_entry-clause-spared
 returns-in_err-take_entry-clause-spared g c =
     climbs _ _ c.from_residual.result c.in_err-take_entry.field-0.0 c.from_residual.ensures.1
-    (kept_real_after _ _ _ _ _ _ c.in_err-take_entry.field-0.0 c.loop-entry.invariant.faultless c.in_err-take_entry.ensures.spared)
+    (kept_after_by real_faults _ _ _ _ _ _ c.in_err-take_entry.field-0.0 c.loop-entry.invariant.faultless c.in_err-take_entry.ensures.spared)
 
 pub returns-in_err-take_entry-clause-leaves : goal.returns-in_err-take_entry-clause-leaves
 returns-in_err-take_entry-clause-leaves g c = leaves_on c.loop-entry.invariant.leaves c.take_entry.ensures.leaves
