@@ -15,9 +15,9 @@ use Rattle.verdict.specs.declared.verdict.SpotLine.{SpotLine}
 use Rattle.verdict.specs.declared.verdict.Supplement.{Supplement}
 use Rattle.verdict.specs.declared.verdict.Verdict.{Verdict}
 use Rattle.verdict.specs.Lawful.{IsNumber, IsTwig, IsPointLine, IsOpen, IsBranchLine, IsShort, IsSpotLine, IsSourceLine, IsSupplement, IsVerdict}
-use Rattle.verdict.specs.ReportReading.{is_feed, word_at, net_at, name_at, point_at, open_at, branch_at, bare_at, spot_at, source_at}
+use Rattle.verdict.specs.ReportReading.{is_feed, word_at, net_at, name_at, point_at, open_at, branch_at, bare_at, spot_at, source_at, starts}
 use Rattle.verdict.specs.ReportText.{word, end, count_line, numbered, line_of, section_text, net_line, name_line, point_line, open_line, branch_line, short_lines, bare_line, spot_line, source_line, last_line, first_line, more_text, report_text}
-use Rattle.verdict.proofs.Steps.{some_is, starts, word_again, after_feed}
+use Rattle.verdict.proofs.Steps.{some_is, word_again, after_feed}
 use Rattle.verdict.proofs.ReadLines.{net_again, name_again, point_again, open_again, branch_again, titled_again}
 use Rattle.verdict.proofs.ReadSupplement.{spot_again, source_again}
 use Rattle.verdict.proofs.ReadReport.{is_there, short_parts, section_parts, last_of, from_more, from_bare, from_shorts, from_opens, from_points, from_names, from_nets, from_pieces, parts_before}

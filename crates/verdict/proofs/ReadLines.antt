@@ -11,9 +11,9 @@ use Rattle.verdict.specs.declared.verdict.PointLine.{PointLine}
 use Rattle.verdict.specs.declared.verdict.Open.{Open}
 use Rattle.verdict.specs.declared.verdict.Branch.{Branch}
 use Rattle.verdict.specs.Lawful.{IsNumber, IsTwig, IsPointLine, IsOpen, IsBranchLine}
-use Rattle.verdict.specs.ReportReading.{◌>>=◌, behind, number_at, word_at, layer_at, parent_behind, parent_at, twig_at, net_behind, net_number_at, words_at, heading_at, net_at, name_at, point_at, open_at, branch_at, bare_at, titled_at}
+use Rattle.verdict.specs.ReportReading.{◌>>=◌, behind, number_at, word_at, layer_at, parent_behind, parent_at, twig_at, net_behind, net_number_at, words_at, heading_at, net_at, name_at, point_at, open_at, branch_at, bare_at, titled_at, starts}
 use Rattle.verdict.specs.ReportText.{word, end, count_line, parent_text, twig_text, net_line, name_line, net_text, point_line, open_line, branch_line, bare_line}
-use Rattle.verdict.proofs.Steps.{step, some_is, and_both, front_then, starts, own, behind_takes, behind_again, number_takes, number_again, word_takes, word_again, layer_takes, layer_again, text_takes, text_again}
+use Rattle.verdict.proofs.Steps.{step, some_is, and_both, front_then, own, behind_takes, behind_again, number_takes, number_again, word_takes, word_again, layer_takes, layer_again, text_takes, text_again}
 use Rattle.verdict.proofs.ReadLists.{IsWord, IsLine, ends, ends_by, words_take, words_again, words_few}
 
 -- what follows from a step that did not fail

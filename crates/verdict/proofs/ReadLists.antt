@@ -5,10 +5,10 @@ use Rattle.std.proofs.lemmas.List.{length-append}
 use Rattle.std.proofs.lemmas.List.Concat.{flat_map-cons}
 use Rattle.verdict.specs.declared.report_reading.ReadFault.{ReadFault}
 use Rattle.verdict.specs.declared.report_reading.ReadFault.TheVariants.{NotAReport, NoMemory}
-use Rattle.verdict.specs.ReportReading.{◌>>=◌, Fails, begins_blank, with_first, words_at, items_at}
+use Rattle.verdict.specs.ReportReading.{◌>>=◌, Fails, begins_blank, with_first, words_at, items_at, starts}
 use Rattle.verdict.specs.ReportText.{numbered}
 use Rattle.std.proofs.lemmas.Bool.{eqb-true}
-use Rattle.verdict.proofs.Steps.{bind_some, some_is, front_then, starts}
+use Rattle.verdict.proofs.Steps.{bind_some, some_is, front_then}
 
 -- what was read before, and what is still read
 abbrev pub with_front : {X : Type 0} → List X → Option (List X × List ℕ) → Option (List X × List ℕ)

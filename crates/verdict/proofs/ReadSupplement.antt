@@ -10,9 +10,9 @@ use Rattle.texts.specs.Digits.{is_decimal_digit}
 use Rattle.verdict.specs.declared.verdict.SpotLine.{SpotLine}
 use Rattle.verdict.specs.declared.verdict.SourceLine.{SourceLine}
 use Rattle.verdict.specs.Lawful.{IsSigned, IsSpotLine, IsSourceLine}
-use Rattle.verdict.specs.ReportReading.{◌>>=◌, behind, wide_at, negated, signed_behind, signed_at, word_at, layer_at, signed_word_at, heading_at, spot_at, source_at}
+use Rattle.verdict.specs.ReportReading.{◌>>=◌, behind, wide_at, negated, signed_behind, signed_at, word_at, layer_at, signed_word_at, heading_at, spot_at, source_at, starts}
 use Rattle.verdict.specs.ReportText.{word, signed_word, end, spot_line, source_line}
-use Rattle.verdict.proofs.Steps.{step, some_is, guard_some, and_both, front_then, starts, own, behind_takes, behind_again, wide_takes, wide_again, word_takes, word_again, layer_takes, layer_again}
+use Rattle.verdict.proofs.Steps.{step, some_is, guard_some, and_both, front_then, own, behind_takes, behind_again, wide_takes, wide_again, word_takes, word_again, layer_takes, layer_again}
 use Rattle.verdict.proofs.ReadLists.{IsLine}
 use Rattle.verdict.proofs.ReadLines.{bind_then, false_true, behind_none, heading_takes, heading_again}
 

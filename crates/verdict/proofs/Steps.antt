@@ -1,5 +1,5 @@
 -- Steps of reading, and the fields of a report: what is read stood in front, and what stands in front is read.
-use Rattle.std.proofs.Common.{◌≡◌, ℕ, ◌+◌, ◌^◌, ◌<◌, Bool, true, false, not, ◌&&◌, ◌||◌, cond, eqb, ltb, leb, List, [], ◌∷◌, ◌++◌, length, take, drop, get_or, Option, Some, None, Result, Ok, Err, refl, sym, ap, subst, ◌∙◌, append_assoc, arith, rules, inl, inr}
+use Rattle.std.proofs.Common.{◌≡◌, ℕ, ◌+◌, ◌-◌, ◌^◌, ◌<◌, Bool, true, false, not, ◌&&◌, ◌||◌, cond, eqb, ltb, leb, List, [], ◌∷◌, ◌++◌, length, take, drop, get_or, Option, Some, None, Result, Ok, Err, refl, sym, ap, subst, ◌∙◌, append_assoc, arith, rules, inl, inr}
 use Rattle.std.specs.Prelude.{decimal}
 use Rattle.std.specs.Cmp.Lexicographic.{pointwise}
 use Rattle.std.specs.List.{list_all, list_any, prefix_len, take_while, before_first, after_first, position_or_len, AllByRecursion}
@@ -12,10 +12,11 @@ use Rattle.std.proofs.lemmas.List.Elements.{All-from_recursion, recursion_from_A
 use Rattle.std.proofs.lemmas.List.Sums.{take_while-cons, split_at_first, passes_at_first}
 use Rattle.std.proofs.lemmas.Slice.Eq.{bytes_eq-Decides}
 use Rattle.std.proofs.lemmas.Str.Parse.{IsNumeralModel, numerals_by_value, parse_digits}
+use Rattle.lengths.proofs.Digits.{digit_of}
 use Rattle.lengths.specs.declared.TheConstants.{MOST_NAME_BYTES}
 use Rattle.texts.specs.Digits.{is_decimal_digit}
 use Rattle.lengths.specs.Text.{IsPrintable, IsText}
-use Rattle.verdict.specs.ReportReading.{◌>>=◌, behind, run_of, is_numeral, value_of, wide_at, number_at, word_at, layer_at, count_at, is_feed, is_name, text_at}
+use Rattle.verdict.specs.ReportReading.{◌>>=◌, behind, run_of, is_numeral, value_of, wide_at, number_at, word_at, layer_at, count_at, is_feed, is_name, text_at, starts}
 use Rattle.verdict.specs.ReportText.{word, end}
 
 -- the value of a step that did not fail
@@ -65,11 +66,6 @@ behind_again front rest =
     rw (take_at front rest (length front) refl, drop_at front rest (length front) refl, same) refl
 
 -- ---- Numbers
-
--- whether a byte that passes is the first
-abbrev pub starts : (ℕ → Bool) → List ℕ → Bool
-starts p [] = false
-starts p (b ∷ bytes) = p b
 
 run_step : (p : ℕ → Bool) (x : ℕ) (xs : List ℕ) (b : Bool) → p x ≡ b → list_all p (take_while p xs) ≡ true → list_all p (cond b (x ∷ take_while p xs) []) ≡ true
 run_step p x xs true e more = rw e more
@@ -190,6 +186,26 @@ word_takes bytes n rest e =
 pub word_again : (n : ℕ) (rest : List ℕ) → n < 2 ^ 32 → starts is_decimal_digit rest ≡ false → word_at (word n ++ rest) ≡ Some (n, rest)
 unfolding word_at
 word_again n rest small none = step (behind (32 ∷ []) (word n ++ rest)) (λ r. number_at r) (decimal n ++ rest) (Some (n, rest)) (behind_again (32 ∷ []) (decimal n ++ rest)) (number_again n rest small none)
+
+-- one digit with no digit behind it
+pub digit_reads : (bytes rest : List ℕ) (digit : ℕ) → bytes ≡ digit ∷ rest → is_decimal_digit digit ≡ true → starts is_decimal_digit rest ≡ false → (digit - 48 < 10) × (number_at bytes ≡ Some (digit - 48, rest))
+digit_reads bytes rest digit e one none =
+    let d = digit_of digit one in
+    let n : ℕ = digit - 48 in
+    let spelled : decimal n ≡ digit ∷ [] = decimal_digit n (omega (arith, d)) ∙ ap (λ (x : ℕ). x ∷ []) (omega (arith, d)) in
+    let read : number_at (digit ∷ rest) ≡ Some (n, rest) = subst (λ (t : List ℕ). number_at (t ++ rest) ≡ Some (n, rest)) spelled (number_again n rest (omega (arith, d)) none) in
+    (omega (arith, d), ap number_at e ∙ read)
+
+-- a number behind a blank
+pub word_reads : (bytes rest : List ℕ) (x : ℕ × List ℕ) → behind (32 ∷ []) bytes ≡ Some rest → number_at rest ≡ Some x → word_at bytes ≡ Some x
+unfolding word_at
+word_reads bytes rest x e read = step (behind (32 ∷ []) bytes) (λ r. number_at r) rest (Some x) e read
+
+pub layer_short : (bytes rest : List ℕ) (n : ℕ) → n < 10 → word_at bytes ≡ Some (n, rest) → layer_at bytes ≡ Some (n, rest)
+unfolding layer_at
+layer_short bytes rest n small e =
+    let below : ltb n (2 ^ 8) ≡ true = lt-ltb n (2 ^ 8) (omega (arith, small)) in
+    step (word_at bytes) (λ x. cond (ltb x.0 (2 ^ 8)) (Some x) None) (n, rest) (Some (n, rest)) e (rw below refl)
 
 pub layer_takes : (bytes : List ℕ) (n : ℕ) (rest : List ℕ) → layer_at bytes ≡ Some (n, rest) → (bytes ≡ word n ++ rest) × (n < 2 ^ 8)
 unfolding layer_at

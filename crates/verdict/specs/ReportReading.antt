@@ -142,6 +142,11 @@ net_behind None bytes = word_at bytes >>= λ n. Some (Some n.0, n.1)
 unfoldable pub net_number_at : List ℕ → Option (Option ℕ × List ℕ)
 net_number_at bytes = net_behind (behind (codes " -") bytes) bytes
 
+-- whether a byte that passes is the first
+abbrev pub starts : (ℕ → Bool) → List ℕ → Bool
+starts p [] = false
+starts p (b ∷ bytes) = p b
+
 -- whether a blank comes next
 abbrev pub begins_blank : List ℕ → Bool
 begins_blank [] = false

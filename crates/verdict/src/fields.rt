@@ -1,5 +1,5 @@
 //! The fields of a report: fixed words and numbers, each read from the front of the bytes.
-ghost use Rattle.std.specs.Prelude.{◌≡◌, ◌<◌, ◌≤◌, ◌^◌, [], ◌∷◌, IfErr, List, Option, decimal, length, take, true};
+ghost use Rattle.std.specs.Prelude.{◌≡◌, ◌<◌, ◌≤◌, ◌^◌, [], ◌∷◌, IfErr, IfSome, List, Option, Some, decimal, length, take, true};
 ghost use Rattle.std.specs.List.{list_all, prefix_len};
 ghost use Rattle.std.specs.Option.{option_map};
 ghost use Rattle.std.specs.Str.Parse.{digits_value};
@@ -140,8 +140,17 @@ pub fn expect_number(bytes: &[u8], number: u64) -> Result<&[u8], ReadFault>
 {
     match wide(bytes) {
         Ok((n, rest)) if n == number => Ok(rest),
-        _ => expect(bytes, Numeral::of(number).as_bytes()),
+        _ => expect_written(bytes, number),
     }
+}
+
+// The same by writing the number.
+#[cold]
+#[inline(never)]
+fn expect_written(bytes: &[u8], number: u64) -> Result<&[u8], ReadFault>
+    ensures { spec.Gives (λ rest. rest.now) result (spec.behind (decimal number) bytes.now) }
+{
+    expect(bytes, Numeral::of(number).as_bytes())
 }
 
 /// A blank and a number below 2^32.
@@ -152,6 +161,39 @@ pub fn word(bytes: &[u8]) -> Result<(u32, &[u8]), ReadFault>
 {
     let rest = expect_byte(bytes, b' ')?;
     number(rest)
+}
+
+// A number of one digit, where such a number stands in front.
+fn one_digit(bytes: &[u8]) -> Option<(u8, &[u8])>
+    ensures { IfSome result (λ x. (x.0 < 10) × (spec.number_at bytes.now ≡ Some (x.0, x.1.now))) }
+{
+    let Some((digit, rest)) = bytes.split_first() else {
+        return None;
+    };
+    if !is_digit(*digit) || begins_digit(rest) {
+        return None;
+    }
+    Some((*digit - b'0', rest))
+}
+
+// A blank and a number of one digit, where such a number stands in front.
+fn short(bytes: &[u8]) -> Option<(u8, &[u8])>
+    ensures { IfSome result (λ x. (x.0 < 10) × (spec.word_at bytes.now ≡ Some (x.0, x.1.now))) }
+{
+    match behind_byte(bytes, b' ') {
+        Some(rest) => one_digit(rest),
+        None => None,
+    }
+}
+
+/// A blank and a number below 2^32 that mostly has one digit.
+pub fn short_word(bytes: &[u8]) -> Result<(u32, &[u8]), ReadFault>
+    ensures { spec.Gives (λ x. (x.0, x.1.now)) result (spec.word_at bytes.now) }
+{
+    match short(bytes) {
+        Some((n, rest)) => Ok((u32::from(n), rest)),
+        None => word(bytes),
+    }
 }
 
 /// A title, a number below 2^32 and the end of the line.
@@ -208,8 +250,20 @@ pub fn signed_word(bytes: &[u8]) -> Result<(i64, &[u8]), ReadFault>
 }
 
 /// A blank and a number below 2^8.
-#[tactic(auto, unfolding(crate::specs::ReportReading::layer_at))]
 pub fn layer(bytes: &[u8]) -> Result<(u8, &[u8]), ReadFault>
+    ensures { spec.Gives (λ x. (x.0, x.1.now)) result (spec.layer_at bytes.now) }
+{
+    match short(bytes) {
+        Some((n, rest)) => Ok((n, rest)),
+        None => long_layer(bytes),
+    }
+}
+
+// The same of any number of digits.
+#[cold]
+#[inline(never)]
+#[tactic(auto, unfolding(crate::specs::ReportReading::layer_at))]
+fn long_layer(bytes: &[u8]) -> Result<(u8, &[u8]), ReadFault>
     ensures { spec.Gives (λ x. (x.0, x.1.now)) result (spec.layer_at bytes.now) }
 {
     let (n, rest) = word(bytes)?;
@@ -254,6 +308,16 @@ pub fn net_number(bytes: &[u8]) -> Result<(Option<u32>, &[u8]), ReadFault>
             let (net, rest) = word(bytes)?;
             Ok((Some(net), rest))
         }
+    }
+}
+
+// Whether a digit stands in front.
+fn begins_digit(bytes: &[u8]) -> bool
+    ensures { result ≡ spec.starts is_decimal_digit bytes.now }
+{
+    match bytes {
+        [first, ..] => is_digit(*first),
+        [] => false,
     }
 }
 

@@ -8,7 +8,7 @@ ghost use Rattle.verdict.specs.ReportText as report;
 
 use crate::fields::{
     begins_blank, count, expect, expect_byte, expect_number, layer, line_end, net_number, parent,
-    signed_word, titled, word,
+    short_word, signed_word, titled, word,
 };
 use crate::report_reading::ReadFault;
 use crate::verdict::{Branch, Open, PointLine, Short, SourceLine, SpotLine, Tree, Twig};
@@ -129,7 +129,8 @@ fn write_words<T: Word>(out: &mut Vec<u8>, words: &[T]) -> Result<(), AllocError
     Ok(())
 }
 
-// A title and the number of a line.
+// A title and the number of a line. It is inlined, so that a title that is known is compared at once.
+#[inline(always)]
 #[tactic(auto, unfolding(crate::specs::ReportReading::heading_at))]
 fn heading<'a>(bytes: &'a [u8], title: &[u8], number: u64) -> Result<&'a [u8], ReadFault>
     ensures { spec.Gives (λ rest. rest.now) result (spec.heading_at title.now number bytes.now) }
@@ -401,9 +402,9 @@ impl Line for SourceLine {
     #[tactic(auto, unfolding(crate::specs::ReportReading::source_at))]
     fn read(_: Global, number: u64, bytes: &[u8]) -> Result<(SourceLine, &[u8]), ReadFault> {
         let rest = heading(bytes, b"source", number)?;
-        let (file, rest) = word(rest)?;
+        let (file, rest) = short_word(rest)?;
         let (command, rest) = word(rest)?;
-        let (copy, rest) = word(rest)?;
+        let (copy, rest) = short_word(rest)?;
         let (top, rest) = layer(rest)?;
         let (bottom, rest) = layer(rest)?;
         let line = SourceLine {

@@ -1,4 +1,4 @@
-use Rattle.std.proofs.Common.{◌≡◌, ◌∙◌, Option, Some, List, ℕ, ap, decimal, subst}
+use Rattle.std.proofs.Common.{◌≡◌, ◌∙◌, Some, ℕ, ap, decimal, subst}
 use Rattle.verdict.specs.ReportReading.{behind, wide_at}
 use Rattle.verdict.proofs.Steps.{behind_again, wide_takes}
 use Rattle.verdict.proofs.fields.expect_number.Goals as goal
