@@ -1,5 +1,5 @@
 -- Single contours.
-use Rattle.std.proofs.Common.{◌≡◌, ◌↔◌, ◌⊎◌, inl, inr, ℕ, ◌+◌, ◌≤◌, ◌<◌, length, List, [], ◌∷◌, Bool, false, IsTrue, get_or, refl, sym, ap, subst, arith}
+use Rattle.std.proofs.Common.{◌≡◌, ◌↔◌, ◌⊎◌, inl, inr, ◌≤◌, ◌<◌, length, List, [], ◌∷◌, Bool, false, IsTrue, get_or, refl, sym, ap, subst, arith}
 use Rattle.planar.specs.declared.Spot.{Spot}
 use Rattle.board_shapes.specs.Figures.{Figure, Stroke, figure_of, filled, round}
 use Rattle.board_shapes.specs.Pieces.{plain_pieces}

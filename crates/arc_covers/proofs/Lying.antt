@@ -1,13 +1,13 @@
 -- What is taken below a region lies in it.
-use Rattle.std.proofs.Common.{◌≡◌, ◌↔◌, inl, inr, List, [], ◌∷◌, All, Bool, true, false, IsTrue, if◌then◌else◌, refl, ap, subst, ◌∙◌}
+use Rattle.std.proofs.Common.{◌≡◌, ◌↔◌, inl, inr, List, [], ◌∷◌, All, Bool, true, false, IsTrue, if◌then◌else◌, refl, ap, subst}
 use Rattle.std.proofs.lemmas.List.Elements.{All-cons, All-nil}
 use Rattle.planar.specs.Plane.{IsPlaced, Point}
 use Rattle.planar.specs.declared.Frame.{Frame}
 use Rattle.planar.specs.declared.Spot.{Spot}
 use Rattle.board_shapes.specs.Figures.{Figure, InFigure, filled}
-use Rattle.arc_regions.specs.Copper.{InRegion, end_of}
+use Rattle.arc_regions.specs.Copper.{InRegion}
 use Rattle.arc_regions.specs.Laws.{TakenHolds, TakenLies}
-use Rattle.arc_regions.specs.Taken.{AreAround, StandsAs, TakenBelow, parts_of}
+use Rattle.arc_regions.specs.Taken.{AreAround, StandsAs, parts_of}
 use Rattle.arc_regions.specs.declared.Part.{Part}
 use Rattle.arc_regions.specs.declared.Part.TheVariants.{Straight, Curved}
 use Rattle.arc_regions.specs.declared.Region.{Region as Contour}

@@ -1,16 +1,14 @@
 -- Parts of a contour, and what stands for them.
-use Rattle.std.proofs.Common.{◌≡◌, ◌≢◌, ◌↔◌, inl, inr, ℕ, suc, ◌+◌, ◌≤◌, ◌<◌, ℤ, pos, List, [], ◌∷◌, ◌++◌, length, get_or, take, drop, reverse, All, Bool, true, false, IsTrue, Option, Some, IfSome, refl, sym, ap, ◌∙◌, subst, arith}
+use Rattle.std.proofs.Common.{◌≡◌, ◌≢◌, ◌↔◌, ℕ, suc, ◌+◌, ◌≤◌, ◌<◌, ℤ, pos, List, [], ◌∷◌, ◌++◌, length, get_or, take, drop, All, Bool, true, false, IsTrue, Option, Some, IfSome, refl, sym, ap, ◌∙◌, subst, arith}
 use Rattle.std.proofs.lemmas.List.{drop-map, drop_more, length-append, length-map, length-reverse, length-take-le, take-append-drop, take-map}
 use Rattle.std.proofs.lemmas.List.Elements.{All-head, All-tail}
 use Rattle.std.proofs.Math.Seq.{drop-append_seam, take-append_seam}
-use Rattle.planar.specs.Plane.{IsPlaced}
 use Rattle.planar.specs.declared.Spot.{Spot}
-use Rattle.board_shapes.specs.Figures.{Figure, figure_of, filled, round}
+use Rattle.board_shapes.specs.Figures.{Figure, round}
 use Rattle.board_shapes.specs.Pieces.{PlainPiece, plain_piece, plain_pieces}
 use Rattle.board_shapes.specs.declared.placed.Placed.{Placed}
 use Rattle.board_shapes.specs.declared.shape.Shape.{Shape}
 use Rattle.arc_regions.specs.Copper.{end_of}
-use Rattle.arc_regions.specs.Taken.{StandsAs}
 use Rattle.arc_regions.specs.declared.Bend.{Bend}
 use Rattle.arc_regions.specs.declared.Part.{Part}
 use Rattle.arc_regions.specs.declared.Part.TheVariants.{Straight, Curved}

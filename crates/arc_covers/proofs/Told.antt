@@ -17,7 +17,7 @@ use Rattle.arc_regions.specs.declared.Part.{Part}
 use Rattle.arc_regions.specs.declared.Part.TheVariants.{Straight, Curved}
 use Rattle.arc_regions.proofs.Edges.{some_before, some_behind}
 use Rattle.arc_covers.specs.Bounds.{HoldTogether, InSome, capsules_from, capsules_of}
-use Rattle.arc_covers.specs.Regions.{Begin, EndFirst, RegionAbove, StandAlong, StandsHere, chain_of}
+use Rattle.arc_covers.specs.Regions.{RegionAbove, StandAlong, StandsHere, chain_of}
 
 -- ---- points in one of several figures
 

@@ -1,4 +1,3 @@
-use Rattle.std.proofs.Common.{rules}
 use Rattle.arc_covers.proofs.Lying.{not_reached}
 use Rattle.arc_covers.proofs.quarters.lies.Goals as goal
 

@@ -1,6 +1,5 @@
 use Rattle.std.proofs.Common.{pos}
-use Rattle.board_shapes.specs.Figures.{figure_of, round}
-use Rattle.arc_covers.proofs.Figures.{some_of}
+use Rattle.board_shapes.specs.Figures.{figure_of}
 use Rattle.arc_covers.proofs.Parts.{link_read}
 use Rattle.arc_covers.proofs.regions.is_link.Goals as goal
 

@@ -1,8 +1,8 @@
-use Rattle.std.proofs.Common.{List, ap, arith, drop, pos, sym, ◌≡◌, ◌∙◌, ◌∷◌, ℤ}
+use Rattle.std.proofs.Common.{ap, arith, drop, pos, sym, ◌≡◌, ◌∙◌, ◌∷◌, ℤ}
 use Rattle.std.proofs.lemmas.Int.{ints}
 use Rattle.board_shapes.specs.Figures.{round}
 use Rattle.board_shapes.specs.Pieces.{plain_pieces}
-use Rattle.board_shapes.specs.declared.shape.Shape.TheVariants.{Filled, Round}
+use Rattle.board_shapes.specs.declared.shape.Shape.TheVariants.{Round}
 use Rattle.arc_covers.specs.Bounds.{figures_of}
 use Rattle.arc_covers.proofs.Figures.{as_shape}
 use Rattle.arc_covers.proofs.regions.radius_of.Goals as goal
