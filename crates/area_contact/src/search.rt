@@ -5,6 +5,7 @@ ghost use Rattle.area_contact.specs.Bands.{AreAbout, AreEdges, IsAbout, edges_at
 ghost use Rattle.area_contact.specs.Contour.{Reaches, SomeEdge};
 ghost use Rattle.contact.specs.Round.{box_of};
 ghost use Rattle.contact.specs.Solid.{IsInside};
+ghost use Rattle.planar.specs.Framed.{AreFramed};
 ghost use Rattle.planar.specs.Plane.{IsInFrame, IsPlaced, Share};
 ghost use Rattle.std.proofs.Props.{props};
 ghost use Rattle.std.specs.Prelude.{All, IsTrue, length, pos, ◌+◌, ◌*◌, ◌<◌, ◌≡◌, ◌≤◌, ◌↔◌};
@@ -32,10 +33,7 @@ pub struct Search<'a> {
 impl<'a> Search<'a> {
     /// Whether the edge from `start` to `end` comes into the capsule.
     fn enters(&self, start: Spot, end: Spot) -> bool
-        requires start_placed { IsPlaced start }
-        requires end_placed { IsPlaced end }
-        requires start_in_frame { IsInFrame self.now.frame start }
-        requires end_in_frame { IsInFrame self.now.frame end }
+        requires { AreFramed self.now.frame start end }
         ensures { IsTrue result ↔ Share start end (pos 0) self.now.capsule.now.a self.now.capsule.now.b self.now.capsule.now.r }
     {
         let (a, b, r) = self.capsule.parts();
@@ -48,10 +46,7 @@ impl<'a> Search<'a> {
 
     /// The same, with the boxes compared first.
     fn reaches(&self, start: Spot, end: Spot) -> bool
-        requires start_placed { IsPlaced start }
-        requires end_placed { IsPlaced end }
-        requires start_in_frame { IsInFrame self.now.frame start }
-        requires end_in_frame { IsInFrame self.now.frame end }
+        requires { AreFramed self.now.frame start end }
         ensures { IsTrue result ↔ Share start end (pos 0) self.now.capsule.now.a self.now.capsule.now.b self.now.capsule.now.r }
     {
         if segment_box(start, end).meet(&self.around) {

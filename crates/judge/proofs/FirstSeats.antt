@@ -1,11 +1,11 @@
 -- The first seat of each name on each net.
-use Rattle.std.proofs.Common.{◌≡◌, ◌≢◌, ℕ, ◌+◌, ◌<◌, ◌≤◌, Bool, true, false, ◌==◌, inl, inr, List, [], ◌∷◌, ◌++◌, length, map, get_or, drop, All, None, Some, refl, sym, ap, ◌∙◌, subst, append_assoc, rules}
+use Rattle.std.proofs.Common.{◌≡◌, ◌≢◌, ℕ, ◌+◌, ◌<◌, ◌≤◌, Bool, true, false, ◌==◌, inl, inr, List, [], ◌∷◌, ◌++◌, length, map, get_or, drop, All, Option, None, Some, refl, sym, ap, ◌∙◌, subst, append_assoc, rules}
 use Rattle.std.proofs.lemmas.List.{append-nil, at_drop_all, at_drop_more, get_or_past, map-append}
 use Rattle.verdict.proofs.Holding.{le_or_lt}
 use Rattle.verdict.specs.declared.verdict.PointLine.{PointLine}
 use Rattle.verdict.specs.declared.verdict.Seat.{Seat}
 use Rattle.verdict.specs.Right.{fresh, net_of, seats_from}
-use Rattle.judge.specs.Seated.{has_seat, with_seat}
+use Rattle.judge.specs.Seated.{IsSeated, has_seat, with_point, with_seat}
 use Rattle.verdict.proofs.Seating.{fresh_new, fresh_old, seats_none, seats_other, seats_some}
 use Rattle.verdict.specs.Seats.{AreFirstSeats, seats_at}
 
@@ -56,10 +56,7 @@ no_seats groups name none = elim (le_or_lt (length groups) name) [
 pub seated_first : (lines : List PointLine) (groups : List (List Seat)) → All (λ seats. seats ≡ []) groups → AreSeatedTo lines 0 groups
 seated_first lines groups none name = ap (λ (xs : List Seat). xs ++ fresh (map net_of xs) (seats_from name 0 lines)) (no_seats groups name none)
 
-pub seated_past : (lines : List PointLine) (i : ℕ) (d : PointLine) (groups : List (List Seat)) → i < length lines → (get_or lines i d).net ≡ None → AreSeatedTo lines i groups → AreSeatedTo lines (i + 1) groups
-seated_past lines i d groups below none before name = seated_same lines i d name (seats_at groups name) (seats_at groups name) below (seats_none name i (get_or lines i d) (drop (i + 1) lines) none) (before name) refl
-
-pub seated_turn : (lines : List PointLine) (i net : ℕ) (d : PointLine) (groups groups' : List (List Seat)) → i < length lines → (get_or lines i d).net ≡ Some net → AreSeatedTo lines i groups
+seated_turn : (lines : List PointLine) (i net : ℕ) (d : PointLine) (groups groups' : List (List Seat)) → i < length lines → (get_or lines i d).net ≡ Some net → AreSeatedTo lines i groups
     → seats_at groups' (get_or lines i d).name ≡ with_seat (seats_at groups (get_or lines i d).name) (record { net = net; probe = i }) → ((other : ℕ) → other ≢ (get_or lines i d).name → seats_at groups' other ≡ seats_at groups other) → AreSeatedTo lines (i + 1) groups'
 seated_turn lines i net d groups groups' below on before more others name = by ((get_or lines i d).name == name) refl where
   by : (b : Bool) → ((get_or lines i d).name == name) ≡ b → seats_at groups' name ++ fresh (map net_of (seats_at groups' name)) (seats_from name (i + 1) (drop (i + 1) lines)) ≡ fresh [] (seats_from name 0 lines)
@@ -69,6 +66,22 @@ seated_turn lines i net d groups groups' below on before more others name = by (
   by false e =
       let other : name ≢ (get_or lines i d).name = (λ k. (let f : ((get_or lines i d).name == name) ≡ true = (search (rules, k)) in cc)) in
       seated_same lines i d name (seats_at groups name) (seats_at groups' name) below (seats_other name i (get_or lines i d) (drop (i + 1) lines) e) (before name) (others name other)
+
+pub seated_line : (lines : List PointLine) (i : ℕ) (line d : PointLine) (groups groups' : List (List Seat)) → i < length lines → line ≡ get_or lines i d → AreSeatedTo lines i groups → IsSeated line i groups groups' → AreSeatedTo lines (i + 1) groups'
+seated_line lines i line d groups groups' below is before seated = by (get_or lines i d).net refl (subst (λ (l : PointLine). IsSeated l i groups groups') is seated)
+  where
+    by : (net : Option ℕ) → (get_or lines i d).net ≡ net → IsSeated (get_or lines i d) i groups groups' → AreSeatedTo lines (i + 1) groups'
+    by None e s = λ name. seated_same lines i d name (seats_at groups name) (seats_at groups' name) below (seats_none name i (get_or lines i d) (drop (i + 1) lines) e) (before name) (same name)
+      where
+        same : (name : ℕ) → seats_at groups' name ≡ seats_at groups name
+        same name = by_name ((get_or lines i d).name == name) refl
+          where
+            by_name : (b : Bool) → ((get_or lines i d).name == name) ≡ b → seats_at groups' name ≡ seats_at groups name
+            by_name true k =
+                let here : (get_or lines i d).name ≡ name = (search (rules, k)) in
+                subst (λ (n : ℕ). seats_at groups' n ≡ seats_at groups n) here (s.0 ∙ ap (λ (o : Option ℕ). with_point o i (seats_at groups (get_or lines i d).name)) e)
+            by_name false k = s.1 name (λ h. (let f : ((get_or lines i d).name == name) ≡ true = (search (rules, h)) in cc))
+    by (Some net) e s = seated_turn lines i net d groups groups' below e before (s.0 ∙ ap (λ (o : Option ℕ). with_point o i (seats_at groups (get_or lines i d).name)) e) s.1
 
 pub seated_last : (lines : List PointLine) (i : ℕ) (groups : List (List Seat)) → length lines ≤ i → AreSeatedTo lines i groups → AreFirstSeats groups lines
 seated_last lines i groups past before name below =

@@ -1,6 +1,7 @@
 -- Seats of names one by one, with the pairs of a name and a net that were met.
-use Rattle.std.specs.Prelude.{◌≡◌, ℕ, Bool, ◌==◌, ◌&&◌, if◌then◌else◌, List, [], ◌∷◌, ◌++◌, map}
+use Rattle.std.specs.Prelude.{◌≡◌, ◌≢◌, ℕ, Bool, ◌==◌, ◌&&◌, if◌then◌else◌, List, [], ◌∷◌, ◌++◌, map, Option, None, Some}
 use Rattle.std.specs.List.{list_any}
+use Rattle.verdict.specs.declared.verdict.PointLine.{PointLine}
 use Rattle.verdict.specs.declared.verdict.Seat.{Seat}
 use Rattle.verdict.specs.Right.{net_of}
 use Rattle.verdict.specs.Seats.{seats_at}
@@ -16,3 +17,12 @@ AreSeated pairs groups = (name net : ℕ) → list_any (λ p. name == p.0 && net
 -- the seats, and one more where none of them is on its net
 abbrev pub with_seat : List Seat → Seat → List Seat
 with_seat seats s = if has_seat seats s.net then seats else seats ++ s ∷ []
+
+-- the seats of a name before and after a point of it: one more where it is on a net
+abbrev pub with_point : Option ℕ → ℕ → List Seat → List Seat
+with_point None probe seats = seats
+with_point (Some net) probe seats = with_seat seats (record { net = net; probe = probe })
+
+-- the point of that number got its seat, and no other name did
+abbrev pub IsSeated : PointLine → ℕ → List (List Seat) → List (List Seat) → Type 0
+IsSeated line probe old new = (seats_at new line.name ≡ with_point line.net probe (seats_at old line.name)) × ((other : ℕ) → other ≢ line.name → seats_at new other ≡ seats_at old other)

@@ -1,5 +1,5 @@
 //! The points of each name, grouped by nets.
-ghost use Rattle.judge.specs.Seated.{AreSeated, with_seat};
+ghost use Rattle.judge.specs.Seated.{AreSeated, IsSeated, with_seat};
 ghost use Rattle.verdict.specs.Seats.{AreFirstSeats, seats_at};
 ghost use Rattle.std.specs.Prelude.{◌≡◌, ◌≢◌, ℕ, ◌<◌, ◌^◌, [], length, All, IfOk, OnOk};
 
@@ -52,15 +52,27 @@ fn seat_all(
     ensures { OnOk result (AreFirstSeats groups.new lines.now) }
 {
     for i in 0..lines.len() {
-        if let Some(net) = lines[i].net {
-            let seat = Seat {
-                net,
-                probe: i as u32,
-            };
-            seat_point(lines[i].name, seat, pairs, groups)?;
-        }
+        seat_line(&lines[i], i as u32, pairs, groups)?;
     }
     Ok(())
+}
+
+// Gives the point of that number its seat, if it is on a net.
+fn seat_line(
+    line: &PointLine,
+    probe: u32,
+    pairs: &mut IndexSet<(u32, u32)>,
+    groups: &mut [Rows<Seat>],
+) -> Result<(), NoMemory>
+    requires name { line.now.name < length groups.old }
+    requires agree { AreSeated pairs.old.keys groups.old }
+    ensures agree { OnOk result (AreSeated pairs.new.keys groups.new) }
+    ensures seated { OnOk result (IsSeated line.now probe groups.old groups.new) }
+{
+    match line.net {
+        None => Ok(()),
+        Some(net) => seat_point(line.name, Seat { net, probe }, pairs, groups),
+    }
 }
 
 // Gives a point its seat, if no point of its name has one on its net.
