@@ -15,7 +15,7 @@ returns-in-Unflat-clause-line g c =
     subst (λ why. RefusesFor (asked c.args.command) why 3 (Says g.N.Sink.got g.N.Sink.faults c.args.notes.now c.refused_at_byte.new.notes)) (sym c.in-Unflat.is) (
       refl,
       subst (λ (z : List ℕ). Says g.N.Sink.got g.N.Sink.faults c.args.notes.now c.refused_at_byte.new.notes (flatten_line z c.in-Unflat.kind c.in-Unflat.command c.in-Unflat.at)) (c.as_bytes-in-Unflat.ensures.value ∙ c.subject-file.ensures)
-          (rw (← c.number.ensures, ← c.name.ensures) c.refused_at_byte.ensures),
+          (rw (← c.number.ensures.number, ← c.name.ensures.name) c.refused_at_byte.ensures),
     )
 
 pub returns-in-BoundTooLarge-clause-line : goal.returns-in-BoundTooLarge-clause-line
