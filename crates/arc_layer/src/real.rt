@@ -22,7 +22,7 @@ use area_contact::Area;
 use board_shapes::{MOST_LAYERS, Piece, Placed, Shape};
 use contact::Capsule;
 use gerber_layer::laws::one_loose_answer;
-use gerber_layer::{FlattenFault, FlattenKind, Loose, Place, read_layer};
+use gerber_layer::{FlattenFault, FlattenKind, Loose, Place, read_by};
 use gerber_words::laws::words_lie_ahead;
 use planar::Spot;
 use real_shapes::{RealPiece, RealShape};
@@ -293,7 +293,7 @@ fn first_fault(straight: FlattenFault, marks: Result<Marks, RealFault>) -> RealF
 
 /// The real copper of a layer, in the order of the commands that make it; all lengths are in u, a tenth of
 /// a nanometre. A draw under `G02` or `G03` is its arc, a vector line of a macro that runs along no axis its
-/// rectangle, and each other piece what `read_layer::<Loose>` has.
+/// rectangle, and each other piece what `read_by::<Loose>` has.
 ///
 /// `Refused` is the first command with a
 /// fault, also of an arc, and the first condition of its row that holds; want of memory is `NoMemory`.
@@ -308,7 +308,7 @@ pub fn read_real(alloc: Global, file: &[u8], place: Place) -> Result<Vec<RealPie
 {
     words_lie_ahead();
     one_loose_answer();
-    let straight = read_layer::<Loose>(alloc, file, place);
+    let straight = read_by::<Loose>(alloc, file, place);
     let marks = read_marks(alloc, file);
     match straight {
         Ok(pieces) => match marks {

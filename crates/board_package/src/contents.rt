@@ -10,7 +10,7 @@ use crate::fault::{BuildFault, refused};
 use crate::parts::{Parts, room_left};
 use board_shapes::Shape;
 use file_reading::RefusalKind;
-use gerber_layer::{GerberKind, LayerFault, Place, Plain, read_layer};
+use gerber_layer::{GerberKind, LayerFault, read_layer};
 use ipc356_records::{RecordFault, RecordKind, read_netlist};
 use std::alloc::Global;
 use texts::MOST_BYTES;
@@ -79,20 +79,13 @@ pub fn read_file(
 {
     let room = room_left(parts.pieces.as_slice());
     match entry.role {
-        Role::Copper { layer } => {
-            let place = Place {
-                layer,
-                file: entry.number,
-                room,
-            };
-            match read_layer::<Plain>(alloc, file, place) {
-                Ok(pieces) => parts.add(pieces),
-                Err(LayerFault::Refused { kind, command, at }) => {
-                    Err(refused(&entry.name, Refusal::Layer { kind, command, at }))
-                }
-                Err(LayerFault::NoMemory) => Err(BuildFault::NoMemory),
+        Role::Copper { layer } => match read_layer(alloc, file, layer, entry.number, room) {
+            Ok(pieces) => parts.add(pieces),
+            Err(LayerFault::Refused { kind, command, at }) => {
+                Err(refused(&entry.name, Refusal::Layer { kind, command, at }))
             }
-        }
+            Err(LayerFault::NoMemory) => Err(BuildFault::NoMemory),
+        },
         Role::Drill { from, to } => {
             match read_drill(alloc, file, Span { from, to }, entry.number, room) {
                 Ok(pieces) => parts.add(pieces),

@@ -1,19 +1,15 @@
 // Copper files, and what they are flattened to.
 use board_shapes::{MOST_PIECES, Room};
-use gerber_layer::{MOST_FLAT_EDGES, Place, Plain, read_layer};
+use gerber_layer::{MOST_FLAT_EDGES, read_layer};
 use macro_flatten::write_flat;
 use std::alloc::Global;
 use std::test::Fail;
 use texts::MOST_BYTES;
 
-/// The place and the room of every row.
-const PLACE: Place = Place {
-    layer: 1,
-    file: 0,
-    room: Room {
-        pieces: MOST_PIECES,
-        edges: MOST_FLAT_EDGES,
-    },
+/// The room of every row.
+const ROOM: Room = Room {
+    pieces: MOST_PIECES,
+    edges: MOST_FLAT_EDGES,
 };
 
 /// Copper files and their flattened texts.
@@ -47,7 +43,7 @@ fn flattened(alloc: Global, file: &[u8]) -> Result<Vec<u8>, Fail> {
     if file.len() > MOST_BYTES {
         return Err("the file is too long".into());
     }
-    match read_layer::<Plain>(alloc, file, PLACE) {
+    match read_layer(alloc, file, 1, 0, ROOM) {
         Ok(pieces) => match write_flat(alloc, &pieces) {
             Ok(text) => Ok(text),
             Err(_) => Err("memory is wanted".into()),

@@ -6,7 +6,7 @@ mod straight;
 
 use board_shapes::{MOST_LAYERS, Piece, Room, Shape};
 use file_reading::RefusalKind;
-use gerber_layer::{LayerFault, Place, Plain, read_layer};
+use gerber_layer::{LayerFault, Place, read_layer};
 use std::alloc::{AllocError, Global};
 use std::fmt::Write;
 use std::test::Fail;
@@ -150,9 +150,7 @@ pub fn told(alloc: Global, layer: u8, file: &[u8]) -> Result<String, AllocError>
     if layer < 1 || layer > MOST_LAYERS || file.len() > MOST_BYTES {
         return String::from_str(alloc, "no layer");
     }
-    let mut place = PLACE;
-    place.layer = layer;
-    match read_layer::<Plain>(alloc, file, place) {
+    match read_layer(alloc, file, layer, PLACE.file, PLACE.room) {
         Ok(pieces) => image(alloc, &pieces),
         Err(LayerFault::NoMemory) => String::from_str(alloc, "no memory"),
         Err(LayerFault::Refused { kind, command, at }) => {

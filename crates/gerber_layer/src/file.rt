@@ -61,7 +61,7 @@ fn finished<'a, D: Dialect>(
 ///
 /// `Refused` is the first command with a fault, and the first condition of its row that holds; want of memory is
 /// `NoMemory`. The file has at most `MOST_BYTES` bytes.
-pub fn read_layer<D: Dialect>(
+pub fn read_by<D: Dialect>(
     alloc: Global,
     file: &[u8],
     place: Place,

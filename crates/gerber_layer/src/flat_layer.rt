@@ -5,7 +5,7 @@ ghost use Rattle.gerber_layer.specs.MacroLayer.{IsMacroFault, IsReadWithMacros};
 
 use crate::MOST_FLAT_EDGES;
 use crate::dialect::WithMacros;
-use crate::file::read_layer;
+use crate::file::read_by;
 use crate::macro_kind::FlattenFault;
 use crate::place::Place;
 use board_shapes::{MOST_PIECES, Piece, Room};
@@ -13,7 +13,7 @@ use std::alloc::Global;
 use texts::MOST_BYTES;
 
 /// The pieces of a copper file that may have aperture macros (Gerber Layer Format Specification,
-/// 4.5), as `read_layer` has them. A flash of a macro makes a piece for each of its primitives that has an image. The file's
+/// 4.5), as `read_by` has them. A flash of a macro makes a piece for each of its primitives that has an image. The file's
 /// function is any.
 ///
 /// The pieces stand on layer 1 of file 0; at most `MOST_PIECES` pieces with `MOST_FLAT_EDGES` edges in all come.
@@ -32,5 +32,5 @@ pub fn read_flat(alloc: Global, file: &[u8]) -> Result<Vec<Piece>, FlattenFault>
         file: 0,
         room,
     };
-    read_layer::<WithMacros>(alloc, file, place)
+    read_by::<WithMacros>(alloc, file, place)
 }

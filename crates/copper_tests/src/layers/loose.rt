@@ -2,7 +2,7 @@
 use crate::layers::image;
 use board_shapes::Room;
 use file_reading::RefusalKind;
-use gerber_layer::{FlattenFault, Loose, Place, read_layer};
+use gerber_layer::{FlattenFault, Loose, Place, read_by};
 use std::alloc::{AllocError, Global};
 use std::test::Fail;
 use texts::MOST_BYTES;
@@ -25,7 +25,7 @@ fn told_loosely(alloc: Global, words: &str) -> Result<String, AllocError> {
         file: 0,
         room,
     };
-    match read_layer::<Loose>(alloc, file.as_bytes(), place) {
+    match read_by::<Loose>(alloc, file.as_bytes(), place) {
         Ok(pieces) => image(alloc, &pieces),
         Err(FlattenFault::NoMemory) => String::from_str(alloc, "no memory"),
         Err(FlattenFault::Refused { kind, command, at }) => {

@@ -1,7 +1,7 @@
 // Files in which draws may be arcs, and what they are read as where these are straight.
 use crate::layers::{PLACE, image};
 use file_reading::RefusalKind;
-use gerber_layer::{FlattenFault, Loose, read_layer};
+use gerber_layer::{FlattenFault, Loose, read_by};
 use std::alloc::{AllocError, Global};
 use std::test::Fail;
 use texts::MOST_BYTES;
@@ -13,7 +13,7 @@ fn told_straight(alloc: Global, words: &str) -> Result<String, AllocError> {
     if file.len() > MOST_BYTES {
         return String::from_str(alloc, "too long");
     }
-    match read_layer::<Loose>(alloc, file.as_bytes(), PLACE) {
+    match read_by::<Loose>(alloc, file.as_bytes(), PLACE) {
         Ok(pieces) => image(alloc, &pieces),
         Err(FlattenFault::NoMemory) => String::from_str(alloc, "no memory"),
         Err(FlattenFault::Refused { kind, command, at }) => {

@@ -2,7 +2,7 @@ use Rattle.std.proofs.Common.{◌+◌, ◌≤◌, length}
 use Rattle.gerber_words.specs.Stepping.{ahead}
 use Rattle.gerber_layer.specs.Reader.{IsLawfulReader}
 use Rattle.gerber_layer.proofs.ReadSoFar.{ReadSoFar}
-use Rattle.gerber_layer.proofs.file.read_layer.Given as goal
+use Rattle.gerber_layer.proofs.file.read_by.Given as goal
 
 abbrev pub invariant-loop-word : goal.invariant-loop-word
 invariant-loop-word g l = record {

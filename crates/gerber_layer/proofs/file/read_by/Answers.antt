@@ -4,7 +4,7 @@ use Rattle.gerber_words.specs.Words.{Ahead, start, ended, broken}
 use Rattle.gerber_words.specs.Stepping.{ahead, entry_of}
 use Rattle.gerber_layer.proofs.Placing.{layers_read}
 use Rattle.gerber_layer.proofs.ReadSoFar.{ReadSoFar, nothing-read, word-read, stop-read, stopped-at-stop, stopped-at-word}
-use Rattle.gerber_layer.proofs.file.read_layer.Goals as goal
+use Rattle.gerber_layer.proofs.file.read_by.Goals as goal
 
 pub loop-word-init : goal.loop-word-init
 loop-word-init g c =
