@@ -128,6 +128,7 @@ impl Dialect for Loose {
         alloc: Global,
         command: &Command<'a>,
     ) -> Result<(), Halt<FlattenKind>> {
+        // Most commands have the row of a file without macros, by fewer steps.
         if !is_of_macros(command) {
             return match Plain::obey(reader, alloc, command) {
                 Ok(()) => Ok(()),
