@@ -31,7 +31,7 @@ pub struct Answer {
 }
 
 /// What the line about an answer says.
-#[derive(Clone, Copy, Debug, PartialEq, Eq)]
+#[derive(Clone, Copy)]
 pub enum Note {
     Agrees,
     Differs {
@@ -153,7 +153,7 @@ impl Note {
 }
 
 /// Why a command has no answer.
-#[derive(Debug, Drop)]
+#[derive(Drop)]
 pub enum Unanswered {
     /// The package, or the report behind it, is refused or cannot be read, or memory is wanted.
     Stopped(BuildFault),

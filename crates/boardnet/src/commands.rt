@@ -4,7 +4,7 @@ ghost use Rattle.boardnet.specs.Command.{asked};
 ghost use Rattle.boardnet.specs.Ends.{HasNames};
 ghost use Rattle.boardnet.specs.HandedOutcome.{WorksOn};
 ghost use Rattle.boardnet.specs.Kept.{Leaves, LeftBy, Spares};
-ghost use Rattle.boardnet.specs.Words.{CanAsk, Command as Asked, SpelledAsk, Trial};
+ghost use Rattle.boardnet.specs.Words.{CanAsk, Command as Asked, IsText, SpelledAsk, Trial};
 ghost use Rattle.std.specs.Prelude.{IfNone, IfSome, [], ℕ, ◌∷◌, ◌≡◌};
 
 pub mod audit;
@@ -110,9 +110,19 @@ pub fn of_name<'a>(command: &str, name: &'a str) -> Option<Command<'a>>
     ensures some { IfSome result (λ given. SpelledAsk (command.now ∷ name.now ∷ []) (asked given)) }
     ensures none { IfNone result ((given : Asked) → CanAsk (command.now ∷ name.now ∷ []) given → ⊥) }
 {
-    if !is_text(name.as_bytes()) {
-        return None;
+    if is_text(name.as_bytes()) {
+        of_text(command, name)
+    } else {
+        None
     }
+}
+
+// The same of a name that is a text.
+fn of_text<'a>(command: &str, name: &'a str) -> Option<Command<'a>>
+    requires { IsText name.now }
+    ensures some { IfSome result (λ given. SpelledAsk (command.now ∷ name.now ∷ []) (asked given)) }
+    ensures none { IfNone result ((given : Asked) → CanAsk (command.now ∷ name.now ∷ []) given → ⊥) }
+{
     match command {
         "check" => {
             Some(Command::Check {

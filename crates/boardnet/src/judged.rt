@@ -38,8 +38,10 @@ pub fn board_of<P: Package>(
     ensures handed { BuildsHanded P.handed P.faults P.lost manifest.now «package».old «package».new result }
     ensures limits { IfOk result (λ board. IsWithinLimits (plain_board board)) }
 {
-    let name = name_of(alloc, manifest)?;
-    build(alloc, &name, package)
+    match name_of(alloc, manifest) {
+        Ok(name) => build(alloc, &name, package),
+        Err(_) => Err(BuildFault::NoMemory),
+    }
 }
 
 /// The report of a version on a board.

@@ -11,7 +11,7 @@ use board_shapes::Origin;
 use texts::Numeral;
 
 /// Why two boards are no bounds of a real one.
-#[derive(Clone, Copy, Debug, PartialEq, Eq)]
+#[derive(Clone, Copy)]
 pub enum Unbound {
     /// The line of that number, from 1, of the file of counts is of another form.
     NotCounts(usize),

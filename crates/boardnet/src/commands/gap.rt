@@ -2,11 +2,12 @@
 ghost use Rattle.board_shapes.specs.Plain.{plain_board};
 ghost use Rattle.boardnet.specs.Command.{asked};
 ghost use Rattle.boardnet.specs.Answers.{IsUngapped, line_of, status_of};
-ghost use Rattle.boardnet.specs.Gapped.{IsGapListOn};
+ghost use Rattle.boardnet.specs.Gapped.{IsGapListOn, IsGapStatus};
 ghost use Rattle.boardnet.specs.HandedOutcome.{WorksOn};
 ghost use Rattle.boardnet.specs.Kept.{Leaves, LeftBy, Spares};
 ghost use Rattle.boardnet.specs.Words.{Gaps, IsText};
-ghost use Rattle.std.specs.Prelude.{IfErr, IfNone, IfOk, IfSome, decimal, ℕ, ◌≡◌, ◌≤◌};
+ghost use Rattle.gaps.specs.GapsText.{gaps_text};
+ghost use Rattle.std.specs.Prelude.{IfErr, IfNone, IfOk, IfSome, decimal, length, ℕ, ◌≡◌, ◌≤◌};
 
 use crate::answer::{Answer, Answered, Note};
 use crate::commands::Command;
@@ -14,7 +15,8 @@ use crate::judged::{board_of, verdict_on};
 use crate::words::count_of;
 use board_io::Package;
 use board_shapes::Board;
-use gaps::{GapFault, gaps, write_gaps};
+use gaps::{Gap, GapFault, gaps, write_gaps};
+use lengths::rows::NoMemory;
 use lengths::text::is_text;
 use std::alloc::Global;
 
@@ -65,7 +67,16 @@ fn gap_list_on(alloc: Global, board: &Board, nanometres: u32) -> Result<Answer, 
 {
     let verdict = verdict_on(alloc, board)?;
     let list = gaps(alloc, board, &verdict.nets, nanometres)?;
-    let text = write_gaps(alloc, nanometres, list.as_slice())?;
-    let note = Note::gaps(list.as_slice().len());
+    let answer = listed(alloc, nanometres, list.as_slice())?;
+    Ok(answer)
+}
+
+// The answer that lists these gaps.
+fn listed(alloc: Global, nanometres: u32, list: &[Gap]) -> Result<Answer, NoMemory>
+    ensures text { IfOk result (λ answer. answer.text.items ≡ gaps_text nanometres list.now) }
+    ensures status { IfOk result (λ answer. IsGapStatus (length list.now) (status_of answer.note) (line_of answer.note)) }
+{
+    let text = write_gaps(alloc, nanometres, list)?;
+    let note = Note::gaps(list.len());
     Ok(Answer { text, note })
 }
