@@ -1,8 +1,7 @@
 //! The fields of a report: fixed words and numbers, each read from the front of the bytes.
-ghost use Rattle.std.specs.Prelude.{◌≡◌, ◌<◌, ◌≤◌, ◌^◌, [], ◌∷◌, IfErr, IfSome, List, Option, Some, decimal, length, take, true};
-ghost use Rattle.std.specs.List.{list_all, prefix_len};
+ghost use Rattle.std.specs.Prelude.{◌≡◌, ◌<◌, [], ◌∷◌, IfErr, IfSome, Option, Some, decimal, true};
+ghost use Rattle.std.specs.List.{list_all};
 ghost use Rattle.std.specs.Option.{option_map};
-ghost use Rattle.std.specs.Str.Parse.{digits_value};
 ghost use Rattle.texts.specs.Digits.{is_decimal_digit};
 ghost use Rattle.verdict.specs.ReportReading as spec;
 
@@ -64,11 +63,7 @@ const FRONT: usize = 11;
 // How many digits stand in front, and their value where they are at most 18. A front of known length is asked first: it needs no
 // test at each byte whether one is there.
 fn leading(bytes: &[u8]) -> (usize, u64)
-    ensures len { result.0 ≡ prefix_len is_decimal_digit bytes.now }
-    ensures within { result.0 ≤ length bytes.now }
-    ensures digits { list_all is_decimal_digit (take result.0 bytes.now) ≡ true }
-    ensures value { result.0 ≤ 18 → result.1 ≡ digits_value 10 (take result.0 bytes.now) }
-    ensures bound { result.0 ≤ 18 → result.1 < 10 ^ 18 }
+    ensures { spec.IsRun bytes.now result.0 result.1 }
 {
     if bytes.len() >= FRONT {
         let (len, value) = run(&bytes[..FRONT]);
@@ -83,11 +78,7 @@ fn leading(bytes: &[u8]) -> (usize, u64)
 #[cold]
 #[inline(never)]
 fn long_run(bytes: &[u8]) -> (usize, u64)
-    ensures len { result.0 ≡ prefix_len is_decimal_digit bytes.now }
-    ensures within { result.0 ≤ length bytes.now }
-    ensures digits { list_all is_decimal_digit (take result.0 bytes.now) ≡ true }
-    ensures value { result.0 ≤ 18 → result.1 ≡ digits_value 10 (take result.0 bytes.now) }
-    ensures bound { result.0 ≤ 18 → result.1 < 10 ^ 18 }
+    ensures { spec.IsRun bytes.now result.0 result.1 }
 {
     run(bytes)
 }
@@ -95,11 +86,7 @@ fn long_run(bytes: &[u8]) -> (usize, u64)
 // The same, to be inlined where the length is known.
 #[inline(always)]
 fn run(bytes: &[u8]) -> (usize, u64)
-    ensures len { result.0 ≡ prefix_len is_decimal_digit bytes.now }
-    ensures within { result.0 ≤ length bytes.now }
-    ensures digits { list_all is_decimal_digit (take result.0 bytes.now) ≡ true }
-    ensures value { result.0 ≤ 18 → result.1 ≡ digits_value 10 (take result.0 bytes.now) }
-    ensures bound { result.0 ≤ 18 → result.1 < 10 ^ 18 }
+    ensures { spec.IsRun bytes.now result.0 result.1 }
 {
     let mut value: u64 = 0;
     for (i, byte) in bytes.iter().enumerate() {

@@ -1,4 +1,6 @@
-use Rattle.std.proofs.Common.{◌≡◌, ◌∙◌, ◌+◌, ◌*◌, ◌^◌, ◌<◌, ◌%◌, ℕ, List, ap, arith, get_or, length, sym, true}
+use Rattle.std.proofs.Common.{◌≡◌, ◌∙◌, ◌+◌, ◌*◌, ◌^◌, ◌<◌, ◌%◌, ℕ, List, ap, arith, get_or, length, subst, sym, take, true}
+use Rattle.std.specs.List.{list_all}
+use Rattle.std.specs.Str.Parse.{digits_value}
 use Rattle.std.proofs.Math.Nat.{mod-eq_of_lt}
 use Rattle.std.specs.Char.{is_digit}
 use Rattle.lengths.proofs.Digits.{digit_of, digits_more, digits_value_after-more, eighteen_fit, room}
@@ -6,11 +8,14 @@ use Rattle.texts.proofs.Runs.{prefix_len_at}
 use Rattle.texts.specs.Digits.{is_decimal_digit}
 use Rattle.verdict.proofs.fields.run.Goals as goal
 
-pub returns-then-not-is_digit-clause-len : goal.returns-then-not-is_digit-clause-len
-returns-then-not-is_digit-clause-len c = sym (prefix_len_at is_decimal_digit c.args.bytes.now c.loop-i.i c.loop-i.invariant.0 (omega arith) (λ below. sym c.is_digit.ensures ∙ c.if-not-is_digit.true))
-
-pub returns-then-not-is_digit-clause-bound : goal.returns-then-not-is_digit-clause-bound
-returns-then-not-is_digit-clause-bound c = λ few. let fits = eighteen_fit c.loop-i.i few in omega (arith, fits, (c.loop-i.invariant.1 few).1)
+pub returns-then-not-is_digit : goal.returns-then-not-is_digit
+returns-then-not-is_digit c = record {
+  long = sym (prefix_len_at is_decimal_digit c.args.bytes.now c.loop-i.i c.loop-i.invariant.0 (omega arith) (λ below. sym c.is_digit.ensures ∙ c.if-not-is_digit.true));
+  within = omega arith;
+  digits = c.loop-i.invariant.0;
+  worth = λ few. (c.loop-i.invariant.1 few).0;
+  small = λ few. let fits = eighteen_fit c.loop-i.i few in omega (arith, fits, (c.loop-i.invariant.1 few).1);
+}
 
 pub loop-i-preserved : goal.loop-i-preserved
 loop-i-preserved c =
@@ -30,10 +35,15 @@ loop-i-preserved c =
           (kept ∙ omega (arith, more, d, was.0, from), omega (arith, h, d, from, kept)),
     )
 
-pub returns-clause-len : goal.returns-clause-len
-returns-clause-len c =
-    let end : c.loop-i.i ≡ length c.args.bytes.now = omega arith in
-    sym (prefix_len_at is_decimal_digit c.args.bytes.now (length c.args.bytes.now) (rw end at c.loop-i.invariant.0) (omega arith) (λ below. absurd (omega arith)))
-
-pub returns-clause-bound : goal.returns-clause-bound
-returns-clause-bound c = λ few. let fits = eighteen_fit c.loop-i.i (omega arith) in omega (arith, fits, (c.loop-i.invariant.1 (omega arith)).1)
+pub returns : goal.returns
+returns c =
+    let xs : List ℕ = c.args.bytes.now in
+    let end : c.loop-i.i ≡ length xs = omega arith in
+    let digits : list_all is_decimal_digit (take (length xs) xs) ≡ true = rw end at c.loop-i.invariant.0 in
+    record {
+      long = sym (prefix_len_at is_decimal_digit xs (length xs) digits (omega arith) (λ below. absurd (omega arith)));
+      within = omega arith;
+      digits = digits;
+      worth = λ few. subst (λ (k : ℕ). c.loop-i.value ≡ digits_value 10 (take k xs)) end (c.loop-i.invariant.1 (omega (arith, few, end))).0;
+      small = λ few. let fits = eighteen_fit c.loop-i.i (omega (arith, few, end)) in omega (arith, fits, (c.loop-i.invariant.1 (omega (arith, few, end))).1);
+    }
