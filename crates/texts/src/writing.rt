@@ -29,10 +29,13 @@ pub fn put_signed(text: &mut Vec<u8>, z: i64) -> Result<(), AllocError>
     put(text, Numeral::signed(z).as_bytes())
 }
 
-/// Puts a blank and a number.
+/// Puts a blank and a number. Most numbers of a report's sources have one digit, so that has a way of its own.
 pub fn put_blank_number(text: &mut Vec<u8>, n: u64) -> Result<(), AllocError>
     ensures { OnOk result (text.new.items ≡ text.old.items ++ (32 ∷ decimal n)) }
 {
+    if n < 10 {
+        return put(text, &[b' ', b'0' + n as u8]);
+    }
     put(text, Numeral::behind(b' ', n).as_bytes())
 }
 

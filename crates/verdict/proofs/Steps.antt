@@ -1,5 +1,5 @@
 -- Steps of reading, and the fields of a report: what is read stood in front, and what stands in front is read.
-use Rattle.std.proofs.Common.{◌≡◌, ℕ, ◌+◌, ◌-◌, ◌^◌, ◌<◌, Bool, true, false, not, ◌&&◌, ◌||◌, cond, eqb, ltb, leb, List, [], ◌∷◌, ◌++◌, length, take, drop, get_or, Option, Some, None, Result, Ok, Err, refl, sym, ap, subst, ◌∙◌, append_assoc, arith, rules, inl, inr}
+use Rattle.std.proofs.Common.{◌≡◌, ℕ, zero, suc, ◌+◌, ◌-◌, ◌^◌, ◌<◌, Bool, true, false, not, ◌&&◌, ◌||◌, cond, eqb, ltb, leb, List, [], ◌∷◌, ◌++◌, length, take, drop, get_or, Option, Some, None, Result, Ok, Err, refl, sym, ap, subst, ◌∙◌, append_assoc, arith, rules, inl, inr}
 use Rattle.std.specs.Prelude.{decimal}
 use Rattle.std.specs.Cmp.Lexicographic.{pointwise}
 use Rattle.std.specs.List.{list_all, list_any, prefix_len, take_while, before_first, after_first, position_or_len, AllByRecursion}
@@ -7,7 +7,7 @@ use Rattle.std.specs.Result.{OkIff, result_ok}
 use Rattle.std.specs.Str.Parse.{digits_value, ParsesUnsigned}
 use Rattle.std.proofs.lemmas.Bool.{cases_lt, ltb-true, lt-ltb, le-ltb, leb-true, le-leb, eq-eqb, eqb-true}
 use Rattle.std.proofs.lemmas.Fmt.{decimal_digit, decimal_nonempty, first_decimal, decimal-digits_value, digits_value-decimal, digits_decimal}
-use Rattle.std.proofs.lemmas.List.{take_at, drop_at, take-append-drop, length-append}
+use Rattle.std.proofs.lemmas.List.{take_at, drop_at, take-append-drop, take-take, length-append, length-take}
 use Rattle.std.proofs.lemmas.List.Elements.{All-from_recursion, recursion_from_All}
 use Rattle.std.proofs.lemmas.List.Sums.{take_while-cons, split_at_first, passes_at_first}
 use Rattle.std.proofs.lemmas.Slice.Eq.{bytes_eq-Decides}
@@ -16,7 +16,7 @@ use Rattle.lengths.proofs.Digits.{digit_of}
 use Rattle.lengths.specs.declared.TheConstants.{MOST_NAME_BYTES}
 use Rattle.texts.specs.Digits.{is_decimal_digit}
 use Rattle.lengths.specs.Text.{IsPrintable, IsText}
-use Rattle.verdict.specs.ReportReading.{◌>>=◌, behind, run_of, is_numeral, value_of, wide_at, number_at, word_at, layer_at, count_at, is_feed, is_name, text_at, starts}
+use Rattle.verdict.specs.ReportReading.{◌>>=◌, behind, run_of, is_numeral, value_of, wide_at, number_at, word_at, layer_at, count_at, is_feed, is_name, text_at, starts, IsRun}
 use Rattle.verdict.specs.ReportText.{word, end}
 
 -- the value of a step that did not fail
@@ -118,6 +118,32 @@ parsed ds (Err e) h some =
 
 pub parsed_text : {E : Type 0} (ds bs : List ℕ) (r : Result ℕ E) → bs ≡ ds → list_all is_decimal_digit ds ≡ true → is_numeral ds ≡ true → ParsesUnsigned 64 10 bs r → result_ok r ≡ value_of ds
 parsed_text ds bs r e digits some h = parsed ds r (parse_digits own 64 ds r (subst (λ (t : List ℕ). ParsesUnsigned 64 10 t r) e h) digits) (numeral_parts ds some).0
+
+-- a run that ends within a front ends there in the whole
+front_run : (p : ℕ → Bool) (k : ℕ) (xs : List ℕ) → prefix_len p (take k xs) < k → prefix_len p xs ≡ prefix_len p (take k xs)
+front_run p zero xs low = absurd (omega (arith, low))
+front_run p (suc k) [] low = refl
+front_run p (suc k) (x ∷ xs) low = by (p x) refl (λ below. front_run p k xs below)
+  where
+    by : (b : Bool) → p x ≡ b → (prefix_len p (take k xs) < k → prefix_len p xs ≡ prefix_len p (take k xs)) → prefix_len p (x ∷ xs) ≡ prefix_len p (x ∷ take k xs)
+    by false e more = rw e refl
+    by true e more =
+        let below : prefix_len p (take k xs) < k = let l = rw e at low in omega (arith, l) in
+        let same : prefix_len p xs ≡ prefix_len p (take k xs) = more below in
+        rw (e, same) refl
+
+pub run_in_front : (bytes : List ℕ) (k len value : ℕ) → len < k → IsRun (take k bytes) len value → IsRun bytes len value
+run_in_front bytes k len value low r =
+    let e = r.long in
+    let within = r.within in
+    let same : take len (take k bytes) ≡ take len bytes = take-take len k bytes (omega (arith, low)) in
+    record {
+      long = e ∙ sym (front_run is_decimal_digit k bytes (omega (arith, e, low)));
+      within = omega (arith, within, length-take k bytes);
+      digits = ap (list_all is_decimal_digit) (sym same) ∙ r.digits;
+      worth = λ few. r.worth few ∙ ap (digits_value 10) same;
+      small = r.small;
+    }
 
 -- at most 18 digits in front are a number
 pub wide_is : (bytes digits rest : List ℕ) (len value : ℕ) → len ≡ prefix_len is_decimal_digit bytes → digits ≡ take len bytes → rest ≡ drop len bytes → is_numeral digits ≡ true → value ≡ digits_value 10 (take len bytes) → value < 10 ^ 18 → wide_at bytes ≡ Some (value, rest)

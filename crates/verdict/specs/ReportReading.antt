@@ -1,7 +1,7 @@
 -- Reading the text of a verdict from left to right: what stands in front, and the bytes behind it, or nothing where
 -- the bytes are no such text. Only contracts of fields and private ones cite it: that it reads the texts of verdicts and
 -- nothing else is proved over report_text (proofs/ReadReport).
-use Rattle.std.specs.Prelude.{◌≡◌, ℕ, zero, suc, ◌+◌, ◌^◌, ℤ, pos, negsuc, nat_lt, nat_le, Bool, true, false, not, ◌&&◌, ◌==◌, if◌then◌else◌, List, [], ◌∷◌, ◌++◌, length, take, drop, Option, Some, None, Result, Ok, Err, codes, decimal}
+use Rattle.std.specs.Prelude.{◌≡◌, ℕ, zero, suc, ◌+◌, ◌^◌, ◌<◌, ◌≤◌, ℤ, pos, negsuc, nat_lt, nat_le, Bool, true, false, not, ◌&&◌, ◌==◌, if◌then◌else◌, List, [], ◌∷◌, ◌++◌, length, take, drop, Option, Some, None, Result, Ok, Err, codes, decimal}
 use Rattle.std.specs.Cmp.Lexicographic.{pointwise}
 use Rattle.std.specs.List.{after_first, before_first, list_all, list_any, prefix_len, take_while}
 use Rattle.std.specs.Str.Parse.{digits_value}
@@ -46,6 +46,14 @@ behind front bytes = if pointwise ◌==◌ (take (length front) bytes) front the
 -- the digits in front
 abbrev pub run_of : List ℕ → List ℕ
 run_of bytes = take_while is_decimal_digit bytes
+
+-- how many digits stand in front, and their value where they are at most 18
+pub record IsRun (bytes : List ℕ) (len value : ℕ) : Type 0 where
+  pub long : len ≡ prefix_len is_decimal_digit bytes
+  pub within : len ≤ length bytes
+  pub digits : list_all is_decimal_digit (take len bytes) ≡ true
+  pub worth : len ≤ 18 → value ≡ digits_value 10 (take len bytes)
+  pub small : len ≤ 18 → value < 10 ^ 18
 
 -- no zero leads a number but 0 itself
 abbrev pub is_numeral : List ℕ → Bool

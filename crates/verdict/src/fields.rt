@@ -1,8 +1,7 @@
 //! The fields of a report: fixed words and numbers, each read from the front of the bytes.
-ghost use Rattle.std.specs.Prelude.{◌≡◌, ◌<◌, ◌≤◌, ◌^◌, [], ◌∷◌, IfErr, IfSome, List, Option, Some, decimal, length, take, true};
-ghost use Rattle.std.specs.List.{list_all, prefix_len};
+ghost use Rattle.std.specs.Prelude.{◌≡◌, ◌<◌, [], ◌∷◌, IfErr, IfSome, Option, Some, decimal, true};
+ghost use Rattle.std.specs.List.{list_all};
 ghost use Rattle.std.specs.Option.{option_map};
-ghost use Rattle.std.specs.Str.Parse.{digits_value};
 ghost use Rattle.texts.specs.Digits.{is_decimal_digit};
 ghost use Rattle.verdict.specs.ReportReading as spec;
 
@@ -58,13 +57,36 @@ pub fn line_end<T: Drop>(item: T, bytes: &[u8]) -> Result<(T, &[u8]), ReadFault>
     Ok((item, rest))
 }
 
-// How many digits stand in front, and their value where they are at most 18.
+// So many bytes have room for most numbers, and a byte behind them.
+const FRONT: usize = 11;
+
+// How many digits stand in front, and their value where they are at most 18. A front of known length is asked first: it needs no
+// test at each byte whether one is there.
 fn leading(bytes: &[u8]) -> (usize, u64)
-    ensures len { result.0 ≡ prefix_len is_decimal_digit bytes.now }
-    ensures within { result.0 ≤ length bytes.now }
-    ensures digits { list_all is_decimal_digit (take result.0 bytes.now) ≡ true }
-    ensures value { result.0 ≤ 18 → result.1 ≡ digits_value 10 (take result.0 bytes.now) }
-    ensures bound { result.0 ≤ 18 → result.1 < 10 ^ 18 }
+    ensures { spec.IsRun bytes.now result.0 result.1 }
+{
+    if bytes.len() >= FRONT {
+        let (len, value) = run(&bytes[..FRONT]);
+        if len < FRONT {
+            return (len, value);
+        }
+    }
+    long_run(bytes)
+}
+
+// The same by a test at each byte.
+#[cold]
+#[inline(never)]
+fn long_run(bytes: &[u8]) -> (usize, u64)
+    ensures { spec.IsRun bytes.now result.0 result.1 }
+{
+    run(bytes)
+}
+
+// The same, to be inlined where the length is known.
+#[inline(always)]
+fn run(bytes: &[u8]) -> (usize, u64)
+    ensures { spec.IsRun bytes.now result.0 result.1 }
 {
     let mut value: u64 = 0;
     for (i, byte) in bytes.iter().enumerate() {
@@ -192,8 +214,17 @@ pub fn short_word(bytes: &[u8]) -> Result<(u32, &[u8]), ReadFault>
 {
     match short(bytes) {
         Some((n, rest)) => Ok((u32::from(n), rest)),
-        None => word(bytes),
+        None => long_word(bytes),
     }
+}
+
+// The same of any number of digits.
+#[cold]
+#[inline(never)]
+fn long_word(bytes: &[u8]) -> Result<(u32, &[u8]), ReadFault>
+    ensures { spec.Gives (λ x. (x.0, x.1.now)) result (spec.word_at bytes.now) }
+{
+    word(bytes)
 }
 
 /// A title, a number below 2^32 and the end of the line.

@@ -11,7 +11,7 @@ returns-then-not-begins_blank g c =
 
 pub returns-in_err-word : goal.returns-in_err-word
 returns-in_err-word g c =
-    let p = err_from_is_err_and c.from_residual.result c.from_residual.ensures.1 in
+    let p = err_from_is_err_and c.from_residual-in_err-word.result c.from_residual-in_err-word.ensures.1 in
     let blank : begins_blank c.loop.rest.now ≡ true = search rules in
     rw (p.1, p.2) (words_end g.T.Word.at c.in_err-word.field-0.0 c.loop.words (length c.args.bytes.now) c.loop.counter c.loop.rest.now (words_at g.T.Word.at (length c.args.bytes.now) c.args.bytes.now) c.loop-test.true blank c.in_err-word.ensures c.loop.invariant)
 
