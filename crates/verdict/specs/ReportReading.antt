@@ -85,7 +85,11 @@ word_at bytes = do
   rest ← behind (32 ∷ []) bytes
   number_at rest
 
--- and one below 2^8
+-- three such numbers in a row, and what follows from them and the bytes behind
+abbrev pub with_words : {X : Type 0} → List ℕ → (ℕ → ℕ → ℕ → List ℕ → Option X) → Option X
+with_words bytes make = word_at bytes >>= λ a. word_at a.1 >>= λ b. word_at b.1 >>= λ c. make a.0 b.0 c.0 c.1
+
+-- a blank and a number below 2^8
 unfoldable pub layer_at : List ℕ → Option (ℕ × List ℕ)
 layer_at bytes = do
   n ← word_at bytes
@@ -240,10 +244,7 @@ unfoldable pub open_at : ℕ → List ℕ → Option (Open × List ℕ)
 open_at n bytes = do
   rest ← behind (codes "open") bytes
   name ← word_at rest
-  home ← word_at name.1
-  other ← word_at home.1
-  probe ← word_at other.1
-  line_end (record { name = name.0; home = home.0; other = other.0; probe = probe.0 }) probe.1
+  with_words name.1 (λ home other probe end. line_end (record { name = name.0; home = home; other = other; probe = probe }) end)
 
 abbrev pub bare_at : ℕ → List ℕ → Option (ℕ × List ℕ)
 bare_at n bytes = titled_at (codes "bare") bytes
@@ -259,12 +260,10 @@ spot_at n bytes = do
 unfoldable pub source_at : ℕ → List ℕ → Option (SourceLine × List ℕ)
 source_at n bytes = do
   rest ← heading_at (codes "source") n bytes
-  file ← word_at rest
-  command ← word_at file.1
-  copy ← word_at command.1
-  top ← layer_at copy.1
-  bottom ← layer_at top.1
-  line_end (record { file = file.0; command = command.0; copy = copy.0; top = top.0; bottom = bottom.0 }) bottom.1
+  with_words rest (λ file command copy span. do
+    top ← layer_at span
+    bottom ← layer_at top.1
+    line_end (record { file = file; command = command; copy = copy; top = top.0; bottom = bottom.0 }) bottom.1)
 
 -- ---- Parts
 
