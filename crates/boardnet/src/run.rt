@@ -41,7 +41,7 @@ use std::alloc::Global;
 /// | 0 | `check`, `trial`, `x2`: the copper joins exactly what the netlist, or the net names in the files, join; `audit`: the report is the text of a right verdict; `write`: the netlist is written; `flatten`: the file is; `gaps`: no two nets come that close; `between`: nothing is certain or undecided, so the real board agrees, whatever its copper is of those that its files allow |
 /// | 1 | `check`, `trial`, `x2`: there are opens, shorts or points without copper; `audit`: the report is the text of another verdict; `gaps`: some do; `between`: something certain differs, or it is undecided, and the line says which |
 /// | 2 | the words are no command; nothing was taken |
-/// | 3 | the first refusal of the package or of the copper file, or of the report behind it; the line names its kind, file and place. `x2`: also a net name that is no text; `gaps`: also grown pieces of which the box is over 1 m; `trial`: there is no board of the size; `between`: the boards are no bounds, and the line says why |
+/// | 3 | the first refusal of the package or of the copper file, or of the report behind it; the line names its kind, file and place. `x2`: also a net name that is no text; `gaps`: also grown pieces of which the box is over 1 m; `trial`: there is no board of the size; `between`: also an arc or a macro of REAL, or the boards are no bounds, and the line says why |
 /// | 4 | a fault of reading the file in the line |
 /// | 5 | a fault of writing; `out` got a front of the text |
 /// | 6 | want of memory |
