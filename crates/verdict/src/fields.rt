@@ -123,7 +123,8 @@ fn value_of(digits: &[u8]) -> Option<u64>
     }
 }
 
-/// A number below 2^64.
+/// A number below 2^64. It is inlined, so that what it gives is not stored to be read again.
+#[inline(always)]
 #[tactic(auto, unfolding(crate::specs::ReportReading::wide_at))]
 pub fn wide(bytes: &[u8]) -> Result<(u64, &[u8]), ReadFault>
     ensures reads { spec.Gives (λ x. (x.0, x.1.now)) result (spec.wide_at bytes.now) }
