@@ -96,7 +96,7 @@ abbrev pub is_selection : Command → Bool
 is_selection (selects n) = true
 is_selection other = false
 
--- a word that selects an aperture and says no more: behind it the same is in force
+-- a word that selects an aperture and says neither a curve, nor quadrants, nor a macro's name: behind it the same is in force
 abbrev pub selects_alone : Saying → Bool
 selects_alone w = is_selection w.command && (is_none w.curve && (is_none w.quadrants && not w.names))
 

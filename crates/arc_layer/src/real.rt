@@ -185,12 +185,12 @@ fn with_mark(alloc: Global, mark: &Mark, shape: Shape) -> Result<RealShape, Real
     }
 }
 
-// A piece whose command has a mark.
+// A piece whose command has a mark. Few have, so it is kept out of the loop over all.
 #[inline(never)]
 fn marked_piece(alloc: Global, mark: &Mark, piece: Piece) -> Result<RealPiece, RealFault>
     requires { IsShortMark (plain_mark mark.now) }
     ensures value { IfOk result (λ made. plain_real made ≡ spec.real_piece (λ n. Some (plain_mark mark.now)) (plain_piece piece)) }
-    ensures fault { IfErr result (λ why. why ≡ RealFault.NoMemory) }
+    ensures fault { IfErr result (λ why. why ≡ fault.NoMemory) }
 {
     let shape = with_mark(alloc, mark, piece.shape)?;
     Ok(Placed {
@@ -201,7 +201,7 @@ fn marked_piece(alloc: Global, mark: &Mark, piece: Piece) -> Result<RealPiece, R
     })
 }
 
-// A piece whose command has none.
+// A piece whose command has none. A call would copy it twice more.
 #[inline(always)]
 fn unmarked(piece: Piece) -> RealPiece
     ensures { plain_real result ≡ spec.real_piece (λ n. None) (plain_piece piece) }
@@ -295,9 +295,8 @@ fn first_fault(straight: FlattenFault, marks: Result<Marks, RealFault>) -> RealF
 /// a nanometre. A draw under `G02` or `G03` is its arc, a vector line of a macro that runs along no axis its
 /// rectangle, and each other piece what `read_by::<Loose>` has.
 ///
-/// `Refused` is the first command with a
-/// fault, also of an arc, and the first condition of its row that holds; want of memory is `NoMemory`.
-/// The file has at most `MOST_BYTES` bytes.
+/// `Refused` is the first command with a fault, also of an arc, and the first condition of its row that holds; want of
+/// memory is `NoMemory`. The file has at most `MOST_BYTES` bytes.
 pub fn read_real(alloc: Global, file: &[u8], place: Place) -> Result<Vec<RealPiece>, RealFault>
     requires layer { (1 ≤ place.layer) × (place.layer ≤ MOST_LAYERS) }
     requires size { length file.now ≤ MOST_BYTES }

@@ -34,7 +34,7 @@ pub struct Bounds {
     pub high: i64,
 }
 
-/// The box of nothing: joined with another it is that one.
+/// The box of nothing.
 pub const NO_BOX: Bounds = Bounds {
     left: i64::MAX,
     low: i64::MAX,

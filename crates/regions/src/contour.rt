@@ -13,7 +13,7 @@ use thiserror::Error;
 pub enum AddFault {
     /// There are `MOST_CONTOUR_EDGES` edges already.
     #[error("too many edges")]
-    TooLong,
+    TooLong = 1,
     #[error("memory is wanted")]
     NoMemory,
 }
@@ -23,7 +23,7 @@ pub enum AddFault {
 pub enum CloseFault {
     /// There is an edge, and the last spot is not the first.
     #[error("the contour is open")]
-    Open,
+    Open = 1,
     /// It is closed with one or two edges.
     #[error("the contour has fewer than three edges")]
     Short,

@@ -6,7 +6,7 @@ use thiserror::Error;
 pub enum RepeatFault {
     /// The word has another form.
     #[error("not a step and repeat")]
-    BadText,
+    BadText = 1,
     /// A step is not a whole number of u.
     #[error("a step off the grid")]
     OffGrid,
@@ -20,7 +20,7 @@ pub enum RepeatFault {
 pub enum CopyFault {
     /// The copies have more pieces than the room.
     #[error("too many pieces")]
-    TooManyPieces,
+    TooManyPieces = 1,
     /// The copies' areas have more edges than the room.
     #[error("too many edges")]
     TooManyEdges,

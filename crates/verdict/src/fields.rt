@@ -74,7 +74,7 @@ fn leading(bytes: &[u8]) -> (usize, u64)
     long_run(bytes)
 }
 
-// The same by a test at each byte.
+// The same by a test at each byte; few numbers are so long.
 #[cold]
 #[inline(never)]
 fn long_run(bytes: &[u8]) -> (usize, u64)
@@ -167,7 +167,7 @@ pub fn expect_number(bytes: &[u8], number: u64) -> Result<&[u8], ReadFault>
     }
 }
 
-// The same by writing the number.
+// The same by writing the number. No text of a verdict comes here.
 #[cold]
 #[inline(never)]
 fn expect_written(bytes: &[u8], number: u64) -> Result<&[u8], ReadFault>

@@ -101,14 +101,14 @@ impl Word for u32 {
     }
 }
 
-// Most lines have at most so many words. Their list takes memory once.
-const MOST_WORDS: usize = 8;
+// Most lines have at most so many words: their list takes memory once.
+const USUAL_WORDS: usize = 8;
 
 // All words up to the byte that is no blank. Each takes a byte at least.
 fn words<T: Word>(alloc: Global, bytes: &[u8]) -> Result<(Rows<T>, &[u8]), ReadFault>
     ensures { spec.Gives (λ x. (x.0, x.1.now)) result (spec.words_at T.at (length bytes.now) bytes.now) }
 {
-    let mut words = Rows::with_capacity(alloc, MOST_WORDS)?;
+    let mut words = Rows::with_capacity(alloc, USUAL_WORDS)?;
     let mut rest = bytes;
     for _ in 0..bytes.len() {
         if !begins_blank(rest) {
