@@ -250,6 +250,7 @@ fn negated(n: u64) -> Option<i64>
 }
 
 // A number below 2^63, or a minus and a number from 1 to 2^63.
+#[inline(always)]
 #[tactic(auto, unfolding(crate::specs::ReportReading::signed_at))]
 fn signed(bytes: &[u8]) -> Result<(i64, &[u8]), ReadFault>
     ensures { spec.Gives (λ x. (x.0, x.1.now)) result (spec.signed_at bytes.now) }
@@ -273,6 +274,7 @@ fn signed(bytes: &[u8]) -> Result<(i64, &[u8]), ReadFault>
 }
 
 /// A blank and a signed number.
+#[inline(always)]
 #[tactic(auto, unfolding(crate::specs::ReportReading::signed_word_at))]
 pub fn signed_word(bytes: &[u8]) -> Result<(i64, &[u8]), ReadFault>
     ensures { spec.Gives (λ x. (x.0, x.1.now)) result (spec.signed_word_at bytes.now) }
