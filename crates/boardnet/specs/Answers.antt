@@ -14,6 +14,7 @@ use Rattle.boardnet.specs.Common.{arc_line}
 use Rattle.boardnet.specs.Gapped.{IsTooWide}
 use Rattle.file_reading.specs.declared.fault.FileFault.{FileFault}
 use Rattle.file_reading.specs.declared.fault.FileFault.TheVariants as flat
+use Rattle.gerber_layer.specs.declared.macro_kind.FlattenKind.{FlattenKind}
 use Rattle.gaps.specs.declared.listing.GapFault.{GapFault}
 use Rattle.gaps.specs.declared.listing.GapFault.TheVariants as gap
 use Rattle.boardnet.specs.Lines.{counted_line, plain_line, file_line, findings_line, frame_line, label_line, manifest_frame_line, end}
