@@ -81,7 +81,7 @@ class Package:
         else:
             layers = copper.judge(self.layers)
             for name, _, why in self.guesses:
-                if layers[-1].side not in ("Bot", "Top") and len(layers) > 1:
+                if not self.is_whole(layers):
                     raise Refused(f"{name} looks like copper ({why}) and has no attribute, while other layers have one: export all as Gerber X2")
                 self.leave_out(name, f"it looks like copper ({why}), but the layers that say what they are make a whole board without it")
         if self.board_layers not in (None, len(layers)):
@@ -89,6 +89,10 @@ class Package:
         if len([it for it in self.origins if it is not None]) > 1:
             raise Refused(f"{' and '.join(self.origins.values())} count from different origins (TF.SameCoordinates): export all layers at once")
         return layers
+
+    def is_whole(self, layers):
+        """Whether layers that say what they are leave no place for another: they end with a bottom one, or are as many as the job file says."""
+        return self.board_layers == len(layers) or len(layers) > 1 and layers[-1].side == "Bot"
 
     def plated(self, layers):
         """The drill files of plated holes, and those that are taken for unplated ones."""

@@ -224,6 +224,11 @@ class Manifest(common.Case):
             with self.subTest(files=files):
                 self.refused({**{name: copper() for name in files}, **surface}, word, words=["--yes"])
         self.refused(two(B_gbr=copper("Copper,L2"), x_gbl=copper()), "looks like copper", "while other layers have one")
+        # A top layer alone may lack its bottom, unless the job file says that there is none.
+        one = {"F.gbr": copper("Copper,L1,Top"), "B_Cu.gbr": copper(), "n.ipc": SURFACE}
+        self.refused(one, "looks like copper", "while other layers have one")
+        self.refused({**one, "d.drl": drill()}, "looks like copper", words=["--yes"])
+        self.taken({**one, "x.gbrjob": '{"GeneralSpecs": {"LayerNumber": 1}}'}, {"copper": ["F.gbr"], "drills": [], "netlist": "n.ipc"}, "left out: B_Cu.gbr: it looks like copper")
         self.taken(two(x_gbl=copper()), WRITTEN, "left out: x.gbl: it looks like copper")
 
     def test_netlists(self):
