@@ -151,7 +151,8 @@ def is_archive(path):
     if not os.path.isfile(path):
         return False
     import zipfile          # most boards come in no archive, and loading takes long
-    return zipfile.is_zipfile(path)
+    # One that was cut off is none by its content; it is refused as what its name says.
+    return path.lower().endswith(".zip") or zipfile.is_zipfile(path)
 
 
 def unpacked(path, scratch):

@@ -146,6 +146,9 @@ class Answers(made.Case):
         self.assertEqual((status, "there is no IPC-D-356A netlist" in out, "left out" in out), (10, True, True))
         self.write("broken.zip", b"PK\x05\x06" + bytes(18))
         self.assertEqual(self.show("broken.zip")[0], 10)
+        self.write("cut.zip", b"PK\x03\x04" + bytes(18))
+        status, out, _ = self.show("cut.zip")
+        self.assertEqual((status, "is no zip archive that can be opened" in out), (10, True))
 
     def test_batch(self):
         for folder, files in (("good", GOOD), ("bad", BAD), ("refused", {**GOOD, "top.gbr": "%FSLAX46Y46*%\n"})):
