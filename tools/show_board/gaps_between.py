@@ -139,5 +139,4 @@ def gaps(program, low, high, u):
         if at not in certain:
             yield (False, *below(it)[:1], f"are at least {it.at_least()} mm apart", below(it)[1])
     for it, is_below in joined(both, low_lines, u):
-        told = "are joined, or apart"
-        yield (False, it, f"{told}, by at most {it.at_most()} mm,", ()) if is_below else (False, below(it)[0], f"{told}, perhaps by nothing,", below(it)[1])
+        yield (False, it, f"are joined, or at most {it.at_most()} mm apart,", ()) if is_below else (False, below(it)[0], "are joined, or apart, perhaps by nothing,", below(it)[1])

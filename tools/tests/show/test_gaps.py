@@ -92,12 +92,12 @@ class Gaps(made.Case):
     JOINED_ROWS = [
         # copper, places of both points, distance, nets of each gap of the lower board, words of the first one
         # A pad that touches the arc above alone; nets that are joined below are none.
-        ([*WIDE, *flash(10, (0, 1.6002))], [(1, 0), (0, 1.6002)], "0.0001", [[0, 1]], "A and B are joined, or apart, by at most "),
+        ([*WIDE, *flash(10, (0, 1.6002))], [(1, 0), (0, 1.6002)], "0.0001", [[0, 1]], "A and B are joined, or at most "),
         ([*WIDE, *flash(10, (0, 1.59))], [(1, 0), (0, 1.59)], "1", [], ""),
         ([*WIDE, *flash(10, (0, 1.602))], [(1, 0), (0, 1.602)], "0.0005", [], ""),
         # Pads at both ends of an arc that is left out, 1 mm apart: each against the arc, and under that each other.
         ([*THIN, *flash(10, (1, 0), (-1, 0))], [(1, 0), (-1, 0)], "0.9", [[0], [1]], "A and copper that the lower bound leaves out are joined, or apart, perhaps by nothing, on "),
-        ([*THIN, *flash(10, (1, 0), (-1, 0))], [(1, 0), (-1, 0)], "1.1", [[0, 1], [0], [1]], "A and B are joined, or apart, by at most 1.0001 mm, on "),
+        ([*THIN, *flash(10, (1, 0), (-1, 0))], [(1, 0), (-1, 0)], "1.1", [[0, 1], [0], [1]], "A and B are joined, or at most 1.0001 mm apart, on "),
         # A pad that the thin arc passes at 0.5 mm: another net on both.
         ([*THIN, *flash(10, (0, 2))], [(0, 2), (0, 2)], "0.51", [[0]], "A and copper that the lower bound leaves out are at least 0.499"),
         ([*THIN, *flash(10, (0, 2))], [(0, 2), (0, 2)], "0.49", [], ""),
