@@ -9,6 +9,7 @@ from . import MOST_BYTES, Refused, copper, drills, is_name, kinds, netlists, sho
 
 # What is ours in a folder: the manifest, and the ties that `show` reads.
 OURS = ("m.json", "ties.txt")
+NO_COPPER = "it is a Gerber file without the attribute TF.FileFunction, and no name says that it is copper"
 
 
 class Package:
@@ -61,7 +62,7 @@ class Package:
             if guess:
                 self.guesses.append((name, *guess))
             else:
-                self.leave_out(name, "it is a Gerber file without the attribute TF.FileFunction, and no name says that it is copper")
+                self.leave_out(name, NO_COPPER)
             return
         layer = copper.layer_of(name, function)
         if layer:
@@ -130,6 +131,8 @@ class Plan:
         self.guessed = [(it.name, f"copper layer {it.number}", it.why) for it in layers if it.why]
         self.guessed += [(it.name, f"plated holes from layer {it.span[0]} to {it.span[1]}", it.why) for it in plated if it.why]
         self.guessed += [(it.name, "unplated holes, left out", it.why) for it in unplated]
+        if not package.is_whole(layers) and not layers[0].why:
+            self.guessed += [(name, "no copper, left out", why) for name, why in package.left_out if why == NO_COPPER]
         self.has_points = netlist.records > 0
         self.netlist = netlist.name
         self.manifest = {

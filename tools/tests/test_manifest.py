@@ -231,6 +231,14 @@ class Manifest(common.Case):
         self.taken({**one, "x.gbrjob": '{"GeneralSpecs": {"LayerNumber": 1}}'}, {"copper": ["F.gbr"], "drills": [], "netlist": "n.ipc"}, "left out: B_Cu.gbr: it looks like copper")
         self.taken(two(x_gbl=copper()), WRITTEN, "left out: x.gbl: it looks like copper")
 
+    def test_a_file_that_may_be_the_bottom(self):
+        one = {"F.gbr": copper("Copper,L1,Top"), "other.gbr": copper(), "n.ipc": SURFACE}
+        written = {"copper": ["F.gbr"], "drills": [], "netlist": "n.ipc"}
+        self.assertIn("would be taken as no copper, left out: other.gbr", self.refused(one, "say --yes"))
+        self.taken(one, written, words=["--yes"])
+        self.taken({**one, "x.gbrjob": '{"GeneralSpecs": {"LayerNumber": 1}}'}, written)
+        self.taken(two(other_gbr=copper()), WRITTEN, "left out: other.gbr")
+
     def test_netlists(self):
         other = dict(WRITTEN, netlist="other.ipc")
         several = two(other_ipc=SURFACE)
