@@ -1,4 +1,4 @@
-"""Contours within regions with arcs, as `between` takes them: clear of the straight edges, and of draws along chains of quarter turns for arcs.
+"""Contours within regions with arcs, as `between` takes them: clear of the straight edges, and of draws along chains of eighth turns for arcs.
 
 How the corners were found does not matter: they are tested.
 """
@@ -12,16 +12,28 @@ FURTHER = (2, 4, 16)    # u that edges are moved more than they have to be
 ROUNDS = 16             # of leaving edges out
 
 
-def quarter_chain(centre, first, last):
-    """A chain of quarter turns from one place to another, counterclockwise, and of what is left; equal places are a whole turn apart."""
-    (x, y), turn, ahead = (first[0] - centre[0], first[1] - centre[1]), cross(centre, first, last), dot(centre, first, last)
-    many = int(ahead < 0) if turn > 0 or turn == 0 > ahead else 3 if turn == 0 or ahead > 0 else 2
-    return [first, *((centre[0] + u, centre[1] + v) for u, v in ((-y, x), (-x, -y), (y, -x))[:many]), last]
+def eighth_turns(centre, first):
+    """A place turned by one eighth turn to seven, counterclockwise, to the nearest u."""
+    (x, y), (u, v) = centre, (first[0] - centre[0], first[1] - centre[1])
+    a, b = tuple((70 * part + 49) // 99 for part in (u - v, u + v)), (-v, u)
+    for _ in range(7):
+        yield x + a[0], y + a[1]
+        a, b = b, (-a[1], a[0])
 
 
-def quarter_radius(centre, start):
-    """More than a quarter turn leaves its chord by."""
-    return (abs(start[0] - centre[0]) + abs(start[1] - centre[1])) * 3 // 10 + 2
+def eighth_chain(centre, first, last):
+    """A chain of eighth turns from one place to another, counterclockwise, and of what is left; equal places are a whole turn apart."""
+    chain = [first]
+    for spot in eighth_turns(centre, first):
+        if cross(centre, chain[-1], last) > 0 and cross(centre, spot, last) <= dot(centre, last, last) // 64:
+            break
+        chain.append(spot)
+    return [*chain, last]
+
+
+def eighth_radius(centre, start):
+    """More than an eighth turn leaves its chord by."""
+    return (abs(start[0] - centre[0]) + abs(start[1] - centre[1])) // 12 + 8
 
 
 def inset(corners, keeps):

@@ -10,7 +10,7 @@ from typing import NamedTuple
 from .arcs import Arc, arc_chain, goes_once
 from .contours import contour_bound
 from .exact import Refused
-from .insets import inset, quarter_chain, quarter_radius
+from .insets import eighth_chain, eighth_radius, inset
 from .rounds import polygon
 from .side import FLASH, MOVE, edges_of
 from .spots import cross, dot
@@ -118,7 +118,7 @@ class Rounded(NamedTuple):
 
 class Walked:
     """The parts of a contour, with chains in place of arcs: `outline`, `spots` of that without edges of no length; `coarse` with chains of
-    quarter turns, and how far each of its edges is from its part at most."""
+    eighth turns, and how far each of its edges is from its part at most."""
 
     def __init__(self, contour):
         self.outline, self.spots, self.coarse, self.parts = ([contour[0]] for _ in range(4))
@@ -144,11 +144,11 @@ class Walked:
         is_even = dot(centre, start, start) == dot(centre, end, end)
         self.is_exact = self.is_exact and is_even and goes_once(lambda p, q: cross(centre, p, q), chain)
         self.wide += [("capsule", a, b, most) for a, b in zip(chain, chain[1:])]
-        chain, turns = (its if anticlockwise else its[::-1] for its in (chain, quarter_chain(centre, first, last)))
+        chain, turns = (its if anticlockwise else its[::-1] for its in (chain, eighth_chain(centre, first, last)))
         self.outline += chain[1:]
         self.spots += [spot for k, spot in enumerate(chain[1:]) if spot != chain[k]]
         self.coarse += turns[1:]
-        self.keeps += [quarter_radius(centre, start)] * (len(turns) - 1)
+        self.keeps += [eighth_radius(centre, start)] * (len(turns) - 1)
         self.parts.append((centre, start, end, anticlockwise))
 
     def bound(self, upper):

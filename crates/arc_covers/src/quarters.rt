@@ -1,12 +1,13 @@
-//! Whether a contour lies in a region, by chains of quarter turns for its arcs.
+//! Whether a contour lies in a region, by chains of eighth turns for its arcs.
 ghost use Rattle.arc_covers.specs.Bounds.{ContourFor, figures_of};
 ghost use Rattle.arc_covers.specs.Quarters as spec;
-ghost use Rattle.arc_covers.specs.Quarters.{IsPartPlaced, LiesBelow, quarter_turns};
+ghost use Rattle.arc_covers.specs.Quarters.{IsPartPlaced, IsRound, LiesBelow, passed};
 ghost use Rattle.arc_covers.specs.declared.side.Side.TheVariants.{Below};
 ghost use Rattle.arc_regions.specs.Taken.{TakenBelow, all_chained, chained};
 ghost use Rattle.board_shapes.specs.Pieces.{plain_pieces};
-ghost use Rattle.planar.specs.Plane.{IsPlaced};
-ghost use Rattle.std.specs.Prelude.{All, IfOk, IsTrue, ◌+ℤ◌, ◌-ℤ◌, ◌<◌, ◌≡◌, ◌≤◌, ◌↔◌, ◌∷◌, []};
+ghost use Rattle.planar.specs.Plane.{IsPlaced, IsWithin, cross_of, dot_of};
+ghost use Rattle.planar.specs.declared.TheConstants.{METRE};
+ghost use Rattle.std.specs.Prelude.{All, IfOk, IsTrue, OnOk, int_le, int_lt, pos, unsigned_abs, ◌*◌, ◌/◌, ◌<◌, ◌≡◌, ◌↔◌, ◌++◌};
 
 use arc_regions::{Part, Region, Stretch, draw_of, end_of, is_below};
 use arcs::{Arc, Spot};
@@ -22,76 +23,145 @@ use steps::Steps;
 /// Half the side of a frame, in u.
 pub const HALF: i64 = SIDE / 2;
 
-/// How many quarter turns of `s` about `c` come before `e`, counterclockwise.
-fn quarters(c: Spot, s: Spot, e: Spot) -> usize
+/// `s` turned about `c` by a quarter turn.
+fn quarter_turn(c: Spot, s: Spot) -> Spot
     requires c_placed { IsPlaced c }
-    requires s_placed { IsPlaced s }
-    requires e_placed { IsPlaced e }
-    ensures is { result ≡ spec.quarters c s e }
-    ensures few { result ≤ 3 }
+    requires round { IsRound c s }
+    ensures value { result ≡ spec.quarter_turn c s }
+    ensures round { IsRound c result }
 {
-    let (across, along) = (cross(c, s, e), dot(c, s, e));
-    if across > 0 {
-        if along < 0 { 1 } else { 0 }
-    } else if across < 0 {
-        if along > 0 { 3 } else { 2 }
-    } else {
-        if along < 0 { 1 } else { 3 }
+    Spot {
+        x: c.x - (s.y - c.y),
+        y: c.y + (s.x - c.x),
     }
 }
 
-/// `s` turned about `c` by one, two and three quarter turns.
-fn turned(c: Spot, s: Spot) -> [Spot; 3]
+/// `z` over the root of 2, about.
+fn shortened(z: i64) -> i64
+    requires within { IsWithin (4 * METRE) z }
+    ensures value { result ≡ spec.shortened z }
+    ensures within { IsWithin (4 * METRE) result }
+{
+    (z * 70 + 49).div_euclid(99)
+}
+
+/// `s` turned about `c` by about an eighth turn.
+fn eighth_turn(c: Spot, s: Spot) -> Spot
     requires c_placed { IsPlaced c }
     requires s_placed { IsPlaced s }
-    ensures { result ≡ quarter_turns c s }
+    ensures value { result ≡ spec.eighth_turn c s }
+    ensures round { IsRound c result }
 {
+    let (across, up) = (s.x - c.x, s.y - c.y);
+    Spot {
+        x: c.x + shortened(across - up),
+        y: c.y + shortened(across + up),
+    }
+}
+
+/// `s` turned about `c` by one eighth turn to seven.
+fn eighth_turns(c: Spot, s: Spot) -> [Spot; 7]
+    requires c_placed { IsPlaced c }
+    requires s_placed { IsPlaced s }
+    ensures { result ≡ spec.eighth_turns c s }
+{
+    let (first, second) = (eighth_turn(c, s), quarter_turn(c, s));
+    let (third, fourth) = (quarter_turn(c, first), quarter_turn(c, second));
+    let (fifth, sixth) = (quarter_turn(c, third), quarter_turn(c, fourth));
     [
-        Spot {
-            x: c.x - (s.y - c.y),
-            y: c.y + (s.x - c.x),
-        },
-        Spot {
-            x: c.x - (s.x - c.x),
-            y: c.y - (s.y - c.y),
-        },
-        Spot {
-            x: c.x + (s.y - c.y),
-            y: c.y - (s.x - c.x),
-        },
+        first,
+        second,
+        third,
+        fourth,
+        fifth,
+        sixth,
+        quarter_turn(c, fifth),
     ]
 }
 
-/// A chain of quarter turns for the arc, and of what is left.
-fn quarter_chain(alloc: Global, draw: &Arc) -> Result<Vec<Spot>, NoMemory>
+/// Whether the turn from `a` to `e` is a half turn or more.
+fn is_half(c: Spot, a: Spot, e: Spot) -> bool
+    requires c_placed { IsPlaced c }
+    requires a_placed { IsPlaced a }
+    requires e_placed { IsPlaced e }
+    ensures { result ≡ int_le (cross_of c a e) (pos 0) }
+{
+    cross(c, a, e) <= 0
+}
+
+/// Whether `e` is further on than `p` by about a 64th of its distance from `c`.
+fn is_further(c: Spot, p: Spot, e: Spot) -> bool
+    requires c_placed { IsPlaced c }
+    requires p_placed { IsPlaced p }
+    requires e_placed { IsPlaced e }
+    ensures { result ≡ int_lt (pos (unsigned_abs (dot_of c e e) / 64)) (cross_of c p e) }
+{
+    let part = dot(c, e, e).unsigned_abs() / 64;
+    cross(c, p, e) > part as i128
+}
+
+/// Whether the turn from `a` to `e` passes `p`.
+fn is_passed(c: Spot, e: Spot, a: Spot, p: Spot) -> bool
+    requires c_placed { IsPlaced c }
+    requires e_placed { IsPlaced e }
+    requires a_placed { IsPlaced a }
+    ensures value { result ≡ spec.is_passed c e a p }
+    ensures placed { IsTrue result → IsPlaced p }
+{
+    if is_placed(p) {
+        is_half(c, a, e) || is_further(c, p, e)
+    } else {
+        false
+    }
+}
+
+/// The spots are pushed, as long as each is passed by the turn from the one before it to the end.
+fn push_passed(draw: &Arc, spots: &[Spot], chain: &mut Vec<Spot>) -> Result<(), NoMemory>
     requires centre { IsPlaced draw.now.centre }
     requires start { IsPlaced draw.now.start }
     requires end { IsPlaced draw.now.end }
-    ensures { IfOk result (λ chain. chain.items ≡ spec.quarter_chain draw.now) }
+    ensures { OnOk result (chain.new.items ≡ chain.old.items ++ passed draw.now.centre draw.now.end draw.now.start spots.now) }
 {
-    let n = quarters(draw.centre, draw.start, draw.end);
-    let turns = turned(draw.centre, draw.start);
+    let mut from = draw.start;
+    for p in spots {
+        if !is_passed(draw.centre, draw.end, from, *p) {
+            return Ok(());
+        }
+        chain.push(*p)?;
+        from = *p;
+    }
+    Ok(())
+}
+
+/// A chain of eighth turns for the arc, and of what is left.
+fn eighth_chain(alloc: Global, draw: &Arc) -> Result<Vec<Spot>, NoMemory>
+    requires centre { IsPlaced draw.now.centre }
+    requires start { IsPlaced draw.now.start }
+    requires end { IsPlaced draw.now.end }
+    ensures { IfOk result (λ chain. chain.items ≡ spec.eighth_chain draw.now) }
+{
+    let turns = eighth_turns(draw.centre, draw.start);
     let mut chain = Vec::new(alloc);
     chain.push(draw.start)?;
-    chain.extend_from_slice(&turns[..n])?;
+    push_passed(draw, &turns, &mut chain)?;
     chain.push(draw.end)?;
     Ok(chain)
 }
 
 /// A radius that is enough for its links.
-fn quarter_radius(c: Spot, s: Spot) -> u64
+fn eighth_radius(c: Spot, s: Spot) -> u64
     requires c_placed { IsPlaced c }
     requires s_placed { IsPlaced s }
-    ensures { result ≡ spec.quarter_radius c s }
+    ensures { result ≡ spec.eighth_radius c s }
 {
-    (s.x.abs_diff(c.x) + s.y.abs_diff(c.y)) * 3 / 10 + 2
+    (s.x.abs_diff(c.x) + s.y.abs_diff(c.y)) / 12 + 8
 }
 
 /// The part with such a chain.
-fn with_quarters(alloc: Global, start: Spot, part: Part) -> Result<Stretch, NoMemory>
+fn with_eighths(alloc: Global, start: Spot, part: Part) -> Result<Stretch, NoMemory>
     requires start_placed { IsPlaced start }
     requires placed { IsPartPlaced part }
-    ensures { IfOk result (λ stretch. chained stretch ≡ spec.with_quarters start part) }
+    ensures { IfOk result (λ stretch. chained stretch ≡ spec.with_eighths start part) }
 {
     match part {
         Part::Straight(_) => Ok(Stretch {
@@ -100,8 +170,8 @@ fn with_quarters(alloc: Global, start: Spot, part: Part) -> Result<Stretch, NoMe
             radius: 0,
         }),
         Part::Curved(bend) => {
-            let chain = quarter_chain(alloc, &draw_of(start, &bend))?;
-            let radius = quarter_radius(bend.centre, start);
+            let chain = eighth_chain(alloc, &draw_of(start, &bend))?;
+            let radius = eighth_radius(bend.centre, start);
             Ok(Stretch {
                 part,
                 chain,
@@ -112,15 +182,15 @@ fn with_quarters(alloc: Global, start: Spot, part: Part) -> Result<Stretch, NoMe
 }
 
 /// Each of the parts from `start` with such a chain.
-fn by_quarters(alloc: Global, start: Spot, parts: &[Part]) -> Result<Vec<Stretch>, NoMemory>
+fn by_eighths(alloc: Global, start: Spot, parts: &[Part]) -> Result<Vec<Stretch>, NoMemory>
     requires start_placed { IsPlaced start }
     requires placed { All IsPartPlaced parts.now }
-    ensures { IfOk result (λ all. all_chained all.items ≡ spec.by_quarters start parts.now) }
+    ensures { IfOk result (λ all. all_chained all.items ≡ spec.by_eighths start parts.now) }
 {
     let mut all = Vec::new(alloc);
     let mut from = start;
     for part in parts {
-        let stretch = with_quarters(alloc, from, *part)?;
+        let stretch = with_eighths(alloc, from, *part)?;
         all.push(stretch)?;
         from = end_of(*part);
     }
@@ -179,7 +249,7 @@ fn lies(alloc: Global, region: &Region, area: &Area) -> Result<bool, NoMemory>
     if !is_reached(region) {
         return Ok(false);
     }
-    let stretches = by_quarters(alloc, region.start, &region.parts)?;
+    let stretches = by_eighths(alloc, region.start, &region.parts)?;
     Ok(is_taken::<Brand>(region.start, &stretches, area, Blank::new(1)))
 }
 

@@ -1,6 +1,7 @@
 //! A pad and a quarter circle that touches it in one point, between pads and chains, in u.
 ghost use Rattle.planar.specs.Plane.{IsPlaced};
 
+use crate::quarters::is_inside;
 use crate::{BoundsFault, CountsFault, Side, check_between, read_counts};
 use arc_regions::{Bend, Part, Region};
 use arcs::{Arc, Spot};
@@ -398,7 +399,7 @@ fn pane(alloc: Global, left: i16, right: i16) -> Result<Vec<Piece>, Fail> {
     Ok(pieces)
 }
 
-/// Boxes below it: more than 1,502 u from the chords of both quarter turns, and off the straight part.
+/// Boxes below it: more than 424 u from the chords of its eighth turns, and off the straight part.
 #[test]
 fn boxes_below(rt: HostRuntime) -> Result<(), Fail> {
     let alloc = rt.alloc();
@@ -407,8 +408,8 @@ fn boxes_below(rt: HostRuntime) -> Result<(), Fail> {
         let mut real = Vec::new(alloc);
         real.push(half_disc(alloc, back)?)?;
         for (left, right, told) in [
-            (1, 1875, true),
-            (1, 1876, false),
+            (1, 4126, true),
+            (1, 4127, false),
             (0, 1000, false),
             (-1000, 1000, false),
             (-1000, -1, false),
@@ -418,6 +419,34 @@ fn boxes_below(rt: HostRuntime) -> Result<(), Fail> {
             let lies = found == Ok(());
             assert!(rt; lies == told, "at {right}");
         }
+    }
+    Ok(())
+}
+
+/// A quarter of a disc of radius `r` about 0 and some more, as far as 9,000 u beyond the centre.
+fn quarter_disc(alloc: Global, r: i64) -> Result<Region, Fail> {
+    let start = Spot { x: r, y: 0 };
+    let bend = Bend {
+        centre: spot((0, 0)),
+        end: Spot { x: 0, y: r },
+        counterclockwise: true,
+    };
+    let mut parts = Vec::new(alloc);
+    parts.push(Part::Curved(bend))?;
+    parts.push(Part::Straight(spot((-9000, -9000))))?;
+    parts.push(Part::Straight(start))?;
+    Ok(Region { start, parts })
+}
+
+/// The widest arc that may have a contour below: its draws have the greatest radius that one may have.
+#[test]
+fn the_widest_arc(rt: HostRuntime) -> Result<(), Fail> {
+    let alloc = rt.alloc();
+    let lower = pane(alloc, 1, 1000)?;
+    for (r, told) in [(2_999_999_915, true), (2_999_999_916, false)] {
+        let region = quarter_disc(alloc, r)?;
+        let found = is_inside(alloc, &region, &lower)?;
+        assert!(rt; found == told);
     }
     Ok(())
 }

@@ -52,18 +52,23 @@ def turned(centre, spot):
     return centre[0] - (spot[1] - centre[1]), centre[1] + (spot[0] - centre[0])
 
 
-def quarters(centre, first, last):
-    """How many quarter turns come before the last place."""
-    turn, ahead = cross(centre, first, last), dot(centre, first, last)
-    if turn > 0:
-        return 1 if ahead < 0 else 0
-    if turn < 0:
-        return 3 if ahead > 0 else 2
-    return 1 if ahead < 0 else 3
+def eighths(centre, spot):
+    """The spot after one eighth turn to seven."""
+    (x, y), (u, v) = centre, (spot[0] - centre[0], spot[1] - centre[1])
+    eighth = x + (70 * (u - v) + 49) // 99, y + (70 * (u + v) + 49) // 99
+    spots = [spot, eighth]
+    while len(spots) < 8:
+        spots.append(turned(centre, spots[-2]))
+    return spots[1:]
 
 
-def by_quarters(told):
-    """The parts with chains of quarter turns."""
+def is_passed(centre, last, before, spot):
+    """The turn passes an eighth."""
+    return cross(centre, before, last) <= 0 or 64 * cross(centre, spot, last) > dot(centre, last, last)
+
+
+def by_eighths(told):
+    """The parts with chains of eighth turns."""
     for start, part, chain, _ in told:
         if len(part) == 2:
             yield start, part, chain, 0
@@ -71,14 +76,16 @@ def by_quarters(told):
             centre, end, anticlockwise = part
             first, last = (start, end) if anticlockwise else (end, start)
             turns = [first]
-            for _ in range(quarters(centre, first, last)):
-                turns.append(turned(centre, turns[-1]))
-            yield start, part, [*turns, last], 3 * (abs(start[0] - centre[0]) + abs(start[1] - centre[1])) // 10 + 2
+            for spot in eighths(centre, first):
+                if not is_passed(centre, last, turns[-1], spot):
+                    break
+                turns.append(spot)
+            yield start, part, [*turns, last], (abs(start[0] - centre[0]) + abs(start[1] - centre[1])) // 12 + 8
 
 
 def is_below(told, points):
-    """No place of the area is on a straight part or in a draw along a chain of quarter turns, and the outline has its first corner inside."""
-    odd, told = False, [*by_quarters(told)]
+    """No place of the area is on a straight part or in a draw along a chain of eighth turns, and the outline has its first corner inside."""
+    odd, told = False, [*by_eighths(told)]
     for _, _, chain, radius in told:
         for a, b in zip(chain, chain[1:]):
             if any(are_near(p, q, a, b, radius) and segments_within(p, q, a, b, radius) for p, q in edges(points)) or odd_inside(points, a):
@@ -130,6 +137,7 @@ class TestInsets(unittest.TestCase):
             told = stretches(contour, [made.outer, *made.wide])
             with self.subTest(contour=contour):
                 self.assertTrue(is_above(told))
+                self.assertTrue(is_above(by_eighths(told)))
                 self.assertTrue(all(is_below(told, points) for points in made.inner))
         return made
 
