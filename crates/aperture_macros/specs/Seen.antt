@@ -1,10 +1,10 @@
 -- The answers as plain data.
-use Rattle.std.specs.Prelude.{Bool, true, false, List, ◌≡◌, Option, Some, None, Result, Ok, Err}
+use Rattle.std.specs.Prelude.{Bool, true, false, List, ◌≡◌, Option, option_map, Result, Ok, Err}
 use Rattle.planar.specs.declared.Spot.{Spot}
 use Rattle.board_shapes.specs.declared.shape.Shape.{Shape}
 use Rattle.board_shapes.specs.Figures.{Figure, seen_shape}
 use Rattle.aperture_macros.specs.declared.primitive.Form.{Form}
-use Rattle.aperture_macros.specs.declared.primitive.Form.TheVariants.{Circle, Outline, VectorLine, CentreLine}
+use Rattle.aperture_macros.specs.declared.primitive.Form.TheVariants.{Circle}
 use Rattle.aperture_macros.specs.declared.primitive.Primitive.{Primitive}
 use Rattle.aperture_macros.specs.declared.fault.MacroFault.{MacroFault}
 use Rattle.aperture_macros.specs.declared.fault.FigureFault.{FigureFault}
@@ -18,17 +18,11 @@ plain p = record { form = p.form; rotation = p.rotation; lengths = p.lengths.now
 -- whether a primitive is a circle
 abbrev pub is_circle : Form → Bool
 is_circle Circle = true
-is_circle (Outline n) = false
-is_circle VectorLine = false
-is_circle CentreLine = false
+is_circle other = false
 
--- and where there may be none, or a fault
-abbrev pub seen_primitive : Option Primitive → Option PlainPrimitive
-seen_primitive None = None
-seen_primitive (Some p) = Some (plain p)
-
+-- a primitive, where there may be none or a fault
 abbrev pub seen_body : Result (Option Primitive) MacroFault → Result (Option PlainPrimitive) MacroFault
-seen_body (Ok p) = Ok (seen_primitive p)
+seen_body (Ok p) = Ok (option_map plain p)
 seen_body (Err fault) = Err fault
 
 abbrev pub seen_one : Result Primitive MacroFault → Result PlainPrimitive MacroFault

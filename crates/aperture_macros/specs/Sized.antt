@@ -1,14 +1,12 @@
 -- How many edges an outline has.
 use Rattle.std.specs.Prelude.{ℕ, ◌≤◌}
 use Rattle.aperture_macros.specs.declared.primitive.Form.{Form}
-use Rattle.aperture_macros.specs.declared.primitive.Form.TheVariants.{Circle, Outline, VectorLine, CentreLine}
+use Rattle.aperture_macros.specs.declared.primitive.Form.TheVariants.{Outline}
 
 -- the edges of an outline; three for what is none
 abbrev pub outline_edges : Form → ℕ
-outline_edges Circle = 3
 outline_edges (Outline n) = n
-outline_edges VectorLine = 3
-outline_edges CentreLine = 3
+outline_edges other = 3
 
 -- an outline has from 3 to 5,000 edges
 abbrev pub IsSized : Form → Type 0

@@ -16,5 +16,4 @@ IsNear (Some (Stroke p q w)) = IsReachable p × IsReachable q × (w ≤ MOST_DIA
 abbrev pub is_disc : Option Sketch → Bool
 is_disc None = true
 is_disc (Some (Disc p d)) = true
-is_disc (Some (Rectangle low high)) = false
-is_disc (Some (Stroke p q w)) = false
+is_disc other = false

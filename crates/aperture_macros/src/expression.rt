@@ -31,8 +31,7 @@ fn sign_len(text: &[u8]) -> usize
     ensures within { result ≤ length text.now }
 {
     match text {
-        [b'+', ..] => 1,
-        [b'-', ..] => 1,
+        [b'+' | b'-', ..] => 1,
         _ => 0,
     }
 }

@@ -33,15 +33,13 @@ IsLawful (Obround x y) = IsSize x × IsSize y × (is_zero x ≡ false) × (is_ze
 
 -- whether the aperture is a rectangle
 abbrev pub is_rectangle : Aperture → Bool
-is_rectangle (Circle d) = false
 is_rectangle (Rectangle x y) = true
-is_rectangle (Obround x y) = false
+is_rectangle other = false
 
 -- the diameter of the pen that the aperture is: a circle alone draws
 abbrev pub pen_of : Aperture → Option ℤ
 pen_of (Circle d) = Some d
-pen_of (Rectangle x y) = None
-pen_of (Obround x y) = None
+pen_of other = None
 
 -- half a size
 abbrev pub half : ℤ → ℤ

@@ -7,11 +7,11 @@ use Rattle.area_contact.specs.Contour.{end_from}
 use Rattle.regions.specs.Contours.{Flaw, close_of, same_spot, stays_open, too_short}
 use Rattle.gerber_layer.specs.Command.{Command, nothing, refused, counts_in, formats, defines, names_macro, body_word, selects, operates, opens_region, closes_region, repeats, ends, breaks, finishes, functions}
 use Rattle.gerber_layer.specs.CommandEffects.{code_of, edges_in}
-use Rattle.gerber_layer.specs.Settings.{contour_before, contour_by, drawn, lengthened, point_before, region_open}
+use Rattle.gerber_layer.specs.Settings.{contour_before, contour_by, drawn, lengthened, ok_or_none, point_before, region_open}
 use Rattle.gerber_layer.specs.declared.command.Code.{Code}
 use Rattle.gerber_layer.specs.declared.command.Code.TheVariants.{Draw, Move, Flash}
 use Rattle.arc_layer.specs.Bends.{bend_of}
-use Rattle.arc_layer.specs.Marks.{PlainMark, arc, closes, contour, edge_by, edges_before, edges_by, flash, flashes, mark_behind, mark_by, marked, ok_bend}
+use Rattle.arc_layer.specs.Marks.{PlainMark, arc, closes, contour, edge_by, edges_before, edges_by, flash, flashes, mark_behind, mark_by, marked}
 use Rattle.arc_layer.specs.State.{commands_of, state_before}
 use Rattle.arc_layer.specs.Words.{Saying}
 use Rattle.arc_layer.specs.declared.draws.Bend.{Bend}
@@ -49,7 +49,7 @@ command (functions kind layer) inside edges bend points from to h = h
 
 pub each_edge : (earlier : List Saying) → length (edges_before earlier) ≡ edges_in (contour_before (commands_of earlier))
 each_edge [] = refl
-each_edge (w ∷ earlier) = command w.command (region_open (commands_of earlier)) (edges_before earlier) (ok_bend (bend_of (state_before earlier) w)) (contour_before (commands_of earlier)) (point_before (commands_of earlier)) (point_before (commands_of (w ∷ earlier))) (each_edge earlier)
+each_edge (w ∷ earlier) = command w.command (region_open (commands_of earlier)) (edges_before earlier) (ok_or_none (bend_of (state_before earlier) w)) (contour_before (commands_of earlier)) (point_before (commands_of earlier)) (point_before (commands_of (w ∷ earlier))) (each_edge earlier)
 
 -- ---- where a contour ends
 

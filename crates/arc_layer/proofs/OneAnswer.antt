@@ -8,9 +8,8 @@ use Rattle.gerber_layer.specs.declared.place.Place.{Place}
 use Rattle.gerber_layer.specs.Dialect.{HasOneAnswerBy, IsReadBy, IsRefusedBy}
 use Rattle.gerber_layer.specs.MacroLayer.{loose as loose_words}
 use Rattle.gerber_layer.specs.declared.macro_kind.FlattenKind.{FlattenKind}
-use Rattle.arc_layer.specs.Marks.{AreMarks, IsBendRefused}
+use Rattle.arc_layer.specs.Marks.{AreMarks, IsBendRefused, PlainMark}
 use Rattle.arc_layer.specs.Real.{HasOneRealAnswer, IsRealCopper, IsRealRefused, PlainReal, by_bend, by_straight, real_piece}
-use Rattle.arc_layer.specs.Marks.{PlainMark}
 use Rattle.arc_layer.specs.declared.kind.RealKind.{RealKind}
 use Rattle.arc_layer.specs.declared.kind.RealKind.TheVariants.{Copper}
 use Rattle.arc_layer.proofs.Refusals.{HasOneBendAnswer, one_bend_answer}

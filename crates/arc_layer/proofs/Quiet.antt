@@ -14,7 +14,8 @@ use Rattle.gerber_layer.specs.WordCommands.{behind, number_in}
 use Rattle.gerber_layer.specs.declared.command.Code.{Code}
 use Rattle.gerber_layer.specs.declared.command.Code.TheVariants.{Draw, Move, Flash}
 use Rattle.arc_layer.specs.Bends.{command_bend, curve_of, operation_by}
-use Rattle.arc_layer.specs.Marks.{AreSayings, HasNoMarks, PlainMark, closes, contour_mark, edge_by, edges_before, edges_by, flashes, mark_behind, mark_by, marked, marks_in, ok_bend, ok_mark}
+use Rattle.gerber_layer.specs.Settings.{ok_or_none}
+use Rattle.arc_layer.specs.Marks.{AreSayings, HasNoMarks, PlainMark, closes, contour_mark, edge_by, edges_before, edges_by, flashes, mark_behind, mark_by, marked, marks_in}
 use Rattle.arc_layer.specs.declared.kind.RealKind.{RealKind}
 use Rattle.arc_layer.specs.State.{state_before}
 use Rattle.arc_layer.specs.Words.{IsQuiet, Saying, begins_offset, curve_in, from_offsets, is_line, is_quiet, plain, saying, stop_saying}
@@ -122,9 +123,9 @@ still earlier w s q = record {
   line = ap (λ (c : Curve). latest w.curve c) s.line ∙ q.line;
   macros = ap (λ (b : Bool). b || (state_before earlier).macros) q.names ∙ s.macros;
   edges =
-      let e : edges_before (w ∷ earlier) ≡ edges_by w.command (state_before earlier).region (edges_before earlier) None = ap (λ (r : Result (Option Bend) RealKind). edges_by w.command (state_before earlier).region (edges_before earlier) (ok_bend r)) (quiet_bend w.command (state_before earlier) w s.line q) in
+      let e : edges_before (w ∷ earlier) ≡ edges_by w.command (state_before earlier).region (edges_before earlier) None = ap (λ (r : Result (Option Bend) RealKind). edges_by w.command (state_before earlier).region (edges_before earlier) (ok_or_none r)) (quiet_bend w.command (state_before earlier) w s.line q) in
       ap (λ (xs : List (Option Bend)). list_any is_some xs) e ∙ edges_none w.command (state_before earlier).region (edges_before earlier) s.edges;
-  none = λ n. no_more (length earlier + 1 == n) (ok_mark (mark_behind earlier w)) (marks_in earlier n) (ap ok_mark (mark_none earlier w s q)) (s.none n);
+  none = λ n. no_more (length earlier + 1 == n) (ok_or_none (mark_behind earlier w)) (marks_in earlier n) (ap ok_or_none (mark_none earlier w s q)) (s.none n);
 }
 
 -- the items up to these say nothing of arcs

@@ -8,7 +8,8 @@ use Rattle.file_reading.proofs.Turning.{read-start, read-more, read-fault}
 use Rattle.gerber_words.specs.Words.{Ahead, Entry, Stop, ended, broken, HasWords, start}
 use Rattle.gerber_words.specs.Items.{word_item, stop_item, items_with}
 use Rattle.gerber_words.specs.Laws.{HasOneReadingAhead}
-use Rattle.arc_layer.specs.Marks.{AreMarks, AreSayings, AreShort, PlainMark, IsShortMark, IsBendRefused, edges_before, edges_behind, mark_behind, mark_of, marks_in, ok_mark}
+use Rattle.gerber_layer.specs.Settings.{ok_or_none}
+use Rattle.arc_layer.specs.Marks.{AreMarks, AreSayings, AreShort, PlainMark, IsShortMark, IsBendRefused, edges_before, edges_behind, mark_behind, mark_of, marks_in}
 use Rattle.arc_layer.specs.Reading.{Takes, marks_so_far}
 use Rattle.arc_layer.specs.State.{state_before, state_behind}
 use Rattle.arc_layer.specs.Words.{Saying, saying, stop_saying}
@@ -52,18 +53,18 @@ none_later : (earlier : List Saying) (n : ℕ) → length earlier < n → marks_
 none_later [] n h = refl
 none_later (w ∷ earlier) n h = by (length earlier + 1 == n) refl (none_later earlier n (omega (arith, h)))
   where
-    by : (b : Bool) → (length earlier + 1 == n) ≡ b → marks_in earlier n ≡ None → cond b (ok_mark (mark_behind earlier w)) (marks_in earlier n) ≡ None
+    by : (b : Bool) → (length earlier + 1 == n) ≡ b → marks_in earlier n ≡ None → cond b (ok_or_none (mark_behind earlier w)) (marks_in earlier n) ≡ None
     by true is none = absurd (grind (arith, is, h))
     by false is none = none
 
 -- the marks with one word more
 one_more : (earlier : List Saying) (w : Saying) (mark : Option PlainMark) (r r' : Reader) (n : ℕ) → Knows earlier r → Takes r w r' → marks_so_far r' n ≡ marks_in (w ∷ earlier) n
-one_more earlier w mark r r' n k t = subst (λ m. marks_so_far r' n ≡ cond (m + 1 == n) (ok_mark (mark_behind earlier w)) (marks_in earlier n)) k.counts (t.marks n ∙ by t.mark (r.commands + 1 == n) refl has)
+one_more earlier w mark r r' n k t = subst (λ m. marks_so_far r' n ≡ cond (m + 1 == n) (ok_or_none (mark_behind earlier w)) (marks_in earlier n)) k.counts (t.marks n ∙ by t.mark (r.commands + 1 == n) refl has)
   where
-    has : ok_mark (mark_behind earlier w) ≡ t.mark
-    has = ap ok_mark (sym (behind earlier w r k) ∙ t.clean)
+    has : ok_or_none (mark_behind earlier w) ≡ t.mark
+    has = ap ok_or_none (sym (behind earlier w r k) ∙ t.clean)
 
-    by : (b : Option PlainMark) (at : Bool) → (r.commands + 1 == n) ≡ at → ok_mark (mark_behind earlier w) ≡ b → cond (is_some b && at) b (marks_so_far r n) ≡ cond at (ok_mark (mark_behind earlier w)) (marks_in earlier n)
+    by : (b : Option PlainMark) (at : Bool) → (r.commands + 1 == n) ≡ at → ok_or_none (mark_behind earlier w) ≡ b → cond (is_some b && at) b (marks_so_far r n) ≡ cond at (ok_or_none (mark_behind earlier w)) (marks_in earlier n)
     by (Some x) true is h = sym h
     by (Some x) false is h = k.marks n
     by None true is h = k.marks n ∙ none_later earlier n (let c = k.counts in grind (arith, is, c)) ∙ sym h

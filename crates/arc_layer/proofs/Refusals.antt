@@ -13,10 +13,9 @@ use Rattle.gerber_layer.specs.declared.place.Place.{Place}
 use Rattle.gerber_layer.specs.Dialect.{HasOneAnswerBy, IsFaultBy, IsReadBy, IsRefusedBy}
 use Rattle.gerber_layer.specs.MacroLayer.{loose as loose_words}
 use Rattle.gerber_layer.specs.declared.macro_kind.FlattenKind.{FlattenKind}
-use Rattle.arc_layer.specs.Marks.{AreMarks, AreSayings, IsBendFault, IsBendRefused, mark_behind, marks_in}
+use Rattle.arc_layer.specs.Marks.{AreMarks, AreSayings, IsBendFault, IsBendRefused, mark_behind, marks_in, PlainMark}
 use Rattle.arc_layer.specs.Real.{IsRealFault, NoBendBefore, NoneUpTo, by_bend, by_straight, earlier, fault_of, first_fault}
 use Rattle.arc_layer.specs.Words.{saying, stop_saying}
-use Rattle.arc_layer.specs.Marks.{PlainMark}
 use Rattle.arc_layer.specs.declared.kind.RealKind.{RealKind}
 use Rattle.arc_layer.specs.declared.kind.RealKind.TheVariants.{Copper}
 

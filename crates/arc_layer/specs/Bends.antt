@@ -8,7 +8,7 @@ use Rattle.gerber_layer.specs.CommandEffects.{code_of, coordinate}
 use Rattle.lengths.specs.declared.decimal.Unit.{Unit as Measure}
 use Rattle.gerber_layer.specs.declared.command.Format.{Format}
 use Rattle.gerber_layer.specs.declared.command.Code.{Code}
-use Rattle.gerber_layer.specs.declared.command.Code.TheVariants.{Draw, Move, Flash}
+use Rattle.gerber_layer.specs.declared.command.Code.TheVariants.{Draw}
 use Rattle.gerber_layer.specs.declared.kind.GerberKind.{GerberKind}
 use Rattle.gerber_layer.specs.declared.kind.GerberKind.TheVariants as kind
 use Rattle.gerber_layer.specs.WordCommands.{is_number_if}
@@ -84,8 +84,7 @@ no_bend w = unless (is_some w.i || (is_some w.j || w.more)) OffsetsAmiss (Ok Non
 -- the curve of an operation: only a draw has another than a line
 abbrev pub curve_of : Code → State → Saying → Curve
 curve_of Draw s w = curve_at s w
-curve_of Move s w = Line
-curve_of Flash s w = Line
+curve_of other s w = Line
 
 -- an operation by its curve
 abbrev pub operation_by : Curve → State → Saying → Result (Option Bend) RealKind

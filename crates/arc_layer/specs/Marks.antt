@@ -9,6 +9,8 @@ use Rattle.file_reading.specs.Reading.{Item}
 use Rattle.gerber_words.specs.Items as words
 use Rattle.gerber_layer.specs.Command.{Command, operates, opens_region, closes_region}
 use Rattle.gerber_layer.specs.CommandEffects.{code_of}
+use Rattle.gerber_layer.specs.Laws.{is_move}
+use Rattle.gerber_layer.specs.Settings.{ok_or_none}
 use Rattle.gerber_layer.specs.declared.command.Code.{Code}
 use Rattle.gerber_layer.specs.declared.command.Code.TheVariants.{Draw, Move, Flash}
 use Rattle.arc_layer.specs.Bends.{IsShort, bend_of}
@@ -32,14 +34,8 @@ plain_mark seen.Flash = flash
 plain_mark (seen.Contour edges) = contour edges.items
 
 abbrev pub is_flash : Code → Bool
-is_flash Draw = false
-is_flash Move = false
 is_flash Flash = true
-
-abbrev pub is_move : Code → Bool
-is_move Draw = false
-is_move Move = true
-is_move Flash = false
+is_flash other = false
 
 -- a flash behind the name of a macro
 abbrev pub flashes : Command → State → Bool
@@ -76,10 +72,8 @@ mark_of s edges w = marked (bend_of s w) (closes w.command s) edges (flashes w.c
 -- The bends of the edges of the open contour: none behind `G36`, `G37` and each move of a region, and one more behind each draw of a region: the bend of an arc, or none.
 abbrev pub edge_by : Code → Bool → List (Option Bend) → Option Bend → List (Option Bend)
 edge_by Draw true edges bend = edges ++ bend ∷ []
-edge_by Draw false edges bend = edges
 edge_by Move true edges bend = []
-edge_by Move false edges bend = edges
-edge_by Flash inside edges bend = edges
+edge_by code inside edges bend = edges
 
 abbrev pub edges_by : Command → Bool → List (Option Bend) → Option Bend → List (Option Bend)
 edges_by (operates x y code) inside edges bend = edge_by (code_of code) inside edges bend
@@ -87,12 +81,8 @@ edges_by opens_region inside edges bend = []
 edges_by closes_region inside edges bend = []
 edges_by other inside edges bend = edges
 
-abbrev pub ok_bend : Result (Option Bend) RealKind → Option Bend
-ok_bend (Ok bend) = bend
-ok_bend (Err why) = None
-
 abbrev pub edges_behind : State → List (Option Bend) → Saying → List (Option Bend)
-edges_behind s edges w = edges_by w.command s.region edges (ok_bend (bend_of s w))
+edges_behind s edges w = edges_by w.command s.region edges (ok_or_none (bend_of s w))
 
 abbrev pub edges_before : List Saying → List (Option Bend)
 edges_before [] = []
@@ -102,14 +92,10 @@ edges_before (w ∷ earlier) = edges_behind (state_before earlier) (edges_before
 abbrev pub mark_behind : List Saying → Saying → Result (Option PlainMark) RealKind
 mark_behind earlier w = mark_of (state_before earlier) (edges_before earlier) w
 
-abbrev pub ok_mark : Result (Option PlainMark) RealKind → Option PlainMark
-ok_mark (Ok mark) = mark
-ok_mark (Err why) = None
-
 -- the marks of a history: that of the command of each number, from 1
 abbrev pub marks_in : List Saying → ℕ → Option PlainMark
 marks_in [] n = None
-marks_in (w ∷ earlier) n = if length earlier + 1 == n then ok_mark (mark_behind earlier w) else marks_in earlier n
+marks_in (w ∷ earlier) n = if length earlier + 1 == n then ok_or_none (mark_behind earlier w) else marks_in earlier n
 
 -- these are the words of a file and its stop, by what they say
 abbrev pub AreSayings : List ℕ → List (Item Saying) → Type 0

@@ -1,5 +1,5 @@
 -- Real copper: the pieces of a copper file in which draws may be arcs, and macros may have slanted lines.
-use Rattle.std.specs.Prelude.{◌≡◌, ℕ, ◌*◌, ◌<◌, ◌≤◌, Bool, ◌||◌, not, nat_lt, if◌then◌else◌, List, [], ◌∷◌, map, Option, Some, None, unsigned_abs, Result, Ok, Err}
+use Rattle.std.specs.Prelude.{◌≡◌, ℕ, ◌*◌, ◌<◌, ◌≤◌, Bool, ◌||◌, not, nat_lt, if◌then◌else◌, List, [], ◌∷◌, drop, map, Option, Some, None, unsigned_abs, Result, Ok, Err}
 use Rattle.std.specs.Ordering.{int_eq}
 use Rattle.planar.specs.declared.Spot.{Spot}
 use Rattle.board_shapes.specs.Figures.{Figure, Stroke, round, filled, figure_of}
@@ -77,13 +77,9 @@ abbrev pub first_edge : List (Option Bend) → Option Bend
 first_edge [] = None
 first_edge (e ∷ edges) = e
 
-abbrev pub other_edges : List (Option Bend) → List (Option Bend)
-other_edges [] = []
-other_edges (e ∷ edges) = edges
-
 abbrev pub parts_from : Spot → List Spot → List (Option Bend) → List Part
 parts_from p [] edges = []
-parts_from p (q ∷ points) edges = part_by p q (first_edge edges) ∷ parts_from q points (other_edges edges)
+parts_from p (q ∷ points) edges = part_by p q (first_edge edges) ∷ parts_from q points (drop 1 edges)
 
 abbrev pub region_by : List Spot → List (Option Bend) → RealFigure
 region_by [] edges = plain (filled [])
@@ -94,11 +90,8 @@ region_by (p ∷ points) edges = curved p (parts_from p points edges)
 abbrev pub with_mark : Option PlainMark → Figure → RealFigure
 with_mark (Some (arc b)) (round s) = bent (arc_of b s)
 with_mark (Some flash) (round s) = if is_slanted s then slanted (slant_of s) else plain (round s)
-with_mark (Some (contour edges)) (round s) = plain (round s)
 with_mark (Some (contour edges)) (filled points) = region_by points edges
-with_mark (Some (arc b)) (filled points) = plain (filled points)
-with_mark (Some flash) (filled points) = plain (filled points)
-with_mark None figure = plain figure
+with_mark mark figure = plain figure
 
 -- a piece of the first reading, with the mark of its command
 abbrev pub real_piece : (ℕ → Option PlainMark) → PlainPiece → PlainReal

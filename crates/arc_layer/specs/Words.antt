@@ -104,8 +104,7 @@ selects_alone w = is_selection w.command && (is_none w.curve && (is_none w.quadr
 abbrev pub is_line : Option Curve → Bool
 is_line None = true
 is_line (Some Line) = true
-is_line (Some Clockwise) = false
-is_line (Some Counterclockwise) = false
+is_line other = false
 
 -- a plain word sets no other curve than a line, and has no offsets
 abbrev pub is_quiet : List ℕ → Bool

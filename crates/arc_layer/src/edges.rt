@@ -3,6 +3,7 @@ ghost use Rattle.arc_layer.specs.Bends.{IsShort};
 ghost use Rattle.arc_layer.specs.Marks as spec;
 ghost use Rattle.arc_layer.specs.Marks.{IsShortMark, plain_mark};
 ghost use Rattle.gerber_layer.specs.Command.{view};
+ghost use Rattle.gerber_layer.specs.Laws.{is_move};
 ghost use Rattle.gerber_layer.specs.declared.command.Code.TheVariants as codes;
 ghost use Rattle.std.specs.List.{list_any};
 ghost use Rattle.std.specs.Prelude.{◌≡◌, true, [], All, IfErr, IfOk, IfSome, is_some, option_map};
@@ -25,7 +26,7 @@ fn is_flash(code: Code) -> bool
 }
 
 fn is_move(code: Code) -> bool
-    ensures { result ≡ spec.is_move code }
+    ensures { result ≡ is_move code }
 {
     matches!(code, Code::Move)
 }

@@ -9,7 +9,7 @@ ghost use Rattle.board_shapes.specs.declared.shape.Shape.TheVariants as shape;
 ghost use Rattle.board_shapes.specs.Pieces.{plain_piece, plain_pieces};
 ghost use Rattle.file_reading.specs.declared.fault.FileFault.TheVariants as fault;
 ghost use Rattle.planar.specs.Plane.{IsPlaced};
-ghost use Rattle.std.specs.Prelude.{◌≡◌, ◌≤◌, All, length, map, IfErr, IfOk, Some};
+ghost use Rattle.std.specs.Prelude.{◌≡◌, ◌≤◌, All, drop, length, map, IfErr, IfOk, Some};
 
 use crate::centres::moved;
 use crate::draws::Bend;
@@ -107,7 +107,7 @@ fn part_by(from: Spot, to: Spot, bend: Option<Bend>) -> Part
 fn first_edge(edges: &[Option<Bend>]) -> (Option<Bend>, &[Option<Bend>])
     requires { All IsShort edges.now }
     ensures first { result.0 ≡ spec.first_edge edges.now }
-    ensures others { result.1.now ≡ spec.other_edges edges.now }
+    ensures others { result.1.now ≡ drop 1 edges.now }
     ensures short { IsShort result.0 }
     ensures shorts { All IsShort result.1.now }
 {

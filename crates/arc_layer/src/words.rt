@@ -173,10 +173,7 @@ pub fn read_word<'a>(word: Word<'a>) -> Saying<'a>
 fn is_selection(command: &Command) -> bool
     ensures { result ≡ spec.is_selection (view command.now) }
 {
-    match *command {
-        Command::Select(_) => true,
-        _ => false,
-    }
+    matches!(*command, Command::Select(_))
 }
 
 /// Whether a word selects an aperture and says no more, so that behind it the same is in force.

@@ -17,7 +17,7 @@ use Rattle.gerber_layer.specs.declared.reader.Reader.{Reader}
 use Rattle.gerber_layer.specs.CommandEffects.{Place, Known, Effect, Profile, stays, makes, begins_macro, fills_macro, steps, concludes, code_of, coordinate}
 use Rattle.gerber_layer.specs.Tools.{Macro, Macros, Tool, begun, filled_up, latest_or, longer}
 use Rattle.gerber_layer.specs.After.{after, contour_after, heads, opened}
-use Rattle.gerber_layer.specs.Settings.{value_or, value_in, settings_before, format_before, unit_before, x_before, y_before, point_before, region_open, drawn, contour_before, defined_before, definitions_before, macros_before, ok_block, with_body}
+use Rattle.gerber_layer.specs.Settings.{value_or, value_in, settings_before, format_before, unit_before, x_before, y_before, point_before, region_open, drawn, contour_before, defined_before, definitions_before, macros_before, ok_or_none, with_body}
 use Rattle.gerber_layer.specs.Image.{Image, with_effect, known_with, known_by, image_by}
 use Rattle.gerber_layer.specs.Reader.{defined_in, macros_in, size_of, Adds, HasMacros, Turns, contour_of, known_of, place_of, Obeys}
 use Rattle.gerber_layer.specs.Outcomes.{HasOutcomes, IsEffect, IsFilled, Outcome}
@@ -44,7 +44,7 @@ point_is p earlier ps x y code e o =
 
 -- the settings behind a command are found by looking back from the next
 settings-push : (p : Place) (earlier : List Command) (ps : Image) (c : Command) (e : Effect) → Outcome (known_with p earlier ps) c e → after (settings_before earlier) c (heads e) (opened e) ≡ settings_before (c ∷ earlier)
-settings-push p earlier ps (repeats text) e o = rw (ap opened o.is, ap ok_block o.next_is) refl
+settings-push p earlier ps (repeats text) e o = rw (ap opened o.is, ap ok_or_none o.next_is) refl
 settings-push p earlier ps (operates x y code) e o =
     let there = point_is p earlier ps x y code e o in
     rw (heads_is (region_open earlier) (code_of code) o.to e o.is, there) refl

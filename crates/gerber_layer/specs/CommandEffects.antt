@@ -1,7 +1,7 @@
 -- What a command does, or its fault, by what is known before it.
 use Rattle.std.specs.Prelude.{ℕ, ◌+◌, ◌-◌, ◌/◌, ◌%◌, Bool, true, false, ◌&&◌, ◌||◌, not, ◌==◌, nat_le, nat_lt, if◌then◌else◌, List, [], ◌∷◌, ◌++◌, length, take, drop, sum_by, codes, ℤ, Option, Some, None, is_some, is_none, Result, Ok, Err}
 use Rattle.planar.specs.declared.Spot.{Spot}
-use Rattle.lengths.specs.Decimal.{other_unit, over_power}
+use Rattle.lengths.specs.Decimal.{Fraction, other_unit, over_power}
 use Rattle.lengths.specs.Grid.{position_of}
 use Rattle.lengths.specs.declared.decimal.Unit.{Unit as Measure}
 use Rattle.lengths.specs.declared.decimal.GridFault.{GridFault}
@@ -26,7 +26,6 @@ use Rattle.step_repeat.specs.declared.repeat.Repeat.{Repeat}
 use Rattle.step_repeat.specs.declared.fault.RepeatFault.{RepeatFault}
 use Rattle.step_repeat.specs.declared.fault.RepeatFault.TheVariants as stepping
 use Rattle.texts.specs.Words.{is_word}
-use Rattle.lengths.specs.Decimal.{Fraction}
 use Rattle.aperture_macros.specs.BodyWord.{PlainPrimitive}
 use Rattle.aperture_macros.specs.Images.{figure_at}
 use Rattle.aperture_macros.specs.declared.fault.MacroFault.{MacroFault}
@@ -117,9 +116,7 @@ code_of (Some code) = code
 -- the last operation is `D01`
 abbrev pub is_drawing : Option Code → Bool
 is_drawing (Some Draw) = true
-is_drawing (Some Move) = false
-is_drawing (Some Flash) = false
-is_drawing None = false
+is_drawing other = false
 
 -- a position, or how it is refused
 abbrev pub gridded : Result ℤ GridFault → Result ℤ GerberKind

@@ -8,7 +8,7 @@ use Rattle.gerber_words.specs.Words.{Entry, Stop, HasWords, start}
 use Rattle.gerber_words.specs.Laws.{star_of}
 use Rattle.gerber_layer.specs.Command.{Command, opens_region, operates, repeats, ends}
 use Rattle.gerber_layer.specs.declared.command.Code.{Code}
-use Rattle.gerber_layer.specs.declared.command.Code.TheVariants.{Draw, Move, Flash}
+use Rattle.gerber_layer.specs.declared.command.Code.TheVariants.{Move}
 use Rattle.gerber_layer.specs.declared.kind.GerberKind.TheVariants as kind
 use Rattle.gerber_layer.specs.declared.macro_kind.FlattenKind.{FlattenKind}
 use Rattle.gerber_layer.specs.declared.macro_kind.FlattenKind.TheVariants.{Gerber}
@@ -26,9 +26,8 @@ use Rattle.gerber_layer.specs.MacroLayer.{flat_place, with_macros}
 
 -- a `D02`
 abbrev pub is_move : Code → Bool
-is_move Draw = false
 is_move Move = true
-is_move Flash = false
+is_move other = false
 
 -- a command that begins a contour anew: the opening of a region, or a move
 abbrev pub begins_contour : Command → Bool

@@ -1,4 +1,4 @@
--- What a command does where a file may have macros: the rows that `Table` has not, or has otherwise (Gerber Layer Format
+-- What a command does where a file may have macros: the rows that `CommandEffects` has not, or has otherwise (Gerber Layer Format
 -- Specification, 4.5).
 use Rattle.std.specs.Prelude.{ℕ, Bool, true, false, ◌||◌, nat_le, nat_lt, if◌then◌else◌, List, [], ◌∷◌, length, codes, Option, Some, None, is_some, Result, Ok, Err}
 use Rattle.std.specs.Str.Parse.{digits_value}
@@ -26,7 +26,7 @@ use Rattle.gerber_layer.specs.WordCommands.{is_empty}
 use Rattle.gerber_layer.specs.Tools.{composed, has_room, macro_named, name_text, number_digits, parameters_in}
 use Rattle.gerber_layer.specs.CommandEffects.{Known, Effect, stays, makes, begins_macro, fills_macro, concludes, ◌>>=◌, unless, needed, define, is_finish, row}
 
--- how the rows of `Table` refuse
+-- how the rows of `CommandEffects` refuse
 abbrev pub gerber : {A : Type 0} → Result A GerberKind → Result A FlattenKind
 gerber (Ok x) = Ok x
 gerber (Err kind) = Err (Gerber kind)

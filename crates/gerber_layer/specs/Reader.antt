@@ -42,7 +42,7 @@ use Rattle.gerber_layer.specs.declared.tool.Tool.{Tool as Given}
 use Rattle.gerber_layer.specs.declared.tool.Tool.TheVariants as given
 use Rattle.gerber_layer.specs.Tools.{Macro, Macros, Tool, standard, composed, begun, filled_up, macro_named}
 use Rattle.gerber_layer.specs.declared.reader.Reader.{Reader}
-use Rattle.gerber_layer.specs.CommandEffects.{Place, Known, Effect, stays, makes, begins_macro, fills_macro, performs, extends, closes, opens, leaves, steps, concludes, closing, Profile, edges_of, ended_block, extend, flash, listed, room_for, ◌>>=◌}
+use Rattle.gerber_layer.specs.CommandEffects.{Place, Known, Effect, stays, makes, begins_macro, fills_macro, performs, closes, opens, leaves, steps, concludes, closing, Profile, edges_of, ended_block, extend, flash, listed, room_for, ◌>>=◌}
 use Rattle.gerber_layer.specs.After.{after, contour_after, heads, opened}
 use Rattle.gerber_layer.specs.Image.{made, pieces_after, start_after}
 use Rattle.gerber_layer.specs.Lawful.{AreLawfulSettings}
@@ -177,14 +177,7 @@ leads (seen.Draws to stroke) = Some to
 leads (seen.Flashes to) = Some to
 leads (seen.Extends to) = Some to
 leads (seen.Closes to) = Some to
-leads seen.Stays = None
-leads (seen.Makes n tool) = None
-leads (seen.Begins name) = None
-leads (seen.Fills primitive) = None
-leads (seen.Repeats next) = None
-leads seen.Ends = None
-leads seen.Opens = None
-leads seen.Leaves = None
+leads other = None
 
 abbrev pub opens_block : Seen → Option Repeat
 opens_block (seen.Repeats next) = next
@@ -195,14 +188,7 @@ abbrev pub Turns : Dictionary → Effect → Dictionary → Type 0
 Turns old (makes n tool) new = Adds old new n tool
 Turns old (begins_macro name) new = HasMacros old new (begun (macros_in old) name)
 Turns old (fills_macro p) new = HasMacros old new (filled_up (macros_in old) p)
-Turns old stays new = new ≡ old
-Turns old (performs to figure) new = new ≡ old
-Turns old (extends to) new = new ≡ old
-Turns old (closes to figure) new = new ≡ old
-Turns old (steps next pieces) new = new ≡ old
-Turns old (concludes pieces) new = new ≡ old
-Turns old opens new = new ≡ old
-Turns old (leaves figure) new = new ≡ old
+Turns old other new = new ≡ old
 
 -- The reader has obeyed a command that comes to this, which is no fault.
 pub record Obeys {W : Type 0} (old : Reader) (c : Command) (what : Result Effect W) (new : Reader) : Type 0 where
@@ -235,17 +221,13 @@ pub record IsLawfulReader (r : Reader) : Type 0 where
 abbrev pub IsFit : Dictionary → Seen → Type 0
 IsFit d (seen.Makes n tool) = IsLawfulTool (tool_of tool) × (defined_in d n ≡ None) × IsMarked (macros_in d) tool
 IsFit d (seen.Begins name) = macro_named (macros_in d) name.now ≡ None
-IsFit d (seen.Fills primitive) = Unit {0}
 IsFit d (seen.Moves to) = IsPlaced to
 IsFit d (seen.Draws to stroke) = IsPlaced to
 IsFit d (seen.Flashes to) = IsPlaced to
 IsFit d (seen.Extends to) = IsPlaced to
 IsFit d (seen.Closes to) = IsPlaced to
 IsFit d (seen.Repeats next) = IfSome next IsLawfulRepeat
-IsFit d seen.Ends = Unit {0}
-IsFit d seen.Stays = Unit {0}
-IsFit d seen.Opens = Unit {0}
-IsFit d seen.Leaves = Unit {0}
+IsFit d other = Unit {0}
 
 -- The reader has carried an effect out. Its settings are as before.
 pub record Carries (old : Reader) (e : Effect) (new : Reader) : Type 0 where

@@ -11,7 +11,7 @@ use Rattle.step_repeat.specs.declared.repeat.Repeat.{Repeat}
 use Rattle.gerber_layer.specs.Command.{Command, formats, counts_in, defines, selects, repeats, opens_region, closes_region, operates, ends, names_macro, body_word}
 use Rattle.gerber_layer.specs.declared.kind.GerberKind.{GerberKind}
 use Rattle.gerber_layer.specs.declared.command.Code.{Code}
-use Rattle.gerber_layer.specs.declared.command.Code.TheVariants.{Draw, Move, Flash}
+use Rattle.gerber_layer.specs.declared.command.Code.TheVariants.{Draw, Move}
 use Rattle.gerber_layer.specs.declared.command.Format.{Format}
 use Rattle.gerber_layer.specs.declared.settings.Settings.{Settings}
 use Rattle.gerber_layer.specs.Tools.{Macros, Tool, begun, filled_up, tool_in}
@@ -55,7 +55,7 @@ is_definition other = false
 abbrev pub definitions_before : List Command → ℕ
 definitions_before earlier = how_many is_definition earlier
 
--- the first format and unit, and the last selection and operation
+-- the first format and unit, and the last selection
 abbrev pub format_before : List Command → Option Format
 format_before earlier = first_said format_in earlier
 
@@ -64,9 +64,6 @@ unit_before earlier = first_said unit_in earlier
 
 abbrev pub aperture_before : List Command → Option ℕ
 aperture_before earlier = last_said selection_in earlier
-
-abbrev pub operation_before : List Command → Option Code
-operation_before earlier = last_said code_in earlier
 
 -- what a command says of whether a region is open
 abbrev pub region_in : Command → Option Bool
@@ -78,14 +75,14 @@ region_in other = None
 abbrev pub region_open : List Command → Bool
 region_open earlier = last_or false region_in earlier
 
--- the block, and none where the word is refused
-abbrev pub ok_block : Result (Option Repeat) GerberKind → Option Repeat
-ok_block (Ok next) = next
-ok_block (Err fault) = None
+-- what there is, and none where it is refused
+abbrev pub ok_or_none : {A W : Type 0} → Result (Option A) W → Option A
+ok_or_none (Ok next) = next
+ok_or_none (Err fault) = None
 
 -- the block that a step and repeat word opens, if it has parameters
 abbrev pub block_in : Command → Option Measure → Option (Option Repeat)
-block_in (repeats text) unit = Some (ok_block (next_block unit text))
+block_in (repeats text) unit = Some (ok_or_none (next_block unit text))
 block_in other unit = None
 
 -- a block is open where the last `SR` word has parameters
@@ -104,10 +101,8 @@ value_or here (Err fault) = here
 
 -- the value of a coordinate in the format and the unit in force; here, where none stands or it has no value
 abbrev pub value_in : Option (List ℕ) → Option Format → Option Measure → ℤ → ℤ
-value_in None format unit here = here
 value_in (Some digits) (Some format) (Some unit) here = value_or here (coordinate format unit here (Some digits))
-value_in (Some digits) (Some format) None here = here
-value_in (Some digits) None unit here = here
+value_in digits format unit here = here
 
 -- the value of the last X, and of the last Y, or 0
 abbrev pub x_before : List Command → ℤ
@@ -129,7 +124,7 @@ settings_before earlier = record {
   unit = unit_before earlier;
   selected = aperture_before earlier;
   at = point_before earlier;
-  last = operation_before earlier;
+  last = last_said code_in earlier;
   region = region_open earlier;
   block = block_open earlier;
   ended = has_ended earlier;
@@ -143,10 +138,8 @@ lengthened (a ∷ rest) from to = (a ∷ rest) ++ to ∷ []
 -- behind an operation: in a region a `D01` adds an edge, and a `D02` ends the contour
 abbrev pub drawn : Code → Bool → List Spot → Spot → Spot → List Spot
 drawn Draw true contour from to = lengthened contour from to
-drawn Draw false contour from to = contour
 drawn Move true contour from to = []
-drawn Move false contour from to = contour
-drawn Flash inside contour from to = contour
+drawn code inside contour from to = contour
 
 -- the contour behind a command
 abbrev pub contour_by : Command → Bool → List Spot → Spot → Spot → List Spot
@@ -168,7 +161,6 @@ as_number n None = None
 -- what a command defines n as, in the unit in force
 abbrev pub definition_in : Command → Option Measure → ℕ → Option Tool
 definition_in (defines text) (Some unit) n = as_number n (tool_in text unit)
-definition_in (defines text) None n = None
 definition_in other unit n = None
 
 -- the aperture that n is defined as
@@ -179,8 +171,7 @@ defined_before (c ∷ earlier) n = option_or (definition_in c (unit_before earli
 -- a word of a body gives the last macro its primitive, if it is one
 abbrev pub with_body : Macros → Result (Option PlainPrimitive) MacroFault → Macros
 with_body m (Ok (Some p)) = filled_up m p
-with_body m (Ok None) = m
-with_body m (Err fault) = m
+with_body m other = m
 
 -- the macros behind a command
 abbrev pub macros_by : Command → Macros → Macros

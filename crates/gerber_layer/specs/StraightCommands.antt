@@ -4,16 +4,11 @@ use Rattle.texts.specs.Words.{begins}
 use Rattle.gerber_words.specs.Words.{Entry}
 use Rattle.gerber_layer.specs.Command.{Command, nothing, refused, operates}
 use Rattle.gerber_layer.specs.WordCommands.{behind, behind_line_code, code_in, command_of, from_x, goes_on, is_empty, is_number_if, number_in, offsets_len}
-use Rattle.gerber_layer.specs.declared.kind.GerberKind.{GerberKind}
 use Rattle.gerber_layer.specs.declared.kind.GerberKind.TheVariants as kind
 
 -- a word that is refused as an arc
-abbrev pub is_arc_kind : GerberKind → Bool
-is_arc_kind kind.Arc = true
-is_arc_kind other = false
-
 abbrev pub is_bent : Command → Bool
-is_bent (refused why) = is_arc_kind why
+is_bent (refused kind.Arc) = true
 is_bent other = false
 
 -- what stands behind a short code of arcs, which is told apart from longer codes by what follows it

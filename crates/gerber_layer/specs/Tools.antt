@@ -89,12 +89,7 @@ composed_in word unit =
 abbrev pub tool_by : Result (ℕ × Aperture) ApertureFault → Option (ℕ × Tool) → Option (ℕ × Tool)
 tool_by (Ok made) other = Some (made.0, standard made.1)
 tool_by (Err aperture.Macro) other = other
-tool_by (Err aperture.BadText) other = None
-tool_by (Err aperture.Hole) other = None
-tool_by (Err aperture.Polygon) other = None
-tool_by (Err aperture.OffGrid) other = None
-tool_by (Err aperture.OutOfRange) other = None
-tool_by (Err aperture.Number) other = None
+tool_by (Err fault) other = None
 
 -- what an `AD` word defines: a standard aperture, or one of a macro
 abbrev pub tool_in : List ℕ → Measure → Option (ℕ × Tool)

@@ -9,7 +9,7 @@ use Rattle.lengths.specs.declared.decimal.Unit.TheVariants.{Mm, Inch}
 use Rattle.gerber_words.specs.Words.{Entry}
 use Rattle.gerber_words.specs.Attributes.{PlainAttribute, attribute_of, field_of, is_field}
 use Rattle.gerber_words.specs.declared.attribute.AttributeKind.{AttributeKind}
-use Rattle.gerber_words.specs.declared.attribute.AttributeKind.TheVariants.{File, Aperture, Object, Delete}
+use Rattle.gerber_words.specs.declared.attribute.AttributeKind.TheVariants.{File}
 use Rattle.gerber_layer.specs.Command.{Command, nothing, refused, formats, counts_in, defines, selects, repeats, functions, opens_region, closes_region, operates, ends}
 use Rattle.gerber_layer.specs.declared.command.Code.{Code}
 use Rattle.gerber_layer.specs.declared.command.Code.TheVariants.{Draw, Move, Flash}
@@ -247,9 +247,7 @@ named text =
 -- attributes of the file alone say something
 abbrev pub by_kind : AttributeKind → List ℕ → Option Command
 by_kind File text = named text
-by_kind Aperture text = None
-by_kind Object text = None
-by_kind Delete text = None
+by_kind other text = None
 
 -- and words that are no attribute say nothing
 abbrev pub said_by : Option PlainAttribute → Option Command

@@ -38,12 +38,7 @@ pub fn other_format(first: Option<Format>, format: Format) -> bool
 pub fn is_drawing(last: Option<Code>) -> bool
     ensures { result ≡ spec.is_drawing last }
 {
-    match last {
-        Some(Code::Draw) => true,
-        Some(Code::Move) => false,
-        Some(Code::Flash) => false,
-        None => false,
-    }
+    matches!(last, Some(Code::Draw))
 }
 
 /// The operation of coordinates: a draw where no code is given.
@@ -60,10 +55,7 @@ pub fn code_of(code: Option<Code>) -> Code
 pub fn is_finish(command: &Command) -> bool
     ensures { result ≡ spec.is_finish (view command.now) }
 {
-    match command {
-        Command::Finish => true,
-        _ => false,
-    }
+    matches!(command, Command::Finish)
 }
 
 /// The block that a step and repeat word opens, or none where the word is `SR` alone; or its fault.
@@ -185,14 +177,7 @@ pub fn go_behind(settings: &mut Settings, command: &Command, to: Option<Spot>, n
         Command::CloseRegion => settings.region = false,
         Command::Operate(_, _, code) => perform(settings, code, to),
         Command::End => settings.ended = true,
-        Command::Nothing => (),
-        Command::Refused(_) => (),
-        Command::Function(_, _) => (),
-        Command::Define(_) => (),
-        Command::Macro(_) => (),
-        Command::Body(_) => (),
-        Command::Broken(_) => (),
-        Command::Finish => (),
+        _ => (),
     }
 }
 

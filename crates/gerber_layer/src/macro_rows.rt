@@ -6,7 +6,7 @@ ghost use Rattle.gerber_layer.specs.Lawful.{IsLawfulCommand};
 ghost use Rattle.gerber_layer.specs.MacroTable as spec;
 ghost use Rattle.apertures.specs.Definition.{aperture_at};
 ghost use Rattle.gerber_layer.specs.MacroTable.{as_macro, gerber};
-ghost use Rattle.gerber_layer.specs.Reader.{AreBlank, Stops, body_of};
+ghost use Rattle.gerber_layer.specs.Reader.{AreBlank, IsFit, IsLawfulReader, Stops, body_of, known_of, macros_in, shown};
 ghost use Rattle.gerber_layer.specs.Tools.{macro_named};
 ghost use Rattle.gerber_layer.specs.CommandEffects.{concludes, row, stays};
 
@@ -89,26 +89,20 @@ fn behind_end<'a>(command: &Command<'a>) -> MacroRow<'a>
 pub fn is_of_macros(command: &Command) -> bool
     ensures { result ≡ spec.is_of_macros (view command.now) }
 {
-    match command {
-        Command::Macro(_) => true,
-        Command::Body(_) => true,
-        Command::Define(_) => true,
-        _ => false,
-    }
+    matches!(
+        command,
+        Command::Macro(_) | Command::Body(_) | Command::Define(_)
+    )
 }
 
 // Whether a word is of the file's function.
 fn is_function(command: &Command) -> bool
     ensures { result ≡ spec.is_function (view command.now) }
 {
-    match command {
-        Command::Function(_, _) => true,
-        _ => false,
-    }
+    matches!(command, Command::Function(_, _))
 }
 
 impl<'a> Reader<'a> {
-    ghost use Rattle.gerber_layer.specs.Reader.{IsFit, IsLawfulReader, known_of, macros_in, shown};
     ghost use Rattle.gerber_layer.specs.MacroReader.{showing_any};
 
     // `AM`.
@@ -242,19 +236,7 @@ impl<'a> Reader<'a> {
             Command::Macro(name) => self.name_macro(name).map_err(Halt::Fault),
             Command::Body(text) => self.fill_macro(text).map_err(Halt::Fault),
             Command::Define(text) => self.define_any(alloc, lines, text),
-            Command::Function(_, _) => self.standard_row(command),
-            Command::Nothing => self.standard_row(command),
-            Command::Refused(_) => self.standard_row(command),
-            Command::Format(_) => self.standard_row(command),
-            Command::Unit(_) => self.standard_row(command),
-            Command::Select(_) => self.standard_row(command),
-            Command::Repeat(_) => self.standard_row(command),
-            Command::OpenRegion => self.standard_row(command),
-            Command::CloseRegion => self.standard_row(command),
-            Command::Operate(_, _, _) => self.standard_row(command),
-            Command::End => self.standard_row(command),
-            Command::Broken(_) => self.standard_row(command),
-            Command::Finish => self.standard_row(command),
+            _ => self.standard_row(command),
         }
     }
 

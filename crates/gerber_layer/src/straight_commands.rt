@@ -19,19 +19,7 @@ use texts::{begins, run_len};
 fn is_bent(command: &Command) -> bool
     ensures { result ≡ spec.is_bent (view command.now) }
 {
-    match *command {
-        Command::Refused(kind) => is_arc_kind(kind),
-        _ => false,
-    }
-}
-
-fn is_arc_kind(kind: GerberKind) -> bool
-    ensures { result ≡ spec.is_arc_kind kind }
-{
-    match kind {
-        GerberKind::Arc => true,
-        _ => false,
-    }
+    matches!(command, Command::Refused(GerberKind::Arc))
 }
 
 fn behind_short(text: &[u8]) -> &[u8]
@@ -106,9 +94,9 @@ fn unbent(text: &[u8]) -> Command<'_>
     }
 }
 
-/// The command that a word is where each arc draw is straight.
+// The command that a word is where each arc draw is straight.
 #[tactic(auto, unfolding(crate::specs::StraightCommands::straight_command))]
-pub fn read_straight_command<'a>(word: Word<'a>) -> Command<'a>
+fn read_straight_command<'a>(word: Word<'a>) -> Command<'a>
     ensures value { view result ≡ spec.straight_command (entry_of word.entry) }
     ensures lawful { IsLawfulCommand (view result) }
 {
@@ -120,7 +108,7 @@ pub fn read_straight_command<'a>(word: Word<'a>) -> Command<'a>
     }
 }
 
-/// The same where the file may have macros.
+/// The command that a word is where each arc draw is straight and the file may have macros.
 pub fn read_loose_command<'a>(word: Word<'a>) -> Command<'a>
     ensures value { view result ≡ loose_command (entry_of word.entry) }
     ensures lawful { IsLawfulCommand (view result) }

@@ -7,7 +7,7 @@ ghost use Rattle.gerber_layer.specs.Command.{operates, view};
 ghost use Rattle.gerber_layer.specs.Lawful.{IsLawfulCommand, IsWhole};
 ghost use Rattle.gerber_layer.specs.MacroCommands.{command_with_macros, macro_or};
 ghost use Rattle.gerber_layer.specs.WordCommands as spec;
-ghost use Rattle.gerber_words.specs.Attributes.{plain_attribute, plain_attributes};
+ghost use Rattle.gerber_words.specs.Attributes.{plain_attribute};
 ghost use Rattle.gerber_words.specs.Stepping.{entry_of};
 
 use crate::command::{Code, Command, Format};
@@ -175,15 +175,13 @@ pub fn macro_or<'a>(other: Command<'a>, word: Word<'a>) -> Command<'a>
 
 // What an attribute says of the layer, if it says something.
 fn said_by<'a>(attribute: Option<Attribute<'a>>) -> Option<Command<'a>>
-    ensures value { option_map view result ≡ spec.said_by (plain_attributes attribute.entry) }
+    ensures value { option_map view result ≡ spec.said_by (option_map plain_attribute attribute.entry) }
     ensures lawful { IfSome result (λ c. IsLawfulCommand (view c)) }
 {
     let attribute = attribute?;
     match attribute.kind() {
         AttributeKind::File => named(attribute),
-        AttributeKind::Aperture => None,
-        AttributeKind::Object => None,
-        AttributeKind::Delete => None,
+        _ => None,
     }
 }
 
@@ -375,8 +373,7 @@ fn plain(text: &[u8]) -> Command<'_>
     ensures lawful { IsLawfulCommand (view result) }
 {
     match text {
-        [b'X', ..] => from_x(text),
-        [b'Y', ..] => from_x(text),
+        [b'X' | b'Y', ..] => from_x(text),
         [b'D', ..] => coded(text),
         _ => general(text),
     }
@@ -436,15 +433,7 @@ fn is_arc(text: &[u8]) -> bool
 pub fn goes_on(text: &[u8]) -> bool
     ensures { result ≡ spec.goes_on text.now }
 {
-    match text {
-        [] => true,
-        [b'X', ..] => true,
-        [b'Y', ..] => true,
-        [b'I', ..] => true,
-        [b'J', ..] => true,
-        [b'D', ..] => true,
-        _ => false,
-    }
+    matches!(text, [] | [b'X' | b'Y' | b'I' | b'J' | b'D', ..])
 }
 
 #[tactic(auto, unfolding(crate::specs::WordCommands::coded))]

@@ -1,5 +1,5 @@
 -- Attributes: extended words whose text says something of the file or of objects, in parts cut at commas.
-use Rattle.std.specs.Prelude.{ℕ, Bool, false, ◌==◌, nat_eq, if◌then◌else◌, List, drop, codes, Option, Some, None, slice_get}
+use Rattle.std.specs.Prelude.{ℕ, Bool, false, ◌==◌, nat_eq, if◌then◌else◌, List, drop, codes, Option, Some, None, option_map, slice_get}
 use Rattle.std.specs.List.{slice_split, starts_with}
 use Rattle.std.specs.Cmp.Lexicographic.{pointwise}
 use Rattle.gerber_words.specs.Words.{Entry}
@@ -19,13 +19,9 @@ attribute_kind text =
     else (if starts_with nat_eq text (codes "TD") then Some Delete
     else None)))
 
--- the part of this number, from 0, of a text that is cut at its commas
+-- the part of this number, from 0, of a text that is cut at its commas: of an attribute's text part 0 is its name with its point
 abbrev pub field_of : List ℕ → ℕ → Option (List ℕ)
 field_of text n = slice_get (slice_split is_comma text) n
-
--- the field of this number of a word's text: part 0 is the attribute's name with its point
-abbrev pub attribute_field : List ℕ → ℕ → Option (List ℕ)
-attribute_field text n = field_of (drop 2 text) n
 
 -- a field that is this word
 abbrev pub is_field : Option (List ℕ) → List ℕ → Bool
@@ -37,20 +33,10 @@ pub record PlainAttribute : Type 0 where
   pub kind : AttributeKind
   pub text : List ℕ
 
--- the attribute that a text gives
-abbrev pub with_text : List ℕ → Option AttributeKind → Option PlainAttribute
-with_text text None = None
-with_text text (Some kind) = Some (record { kind = kind; text = drop 2 text })
-
 -- the attribute that a word is: only an extended word is one
 abbrev pub attribute_of : Entry → Option PlainAttribute
-attribute_of word = if word.extended then with_text word.text (attribute_kind word.text) else None
+attribute_of word = if word.extended then option_map (λ kind. record { kind = kind; text = drop 2 word.text }) (attribute_kind word.text) else None
 
 -- an attribute without where its text lies in memory
 abbrev pub plain_attribute : Attribute → PlainAttribute
 plain_attribute a = record { kind = a.kind; text = a.text.now }
-
--- and where there is one
-abbrev pub plain_attributes : Option Attribute → Option PlainAttribute
-plain_attributes None = None
-plain_attributes (Some a) = Some (plain_attribute a)

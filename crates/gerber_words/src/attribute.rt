@@ -1,7 +1,7 @@
 //! Attributes, and their fields.
-ghost use Rattle.std.specs.Prelude.{◌≡◌, ◌≤◌, length, IfSome};
+ghost use Rattle.std.specs.Prelude.{◌≡◌, ◌≤◌, length, option_map, IfSome};
 ghost use Rattle.std.specs.Option.{option_copied};
-ghost use Rattle.gerber_words.specs.Attributes.{attribute_kind, attribute_of, field_of, is_field as is_field_of, plain_attribute, plain_attributes};
+ghost use Rattle.gerber_words.specs.Attributes.{attribute_kind, attribute_of, field_of, is_field as is_field_of, plain_attribute};
 ghost use Rattle.gerber_words.specs.Stepping.{entry_of};
 
 use crate::words::Word;
@@ -28,7 +28,7 @@ impl<'a> Word<'a> {
     /// The attribute that the word is: exactly an extended word that begins with `TF`, `TA`, `TO`
     /// or `TD` is one. It takes no memory.
     pub fn attribute(&self) -> Option<Attribute<'a>>
-        ensures { plain_attributes result ≡ attribute_of (entry_of self.now) }
+        ensures { option_map plain_attribute result ≡ attribute_of (entry_of self.now) }
     {
         if !self.extended {
             return None;

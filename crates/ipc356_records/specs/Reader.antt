@@ -69,10 +69,8 @@ pub record IsLawfulReader (r : Reader) : Type 0 where
 
 -- an effect that the reader can take on
 abbrev pub IsFit : Reader → Effect → Type 0
-IsFit r stays = Unit {0}
-IsFit r (sets unit) = Unit {0}
-IsFit r closes = Unit {0}
 IsFit r (adds name access at) = IsText name × (access ≤ r.layers) × (r.records < MOST_RECORDS)
+IsFit r other = Unit {0}
 
 -- what stops the reader at a line
 abbrev pub Halts : Known → RecordLine → Halt RecordKind → Type 0

@@ -81,13 +81,8 @@ row k finishes = Err kind.NotEnded
 -- behind the end code only blank lines and the file's end may stand
 abbrev pub behind : RecordLine → Result Effect RecordKind
 behind blank = Ok stays
-behind unread = Err kind.AfterEnd
-behind (units unit) = Err kind.AfterEnd
-behind ends = Err kind.AfterEnd
-behind continues = Err kind.AfterEnd
-behind (tests fields) = Err kind.AfterEnd
-behind unknown = Err kind.AfterEnd
 behind finishes = Ok stays
+behind other = Err kind.AfterEnd
 
 -- what a line does, or its fault: by the table, and behind the end code by the rule for what stands there
 unfoldable pub effect : Known → RecordLine → Result Effect RecordKind
@@ -104,7 +99,5 @@ probe_at number name at layer = record { number = number; at = at; layer = layer
 
 -- the probes that an effect makes: their record is the number of the test record among all
 unfoldable pub probes_of_effect : Known → Effect → List Probe
-probes_of_effect k stays = []
-probes_of_effect k (sets unit) = []
-probes_of_effect k closes = []
 probes_of_effect k (adds name access at) = map (probe_at (k.records + 1) (index_of name k.names) at) (layers_of k.layers access)
+probes_of_effect k other = []

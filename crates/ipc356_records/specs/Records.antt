@@ -9,27 +9,18 @@ use Rattle.ipc356_records.specs.declared.record.Records.{Records}
 abbrev pub ahead : Records → Ahead
 ahead r = lines_ahead r.lines
 
--- a record is a line: its number and its text
-pub record IsLine (r : Record) (line : PlainLine) : Type 0 where
-  pub number : r.line ≡ line.number
-  pub text : r.text.now ≡ line.text
-
--- the record is the first line ahead, and then the others lie ahead
+-- the record is the first line ahead, with its number and its text, and then the others lie ahead
 pub record GivesLine (old : Ahead) (r : Record) (new : Ahead) : Type 0 where
   pub line : PlainLine
-  pub is : IsLine r line
+  pub number : r.line ≡ line.number
+  pub text : r.text.now ≡ line.text
   pub first : lines_from old ≡ line ∷ lines_from new
   pub counts : new.number ≡ old.number + 1
 
--- no line lies ahead, and that stays so
-pub record GivesNone (old new : Ahead) : Type 0 where
-  pub none : lines_from old ≡ []
-  pub stays : new ≡ old
-
--- The answer is the next line, or there is none.
+-- The answer is the next line, or no line lies ahead, and that stays so.
 abbrev pub Gives : Ahead → Option Record → Ahead → Type 0
 Gives old (Some r) new = GivesLine old r new
-Gives old None new = GivesNone old new
+Gives old None new = (lines_from old ≡ []) × (new ≡ old)
 
 -- A line that was read lies behind.
 abbrev pub IsShorter : Ahead → Option Record → Ahead → Type 0

@@ -51,10 +51,9 @@ fn finished(alloc: Global, mut reader: Reader, line: u32) -> Result<Netlist, Rec
     ensures fault { IfErr result (Faults reader.entry finishes line) }
 {
     obey_at(&mut reader, &RecordLine::Finish, line)?;
-    match reader.into_netlist(alloc) {
-        Ok(netlist) => Ok(netlist),
-        Err(_) => Err(RecordFault::NoMemory),
-    }
+    reader
+        .into_netlist(alloc)
+        .map_err(|_| RecordFault::NoMemory)
 }
 
 /// The probes of a netlist in record order and the distinct names of its nets, or the first faulty line. The board has

@@ -94,8 +94,7 @@ impl<'a> Reader<'a> {
         ensures fit { IfOk result (λ e. IsFit self.now (shown e)) }
     {
         match *form {
-            RecordLine::Blank => Ok(Effect::Stays),
-            RecordLine::Unread => Ok(Effect::Stays),
+            RecordLine::Blank | RecordLine::Unread => Ok(Effect::Stays),
             RecordLine::Units(unit) => set_unit(self.unit, unit),
             RecordLine::End => Ok(Effect::Closes),
             RecordLine::Continuation => Err(RecordKind::Continuation),
@@ -190,10 +189,7 @@ impl<'a> Reader<'a> {
         ensures halt { IfErr result (Halts (known_of self.old) (view form.now)) }
     {
         let effect = self.effect(form)?;
-        if let Err(_) = self.apply(effect) {
-            return Err(Halt::NoMemory);
-        }
-        Ok(())
+        self.apply(effect).map_err(|_| Halt::NoMemory)
     }
 
     /// The probes and the names as texts of their own.

@@ -82,8 +82,7 @@ pub fn behind<'a>(form: &RecordLine) -> Result<Effect<'a>, RecordKind>
     ensures still { IfOk result (λ e. shown e ≡ stays) }
 {
     match form {
-        RecordLine::Blank => Ok(Effect::Stays),
-        RecordLine::Finish => Ok(Effect::Stays),
+        RecordLine::Blank | RecordLine::Finish => Ok(Effect::Stays),
         _ => Err(RecordKind::AfterEnd),
     }
 }

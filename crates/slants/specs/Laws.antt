@@ -19,13 +19,9 @@ TakenIsBetween = (a : Slant) (points : List Spot) (p : Point) → (TakenBelow a 
 abbrev pub BelowIsAbove : Type 0
 BelowIsAbove = (a : Slant) (lower upper : List Spot) (p : Point) → TakenBelow a lower → TakenAbove a upper → InFigure (filled lower) p → InFigure (filled upper) p
 
--- The line from end to start
-abbrev pub other_way : Slant → Slant
-other_way a = record { start = a.end; end = a.start; width = a.width }
-
--- has the same copper
+-- The line from end to start has the same copper
 abbrev pub OtherWayIsSame : Type 0
-OtherWayIsSame = (a : Slant) (p : Point) → InSlant a p → InSlant (other_way a) p
+OtherWayIsSame = (a : Slant) (p : Point) → InSlant a p → InSlant (record { start = a.end; end = a.start; width = a.width }) p
 
 -- A level line to the right whose width is 2 h has the copper of the rectangle between the lower left corner and the upper right one
 abbrev pub LevelIsRectangle : Type 0

@@ -63,23 +63,23 @@ fn keeps(slant: &Slant, root: u128, b: Spot, c: Spot) -> bool
 }
 
 /// Whether each of the four edges does.
-fn keeps_all(slant: &Slant, root: u128, k: &Corners) -> bool
+fn keeps_all(slant: &Slant, root: u128, corners: &Corners) -> bool
     requires slant { IsPlacedSlant slant.now }
-    requires corners { ArePlacedCorners k.now }
-    ensures { IsTrue result ↔ KeepsAll slant.now (pos root) k.now.b k.now.c k.now.d k.now.e }
+    requires corners { ArePlacedCorners corners.now }
+    ensures { IsTrue result ↔ KeepsAll slant.now (pos root) corners.now.b corners.now.c corners.now.d corners.now.e }
 {
-    let near = keeps(slant, root, k.b, k.c) && keeps(slant, root, k.c, k.d);
-    let far = keeps(slant, root, k.d, k.e) && keeps(slant, root, k.e, k.b);
+    let near = keeps(slant, root, corners.b, corners.c) && keeps(slant, root, corners.c, corners.d);
+    let far = keeps(slant, root, corners.d, corners.e) && keeps(slant, root, corners.e, corners.b);
     near && far
 }
 
 /// Whether they do so for some root.
-fn has_root(slant: &Slant, k: &Corners) -> bool
+fn has_root(slant: &Slant, corners: &Corners) -> bool
     requires slant { IsPlacedSlant slant.now }
-    requires corners { ArePlacedCorners k.now }
-    ensures { IsTrue result ↔ HasRoot slant.now k.now.b k.now.c k.now.d k.now.e }
+    requires corners { ArePlacedCorners corners.now }
+    ensures { IsTrue result ↔ HasRoot slant.now corners.now.b corners.now.c corners.now.d corners.now.e }
 {
-    keeps_all(slant, root_of(slant), k)
+    keeps_all(slant, root_of(slant), corners)
 }
 
 /// Whether the polygon of four corners and the first again holds the rectangle. It has to turn left

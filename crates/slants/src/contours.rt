@@ -40,12 +40,14 @@ pub struct Corners {
 }
 
 /// Whether the way round the corners turns left at each.
-fn is_convex(k: &Corners) -> bool
-    requires placed { ArePlacedCorners k.now }
-    ensures { IsTrue result ↔ TurnsLeft k.now.b k.now.c k.now.d k.now.e }
+fn is_convex(corners: &Corners) -> bool
+    requires placed { ArePlacedCorners corners.now }
+    ensures { IsTrue result ↔ TurnsLeft corners.now.b corners.now.c corners.now.d corners.now.e }
 {
-    let near = turns_left(k.b, k.c, k.d) && turns_left(k.c, k.d, k.e);
-    let far = turns_left(k.d, k.e, k.b) && turns_left(k.e, k.b, k.c);
+    let near = turns_left(corners.b, corners.c, corners.d)
+        && turns_left(corners.c, corners.d, corners.e);
+    let far = turns_left(corners.d, corners.e, corners.b)
+        && turns_left(corners.e, corners.b, corners.c);
     near && far
 }
 

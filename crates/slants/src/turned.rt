@@ -72,26 +72,26 @@ fn leans(m: &Motions, b: Spot, c: Spot, q: Spot) -> bool
 }
 
 /// Whether it is so of each of the four edges.
-fn leans_in(m: &Motions, k: &Corners, q: Spot) -> bool
+fn leans_in(m: &Motions, corners: &Corners, q: Spot) -> bool
     requires ready { AreReady m.now }
-    requires corners { ArePlacedCorners k.now }
+    requires corners { ArePlacedCorners corners.now }
     requires placed { IsPlaced q }
-    ensures { IsTrue result ↔ LeansIn m.now k.now.b k.now.c k.now.d k.now.e q }
+    ensures { IsTrue result ↔ LeansIn m.now corners.now.b corners.now.c corners.now.d corners.now.e q }
 {
-    let near = leans(m, k.b, k.c, q) && leans(m, k.c, k.d, q);
-    let far = leans(m, k.d, k.e, q) && leans(m, k.e, k.b, q);
+    let near = leans(m, corners.b, corners.c, q) && leans(m, corners.c, corners.d, q);
+    let far = leans(m, corners.d, corners.e, q) && leans(m, corners.e, corners.b, q);
     near && far
 }
 
 /// Whether it is so of each corner of the figure.
-fn all_lean(m: &Motions, k: &Corners, figure: &[Spot]) -> bool
+fn all_lean(m: &Motions, corners: &Corners, figure: &[Spot]) -> bool
     requires ready { AreReady m.now }
-    requires corners { ArePlacedCorners k.now }
+    requires corners { ArePlacedCorners corners.now }
     requires placed { All IsPlaced figure.now }
-    ensures { IsTrue result ↔ EachLeans figure.now m.now k.now.b k.now.c k.now.d k.now.e }
+    ensures { IsTrue result ↔ EachLeans figure.now m.now corners.now.b corners.now.c corners.now.d corners.now.e }
 {
     for q in figure {
-        if !leans_in(m, k, *q) {
+        if !leans_in(m, corners, *q) {
             return false;
         }
     }

@@ -102,7 +102,7 @@ abbrev pub last_line : {A B C : Type 0} → List A → List B → List C → Lis
 last_line [] [] [] = codes "agrees" ++ end
 last_line opens shorts bare = codes "differs" ++ end
 
--- The sections of the text: nets, names, points, opens, shorts, points without copper, spots and sources.
+-- The sections of the text: nets, names, points, opens, shorts and points without copper.
 abbrev pub nets_text : List (List Twig) → List ℕ
 nets_text nets = section_text (codes "nets") net_line nets
 
@@ -121,21 +121,15 @@ shorts_text shorts = section_text (codes "shorts") (line_of short_lines) shorts
 abbrev pub bare_text : List ℕ → List ℕ
 bare_text bare = section_text (codes "missing") (line_of bare_line) bare
 
-abbrev pub spots_text : List SpotLine → List ℕ
-spots_text spots = section_text (codes "spots") spot_line spots
-
-abbrev pub sources_text : List SourceLine → List ℕ
-sources_text sources = section_text (codes "sources") source_line sources
-
 -- the first line tells whether there is a supplement
 abbrev pub first_line : Option Supplement → List ℕ
 first_line None = codes "boardnet 1" ++ end
 first_line (Some more) = codes "boardnet 2" ++ end
 
--- the supplement, where there is one
+-- the supplement, where there is one: spots and sources
 abbrev pub more_text : Option Supplement → List ℕ
 more_text None = []
-more_text (Some more) = spots_text more.spots ++ sources_text more.sources
+more_text (Some more) = section_text (codes "spots") spot_line more.spots ++ section_text (codes "sources") source_line more.sources
 
 -- the parts up to the points
 abbrev pub tables_text : Verdict → List ℕ

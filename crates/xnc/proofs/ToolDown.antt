@@ -1,11 +1,11 @@
 -- Where the tool is down, a tool is selected.
-use Rattle.std.proofs.Common.{◌≡◌, ℕ, Bool, true, false, ◌||◌, cond, List, [], ◌∷◌, Option, Some, None, is_some, is_none, Result, Ok, Err, IsOk, refl}
+use Rattle.std.proofs.Common.{◌≡◌, ℕ, Bool, true, false, ◌||◌, cond, List, [], ◌∷◌, Option, Some, None, is_some, is_none, option_and_then, Result, Ok, Err, IsOk, refl}
 use Rattle.xnc.specs.declared.kind.DrillKind.{DrillKind}
 use Rattle.xnc.specs.declared.kind.DrillKind.TheVariants as kind
 use Rattle.xnc.specs.declared.line.DrillLine.{DrillLine}
 use Rattle.xnc.specs.declared.line.DrillLine.TheVariants as form
 use Rattle.xnc.specs.FaultPlace.{Place}
-use Rattle.xnc.specs.DrillEffects.{Known, Effect, stays, unless, is_drilling, diameter, lookup, header, body, effect}
+use Rattle.xnc.specs.DrillEffects.{Known, Effect, stays, unless, is_drilling, diameter, header, body, effect}
 use Rattle.std.specs.Option.{option_or}
 use Rattle.xnc.specs.Settings.{down_at, tool_at, defined_at, known_at}
 use Rattle.xnc.specs.Laws.{HasTool}
@@ -45,7 +45,7 @@ clash : {A : Type 0} (b : Bool) → b ≡ true → b ≡ false → A
 clash b h k = cc
 
 -- one more definition takes no tool away
-defined_more : (o : Option ℕ) (here more : ℕ → Option ℕ) → is_some (lookup o here) ≡ true → is_some (lookup o (λ n. option_or (more n) (here n))) ≡ true
+defined_more : (o : Option ℕ) (here more : ℕ → Option ℕ) → is_some (option_and_then here o) ≡ true → is_some (option_and_then (λ n. option_or (more n) (here n)) o) ≡ true
 defined_more None here more h = cc
 defined_more (Some n) here more h = by (more n) (here n) h
   where

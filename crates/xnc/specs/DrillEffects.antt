@@ -1,5 +1,5 @@
 -- What a line does, or its fault, by what is known before it.
-use Rattle.std.specs.Prelude.{ℕ, ◌/◌, Bool, true, false, ◌||◌, not, ◌==◌, nat_le, nat_lt, ℤ, pos, unsigned_abs, Option, Some, None, is_some, is_none, Result, Ok, Err}
+use Rattle.std.specs.Prelude.{ℕ, ◌/◌, Bool, true, false, ◌||◌, not, ◌==◌, nat_le, nat_lt, ℤ, pos, unsigned_abs, Option, Some, None, is_some, is_none, option_and_then, Result, Ok, Err}
 use Rattle.contact.specs.declared.TheConstants.{MOST_DIAMETER}
 use Rattle.planar.specs.declared.Spot.{Spot}
 use Rattle.lengths.specs.Decimal.{Fraction, chosen, other_unit}
@@ -87,14 +87,9 @@ target unit here to = do
   y ← coordinate unit here.y to.y
   Ok (record { x = x; y = y })
 
--- the diameter of a tool, if there is one and it is defined
-abbrev pub lookup : Option ℕ → (ℕ → Option ℕ) → Option ℕ
-lookup None defined = None
-lookup (Some n) defined = defined n
-
--- the diameter of the selected tool
+-- the diameter of the selected tool, if there is one and it is defined
 abbrev pub diameter : Known → Option ℕ
-diameter k = lookup k.settings.tool k.defined
+diameter k = option_and_then k.defined k.settings.tool
 
 -- Half of it. Where no tool is selected there is no barrel: a hit and a slot ask for a tool, and so does `M15` before a rout.
 abbrev pub half : Option ℕ → ℤ
@@ -176,10 +171,9 @@ effect k other = staged k.settings.stage k other
 
 -- where an effect leads
 abbrev pub gone : Spot → Effect → Spot
-gone here stays = here
-gone here (makes n d) = here
 gone here (moves to) = to
 gone here (drills to figure) = to
+gone here other = here
 
 -- what a line sets, where it has no fault
 abbrev pub after : Settings → DrillLine → Effect → Settings

@@ -53,8 +53,7 @@ only_y (Some y) = Some (record { x = None; y = Some y })
 
 abbrev pub both : Option Fraction → Option Fraction → Option Coordinates
 both (Some x) (Some y) = Some (record { x = Some x; y = Some y })
-both (Some x) None = None
-both None y = None
+both x y = None
 
 -- what stands behind the letter X
 unfoldable pub behind_x : List ℕ → Option Coordinates
@@ -73,8 +72,7 @@ line_with make (Some part) = make part
 -- a slot's places
 abbrev pub slots : Option Coordinates → Option Coordinates → DrillLine
 slots (Some from) (Some to) = form.Slot from to
-slots (Some from) None = form.Unknown
-slots None to = form.Unknown
+slots from to = form.Unknown
 
 abbrev pub is_g : ℕ → Bool
 is_g b = b == 71
@@ -101,8 +99,7 @@ is_c b = b == 67
 -- the definition of a tool
 abbrev pub defines : Option ℕ → Option Fraction → DrillLine
 defines (Some n) (Some d) = form.Tool n d
-defines (Some n) None = form.Unknown
-defines None d = form.Unknown
+defines n d = form.Unknown
 
 -- what stands behind the letter T: a number and a diameter, or a number, or zeros for no tool
 unfoldable pub tool_line : List ℕ → DrillLine

@@ -3,7 +3,7 @@ use Rattle.std.specs.Prelude.{◌≡◌, ℕ, ◌+◌, ◌≤◌, ◌==◌, if�
 use Rattle.std.specs.HashMap.{get, hash_map_len}
 use Rattle.contact.specs.declared.TheConstants.{MOST_DIAMETER}
 use Rattle.planar.specs.Plane.{IsPlaced}
-use Rattle.board_shapes.specs.Plain.{Figure, figure_of, plain_pieces}
+use Rattle.board_shapes.specs.Plain.{figure_of, plain_pieces}
 use Rattle.board_shapes.specs.declared.shape.Shape.{Shape}
 use Rattle.board_shapes.specs.declared.placed.Placed.{Placed}
 use Rattle.xnc.specs.declared.kind.DrillKind.{DrillKind}
@@ -72,10 +72,8 @@ place_of r = record { from = r.from; to = r.to; file = r.file; room = r.room }
 
 -- the tools after an effect
 abbrev pub Turns : Tools → Effect → Tools → Type 0
-Turns old stays new = new ≡ old
 Turns old (makes n d) new = Adds old new n d
-Turns old (moves to) new = new ≡ old
-Turns old (drills to figure) new = new ≡ old
+Turns old other new = new ≡ old
 
 -- The reader has obeyed a line that has no fault.
 pub record Obeys (old : Reader) (f : DrillLine) (new : Reader) : Type 0 where
@@ -104,14 +102,6 @@ pub record Applies (old : Reader) (e : Effect) (new : Reader) : Type 0 where
   pub settings : new.settings ≡ old.settings
   pub tools : Turns old.tools e new.tools
   pub pieces : plain_pieces new.pieces.items ≡ plain_pieces old.pieces.items ++ piece_of (place_of old) (old.lines + 1) (Ok e)
-  pub counts : new.lines ≡ old.lines
-  pub place : place_of new ≡ place_of old
-
--- the reader with one more piece
-pub record Places (old : Reader) (figure : Figure) (new : Reader) : Type 0 where
-  pub settings : new.settings ≡ old.settings
-  pub tools : new.tools ≡ old.tools
-  pub pieces : plain_pieces new.pieces.items ≡ plain_pieces old.pieces.items ++ piece_of (place_of old) (old.lines + 1) (Ok (drills old.settings.at figure))
   pub counts : new.lines ≡ old.lines
   pub place : place_of new ≡ place_of old
 

@@ -15,7 +15,7 @@ use Rattle.xnc.specs.declared.settings.Mode.{Mode}
 use Rattle.xnc.specs.declared.settings.Mode.TheVariants.{Drill, Rout}
 use Rattle.xnc.specs.declared.settings.Settings.{Settings}
 use Rattle.xnc.specs.FaultPlace.{Place}
-use Rattle.xnc.specs.DrillEffects.{Known, Effect, stays, makes, moves, drills, value_of, diameter_of, effect}
+use Rattle.xnc.specs.DrillEffects.{Known, Effect, drills, value_of, diameter_of, effect}
 
 -- the stage that a line begins
 abbrev pub stage_in : DrillLine → Option Stage
@@ -126,10 +126,7 @@ is_tool other = false
 abbrev pub piece_of : Place → ℕ → Result Effect DrillKind → List PlainPiece
 piece_of p number (Ok (drills to figure)) =
     record { figure = figure; top = p.from; bottom = p.to; origin = record { file = p.file; command = number; copy = 0 } } ∷ []
-piece_of p number (Ok (moves to)) = []
-piece_of p number (Ok stays) = []
-piece_of p number (Ok (makes n d)) = []
-piece_of p number (Err kind) = []
+piece_of p number other = []
 
 -- what is known before the next line, and the pieces so far
 abbrev pub known_with : Place → List DrillLine → ℕ → Known

@@ -19,32 +19,21 @@ use planar::Spot;
 pub fn is_drilling(mode: Mode) -> bool
     ensures { result ≡ spec.is_drilling mode }
 {
-    match mode {
-        Mode::Drill => true,
-        Mode::Rout => false,
-    }
+    matches!(mode, Mode::Drill)
 }
 
 /// Whether the line is `M48`.
 pub fn is_start(form: &DrillLine) -> bool
     ensures { result ≡ spec.is_start form.now }
 {
-    match form {
-        DrillLine::Start => true,
-        _ => false,
-    }
+    matches!(form, DrillLine::Start)
 }
 
 /// Whether the line stands behind `M30`.
 pub fn is_ended(stage: Stage) -> bool
     ensures { result ≡ spec.is_ended stage }
 {
-    match stage {
-        Stage::Ended => true,
-        Stage::Opening => false,
-        Stage::Header => false,
-        Stage::Body => false,
-    }
+    matches!(stage, Stage::Ended)
 }
 
 fn position(d: Decimal, unit: Unit) -> Result<Len, DrillKind>
@@ -154,10 +143,9 @@ fn gone(here: Spot, effect: &Effect) -> Spot
     ensures { result ≡ spec.gone here (shown effect.now) }
 {
     match effect {
-        Effect::Stays => here,
-        Effect::Makes(_, _) => here,
         Effect::Moves(to) => *to,
         Effect::Drills(to, _) => *to,
+        _ => here,
     }
 }
 

@@ -60,32 +60,16 @@ fn comment(span: Span, text: &[u8]) -> DrillLine
     }
 }
 
-fn only_x(x: Option<Decimal>) -> Option<Coordinates>
-    ensures { result ≡ spec.only_x x }
-{
-    let x = x?;
-    Some(Coordinates {
-        x: Some(x),
-        y: None,
-    })
-}
-
-fn only_y(y: Option<Decimal>) -> Option<Coordinates>
-    ensures { result ≡ spec.only_y y }
-{
-    let y = y?;
-    Some(Coordinates {
-        x: None,
-        y: Some(y),
-    })
-}
-
 #[tactic(auto, unfolding(crate::specs::DrillLines::behind_x))]
 fn behind_x(text: &[u8]) -> Option<Coordinates>
     ensures { result ≡ spec.behind_x text.now }
 {
     if !has(text, b'Y') {
-        return only_x(read_decimal(text));
+        let x = read_decimal(text)?;
+        return Some(Coordinates {
+            x: Some(x),
+            y: None,
+        });
     }
     let x = read_decimal(before_byte(text, b'Y'))?;
     let y = read_decimal(after_byte(text, b'Y'))?;
@@ -102,7 +86,13 @@ fn coordinates(text: &[u8]) -> Option<Coordinates>
 {
     match text {
         [b'X', rest @ ..] => behind_x(rest),
-        [b'Y', rest @ ..] => only_y(read_decimal(rest)),
+        [b'Y', rest @ ..] => {
+            let y = read_decimal(rest)?;
+            Some(Coordinates {
+                x: None,
+                y: Some(y),
+            })
+        },
         _ => None,
     }
 }
@@ -261,8 +251,7 @@ fn within_blanks(span: Span, text: &[u8]) -> DrillLine
 {
     match text {
         [] => DrillLine::Blank,
-        [b'X', ..] => place_line(text),
-        [b'Y', ..] => place_line(text),
+        [b'X' | b'Y', ..] => place_line(text),
         [b';', ..] => comment(span, text),
         _ => command(text),
     }

@@ -1,5 +1,5 @@
 //! What the reader of a file keeps, and how it obeys a line.
-ghost use Rattle.std.specs.Prelude.{◌≤◌};
+ghost use Rattle.std.specs.Prelude.{◌≡◌, ◌+◌, ◌^◌, ◌<◌, ◌≤◌, IfOk, IfErr, IfSome, OnOk};
 ghost use Rattle.contact.specs.declared.TheConstants.{MOST_DIAMETER};
 
 use crate::drill_effects::{after, diameter, half, is_drilling, is_ended, is_start, target};
@@ -34,10 +34,9 @@ pub struct Reader {
 }
 
 impl Reader {
-    ghost use Rattle.std.specs.Prelude.{◌≡◌, ◌+◌, ◌^◌, ◌<◌, ◌≤◌, IfOk, IfErr, IfSome, OnOk};
     ghost use Rattle.planar.specs.Plane.{IsPlaced};
     ghost use Rattle.board_shapes.specs.Plain.{figure_of};
-    ghost use Rattle.xnc.specs.Reader.{Applies, AreLawful, Halts, IsFit, IsLawfulReader, IsNew, Obeys, Places, known_of, placed_row, showing, shown};
+    ghost use Rattle.xnc.specs.Reader.{Applies, AreLawful, Halts, IsFit, IsLawfulReader, IsNew, Obeys, known_of, placed_row, showing, shown};
     ghost use Rattle.xnc.specs.DrillEffects as spec;
 
     /// Before the first line.
@@ -70,10 +69,8 @@ impl Reader {
         ensures value { result ≡ spec.diameter (known_of self.now) }
         ensures lawful { IfSome result (λ d. d ≤ MOST_DIAMETER) }
     {
-        match self.settings.tool {
-            None => None,
-            Some(n) => self.tools.find(n),
-        }
+        let n = self.settings.tool?;
+        self.tools.find(n)
     }
 
     #[tactic(auto, unfolding(crate::specs::DrillEffects::define))]
@@ -240,8 +237,7 @@ impl Reader {
         ensures lawful { OnOk result (AreLawful self.old.tools → AreLawful self.new.tools) }
     {
         match effect {
-            Effect::Stays => Ok(()),
-            Effect::Moves(_) => Ok(()),
+            Effect::Stays | Effect::Moves(_) => Ok(()),
             Effect::Makes(n, diameter) => self.tools.add(n, diameter),
             Effect::Drills(_, shape) => self.add_hole(shape),
         }
@@ -249,7 +245,7 @@ impl Reader {
 
     fn add_hole(&mut self, shape: Shape) -> Result<(), NoMemory>
         requires few { self.old.lines + 1 < 2 ^ 32 }
-        ensures ok { OnOk result (Places self.old (figure_of shape) self.new) }
+        ensures ok { OnOk result (Applies self.old (spec.drills self.old.settings.at (figure_of shape)) self.new) }
     {
         let origin = Origin {
             file: self.file,

@@ -1,5 +1,6 @@
 use Rattle.std.proofs.Common.{Option, Result, sym, ap, ◌∙◌}
-use Rattle.arc_layer.specs.Marks.{closes, edges_by, flashes, mark_with, marked, ok_bend}
+use Rattle.gerber_layer.specs.Settings.{ok_or_none}
+use Rattle.arc_layer.specs.Marks.{closes, edges_by, flashes, mark_with, marked}
 use Rattle.arc_layer.specs.Words.{saying_of}
 use Rattle.arc_layer.specs.declared.draws.Bend.{Bend}
 use Rattle.arc_layer.specs.declared.kind.RealKind.{RealKind}
@@ -15,7 +16,7 @@ returns-clause-takes c =
       mark = mark_with (closes w.command s) edges c.in_ok-bend.bend (flashes w.command s);
       clean = ap (λ (r : Result (Option Bend) RealKind). marked r (closes w.command s) edges (flashes w.command s)) (sym bend);
       state = c.behind-self.ensures.value;
-      edges = c.in_ok-mark.ensures.edges ∙ ap (λ (r : Result (Option Bend) RealKind). edges_by w.command s.region edges (ok_bend r)) bend;
+      edges = c.in_ok-mark.ensures.edges ∙ ap (λ (r : Result (Option Bend) RealKind). edges_by w.command s.region edges (ok_or_none r)) bend;
       marks = c.in_ok-mark.ensures.marked.marks;
       counts = c.in_ok-mark.ensures.marked.commands;
     }
