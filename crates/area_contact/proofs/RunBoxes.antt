@@ -1,8 +1,8 @@
--- Runs of 64 edges and the boxes about them.
+-- Runs of edges and the boxes about them.
 use Rattle.std.proofs.Common.{ℕ, zero, suc, ◌+◌, ◌-◌, ◌*◌, ◌≤◌, ◌<◌, min, Bool, true, false, IsTrue, List, [], ◌∷◌, ◌++◌, length, map, get_or, take, drop, All, ◌≡◌, ◌↔◌, ◌⊎◌, ◌||◌, ◌==◌, ℤ, ◌≤ℤ◌, inl, inr, refl, sym, ap, ◌∙◌, subst, pos, arith}
 use Rattle.std.proofs.lemmas.Bool.{eq-eqb, eqb-true}
 use Rattle.std.proofs.lemmas.Int.{ints, clamps}
-use Rattle.std.proofs.lemmas.List.{drop_all, take_all, take-append-drop, length-drop, get_or_append_left, get_or_push, length_push}
+use Rattle.std.proofs.lemmas.List.{drop_all, drop-drop, drop-take, take_all, take-take, take-append-drop, length-drop, length-take, get_or_append_left, get_or-drop, get_or_push, get_or-take, length_push}
 use Rattle.std.proofs.lemmas.List.Elements.{All-drop, All-take}
 use Rattle.std.proofs.lemmas.List.FromFn.{length-range_with_len}
 use Rattle.std.proofs.lemmas.List.Sorted.{All-permutation, length_permutation, list_any-IsPermutation}
@@ -16,7 +16,7 @@ use Rattle.contact.specs.Round.{box_of, IsLawful}
 use Rattle.contact.specs.RoundLaws.{boxes_share}
 use Rattle.contact.specs.Solid.{InBox, SharePoint, joined}
 use Rattle.area_contact.specs.declared.Edge.{Edge}
-use Rattle.area_contact.specs.Bands.{AreAbout, AreAllEdges, AreEdges, IsAbout, all_numbers, edge_at, edges_at, has_number}
+use Rattle.area_contact.specs.Bands.{AreAbout, AreAllEdges, AreEdges, AreRuns, IsAbout, all_numbers, edge_at, edges_at, has_number}
 use Rattle.area_contact.specs.Contour.{Reaches, SomeEdge, edges_of}
 use Rattle.area_contact.proofs.Apart.{edge_lawful}
 use Rattle.area_contact.proofs.Ladders.{number_in}
@@ -29,13 +29,10 @@ le_or_lt zero n = inl (omega arith)
 le_or_lt (suc m) zero = inr (omega arith)
 le_or_lt (suc m) (suc n) = elim (le_or_lt m n) [ inl h ↦ inl (omega arith) | inr h ↦ inr (omega arith) ]
 
-drop_drop : (m n : ℕ) (xs : List ℕ) → drop n (drop m xs) ≡ drop (m + n) xs
-drop_drop zero n xs = let e : n ≡ 0 + n = omega arith in ap (λ (m : ℕ). drop m xs) e
-drop_drop (suc m) n [] = drop_all n [] (omega arith) ∙ sym (drop_all (suc m + n) [] (omega arith))
-drop_drop (suc m) n (x ∷ xs) = let e : suc m + n ≡ suc (m + n) = omega arith in rw e (drop_drop m n xs)
-
-parted : (k : ℕ) (xs : List ℕ) → drop (64 * k) xs ≡ take 64 (drop (64 * k) xs) ++ drop (64 * (k + 1)) xs
-parted k xs = let e : 64 * k + 64 ≡ 64 * (k + 1) = omega arith in sym (take-append-drop 64 (drop (64 * k) xs)) ∙ ap (λ (ys : List ℕ). take 64 (drop (64 * k) xs) ++ ys) (drop_drop (64 * k) 64 xs ∙ ap (λ (n : ℕ). drop n xs) e)
+parted : (size k : ℕ) (xs : List ℕ) → drop (size * k) xs ≡ take size (drop (size * k) xs) ++ drop (size * (k + 1)) xs
+parted size k xs =
+    let e : size * k + size ≡ size * (k + 1) = omega arith in
+    sym (take-append-drop size (drop (size * k) xs)) ∙ ap (λ (ys : List ℕ). take size (drop (size * k) xs) ++ ys) (drop-drop size (size * k) xs ∙ ap (λ (n : ℕ). drop n xs) e)
 
 or_left : (a b : Bool) → a ≡ true → (a || b) ≡ true
 or_left true b h = refl
@@ -81,47 +78,47 @@ module _ (P : Edge → Type 0) (f : ℕ → Edge) where
   pub reordered : (xs ys : List ℕ) → ((i : ℕ) → has_number i xs ≡ has_number i ys) → SomeEdge P (map f xs) → SomeEdge P (map f ys)
   reordered xs ys same h = let r = named xs h in by_number ys r.0 (sym (same r.0) ∙ r.1) r.2
 
-module _ (P : Edge → Type 0) (points : List Spot) (numbers : List ℕ) (k : ℕ) where
-  pub run_found : (run : List ℕ) (t : Bool) → run ≡ take 64 (drop (64 * k) numbers) → IsTrue t ↔ SomeEdge P (edges_at points run) → t ≡ true → SomeEdge P (edges_at points numbers) ↔ SomeEdge P (edges_at points (drop (64 * k) numbers)) → IsTrue true ↔ SomeEdge P (edges_at points numbers)
+module _ (P : Edge → Type 0) (points : List Spot) (numbers : List ℕ) (size k : ℕ) where
+  pub run_found : (run : List ℕ) (t : Bool) → run ≡ take size (drop (size * k) numbers) → IsTrue t ↔ SomeEdge P (edges_at points run) → t ≡ true → SomeEdge P (edges_at points numbers) ↔ SomeEdge P (edges_at points (drop (size * k) numbers)) → IsTrue true ↔ SomeEdge P (edges_at points numbers)
   run_found run t e d h w = (
-    λ i. w.1 (subst (λ (l : List ℕ). SomeEdge P (edges_at points l)) (sym (parted k numbers)) (first P (edge_at points) (take 64 (drop (64 * k) numbers)) (drop (64 * (k + 1)) numbers) (subst (λ (l : List ℕ). SomeEdge P (edges_at points l)) e (d.0 h)))),
+    λ i. w.1 (subst (λ (l : List ℕ). SomeEdge P (edges_at points l)) (sym (parted size k numbers)) (first P (edge_at points) (take size (drop (size * k) numbers)) (drop (size * (k + 1)) numbers) (subst (λ (l : List ℕ). SomeEdge P (edges_at points l)) e (d.0 h)))),
     λ i. refl,
   )
 
-  pub run_past : (run : List ℕ) (t : Bool) → run ≡ take 64 (drop (64 * k) numbers) → IsTrue t ↔ SomeEdge P (edges_at points run) → t ≡ false → SomeEdge P (edges_at points numbers) ↔ SomeEdge P (edges_at points (drop (64 * k) numbers)) → SomeEdge P (edges_at points numbers) ↔ SomeEdge P (edges_at points (drop (64 * (k + 1)) numbers))
+  pub run_past : (run : List ℕ) (t : Bool) → run ≡ take size (drop (size * k) numbers) → IsTrue t ↔ SomeEdge P (edges_at points run) → t ≡ false → SomeEdge P (edges_at points numbers) ↔ SomeEdge P (edges_at points (drop (size * k) numbers)) → SomeEdge P (edges_at points numbers) ↔ SomeEdge P (edges_at points (drop (size * (k + 1)) numbers))
   run_past run t e d h w = (
-    λ i. behind (either P (edge_at points) (take 64 (drop (64 * k) numbers)) (drop (64 * (k + 1)) numbers) (subst (λ (l : List ℕ). SomeEdge P (edges_at points l)) (parted k numbers) (w.0 i))),
-    λ i. w.1 (subst (λ (l : List ℕ). SomeEdge P (edges_at points l)) (sym (parted k numbers)) (later P (edge_at points) (take 64 (drop (64 * k) numbers)) (drop (64 * (k + 1)) numbers) i)),
+    λ i. behind (either P (edge_at points) (take size (drop (size * k) numbers)) (drop (size * (k + 1)) numbers) (subst (λ (l : List ℕ). SomeEdge P (edges_at points l)) (parted size k numbers) (w.0 i))),
+    λ i. w.1 (subst (λ (l : List ℕ). SomeEdge P (edges_at points l)) (sym (parted size k numbers)) (later P (edge_at points) (take size (drop (size * k) numbers)) (drop (size * (k + 1)) numbers) i)),
   )
     where
-      behind : SomeEdge P (edges_at points (take 64 (drop (64 * k) numbers))) ⊎ SomeEdge P (edges_at points (drop (64 * (k + 1)) numbers)) → SomeEdge P (edges_at points (drop (64 * (k + 1)) numbers))
+      behind : SomeEdge P (edges_at points (take size (drop (size * k) numbers))) ⊎ SomeEdge P (edges_at points (drop (size * (k + 1)) numbers)) → SomeEdge P (edges_at points (drop (size * (k + 1)) numbers))
       behind (inl i) = let l : t ≡ true = d.1 (subst (λ (l : List ℕ). SomeEdge P (edges_at points l)) (sym e) i) in cc
       behind (inr i) = i
 
-  pub run_nowhere : length numbers ≤ 64 * k → SomeEdge P (edges_at points numbers) ↔ SomeEdge P (edges_at points (drop (64 * k) numbers)) → IsTrue false ↔ SomeEdge P (edges_at points numbers)
+  pub run_nowhere : length numbers ≤ size * k → SomeEdge P (edges_at points numbers) ↔ SomeEdge P (edges_at points (drop (size * k) numbers)) → IsTrue false ↔ SomeEdge P (edges_at points numbers)
   run_nowhere h w =
-      let e : drop (64 * k) numbers ≡ [] = drop_all (64 * k) numbers h in
+      let e : drop (size * k) numbers ≡ [] = drop_all (size * k) numbers h in
       (λ i. absurd cc, λ i. absurd (subst (λ (l : List ℕ). SomeEdge P (edges_at points l)) e (w.0 i)))
 
 -- ---- The slice of a run
 
-cut_past : (numbers : List ℕ) (k from to : ℕ) → from ≡ min (64 * k) (length numbers) → length numbers ≤ 64 * k → take (to - from) (drop from numbers) ≡ take 64 (drop (64 * k) numbers)
-cut_past numbers k from to f past =
-    ap (λ (xs : List ℕ). take (to - from) xs) (drop_all from numbers (omega arith)) ∙ (take_all (to - from) [] (omega arith) ∙ sym (ap (λ (xs : List ℕ). take 64 xs) (drop_all (64 * k) numbers past)))
+cut_past : {A : Type 0} (xs : List A) (size start from to : ℕ) → from ≡ min start (length xs) → length xs ≤ start → take (to - from) (drop from xs) ≡ take size (drop start xs)
+cut_past {A} xs size start from to f past =
+    ap (λ (ys : List A). take (to - from) ys) (drop_all from xs (omega arith)) ∙ (take_all (to - from) [] (omega arith) ∙ (sym (take_all size [] (omega arith)) ∙ sym (ap (λ (ys : List A). take size ys) (drop_all start xs past))))
 
-cut_inside : (xs : List ℕ) (n : ℕ) → n ≡ min 64 (length xs) → take n xs ≡ take 64 xs
-cut_inside xs n e = elim (le_or_lt (length xs) 64) [
-  | inl short ↦ take_all n xs (omega arith) ∙ sym (take_all 64 xs short)
-  | inr long ↦ (let m : n ≡ 64 = omega arith in ap (λ (i : ℕ). take i xs) m)
+cut_inside : {A : Type 0} (xs : List A) (size n : ℕ) → n ≡ min size (length xs) → take n xs ≡ take size xs
+cut_inside xs size n e = elim (le_or_lt (length xs) size) [
+  | inl short ↦ take_all n xs (omega arith) ∙ sym (take_all size xs short)
+  | inr long ↦ (let m : n ≡ size = omega arith in ap (λ (i : ℕ). take i xs) m)
 ]
 
-pub run_slice : (numbers : List ℕ) (k from to : ℕ) → from ≡ min (64 * k) (length numbers) → to ≡ min (from + 64) (length numbers) → take (to - from) (drop from numbers) ≡ take 64 (drop (64 * k) numbers)
-run_slice numbers k from to f t = elim (le_or_lt (length numbers) (64 * k)) [
-  | inl past ↦ cut_past numbers k from to f past
+pub part_slice : {A : Type 0} (xs : List A) (size start from to : ℕ) → from ≡ min start (length xs) → to ≡ min (from + size) (length xs) → take (to - from) (drop from xs) ≡ take size (drop start xs)
+part_slice xs size start from to f t = elim (le_or_lt (length xs) start) [
+  | inl past ↦ cut_past xs size start from to f past
   | inr inside ↦
-      (let g : from ≡ 64 * k = omega arith in
-      let n : length (drop (64 * k) numbers) ≡ length numbers - 64 * k = length-drop (64 * k) numbers in
-      ap (λ (m : ℕ). take (to - from) (drop m numbers)) g ∙ cut_inside (drop (64 * k) numbers) (to - from) (omega arith))
+      (let g : from ≡ start = omega arith in
+      let n : length (drop start xs) ≡ length xs - start = length-drop start xs in
+      ap (λ (m : ℕ). take (to - from) (drop m xs)) g ∙ cut_inside (drop start xs) size (to - from) (omega arith))
 ]
 
 -- ---- A box about a run
@@ -174,20 +171,55 @@ run_apart points numbers b around u v r t about lawful is none meet = (λ h. abs
 
 -- ---- The boxes of the runs
 
-pub about_none : (points : List Spot) (numbers : List ℕ) → AreAbout points numbers []
-about_none points numbers k d below = absurd (omega arith)
+pub about_none : (points : List Spot) (numbers : List ℕ) (size : ℕ) → AreAbout size points numbers []
+about_none points numbers size k d below = absurd (omega arith)
 
-pub about_more : (points : List Spot) (numbers run : List ℕ) (boxes : List Bounds) (k : ℕ) (b : Bounds) → length boxes ≡ k → run ≡ take 64 (drop (64 * k) numbers) → IsAbout points b run → AreAbout points numbers boxes → AreAbout points numbers (boxes ++ b ∷ [])
-about_more points numbers run boxes k b long is here before j d below = elim (le_or_lt k j) [
+pub about_more : (points : List Spot) (numbers run : List ℕ) (boxes : List Bounds) (size k : ℕ) (b : Bounds) → length boxes ≡ k → run ≡ take size (drop (size * k) numbers) → IsAbout points b run → AreAbout size points numbers boxes → AreAbout size points numbers (boxes ++ b ∷ [])
+about_more points numbers run boxes size k b long is here before j d below = elim (le_or_lt k j) [
   | inl last ↦
       (let e : k ≡ j = (let l = length_push boxes b in omega arith) in
-      subst (λ (n : ℕ). IsAbout points (get_or (boxes ++ b ∷ []) n d) (take 64 (drop (64 * n) numbers))) e
-      (subst (λ (x : Bounds). IsAbout points x (take 64 (drop (64 * k) numbers))) (sym (get_or_push boxes b d k long)) (subst (λ (xs : List ℕ). IsAbout points b xs) is here)))
-  | inr front ↦ subst (λ (x : Bounds). IsAbout points x (take 64 (drop (64 * j) numbers))) (sym (get_or_append_left boxes (b ∷ []) d j (omega arith))) (before j d (omega arith))
+      subst (λ (n : ℕ). IsAbout points (get_or (boxes ++ b ∷ []) n d) (take size (drop (size * n) numbers))) e
+      (subst (λ (x : Bounds). IsAbout points x (take size (drop (size * k) numbers))) (sym (get_or_push boxes b d k long)) (subst (λ (xs : List ℕ). IsAbout points b xs) is here)))
+  | inr front ↦ subst (λ (x : Bounds). IsAbout points x (take size (drop (size * j) numbers))) (sym (get_or_append_left boxes (b ∷ []) d j (omega arith))) (before j d (omega arith))
 ]
 
-pub run_edges : (points : List Spot) (numbers run : List ℕ) (k : ℕ) → run ≡ take 64 (drop (64 * k) numbers) → AreEdges points numbers → AreEdges points run
-run_edges points numbers run k is edges = subst (AreEdges points) (sym is) (All-take (λ i. i + 1 < length points) 64 (drop (64 * k) numbers) (All-drop (λ i. i + 1 < length points) (64 * k) numbers edges))
+pub run_edges : (points : List Spot) (numbers run : List ℕ) (size k : ℕ) → run ≡ take size (drop (size * k) numbers) → AreEdges points numbers → AreEdges points run
+run_edges points numbers run size k is edges = subst (AreEdges points) (sym is) (All-take (λ i. i + 1 < length points) size (drop (size * k) numbers) (All-drop (λ i. i + 1 < length points) (size * k) numbers edges))
+
+pub run_few : (numbers run : List ℕ) (size k most : ℕ) → run ≡ take size (drop (size * k) numbers) → length numbers ≤ most → length run ≤ most
+run_few numbers run size k most is few =
+    let e : length run ≡ min size (length numbers - size * k) = ap length is ∙ length-take size (drop (size * k) numbers) ∙ ap (min size) (length-drop (size * k) numbers) in
+    omega (arith, e)
+
+-- ---- The runs of a group
+
+-- run j of group k
+run_in_group : (numbers : List ℕ) (k j : ℕ) → j < 64 → take 16 (drop (16 * j) (take 1_024 (drop (1_024 * k) numbers))) ≡ take 16 (drop (16 * (64 * k + j)) numbers)
+run_in_group numbers k j below =
+    let whole : 1_024 ≡ 16 * j + (1_024 - 16 * j) = omega arith in
+    let place : 1_024 * k + 16 * j ≡ 16 * (64 * k + j) = omega arith in
+    ap (λ (n : ℕ). take 16 (drop (16 * j) (take n (drop (1_024 * k) numbers)))) whole
+    ∙ ap (λ (xs : List ℕ). take 16 xs) (drop-take (16 * j) (1_024 - 16 * j) (drop (1_024 * k) numbers))
+    ∙ take-take 16 (1_024 - 16 * j) (drop (16 * j) (drop (1_024 * k) numbers)) (omega arith)
+    ∙ ap (λ (xs : List ℕ). take 16 xs) (drop-drop (16 * j) (1_024 * k) numbers ∙ ap (λ (n : ℕ). drop n numbers) place)
+
+pub group_runs : (points : List Spot) (numbers some : List ℕ) (boxes few : List Bounds) (k : ℕ) → some ≡ take 1_024 (drop (1_024 * k) numbers) → few ≡ take 64 (drop (64 * k) boxes) → AreRuns 16 points numbers boxes → AreRuns 16 points some few
+group_runs points numbers some boxes few k is are runs = (about, all, (let m = runs.2 in omega (arith, long)))
+  where
+    long : length few ≡ min 64 (length boxes - 64 * k)
+    long = ap length are ∙ length-take 64 (drop (64 * k) boxes) ∙ ap (min 64) (length-drop (64 * k) boxes)
+
+    all : length some ≤ 16 * length few
+    all =
+        let e : length some ≡ min 1_024 (length numbers - 1_024 * k) = ap length is ∙ length-take 1_024 (drop (1_024 * k) numbers) ∙ ap (min 1_024) (length-drop (1_024 * k) numbers) in
+        let l = runs.1 in
+        omega (arith, e, long)
+
+    about : AreAbout 16 points some few
+    about j d below =
+        let box : get_or few j d ≡ get_or boxes (64 * k + j) d = ap (λ (bs : List Bounds). get_or bs j d) are ∙ get_or-take 64 (drop (64 * k) boxes) j d (omega (arith, long)) ∙ get_or-drop (64 * k) boxes j d in
+        let run : take 16 (drop (16 * j) some) ≡ take 16 (drop (16 * (64 * k + j)) numbers) = ap (λ (xs : List ℕ). take 16 (drop (16 * j) xs)) is ∙ run_in_group numbers k j (omega (arith, long)) in
+        rw (box, run) (runs.0 (64 * k + j) d (omega (arith, long)))
 
 -- all edges, in whatever order
 pub all_reach : (points told : List Spot) (numbers : List ℕ) (u v : Spot) (r : ℤ) (t : Bool) → told ≡ points → AreAllEdges points numbers → IsTrue t ↔ SomeEdge (Reaches u v r) (edges_at told numbers) → IsTrue t ↔ SomeEdge (Reaches u v r) (edges_of points)

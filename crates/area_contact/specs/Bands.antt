@@ -9,6 +9,7 @@ use Rattle.contact.specs.Round.{IsLawful, box_of}
 use Rattle.contact.specs.Solid.{InBox, SharePoint}
 use Rattle.contact.specs.declared.Bounds.{Bounds}
 use Rattle.area_contact.specs.declared.Edge.{Edge}
+use Rattle.area_contact.specs.declared.TheConstants.{MOST_CONTOUR_POINTS}
 use Rattle.area_contact.specs.Contour.{Reaches, SomeEdge, area_box}
 
 -- ---- edges by their numbers, from 0 on
@@ -109,9 +110,13 @@ AllFrom low points = All (λ p. low ≤ℤ p.y) points
 abbrev pub IsAbout : List Spot → Bounds → List ℕ → Type 0
 IsAbout points b numbers = (u v : Spot) (r : ℤ) → IsLawful u v r → (SharePoint (InBox b) (InBox (box_of u v r)) → ⊥) → SomeEdge (Reaches u v r) (edges_at points numbers) → ⊥
 
--- each box is about its run of 64 of the edges
-abbrev pub AreAbout : List Spot → List ℕ → List Bounds → Type 0
-AreAbout points numbers boxes = (k : ℕ) (d : Bounds) → k < length boxes → IsAbout points (get_or boxes k d) (take 64 (drop (64 * k) numbers))
+-- each box is about its run of that many of the edges
+abbrev pub AreAbout : ℕ → List Spot → List ℕ → List Bounds → Type 0
+AreAbout size points numbers boxes = (k : ℕ) (d : Bounds) → k < length boxes → IsAbout points (get_or boxes k d) (take size (drop (size * k) numbers))
+
+-- and each edge is in a run
+abbrev pub AreRuns : ℕ → List Spot → List ℕ → List Bounds → Type 0
+AreRuns size points numbers boxes = AreAbout size points numbers boxes × (length numbers ≤ size * length boxes) × (length boxes ≤ MOST_CONTOUR_POINTS)
 
 -- the number is one of these
 abbrev pub has_number : ℕ → List ℕ → Bool

@@ -1,9 +1,9 @@
-//! All edges of a contour in runs of 64 that stand near one another, and a box about each, so that a search passes by the
-//! runs far away.
+//! All edges of a contour in runs of 16 that stand near one another, and boxes about each run and each group of 64 runs, so
+//! that a search passes by what is far away.
 //!
 //! They stand by their middles along a curve that fills the contour's box. In what order, no clause says: a search finds
 //! the same in any.
-ghost use Rattle.area_contact.specs.Bands.{AreAbout, AreAllEdges, AreEdges, IsAbout, all_numbers};
+ghost use Rattle.area_contact.specs.Bands.{AreAllEdges, AreEdges, AreRuns, IsAbout, all_numbers};
 ghost use Rattle.planar.specs.Plane.{IsPlaced};
 ghost use Rattle.std.specs.List.Sorted.{IsPermutation};
 ghost use Rattle.std.specs.Prelude.{All, IfOk, drop, length, take, ◌*◌, ◌≤◌, ◌<◌, ◌≡◌};
@@ -14,11 +14,12 @@ use contact::{Bounds, NO_BOX};
 use planar::Spot;
 use std::alloc::{AllocError, Global};
 
-/// The numbers of all edges, and a box about each run of them.
+/// The numbers of all edges, a box about each run of them, and one about each group of runs.
 #[derive(Drop)]
 pub struct Runs {
     pub numbers: Vec<u32>,
     pub boxes: Vec<Bounds>,
+    pub groups: Vec<Bounds>,
 }
 
 /// The runs of a contour, whose box is `extent`; none where there are fewer than 64 edges.
@@ -29,9 +30,8 @@ pub fn make_runs(alloc: Global, points: &[Spot], extent: Bounds) -> Result<Runs,
     ensures edges { IfOk result (λ r. AreEdges points.now r.numbers.items) }
     ensures each { IfOk result (λ r. 64 < length points.now → AreAllEdges points.now r.numbers.items) }
     ensures few { IfOk result (λ r. length r.numbers.items ≤ MOST_CONTOUR_POINTS) }
-    ensures about { IfOk result (λ r. AreAbout points.now r.numbers.items r.boxes.items) }
-    ensures all { IfOk result (λ r. length r.numbers.items ≤ 64 * length r.boxes.items) }
-    ensures few_boxes { IfOk result (λ r. length r.boxes.items ≤ MOST_CONTOUR_POINTS) }
+    ensures runs { IfOk result (λ r. AreRuns 16 points.now r.numbers.items r.boxes.items) }
+    ensures groups { IfOk result (λ r. AreRuns 1_024 points.now r.numbers.items r.groups.items) }
 {
     if points.len() > 64 {
         full_runs(alloc, points, extent)
@@ -39,6 +39,7 @@ pub fn make_runs(alloc: Global, points: &[Spot], extent: Bounds) -> Result<Runs,
         Ok(Runs {
             numbers: Vec::new(alloc),
             boxes: Vec::new(alloc),
+            groups: Vec::new(alloc),
         })
     }
 }
@@ -51,14 +52,19 @@ fn full_runs(alloc: Global, points: &[Spot], extent: Bounds) -> Result<Runs, All
     ensures edges { IfOk result (λ r. AreEdges points.now r.numbers.items) }
     ensures each { IfOk result (λ r. AreAllEdges points.now r.numbers.items) }
     ensures few { IfOk result (λ r. length r.numbers.items ≤ MOST_CONTOUR_POINTS) }
-    ensures about { IfOk result (λ r. AreAbout points.now r.numbers.items r.boxes.items) }
-    ensures all { IfOk result (λ r. length r.numbers.items ≤ 64 * length r.boxes.items) }
-    ensures few_boxes { IfOk result (λ r. length r.boxes.items ≤ MOST_CONTOUR_POINTS) }
+    ensures runs { IfOk result (λ r. AreRuns 16 points.now r.numbers.items r.boxes.items) }
+    ensures groups { IfOk result (λ r. AreRuns 1_024 points.now r.numbers.items r.groups.items) }
 {
     let mut numbers = numbers_of(alloc, points)?;
     put_near(&mut numbers, points, extent);
-    let boxes = run_boxes(alloc, points, &numbers)?;
-    Ok(Runs { numbers, boxes })
+    let edges = numbers.len();
+    let boxes = run_boxes(alloc, points, &numbers, 16, (edges + 15) / 16)?;
+    let groups = run_boxes(alloc, points, &numbers, 1_024, (edges + 1_023) / 1_024)?;
+    Ok(Runs {
+        numbers,
+        boxes,
+        groups,
+    })
 }
 
 /// The numbers of all edges, rising.
@@ -106,31 +112,39 @@ fn spread(bits: u64) -> u64 {
     (bits | bits << 1) & 0x5555_5555
 }
 
-/// A box about each run of the edges with these numbers.
-fn run_boxes(alloc: Global, points: &[Spot], numbers: &[u32]) -> Result<Vec<Bounds>, AllocError>
+/// A box about each of `count` runs of `size` of the edges with these numbers.
+fn run_boxes(
+    alloc: Global,
+    points: &[Spot],
+    numbers: &[u32],
+    size: usize,
+    count: usize,
+) -> Result<Vec<Bounds>, AllocError>
     requires placed { All IsPlaced points.now }
     requires edges { AreEdges points.now numbers.now }
     requires few { length numbers.now ≤ MOST_CONTOUR_POINTS }
-    ensures about { IfOk result (λ v. AreAbout points.now numbers.now v.items) }
-    ensures all { IfOk result (λ v. length numbers.now ≤ 64 * length v.items) }
-    ensures few { IfOk result (λ v. length v.items ≤ MOST_CONTOUR_POINTS) }
+    requires small { size ≤ 1_024 }
+    requires all { length numbers.now ≤ size * count }
+    requires few_boxes { count ≤ MOST_CONTOUR_POINTS }
+    ensures { IfOk result (λ v. AreRuns size points.now numbers.now v.items) }
 {
     let mut boxes = Vec::new(alloc);
-    for k in 0..(numbers.len() + 63) / 64 {
-        boxes.push(run_box(points, run(numbers, k)))?;
+    for k in 0..count {
+        boxes.push(run_box(points, part(numbers, size, k)))?;
     }
     Ok(boxes)
 }
 
-/// Run `k` of the numbers.
-pub fn run(numbers: &[u32], k: usize) -> &[u32]
-    requires few { length numbers.now ≤ MOST_CONTOUR_POINTS }
+/// Part `k` of the items, in parts of `size`.
+pub fn part<T>(items: &[T], size: usize, k: usize) -> &[T]
+    requires few { length items.now ≤ MOST_CONTOUR_POINTS }
     requires known { k ≤ MOST_CONTOUR_POINTS }
-    ensures { result.now ≡ take 64 (drop (64 * k) numbers.now) }
+    requires small { size ≤ 1_024 }
+    ensures { result.now ≡ take size (drop (size * k) items.now) }
 {
-    let from = (64 * k).min(numbers.len());
-    let to = (from + 64).min(numbers.len());
-    &numbers[from..to]
+    let from = (size * k).min(items.len());
+    let to = (from + size).min(items.len());
+    &items[from..to]
 }
 
 /// A box about the edges with these numbers.

@@ -1,18 +1,19 @@
 //! Edges of a contour that come into a capsule, looked for by their numbers. Edge `i` goes from point `i` to the next.
 //!
-//! The box of an edge is compared before any product is computed, and the box about a run before its edges.
-ghost use Rattle.area_contact.specs.Bands.{AreAbout, AreEdges, IsAbout, edges_at};
+//! The box of an edge is compared before any product is computed, the box about a run before its edges, and the box about a
+//! group before its runs.
+ghost use Rattle.area_contact.specs.Bands.{AreEdges, AreRuns, IsAbout, edges_at};
 ghost use Rattle.area_contact.specs.Contour.{Reaches, SomeEdge};
 ghost use Rattle.contact.specs.Round.{box_of};
 ghost use Rattle.contact.specs.Solid.{IsInside};
 ghost use Rattle.planar.specs.Framed.{AreFramed};
 ghost use Rattle.planar.specs.Plane.{IsInFrame, IsPlaced, Share};
 ghost use Rattle.std.proofs.Props.{props};
-ghost use Rattle.std.specs.Prelude.{All, IsTrue, length, pos, ◌+◌, ◌*◌, ◌<◌, ◌≡◌, ◌≤◌, ◌↔◌};
+ghost use Rattle.std.specs.Prelude.{All, IsTrue, drop, length, pos, take, ◌+◌, ◌*◌, ◌<◌, ◌≡◌, ◌≤◌, ◌↔◌};
 ghost use lib.IntN.{ℤ_set};
 
 use super::lines::segment_box;
-use super::runs::run;
+use super::runs::part;
 use crate::MOST_CONTOUR_POINTS;
 use contact::{Bounds, Capsule};
 use planar::{Frame, Spot, segments_meet, segments_within};
@@ -70,30 +71,62 @@ impl<'a> Search<'a> {
         false
     }
 
-    /// The same of a run, about which the box is.
-    fn in_run(&self, numbers: &[u32], about: &Bounds) -> bool
+    /// The same of run `k` of the edges with these numbers, about which the box is.
+    fn in_run(&self, numbers: &[u32], k: usize, about: &Bounds) -> bool
         requires edges { AreEdges self.now.points.now numbers.now }
-        requires about { IsAbout self.now.points.now about.now numbers.now }
-        ensures { IsTrue result ↔ SomeEdge (Reaches self.now.capsule.now.a self.now.capsule.now.b self.now.capsule.now.r) (edges_at self.now.points.now numbers.now) }
+        requires few { length numbers.now ≤ MOST_CONTOUR_POINTS }
+        requires known { k ≤ MOST_CONTOUR_POINTS }
+        requires about { IsAbout self.now.points.now about.now (take 16 (drop (16 * k) numbers.now)) }
+        ensures { IsTrue result ↔ SomeEdge (Reaches self.now.capsule.now.a self.now.capsule.now.b self.now.capsule.now.r) (edges_at self.now.points.now (take 16 (drop (16 * k) numbers.now))) }
     {
         if about.meet(&self.around) {
-            self.among(numbers)
+            self.among(part(numbers, 16, k))
         } else {
             false
         }
     }
 
     /// The same run by run, where the boxes are about the runs.
-    pub fn in_runs(&self, numbers: &[u32], boxes: &[Bounds]) -> bool
+    fn in_runs(&self, numbers: &[u32], boxes: &[Bounds]) -> bool
         requires edges { AreEdges self.now.points.now numbers.now }
         requires few { length numbers.now ≤ MOST_CONTOUR_POINTS }
-        requires few_boxes { length boxes.now ≤ MOST_CONTOUR_POINTS }
-        requires about { AreAbout self.now.points.now numbers.now boxes.now }
-        requires all { length numbers.now ≤ 64 * length boxes.now }
+        requires runs { AreRuns 16 self.now.points.now numbers.now boxes.now }
         ensures { IsTrue result ↔ SomeEdge (Reaches self.now.capsule.now.a self.now.capsule.now.b self.now.capsule.now.r) (edges_at self.now.points.now numbers.now) }
     {
         for k in 0..boxes.len() {
-            if self.in_run(run(numbers, k), &boxes[k]) {
+            if self.in_run(numbers, k, &boxes[k]) {
+                return true;
+            }
+        }
+        false
+    }
+
+    /// The same of a group of runs, about which the box is.
+    fn in_group(&self, numbers: &[u32], boxes: &[Bounds], about: &Bounds) -> bool
+        requires edges { AreEdges self.now.points.now numbers.now }
+        requires few { length numbers.now ≤ MOST_CONTOUR_POINTS }
+        requires runs { AreRuns 16 self.now.points.now numbers.now boxes.now }
+        requires about { IsAbout self.now.points.now about.now numbers.now }
+        ensures { IsTrue result ↔ SomeEdge (Reaches self.now.capsule.now.a self.now.capsule.now.b self.now.capsule.now.r) (edges_at self.now.points.now numbers.now) }
+    {
+        if about.meet(&self.around) {
+            self.in_runs(numbers, boxes)
+        } else {
+            false
+        }
+    }
+
+    /// The same group by group, where boxes are about the runs and about the groups.
+    pub fn in_groups(&self, numbers: &[u32], boxes: &[Bounds], groups: &[Bounds]) -> bool
+        requires edges { AreEdges self.now.points.now numbers.now }
+        requires few { length numbers.now ≤ MOST_CONTOUR_POINTS }
+        requires runs { AreRuns 16 self.now.points.now numbers.now boxes.now }
+        requires groups { AreRuns 1_024 self.now.points.now numbers.now groups.now }
+        ensures { IsTrue result ↔ SomeEdge (Reaches self.now.capsule.now.a self.now.capsule.now.b self.now.capsule.now.r) (edges_at self.now.points.now numbers.now) }
+    {
+        for k in 0..groups.len() {
+            let (edges, runs) = (part(numbers, 1_024, k), part(boxes, 64, k));
+            if self.in_group(edges, runs, &groups[k]) {
                 return true;
             }
         }

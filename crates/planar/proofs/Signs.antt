@@ -1,5 +1,5 @@
 -- The sign of a number that the code compares with 0, and of the number that it is.
-use Rattle.std.proofs.Common.{◌≡◌, ◌↔◌, true, false, ℤ, pos, ◌<ℤ◌, FitsSigned, to_z, of_z, to_z-of_z, arith, IsTrue, ◌≤ℤ◌, ◌-ℤ◌, sym, nat_eq, ap, ◌∙◌}
+use Rattle.std.proofs.Common.{◌≡◌, ◌↔◌, true, false, ℤ, pos, neg_ℤ, ◌<ℤ◌, FitsSigned, to_z, of_z, to_z-of_z, arith, IsTrue, ◌≤ℤ◌, ◌-ℤ◌, sym, nat_eq, ap, ◌∙◌}
 use Rattle.std.proofs.lemmas.Int.{ints, clamps}
 use Rattle.std.specs.Int.{w128, int_max, int_min}
 use Rattle.std.specs.Int.Signed.{lt_z, le_z}
@@ -48,6 +48,14 @@ module _ {P : Type 0} {s e n r : ℤ} (over : P ↔ ((e ≤ℤ pos 0) × (pos 0 
     λ h. absurd cc,
     λ p. let h : (e ≤ℤ pos 0) × (pos 0 ≤ℤ s) × (n ≤ℤ pos 0) × (pos 0 ≤ℤ r) = over.0 p in absurd (omega (arith, ints, clamps)),
   )
+
+-- what no two numbers over 0 allow, nor two below
+module _ {P : Type 0} {s e : ℤ} (over : P → ((pos 1 ≤ℤ s) → (pos 1 ≤ℤ e) → ⊥) × ((pos 1 ≤ℤ neg_ℤ s) → (pos 1 ≤ℤ neg_ℤ e) → ⊥)) where
+  pub both_over : {lo : ℤ} → lo ≡ int_min s e → lt_z (pos 0) lo ≡ true → P → ⊥
+  both_over {lo} m h p = (over p).0 (omega (arith, ints, clamps)) (omega (arith, ints, clamps))
+
+  pub both_below : {hi : ℤ} → hi ≡ int_max s e → lt_z hi (pos 0) ≡ true → P → ⊥
+  both_below {hi} m h p = (over p).1 (omega (arith, ints, clamps)) (omega (arith, ints, clamps))
 
 -- the same for a number that is 0 and one that is not above it
 module _ {P : Type 0} {z w : ℤ} (over : P ↔ ((z ≡ pos 0) × (w ≤ℤ pos 0))) where

@@ -52,6 +52,19 @@ fn crosses_over(a: Spot, b: Spot, c: Spot, d: Spot) -> bool
     end.max(near) <= 0 && start.min(far) >= 0
 }
 
+/// Whether the segment from `a` to `b` stays on one side of the line through `c` and `d`. Most segments that
+/// are asked about are told apart by this, with half of the products.
+fn stays_beside(a: Spot, b: Spot, c: Spot, d: Spot) -> bool
+    requires a_placed { IsPlaced a }
+    requires b_placed { IsPlaced b }
+    requires c_placed { IsPlaced c }
+    requires d_placed { IsPlaced d }
+    ensures { IsTrue result → Share a b (pos 0) c d (pos 0) → ⊥ }
+{
+    let (start, end) = (cross(c, d, a), cross(c, d, b));
+    start.min(end) > 0 || start.max(end) < 0
+}
+
 /// Whether the closed segments from `a` to `b` and from `c` to `d` share a rational point. Segments of
 /// no length, on one line or along each other are not excepted.
 pub fn segments_meet(a: Spot, b: Spot, c: Spot, d: Spot) -> bool
@@ -61,6 +74,9 @@ pub fn segments_meet(a: Spot, b: Spot, c: Spot, d: Spot) -> bool
     requires d_placed { IsPlaced d }
     ensures { IsTrue result ↔ Share a b (pos 0) c d (pos 0) }
 {
+    if stays_beside(a, b, c, d) {
+        return false;
+    }
     let (start, end) = (cross(c, d, a), cross(c, d, b));
     if end < start {
         crosses_over(a, b, c, d)

@@ -4,11 +4,11 @@ ghost use Rattle.std.specs.Prelude.{◌*ℤ◌, ◌+ℤ◌, ◌-ℤ◌, ◌≡�
 
 use super::Spot;
 
-/// The way from one spot to another.
+/// The way from one spot to another: its parts are narrow, so that products are cheap.
 #[derive(Clone, Copy)]
 struct Way {
-    x: i128,
-    y: i128,
+    x: i64,
+    y: i64,
 }
 
 impl Way {
@@ -17,7 +17,7 @@ impl Way {
         requires other_long { IsLong other }
         ensures { result ≡ self.x *ℤ other.y -ℤ self.y *ℤ other.x }
     {
-        self.x * other.y - self.y * other.x
+        self.x as i128 * other.y as i128 - self.y as i128 * other.x as i128
     }
 
     fn dot(self, other: Way) -> i128
@@ -25,7 +25,7 @@ impl Way {
         requires other_long { IsLong other }
         ensures { result ≡ self.x *ℤ other.x +ℤ self.y *ℤ other.y }
     {
-        self.x * other.x + self.y * other.y
+        self.x as i128 * other.x as i128 + self.y as i128 * other.y as i128
     }
 }
 
@@ -38,8 +38,8 @@ fn between(o: Spot, a: Spot) -> Way
     ensures long { IsLong result }
 {
     Way {
-        x: a.x as i128 - o.x as i128,
-        y: a.y as i128 - o.y as i128,
+        x: a.x - o.x,
+        y: a.y - o.y,
     }
 }
 

@@ -18,5 +18,5 @@ returns-then-len-le64 c =
 
 pub returns-else-len-le64 : goal.returns-else-len-le64
 returns-else-len-le64 c =
-    all_reach c.args.self.now.points.items c.args.search.now.points.now c.deref.result.now c.args.search.now.capsule.now.a c.args.search.now.capsule.now.b c.args.search.now.capsule.now.r c.in_runs.result c.requires
-    (subst (λ (ns : List ℕ). AreAllEdges c.args.self.now.points.items ns) (sym c.deref.ensures.value) (c.args.self.now.each (omega arith))) c.in_runs.ensures
+    all_reach c.args.self.now.points.items c.args.search.now.points.now c.deref.result.now c.args.search.now.capsule.now.a c.args.search.now.capsule.now.b c.args.search.now.capsule.now.r c.in_groups.result c.requires
+    (subst (λ (ns : List ℕ). AreAllEdges c.args.self.now.points.items ns) (sym c.deref.ensures.value) (c.args.self.now.each (omega arith))) c.in_groups.ensures

@@ -10,6 +10,16 @@ pub run_boxes-requires-clause-few : goal.run_boxes-requires-clause-few
 run_boxes-requires-clause-few c =
     subst (λ (ns : List ℕ). length ns ≤ _) (sym c.deref.ensures.value) (let few = put_few c.args.points.now c.in_ok-numbers.numbers.items c.put_near.new.numbers.items c.in_ok-numbers.ensures c.put_near.ensures in omega (arith, c.requires.few))
 
+pub run_boxes-requires-clause-few_boxes : goal.run_boxes-requires-clause-few_boxes
+run_boxes-requires-clause-few_boxes c = let few = put_few c.args.points.now c.in_ok-numbers.numbers.items c.put_near.new.numbers.items c.in_ok-numbers.ensures c.put_near.ensures in omega (arith, c.requires.few, c.len-edges.ensures)
+
+pub run_boxes-requires-2-clause-edges : goal.run_boxes-requires-2-clause-edges
+run_boxes-requires-2-clause-edges c = subst (λ (ns : List ℕ). AreEdges c.args.points.now ns) (sym c.deref-2.ensures.value) (put_edges c.args.points.now c.in_ok-numbers.numbers.items c.put_near.new.numbers.items c.in_ok-numbers.ensures c.put_near.ensures)
+
+pub run_boxes-requires-2-clause-few : goal.run_boxes-requires-2-clause-few
+run_boxes-requires-2-clause-few c =
+    subst (λ (ns : List ℕ). length ns ≤ _) (sym c.deref-2.ensures.value) (let few = put_few c.args.points.now c.in_ok-numbers.numbers.items c.put_near.new.numbers.items c.in_ok-numbers.ensures c.put_near.ensures in omega (arith, c.requires.few))
+
 pub returns-clause-edges : goal.returns-clause-edges
 returns-clause-edges c = put_edges c.args.points.now c.in_ok-numbers.numbers.items c.put_near.new.numbers.items c.in_ok-numbers.ensures c.put_near.ensures
 
