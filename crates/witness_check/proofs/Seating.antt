@@ -1,8 +1,8 @@
--- All seats of each name, and the first on each net.
-use Rattle.std.proofs.Common.{◌||◌, ◌≡◌, ◌↔◌, inl, inr, ℕ, suc, ◌+◌, ◌<◌, ◌≤◌, Bool, true, false, ◌==◌, List, [], ◌∷◌, ◌++◌, length, map, get_or, set, drop, All, IfSome, Some, refl, sym, ap, subst, ◌∙◌, append_assoc, add-zero, arith}
+-- Seats of each name, and the first on each net.
+use Rattle.std.proofs.Common.{◌||◌, ◌≡◌, ◌↔◌, inl, inr, ℕ, suc, ◌+◌, ◌<◌, ◌≤◌, Bool, true, false, ◌==◌, Option, None, List, [], ◌∷◌, ◌++◌, length, map, get_or, set, drop, All, IfSome, Some, refl, sym, ap, subst, ◌∙◌, append_assoc, add-zero, arith}
 use Rattle.std.proofs.lemmas.Bool.{cases_eq, eq-eqb, ne_eqb}
 use Rattle.std.proofs.lemmas.List.{at_drop_all, at_drop_more, drop_more, get_or-set_other, get_or-set_same, get_or_append_left, get_or_past, get_or_push, length-set, length_push, map-append, append-nil}
-use Rattle.std.proofs.lemmas.List.Elements.{All-get_or}
+use Rattle.std.proofs.lemmas.List.Elements.{All-get_or, All-nil, All-push}
 use Rattle.std.proofs.lemmas.List.Folds.{list_any-append}
 use Rattle.std.specs.List.{list_any}
 use Rattle.verdict.specs.declared.verdict.PointLine.{PointLine}
@@ -12,30 +12,10 @@ use Rattle.verdict.specs.Right.{fresh, net_of, seats_from}
 use Rattle.verdict.specs.Seats.{mark_of, marks_at, marks_from, marks_of_seats, seats_at}
 use Rattle.verdict.proofs.Holding.{le_or_lt}
 use Rattle.verdict.proofs.Marking.{marked_at}
-use Rattle.verdict.proofs.Seating.{fresh_new, fresh_old, seats_some, seats_within}
+use Rattle.verdict.proofs.Seating.{fresh_new, fresh_old, seats_none, seats_other, seats_some}
 use Rattle.witness_check.specs.Marked.{AreUpTo}
-use Rattle.witness_check.specs.Seated.{AreAllSeats}
+use Rattle.witness_check.specs.Seated.{HaveFirsts, Takes, begins_on}
 use Rattle.witness_check.proofs.Stamping.{up_more}
-
--- ---- All seats
-
--- The points before i have their seats: what the others add makes the whole.
-abbrev pub AreSeatedTo : List PointLine → ℕ → List (List Seat) → Type 0
-AreSeatedTo lines i rows = (name : ℕ) → seats_at rows name ++ seats_from name i (drop i lines) ≡ seats_from name 0 lines
-
-pub all_same : (lines : List PointLine) (i : ℕ) (d : PointLine) (name : ℕ) (row row' : List Seat) → i < length lines → seats_from name i (get_or lines i d ∷ drop (i + 1) lines) ≡ seats_from name (i + 1) (drop (i + 1) lines)
-    → row ++ seats_from name i (drop i lines) ≡ seats_from name 0 lines → row' ≡ row → row' ++ seats_from name (i + 1) (drop (i + 1) lines) ≡ seats_from name 0 lines
-all_same lines i d name row row' below opens before same =
-    ap (λ (xs : List Seat). xs ++ seats_from name (i + 1) (drop (i + 1) lines)) same ∙ (ap (λ (xs : List Seat). row ++ xs) (sym opens ∙ sym (at_drop_more (seats_from name i) lines i d below)) ∙ before)
-
-pub all_more : (lines : List PointLine) (i net : ℕ) (d : PointLine) (name : ℕ) (row row' : List Seat) → i < length lines → ((get_or lines i d).name == name) ≡ true → (get_or lines i d).net ≡ Some net
-    → row ++ seats_from name i (drop i lines) ≡ seats_from name 0 lines → row' ≡ row ++ (record { net = net; probe = i }) ∷ [] → row' ++ seats_from name (i + 1) (drop (i + 1) lines) ≡ seats_from name 0 lines
-all_more lines i net d name row row' below here on before now =
-    let s : Seat = record { net = net; probe = i } in
-    let rest : List Seat = seats_from name (i + 1) (drop (i + 1) lines) in
-    ap (λ (xs : List Seat). xs ++ rest) now ∙
-    (append_assoc row (s ∷ []) rest ∙
-    (ap (λ (xs : List Seat). row ++ xs) (sym (seats_some name i net (get_or lines i d) (drop (i + 1) lines) here on) ∙ sym (at_drop_more (seats_from name i) lines i d below)) ∙ before))
 
 -- ---- The first on each net
 
@@ -138,7 +118,7 @@ pub record AreFirstTo (lines : List PointLine) (room n : ℕ) (groups : List (Li
 pub first_none : (lines : List PointLine) (room : ℕ) (stamps : List ℕ) → length stamps ≡ room → ((net : ℕ) → get_or stamps net 0 ≡ 0) → AreFirstTo lines room 0 [] stamps
 first_none lines room stamps long zeros = record { many = refl; long = long; highest = λ net. (let e = zeros net in omega arith); firsts = λ name below. absurd (omega arith) }
 
-pub first_more : (lines : List PointLine) (room n : ℕ) (groups : List (List Seat)) (row all : List Seat) (stamps next : List ℕ) → AreFirstTo lines room n groups stamps → row ≡ fresh [] all → all ≡ seats_from n 0 lines → AreUpTo (n + 1) next → length next ≡ length stamps → AreFirstTo lines room (n + 1) (groups ++ row ∷ []) next
+pub first_more : (lines : List PointLine) (room n : ℕ) (groups : List (List Seat)) (row all : List Seat) (stamps next : List ℕ) → AreFirstTo lines room n groups stamps → row ≡ fresh [] all → fresh [] all ≡ fresh [] (seats_from n 0 lines) → AreUpTo (n + 1) next → length next ≡ length stamps → AreFirstTo lines room (n + 1) (groups ++ row ∷ []) next
 first_more lines room n groups row all stamps next to is seats highest long = record {
   many = length_push groups row ∙ ap (λ (k : ℕ). k + 1) to.many;
   long = long ∙ to.long;
@@ -146,16 +126,16 @@ first_more lines room n groups row all stamps next to is seats highest long = re
   firsts = λ name below. elim (cases_eq name n) [
     | inl same ↦ (
         let at : seats_at (groups ++ row ∷ []) n ≡ row = get_or_push groups row [] n to.many in
-        subst (λ (k : ℕ). seats_at (groups ++ row ∷ []) k ≡ fresh [] (seats_from k 0 lines)) (sym same) (at ∙ (is ∙ ap (fresh []) seats))
+        subst (λ (k : ℕ). seats_at (groups ++ row ∷ []) k ≡ fresh [] (seats_from k 0 lines)) (sym same) (at ∙ (is ∙ seats))
         )
     | inr other ↦ (let many = to.many in get_or_append_left groups (row ∷ []) [] name (omega arith) ∙ to.firsts name (omega arith))
   ];
 }
 
-pub row_netted : (nets room name : ℕ) (rows own : List (List Seat)) (row : List Seat) (lines : List PointLine) → AreAllSeats own lines → rows ≡ own → name < length rows → row ≡ seats_at rows name → All (λ line. IfSome line.net (λ net. net < nets)) lines → room ≡ nets → All (λ s. s.net < room) row
-row_netted nets room name rows own row lines are same below is netted long =
-    let here : row ≡ seats_from name 0 lines = is ∙ (ap (λ (xs : List (List Seat)). seats_at xs name) same ∙ are name (let many = ap (λ (xs : List (List Seat)). length xs) same in omega arith)) in
-    subst (λ (n : ℕ). All (λ s. s.net < n) row) (sym long) (subst (All (λ s. s.net < nets)) (sym here) (seats_within nets name 0 lines netted))
+pub row_netted : (nets room name : ℕ) (rows own : List (List Seat)) (row : List Seat) (lines : List PointLine) → HaveFirsts own lines → rows ≡ own → row ≡ seats_at rows name → All (λ line. IfSome line.net (λ net. net < nets)) lines → room ≡ nets → All (λ s. s.net < room) row
+row_netted nets room name rows own row lines have same is netted long =
+    let here : row ≡ seats_at own name = is ∙ ap (λ (xs : List (List Seat)). seats_at xs name) same in
+    subst (λ (n : ℕ). All (λ s. s.net < n) row) (sym long) (subst (All (λ s. s.net < nets)) (sym here) (have.within nets netted name))
 
 -- ---- The marks
 
@@ -201,3 +181,96 @@ pub rows_more : (groups : List (List Seat)) (row : List Seat) (n : ℕ) (old tab
 rows_more groups row n old table many before now net =
     let at : n ≡ 0 + length groups = omega arith in
     now net ∙ (ap (λ (xs : List Mark). xs ++ marks_of_seats n net row) (before net) ∙ (ap (λ (k : ℕ). marks_from net 0 groups ++ marks_of_seats k net row) at ∙ sym (rows_push net 0 groups row)))
+
+-- ---- Seats of names
+
+-- The seats so far and what the points from i on add have the first of all seats on each net.
+pub record AreSeatedTo (lines : List PointLine) (i : ℕ) (rows : List (List Seat)) : Type 0 where
+  pub whole : (name : ℕ) → fresh [] (seats_at rows name ++ seats_from name i (drop i lines)) ≡ fresh [] (seats_from name 0 lines)
+  pub within : (nets : ℕ) → All (λ line. IfSome line.net (λ net. net < nets)) lines → (name : ℕ) → All (λ s. s.net < nets) (seats_at rows name)
+
+-- a seat on a net that was seen adds nothing, wherever it stands
+fresh_seen : (seen : List ℕ) (row : List Seat) (s : Seat) (rest : List Seat) → list_any (λ n. n == s.net) seen ≡ true → fresh seen (row ++ s ∷ rest) ≡ fresh seen (row ++ rest)
+fresh_seen seen [] s rest h = fresh_old seen s rest h
+fresh_seen seen (t ∷ row) s rest h = by (list_any (λ n. n == t.net) seen) refl (fresh_seen seen row s rest h) (fresh_seen (seen ++ t.net ∷ []) row s rest more)
+  where
+    more : list_any (λ n. n == s.net) (seen ++ t.net ∷ []) ≡ true
+    more = list_any-append (λ n. n == s.net) seen (t.net ∷ []) ∙ rw h refl
+
+    by : (b : Bool) → list_any (λ n. n == t.net) seen ≡ b → fresh seen (row ++ s ∷ rest) ≡ fresh seen (row ++ rest) → fresh (seen ++ t.net ∷ []) (row ++ s ∷ rest) ≡ fresh (seen ++ t.net ∷ []) (row ++ rest)
+        → fresh seen (t ∷ row ++ s ∷ rest) ≡ fresh seen (t ∷ row ++ rest)
+    by true e old new = fresh_old seen t (row ++ s ∷ rest) e ∙ (old ∙ sym (fresh_old seen t (row ++ rest) e))
+    by false e old new = fresh_new seen t (row ++ s ∷ rest) e ∙ (ap (λ (xs : List Seat). t ∷ xs) new ∙ sym (fresh_new seen t (row ++ rest) e))
+
+fresh_again : (row : List Seat) (s : Seat) (rest : List Seat) → begins_on s.net row ≡ true → fresh [] (row ++ s ∷ rest) ≡ fresh [] (row ++ rest)
+fresh_again [] s rest h = absurd (not_true h)
+fresh_again (t ∷ row) s rest h = ap (λ (xs : List Seat). t ∷ xs) (fresh_seen (t.net ∷ []) row s rest (rw h refl))
+
+row_empty : (rows : List (List Seat)) → All (λ row. row ≡ []) rows → (name : ℕ) → seats_at rows name ≡ []
+row_empty rows empty name = elim (le_or_lt (length rows) name) [
+  | inl past ↦ get_or_past rows name [] past
+  | inr within ↦ All-get_or (λ row. row ≡ []) rows name [] within empty
+]
+
+pub seated_none : (lines : List PointLine) (rows : List (List Seat)) → All (λ row. row ≡ []) rows → AreSeatedTo lines 0 rows
+seated_none lines rows empty = record {
+  whole = λ name. ap (λ (xs : List Seat). fresh [] (xs ++ seats_from name 0 lines)) (row_empty rows empty name);
+  within = λ nets netted name. subst (All (λ s. s.net < nets)) (sym (row_empty rows empty name)) (All-nil (λ s. s.net < nets));
+}
+
+pub seated_skip : (lines : List PointLine) (i : ℕ) (d : PointLine) (rows : List (List Seat)) → i < length lines → (get_or lines i d).net ≡ None → AreSeatedTo lines i rows → AreSeatedTo lines (i + 1) rows
+seated_skip lines i d rows below none to = record {
+  whole = λ name. ap (λ (xs : List Seat). fresh [] (seats_at rows name ++ xs)) (sym (at_drop_more (seats_from name i) lines i d below ∙ seats_none name i (get_or lines i d) (drop (i + 1) lines) none)) ∙ to.whole name;
+  within = to.within;
+}
+
+pub seated_more : (lines : List PointLine) (i net : ℕ) (d : PointLine) (rows rows' : List (List Seat)) → i < length lines → (get_or lines i d).net ≡ Some net → Takes (seats_at rows (get_or lines i d).name) (record { net = net; probe = i }) (seats_at rows' (get_or lines i d).name)
+    → ((other : ℕ) → (other ≡ (get_or lines i d).name → ⊥) → seats_at rows' other ≡ seats_at rows other) → AreSeatedTo lines i rows → AreSeatedTo lines (i + 1) rows'
+seated_more lines i net d rows rows' below on takes others to = record {
+  whole = λ name. elim (cases_eq name n) [
+    | inl same ↦ subst (λ (k : ℕ). fresh [] (seats_at rows' k ++ seats_from k (i + 1) rest) ≡ fresh [] (seats_from k 0 lines)) (sym same) (whole takes)
+    | inr other ↦ ap (λ (xs : List Seat). fresh [] (xs ++ seats_from name (i + 1) rest)) (others name other) ∙ (ap (λ (xs : List Seat). fresh [] (seats_at rows name ++ xs)) (sym (left name other)) ∙ to.whole name)
+  ];
+  within = λ nets netted name. elim (cases_eq name n) [
+    | inl same ↦ subst (λ (k : ℕ). All (λ s. s.net < nets) (seats_at rows' k)) (sym same) (within nets netted takes)
+    | inr other ↦ subst (All (λ s. s.net < nets)) (sym (others name other)) (to.within nets netted name)
+  ];
+}
+  where
+    n : ℕ
+    n = (get_or lines i d).name
+
+    rest : List PointLine
+    rest = drop (i + 1) lines
+
+    row : List Seat
+    row = seats_at rows n
+
+    s : Seat
+    s = record { net = net; probe = i }
+
+    mine : seats_from n i (drop i lines) ≡ s ∷ seats_from n (i + 1) rest
+    mine = at_drop_more (seats_from n i) lines i d below ∙ seats_some n i net (get_or lines i d) rest (eq-eqb n n refl) on
+
+    left : (name : ℕ) → (name ≡ n → ⊥) → seats_from name i (drop i lines) ≡ seats_from name (i + 1) rest
+    left name other = at_drop_more (seats_from name i) lines i d below ∙ seats_other name i (get_or lines i d) rest (ne_eqb n name (λ e. other (sym e)))
+
+    before : fresh [] (row ++ s ∷ seats_from n (i + 1) rest) ≡ fresh [] (seats_from n 0 lines)
+    before = ap (λ (xs : List Seat). fresh [] (row ++ xs)) (sym mine) ∙ to.whole n
+
+    whole : Takes row s (seats_at rows' n) → fresh [] (seats_at rows' n ++ seats_from n (i + 1) rest) ≡ fresh [] (seats_from n 0 lines)
+    whole (inl now) = ap (λ (xs : List Seat). fresh [] (xs ++ seats_from n (i + 1) rest)) now ∙ (ap (fresh []) (append_assoc row (s ∷ []) (seats_from n (i + 1) rest)) ∙ before)
+    whole (inr (begins, now)) = ap (λ (xs : List Seat). fresh [] (xs ++ seats_from n (i + 1) rest)) now ∙ (sym (fresh_again row s (seats_from n (i + 1) rest) begins) ∙ before)
+
+    lower : (nets : ℕ) → All (λ line. IfSome line.net (λ m. m < nets)) lines → net < nets
+    lower nets netted = subst (λ (o : Option ℕ). IfSome o (λ m. m < nets)) on (All-get_or (λ line. IfSome line.net (λ m. m < nets)) lines i d below netted)
+
+    within : (nets : ℕ) → All (λ line. IfSome line.net (λ m. m < nets)) lines → Takes row s (seats_at rows' n) → All (λ s. s.net < nets) (seats_at rows' n)
+    within nets netted (inl now) = subst (All (λ s. s.net < nets)) (sym now) (All-push (λ s. s.net < nets) row s (to.within nets netted n) (lower nets netted))
+    within nets netted (inr (begins, now)) = subst (All (λ s. s.net < nets)) (sym now) (to.within nets netted n)
+
+pub seated_all : (lines : List PointLine) (i : ℕ) (rows : List (List Seat)) → length lines ≤ i → AreSeatedTo lines i rows → HaveFirsts rows lines
+seated_all lines i rows past to = record {
+  firsts = λ name below. ap (fresh []) (sym (append-nil (seats_at rows name))) ∙ (ap (λ (xs : List Seat). fresh [] (seats_at rows name ++ xs)) (sym (at_drop_all (seats_from name i) lines i past)) ∙ to.whole name);
+  within = to.within;
+}

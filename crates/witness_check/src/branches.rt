@@ -8,7 +8,8 @@ ghost use Rattle.verdict.specs.declared.verdict.PointLine.{PointLine};
 ghost use Rattle.witness_check.specs.Marked.{AreStamped, AreUpTo, HasMarks};
 
 use crate::nets::first_of;
-use lengths::rows::{NoMemory, Rows};
+use crate::small_rows::SmallRows;
+use lengths::rows::NoMemory;
 use std::alloc::Global;
 use verdict::{Branch, Mark, Short, Tree, Twig};
 
@@ -18,7 +19,7 @@ use verdict::{Branch, Mark, Short, Tree, Twig};
 pub fn branches_hold(
     alloc: Global,
     nets: &[Tree],
-    marks: &[Rows<Mark>],
+    marks: &[SmallRows<Mark>],
     places: &[usize],
     homes: &[Option<u32>],
     shorts: &[Short],

@@ -28,6 +28,8 @@ pub fn are_trees<L: Ledger>(
 }
 
 // The same, by a table without a stamp.
+// Not inlined, so that its loops have the registers.
+#[inline(never)]
 fn all_trees<L: Ledger>(
     board: &Board,
     nets: &[Tree],
@@ -156,6 +158,8 @@ pub fn standing_of(alloc: Global, nets: &[Tree], count: usize) -> Result<Option<
 }
 
 // Whether each piece stands once in one net, for pieces that have no number yet. The tables get where each stands.
+// Not inlined, so that its loops have the registers.
+#[inline(never)]
 fn stand_once(nets: &[Tree], numbers: &mut [u32], places: &mut [usize]) -> bool
     requires few { length nets.now < 2 ^ 32 }
     requires known { (i piece : ℕ) → Holds nets.now i piece → piece < length numbers.old }

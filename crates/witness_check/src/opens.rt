@@ -5,13 +5,13 @@ ghost use Rattle.verdict.specs.Seats.{AreFirstSeats};
 ghost use Rattle.verdict.specs.declared.verdict.PointLine.{PointLine};
 ghost use Rattle.witness_check.specs.Opened.{IsPast, open_by};
 
-use lengths::rows::Rows;
+use crate::small_rows::SmallRows;
 use lengths::text::Text;
 use verdict::{Open, Seat};
 
 /// Whether the opens are those of all names, from the first point of each name on each net. The list is gone through
 /// once, beside the names.
-pub fn opens_hold(names: &[Text], groups: &[Rows<Seat>], opens: &[Open]) -> bool
+pub fn opens_hold(names: &[Text], groups: &[SmallRows<Seat>], opens: &[Open]) -> bool
     requires few { length names.now < 2 ^ 32 }
     requires long { length groups.now ≡ length names.now }
     ensures { (lines : List PointLine) → AreFirstSeats groups.now lines → IsTrue result ↔ (opens.now ≡ all_opens 0 names.now lines) }

@@ -4,11 +4,11 @@ ghost use Rattle.verdict.specs.Right.{outline};
 ghost use Rattle.verdict.specs.Seats.{branch_name, mark_name};
 ghost use Rattle.witness_check.specs.Marked.{outline_of, outlines_from};
 
-use lengths::rows::Rows;
+use crate::small_rows::SmallRows;
 use verdict::{Branch, Mark, Short};
 
 /// Whether the shorts are those of the nets with two marks or more, in their order, with a branch for each mark.
-pub fn shorts_hold(marks: &[Rows<Mark>], shorts: &[Short]) -> bool
+pub fn shorts_hold(marks: &[SmallRows<Mark>], shorts: &[Short]) -> bool
     requires few { length marks.now < 2 ^ 32 }
     ensures { IsTrue result ↔ (map outline shorts.now ≡ outlines_from 0 marks.now) }
 {
