@@ -16,8 +16,8 @@ use std::alloc::Global;
 use texts::MOST_BYTES;
 use xnc::{DrillFault, DrillKind, Span, read_drill};
 
-/// Why a file is refused: the first faulty command, line or record, by its kind, its number and its place in the file; a
-/// record has a line and no place.
+/// Why a file is refused: the first faulty command of a copper file, or line of another, by its kind, its number, from 1, and
+/// the place of its first byte, from 0; that of a netlist has no place.
 #[derive(Clone, Copy, Debug)]
 pub enum Refusal {
     Layer {

@@ -1,5 +1,5 @@
 -- From what a command says of what was handed over to it to what it comes to, and to all files that agree.
-use Rattle.std.proofs.Common.{◌≡◌, ◌≤◌, ℕ, List, [], ◌∷◌, ◌++◌, Option, Some, None, Result, Ok, Err, IfOk, MatchResult, refl, sym, subst, arith}
+use Rattle.std.proofs.Common.{◌≡◌, ◌≤◌, inl, inr, ℕ, List, [], ◌∷◌, ◌++◌, Option, Some, None, Result, Ok, Err, IfOk, MatchResult, refl, sym, subst, arith}
 use Rattle.board_io.specs.Handed.{Handed}
 use Rattle.board_io.specs.Package.{Files}
 use Rattle.board_package.proofs.Lift.{retold}
@@ -9,8 +9,7 @@ use Rattle.board_package.specs.declared.fault.BuildFault.TheVariants as fault
 use Rattle.board_package.specs.declared.contents.Refusal.TheVariants as refusal
 use Rattle.boardnet.proofs.Ending.{HasReason, Works, small_status}
 use Rattle.boardnet.proofs.Sound.{HoldsHanded}
-use Rattle.boardnet.proofs.Soundness.{sound}
-use Rattle.boardnet.specs.Answers.{IsAnswerTo, Refuses, RefusesFor, line_of, status_of, subject_of}
+use Rattle.boardnet.specs.Answers.{IsAnswerTo, RefusesFor, line_of, status_of, subject_of}
 use Rattle.boardnet.specs.Ends.{Puts, StopsFor, cut, whole}
 use Rattle.boardnet.specs.HandedOutcome.{EndsHanded, HasHandedReason, WorksOn}
 use Rattle.boardnet.specs.Kept.{LeftBy, Spares}
@@ -31,10 +30,10 @@ data Reason (source : Source) (c : Command) (lost : List ℕ) (status : ℕ) (Li
 
 stopped_by : (source : Source) (c : Command) (lost : List ℕ) (status : ℕ) (Line : List ℕ → Type 0) (stop : Stop) (line : List ℕ)
     → status ≡ 3 → Line line → IsLineOf (subject_of c) stop line → StopsFor source c stop → Reason source c lost status Line
-stopped_by source c lost status Line stop line three said is s = refusal_of line three ((sound c).stop_outcome source stop line s is) said
+stopped_by source c lost status Line stop line three said is s = refusal_of line three (inl (stop, s, is)) said
 
 stopped_reason : (source : Source) (c : Command) (before now : ℕ) (lost : List ℕ) (status : ℕ) (Line : List ℕ → Type 0) (why : BuildFault)
-    → Refuses (subject_of c) why status Line → HasHandedReason source c before now lost (Stopped why) → Reason source c lost status Line
+    → RefusesFor c (Stopped why) status Line → HasHandedReason source c before now lost (Stopped why) → Reason source c lost status Line
 stopped_reason source c before now lost status Line fault.NotJson said h = stopped_by source c lost status Line not_json _ said.0 said.1 refl h
 stopped_reason source c before now lost status Line fault.BadManifest said h = stopped_by source c lost status Line bad_manifest _ said.0 said.1 refl h
 stopped_reason source c before now lost status Line (fault.Longer name) said h = stopped_by source c lost status Line (longer name) _ said.0 said.1 refl h
@@ -48,7 +47,7 @@ stopped_reason source c before now lost status Line fault.NoMemory said h = want
 reason_of : (source : Source) (c : Command) (before now : ℕ) (lost : List ℕ) (status : ℕ) (Line : List ℕ → Type 0) (why : Unanswered)
     → RefusesFor c why status Line → HasHandedReason source c before now lost why → Reason source c lost status Line
 reason_of source c before now lost status Line (Stopped why) said h = stopped_reason source c before now lost status Line why said h
-reason_of source c before now lost status Line other said h = refusal_of _ said.0 ((sound c).refusal source other h) said.1
+reason_of source c before now lost status Line other said h = refusal_of _ said.0 (inr (other, h, refl)) said.1
 
 -- ---- What a command comes to
 
@@ -106,5 +105,5 @@ reason_held c held a b before now lost other h r = h.refuses other r
 -- the work on what was handed over is work on the files that agree with it
 pub held_works : {P : Type 0} (c : Command) (files : P → Option Files) (handed : P → List Handed) (faults : P → ℕ) (lost : P → List ℕ) (old new : P) (result : Result Answer Unanswered) → HoldsHanded c (files old) (handed old) (handed new)
     → files new ≡ files old → faults old ≤ faults new → Spares LeftBy faults lost old new result → WorksOn handed faults lost c old new result → Works files faults lost c old new result
-held_works c files handed faults lost old new (Ok answer) h held later spared work = record { held = held; later = later; spared = spared; work = h.outcome (Told answer.text.items (status_of answer.note) (line_of answer.note)) work }
+held_works c files handed faults lost old new (Ok answer) h held later spared work = record { held = held; later = later; spared = spared; work = h.answers answer.text.items (status_of answer.note) (line_of answer.note) work }
 held_works c files handed faults lost old new (Err why) h held later spared work = record { held = held; later = later; spared = spared; work = reason_held c (files old) (handed old) (handed new) (faults old) (faults new) (lost new) why h work }

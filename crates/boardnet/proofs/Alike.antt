@@ -1,22 +1,21 @@
--- What is the same in two outcomes: of right verdicts of one board, of lines of refusals, of lists of gaps.
-use Rattle.std.proofs.Common.{◌≡◌, ◌*◌, inl, inr, ℕ, pos, List, length, Some, codes, ap, refl, subst, sym, ◌∙◌, arith}
+-- What is the same in two outcomes: of right verdicts of one board, of refusals, of lists of gaps.
+use Rattle.std.proofs.Common.{◌≡◌, ◌*◌, ◌<◌, inl, inr, ℕ, pos, List, length, Option, Some, None, IsSomeAnd, codes, ap, refl, subst, sym, ◌∙◌, arith}
 use Rattle.board_io.specs.Package.{Files}
-use Rattle.board_package.specs.LabelledBoard.{LabelledStop, mislabelled, unbuilt}
 use Rattle.board_package.specs.PackageBoard.{Stop, absent, longer, StopsTaking}
 use Rattle.board_shapes.proofs.BoardTables.{tables_are_consistent, tables_are_one}
 use Rattle.board_shapes.specs.Plain.{PlainBoard}
 use Rattle.boardnet.proofs.Sound.{Laws}
 use Rattle.boardnet.specs.Gapped.{IsGapListOn, IsGapStatus, IsTooWide}
-use Rattle.boardnet.specs.Lines.{counted_line, file_line, findings_line}
+use Rattle.boardnet.specs.Lines.{counted_line, findings_line}
 use Rattle.boardnet.specs.Outcome.{HasStatus, IsLineOf}
 use Rattle.boardnet.specs.Right.{IsReportOn, IsRightOn}
 use Rattle.boardnet.specs.commands.Trial.{IsStatusOf}
-use Rattle.boardnet.specs.commands.X2.{IsLabelledLine}
 use Rattle.boardnet.specs.declared.words.Version.{Version}
 use Rattle.contact.specs.declared.Bounds.{Bounds}
 use Rattle.gaps.specs.Gaps.{AreGaps, CloseAt}
 use Rattle.gaps.specs.GrownBox.{grown_common}
 use Rattle.tables.specs.Tables.{Tables}
+use Rattle.texts.specs.declared.TheConstants.{MOST_BYTES}
 use Rattle.verdict.specs.Right.{IsRight}
 use Rattle.verdict.specs.declared.verdict.Verdict.{Verdict}
 use Rattle.witness_check.specs.Laws.{DifferInWitnessesOnly}
@@ -51,26 +50,27 @@ same_summary v w s t d (inr (differs, is)) (inr (differs', is')) = is ∙ sym is
 pub same_reports : Laws → (b d : PlainBoard) (one other : Version) (text said : List ℕ) (s t : ℕ) (l k : List ℕ) → b ≡ d → IsReportOn b one text s l → IsReportOn d other said t k → (s ≡ t) × (l ≡ k)
 same_reports law b d one other text said s t l k e x y = same_status x.verdict y.verdict s t l k (same_verdicts law b d x.verdict y.verdict e x.right y.right) x.status_is y.status_is
 
--- ---- Lines of refusals
+-- ---- Refusals
 
-pub same_line : (subject : List ℕ) (stop : Stop) (l k : List ℕ) → IsLineOf subject stop l → IsLineOf subject stop k → l ≡ k
+held_not_long : (o : Option (List ℕ)) → o ≡ None → IsSomeAnd o (λ bytes. MOST_BYTES < length bytes) → ⊥
+held_not_long o e h = subst (λ (p : Option (List ℕ)). IsSomeAnd p (λ bytes. MOST_BYTES < length bytes)) e h
+
+same_line : (subject : List ℕ) (stop : Stop) (l k : List ℕ) → IsLineOf subject stop l → IsLineOf subject stop k → l ≡ k
 same_line subject (absent name) l k p q = absurd p
 same_line subject stop l k p q = p ∙ sym q
 
 pub line_of_one : (subject : List ℕ) (stop other : Stop) (l k : List ℕ) → stop ≡ other → IsLineOf subject stop l → IsLineOf subject other k → l ≡ k
 line_of_one subject stop other l k e p q = same_line subject other l k (subst (λ (s : Stop). IsLineOf subject s l) e p) q
 
-pub same_labelled_line : (subject : List ℕ) (stop : LabelledStop) (l k : List ℕ) → IsLabelledLine subject stop l → IsLabelledLine subject stop k → l ≡ k
-same_labelled_line subject (unbuilt stop) l k p q = same_line subject stop l k p q
-same_labelled_line subject (mislabelled name number byte) l k p q = p ∙ sym q
-
--- a file that is not there to be read has one line
-pub same_taking : (f : Files) (name subject : List ℕ) (stop other : Stop) (l k : List ℕ) → StopsTaking f name stop → StopsTaking f name other → IsLineOf subject stop l → IsLineOf subject other k → l ≡ k
-same_taking f name subject (absent a) other l k s t p q = absurd p
-same_taking f name subject (longer a) (absent b) l k s t p q = absurd q
-same_taking f name subject (longer a) (longer b) l k s t p q = p ∙ (ap (λ (z : List ℕ). file_line z (codes "longer than 67108864 bytes")) (s.0 ∙ sym t.0) ∙ sym q)
-same_taking f name subject (longer a) other l k s t p q = absurd t
-same_taking f name subject stop other l k s t p q = absurd s
+-- a file that is not there to be read has one stop
+pub one_taking : (f : Files) (name : List ℕ) (stop other : Stop) → StopsTaking f name stop → StopsTaking f name other → stop ≡ other
+one_taking f name (absent a) (absent b) s t = ap absent (s.0 ∙ sym t.0)
+one_taking f name (absent a) (longer b) s t = absurd (held_not_long (f name) s.1 t.1)
+one_taking f name (longer a) (absent b) s t = absurd (held_not_long (f name) t.1 s.1)
+one_taking f name (longer a) (longer b) s t = ap longer (s.0 ∙ sym t.0)
+one_taking f name (absent a) other s t = absurd t
+one_taking f name (longer a) other s t = absurd t
+one_taking f name stop other s t = absurd s
 
 -- ---- Lists of gaps
 

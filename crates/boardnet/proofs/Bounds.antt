@@ -14,7 +14,7 @@ use Rattle.arc_regions.specs.Copper.{InRegion}
 use Rattle.arc_layer.specs.Real.{PlainReal, RealFigure, plain, bent, slanted, curved, plain_real, plain_reals, real_figure}
 use Rattle.real_shapes.specs.declared.RealShape.{RealShape}
 use Rattle.real_shapes.specs.declared.RealShape.TheVariants.{Plain, ArcDraw, Slanted, Region}
-use Rattle.board_shapes.specs.Figures.{Figure, InFigure, figure_of}
+use Rattle.board_shapes.specs.Figures.{Figure, InFigure}
 use Rattle.board_shapes.specs.Pieces.{PlainPiece}
 use Rattle.board_shapes.specs.Plain.{PlainBoard}
 use Rattle.board_shapes.specs.declared.placed.Origin.{Origin}

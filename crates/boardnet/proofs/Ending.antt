@@ -12,11 +12,11 @@ use Rattle.board_package.specs.declared.fault.BuildFault.TheVariants as fault
 use Rattle.board_package.specs.declared.contents.Refusal.TheVariants as refusal
 use Rattle.boardnet.proofs.Sound.{OneOutcome}
 use Rattle.boardnet.proofs.Soundness.{sound}
-use Rattle.boardnet.specs.Answers.{IsAnswerTo, Refuses, RefusesFor, line_of, is_good, reason_line, subject_of, report_of, status_of}
+use Rattle.boardnet.specs.Answers.{IsAnswerTo, RefusesFor, line_of, is_good, subject_of, report_of, status_of}
 use Rattle.boardnet.specs.Ends.{Ends, HasText, Puts, StopsFor, TakesFiles, cut, whole}
 use Rattle.boardnet.specs.Kept.{LeftBy, Spares}
 use Rattle.boardnet.specs.Lines.{Says, file_line, plain_line}
-use Rattle.boardnet.specs.Outcome.{ComesFor, Held, IsLineOf, OfFilesRead, OutcomeOf, Refused, Source, Told, read_by}
+use Rattle.boardnet.specs.Outcome.{ComesFor, Held, IsLineOf, OfFilesRead, OutcomeOf, Refused, Source, Told, read_by, reason_line}
 use Rattle.boardnet.specs.Words.{Command, task_of, Flatten, Write}
 use Rattle.boardnet.specs.declared.answer.Answer.{Answer}
 use Rattle.boardnet.specs.declared.answer.Note.{Note}
@@ -48,10 +48,10 @@ data Reason (c : Command) (held : Option Files) (before : ℕ) (was : List ℕ) 
 stopped_by : OneOutcome → (c : Command) (held : Option Files) (before : ℕ) (was : List ℕ) (now : ℕ) (lost : List ℕ) (status : ℕ) (Line : List ℕ → Type 0) (stop : Stop) (line : List ℕ)
     → status ≡ 3 → Line line → IsLineOf (subject_of c) stop line → OfFilesRead c held (λ f. StopsFor (Held f) c stop) → IsFaultless before was now lost → Reason c held before was now lost status Line
 stopped_by law c held before was now lost status Line stop line three said is s left =
-    refusal_of line three (told_of (read_by c held) (λ f. StopsFor (Held f) c stop) (λ f. OutcomeOf (Held f) c (Refused line) × (HasText (Held f) c → ⊥)) (λ f h. ((sound c).stop_outcome (Held f) stop line h is, (sound c).no_text law f stop h)) s) said left
+    refusal_of line three (told_of (read_by c held) (λ f. StopsFor (Held f) c stop) (λ f. OutcomeOf (Held f) c (Refused line) × (HasText (Held f) c → ⊥)) (λ f h. (inl (stop, h, is), (sound c).no_text law f stop h)) s) said left
 
 stopped_reason : OneOutcome → (c : Command) (held : Option Files) (before : ℕ) (was : List ℕ) (now : ℕ) (lost : List ℕ) (status : ℕ) (Line : List ℕ → Type 0) (why : BuildFault)
-    → Refuses (subject_of c) why status Line → HasReason c held before now lost (Stopped why) → KeepsFaults before was now lost why → Reason c held before was now lost status Line
+    → RefusesFor c (Stopped why) status Line → HasReason c held before now lost (Stopped why) → KeepsFaults before was now lost why → Reason c held before was now lost status Line
 stopped_reason law c held before was now lost status Line fault.NotJson said h left = stopped_by law c held before was now lost status Line not_json _ said.0 said.1 refl h left
 stopped_reason law c held before was now lost status Line fault.BadManifest said h left = stopped_by law c held before was now lost status Line bad_manifest _ said.0 said.1 refl h left
 stopped_reason law c held before was now lost status Line (fault.Longer name) said h left = stopped_by law c held before was now lost status Line (longer name) _ said.0 said.1 refl h left
@@ -69,7 +69,7 @@ reason_of : OneOutcome → (c : Command) (held : Option Files) (before : ℕ) (w
     → RefusesFor c why status Line → HasReason c held before now lost why → LeftBy before was now lost why → Reason c held before was now lost status Line
 reason_of law c held before was now lost status Line (Stopped why) said h left = stopped_reason law c held before was now lost status Line why said h left
 reason_of law c held before was now lost status Line other said h left =
-    refusal_of _ said.0 (told_of (read_by c held) (λ f. (task_of c).refuses (Held f) other) (λ f. OutcomeOf (Held f) c (Refused (reason_line (subject_of c) (report_of c) other)) × (HasText (Held f) c → ⊥)) (λ f r. ((sound c).refusal (Held f) other r, (sound c).no_refused_text law f other r)) h) said.1 left
+    refusal_of _ said.0 (told_of (read_by c held) (λ f. (task_of c).refuses (Held f) other) (λ f. OutcomeOf (Held f) c (Refused (reason_line (subject_of c) (report_of c) other)) × (HasText (Held f) c → ⊥)) (λ f r. (inr (other, r, refl), (sound c).no_refused_text law f other r)) h) said.1 left
 
 -- ---- What a command comes to
 

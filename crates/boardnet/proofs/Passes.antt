@@ -6,7 +6,7 @@ use Rattle.texts.specs.declared.TheConstants.{MOST_BYTES}
 use Rattle.board_package.specs.declared.entry.Entry.{Entry}
 use Rattle.board_shapes.specs.Plain.{PlainBoard}
 use Rattle.boardnet.specs.Laws.{CanBeTaken, FirstReportsAreShort, HoldsReport, ReportsPass}
-use Rattle.boardnet.specs.Outcome.{CheckOutcome, Held, Told}
+use Rattle.boardnet.specs.Outcome.{Held, IsReport}
 use Rattle.boardnet.specs.declared.words.Version.{Version}
 use Rattle.boardnet.specs.declared.words.Version.TheVariants.{One, Two}
 
@@ -28,7 +28,7 @@ still_board before after report text manifest board h b = record {
 }
 
 -- a report that was written can be taken
-taken : FirstReportsAreShort → (before : Files) (version : Version) (manifest text line : List ℕ) (status : ℕ) → CheckOutcome (Held before) version manifest (Told text status line) → CanBeTaken version text → length text ≤ MOST_BYTES
+taken : FirstReportsAreShort → (before : Files) (version : Version) (manifest text line : List ℕ) (status : ℕ) → IsReport (Held before) version manifest text status line → CanBeTaken version text → length text ≤ MOST_BYTES
 taken law before One manifest text line status r can = law before manifest text line status r
 taken law before Two manifest text line status r can = can
 

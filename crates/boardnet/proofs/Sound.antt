@@ -13,10 +13,7 @@ use Rattle.board_package.specs.PackageBoard.{Stop}
 use Rattle.board_shapes.specs.Plain.{PlainBoard}
 use Rattle.gaps.specs.Laws.{GapListsAreOne}
 use Rattle.gerber_layer.specs.MacroLayer.{HasOneMacroAnswer}
-use Rattle.boardnet.specs.Answers.{reason_line}
-use Rattle.boardnet.specs.Common.{IsRefusal}
-use Rattle.boardnet.specs.OneOutcome.{AreAlike}
-use Rattle.boardnet.specs.Outcome.{ComesFor, HandedOver, Held, IsLineOf, OfFilesRead, Outcome, OutcomeOf, Refused, Source}
+use Rattle.boardnet.specs.Outcome.{ComesFor, HandedOver, Held, OfFilesRead}
 use Rattle.boardnet.specs.Source.{FitsWith}
 use Rattle.boardnet.specs.commands.{command_of_words, task_of}
 use Rattle.boardnet.specs.Words.{Asks, Command}
@@ -53,7 +50,7 @@ pub record Laws : Type 0 where
 
 -- what is said of what was handed over holds of the files, where they are told
 pub record HoldsHanded (c : Command) (held : Option Files) (a b : List Handed) : Type 0 where
-  pub outcome : (o : Outcome) → OutcomeOf (HandedOver a b) c o → OfFilesRead c held (λ g. OutcomeOf (Held g) c o)
+  pub answers : (text : List ℕ) (status : ℕ) (line : List ℕ) → (task_of c).answers (HandedOver a b) text status line → OfFilesRead c held (λ g. (task_of c).answers (Held g) text status line)
   pub stops : (stop : Stop) → (task_of c).stops (HandedOver a b) stop → OfFilesRead c held (λ g. (task_of c).stops (Held g) stop)
   pub comes : (name : List ℕ) → ComesFor (HandedOver a b) c name → OfFilesRead c held (λ g. ComesFor (Held g) c name)
   pub refuses : (why : Unanswered) → (task_of c).refuses (HandedOver a b) why → OfFilesRead c held (λ g. (task_of c).refuses (Held g) why)
@@ -66,16 +63,17 @@ pub record Sound (c : Command) : Type 0 where
   pub asks : (words : List (String Global)) → map string_bytes words ≡ (task_of c).spelled → (task_of c).in_range → Asks words c
   -- of words that are spelled so it is the command
   pub read : (task_of c).in_range → command_of_words (task_of c).spelled ≡ Some c
-  -- a stop with its line is a refusal of it, and so is what else it refuses
-  pub stop_outcome : (source : Source) (stop : Stop) (line : List ℕ) → (task_of c).stops source stop → IsLineOf (task_of c).subject stop line → OutcomeOf source c (Refused line)
-  pub refusal : (source : Source) (why : Unanswered) → (task_of c).refuses source why → OutcomeOf source c (Refused (reason_line (task_of c).subject (task_of c).report why))
-  -- it has no text then
+  -- where it answers it has a text, and none where it stops or refuses what it read
+  pub text_of : (f : Files) (text : List ℕ) (status : ℕ) (line : List ℕ) → (task_of c).answers (Held f) text status line → (task_of c).has_text (Held f)
   pub no_text : OneOutcome → (f : Files) (stop : Stop) → (task_of c).stops (Held f) stop → (task_of c).has_text (Held f) → ⊥
   pub no_refused_text : OneOutcome → (f : Files) (why : Unanswered) → (task_of c).refuses (Held f) why → (task_of c).has_text (Held f) → ⊥
   -- a file that cannot be read is one that it takes
   pub takes_what_comes : (f : Files) (name : List ℕ) → ComesFor (Held f) c name → (task_of c).takes
-  -- over the same files it has one status and one line
-  pub alike : Laws → (f : Files) (o p : Outcome) → OfFilesRead c (Some f) (λ g. OutcomeOf (Held g) c o) → OfFilesRead c (Some f) (λ g. OutcomeOf (Held g) c p) → AreAlike o p
+  -- over the same files it has one status and one line, or one stop, or one other reason
+  pub one_answer : Laws → (f : Files) (text said : List ℕ) (s t : ℕ) (l k : List ℕ) → (task_of c).answers (Held f) text s l → (task_of c).answers (Held f) said t k → (s ≡ t) × (l ≡ k)
+  pub one_stop : OneOutcome → (f : Files) (stop other : Stop) → (task_of c).stops (Held f) stop → (task_of c).stops (Held f) other → stop ≡ other
+  pub one_reason : OneOutcome → (f : Files) (why other : Unanswered) → (task_of c).refuses (Held f) why → (task_of c).refuses (Held f) other → why ≡ other
+  pub stop_or_reason : OneOutcome → (f : Files) (stop : Stop) (why : Unanswered) → (task_of c).stops (Held f) stop → (task_of c).refuses (Held f) why → ⊥
   -- what it comes to by what was handed over it comes to by all files that agree with that
   pub agrees : HandedLaws → (held : Option Files) (a b : List Handed) → IfSome held (λ f. AgreeWith f a b) → HoldsHanded c held a b
 
@@ -87,6 +85,3 @@ value n small = (decimal_is_IsNumeral n small).1
 
 pub held_fit : {f : Files} {a b : List Handed} {manifest : List ℕ} {P : PlainBoard → Type 0} → HoldsWhatWasHanded f a b manifest → FitsWith (HandedOver a b) manifest P → FitsWith (Held f) manifest P
 held_fit h x = record { board = x.board; board_is = h.board x.board x.board_is; limits = x.limits; good = x.good }
-
-pub held_refusal : {f : Files} {a b : List Handed} {manifest line : List ℕ} → HoldsWhatWasHanded f a b manifest → IsRefusal (HandedOver a b) manifest line → IsRefusal (Held f) manifest line
-held_refusal h x = record { stop = x.stop; first = h.stop x.stop x.first; line_is = x.line_is }

@@ -4,27 +4,24 @@ use Rattle.board_package.specs.declared.fault.BuildFault.{BuildFault}
 use Rattle.board_package.specs.declared.fault.BuildFault.TheVariants as fault
 use Rattle.board_package.specs.declared.fault.LabelledFault.{LabelledFault}
 use Rattle.board_package.specs.declared.fault.LabelledFault.TheVariants as labelled
-use Rattle.board_package.specs.declared.contents.Refusal.TheVariants.{Layer, Drill, Netlist}
 use Rattle.board_shapes.specs.Plain.{PlainBoard}
 use Rattle.board_shapes.specs.Tables.{IsTables}
 use Rattle.board_maker.specs.declared.made.MakeFault.{MakeFault}
 use Rattle.board_maker.specs.declared.made.MakeFault.TheVariants as made
-use Rattle.boardnet.specs.Bounded.{unbound_line}
-use Rattle.boardnet.specs.Common.{arc_line}
 use Rattle.boardnet.specs.Gapped.{IsTooWide}
 use Rattle.file_reading.specs.declared.fault.FileFault.{FileFault}
 use Rattle.file_reading.specs.declared.fault.FileFault.TheVariants as flat
 use Rattle.gerber_layer.specs.declared.macro_kind.FlattenKind.{FlattenKind}
 use Rattle.gaps.specs.declared.listing.GapFault.{GapFault}
 use Rattle.gaps.specs.declared.listing.GapFault.TheVariants as gap
-use Rattle.boardnet.specs.Lines.{counted_line, plain_line, file_line, findings_line, frame_line, label_line, manifest_frame_line, end}
-use Rattle.boardnet.specs.Outcome.{OutcomeOf, Source, Told, flatten_line, refusal_line, IsNoReport, IsTextOf}
+use Rattle.boardnet.specs.Lines.{counted_line, plain_line, findings_line, end}
+use Rattle.boardnet.specs.Outcome.{OutcomeOf, Source, Told, reason_line, IsNoReport, IsTextOf}
 use Rattle.boardnet.specs.Words.{Command, task_of}
 use Rattle.boardnet.specs.declared.answer.Answer.{Answer}
 use Rattle.boardnet.specs.declared.answer.Note.{Note}
 use Rattle.boardnet.specs.declared.answer.Note.TheVariants as note
 use Rattle.boardnet.specs.declared.answer.Unanswered.{Unanswered}
-use Rattle.boardnet.specs.declared.answer.Unanswered.TheVariants.{Stopped, NotAReport, SizeTooLarge, GrownTooLarge, Mislabelled, Unflat, Bent, NotJson, NotAManifest, BoundTooLarge, Unbound}
+use Rattle.boardnet.specs.declared.answer.Unanswered.TheVariants.{Stopped, NotAReport, SizeTooLarge, GrownTooLarge, Mislabelled, Unflat, Bent, NotJson, NotAManifest, BoundTooLarge}
 use Rattle.real_package.specs.declared.fault.RealBuildFault.{RealBuildFault}
 use Rattle.real_package.specs.declared.fault.RealBuildFault.TheVariants as real
 use Rattle.tables.specs.Tables.{Tables}
@@ -35,16 +32,12 @@ use Rattle.witness_check.specs.declared.auditing.Ruling.TheVariants.{True, Untru
 
 -- the answer is one that finds no fault
 abbrev pub is_good : Note → Bool
-is_good note.Agrees = true
 is_good (note.Differs opens shorts missing) = false
-is_good note.AuditTrue = true
 is_good (note.AuditUntrue clause) = false
 is_good (note.TrialDone agrees) = agrees
-is_good note.NetlistWritten = true
-is_good note.NoGaps = true
 is_good (note.Gaps count) = false
-is_good note.Flattened = true
 is_good (note.Undecided opens shorts missing) = false
+is_good other = true
 
 -- the status of an answer
 abbrev pub status_of : Note → ℕ
@@ -116,22 +109,6 @@ fault_status (fault.CannotRead name) = 4
 fault_status fault.NoMemory = 6
 fault_status other = 3
 
--- the line of a fault
-abbrev pub fault_line : List ℕ → BuildFault → List ℕ
-fault_line manifest fault.NotJson = file_line manifest (codes "not JSON")
-fault_line manifest fault.BadManifest = file_line manifest (codes "not a manifest")
-fault_line manifest (fault.Longer name) = file_line name (codes "longer than 67108864 bytes")
-fault_line manifest (fault.CannotRead name) = file_line name (codes "cannot be read")
-fault_line manifest (fault.Layer name kind command byte) = refusal_line name (Layer kind command byte)
-fault_line manifest (fault.Drill name kind number byte) = refusal_line name (Drill kind number byte)
-fault_line manifest (fault.Netlist name kind number) = refusal_line name (Netlist kind number)
-fault_line manifest (fault.FrameTooLarge box) = frame_line box
-fault_line manifest fault.NoMemory = plain_line (codes "out of memory")
-
--- the status is the fault's, and `Line` holds of its line
-abbrev pub Refuses : List ℕ → BuildFault → ℕ → (List ℕ → Type 0) → Type 0
-Refuses manifest why status Line = (status ≡ fault_status why) × Line (fault_line manifest why)
-
 -- the name of the manifest or of the copper file that a command is about
 abbrev pub subject_of : Command → List ℕ
 subject_of command = (task_of command).subject
@@ -144,20 +121,6 @@ report_of command = (task_of command).report
 abbrev pub reason_status : Unanswered → ℕ
 reason_status (Stopped why) = fault_status why
 reason_status other = 3
-
--- and the line, by the names of its subject and of its report
-abbrev pub reason_line : (subject report : List ℕ) → Unanswered → List ℕ
-reason_line subject report (Stopped why) = fault_line subject why
-reason_line subject report NotAReport = file_line report (codes "not a report")
-reason_line subject report SizeTooLarge = plain_line (codes "trial size too large")
-reason_line subject report (GrownTooLarge box) = frame_line box
-reason_line subject report (Mislabelled name number byte) = label_line name number byte
-reason_line subject report (Unflat kind number byte) = flatten_line subject kind number byte
-reason_line subject report (Bent name kind number byte) = arc_line name kind number byte
-reason_line subject report (NotJson name) = file_line name (codes "not JSON")
-reason_line subject report (NotAManifest name) = file_line name (codes "not a manifest")
-reason_line subject report (BoundTooLarge name box) = manifest_frame_line name box
-reason_line subject report (Unbound why) = unbound_line subject report why
 
 -- the status is the reason's, and `Line` holds of its line
 abbrev pub RefusesFor : Command → Unanswered → ℕ → (List ℕ → Type 0) → Type 0

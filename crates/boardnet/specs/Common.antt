@@ -6,8 +6,9 @@ use Rattle.board_package.specs.PackageBoard.{Stop, absent, longer, not_json, bad
 use Rattle.board_package.specs.Refusals.{refusal_row}
 use Rattle.board_package.specs.declared.contents.Refusal.{Refusal}
 use Rattle.board_package.specs.declared.contents.Refusal.TheVariants.{Layer, Drill, Netlist}
+use Rattle.gerber_layer.specs.MacroKinds.{flatten_row}
+use Rattle.gerber_layer.specs.declared.macro_kind.FlattenKind.{FlattenKind}
 use Rattle.boardnet.specs.Lines.{at_byte, at_item, plain_line, file_line, frame_line, kind_line, findings_line}
-use Rattle.boardnet.specs.Source.{Source, IsFirstStopBy}
 use Rattle.verdict.specs.ReportText.{Agrees}
 use Rattle.verdict.specs.declared.verdict.Verdict.{Verdict}
 
@@ -37,6 +38,10 @@ refusal_line name why = kind_line name (form_of why) (refusal_row why).number (r
 abbrev pub arc_line : List ℕ → RealKind → ℕ → ℕ → List ℕ
 arc_line name kind command byte = kind_line name (codes "Gerber") (real_row kind).number (real_row kind).name (at_byte (codes "command") command byte)
 
+-- The line of a copper file that `flatten` refuses.
+abbrev pub flatten_line : List ℕ → FlattenKind → ℕ → ℕ → List ℕ
+flatten_line name kind command byte = kind_line name (codes "flatten") (flatten_row kind).number (flatten_row kind).name (at_byte (codes "command") command byte)
+
 -- The line of a stop that is a refusal. A file that is not held is none.
 abbrev pub IsLineOf : List ℕ → Stop → List ℕ → Type 0
 IsLineOf manifest (absent name) line = ⊥
@@ -45,12 +50,6 @@ IsLineOf manifest not_json line = line ≡ file_line manifest (codes "not JSON")
 IsLineOf manifest bad_manifest line = line ≡ file_line manifest (codes "not a manifest")
 IsLineOf manifest (refused name why) line = line ≡ refusal_line name why
 IsLineOf manifest (frame_too_large box) line = line ≡ frame_line box
-
--- The package's first stop is a refusal, and this is its line.
-pub record IsRefusal (source : Source) (manifest line : List ℕ) : Type 0 where
-  pub stop : Stop
-  pub first : IsFirstStopBy source manifest stop
-  pub line_is : IsLineOf manifest stop line
 
 -- What a command comes to: a text with its status and its line, or the line of a refusal.
 pub data Outcome : Type 0 where

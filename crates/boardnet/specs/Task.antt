@@ -4,7 +4,6 @@ use Rattle.std.specs.declared.alloc.Global.{Global}
 use Rattle.board_io.specs.Package.{Files}
 use Rattle.board_package.specs.PackageBoard.{Stop}
 use Rattle.board_shapes.specs.Plain.{PlainBoard}
-use Rattle.boardnet.specs.Common.{Outcome}
 use Rattle.boardnet.specs.Source.{Source, ComesBy, IsBoardBy, IsFirstStopBy}
 use Rattle.boardnet.specs.declared.answer.Unanswered.{Unanswered}
 use Rattle.lengths.specs.Text.{IsText}
@@ -27,14 +26,14 @@ pub record Task : Type 1 where
   -- its stops, and what else it refuses
   pub stops : Source → Stop → Type 0
   pub refuses : Source → Unanswered → Type 0
-  -- what it comes to, and when that is a text
-  pub outcome : Source → Outcome → Type 0
+  -- the text that it answers, with its status and its line, and when there is one
+  pub answers : Source → List ℕ → ℕ → List ℕ → Type 0
   pub has_text : Source → Type 0
 
 -- A command on a package, which but for what it says otherwise takes the files of the manifest that it is about in their order,
 -- stops where the package does, refuses nothing else, and has a text where the package fits.
-abbrev pub on_package : List ℕ → (List (String Global) → Type 0) → List (List ℕ) → (Source → Outcome → Type 0) → Task
-on_package manifest asks spelled outcome = record {
+abbrev pub on_package : List ℕ → (List (String Global) → Type 0) → List (List ℕ) → (Source → List ℕ → ℕ → List ℕ → Type 0) → Task
+on_package manifest asks spelled answers = record {
   asks = asks;
   spelled = spelled;
   in_range = IsText manifest;
@@ -45,6 +44,6 @@ on_package manifest asks spelled outcome = record {
   comes = λ source name. ComesBy source manifest name;
   stops = λ source stop. IsFirstStopBy source manifest stop;
   refuses = λ source why. ⊥;
-  outcome = outcome;
+  answers = answers;
   has_text = λ source. (board : PlainBoard) × IsBoardBy source manifest board;
 }

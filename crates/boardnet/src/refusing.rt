@@ -1,8 +1,8 @@
 //! Refusals: the line of each, and its status.
-ghost use Rattle.boardnet.specs.Answers.{Refuses, RefusesFor, fault_line};
+ghost use Rattle.boardnet.specs.Answers.{RefusesFor, fault_status};
 ghost use Rattle.boardnet.specs.Command.{asked};
 ghost use Rattle.boardnet.specs.Lines.{Says};
-ghost use Rattle.boardnet.specs.Outcome.{form_of, refusal_line};
+ghost use Rattle.boardnet.specs.Outcome.{fault_line, form_of, reason_line, refusal_line};
 ghost use Rattle.lengths.specs.Text.{IsText};
 ghost use Rattle.std.specs.Prelude.{IfErr, IfOk, ◌≡◌, ◌≤◌};
 
@@ -20,24 +20,35 @@ pub fn refuse<N: Sink>(command: Command, why: &Unanswered, notes: &mut N) -> u8
     ensures line { RefusesFor (asked command.entry) why.now result (Says N.got N.faults notes.old notes.new) }
     ensures later { N.faults notes.old ≤ N.faults notes.new }
 {
-    let file = command.subject();
+    put_reason(command.subject(), command.report(), why, notes);
     match why {
-        Unanswered::Stopped(fault) => stopped(file, fault, notes),
-        Unanswered::NotAReport => {
-            lines::about_file(notes, command.report().as_bytes(), b"not a report");
-            3
-        }
-        Unanswered::SizeTooLarge => {
-            lines::plain(notes, b"trial size too large");
-            3
-        }
-        Unanswered::GrownTooLarge(bounds) => {
-            lines::frame(notes, *bounds);
-            3
-        }
+        Unanswered::Stopped(fault) => status_of(fault),
+        _ => 3,
+    }
+}
+
+// The status of a fault of a package.
+fn status_of(fault: &BuildFault) -> u8
+    ensures { result ≡ fault_status fault.now }
+{
+    match fault {
+        BuildFault::CannotRead(_) => 4,
+        BuildFault::NoMemory => 6,
+        _ => 3,
+    }
+}
+
+// Puts the line of a reason, by the names of the command's subject and of its report.
+fn put_reason<N: Sink>(subject: &str, report: &str, why: &Unanswered, notes: &mut N)
+    ensures { Says N.got N.faults notes.old notes.new (reason_line subject.now report.now why.now) }
+{
+    match why {
+        Unanswered::Stopped(fault) => put_fault(subject.as_bytes(), fault, notes),
+        Unanswered::NotAReport => lines::about_file(notes, report.as_bytes(), b"not a report"),
+        Unanswered::SizeTooLarge => lines::plain(notes, b"trial size too large"),
+        Unanswered::GrownTooLarge(bounds) => lines::frame(notes, *bounds),
         Unanswered::Mislabelled { file, command, at } => {
-            lines::mislabelled(notes, file.as_bytes(), *command, *at);
-            3
+            lines::mislabelled(notes, file.as_bytes(), *command, *at)
         }
         Unanswered::Unflat { kind, command, at } => {
             let kind = Kind {
@@ -45,8 +56,7 @@ pub fn refuse<N: Sink>(command: Command, why: &Unanswered, notes: &mut N) -> u8
                 number: kind.number(),
                 name: kind.name(),
             };
-            lines::refused_at_byte(notes, file.as_bytes(), kind, b"command", *command, *at);
-            3
+            lines::refused_at_byte(notes, subject.as_bytes(), kind, b"command", *command, *at)
         }
         Unanswered::Bent {
             file,
@@ -59,38 +69,16 @@ pub fn refuse<N: Sink>(command: Command, why: &Unanswered, notes: &mut N) -> u8
                 number: kind.number(),
                 name: kind.name(),
             };
-            lines::refused_at_byte(notes, file.as_bytes(), kind, b"command", *command, *at);
-            3
+            lines::refused_at_byte(notes, file.as_bytes(), kind, b"command", *command, *at)
         }
-        Unanswered::NotJson(file) => {
-            lines::about_file(notes, file.as_bytes(), b"not JSON");
-            3
-        }
+        Unanswered::NotJson(file) => lines::about_file(notes, file.as_bytes(), b"not JSON"),
         Unanswered::NotAManifest(file) => {
-            lines::about_file(notes, file.as_bytes(), b"not a manifest");
-            3
+            lines::about_file(notes, file.as_bytes(), b"not a manifest")
         }
         Unanswered::BoundTooLarge { manifest, bounds } => {
-            lines::frame_of(notes, manifest.as_bytes(), *bounds);
-            3
+            lines::frame_of(notes, manifest.as_bytes(), *bounds)
         }
-        Unanswered::Unbound(why) => {
-            why.put(file, command.report(), notes);
-            3
-        }
-    }
-}
-
-// Puts the line of a fault of a package, and answers its status.
-fn stopped<N: Sink>(manifest: &str, fault: &BuildFault, notes: &mut N) -> u8
-    ensures line { Refuses manifest.now fault.now result (Says N.got N.faults notes.old notes.new) }
-    ensures later { N.faults notes.old ≤ N.faults notes.new }
-{
-    put_fault(manifest.as_bytes(), fault, notes);
-    match fault {
-        BuildFault::CannotRead(_) => 4,
-        BuildFault::NoMemory => 6,
-        _ => 3,
+        Unanswered::Unbound(why) => why.put(subject, report, notes),
     }
 }
 

@@ -68,8 +68,7 @@ pub fn run<P: Package, S: Sink, N: Sink>(
     // comes next behind them.
     ensures handed { (command : Asked) → Asks words.now command → EndsHanded (HandedOver (P.handed «package».old) (P.handed «package».new)) command (P.lost «package».new) S.handed S.got N.got N.faults out.old out.new notes.old notes.new result }
 
-    // The same at 0 and 1, command by command: the report on the board that these bytes make; the ruling on the report behind
-    // them; the written netlist; the list of gaps; the report by the net names in them; the flattened file.
+    // The same at 0 and 1, command by command: the text is what the command answers of these very bytes.
     ensures handed_right { result ≤ 1 → (version : Version) (name : List ℕ) → IsCheck words.now version name
         → (text line : List ℕ) × IsReport (HandedOver (P.handed «package».old) (P.handed «package».new)) version name text result line
         × (S.handed out.new ≡ S.handed out.old ++ text ∷ []) × Gains (S.got out.old) text (S.got out.new) × Says N.got N.faults notes.old notes.new line }
@@ -88,7 +87,6 @@ pub fn run<P: Package, S: Sink, N: Sink>(
     ensures handed_image { result ≤ 1 → (name : List ℕ) → IsFlatten words.now name
         → (text line : List ℕ) × IsFlatText (HandedOver (P.handed «package».old) (P.handed «package».new)) name text result line
         × (S.handed out.new ≡ S.handed out.old ++ text ∷ []) × Gains (S.got out.old) text (S.got out.new) × Says N.got N.faults notes.old notes.new line }
-
     ensures handed_between { result ≤ 1 → (names : BoundNames) → IsBetween words.now names
         → (text line : List ℕ) × IsDecided (HandedOver (P.handed «package».old) (P.handed «package».new)) names text result line
         × (S.handed out.new ≡ S.handed out.old ++ text ∷ []) × Gains (S.got out.old) text (S.got out.new) × Says N.got N.faults notes.old notes.new line }

@@ -1,6 +1,5 @@
 //! What the files of a package are read as.
 ghost use Rattle.std.specs.Prelude.{◌≡◌, ◌⊎◌, ◌≤◌, length, OnOk, IfErr};
-ghost use Rattle.arc_layer.specs.declared.kind.RealKind.TheVariants as own;
 ghost use Rattle.board_package.specs.Manifest.{IsOnBoard};
 ghost use Rattle.board_package.specs.declared.fault.BuildFault.TheVariants as build;
 ghost use Rattle.board_package.specs.Parts.{IsLawfulParts};
@@ -35,21 +34,14 @@ fn refused_copper(name: &Text, kind: RealKind, command: u32, at: usize) -> RealB
     ensures { IsCopperRefusal name.now kind command at result }
 {
     match kind {
-        RealKind::Copper(kind) => refused_by_file(name, kind, command, at),
+        RealKind::Copper(kind) => match kind {
+            FlattenKind::Gerber(kind) => {
+                let why = refused(name, Refusal::Layer { kind, command, at });
+                RealBuildFault::Build(why)
+            }
+            of_macro => refused_arc(name, RealKind::Copper(of_macro), command, at),
+        },
         of_arc => refused_arc(name, of_arc, command, at),
-    }
-}
-
-/// The fault of one that is refused as where there are no arcs.
-fn refused_by_file(name: &Text, kind: FlattenKind, command: u32, at: usize) -> RealBuildFault
-    ensures { IsCopperRefusal name.now (own.Copper kind) command at result }
-{
-    match kind {
-        FlattenKind::Gerber(kind) => {
-            let why = refused(name, Refusal::Layer { kind, command, at });
-            RealBuildFault::Build(why)
-        }
-        of_macro => refused_arc(name, RealKind::Copper(of_macro), command, at),
     }
 }
 
@@ -98,40 +90,32 @@ fn netlist_fault(name: &Text, why: RecordFault) -> RealBuildFault
 pub fn read_file(
     alloc: Global,
     entry: &Entry,
-    file: &[u8],
+    bytes: &[u8],
     board: &mut RealBoard,
 ) -> Result<(), RealBuildFault>
-    requires short { length file.now ≤ MOST_BYTES }
+    requires short { length bytes.now ≤ MOST_BYTES }
     requires lawful { IsLawfulParts board.old }
     requires role { IsOnBoard board.old.layers entry.now.role }
-    ensures ok { OnOk result (ReadsReal entry.now.role entry.now.number file.now (plain_real_board board.old) (plain_real_board board.new)) }
+    ensures ok { OnOk result (ReadsReal entry.now.role entry.now.number bytes.now (plain_real_board board.old) (plain_real_board board.new)) }
     ensures lawful { OnOk result (IsLawfulParts board.new) }
     ensures layers { OnOk result (board.new.layers ≡ board.old.layers) }
-    ensures fault { IfErr result (HaltsReal entry.now file.now (plain_real_board board.old)) }
+    ensures fault { IfErr result (HaltsReal entry.now bytes.now (plain_real_board board.old)) }
 {
     let room = room_left(board.pieces.as_slice());
+    let file = entry.number;
     match entry.role {
-        Role::Copper { layer } => {
-            let place = Place {
-                layer,
-                file: entry.number,
-                room,
-            };
-            match read_real(alloc, file, place) {
-                Ok(pieces) => Ok(board.add(pieces)?),
-                Err(why) => Err(copper_fault(&entry.name, why)),
-            }
-        }
-        Role::Drill { from, to } => {
-            match read_drill(alloc, file, Span { from, to }, entry.number, room) {
-                Ok(pieces) => match as_real_pieces(alloc, pieces) {
-                    Ok(barrels) => Ok(board.add(barrels)?),
-                    Err(_) => Err(RealBuildFault::Build(BuildFault::NoMemory)),
-                },
-                Err(why) => Err(drill_fault(&entry.name, why)),
-            }
-        }
-        Role::Netlist => match read_netlist(alloc, file, board.layers) {
+        Role::Copper { layer } => match read_real(alloc, bytes, Place { layer, file, room }) {
+            Ok(pieces) => Ok(board.add(pieces)?),
+            Err(why) => Err(copper_fault(&entry.name, why)),
+        },
+        Role::Drill { from, to } => match read_drill(alloc, bytes, Span { from, to }, file, room) {
+            Ok(pieces) => match as_real_pieces(alloc, pieces) {
+                Ok(barrels) => Ok(board.add(barrels)?),
+                Err(_) => Err(RealBuildFault::Build(BuildFault::NoMemory)),
+            },
+            Err(why) => Err(drill_fault(&entry.name, why)),
+        },
+        Role::Netlist => match read_netlist(alloc, bytes, board.layers) {
             Ok(netlist) => {
                 board.probes = netlist.probes;
                 board.names = netlist.names;

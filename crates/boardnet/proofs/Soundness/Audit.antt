@@ -1,5 +1,5 @@
 -- That what is told of the command `audit` is sound.
-use Rattle.std.proofs.Common.{◌≡◌, ◌≤◌, ℕ, List, Option, Some, None, IfSome, String, ◌⊎◌, inl, inr, refl, sym, ◌∙◌}
+use Rattle.std.proofs.Common.{◌≡◌, ◌≤◌, ℕ, List, Option, Some, None, IfSome, String, ◌⊎◌, inl, inr, refl}
 use Rattle.std.specs.declared.alloc.Global.{Global}
 use Rattle.board_io.specs.Handed.{AgreeWith, Handed}
 use Rattle.board_io.specs.Package.{Files}
@@ -9,11 +9,9 @@ use Rattle.board_shapes.specs.Plain.{PlainBoard}
 use Rattle.boardnet.proofs.Audits.{Ruled, one_answer, no_misread, no_stop, no_stop_taking}
 use Rattle.boardnet.proofs.Behind.{board_held, held_fits, held_then}
 use Rattle.boardnet.proofs.Named.{Completes}
-use Rattle.boardnet.proofs.Alike.{line_of_one, same_taking}
-use Rattle.boardnet.specs.OneOutcome.{AreAlike}
-use Rattle.boardnet.proofs.Sound.{Sound, HoldsHanded, Laws}
-use Rattle.boardnet.specs.Answers.{reason_line}
-use Rattle.boardnet.specs.Outcome.{AuditOutcome, ComesFor, HandedOver, Held, IsAnswer, IsAuditStop, IsReadAs, IsTextOf, OfFilesRead, Outcome, OutcomeOf, Refused, Source, Told, IsLineOf}
+use Rattle.boardnet.proofs.Alike.{one_taking}
+use Rattle.boardnet.proofs.Sound.{OneOutcome, Sound, HoldsHanded}
+use Rattle.boardnet.specs.Outcome.{ComesFor, HandedOver, Held, IsAnswer, IsAuditStop, IsReadAs, IsTextOf, OfFilesRead, OutcomeOf, Told}
 use Rattle.boardnet.specs.Source.{FitsBefore, IsBoardBy, IsFileWith, NextBy, StopsFileBy}
 use Rattle.boardnet.specs.commands.Audit.{AuditRefuses, IsNoReport, IsNoText}
 use Rattle.boardnet.specs.Words.{Asks, Command, Audit, IsAudit}
@@ -21,9 +19,10 @@ use Rattle.boardnet.specs.declared.answer.Unanswered.{Unanswered}
 use Rattle.boardnet.specs.declared.answer.Unanswered.TheVariants.{NotAReport}
 use Rattle.verdict.specs.declared.verdict.Verdict.{Verdict}
 
-misread : (source : Source) (manifest report : List ℕ) (why : Unanswered) → AuditRefuses source manifest report why → AuditOutcome source manifest report (Refused (reason_line manifest report why))
-misread source manifest report NotAReport m = inr (m, refl)
-misread source manifest report other m = absurd m
+one_misread : (f : Files) (manifest report : List ℕ) (why other : Unanswered) → AuditRefuses (Held f) manifest report why → AuditRefuses (Held f) manifest report other → why ≡ other
+one_misread f manifest report NotAReport NotAReport x y = refl
+one_misread f manifest report NotAReport other x y = absurd y
+one_misread f manifest report why other x y = absurd x
 
 no_ruling : (f : Files) (manifest report : List ℕ) (why : Unanswered) → AuditRefuses (Held f) manifest report why → (board : PlainBoard) (verdict : Verdict) → IsReadAs (Held f) manifest report board verdict → ⊥
 no_ruling f manifest report NotAReport m board verdict read = no_misread f manifest report board verdict m read
@@ -44,12 +43,6 @@ held_stop law f a b manifest report w stop (inr s) = inr (held_then _ f a b (boa
 held_no_text : HandedIsHeld → (f : Files) (a b : List Handed) (manifest report : List ℕ) → AgreeWith f a b → IsNoText (HandedOver a b) manifest report → IsNoText (Held f) manifest report
 held_no_text law f a b manifest report w x = record { board = x.board; behind = held_file law f a b manifest report x.board IsNoReport w x.behind }
 
-held_audit : HandedIsHeld → (f : Files) (a b : List Handed) (manifest report : List ℕ) → AgreeWith f a b → (o : Outcome) → AuditOutcome (HandedOver a b) manifest report o → AuditOutcome (Held f) manifest report o
-held_audit law f a b manifest report w (Told text status line) x =
-    record { board = x.board; tables = x.tables; tables_are = x.tables_are; verdict = x.verdict; read = held_file law f a b manifest report x.board (λ bytes. IsTextOf bytes x.verdict) w x.read; ruling = x.ruling }
-held_audit law f a b manifest report w (Refused line) (inl x) = inl (record { stop = x.stop; first = held_stop law f a b manifest report w x.stop x.first; line_is = x.line_is })
-held_audit law f a b manifest report w (Refused line) (inr (x, is)) = inr (held_no_text law f a b manifest report w x, is)
-
 held_refusal : HandedIsHeld → (f : Files) (a b : List Handed) (manifest report : List ℕ) → AgreeWith f a b → (why : Unanswered) → AuditRefuses (HandedOver a b) manifest report why → AuditRefuses (Held f) manifest report why
 held_refusal law f a b manifest report w NotAReport x = held_no_text law f a b manifest report w x
 held_refusal law f a b manifest report w other x = absurd x
@@ -60,36 +53,26 @@ held_next law f a b manifest report name w (inr x) =
     inr (held_then _ f a b (board_held law f a manifest) (λ rest. NextBy rest report name) w (λ built v y. y.0) x)
 
 agreed_audit : HandedIsHeld → (manifest report : List ℕ) (held : Option Files) (a b : List Handed) → IfSome held (λ f. AgreeWith f a b) → HoldsHanded (Audit manifest report) held a b
-agreed_audit law manifest report None a b w = record { outcome = λ o x. tt; stops = λ stop s. tt; comes = λ name s. tt; refuses = λ why x. tt }
+agreed_audit law manifest report None a b w = record { answers = λ text status line x. tt; stops = λ stop s. tt; comes = λ name s. tt; refuses = λ why x. tt }
 agreed_audit law manifest report (Some f) a b w = record {
-  outcome = λ o x. held_audit law f a b manifest report w o x;
+  answers = λ text status line x. record { board = x.board; tables = x.tables; tables_are = x.tables_are; verdict = x.verdict; read = held_file law f a b manifest report x.board (λ bytes. IsTextOf bytes x.verdict) w x.read; ruling = x.ruling };
   stops = λ stop s. held_stop law f a b manifest report w stop s;
   comes = λ name s. held_next law f a b manifest report name w s;
   refuses = λ why x. held_refusal law f a b manifest report w why x;
 }
 
--- ---- Two outcomes over the same files
+-- ---- Two stops over the same files, or a stop and no report
 
-stop_or_text : Laws → (f : Files) (manifest report : List ℕ) (stop : Stop) → IsAuditStop (Held f) manifest report stop → IsNoText (Held f) manifest report → ⊥
-stop_or_text law f manifest report stop (inl first) n = (law.one.listed f manifest).not_both n.board stop n.behind.0 first
-stop_or_text law f manifest report stop (inr s) n = no_stop_taking f report n.behind.1.bytes stop n.behind.1.file s.behind.1
+stop_or_misread : OneOutcome → (f : Files) (manifest report : List ℕ) (stop : Stop) (why : Unanswered) → IsAuditStop (Held f) manifest report stop → AuditRefuses (Held f) manifest report why → ⊥
+stop_or_misread law f manifest report stop NotAReport (inl first) n = (law.listed f manifest).not_both n.board stop n.behind.0 first
+stop_or_misread law f manifest report stop NotAReport (inr s) n = no_stop_taking f report n.behind.1.bytes stop n.behind.1.file s.behind.1
+stop_or_misread law f manifest report stop other s n = absurd n
 
-same_audit_stop : Laws → (f : Files) (manifest report : List ℕ) (stop other : Stop) (l k : List ℕ) → IsAuditStop (Held f) manifest report stop → IsAuditStop (Held f) manifest report other → IsLineOf manifest stop l → IsLineOf manifest other k → l ≡ k
-same_audit_stop law f manifest report stop other l k (inl s) (inl t) p q = line_of_one manifest stop other l k ((law.one.listed f manifest).one_stop stop other s t) p q
-same_audit_stop law f manifest report stop other l k (inl s) (inr t) p q = absurd ((law.one.listed f manifest).not_both t.board stop t.behind.0 s)
-same_audit_stop law f manifest report stop other l k (inr s) (inl t) p q = absurd ((law.one.listed f manifest).not_both s.board other s.behind.0 t)
-same_audit_stop law f manifest report stop other l k (inr s) (inr t) p q = same_taking f report manifest stop other l k s.behind.1 t.behind.1 p q
-
-one_audit : Laws → (f : Files) (manifest report : List ℕ) (o p : Outcome) → AuditOutcome (Held f) manifest report o → AuditOutcome (Held f) manifest report p → AreAlike o p
-one_audit law f manifest report (Told text s l) (Told said t k) x y = one_answer f manifest report text l said k s t (law.one.listed f manifest) law.texts x y
-one_audit law f manifest report (Told text s l) (Refused k) x (inl y) = no_stop f manifest report x.board x.verdict y.stop (law.one.listed f manifest) x.read y.first
-one_audit law f manifest report (Told text s l) (Refused k) x (inr (y, is)) = no_misread f manifest report x.board x.verdict y x.read
-one_audit law f manifest report (Refused l) (Told said t k) (inl x) y = no_stop f manifest report y.board y.verdict x.stop (law.one.listed f manifest) y.read x.first
-one_audit law f manifest report (Refused l) (Told said t k) (inr (x, is)) y = no_misread f manifest report y.board y.verdict x y.read
-one_audit law f manifest report (Refused l) (Refused k) (inl x) (inl y) = same_audit_stop law f manifest report x.stop y.stop l k x.first y.first x.line_is y.line_is
-one_audit law f manifest report (Refused l) (Refused k) (inl x) (inr (y, is)) = absurd (stop_or_text law f manifest report x.stop x.first y)
-one_audit law f manifest report (Refused l) (Refused k) (inr (x, is)) (inl y) = absurd (stop_or_text law f manifest report y.stop y.first x)
-one_audit law f manifest report (Refused l) (Refused k) (inr (x, is)) (inr (y, is')) = is ∙ sym is'
+one_audit_stop : OneOutcome → (f : Files) (manifest report : List ℕ) (stop other : Stop) → IsAuditStop (Held f) manifest report stop → IsAuditStop (Held f) manifest report other → stop ≡ other
+one_audit_stop law f manifest report stop other (inl s) (inl t) = (law.listed f manifest).one_stop stop other s t
+one_audit_stop law f manifest report stop other (inl s) (inr t) = absurd ((law.listed f manifest).not_both t.board stop t.behind.0 s)
+one_audit_stop law f manifest report stop other (inr s) (inl t) = absurd ((law.listed f manifest).not_both s.board other s.behind.0 t)
+one_audit_stop law f manifest report stop other (inr s) (inr t) = one_taking f report stop other s.behind.1 t.behind.1
 
 pub sound_audit : (manifest report : List ℕ) → Sound (Audit manifest report)
 sound_audit manifest report = record {
@@ -97,11 +80,13 @@ sound_audit manifest report = record {
   names = λ words is. (is.manifest_text, is.report_text);
   asks = λ words e fits. record { spelled = e; manifest_text = fits.0; report_text = fits.1 };
   read = λ fits. refl;
-  stop_outcome = λ source stop line s l. inl (record { stop = stop; first = s; line_is = l });
-  refusal = λ source why m. misread source manifest report why m;
+  text_of = λ f text status line x. (x.board, x.verdict, x.read);
   no_text = λ law f stop s t. no_stop f manifest report t.0 t.1 stop (law.listed f manifest) t.2 s;
   no_refused_text = λ law f why m t. no_ruling f manifest report why m t.0 t.1 t.2;
-  alike = λ law f o p x y. one_audit law f manifest report o p x y;
+  one_answer = λ law f text said s t l k x y. one_answer f manifest report text l said k s t (law.one.listed f manifest) law.texts x y;
+  one_stop = λ law f stop other x y. one_audit_stop law f manifest report stop other x y;
+  one_reason = λ law f why other x y. one_misread f manifest report why other x y;
+  stop_or_reason = λ law f stop why s m. stop_or_misread law f manifest report stop why s m;
   takes_what_comes = λ f name comes. tt;
   agrees = λ law held a b w. agreed_audit law.listed manifest report held a b w;
 }

@@ -5,8 +5,7 @@ use Rattle.board_package.specs.PackageBoard.{Stop}
 use Rattle.board_shapes.specs.Plain.{PlainBoard}
 use Rattle.board_shapes.specs.Tables.{IsTables}
 use Rattle.boardnet.specs.Command.{Command, Audit}
-use Rattle.boardnet.specs.Common.{IsLineOf, Outcome, Told, Refused}
-use Rattle.boardnet.specs.Lines.{counted_line, plain_line, file_line, end}
+use Rattle.boardnet.specs.Lines.{counted_line, plain_line, end}
 use Rattle.boardnet.specs.Source.{Source, ComesBy, FitsBefore, FitsThen, IsFileWith, IsFirstStopBy, NextBy, StopsFileBy}
 use Rattle.boardnet.specs.Task.{Task, on_package}
 use Rattle.boardnet.specs.declared.answer.Unanswered.{Unanswered}
@@ -60,20 +59,9 @@ StopsAtReport source manifest report stop = FitsThen source manifest (λ rest. S
 abbrev pub IsAuditStop : Source → List ℕ → List ℕ → Stop → Type 0
 IsAuditStop source manifest report stop = IsFirstStopBy source manifest stop ⊎ StopsAtReport source manifest report stop
 
--- An audit stops at a refusal, and this is its line.
-pub record IsAuditRefusal (source : Source) (manifest report line : List ℕ) : Type 0 where
-  pub stop : Stop
-  pub first : IsAuditStop source manifest report stop
-  pub line_is : IsLineOf manifest stop line
-
 -- The package fits, and the report behind it is the text of no verdict.
 abbrev pub IsNoText : Source → List ℕ → List ℕ → Type 0
 IsNoText source manifest report = FitsThen source manifest (λ rest. IsFileWith rest report IsNoReport)
-
--- `audit` comes to its ruling on the report, or to the refusal of the package or of the report
-abbrev pub AuditOutcome : Source → List ℕ → List ℕ → Outcome → Type 0
-AuditOutcome source manifest report (Told text status line) = IsAnswer source manifest report text status line
-AuditOutcome source manifest report (Refused line) = IsAuditRefusal source manifest report line ⊎ (IsNoText source manifest report × (line ≡ file_line report (codes "not a report")))
 
 -- The package fits, and the name is that of the report, which comes next.
 abbrev pub IsReportNext : Source → List ℕ → List ℕ → List ℕ → Type 0
@@ -85,7 +73,7 @@ AuditRefuses source manifest report NotAReport = IsNoText source manifest report
 AuditRefuses source manifest report other = ⊥
 
 abbrev pub audit : List ℕ → List ℕ → Task
-audit manifest report = record (on_package manifest (λ words. IsAudit words manifest report) (codes "audit" ∷ manifest ∷ report ∷ []) (λ source outcome. AuditOutcome source manifest report outcome)) {
+audit manifest report = record (on_package manifest (λ words. IsAudit words manifest report) (codes "audit" ∷ manifest ∷ report ∷ []) (λ source text status line. IsAnswer source manifest report text status line)) {
   in_range = IsText manifest × IsText report;
   report = report;
   comes = λ source name. ComesBy source manifest name ⊎ IsReportNext source manifest report name;

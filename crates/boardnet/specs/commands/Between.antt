@@ -3,10 +3,8 @@ use Rattle.std.specs.Prelude.{◌≡◌, ◌⊎◌, ⊤, ℕ, List, [], ◌∷�
 use Rattle.std.specs.declared.alloc.Global.{Global}
 use Rattle.board_package.specs.PackageBoard.{Stop, not_json, bad_manifest, frame_too_large}
 use Rattle.board_shapes.specs.Plain.{PlainBoard}
-use Rattle.boardnet.specs.Bounded.{AreBoundedBy, IsDecisionOn, IsUnboundBy, unbound_line}
+use Rattle.boardnet.specs.Bounded.{AreBoundedBy, IsDecisionOn, IsUnboundBy}
 use Rattle.boardnet.specs.Command.{BoundNames, Command, Between, bound_names}
-use Rattle.boardnet.specs.Common.{IsLineOf, Outcome, Told, Refused, arc_line}
-use Rattle.boardnet.specs.Lines.{manifest_frame_line}
 use Rattle.boardnet.specs.Source.{Source, ComesBy, FitsBefore, FitsRealBefore, FitsRealThen, FitsThen, IsFileBy, IsFirstRealStopBy, IsFirstStopBy, NextBy, RealComesBy, StopsFileBy}
 use Rattle.boardnet.specs.Task.{Task, on_package}
 use Rattle.boardnet.specs.declared.answer.Unanswered.{Unanswered}
@@ -57,19 +55,6 @@ StopsReading source names (at_lower stop) = BehindReal source names (λ rest. Is
 StopsReading source names (at_upper stop) = BehindLower source names (λ rest. IsFirstStopBy rest names.upper stop)
 StopsReading source names (at_counts stop) = BehindUpper source names (λ rest. StopsFileBy rest names.counts stop)
 
--- the line of a stop of a package behind the first: what is said of the whole package names its manifest
-abbrev pub IsBehindLine : List ℕ → Stop → List ℕ → Type 0
-IsBehindLine manifest (frame_too_large box) line = line ≡ manifest_frame_line manifest box
-IsBehindLine manifest stop line = IsLineOf manifest stop line
-
--- its line
-abbrev pub IsReadLine : BoundNames → ReadStop → List ℕ → Type 0
-IsReadLine names (at_real (unbuilt stop)) line = IsLineOf names.real stop line
-IsReadLine names (at_real (bent name kind command byte)) line = line ≡ arc_line name kind command byte
-IsReadLine names (at_lower stop) line = IsBehindLine names.lower stop line
-IsReadLine names (at_upper stop) line = IsBehindLine names.upper stop line
-IsReadLine names (at_counts stop) line = IsLineOf names.counts stop line
-
 -- the name is that of a file of the order, which comes next
 abbrev pub ComesReading : Source → BoundNames → List ℕ → Type 0
 ComesReading source names name =
@@ -94,12 +79,6 @@ pub record IsDecided (source : Source) (names : BoundNames) (text : List ℕ) (s
   pub bounds : AreBounded source names
   pub decision : IsDecisionOn bounds.real bounds.lower bounds.upper text status line
 
--- The reading stops, and this is the line.
-pub record IsReadRefusal (source : Source) (names : BoundNames) (line : List ℕ) : Type 0 where
-  pub stop : ReadStop
-  pub first : StopsReading source names stop
-  pub line_is : IsReadLine names stop line
-
 -- The packages fit, but the boards are no bounds of the real one, for this reason.
 pub record AreUnbound (source : Source) (names : BoundNames) (reason : NoBounds) : Type 0 where
   pub real : PlainRealBoard
@@ -108,17 +87,6 @@ pub record AreUnbound (source : Source) (names : BoundNames) (reason : NoBounds)
   pub bytes : List ℕ
   pub read : AreRead source names real lower upper bytes
   pub unbound : IsUnboundBy real lower upper bytes reason
-
--- Its line.
-pub record IsUnboundRefusal (source : Source) (names : BoundNames) (line : List ℕ) : Type 0 where
-  pub reason : NoBounds
-  pub unbound : AreUnbound source names reason
-  pub line_is : line ≡ unbound_line names.real names.counts reason
-
--- `between` comes to what both verdicts decide, or to a refusal: of what is read, or of the bounds
-abbrev pub BetweenOutcome : Source → BoundNames → Outcome → Type 0
-BetweenOutcome source names (Told text status line) = IsDecided source names text status line
-BetweenOutcome source names (Refused line) = IsReadRefusal source names line ⊎ IsUnboundRefusal source names line
 
 -- a stop whose line names no manifest
 abbrev pub IsOfFile : Stop → Type 0
@@ -149,7 +117,7 @@ BetweenRefuses source names (why.Unbound reason) = AreUnbound source names reaso
 BetweenRefuses source names other = ⊥
 
 abbrev pub between : BoundNames → Task
-between names = record (on_package names.real (λ words. IsBetween words names) (codes "between" ∷ names.real ∷ names.lower ∷ names.upper ∷ names.counts ∷ []) (λ source outcome. BetweenOutcome source names outcome)) {
+between names = record (on_package names.real (λ words. IsBetween words names) (codes "between" ∷ names.real ∷ names.lower ∷ names.upper ∷ names.counts ∷ []) (λ source text status line. IsDecided source names text status line)) {
   in_range = AreTexts names;
   report = names.counts;
   comes = λ source name. ComesReading source names name;

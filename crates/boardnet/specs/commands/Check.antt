@@ -2,7 +2,6 @@
 use Rattle.std.specs.Prelude.{◌≡◌, ℕ, List, [], ◌∷◌, codes, map, string_bytes, String, Option, Some, None}
 use Rattle.std.specs.declared.alloc.Global.{Global}
 use Rattle.boardnet.specs.Command.{Command, Check}
-use Rattle.boardnet.specs.Common.{IsRefusal, Outcome, Told, Refused}
 use Rattle.boardnet.specs.Right.{IsReportOn}
 use Rattle.boardnet.specs.Source.{Source, FitsWith}
 use Rattle.boardnet.specs.Task.{Task, on_package}
@@ -24,14 +23,9 @@ pub record IsCheck (words : List (String Global)) (version : Version) (name : Li
 abbrev pub IsReport : Source → Version → List ℕ → List ℕ → ℕ → List ℕ → Type 0
 IsReport source version manifest text status line = FitsWith source manifest (λ board. IsReportOn board version text status line)
 
--- `check` comes to a report, or to the refusal of the package
-abbrev pub CheckOutcome : Source → Version → List ℕ → Outcome → Type 0
-CheckOutcome source version manifest (Told text status line) = IsReport source version manifest text status line
-CheckOutcome source version manifest (Refused line) = IsRefusal source manifest line
-
 -- What is told of the command.
 abbrev pub check : Version → List ℕ → Task
-check version manifest = on_package manifest (λ words. IsCheck words version manifest) (codes "check" ∷ manifest ∷ version_words version) (λ source outcome. CheckOutcome source version manifest outcome)
+check version manifest = on_package manifest (λ words. IsCheck words version manifest) (codes "check" ∷ manifest ∷ version_words version) (λ source text status line. IsReport source version manifest text status line)
 
 -- the command that words behind its name can ask for; whether they are texts, and in range, is for `IsCheck` to say
 abbrev pub check_by : List (List ℕ) → Option Command

@@ -1,16 +1,13 @@
 -- The command `flatten FILE`: a copper file is rewritten without macros.
-use Rattle.std.specs.Prelude.{◌≡◌, ◌⊎◌, ℕ, List, [], ◌∷◌, codes, map, string_bytes, String, Option, Some, None}
+use Rattle.std.specs.Prelude.{◌≡◌, ℕ, List, [], ◌∷◌, codes, map, string_bytes, String, Option, Some, None}
 use Rattle.std.specs.declared.alloc.Global.{Global}
-use Rattle.board_package.specs.PackageBoard.{Stop}
 use Rattle.board_shapes.specs.Plain.{PlainPiece}
 use Rattle.boardnet.specs.Command.{Command, Flatten}
-use Rattle.boardnet.specs.Common.{IsLineOf, Outcome, Told, Refused}
-use Rattle.boardnet.specs.Lines.{at_byte, plain_line, kind_line}
+use Rattle.boardnet.specs.Lines.{plain_line}
 use Rattle.boardnet.specs.Source.{Source, IsFileBy, NextBy, StopsFileBy}
 use Rattle.boardnet.specs.Task.{Task, on_package}
 use Rattle.boardnet.specs.declared.answer.Unanswered.{Unanswered}
 use Rattle.boardnet.specs.declared.answer.Unanswered.TheVariants.{Unflat}
-use Rattle.gerber_layer.specs.MacroKinds.{flatten_row}
 use Rattle.gerber_layer.specs.MacroLayer.{IsReadWithMacros, IsRefusedWithMacros}
 use Rattle.gerber_layer.specs.declared.macro_kind.FlattenKind.{FlattenKind}
 use Rattle.lengths.specs.Text.{IsText}
@@ -31,34 +28,11 @@ pub record IsFlatText (source : Source) (name text : List ℕ) (status : ℕ) (l
   pub status_is : status ≡ 0
   pub line_is : line ≡ plain_line (codes "flattened")
 
--- The file is not there to be judged, and this is its line.
-pub record IsUntaken (source : Source) (name line : List ℕ) : Type 0 where
-  pub stop : Stop
-  pub stops : StopsFileBy source name stop
-  pub line_is : IsLineOf name stop line
-
 -- The file was read and is not too long, and its first faulty command is this one.
 pub record IsUnflat (source : Source) (name : List ℕ) (kind : FlattenKind) (command byte : ℕ) : Type 0 where
   pub bytes : List ℕ
   pub file : IsFileBy source name bytes
   pub refused : IsRefusedWithMacros bytes kind command byte
-
--- the line of a refusal of `flatten`
-abbrev pub flatten_line : List ℕ → FlattenKind → ℕ → ℕ → List ℕ
-flatten_line name kind command byte = kind_line name (codes "flatten") (flatten_row kind).number (flatten_row kind).name (at_byte (codes "command") command byte)
-
--- The file is refused, and this is its line.
-pub record IsFlatRefusal (source : Source) (name line : List ℕ) : Type 0 where
-  pub kind : FlattenKind
-  pub command : ℕ
-  pub byte : ℕ
-  pub unflat : IsUnflat source name kind command byte
-  pub line_is : line ≡ flatten_line name kind command byte
-
--- `flatten` comes to the text of a copper file's image, or to the refusal of the file
-abbrev pub FlattenOutcome : Source → List ℕ → Outcome → Type 0
-FlattenOutcome source name (Told text status line) = IsFlatText source name text status line
-FlattenOutcome source name (Refused line) = IsUntaken source name line ⊎ IsFlatRefusal source name line
 
 -- beside a stop: the copper file is refused at this command
 abbrev pub FlattenRefuses : Source → List ℕ → Unanswered → Type 0
@@ -66,7 +40,7 @@ FlattenRefuses source file (Unflat kind number byte) = IsUnflat source file kind
 FlattenRefuses source file other = ⊥
 
 abbrev pub flatten : List ℕ → Task
-flatten file = record (on_package file (λ words. IsFlatten words file) (codes "flatten" ∷ file ∷ []) (λ source outcome. FlattenOutcome source file outcome)) {
+flatten file = record (on_package file (λ words. IsFlatten words file) (codes "flatten" ∷ file ∷ []) (λ source text status line. IsFlatText source file text status line)) {
   comes = λ source name. NextBy source file name;
   stops = λ source stop. StopsFileBy source file stop;
   refuses = λ source why. FlattenRefuses source file why;

@@ -1,17 +1,14 @@
 -- The command `gaps MANIFEST NANOMETRES`: the gaps of the package are listed.
 use Rattle.std.specs.Str.Parse.{digits_value}
-use Rattle.std.specs.Prelude.{◌≡◌, ◌≤◌, ◌⊎◌, ℕ, List, [], ◌∷◌, codes, decimal, map, string_bytes, String, pos, ◌*◌, Option, Some, None}
+use Rattle.std.specs.Prelude.{◌≡◌, ◌≤◌, ℕ, List, [], ◌∷◌, codes, decimal, map, string_bytes, String, pos, ◌*◌, Option, Some, None}
 use Rattle.std.specs.declared.alloc.Global.{Global}
 use Rattle.board_shapes.specs.Plain.{Fits, PlainBoard}
 use Rattle.boardnet.specs.Command.{Command, Gaps}
-use Rattle.boardnet.specs.Common.{IsRefusal, Outcome, Told, Refused}
 use Rattle.boardnet.specs.Gapped.{IsGapListOn, IsTooWide}
-use Rattle.boardnet.specs.Lines.{frame_line}
 use Rattle.boardnet.specs.Source.{Source, FitsWith, IsBoardBy}
 use Rattle.boardnet.specs.Task.{Task, on_package}
 use Rattle.boardnet.specs.declared.answer.Unanswered.{Unanswered}
 use Rattle.boardnet.specs.declared.answer.Unanswered.TheVariants.{GrownTooLarge}
-use Rattle.contact.specs.declared.Bounds.{Bounds}
 use Rattle.gaps.specs.GrownBox.{grown_common}
 use Rattle.lengths.specs.Text.{IsText}
 
@@ -25,28 +22,13 @@ pub record IsGaps (words : List (String Global)) (name : List ℕ) (nanometres :
 abbrev pub IsGapped : Source → List ℕ → ℕ → List ℕ → ℕ → List ℕ → Type 0
 IsGapped source manifest nanometres text status line = FitsWith source manifest (λ board. IsGapListOn board nanometres text status line)
 
--- The package fits, but not with its pieces grown by half the distance, and this is their common box.
-abbrev pub IsGrownStop : Source → List ℕ → ℕ → Bounds → Type 0
-IsGrownStop source manifest nanometres box = FitsWith source manifest (λ board. IsTooWide board nanometres box)
-
--- The line of such a box.
-pub record IsGrownRefusal (source : Source) (manifest : List ℕ) (nanometres : ℕ) (line : List ℕ) : Type 0 where
-  pub box : Bounds
-  pub stop : IsGrownStop source manifest nanometres box
-  pub line_is : line ≡ frame_line box
-
--- `gaps` comes to the list of gaps, or to the refusal of the package, or of its pieces grown by half the distance
-abbrev pub GapsOutcome : Source → List ℕ → ℕ → Outcome → Type 0
-GapsOutcome source manifest nanometres (Told text status line) = IsGapped source manifest nanometres text status line
-GapsOutcome source manifest nanometres (Refused line) = IsRefusal source manifest line ⊎ IsGrownRefusal source manifest nanometres line
-
--- beside a stop: the pieces, grown by half the distance, fit in no frame, and this is their common box
+-- Beside a stop: the package fits, but not with its pieces grown by half the distance, and this is their common box.
 abbrev pub GapsRefuses : Source → List ℕ → ℕ → Unanswered → Type 0
-GapsRefuses source manifest nanometres (GrownTooLarge box) = IsGrownStop source manifest nanometres box
+GapsRefuses source manifest nanometres (GrownTooLarge box) = FitsWith source manifest (λ board. IsTooWide board nanometres box)
 GapsRefuses source manifest nanometres other = ⊥
 
 abbrev pub gaps : List ℕ → ℕ → Task
-gaps manifest nanometres = record (on_package manifest (λ words. IsGaps words manifest nanometres) (codes "gaps" ∷ manifest ∷ decimal nanometres ∷ []) (λ source outcome. GapsOutcome source manifest nanometres outcome)) {
+gaps manifest nanometres = record (on_package manifest (λ words. IsGaps words manifest nanometres) (codes "gaps" ∷ manifest ∷ decimal nanometres ∷ []) (λ source text status line. IsGapped source manifest nanometres text status line)) {
   in_range = IsText manifest × (nanometres ≤ 10_000_000);
   refuses = λ source why. GapsRefuses source manifest nanometres why;
   has_text = λ source. (board : PlainBoard) × IsBoardBy source manifest board × Fits (grown_common (pos (5 * nanometres)) board.pieces);

@@ -7,10 +7,8 @@ use Rattle.board_maker.specs.MadePackage.{made_files}
 use Rattle.board_package.specs.PackageBoard.{IsBoardOf, IsFirstStop}
 use Rattle.board_shapes.specs.Plain.{PlainBoard}
 use Rattle.boardnet.specs.Command.{Command, Trial}
-use Rattle.boardnet.specs.Common.{IsRefusal, Outcome, Told, Refused}
 use Rattle.boardnet.specs.Lines.{plain_line, end}
 use Rattle.boardnet.specs.Right.{IsRightOn}
-use Rattle.boardnet.specs.Source.{Held}
 use Rattle.boardnet.specs.Task.{Task}
 use Rattle.boardnet.specs.declared.answer.Unanswered.{Unanswered}
 use Rattle.boardnet.specs.declared.answer.Unanswered.TheVariants.{SizeTooLarge}
@@ -48,21 +46,6 @@ pub record IsTrialReport (seed size : ℕ) (text : List ℕ) (status : ℕ) (lin
   pub status_is : IsStatusOf verdict status
   pub line_is : line ≡ plain_line (codes "trial done")
 
--- There is no made package of so many cells.
-pub record IsTooLarge (size : ℕ) (line : List ℕ) : Type 0 where
-  pub large : 10000 < size
-  pub line_is : line ≡ plain_line (codes "trial size too large")
-
--- The made package's first stop is a refusal, and this is its line.
-pub record IsMadeRefusal (seed size : ℕ) (line : List ℕ) : Type 0 where
-  pub small : size ≤ 10000
-  pub refusal : IsRefusal (Held (made_files seed size)) made_manifest line
-
--- `trial` comes to the summary of a made board, or to the refusal of its size or of the made package
-abbrev pub TrialOutcome : ℕ → ℕ → Outcome → Type 0
-TrialOutcome seed size (Told text status line) = IsTrialReport seed size text status line
-TrialOutcome seed size (Refused line) = IsTooLarge size line ⊎ IsMadeRefusal seed size line
-
 -- beside a stop: there is no made board of the size
 abbrev pub TrialRefuses : ℕ → Unanswered → Type 0
 TrialRefuses size SizeTooLarge = 10000 < size
@@ -81,7 +64,7 @@ trial seed size = record {
   comes = λ source name. ⊥;
   stops = λ source stop. (size ≤ 10000) × IsFirstStop (made_files seed size) made_manifest stop;
   refuses = λ source why. TrialRefuses size why;
-  outcome = λ source outcome. TrialOutcome seed size outcome;
+  answers = λ source text status line. IsTrialReport seed size text status line;
   has_text = λ source. (size ≤ 10000) × (board : PlainBoard) × IsBoardOf (made_files seed size) made_manifest board;
 }
 

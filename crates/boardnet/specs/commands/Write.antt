@@ -4,7 +4,6 @@ use Rattle.std.specs.declared.alloc.Global.{Global}
 use Rattle.board_package.specs.PackageBoard.{IsWithinLimits}
 use Rattle.board_shapes.specs.Plain.{PlainBoard}
 use Rattle.boardnet.specs.Command.{Command, Write}
-use Rattle.boardnet.specs.Common.{IsRefusal, Outcome, Told, Refused}
 use Rattle.boardnet.specs.Lines.{plain_line}
 use Rattle.boardnet.specs.Source.{Source, IsBoardBy}
 use Rattle.boardnet.specs.Task.{Task, on_package}
@@ -26,14 +25,9 @@ pub record IsWritten (source : Source) (manifest text : List ℕ) (status : ℕ)
   pub status_is : status ≡ 0
   pub line_is : line ≡ plain_line (codes "netlist written")
 
--- `write` comes to a netlist of the copper, or to the refusal of the package
-abbrev pub WriteOutcome : Source → List ℕ → Outcome → Type 0
-WriteOutcome source manifest (Told text status line) = IsWritten source manifest text status line
-WriteOutcome source manifest (Refused line) = IsRefusal source manifest line
-
 -- What is told of the command.
 abbrev pub write : List ℕ → Task
-write manifest = on_package manifest (λ words. IsWrite words manifest) (codes "write" ∷ manifest ∷ []) (λ source outcome. WriteOutcome source manifest outcome)
+write manifest = on_package manifest (λ words. IsWrite words manifest) (codes "write" ∷ manifest ∷ []) (λ source text status line. IsWritten source manifest text status line)
 
 -- the command that words behind its name can ask for; whether they are texts, and in range, is for `IsWrite` to say
 abbrev pub write_by : List (List ℕ) → Option Command

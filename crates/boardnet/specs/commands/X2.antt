@@ -1,13 +1,11 @@
 -- The command `x2 MANIFEST`: the package is judged by the net names in its copper files.
 use Rattle.std.specs.Prelude.{◌≡◌, ◌↔◌, ℕ, ◌-◌, List, [], ◌∷◌, Some, slice_get, codes, map, string_bytes, String, Option, None}
 use Rattle.std.specs.declared.alloc.Global.{Global}
-use Rattle.board_package.specs.LabelledBoard.{LabelledStop, mislabelled, unbuilt}
+use Rattle.board_package.specs.LabelledBoard.{mislabelled, unbuilt}
 use Rattle.board_shapes.specs.Plain.{PlainBoard}
 use Rattle.board_shapes.specs.Touching.{Joined}
 use Rattle.board_shapes.specs.declared.probe.Probe.{Probe}
 use Rattle.boardnet.specs.Command.{Command, X2}
-use Rattle.boardnet.specs.Common.{IsLineOf, Outcome, Told, Refused}
-use Rattle.boardnet.specs.Lines.{label_line}
 use Rattle.boardnet.specs.Right.{IsReportOn}
 use Rattle.boardnet.specs.Source.{Source, IsFirstLabelledStopBy, IsLabelledBoardBy, LabelledComesBy}
 use Rattle.boardnet.specs.Task.{Task, on_package}
@@ -37,29 +35,13 @@ pub record IsLabelledReport (source : Source) (manifest text : List ℕ) (status
   pub none_bare : report.verdict.bare ≡ []
   pub joins : JoinsPieces board report.verdict
 
--- The line of a stop of a labelled board that is a refusal.
-abbrev pub IsLabelledLine : List ℕ → LabelledStop → List ℕ → Type 0
-IsLabelledLine manifest (unbuilt stop) line = IsLineOf manifest stop line
-IsLabelledLine manifest (mislabelled name command byte) line = line ≡ label_line name command byte
-
--- The first stop of the package without its netlist is a refusal, and this is its line.
-pub record IsLabelledRefusal (source : Source) (manifest line : List ℕ) : Type 0 where
-  pub stop : LabelledStop
-  pub first : IsFirstLabelledStopBy source manifest stop
-  pub line_is : IsLabelledLine manifest stop line
-
--- `x2` comes to a report by the net names in the copper files, or to the refusal of the package without its netlist
-abbrev pub X2Outcome : Source → List ℕ → Outcome → Type 0
-X2Outcome source manifest (Told text status line) = IsLabelledReport source manifest text status line
-X2Outcome source manifest (Refused line) = IsLabelledRefusal source manifest line
-
 -- beside a stop: a label of the copper file of this name is amiss, and that is the first stop
 abbrev pub X2Refuses : Source → List ℕ → Unanswered → Type 0
 X2Refuses source manifest (Mislabelled name number byte) = IsFirstLabelledStopBy source manifest (mislabelled name number byte)
 X2Refuses source manifest other = ⊥
 
 abbrev pub x2 : List ℕ → Task
-x2 manifest = record (on_package manifest (λ words. IsX2 words manifest) (codes "x2" ∷ manifest ∷ []) (λ source outcome. X2Outcome source manifest outcome)) {
+x2 manifest = record (on_package manifest (λ words. IsX2 words manifest) (codes "x2" ∷ manifest ∷ []) (λ source text status line. IsLabelledReport source manifest text status line)) {
   comes = λ source name. LabelledComesBy source manifest name;
   stops = λ source stop. IsFirstLabelledStopBy source manifest (unbuilt stop);
   refuses = λ source why. X2Refuses source manifest why;

@@ -1,5 +1,8 @@
 // Packages of several files.
 use crate::tests::{Files, MANIFEST, answers, files};
+use board_io::MemoryPackage;
+use lengths::rows::NoMemory;
+use std::alloc::Global;
 use std::test::Fail;
 
 pub const BURIED: &str =
@@ -37,11 +40,11 @@ pub const THROUGH_POINT: &[&str] = &[
     "999",
 ];
 
-pub const KICAD_MANIFEST: &[&str] = &[
+const KICAD_MANIFEST: &[&str] = &[
     "{\"copper\":[\"F_Cu.gbr\",\"B_Cu.gbr\"],\"drills\":[{\"file\":\"PTH.drl\",\"from\":1,\"to\":2}],\"netlist\":\"n.d356\"}",
 ];
 
-pub const KICAD_TOP: &[&str] = &[
+const KICAD_TOP: &[&str] = &[
     "%TF.GenerationSoftware,KiCad,Pcbnew,7.0.1*%",
     "%TF.CreationDate,2024-03-01T10:00:00+01:00*%",
     "%TF.SameCoordinates,Original*%",
@@ -119,7 +122,7 @@ pub const KICAD_BOTTOM: &[&str] = &[
     "M02*",
 ];
 
-pub const KICAD_DRILL: &[&str] = &[
+const KICAD_DRILL: &[&str] = &[
     "M48",
     "; DRILL file {KiCad 7.0.1} date 2024-03-01T10:00:00",
     "; FORMAT={-:-/ absolute / metric / decimal}",
@@ -295,6 +298,19 @@ fn packages() -> [Files; 9] {
             KICAD_REPORT,
         ),
     ]
+}
+
+/// The example of KiCad with these lines of its lower layer, and without its netlist.
+pub fn kicad(alloc: Global, bottom: &[&str]) -> Result<MemoryPackage, NoMemory> {
+    files(
+        alloc,
+        &[
+            ("m.json", KICAD_MANIFEST),
+            ("F_Cu.gbr", KICAD_TOP),
+            ("B_Cu.gbr", bottom),
+            ("PTH.drl", KICAD_DRILL),
+        ],
+    )
 }
 
 #[test]

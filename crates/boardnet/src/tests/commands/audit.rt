@@ -1,9 +1,7 @@
 // The command `audit`: reports of a short of three names with one change each, of ordinary use, and of reports that cannot be taken.
 use crate::tests::commands::check::{SHORT_REPORT, SHORTED, THREE, TIED};
-use crate::tests::packages::{
-    KICAD_BOTTOM, KICAD_DRILL, KICAD_MANIFEST, KICAD_NETLIST, KICAD_REPORT, KICAD_TOP,
-};
-use crate::tests::{AUDIT, ENDS, MANIFEST, Ruling, TIE, files, one_layer, rules, wants};
+use crate::tests::packages::{KICAD_BOTTOM, KICAD_NETLIST, KICAD_REPORT, kicad};
+use crate::tests::{AUDIT, ENDS, MANIFEST, Ruling, TIE, files, one_layer, rules, text, wants};
 use board_io::MemoryPackage;
 use std::alloc::Global;
 use std::test::Fail;
@@ -128,16 +126,8 @@ fn audits_of_hostile_reports(rt: HostRuntime) -> Result<(), Fail> {
 #[test]
 fn the_report_of_ordinary_use(rt: HostRuntime) -> Result<(), Fail> {
     let alloc = rt.alloc();
-    let mut ordinary = files(
-        alloc,
-        &[
-            ("m.json", KICAD_MANIFEST),
-            ("F_Cu.gbr", KICAD_TOP),
-            ("B_Cu.gbr", KICAD_BOTTOM),
-            ("PTH.drl", KICAD_DRILL),
-            ("n.d356", KICAD_NETLIST),
-        ],
-    )?;
+    let mut ordinary = kicad(alloc, KICAD_BOTTOM)?;
+    ordinary.hold("n.d356", text(alloc, KICAD_NETLIST)?.as_slice())?;
     rules(alloc, &mut ordinary, KICAD_REPORT, Ruling::True)?;
     assert_eq!(rt; ordinary.calls(), 6);
     Ok(())

@@ -1,5 +1,5 @@
 // The command `x2`: checks by the net names in the copper files.
-use crate::tests::packages::{BARREL, DISC, KICAD_BOTTOM, KICAD_DRILL, KICAD_MANIFEST, KICAD_TOP};
+use crate::tests::packages::{BARREL, DISC, KICAD_BOTTOM, kicad};
 use crate::tests::{MANIFEST, answer, files, gerber, has, package, shown};
 use lengths::rows::NoMemory;
 use std::alloc::Global;
@@ -40,15 +40,7 @@ fn with_line<'t>(
 #[test]
 fn the_example_by_its_labels(rt: HostRuntime) -> Result<(), Fail> {
     let alloc = rt.alloc();
-    let mut package = files(
-        alloc,
-        &[
-            ("m.json", KICAD_MANIFEST),
-            ("F_Cu.gbr", KICAD_TOP),
-            ("B_Cu.gbr", KICAD_BOTTOM),
-            ("PTH.drl", KICAD_DRILL),
-        ],
-    )?;
+    let mut package = kicad(alloc, KICAD_BOTTOM)?;
     let (status, out, notes) = answer(alloc, X2, &mut package)?;
     assert_eq!(rt;
         (status, shown(&notes)),
@@ -60,15 +52,7 @@ fn the_example_by_its_labels(rt: HostRuntime) -> Result<(), Fail> {
     }
     assert_eq!(rt; package.calls(), 4);
     let mended = with_line(alloc, KICAD_BOTTOM, "D10*", "%TO.N,/SIG*%")?;
-    let mut package = files(
-        alloc,
-        &[
-            ("m.json", KICAD_MANIFEST),
-            ("F_Cu.gbr", KICAD_TOP),
-            ("B_Cu.gbr", mended.as_slice()),
-            ("PTH.drl", KICAD_DRILL),
-        ],
-    )?;
+    let mut package = kicad(alloc, mended.as_slice())?;
     let (status, _, notes) = answer(alloc, X2, &mut package)?;
     assert_eq!(rt; (status, shown(&notes)), (0, "boardnet: agrees\n"));
     Ok(())

@@ -9,18 +9,18 @@ use Rattle.real_package.proofs.contents.read_file.Goals as goal
 pub returns-in-Err-clause-fault : goal.returns-in-Err-clause-fault
 returns-in-Err-clause-fault c =
     let room = c.room_left-room.ensures ∙ ap (λ l. room_left (plain_reals l)) c.as_slice.ensures.value in
-    copper_halts c.args.entry.now c.in-Copper.layer c.args.file.now (plain_real_board c.args.board.now) c.room_left-room.result c.in-Err.why c.copper_fault.result
+    copper_halts c.args.entry.now c.in-Copper.layer c.args.bytes.now (plain_real_board c.args.board.now) c.room_left-room.result c.in-Err.why c.copper_fault.result
     c.in-Copper.is room c.in-Err.ensures.fault c.copper_fault.ensures
 
 pub returns-in-Err-read_drill-clause-fault : goal.returns-in-Err-read_drill-clause-fault
 returns-in-Err-read_drill-clause-fault c =
     let room = c.room_left-room.ensures ∙ ap (λ l. room_left (plain_reals l)) c.as_slice.ensures.value in
-    drill_halts c.args.entry.now c.in-Drill.from c.in-Drill.to c.args.file.now (plain_real_board c.args.board.now) c.room_left-room.result c.in-Err-read_drill.why c.drill_fault.result
+    drill_halts c.args.entry.now c.in-Drill.from c.in-Drill.to c.args.bytes.now (plain_real_board c.args.board.now) c.room_left-room.result c.in-Err-read_drill.why c.drill_fault.result
     c.in-Drill.is room c.in-Err-read_drill.ensures.fault c.drill_fault.ensures
 
 pub returns-in-Err-read_netlist-clause-fault : goal.returns-in-Err-read_netlist-clause-fault
 returns-in-Err-read_netlist-clause-fault c =
-    netlist_halts c.args.entry.now c.args.file.now (plain_real_board c.args.board.now) c.in-Err-read_netlist.why c.netlist_fault.result
+    netlist_halts c.args.entry.now c.args.bytes.now (plain_real_board c.args.board.now) c.in-Err-read_netlist.why c.netlist_fault.result
     c.in-Netlist.is c.in-Err-read_netlist.ensures.fault c.netlist_fault.ensures
 
 pub add-requires-in-Ok-as_real_pieces-clause-spans : goal.add-requires-in-Ok-as_real_pieces-clause-spans
@@ -30,4 +30,4 @@ add-requires-in-Ok-as_real_pieces-clause-spans c =
 pub returns-in_ok-add-in-Ok-clause-ok : goal.returns-in_ok-add-in-Ok-clause-ok
 returns-in_ok-add-in-Ok-clause-ok c =
     let room = c.room_left-room.ensures ∙ ap (λ l. room_left (plain_reals l)) c.as_slice.ensures.value in
-    copper_reads c.args.entry.now c.in-Copper.layer c.args.file.now (plain_real_board c.args.board.now) (plain_real_board c.add.new.self) c.room_left-room.result (plain_reals c.in-Ok.pieces.items) c.in-Copper.is room c.in-Ok.ensures.ok (has_more c.args.board.now c.add.new.self c.in-Ok.pieces.items c.in_ok-add-in-Ok.ensures.ok)
+    copper_reads c.args.entry.now c.in-Copper.layer c.args.bytes.now (plain_real_board c.args.board.now) (plain_real_board c.add.new.self) c.room_left-room.result (plain_reals c.in-Ok.pieces.items) c.in-Copper.is room c.in-Ok.ensures.ok (has_more c.args.board.now c.add.new.self c.in-Ok.pieces.items c.in_ok-add-in-Ok.ensures.ok)
