@@ -58,7 +58,8 @@ impl<S: Closed> Placed<S> {
 
 impl<S: Meets<S>> Placed<S> {
     /// Whether the spans have a common layer and the solids share a point, by at most one contact test. The boxes of both
-    /// are inside the frame.
+    /// are inside the frame. It is inlined into the loops over pairs, of which many have no common layer.
+    #[inline(always)]
     pub fn touches<L: Ledger>(&self, other: &Placed<S>, frame: Frame, tests: &mut Steps<L>) -> bool
         requires self_inside { IsInside (S.extent self.now.shape) frame }
         requires other_inside { IsInside (S.extent other.now.shape) frame }

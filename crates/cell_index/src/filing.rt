@@ -59,7 +59,7 @@ impl<'a, S: Closed> Plan<'a, S> {
         ensures each { IfOk result (λ v. (row : ℕ) → row < 16385 → pieces_in row v.items ≡ row_of S.extent self.now.frame self.now.items.now layer row) }
     {
         let items = self.items;
-        let mut filings = Vec::new(alloc);
+        let mut filings = Vec::with_capacity(alloc, items.len())?;
         for p in 0..items.len() {
             let item = &items[p];
             if item.top <= layer && layer <= item.bottom {

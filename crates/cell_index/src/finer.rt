@@ -224,7 +224,7 @@ fn copies_of<S: Closed>(
     ensures copies { IfOk result (λ v. AreCopies S.extent stretch items.now (length items.now) v.items) }
     ensures lawful { IfOk result (λ v. All (λ p. S.is_lawful p.shape) items.now) }
 {
-    let mut copies = Vec::new(alloc);
+    let mut copies = Vec::with_capacity(alloc, items.len())?;
     for p in 0..items.len() {
         let copy = copy_of(&items[p], stretch);
         copies.push(copy)?;

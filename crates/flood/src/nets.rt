@@ -40,6 +40,9 @@ pub fn flood<F: Field, L: Ledger>(
     Ok(nets)
 }
 
+// Most nets have at most so many pieces: their list takes memory once.
+const USUAL_PIECES: usize = 8;
+
 // The net whose least piece is the first.
 fn net_from<F: Field, L: Ledger>(
     alloc: Global,
@@ -58,7 +61,7 @@ fn net_from<F: Field, L: Ledger>(
     ensures kept { IfOk result (λ net. (w : ℕ → ℕ) → unseen w 0 seen.new + weight w net ≡ unseen w 0 seen.old) }
     ensures ticks { tests.new + unseen (rivals_of (F.size field.now) (F.extent field.now) (F.top field.now) (F.bottom field.now)) 0 seen.new ≤ tests.old + unseen (rivals_of (F.size field.now) (F.extent field.now) (F.top field.now) (F.bottom field.now)) 0 seen.old }
 {
-    let mut net = Rows::new(alloc);
+    let mut net = Rows::with_capacity(alloc, USUAL_PIECES)?;
     seen[first] = true;
     net.push(Twig {
         piece: first as u32,

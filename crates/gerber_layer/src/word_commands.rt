@@ -108,7 +108,9 @@ fn number_front(text: &[u8]) -> (usize, bool)
     (text.len() - body.len() + digits, are_few(digits))
 }
 
-// The number behind a letter, if the text begins with it; whether it is one; and what stands behind.
+// The number behind a letter, if the text begins with it; whether it is one; and what stands behind. It is inlined, so that these
+// are not stored to be read again.
+#[inline(always)]
 fn judged_part(text: &[u8], letter: u8) -> (Option<&[u8]>, bool, &[u8])
     ensures number { option_copied result.0 ≡ spec.number_in letter text.now }
     ensures good { result.1 ≡ spec.is_number_if (spec.number_in letter text.now) }
@@ -134,7 +136,8 @@ pub fn part(text: &[u8], letter: u8) -> (Option<&[u8]>, &[u8])
     (number, rest)
 }
 
-/// The command that a word is where the file has no macros.
+/// The command that a word is where the file has no macros. It is inlined into the loop over words.
+#[inline(always)]
 #[tactic(auto, unfolding(crate::specs::WordCommands::command_of))]
 pub fn read_command<'a>(word: Word<'a>) -> Command<'a>
     ensures value { view result ≡ spec.command_of (entry_of word.entry) }

@@ -43,8 +43,9 @@ impl<'a> NameTable<'a> {
         requires lawful { All IsText (names_in self.now) }
         ensures same { IfOk result (λ rows. rows ≡ names_in self.now) }
     {
-        let mut rows = Rows::new(alloc);
-        for name in self.names.as_slice() {
+        let names = self.names.as_slice();
+        let mut rows = Rows::with_capacity(alloc, names.len())?;
+        for name in names {
             match Text::new(alloc, name) {
                 Ok(text) => rows.push(text)?,
                 Err(TextFault::BadText) => unreachable!(),

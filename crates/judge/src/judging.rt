@@ -105,12 +105,9 @@ fn findings(
 fn copied(alloc: Global, names: &[Text]) -> Result<Rows<Text>, NoMemory>
     ensures { IfOk result (λ copies. copies ≡ names.now) }
 {
-    let mut copies = Rows::new(alloc);
+    let mut copies = Rows::with_capacity(alloc, names.len())?;
     for name in names {
-        let Ok(copy) = Text::new(alloc, name.as_bytes()) else {
-            return Err(NoMemory);
-        };
-        copies.push(copy)?;
+        copies.push(name.clone()?)?;
     }
     Ok(copies)
 }

@@ -19,7 +19,7 @@ pub fn lines_of(
     requires pieces { All (λ home. IfSome home (λ piece. piece < length numbers.now)) homes.now }
     ensures { IfOk result (λ lines. lines ≡ lines_by numbers.now probes.now homes.now) }
 {
-    let mut lines = Rows::new(alloc);
+    let mut lines = Rows::with_capacity(alloc, probes.len())?;
     for i in 0..probes.len() {
         lines.push(line_of(probes[i], homes[i], numbers))?;
     }

@@ -29,7 +29,7 @@ pub fn supplement(alloc: Global, board: &Board) -> Result<Supplement, NoMemory>
 fn spots_of(alloc: Global, probes: &[Probe]) -> Result<Rows<SpotLine>, NoMemory>
     ensures { IfOk result (λ spots. spots ≡ map spot_of (map point_of probes.now)) }
 {
-    let mut spots = Rows::new(alloc);
+    let mut spots = Rows::with_capacity(alloc, probes.len())?;
     for probe in probes {
         spots.push(SpotLine {
             x: probe.at.x,
@@ -43,7 +43,7 @@ fn spots_of(alloc: Global, probes: &[Probe]) -> Result<Rows<SpotLine>, NoMemory>
 fn sources_of(alloc: Global, pieces: &[Piece]) -> Result<Rows<SourceLine>, NoMemory>
     ensures { IfOk result (λ sources. sources ≡ map source_of (map source_on (plain_pieces pieces.now))) }
 {
-    let mut sources = Rows::new(alloc);
+    let mut sources = Rows::with_capacity(alloc, pieces.len())?;
     for piece in pieces {
         sources.push(source_line(piece))?;
     }

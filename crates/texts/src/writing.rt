@@ -1,7 +1,7 @@
 //! Bytes and whole numbers, put behind a text. Where memory is wanted, the answer is std's own error. After an error the
 //! text holds anything.
 ghost use Rattle.std.specs.Fmt.{decimal, signed_decimal};
-ghost use Rattle.std.specs.Prelude.{◌≡◌, ◌∷◌, ◌++◌, OnOk};
+ghost use Rattle.std.specs.Prelude.{◌≡◌, ◌<◌, ◌∷◌, ◌++◌, OnOk};
 ghost use Rattle.texts.specs.LastDigits.{last_digits};
 
 use crate::numerals::Numeral;
@@ -29,14 +29,115 @@ pub fn put_signed(text: &mut Vec<u8>, z: i64) -> Result<(), AllocError>
     put(text, Numeral::signed(z).as_bytes())
 }
 
-/// Puts a blank and a number. Most numbers of a report's sources have one digit, so that has a way of its own.
+/// Puts a blank and a number. Most numbers of a report's sources have one digit, so that has a way of its own, which is inlined.
+#[inline(always)]
 pub fn put_blank_number(text: &mut Vec<u8>, n: u64) -> Result<(), AllocError>
     ensures { OnOk result (text.new.items ≡ text.old.items ++ (32 ∷ decimal n)) }
 {
     if n < 10 {
         return put(text, &[b' ', b'0' + n as u8]);
     }
-    put(text, Numeral::behind(b' ', n).as_bytes())
+    put_behind(text, b' ', n)
+}
+
+/// Puts a byte and a number. Digits are stored five at a time, which takes less than a copy from a buffer.
+pub fn put_behind(text: &mut Vec<u8>, byte: u8, n: u64) -> Result<(), AllocError>
+    ensures { OnOk result (text.new.items ≡ text.old.items ++ (byte ∷ decimal n)) }
+{
+    if n < 100_000 {
+        return put_few(text, byte, n);
+    }
+    let front = n / 100_000;
+    if front < 100_000 {
+        put_few(text, byte, front)?;
+        return put_last_five(text, n);
+    }
+    put_from_buffer(text, byte, n)
+}
+
+// The same from a buffer.
+#[inline(never)]
+fn put_from_buffer(text: &mut Vec<u8>, byte: u8, n: u64) -> Result<(), AllocError>
+    ensures { OnOk result (text.new.items ≡ text.old.items ++ (byte ∷ decimal n)) }
+{
+    put(text, Numeral::behind(byte, n).as_bytes())
+}
+
+/// The last digit of a number.
+macro_rules! digit {
+    ($n:expr) => {
+        b'0' + ($n % 10) as u8
+    };
+}
+
+// Puts a byte and a number of at most five digits. Where there is room for them no call is made.
+fn put_few(text: &mut Vec<u8>, byte: u8, n: u64) -> Result<(), AllocError>
+    requires { n < 100_000 }
+    ensures { OnOk result (text.new.items ≡ text.old.items ++ (byte ∷ decimal n)) }
+{
+    if text.capacity() - text.len() < 6 {
+        return put_from_buffer(text, byte, n);
+    }
+    if n < 10 {
+        return put(text, &[byte, digit!(n)]);
+    }
+    if n < 100 {
+        return put(text, &[byte, digit!(n / 10), digit!(n)]);
+    }
+    if n < 1_000 {
+        return put(text, &[byte, digit!(n / 100), digit!(n / 10), digit!(n)]);
+    }
+    if n < 10_000 {
+        return put(
+            text,
+            &[
+                byte,
+                digit!(n / 1_000),
+                digit!(n / 100),
+                digit!(n / 10),
+                digit!(n),
+            ],
+        );
+    }
+    put(
+        text,
+        &[
+            byte,
+            digit!(n / 10_000),
+            digit!(n / 1_000),
+            digit!(n / 100),
+            digit!(n / 10),
+            digit!(n),
+        ],
+    )
+}
+
+// Puts the last five digits of a number.
+fn put_last_five(text: &mut Vec<u8>, n: u64) -> Result<(), AllocError>
+    ensures { OnOk result (text.new.items ≡ text.old.items ++ last_digits 5 n) }
+{
+    put(
+        text,
+        &[
+            digit!(n / 10_000),
+            digit!(n / 1_000),
+            digit!(n / 100),
+            digit!(n / 10),
+            digit!(n),
+        ],
+    )
+}
+
+/// Puts a blank and a signed number.
+pub fn put_blank_signed(text: &mut Vec<u8>, z: i64) -> Result<(), AllocError>
+    ensures { OnOk result (text.new.items ≡ text.old.items ++ (32 ∷ signed_decimal z)) }
+{
+    let amount = z.unsigned_abs();
+    if z < 0 {
+        put(text, b" ")?;
+        return put_behind(text, b'-', amount);
+    }
+    put_behind(text, b' ', amount)
 }
 
 /// Puts so many digits of a number, its last ones.

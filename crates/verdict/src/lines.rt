@@ -15,7 +15,7 @@ use crate::verdict::{Branch, Open, PointLine, Short, SourceLine, SpotLine, Tree,
 use lengths::rows::Rows;
 use lengths::text::{Text, TextFault};
 use std::alloc::{AllocError, Global};
-use texts::{after_byte, before_byte, has, put, put_blank_number, put_number, put_signed};
+use texts::{after_byte, before_byte, has, put, put_behind, put_blank_number, put_blank_signed};
 
 /// What stands behind a blank as often as there are some, up to the end of a line.
 pub trait Word: Drop {
@@ -77,10 +77,7 @@ impl Word for Twig {
         put_blank_number(out, u64::from(self.piece))?;
         match self.parent {
             None => Ok(()),
-            Some(parent) => {
-                put(out, b":")?;
-                put_number(out, u64::from(parent))
-            }
+            Some(parent) => put_behind(out, b':', u64::from(parent)),
         }
     }
 }
@@ -143,7 +140,8 @@ fn heading<'a>(bytes: &'a [u8], title: &[u8], number: u64) -> Result<&'a [u8], R
     expect_number(rest, number)
 }
 
-// Writes a title and the number of a line.
+// Writes a title and the number of a line. It is inlined, so that a title that is known is stored directly.
+#[inline(always)]
 fn write_heading(out: &mut Vec<u8>, title: &[u8], number: u64) -> Result<(), AllocError>
     ensures { OnOk result (out.new.items ≡ out.old.items ++ (title.now ++ report.word number)) }
 {
@@ -367,10 +365,8 @@ fn write_place(out: &mut Vec<u8>, spot: &SpotLine) -> Result<(), AllocError>
     ensures written { OnOk result (out.new.items ≡ out.old.items ++ (report.signed_word spot.now.x ++ report.signed_word spot.now.y)) }
     ensures lawful { OnOk result (IsSpotLine spot.now) }
 {
-    put(out, b" ")?;
-    put_signed(out, spot.x)?;
-    put(out, b" ")?;
-    put_signed(out, spot.y)
+    put_blank_signed(out, spot.x)?;
+    put_blank_signed(out, spot.y)
 }
 
 impl Line for SpotLine {

@@ -1,5 +1,5 @@
 //! The text of a verdict.
-ghost use Rattle.std.specs.Prelude.{◌≡◌, ◌++◌, OnOk, IfOk, IfSome};
+ghost use Rattle.std.specs.Prelude.{◌≡◌, [], ◌++◌, OnOk, IfOk, IfSome};
 ghost use Rattle.std.specs.List.{AllByRecursion};
 ghost use Rattle.lengths.specs.Text.{IsText};
 ghost use Rattle.verdict.specs.Lawful.{IsNumber, IsOpen, IsPointLine, IsShort, IsSupplement, IsTwig, IsVerdict};
@@ -10,6 +10,20 @@ use crate::verdict::{Supplement, Verdict};
 use lengths::rows::NoMemory;
 use std::alloc::{AllocError, Global};
 use texts::put;
+
+// About how many bytes a piece or a point makes, with its line of the supplement.
+const BYTES_OF_AN_ITEM: usize = 64;
+
+// No text, with room for about as much as the report has, where memory serves: a text that grows is copied each time.
+fn with_room(alloc: Global, v: &Verdict) -> Vec<u8>
+    ensures { result.items ≡ [] }
+{
+    let items = (v.pieces as usize).saturating_add(v.points.as_slice().len());
+    match Vec::with_capacity(alloc, items.saturating_mul(BYTES_OF_AN_ITEM)) {
+        Ok(text) => text,
+        Err(_) => Vec::new(alloc),
+    }
+}
 
 // Writes the first line: it tells whether there is a supplement.
 fn write_first(out: &mut Vec<u8>, more: &Option<Supplement>) -> Result<(), AllocError>
@@ -78,7 +92,7 @@ pub fn write_report(alloc: Global, v: &Verdict) -> Result<Vec<u8>, NoMemory>
     ensures text { IfOk result (λ text. text.items ≡ spec.report_text v.now) }
     ensures lawful { IfOk result (λ text. IsVerdict v.now) }
 {
-    let mut out = Vec::new(alloc);
+    let mut out = with_room(alloc, v);
     write_first(&mut out, &v.more)?;
     write_tables(&mut out, v)?;
     write_findings(&mut out, v)?;

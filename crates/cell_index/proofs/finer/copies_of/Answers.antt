@@ -8,7 +8,7 @@ use Rattle.cell_index.proofs.Stretching.{copies_more, copies_start}
 use Rattle.cell_index.proofs.finer.copies_of.Goals as goal
 
 pub loop-p-init : goal.loop-p-init
-loop-p-init g c = (copies_start g.S.Closed.extent c.args.stretch c.args.items.now c.new-copies.result.items (search rules), λ k d h. absurd (omega arith))
+loop-p-init g c = (copies_start g.S.Closed.extent c.args.stretch c.args.items.now c.in_ok-copies.copies.items (search rules), λ k d h. absurd (omega arith))
 
 pub loop-p-preserved : goal.loop-p-preserved
 loop-p-preserved g c =

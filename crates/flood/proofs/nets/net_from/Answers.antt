@@ -12,7 +12,7 @@ returns-in_err-push-clause-ticks g c =
 
 pub loop-at-init : goal.loop-at-init
 loop-at-init g c =
-    rw (c.in_ok-push.ensures.ok, c.new-net.ensures) (asked_start (IsNear (g.F.Field.size c.args.field.now) (g.F.Field.touch c.args.field.now)) (rivals_of (g.F.Field.size c.args.field.now) (g.F.Field.extent c.args.field.now) (g.F.Field.top c.args.field.now) (g.F.Field.bottom c.args.field.now)) c.args.seen.now c.args.first c.args.tests.now (omega arith) c.requires.fresh c.requires.below)
+    rw (c.in_ok-push.ensures.ok, c.in_ok-net.ensures) (asked_start (IsNear (g.F.Field.size c.args.field.now) (g.F.Field.touch c.args.field.now)) (rivals_of (g.F.Field.size c.args.field.now) (g.F.Field.extent c.args.field.now) (g.F.Field.top c.args.field.now) (g.F.Field.bottom c.args.field.now)) c.args.seen.now c.args.first c.args.tests.now (omega arith) c.requires.fresh c.requires.below)
 
 pub spread-requires-clause-piece : goal.spread-requires-clause-piece
 spread-requires-clause-piece g c =

@@ -1,0 +1,63 @@
+-- The digits of a number, as they are written.
+use Rattle.std.proofs.Common.{◌≡◌, ℕ, zero, suc, ◌+◌, ◌*◌, ◌/◌, ◌%◌, ◌^◌, ◌<◌, ◌≤◌, List, [], ◌∷◌, ◌++◌, refl, sym, ap, ◌∙◌, arith, append_assoc, append-nil}
+use Rattle.std.proofs.Math.Nat.{div-div-eq-div-mul, pow-suc, mul_comm}
+use Rattle.std.proofs.lemmas.Fmt.{decimal_digit, decimal_step}
+use Rattle.std.specs.Fmt.{decimal}
+use Rattle.texts.specs.LastDigits.{last_digits}
+
+-- a number of one to five digits
+pub one : (n : ℕ) → n < 10 → decimal n ≡ (48 + n % 10) ∷ []
+one n few = let e : n % 10 ≡ n = omega arith in decimal_digit n few ∙ ap (λ (d : ℕ). (48 + d) ∷ []) (sym e)
+
+pub two : (n : ℕ) → 10 ≤ n → n < 100 → decimal n ≡ (48 + n / 10 % 10) ∷ (48 + n % 10) ∷ []
+two n many few = decimal_step n many (omega arith) ∙ ap (λ (t : List ℕ). t ++ (48 + n % 10) ∷ []) (one (n / 10) (omega arith))
+
+pub three : (n : ℕ) → 100 ≤ n → n < 1_000 → decimal n ≡ (48 + n / 100 % 10) ∷ (48 + n / 10 % 10) ∷ (48 + n % 10) ∷ []
+three n many few =
+    let e : n / 10 / 10 ≡ n / 100 = omega arith in
+    decimal_step n (omega arith) (omega arith) ∙ ap (λ (t : List ℕ). t ++ (48 + n % 10) ∷ []) (rw e at (two (n / 10) (omega arith) (omega arith)))
+
+pub four : (n : ℕ) → 1_000 ≤ n → n < 10_000 → decimal n ≡ (48 + n / 1_000 % 10) ∷ (48 + n / 100 % 10) ∷ (48 + n / 10 % 10) ∷ (48 + n % 10) ∷ []
+four n many few =
+    let e : n / 10 / 10 ≡ n / 100 = omega arith in
+    let f : n / 10 / 100 ≡ n / 1_000 = omega arith in
+    decimal_step n (omega arith) (omega arith) ∙ ap (λ (t : List ℕ). t ++ (48 + n % 10) ∷ []) (rw (e, f) at (three (n / 10) (omega arith) (omega arith)))
+
+pub five : (n : ℕ) → 10_000 ≤ n → n < 100_000 → decimal n ≡ (48 + n / 10_000 % 10) ∷ (48 + n / 1_000 % 10) ∷ (48 + n / 100 % 10) ∷ (48 + n / 10 % 10) ∷ (48 + n % 10) ∷ []
+five n many few =
+    let e : n / 10 / 10 ≡ n / 100 = omega arith in
+    let f : n / 10 / 100 ≡ n / 1_000 = omega arith in
+    let g : n / 10 / 1_000 ≡ n / 10_000 = omega arith in
+    decimal_step n (omega arith) (omega arith) ∙ ap (λ (t : List ℕ). t ++ (48 + n % 10) ∷ []) (rw (e, f, g) at (four (n / 10) (omega arith) (omega arith)))
+
+-- the last five digits
+pub last_five : (n : ℕ) → last_digits 5 n ≡ (48 + n / 10_000 % 10) ∷ (48 + n / 1_000 % 10) ∷ (48 + n / 100 % 10) ∷ (48 + n / 10 % 10) ∷ (48 + n % 10) ∷ []
+last_five n =
+    let e : n / 10 / 10 ≡ n / 100 = omega arith in
+    let f : n / 100 / 10 ≡ n / 1_000 = omega arith in
+    let g : n / 1_000 / 10 ≡ n / 10_000 = omega arith in
+    rw (e, f, g) refl
+
+pow_positive : (k : ℕ) → 1 ≤ 10 ^ k
+pow_positive zero = omega arith
+pow_positive (suc k) = let h = pow_positive k in omega (arith, pow-suc 10 k)
+
+-- a number is the digits in front of its last ones, and these
+with_front : (k n : ℕ) → n < 2 ^ 64 → 10 ^ k ≤ n → decimal n ≡ decimal (n / 10 ^ k) ++ last_digits k n
+with_front zero n fits some = ap decimal (omega arith) ∙ sym (append-nil (decimal (n / 1)))
+with_front (suc k) n fits some =
+    let ten : 10 ^ suc k ≡ 10 * 10 ^ k = pow-suc 10 k ∙ mul_comm (10 ^ k) 10 in
+    let some_more : 1 ≤ 10 ^ k = pow_positive k in
+    let over : n / 10 ^ suc k ≡ n / 10 / 10 ^ k = ap (λ (p : ℕ). n / p) (pow-suc 10 k ∙ mul_comm (10 ^ k) 10) ∙ sym (div-div-eq-div-mul n 10 (10 ^ k)) in
+    decimal_step n (omega arith) fits
+    ∙ ap (λ (t : List ℕ). t ++ (48 + n % 10) ∷ []) (with_front k (n / 10) (omega arith) (omega arith))
+    ∙ append_assoc (decimal (n / 10 / 10 ^ k)) (last_digits k (n / 10)) ((48 + n % 10) ∷ [])
+    ∙ ap (λ (m : ℕ). decimal m ++ last_digits (suc k) n) (sym over)
+
+-- the last five digits behind those in front of them
+pub put_front : (byte n : ℕ) (start before after : List ℕ) → n < 2 ^ 64 → 100_000 ≤ n → before ≡ start ++ (byte ∷ decimal (n / 100_000)) → after ≡ before ++ last_digits 5 n → after ≡ start ++ (byte ∷ decimal n)
+put_front byte n start before after fits some so_far now =
+    now
+    ∙ ap (λ (t : List ℕ). t ++ last_digits 5 n) so_far
+    ∙ append_assoc start (byte ∷ decimal (n / 100_000)) (last_digits 5 n)
+    ∙ ap (λ (t : List ℕ). start ++ (byte ∷ t)) (sym (with_front 5 n fits some))
