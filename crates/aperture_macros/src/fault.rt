@@ -26,7 +26,7 @@ pub enum MacroFault {
 }
 
 /// Why a primitive gives no shape.
-#[derive(Clone, Copy, Debug, PartialEq, Eq)]
+#[derive(Clone, Copy, Debug)]
 pub enum FigureFault {
     /// Its lengths are refused, or an end or a corner is over 1 m from 0 in x or y.
     Macro(MacroFault),

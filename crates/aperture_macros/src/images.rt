@@ -16,7 +16,7 @@ use planar::Spot;
 
 /// A figure about the origin: a disc by its centre and its diameter, a rectangle by its lower left
 /// and its upper right corner, or the stroke of a slanted line by its ends and its width, at most `MOST_DIAMETER`.
-#[derive(Clone, Copy, Debug, PartialEq, Eq)]
+#[derive(Clone, Copy)]
 pub enum Sketch {
     Disc(Spot, u64),
     Rectangle(Spot, Spot),

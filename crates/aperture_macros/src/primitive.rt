@@ -4,7 +4,7 @@ ghost use Rattle.aperture_macros.specs.BodyWord.{row};
 ghost use Rattle.aperture_macros.specs.Sized.{IsSized, outline_edges};
 
 /// What a primitive is, by its code: 1, 4, 20 or 21. An outline has so many edges, from 3 to 5,000.
-#[derive(Clone, Copy, Debug, PartialEq, Eq)]
+#[derive(Clone, Copy, Debug)]
 pub enum Form {
     Circle,
     Outline(u32),
@@ -70,7 +70,7 @@ pub enum Rotation {
 
 /// A primitive of a macro (Gerber Layer Format Specification, 4.5.1). Its lengths stand as they are
 /// written, cut at commas: the text is the body word from the first length on.
-#[derive(Clone, Copy, Debug)]
+#[derive(Clone, Copy)]
 pub struct Primitive<'a> {
     pub form: Form,
     pub rotation: Rotation,

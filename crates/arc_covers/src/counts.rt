@@ -10,7 +10,7 @@ use std::alloc::Global;
 use verdict::{behind, number, word};
 
 /// The counts of each real piece, as long as one another.
-#[derive(Debug, Drop)]
+#[derive(Drop)]
 pub struct Counts {
     pub lower: Rows<u32>,
     pub upper: Rows<u32>,

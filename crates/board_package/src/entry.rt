@@ -38,7 +38,7 @@ impl Naming {
 }
 
 /// A file of a package.
-#[derive(Debug, Drop)]
+#[derive(Drop)]
 pub struct Entry {
     pub name: Text,
     /// Its number, from 0 through the copper files, then the drill files, and then the netlist.

@@ -35,7 +35,7 @@ pub struct Placed<S> {
 pub type Piece = Placed<Shape>;
 
 /// How many pieces, and edges of filled contours, may still come.
-#[derive(Clone, Copy, Debug, PartialEq, Eq)]
+#[derive(Clone, Copy)]
 pub struct Room {
     pub pieces: u32,
     pub edges: u32,

@@ -2,7 +2,7 @@
 
 /// Why a file is not read: its first faulty command, by its number from 1 and the place of its first
 /// byte, or want of memory.
-#[derive(Clone, Copy, Debug, Drop, PartialEq, Eq)]
+#[derive(Clone, Copy, Debug, Drop)]
 pub enum FileFault<K> {
     Refused {
         kind: K,

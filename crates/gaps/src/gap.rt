@@ -4,7 +4,7 @@ ghost use Rattle.std.specs.Prelude.{Contains, IsTrue, ◌≡◌};
 
 /// Two nets come too close on a layer: the lower and the higher net, and a piece of each. Layers
 /// count from 1, nets and pieces from 0.
-#[derive(Clone, Copy, Debug, PartialEq, Eq, PartialOrd, Ord)]
+#[derive(Clone, Copy, PartialEq, Eq, PartialOrd, Ord)]
 pub struct Gap {
     pub layer: u8,
     pub low: u32,

@@ -18,7 +18,7 @@ pub enum AttributeKind {
 }
 
 /// An attribute of a file: its kind, and its fields as slices of the file.
-#[derive(Clone, Copy, Debug)]
+#[derive(Clone, Copy)]
 pub struct Attribute<'a> {
     kind: AttributeKind,
     text: &'a [u8],

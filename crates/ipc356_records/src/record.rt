@@ -7,7 +7,7 @@ ghost use Rattle.ipc356_records.specs.Columns.{name_from, name_to, part};
 use texts::{Lines, MOST_BYTES, trimmed};
 
 /// A line of a netlist: its number, from 1, and its bytes without the line end.
-#[derive(Clone, Copy, Debug)]
+#[derive(Clone, Copy)]
 pub struct Record<'a> {
     pub line: u32,
     pub text: &'a [u8],

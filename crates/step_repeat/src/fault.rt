@@ -16,7 +16,7 @@ pub enum RepeatFault {
 }
 
 /// Why there are no copies of a block.
-#[derive(Clone, Copy, Debug, PartialEq, Eq, Error)]
+#[derive(Clone, Copy, Debug, Error)]
 pub enum CopyFault {
     /// The copies have more pieces than the room.
     #[error("too many pieces")]

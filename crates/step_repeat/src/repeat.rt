@@ -2,7 +2,7 @@
 
 /// How often a block is repeated, and how far apart the copies stand (Gerber Layer Format
 /// Specification, step and repeat): `across` columns `dx` apart, each of `up` rows `dy` apart, in u.
-#[derive(Clone, Copy, Debug, PartialEq, Eq)]
+#[derive(Clone, Copy)]
 pub struct Repeat {
     /// The number of columns, from 1 to 999,999,999.
     pub across: u32,

@@ -5,7 +5,7 @@ use lengths::rows::Rows;
 use lengths::text::Text;
 
 /// A piece of a net, and the piece through which it is joined to the first.
-#[derive(Clone, Copy, Debug, PartialEq, Eq)]
+#[derive(Clone, Copy)]
 pub struct Twig {
     /// The number of the piece, from 0.
     pub piece: u32,
@@ -20,7 +20,7 @@ pub type Tree = Rows<Twig>;
 pub type Trees = Rows<Tree>;
 
 /// A test point and its net.
-#[derive(Clone, Copy, Debug, PartialEq, Eq)]
+#[derive(Clone, Copy)]
 pub struct PointLine {
     /// The number of its record, from 1.
     pub number: u32,
@@ -33,7 +33,7 @@ pub struct PointLine {
 }
 
 /// A net on which a name has a point, and that point.
-#[derive(Clone, Copy, Debug, PartialEq, Eq)]
+#[derive(Clone, Copy)]
 pub struct Seat {
     /// The number of the net, from 0.
     pub net: u32,
@@ -42,7 +42,7 @@ pub struct Seat {
 }
 
 /// A name on a net, and its first point there.
-#[derive(Clone, Copy, Debug, PartialEq, Eq)]
+#[derive(Clone, Copy)]
 pub struct Mark {
     /// The number of the name, from 0.
     pub name: u32,
@@ -51,7 +51,7 @@ pub struct Mark {
 }
 
 /// A name on a further net than its home.
-#[derive(Clone, Copy, Debug, PartialEq, Eq)]
+#[derive(Clone, Copy, PartialEq, Eq)]
 pub struct Open {
     /// The number of the name, from 0.
     pub name: u32,
@@ -64,7 +64,7 @@ pub struct Open {
 }
 
 /// The path from a point of a name into its net.
-#[derive(Debug, PartialEq, Eq, Drop)]
+#[derive(Drop)]
 pub struct Branch {
     /// The number of the name, from 0.
     pub name: u32,
@@ -76,7 +76,7 @@ pub struct Branch {
 }
 
 /// A net with points of several names.
-#[derive(Debug, PartialEq, Eq, Drop)]
+#[derive(Drop)]
 pub struct Short {
     /// The number of the net, from 0.
     pub net: u32,
@@ -85,7 +85,7 @@ pub struct Short {
 }
 
 /// The place of a test point, in u.
-#[derive(Clone, Copy, Debug, PartialEq, Eq)]
+#[derive(Clone, Copy)]
 pub struct SpotLine {
     /// How far to the right of 0.
     pub x: i64,
@@ -94,7 +94,7 @@ pub struct SpotLine {
 }
 
 /// Where a piece comes from, a file, a command in it and a copy of what that made, and its span of layers.
-#[derive(Clone, Copy, Debug, PartialEq, Eq)]
+#[derive(Clone, Copy)]
 pub struct SourceLine {
     /// The number of the file, from 0 through the copper files and then the drill files.
     pub file: u32,
@@ -109,7 +109,7 @@ pub struct SourceLine {
 }
 
 /// What leads from a verdict to the board and its files: the place of each test point, and the source of each piece.
-#[derive(Debug, PartialEq, Eq, Drop)]
+#[derive(Drop)]
 pub struct Supplement {
     /// One for each test point, in order.
     pub spots: Rows<SpotLine>,
@@ -118,7 +118,7 @@ pub struct Supplement {
 }
 
 /// What is said of a board: its nets, the nets of its test points, and what is amiss.
-#[derive(Debug, PartialEq, Eq, Drop)]
+#[derive(Drop)]
 pub struct Verdict {
     /// How many pieces there are.
     pub pieces: u32,

@@ -8,7 +8,7 @@ use lengths::rows::Rows;
 use lengths::text::Text;
 
 /// A word that gives objects the name of a net, or ends it: its command, counted from 1, and the name, if it gives one.
-#[derive(Debug, Drop)]
+#[derive(Drop)]
 pub struct Label {
     pub command: u32,
     pub name: Option<Text>,

@@ -5,7 +5,7 @@ use lengths::decimal::Unit;
 use planar::Spot;
 
 /// Before `M48`, from it to `%`, from there to `M30`, or behind it.
-#[derive(Clone, Copy, Debug, PartialEq, Eq)]
+#[derive(Clone, Copy)]
 pub enum Stage {
     Opening,
     Header,
@@ -14,7 +14,7 @@ pub enum Stage {
 }
 
 /// Whether a place is drilled, or the tool goes along routs.
-#[derive(Clone, Copy, Debug, PartialEq, Eq)]
+#[derive(Clone, Copy)]
 pub enum Mode {
     Drill,
     Rout,

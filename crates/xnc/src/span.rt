@@ -3,7 +3,7 @@ ghost use Rattle.std.specs.Prelude.{◌≤◌};
 ghost use Rattle.board_shapes.specs.declared.TheConstants.{MOST_LAYERS};
 
 /// The layers that each barrel of a drill file joins, 1 <= from <= to <= `MOST_LAYERS`.
-#[derive(Clone, Copy, Debug, PartialEq, Eq)]
+#[derive(Clone, Copy)]
 pub struct Span {
     /// The first layer, from 1.
     pub from: u8,
