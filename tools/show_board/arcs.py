@@ -95,17 +95,25 @@ def arc_chain(centre, start, end, is_whole=False):
     turn = lambda p, q: cross(centre, p, q)
     chain = arc_points(centre, start, end, (least + most) // 2, is_whole)
     chain = chain if goes_once(turn, chain) else axis_points(centre, start, end, most, is_whole)
+    least, most = distances(centre, start, end)
+    return (chain, leaves(centre, chain, least, most)) if goes_once(turn, chain) else ([start, end], 2 * most + 1)
+
+
+def distances(centre, start, end):
+    """The least and the greatest distance from the centre that a curve may have, rounded outwards."""
+    near, far = sorted((dot(centre, start, start), dot(centre, end, end)))
     swing = cross(centre, start, end)
-    if swing < 0:
-        spread = (far - near) * (-swing // dot(start, end, end) + 1)
-        least, most = isqrt(max(near - spread, 0)), ceil_root(far + spread)
+    spread = (far - near) * (-swing // dot(start, end, end) + 1) if swing < 0 else 0
+    return isqrt(max(near - spread, 0)), ceil_root(far + spread)
+
+
+def leaves(centre, chain, least, most):
+    """By how much at most a chain is off any distance between both."""
     inner, outer = least, most
-    if not goes_once(turn, chain):
-        return [start, end], 2 * most + 1
     for p, q in zip(chain, chain[1:]):
         inner = min(inner, isqrt(cross(centre, p, q) ** 2 // dot(p, q, q)))
         outer = max(outer, ceil_root(dot(centre, q, q)))
-    return chain, max(outer - least, most - inner)
+    return max(outer - least, most - inner)
 
 
 def chain_bounds(chain, most, radius):
@@ -115,11 +123,15 @@ def chain_bounds(chain, most, radius):
     return [("capsule", a, b, low) for a, b in pairs if low > 0], [("capsule", a, b, high) for a, b in pairs if radius > 0]
 
 
+def is_loop(centre, start, end):
+    """Whether both ends are in one direction from the centre at two distances: a whole turn, or none."""
+    return dot(centre, start, start) != dot(centre, end, end) and cross(centre, start, end) == 0 <= dot(centre, start, end)
+
+
 def draw_bounds(centre, start, end, radius):
     """(chain, draws below and above) of a draw counterclockwise; as the checks of the crate `arcs` take them. Ends in one direction
     at two distances may be a whole turn apart or none: above is a whole turn, below nothing, and there is no chain."""
-    unlike = dot(centre, start, start) != dot(centre, end, end)
-    if unlike and cross(centre, start, end) == 0 <= dot(centre, start, end):
+    if is_loop(centre, start, end):
         return None, ([], chain_bounds(*arc_chain(centre, start, end, True), radius)[1])
     chain, most = arc_chain(centre, start, end)
     return chain, chain_bounds(chain, most, radius)

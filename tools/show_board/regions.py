@@ -7,7 +7,7 @@ them lies in it. Where all arcs are exact, contours within or round it that need
 from functools import lru_cache
 from typing import NamedTuple
 
-from .arcs import Arc, arc_chain, goes_once
+from .arcs import Arc, arc_chain, distances, goes_once, is_loop, leaves
 from .contours import contour_bound
 from .exact import Refused
 from .insets import eighth_chain, eighth_radius, inset
@@ -118,11 +118,12 @@ class Rounded(NamedTuple):
 
 class Walked:
     """The parts of a contour, with chains in place of arcs: `outline`, `spots` of that without edges of no length; `coarse` with chains of
-    eighth turns, and how far each of its edges is from its part at most."""
+    eighth turns, and how far each of its edges is from its part at most; `is_told` says that no arc may be none or a whole turn, `is_kept` that
+    the coarse chains are as near to their arcs as that."""
 
     def __init__(self, contour):
         self.outline, self.spots, self.coarse, self.parts = ([contour[0]] for _ in range(4))
-        self.keeps, self.wide, self.is_exact = [], [], True
+        self.keeps, self.wide, self.is_exact, self.is_told, self.is_kept = [], [], True, True, True
         for part in contour[1:]:
             if len(part) == 2 or part[0] is None:
                 self.go(part if len(part) == 2 else part[1])
@@ -141,14 +142,15 @@ class Walked:
         start = self.spots[-1]
         first, last = (start, end) if anticlockwise else (end, start)
         chain, most = arc_chain(centre, first, last)
-        is_even = dot(centre, start, start) == dot(centre, end, end)
-        self.is_exact = self.is_exact and is_even and goes_once(lambda p, q: cross(centre, p, q), chain)
+        self.is_told = self.is_told and not is_loop(centre, first, last) and goes_once(lambda p, q: cross(centre, p, q), chain)
+        self.is_exact = self.is_exact and self.is_told and dot(centre, start, start) == dot(centre, end, end)
         self.wide += [("capsule", a, b, most) for a, b in zip(chain, chain[1:])]
         chain, turns = (its if anticlockwise else its[::-1] for its in (chain, eighth_chain(centre, first, last)))
         self.outline += chain[1:]
         self.spots += [spot for k, spot in enumerate(chain[1:]) if spot != chain[k]]
         self.coarse += turns[1:]
         self.keeps += [eighth_radius(centre, start)] * (len(turns) - 1)
+        self.is_kept = self.is_kept and self.is_told and leaves(centre, turns, *distances(centre, first, last)) <= self.keeps[-1]
         self.parts.append((centre, start, end, anticlockwise))
 
     def bound(self, upper):
@@ -158,7 +160,7 @@ class Walked:
 
 @lru_cache(1000)
 def rounded_contour(contour, cuts, is_coarse):
-    """What lies within and round a contour with arcs. `between` reads one of at least three parts whose arcs are exact; it wants one area
+    """What lies within and round a contour with arcs. `between` reads one of at least three parts whose arcs are told; it wants one area
     within that is clear of its edges, or none."""
     it = Walked(contour)
     corners = it.spots[:-1]
@@ -166,9 +168,9 @@ def rounded_contour(contour, cuts, is_coarse):
         return Rounded((), it.spots, it.wide, False)
     if len(corners) < 3:
         return Rounded((), (), it.wide)
-    is_read = it.is_exact and len(contour) > 3
+    is_read = it.is_told and len(contour) > 3
     if is_read and is_coarse:
-        found = inset(it.coarse[:-1], it.keeps)
+        found = it.is_kept and inset(it.coarse[:-1], it.keeps)
         return Rounded((found,) if found else (), it.outline[:-1], it.wide, True, True)
     inner, outer = it.bound(False), it.bound(True) if cuts else None
     return Rounded((inner,) if inner else without(corners, it.wide), outer or corners, [] if outer else it.wide, True, is_read)

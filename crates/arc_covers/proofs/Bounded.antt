@@ -12,7 +12,7 @@ use Rattle.board_shapes.specs.declared.placed.Placed.{Placed}
 use Rattle.contact.specs.Solid.{SharePoint}
 use Rattle.covers.specs.Boards.{Layout, Span, TouchAt}
 use Rattle.covers.specs.Covering.{IsCovered}
-use Rattle.arc_regions.specs.Copper.{InRegion}
+use Rattle.arc_regions.specs.Copper.{PossiblyIn}
 use Rattle.covers.specs.Plain.{InPiece, layout_of, span_of}
 use Rattle.arc_covers.specs.Bounds.{AreBounds, HoldTogether, InSome, IsOn, StandFor, capsules_from, capsules_of, figures_of, share_of}
 use Rattle.covers.specs.Laws as covers
@@ -169,7 +169,7 @@ module _ (holds : ℕ → Point → Type 0) (real : Layout) (b : PlainBoard) (sp
   above_shape (Plain shape) copper same = above_one (figure_of shape) same (λ q h. (copper q).1 h)
   above_shape (ArcDraw arc) copper (chain, r, same, bound) = covered holds real (InPiece b) (layout_of b) span (pos r) some i first chain there (chain_at b span (pos r) first chain part at same on) (λ p h. bound p (copper.most p h))
   above_shape (Slanted line) copper (points, same, bound) = above_one (filled points) same (λ q h. bound q ((copper q).1 h))
-  above_shape (Region area) copper together = above_all (InRegion area.start area.parts.items) (λ q h. (copper q).1 h) together
+  above_shape (Region area) copper together = above_all (PossiblyIn area.start area.parts.items) (λ q h. copper.most q h) together
 
   below_shape : (shape : RealShape) → IsCopperOf shape (holds i) → StandFor Below shape (figures_of part) → (j : ℕ) → first ≤ j → j < first + length part → IsCovered (InPiece b) (layout_of b) holds real j
   below_shape (Plain shape) copper same j from to = below_one (figure_of shape) same (λ q h. (copper q).0 h) j from to
@@ -178,7 +178,7 @@ module _ (holds : ℕ → Point → Type 0) (real : Layout) (b : PlainBoard) (sp
   below_shape (Slanted line) copper (inl none) j from to = below_none none j from to
   below_shape (Slanted line) copper (inr (points, same, bound)) j from to = below_one (filled points) same (λ q h. (copper q).0 (bound q h)) j from to
   below_shape (Region area) copper (inl none) j from to = below_none none j from to
-  below_shape (Region area) copper (inr (points, same, bound)) j from to = below_one (filled points) same (λ q h. (copper q).0 (bound q h)) j from to
+  below_shape (Region area) copper (inr (points, same, bound)) j from to = below_one (filled points) same (λ q h. copper.least q (bound q h)) j from to
 
 -- ---- whole boards
 

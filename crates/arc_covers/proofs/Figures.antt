@@ -18,7 +18,6 @@ use Rattle.arcs.specs.Laws.{TakenIsBetween}
 use Rattle.slants.specs.Laws as slants
 use Rattle.slants.specs.declared.Slant.{Slant}
 use Rattle.arc_covers.specs.Bounds.{BoundRegion, IsBound, IsLineBound, IsOn, ContourFor, PiecesStandFor, StandFor, capsules_from, capsules_of, figures_of}
-use Rattle.arc_regions.specs.Copper.{InRegion}
 use Rattle.arc_regions.specs.declared.Region.{Region as Contour}
 use Rattle.arc_covers.specs.Taken.{IsLineTaken, IsTaken, PiecesAreTaken, RegionTaken, StandTaken}
 use Rattle.real_shapes.specs.declared.RealShape.{RealShape}
@@ -188,7 +187,7 @@ pub layers_refused : (side : Side) (real : Placed RealShape) (pieces : List (Pla
 layers_refused side real pieces b on is off told = (λ yes. absurd cc, λ t. let yes = told.1 (of_pieces (IsOn real.top real.bottom) pieces t.layers) in absurd cc)
 
 -- what is taken stands
-pub stands : (side : Side) (real : Placed RealShape) (pieces : List PlainPiece) → TakenIsBetween → slants.TakenIsBetween → ((side : Side) (area : Contour) (figures : List Figure) → RegionTaken side area figures → BoundRegion side (InRegion area.start area.parts.items) figures) → PiecesAreTaken side real pieces → PiecesStandFor side real pieces
+pub stands : (side : Side) (real : Placed RealShape) (pieces : List PlainPiece) → TakenIsBetween → slants.TakenIsBetween → ((side : Side) (area : Contour) (figures : List Figure) → RegionTaken side area figures → BoundRegion side area figures) → PiecesAreTaken side real pieces → PiecesStandFor side real pieces
 stands side real pieces law lines regions t = record { figures = by side real.shape t.figures; layers = t.layers }
   where
     bound : (side : Side) (arc : Arc) (chain : List Spot) (r : ℕ) → IsTaken side arc chain r → IsBound side arc chain (pos r)

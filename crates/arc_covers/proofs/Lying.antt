@@ -5,7 +5,7 @@ use Rattle.planar.specs.Plane.{IsPlaced, Point}
 use Rattle.planar.specs.declared.Frame.{Frame}
 use Rattle.planar.specs.declared.Spot.{Spot}
 use Rattle.board_shapes.specs.Figures.{Figure, InFigure, filled}
-use Rattle.arc_regions.specs.Copper.{InRegion}
+use Rattle.arc_regions.specs.Copper.{SurelyIn}
 use Rattle.arc_regions.specs.Laws.{TakenHolds, TakenLies}
 use Rattle.arc_regions.specs.Taken.{AreAround, StandsAs, parts_of}
 use Rattle.arc_regions.specs.declared.Part.{Part}
@@ -23,11 +23,11 @@ parts_same a [] = refl
 parts_same a (Straight b ∷ rest) = ap (λ (xs : List Part). Straight b ∷ xs) (parts_same b rest)
 parts_same a (Curved t ∷ rest) = ap (λ (xs : List Part). Curved t ∷ xs) (parts_same t.end rest)
 
-lying : (a : Spot) (parts : List Part) (figures : List Figure) → TakenLies → ContourFor Below (LiesBelow a parts) figures → ContourFor Below (λ points. (p : Point) → InFigure (filled points) p → InRegion a parts p) figures
+lying : (a : Spot) (parts : List Part) (figures : List Figure) → TakenLies → ContourFor Below (LiesBelow a parts) figures → ContourFor Below (λ points. (p : Point) → InFigure (filled points) p → SurelyIn a parts p) figures
 lying a parts figures law (inl none) = inl none
-lying a parts figures law (inr (points, same, (contour, taken))) = inr (points, same, λ p inside. subst (λ (xs : List Part). InRegion a xs p) (parts_same a parts) (law (frame_about a) a (by_eighths a parts) points p contour taken inside))
+lying a parts figures law (inr (points, same, (contour, taken))) = inr (points, same, λ p inside. subst (λ (xs : List Part). SurelyIn a xs p) (parts_same a parts) (law (frame_about a) a (by_eighths a parts) points p contour taken inside))
 
-pub bounded : TakenHolds → TakenLies → (side : Side) (area : Contour) (figures : List Figure) → RegionTaken side area figures → BoundRegion side (InRegion area.start area.parts.items) figures
+pub bounded : TakenHolds → TakenLies → (side : Side) (area : Contour) (figures : List Figure) → RegionTaken side area figures → BoundRegion side area figures
 bounded holds lies Below area figures taken = lying area.start area.parts.items figures lies taken
 bounded holds lies Above area figures taken = held area.start area.parts.items figures holds taken
 

@@ -9,7 +9,7 @@ use Rattle.contact.specs.Solid.{SharePoint}
 use Rattle.area_contact.specs.Contour.{OnEdge, SomeEdge, edges_from, end_from}
 use Rattle.arcs.specs.Copper.{InChain, InFrom}
 use Rattle.board_shapes.specs.Figures.{Figure, InFigure, filled, round}
-use Rattle.arc_regions.specs.Copper.{InRegion, end_of}
+use Rattle.arc_regions.specs.Copper.{PossiblyIn, end_of}
 use Rattle.arc_regions.specs.Laws.{TakenHolds}
 use Rattle.arc_regions.specs.Taken.{AreStretches, Chained, InCapsules, InLinks, StandsAs, behind_first, corners_behind, corners_by, parts_of}
 use Rattle.arc_regions.specs.declared.Bend.{Bend}
@@ -166,16 +166,16 @@ all_told z a (x ∷ rest) corners figures b = join (here_told a x b.spots b.thes
             (All-weaker (Touches (end_of x) b.later) (Touches a (b.spots ++ b.later))
             (λ f (s, in_f, on). (s, in_f, some_behind (OnEdge (at s)) a b.spots b.later (subst (λ (e : Spot). SomeEdge (OnEdge (at s)) (edges_from e b.later)) (sym h.ends) on))) b.more t.touch)
 
-pub held : (a : Spot) (parts : List Part) (figures : List Figure) → TakenHolds → RegionAbove a parts figures → HoldTogether (InRegion a parts) figures
+pub held : (a : Spot) (parts : List Part) (figures : List Figure) → TakenHolds → RegionAbove a parts figures → HoldTogether (PossiblyIn a parts) figures
 held a parts figures law h = by (all_told a a parts h.corners h.capsules h.along)
   where
-    by : AllTold a a parts h.corners h.capsules → HoldTogether (InRegion a parts) figures
+    by : AllTold a a parts h.corners h.capsules → HoldTogether (PossiblyIn a parts) figures
     by t = record {
       first = filled (a ∷ h.corners);
       rest = h.capsules;
       are = h.are;
       meet = All-weaker (Touches a h.corners) (λ f. SharePoint (InFigure (filled (a ∷ h.corners))) (InFigure f)) (λ f (s, in_f, on). record { point = at s; in_first = inl on; in_second = in_f }) h.capsules t.touch;
-      hold = λ p inside. subst (λ (fs : List Figure). InSome fs p) (sym h.are) (all p (law a t.xs p (record { start = h.start; parts = t.stretches }) (subst (λ (ps : List Part). InRegion a ps p) (sym t.parts_are) inside)));
+      hold = λ p inside. subst (λ (fs : List Figure). InSome fs p) (sym h.are) (all p (law a t.xs p (record { start = h.start; parts = t.stretches }) (subst (λ (ps : List Part). PossiblyIn a ps p) (sym t.parts_are) inside)));
     }
       where
         all : (p : Point) → InFigure (filled (a ∷ corners_behind t.xs)) p ⊎ InCapsules t.xs p → InFigure (filled (a ∷ h.corners)) p ⊎ InSome h.capsules p

@@ -10,7 +10,8 @@ use Rattle.arcs.specs.declared.Arc.{Arc}
 use Rattle.real_shapes.specs.declared.RealShape.{RealShape}
 use Rattle.real_shapes.specs.declared.RealShape.TheVariants.{Plain, ArcDraw, Slanted, Region}
 use Rattle.slants.specs.Copper.{InSlant}
-use Rattle.arc_regions.specs.Copper.{InRegion}
+use Rattle.arc_regions.specs.Copper.{PossiblyIn, SurelyIn}
+use Rattle.arc_regions.specs.declared.Region.{Region as Contour}
 use Rattle.contact.specs.Solid.{SharePoint}
 use Rattle.slants.specs.declared.Slant.{Slant}
 use Rattle.arc_covers.specs.declared.side.Side.{Side}
@@ -57,10 +58,10 @@ pub record HoldTogether (P : Point → Type 0) (figures : List Figure) : Type 0 
   pub meet : All (λ f. SharePoint (InFigure first) (InFigure f)) rest
   pub hold : (p : Point) → P p → InSome figures p
 
--- below they are one contour that lies in the region, or none; above they hold it
-abbrev pub BoundRegion : Side → (Point → Type 0) → List Figure → Type 0
-BoundRegion Below P figures = ContourFor Below (λ points. (p : Point) → InFigure (filled points) p → P p) figures
-BoundRegion Above P figures = HoldTogether P figures
+-- below they are one contour that lies in the region whatever curves its arcs are, or none; above they hold it by any curves
+abbrev pub BoundRegion : Side → Contour → List Figure → Type 0
+BoundRegion Below area figures = ContourFor Below (λ points. (p : Point) → InFigure (filled points) p → SurelyIn area.start area.parts.items p) figures
+BoundRegion Above area figures = HoldTogether (PossiblyIn area.start area.parts.items) figures
 
 -- for a figure stands the figure itself, for an arc draw the capsules of one chain of one radius that is a bound: below it maybe none; for a slanted line one contour that is: below it maybe none;
 -- for a region below one contour that lies in it or none, above figures that hold it together
@@ -68,7 +69,7 @@ abbrev pub StandFor : Side → RealShape → List Figure → Type 0
 StandFor side (Plain shape) figures = figures ≡ figure_of shape ∷ []
 StandFor side (ArcDraw arc) figures = (chain : List Spot) × (r : ℕ) × (figures ≡ capsules_of chain (pos r)) × IsBound side arc chain (pos r)
 StandFor side (Slanted line) figures = ContourFor side (IsLineBound side line) figures
-StandFor side (Region area) figures = BoundRegion side (InRegion area.start area.parts.items) figures
+StandFor side (Region area) figures = BoundRegion side area figures
 
 -- the figures of the pieces
 abbrev pub figures_of : List PlainPiece → List Figure

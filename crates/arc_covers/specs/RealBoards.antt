@@ -8,14 +8,14 @@ use Rattle.covers.specs.Boards.{Layout, Span}
 use Rattle.real_shapes.specs.declared.RealShape.{RealShape}
 use Rattle.real_shapes.specs.declared.RealShape.TheVariants.{Plain, ArcDraw, Slanted, Region}
 use Rattle.slants.specs.Copper.{InSlant}
-use Rattle.arc_regions.specs.Copper.{InRegion}
+use Rattle.arc_regions.specs.Copper as regions
 
--- the points are those of the figure, a copper of the arc draw, or those of the slanted line or the region
+-- the points are those of the figure or the slanted line, or a copper of the arc draw or the region
 abbrev pub IsCopperOf : RealShape → (Point → Type 0) → Type 0
 IsCopperOf (Plain shape) holds = (p : Point) → InFigure (figure_of shape) p ↔ holds p
 IsCopperOf (ArcDraw arc) holds = IsCopper arc holds
 IsCopperOf (Slanted line) holds = (p : Point) → InSlant line p ↔ holds p
-IsCopperOf (Region area) holds = (p : Point) → InRegion area.start area.parts.items p ↔ holds p
+IsCopperOf (Region area) holds = regions.IsCopper area.start area.parts.items holds
 
 -- the layers of the piece
 abbrev pub real_span : Placed RealShape → Span

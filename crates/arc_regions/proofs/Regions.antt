@@ -1,44 +1,34 @@
 -- A whole contour, part by part.
 use Rattle.std.proofs.Common.{ℕ, ◌-◌, ◌/◌, Bool, true, false, IsTrue, List, [], ◌∷◌, ◌++◌, reverse, All, ◌≡◌, ◌↔◌, ◌⊎◌, inl, inr, ℤ, pos, ◌+ℤ◌, ◌-ℤ◌, ◌*ℤ◌, ◌≤ℤ◌, arith, refl, sym, ap, ◌∙◌, subst}
-use Rattle.std.proofs.lemmas.Int.{ints}
 use Rattle.std.proofs.lemmas.List.{reverse-append}
 use Rattle.std.proofs.lemmas.List.Elements.{All-head, All-tail}
 use Rattle.planar.specs.declared.Spot.{Spot}
 use Rattle.planar.specs.declared.Frame.{Frame}
-use Rattle.planar.specs.declared.TheConstants.{METRE}
 use Rattle.planar.specs.Plane.{InCapsule, IsPlaced, Point, at, dot_of, square}
-use Rattle.planar.proofs.Ring.{ring, linear, square_from_zero, over_zero}
+use Rattle.planar.proofs.Ring.{ring, linear, square_from_zero, times_mono}
 use Rattle.planar.proofs.EdgeLaw.{xor}
 use Rattle.area_contact.specs.declared.Edge.{Edge}
 use Rattle.area_contact.specs.Parity.{crossed, crossed_is, odd, odd_is, one_is, passes, xor-comm}
 use Rattle.area_contact.specs.Contour.{InArea, OnEdge, SomeEdge, edges_from, edges_of, end_from}
 use Rattle.area_contact.proofs.Hits.{on_turned}
-use Rattle.arcs.specs.Copper.{InChain, InFrom, InTurn, inmost, outmost, reach_of, unlike}
-use Rattle.arcs.specs.Chains.{EachFrom, EndsAt, HasRoom}
-use Rattle.arcs.specs.Laws.{PossiblyOfEach, TakenIsBetween}
+use Rattle.arcs.specs.Copper.{InChain, InFrom, Possibly, inmost, outmost, reach_of}
+use Rattle.arcs.specs.Chains.{EachFrom, EndsAt, HasRoom, IsRoom}
+use Rattle.arcs.specs.Laws.{TakenIsBetween}
 use Rattle.arcs.specs.Taken.{TakenAbove as ChainAbove}
 use Rattle.arcs.specs.declared.Arc.{Arc}
-use Rattle.arcs.proofs.Radii.{inmost_is, outmost_is, unlike_none}
-use Rattle.arcs.proofs.Vectors.{norm_some}
-use Rattle.arc_regions.specs.Copper.{InRegion, InSegment, IsOver, OddOver, OnBorder, OnCircle, OnPart, end_of}
+use Rattle.arcs.proofs.Radii.{end_over, end_under, start_over, start_under}
+use Rattle.arc_regions.specs.Copper.{InBand, InSector, IsOver, OddOver, OnSomeCurve, PossiblyIn, SomePart, SurelyIn, arc_of, end_of}
 use Rattle.arc_regions.specs.Laws.{TakenHolds, TakenLies}
 use Rattle.arc_regions.specs.Taken.{AreAround, AreClear, AreStretches, Chained, InCapsules, IsClear, IsPartClear, InLinks, StandsAs, StandsFor, behind_first, corners_behind, corners_by, odd_part, odd_past, odd_round, parts_of}
 use Rattle.arc_regions.specs.declared.Part.{Part}
 use Rattle.arc_regions.specs.declared.Part.TheVariants.{Straight, Curved}
 use Rattle.arc_regions.proofs.Edges.{end_append, some_before, some_behind}
-use Rattle.arc_regions.proofs.Shifted.{IsNarrow}
-use Rattle.arc_regions.proofs.Fans.{ArePlaced, first_two, or-swap}
+use Rattle.arc_regions.proofs.Fans.{ArePlaced, or-swap}
 use Rattle.arc_regions.proofs.Inside.{all_inside}
-use Rattle.arc_regions.proofs.Sectors.{arc_told, false-back, segment, segment_is}
+use Rattle.arc_regions.proofs.Margin.{margin, margin_from, narrow}
+use Rattle.arc_regions.proofs.Sectors.{Told as SectorTold, arc_told, false-back, rotate, xor-assoc}
 
 -- ---- rows of edges
-
-xor-assoc : (a b c : Bool) → xor (xor a b) c ≡ xor a (xor b c)
-xor-assoc true true true = refl
-xor-assoc true true false = refl
-xor-assoc true false true = refl
-xor-assoc true false false = refl
-xor-assoc false b c = refl
 
 odd_append : (a : Spot) (xs ys : List Spot) (x y n : ℤ) → odd (edges_from a (xs ++ ys)) x y n ≡ xor (odd (edges_from a xs) x y n) (odd (edges_from (end_from a xs) ys) x y n)
 odd_append a [] ys x y n = refl
@@ -81,17 +71,6 @@ walked_back a (b ∷ rest) x y n = let w = walked_back b rest x y n in record {
     last z (inl h) = h
     last z (inr h) = absurd h
 
--- ---- the margin
-
-abbrev margin : ℤ
-margin = pos METRE +ℤ pos METRE +ℤ pos 2
-
-margin_from : pos 2 ≤ℤ margin
-margin_from = omega (arith, ints)
-
-narrow : (a b : Spot) → IsPlaced a → IsPlaced b → IsNarrow margin a b
-narrow a b h k = record { right = omega (arith, linear, h.0.0, h.0.1, k.0.0, k.0.1); left = omega (arith, linear, h.0.0, h.0.1, k.0.0, k.0.1); up = omega (arith, linear, h.1.0, h.1.1, k.1.0, k.1.1); down = omega (arith, linear, h.1.0, h.1.1, k.1.0, k.1.1) }
-
 each_placed : (xs : List Spot) → All IsPlaced xs → ArePlaced xs
 each_placed [] h = tt
 each_placed (a ∷ rest) h = (All-head IsPlaced a rest h, each_placed rest (All-tail IsPlaced a rest h))
@@ -102,13 +81,9 @@ ends_from e a (b ∷ rest) h = ends_from e b rest h
 
 -- ---- an arc and its chain, counterclockwise from s to e
 
-module _ (p : Point) (possible : PossiblyOfEach) (between : TakenIsBetween) (c s e : Spot) (chain : List Spot) (r : ℕ) (even : dot_of c s s ≡ dot_of c e e)
-    (above : ChainAbove (record { centre = c; start = s; end = e; width = 0 }) chain r) (turns : IsTrue (odd_round c chain) ↔ (s ≡ e)) where
+module _ (p : Point) (between : TakenIsBetween) (c s e : Spot) (chain : List Spot) (r : ℕ) (above : ChainAbove (record { centre = c; start = s; end = e; width = 0 }) chain r) where
   abbrev arc : Arc
   arc = record { centre = c; start = s; end = e; width = 0 }
-
-  one : unlike arc ≡ pos 0
-  one = unlike_none arc even
 
   placed : ArePlaced (s ∷ above.second ∷ above.rest)
   placed = each_placed (s ∷ above.second ∷ above.rest) (subst (λ (l : List Spot). All IsPlaced l) above.is above.judged.spots)
@@ -116,42 +91,64 @@ module _ (p : Point) (possible : PossiblyOfEach) (between : TakenIsBetween) (c s
   last : end_from above.second above.rest ≡ e
   last = ends_from e above.second above.rest above.ends
 
-  room : HasRoom (dot_of c s s) (dot_of c s s) above.near above.far (pos r)
-  room = subst (λ (z : ℤ). HasRoom z (dot_of c s s) above.near above.far (pos r)) (inmost_is arc one)
-      (subst (λ (z : ℤ). HasRoom (inmost arc) z above.near above.far (pos r)) (outmost_is arc one) (subst (λ (n : ℕ). HasRoom (inmost arc) (outmost arc) above.near above.far (pos n)) less above.room))
+  room : HasRoom (inmost arc) (outmost arc) above.near above.far (pos r)
+  room = subst (λ (n : ℕ). HasRoom (inmost arc) (outmost arc) above.near above.far (pos n)) less above.room
     where
       less : r - (0 - 0 / 2) ≡ r
       less = omega arith
 
-  turns' : IsTrue (odd_past c s s (above.second ∷ above.rest)) ↔ (s ≡ e)
-  turns' = subst (λ (l : List Spot). IsTrue (odd_round c l) ↔ (s ≡ e)) above.is turns
+  -- so of each distance
+  room_of : (f : ℤ) → inmost arc ≤ℤ f → f ≤ℤ outmost arc → IsRoom f f room.least room.most above.near above.far (pos r)
+  room_of f from to = record {
+    least_from = room.room.least_from;
+    most_from = room.room.most_from;
+    near_from = room.room.near_from;
+    far_from = room.room.far_from;
+    k_from = room.room.k_from;
+    least_is = omega (arith, linear, room.room.least_is, from);
+    most_is = omega (arith, linear, room.room.most_is, to);
+    near_is = room.room.near_is;
+    far_is = room.room.far_is;
+  }
 
   in_chain : InFrom s (above.second ∷ above.rest) (pos r) p → InChain chain (pos r) p
   in_chain h = subst (λ (l : List Spot). InChain l (pos r) p) (sym above.is) h
 
-  abbrev in_segment : Bool
-  in_segment = segment margin margin_from narrow p c above.judged.placed.centre (dot_of c s s) s e above.judged.placed.start above.judged.placed.end refl (sym even)
+  -- the sector of a distance as a test: where the point is in no capsule, the chain is told by it
+  record ChainTold (f : ℤ) : Type 0 where
+    sector : Bool
+    sector_is : IsTrue sector ↔ InSector c s e f p
+    same : (odd (edges_from s (above.second ∷ above.rest)) p.x p.y p.n ≡ xor (crossed (record { start = c; end = s }) p.x p.y p.n) (xor (crossed (record { start = c; end = e }) p.x p.y p.n) sector)) ⊎ InChain chain (pos r) p
 
-  in_segment_is : IsTrue in_segment ↔ InSegment c s e p
-  in_segment_is = segment_is margin margin_from narrow p c above.judged.placed.centre (dot_of c s s) s e above.judged.placed.start above.judged.placed.end refl (sym even)
-
-  chain_told : (odd (edges_from s (above.second ∷ above.rest)) p.x p.y p.n ≡ xor (crossed (record { start = s; end = e }) p.x p.y p.n) in_segment) ⊎ InChain chain (pos r) p
-  chain_told = elim (arc_told margin margin_from narrow p c above.judged.placed.centre (dot_of c s s) s e above.judged.placed.start above.judged.placed.end refl (sym even) room.least room.most above.near above.far (pos r) room.room
-      above.second above.rest placed.1.0 placed.1.1 above.links last turns') [ inl h ↦ inl h | inr h ↦ inr (in_chain h) ]
-
-  r_some : pos 1 ≤ℤ dot_of c s s
-  r_some = norm_some (s.x -ℤ c.x) (s.y -ℤ c.y) (λ zx zy. first_two c s above.second above.links.0.0.left (omega (arith, linear, zx)) (omega (arith, linear, zy)))
-
-  border_told : OnCircle c s p → InTurn c s e p → InChain chain (pos r) p
-  border_told on turn = (between arc chain r p).1 above (possible arc (dot_of c s s) p (omega (arith, linear, inmost_is arc one)) (omega (arith, linear, outmost_is arc one)) off turn (ring_by (dot_of c s s) (reach_of c p) on))
+  chain_told : IsTrue (odd_round c chain) ↔ (s ≡ e) → (f : ℤ) → inmost arc ≤ℤ f → f ≤ℤ outmost arc → ChainTold f
+  chain_told turns f from to = by (arc_told margin margin_from narrow p c s e above.judged.placed.centre above.judged.placed.start above.judged.placed.end f room.least room.most above.near above.far (pos r) (room_of f from to) above.second above.rest placed.1.0 placed.1.1 above.links last turns')
     where
-      off : pos 1 ≤ℤ reach_of c p
-      off = rw on (over_zero (square p.n) (dot_of c s s) (over_zero p.n p.n p.positive p.positive) r_some)
+      turns' : IsTrue (odd_past c s s (above.second ∷ above.rest)) ↔ (s ≡ e)
+      turns' = subst (λ (l : List Spot). IsTrue (odd_round c l) ↔ (s ≡ e)) above.is turns
 
-      ring_by : (d q : ℤ) → q ≡ square p.n *ℤ d →
-          (((square (pos 2) *ℤ q -ℤ square (pos 2) *ℤ (square p.n *ℤ d)) -ℤ square (p.n *ℤ pos 0)) ≤ℤ pos 0 ⊎ (square ((square (pos 2) *ℤ q -ℤ square (pos 2) *ℤ (square p.n *ℤ d)) -ℤ square (p.n *ℤ pos 0)) ≤ℤ (square (p.n *ℤ pos 0 +ℤ p.n *ℤ pos 0) *ℤ (square (pos 2) *ℤ (square p.n *ℤ d)))))
-          × (((square (pos 2) *ℤ (square p.n *ℤ d) -ℤ square (pos 2) *ℤ q) -ℤ square (p.n *ℤ pos 0)) ≤ℤ pos 0 ⊎ (square ((square (pos 2) *ℤ (square p.n *ℤ d) -ℤ square (pos 2) *ℤ q) -ℤ square (p.n *ℤ pos 0)) ≤ℤ (square (p.n *ℤ pos 0 +ℤ p.n *ℤ pos 0) *ℤ (square (pos 2) *ℤ q))))
-      ring_by d q h = rw h (inl (omega (arith, linear, square_from_zero (p.n *ℤ pos 0))), inl (omega (arith, linear, square_from_zero (p.n *ℤ pos 0))))
+      by : SectorTold margin margin_from narrow p c s e above.judged.placed.centre above.judged.placed.start above.judged.placed.end f room.least room.most above.near above.far (pos r) (room_of f from to) above.second above.rest placed.1.0 placed.1.1 above.links last → ChainTold f
+      by t = record { sector = t.sector; sector_is = t.sector_is; same = elim t.same [ inl h ↦ inl h | inr h ↦ inr (in_chain h) ] }
+
+  -- what may be on a curve lies in the capsules
+  border_told : InBand (inmost arc) (outmost arc) arc p → InChain chain (pos r) p
+  border_told (turn, from, to) = (between arc chain r p).1 above possible
+    where
+      possible : Possibly arc p
+      possible meant k some = record {
+        place = p;
+        turn = inl turn;
+        ring = (inl (longer (square k) (square p.n *ℤ outmost arc) (reach_of c p) (p.n *ℤ pos 1) (square_from_zero k) to), inl (longer (square k) (reach_of c p) (square p.n *ℤ inmost arc) (p.n *ℤ pos 1) (square_from_zero k) from));
+        near = omega (arith, linear, nothing (pos 2 *ℤ k) (p.n *ℤ p.x) (p.n *ℤ p.y), square_from_zero (p.n *ℤ p.n *ℤ (k *ℤ pos 0 +ℤ pos 2)));
+      }
+        where
+          longer : (m a b w : ℤ) → pos 0 ≤ℤ m → b ≤ℤ a → (m *ℤ b -ℤ m *ℤ a -ℤ square w) ≤ℤ pos 0
+          longer m a b w from h = omega (arith, linear, times_mono m b a from h, square_from_zero w)
+
+          nothing : (m x y : ℤ) → square m *ℤ (square (x -ℤ x) +ℤ square (y -ℤ y)) ≡ pos 0
+          nothing m x y =
+              let ex : x -ℤ x ≡ pos 0 = omega (arith, linear) in
+              let ey : y -ℤ y ≡ pos 0 = omega (arith, linear) in
+              rw (ex, ey) (simp ring)
 
 -- ---- a part
 
@@ -162,34 +159,49 @@ record Told (p : Point) (a : Spot) (part : Part) (chain : List Spot) (r : ℕ) :
   over : Bool
   over_is : IsTrue over ↔ IsOver a part p
   same : (odd (edges_from a (corners_by part chain)) p.x p.y p.n ≡ over) ⊎ InLinks part chain r p
-  border : OnPart a part p → SomeEdge (OnEdge p) (edges_from a (corners_by part chain)) ⊎ InLinks part chain r p
+  border : OnSomeCurve a part p → SomeEdge (OnEdge p) (edges_from a (corners_by part chain)) ⊎ InLinks part chain r p
 
-module _ (p : Point) (possible : PossiblyOfEach) (between : TakenIsBetween) where
+module _ (p : Point) (between : TakenIsBetween) where
   curved : (a c b : Spot) (w : Bool) (chain : List Spot) (r : ℕ) → StandsFor a (record { centre = c; end = b; counterclockwise = w }) chain r → Told p a (Curved (record { centre = c; end = b; counterclockwise = w })) chain r
-  curved a c b true chain r h =
-      let corners : corners_by (Curved (record { centre = c; end = b; counterclockwise = true })) chain ≡ h.above.second ∷ h.above.rest = ap (λ (l : List Spot). corners_by (Curved (record { centre = c; end = b; counterclockwise = true })) l) h.above.is in record {
+  curved a c b true chain r h = by (chain_told p between c a b chain r h.above h.turns (dot_of c a a) (start_over (arc_of a (record { centre = c; end = b; counterclockwise = true }))) (start_under (arc_of a (record { centre = c; end = b; counterclockwise = true }))))
+    where
+      corners : corners_by (Curved (record { centre = c; end = b; counterclockwise = true })) chain ≡ h.above.second ∷ h.above.rest
+      corners = ap (λ (l : List Spot). corners_by (Curved (record { centre = c; end = b; counterclockwise = true })) l) h.above.is
+
+      by : ChainTold p between c a b chain r h.above (dot_of c a a) → Told p a (Curved (record { centre = c; end = b; counterclockwise = true })) chain r
+      by t = record {
         placed = h.above.judged.placed.end;
         ends = ap (λ (l : List Spot). end_from a l) corners ∙ ends_from b h.above.second h.above.rest h.above.ends;
-        over = xor (crossed (record { start = a; end = b }) p.x p.y p.n) (in_segment p possible between c a b chain r h.even h.above h.turns);
-        over_is = one_is (crossed (record { start = a; end = b }) p.x p.y p.n) (in_segment p possible between c a b chain r h.even h.above h.turns) (crossed_is (record { start = a; end = b }) p) (in_segment_is p possible between c a b chain r h.even h.above h.turns);
-        same = subst (λ (l : List Spot). (odd (edges_from a l) p.x p.y p.n ≡ xor (crossed (record { start = a; end = b }) p.x p.y p.n) (in_segment p possible between c a b chain r h.even h.above h.turns)) ⊎ InChain chain (pos r) p) (sym corners)
-            (chain_told p possible between c a b chain r h.even h.above h.turns);
-        border = λ on. inr (border_told p possible between c a b chain r h.even h.above h.turns on.0 on.1);
+        over = xor (crossed (record { start = c; end = a }) p.x p.y p.n) (xor (crossed (record { start = c; end = b }) p.x p.y p.n) t.sector);
+        over_is = one_is (crossed (record { start = c; end = a }) p.x p.y p.n) (xor (crossed (record { start = c; end = b }) p.x p.y p.n) t.sector) (crossed_is (record { start = c; end = a }) p)
+            (one_is (crossed (record { start = c; end = b }) p.x p.y p.n) t.sector (crossed_is (record { start = c; end = b }) p) t.sector_is);
+        same = subst (λ (l : List Spot). (odd (edges_from a l) p.x p.y p.n ≡ xor (crossed (record { start = c; end = a }) p.x p.y p.n) (xor (crossed (record { start = c; end = b }) p.x p.y p.n) t.sector)) ⊎ InChain chain (pos r) p) (sym corners) t.same;
+        border = λ on. inr (border_told p between c a b chain r h.above (on (h.above.judged.meant, h.turn)));
       }
-  curved a c b false chain r h =
-      let w = walked_back b (h.above.second ∷ h.above.rest) p.x p.y p.n in
-      let last : end_from h.above.second h.above.rest ≡ a = ends_from a h.above.second h.above.rest h.above.ends in
-      let corners : corners_by (Curved (record { centre = c; end = b; counterclockwise = false })) chain ≡ w.others = ap (λ (l : List Spot). corners_by (Curved (record { centre = c; end = b; counterclockwise = false })) l) h.above.is ∙ ap behind_first w.is in record {
+  curved a c b false chain r h = by (chain_told p between c b a chain r h.above h.turns (dot_of c a a) (end_over (arc_of a (record { centre = c; end = b; counterclockwise = false }))) (end_under (arc_of a (record { centre = c; end = b; counterclockwise = false }))))
+    where
+      w : Back b (h.above.second ∷ h.above.rest) p.x p.y p.n
+      w = walked_back b (h.above.second ∷ h.above.rest) p.x p.y p.n
+
+      last : end_from h.above.second h.above.rest ≡ a
+      last = ends_from a h.above.second h.above.rest h.above.ends
+
+      corners : corners_by (Curved (record { centre = c; end = b; counterclockwise = false })) chain ≡ w.others
+      corners = ap (λ (l : List Spot). corners_by (Curved (record { centre = c; end = b; counterclockwise = false })) l) h.above.is ∙ ap behind_first w.is
+
+      by : ChainTold p between c b a chain r h.above (dot_of c a a) → Told p a (Curved (record { centre = c; end = b; counterclockwise = false })) chain r
+      by t = record {
         placed = h.above.judged.placed.start;
         ends = ap (λ (l : List Spot). end_from a l) corners ∙ ap (λ (z : Spot). end_from z w.others) (sym last) ∙ w.ends;
-        over = xor (crossed (record { start = a; end = b }) p.x p.y p.n) (in_segment p possible between c b a chain r (sym h.even) h.above h.turns);
-        over_is = one_is (crossed (record { start = a; end = b }) p.x p.y p.n) (in_segment p possible between c b a chain r (sym h.even) h.above h.turns) (crossed_is (record { start = a; end = b }) p) (in_segment_is p possible between c b a chain r (sym h.even) h.above h.turns);
-        same = elim (chain_told p possible between c b a chain r (sym h.even) h.above h.turns) [
+        over = xor (crossed (record { start = c; end = a }) p.x p.y p.n) (xor (crossed (record { start = c; end = b }) p.x p.y p.n) t.sector);
+        over_is = one_is (crossed (record { start = c; end = a }) p.x p.y p.n) (xor (crossed (record { start = c; end = b }) p.x p.y p.n) t.sector) (crossed_is (record { start = c; end = a }) p)
+            (one_is (crossed (record { start = c; end = b }) p.x p.y p.n) t.sector (crossed_is (record { start = c; end = b }) p) t.sector_is);
+        same = elim t.same [
           | inr k ↦ inr k
           | inl k ↦ inl (ap (λ (l : List Spot). odd (edges_from a l) p.x p.y p.n) corners ∙ ap (λ (z : Spot). odd (edges_from z w.others) p.x p.y p.n) (sym last) ∙ w.same ∙ k
-              ∙ ap (λ (z : Bool). xor z (in_segment p possible between c b a chain r (sym h.even) h.above h.turns)) (or-swap (passes b a p.x p.y p.n) (passes a b p.x p.y p.n)))
+              ∙ rotate (crossed (record { start = c; end = b }) p.x p.y p.n) (crossed (record { start = c; end = a }) p.x p.y p.n) t.sector)
         ];
-        border = λ on. inr (border_told p possible between c b a chain r (sym h.even) h.above h.turns (on.0 ∙ ap (λ (z : ℤ). square p.n *ℤ z) h.even) on.1);
+        border = λ on. inr (border_told p between c b a chain r h.above (on (h.above.judged.meant, h.turn)));
       }
 
   part_told : (a : Spot) (part : Part) (chain : List Spot) (r : ℕ) → StandsAs a part chain r → Told p a part chain r
@@ -209,7 +221,7 @@ module _ (p : Point) (possible : PossiblyOfEach) (between : TakenIsBetween) wher
     over : Bool
     over_is : IsTrue over ↔ OddOver a (parts_of xs) p
     same : (odd (edges_from a (corners_behind xs)) p.x p.y p.n ≡ over) ⊎ InCapsules xs p
-    border : OnBorder a (parts_of xs) p → SomeEdge (OnEdge p) (edges_from a (corners_behind xs)) ⊎ InCapsules xs p
+    border : SomePart OnSomeCurve a (parts_of xs) p → SomeEdge (OnEdge p) (edges_from a (corners_behind xs)) ⊎ InCapsules xs p
 
   all_told : (z a : Spot) (xs : List Chained) → AreStretches z a xs → AllTold a xs
   all_told z a [] h = record { over = false; over_is = (none, absurd); same = inl refl; border = absurd }
@@ -234,17 +246,17 @@ module _ (p : Point) (possible : PossiblyOfEach) (between : TakenIsBetween) wher
         border = on;
       }
         where
-          on : OnBorder a (parts_of (x ∷ rest)) p → SomeEdge (OnEdge p) (edges_from a (corners_behind (x ∷ rest))) ⊎ InCapsules (x ∷ rest) p
+          on : SomePart OnSomeCurve a (parts_of (x ∷ rest)) p → SomeEdge (OnEdge p) (edges_from a (corners_behind (x ∷ rest))) ⊎ InCapsules (x ∷ rest) p
           on (inl k) = elim (t.border k) [ inl l ↦ inl (some_before (OnEdge p) a (corners_by x.part x.chain) (corners_behind rest) l) | inr l ↦ inr (inl l) ]
           on (inr k) = elim (o.border k) [
             | inl l ↦ inl (some_behind (OnEdge p) a (corners_by x.part x.chain) (corners_behind rest) (subst (λ (s : Spot). SomeEdge (OnEdge p) (edges_from s (corners_behind rest))) (sym t.ends) l))
             | inr l ↦ inr (inr l)
           ]
 
-pub taken_holds : PossiblyOfEach → TakenIsBetween → TakenHolds
-taken_holds possible between a xs p taken inside = by (all_told p possible between a a xs taken.parts) inside
+pub taken_holds : TakenIsBetween → TakenHolds
+taken_holds between a xs p taken inside = by (all_told p between a a xs taken.parts) inside
   where
-    by : AllTold p possible between a xs → InRegion a (parts_of xs) p → InArea (edges_from a (corners_behind xs)) p ⊎ InCapsules xs p
+    by : AllTold p between a xs → PossiblyIn a (parts_of xs) p → InArea (edges_from a (corners_behind xs)) p ⊎ InCapsules xs p
     by t (inl on) = elim (t.border on) [ inl h ↦ inl (inl h) | inr h ↦ inr h ]
     by t (inr over) = elim t.same [ inl h ↦ inl (inr ((odd_is (edges_from a (corners_behind xs)) p).0 (h ∙ t.over_is.1 over))) | inr h ↦ inr h ]
 
@@ -313,10 +325,10 @@ module _ (frame : Frame) (points : List Spot) where
     links : (p : Point) → InArea (edges_of points) p → InCapsules xs p → ⊥
     inside : IsTrue (xor o (odd (edges_from a (corners_behind xs)) q.x q.y (pos 1)))
 
-  all_clear : (possible : PossiblyOfEach) (between : TakenIsBetween) (z q : Spot) (o : Bool) (a : Spot) (xs : List Chained) → AreAround frame points z q o a xs → AllClear z q o a xs
-  all_clear possible between z q o a [] h = record { stretches = h.0; ends = h.0; edges = λ p inside on. on; links = λ p inside on. on; inside = false-back o ∙ h.1 }
-  all_clear possible between z q o a (x ∷ rest) h =
-      join (part_told (at q) possible between a x.part x.chain x.radius h.0.0) (part_clear a x.part x.chain x.radius q h.0.0 h.0.1) (all_clear possible between z q (xor o (odd_part q a x.part x.chain)) (end_of x.part) rest h.1)
+  all_clear : (between : TakenIsBetween) (z q : Spot) (o : Bool) (a : Spot) (xs : List Chained) → AreAround frame points z q o a xs → AllClear z q o a xs
+  all_clear between z q o a [] h = record { stretches = h.0; ends = h.0; edges = λ p inside on. on; links = λ p inside on. on; inside = false-back o ∙ h.1 }
+  all_clear between z q o a (x ∷ rest) h =
+      join (part_told (at q) between a x.part x.chain x.radius h.0.0) (part_clear a x.part x.chain x.radius q h.0.0 h.0.1) (all_clear between z q (xor o (odd_part q a x.part x.chain)) (end_of x.part) rest h.1)
     where
       join : Told (at q) a x.part x.chain x.radius → Clear points a x.part x.chain x.radius q → AllClear z q (xor o (odd_part q a x.part x.chain)) (end_of x.part) rest → AllClear z q o a (x ∷ rest)
       join t c r = record {
@@ -334,16 +346,19 @@ module _ (frame : Frame) (points : List Spot) where
             ∙ sym (xor-assoc o (odd_part q a x.part x.chain) (odd (edges_from (end_of x.part) (corners_behind rest)) q.x q.y (pos 1))) ∙ r.inside;
       }
 
-pub taken_lies : PossiblyOfEach → TakenIsBetween → TakenLies
-taken_lies possible between frame a xs [] p contour taken (inl h) = absurd h
-taken_lies possible between frame a xs [] p contour taken (inr h) = absurd h
-taken_lies possible between frame a xs (b ∷ rest) p contour taken inside = by (all_clear frame (b ∷ rest) possible between a b false a xs taken.parts)
+pub taken_lies : TakenIsBetween → TakenLies
+taken_lies between frame a xs [] p contour taken (inl h) = absurd h
+taken_lies between frame a xs [] p contour taken (inr h) = absurd h
+taken_lies between frame a xs (b ∷ rest) p contour taken inside = by (all_clear frame (b ∷ rest) between a b false a xs taken.parts)
   where
-    by : AllClear frame (b ∷ rest) a b false a xs → InRegion a (parts_of xs) p
-    by t = told (all_told p possible between a a xs t.stretches)
+    by : AllClear frame (b ∷ rest) a b false a xs → SurelyIn a (parts_of xs) p
+    by t = told (all_told p between a a xs t.stretches)
       where
         odd_here : IsTrue (odd (edges_from a (corners_behind xs)) p.x p.y p.n)
         odd_here = all_inside a (corners_behind xs) b rest t.ends contour.closed (λ z on h. t.edges z h on) t.inside p inside
 
-        told : AllTold p possible between a xs → InRegion a (parts_of xs) p
-        told o = elim o.same [ inl h ↦ inr (o.over_is.0 (sym h ∙ odd_here)) | inr h ↦ absurd (t.links p inside h) ]
+        told : AllTold p between a xs → SurelyIn a (parts_of xs) p
+        told o = elim o.same [
+          | inl h ↦ inr (o.over_is.0 (sym h ∙ odd_here), λ on. absurd (elim (o.border on) [ inl k ↦ t.edges p inside k | inr k ↦ t.links p inside k ]))
+          | inr h ↦ absurd (t.links p inside h)
+        ]

@@ -1,6 +1,6 @@
 -- Exactly which chains the checks take.
 use Rattle.std.specs.Prelude.{ℕ, Bool, not, ◌&&◌, false, IsTrue, if◌then◌else◌, List, [], ◌∷◌, ◌++◌, reverse, map, pos, int_lt, ⊤, ◌≡◌, ◌↔◌, ◌⊎◌}
-use Rattle.planar.specs.Plane.{InCapsule, IsPlaced, Point, cross_of, dot_of}
+use Rattle.planar.specs.Plane.{InCapsule, IsPlaced, Point, cross_of}
 use Rattle.planar.specs.declared.Frame.{Frame}
 use Rattle.planar.specs.declared.Spot.{Spot}
 use Rattle.planar.proofs.EdgeLaw.{xor}
@@ -8,19 +8,15 @@ use Rattle.area_contact.specs.Contour.{InArea, area_box, edges_of, first_of}
 use Rattle.area_contact.specs.Parity.{crossed, odd}
 use Rattle.arcs.specs.Chains.{EachFrom}
 use Rattle.arcs.specs.Copper.{InChain}
-use Rattle.arcs.specs.declared.Arc.{Arc}
 use Rattle.arcs.specs.Taken.{TakenAbove as ChainAbove}
 use Rattle.contact.specs.Round.{IsCapsuleRadius, box_of}
 use Rattle.contact.specs.Solid.{IsInside, SharePoint}
-use Rattle.arc_regions.specs.Copper.{early, end_of, late}
+use Rattle.arc_regions.specs.Copper.{HasTurn, early, end_of, late}
+pub use Rattle.arc_regions.specs.Copper.{arc_of}
 use Rattle.arc_regions.specs.declared.Bend.{Bend}
 use Rattle.arc_regions.specs.declared.Part.{Part}
 use Rattle.arc_regions.specs.declared.Part.TheVariants.{Straight, Curved}
 use Rattle.arc_regions.specs.declared.Stretch.{Stretch}
-
--- the arc as a draw of no width
-abbrev pub arc_of : Spot → Bend → Arc
-arc_of a t = record { centre = t.centre; start = early a t; end = late a t; width = 0 }
 
 -- the link from a to b, which goes counterclockwise round c by less than a half turn, goes past the direction of s from c, or comes to it
 abbrev pub is_past : Spot → Spot → Spot → Spot → Bool
@@ -35,10 +31,10 @@ abbrev pub odd_round : Spot → List Spot → Bool
 odd_round c [] = false
 odd_round c (s ∷ rest) = odd_past c s s rest
 
--- The chain may stand for the arc from a: both ends are as far from the centre, `arcs` takes the chain above a draw of no width, and it goes past the direction of its start an odd number of times
+-- The chain may stand for the arc from a: ends in one direction from the centre are one spot, `arcs` takes the chain above a draw of no width, and it goes past the direction of its start an odd number of times
 -- exactly where the arc is a whole turn
 pub record StandsFor (a : Spot) (t : Bend) (chain : List Spot) (r : ℕ) : Type 0 where
-  pub even : dot_of t.centre a a ≡ dot_of t.centre t.end t.end
+  pub turn : HasTurn (arc_of a t)
   pub above : ChainAbove (arc_of a t) chain r
   pub turns : IsTrue (odd_round t.centre chain) ↔ (early a t ≡ late a t)
 

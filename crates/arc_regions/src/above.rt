@@ -1,33 +1,22 @@
 //! Whether a polygon, with capsules, holds a region.
-ghost use Rattle.arc_regions.specs.Copper.{InRegion, end_of};
+ghost use Rattle.arc_regions.specs.Copper.{HasTurn, PossiblyIn, end_of};
 ghost use Rattle.arc_regions.specs.Taken.{InCapsules, IsStretch, StandsAs, StandsFor, TakenAbove, all_chained, arc_of, chained, corners_of, odd_round, parts_of};
 ghost use Rattle.area_contact.specs.Contour.{InArea, edges_of};
+ghost use Rattle.arcs.specs.Copper.{swing};
 ghost use Rattle.planar.specs.Plane.{IsPlaced, Point, dot_of};
-ghost use Rattle.std.specs.Prelude.{All, IsTrue, ◌≡◌, ◌↔◌, ◌⊎◌};
+ghost use Rattle.std.specs.Prelude.{All, IsTrue, pos, ◌≡◌, ◌≤ℤ◌, ◌↔◌, ◌⊎◌};
 
 use super::laws::taken_holds;
 use super::links::is_odd_round;
 use super::{Bend, Part, Stretch};
 use arcs::Arc;
-use planar::{Spot, are_placed, dot, is_placed};
+use planar::{Spot, are_placed, cross, dot, is_placed};
 
 /// Whether both spots are one.
 pub fn is_same(a: Spot, b: Spot) -> bool
     ensures { IsTrue result ↔ (a ≡ b) }
 {
     a.x == b.x && a.y == b.y
-}
-
-/// Whether both ends of the arc from `start` are as far from its centre.
-fn is_even(start: Spot, bend: &Bend) -> bool
-    requires start_placed { IsPlaced start }
-    requires centre_placed { IsPlaced bend.now.centre }
-    requires end_placed { IsPlaced bend.now.end }
-    ensures { IsTrue result ↔ (dot_of bend.now.centre start start ≡ dot_of bend.now.centre bend.now.end bend.now.end) }
-{
-    let first = dot(bend.centre, start, start);
-    let last = dot(bend.centre, bend.end, bend.end);
-    first.unsigned_abs() == last.unsigned_abs()
 }
 
 /// The arc from `start`, as a draw of no width.
@@ -47,6 +36,27 @@ pub fn draw_of(start: Spot, bend: &Bend) -> Arc
     }
 }
 
+/// Whether both ends are in one direction from the centre, or one of them is the centre.
+fn in_one_direction(draw: &Arc) -> bool
+    requires centre_placed { IsPlaced draw.now.centre }
+    requires start_placed { IsPlaced draw.now.start }
+    requires end_placed { IsPlaced draw.now.end }
+    ensures { IsTrue result ↔ ((swing draw.now ≡ pos 0) × (pos 0 ≤ℤ dot_of draw.now.centre draw.now.start draw.now.end)) }
+{
+    cross(draw.centre, draw.start, draw.end) == 0 && dot(draw.centre, draw.start, draw.end) >= 0
+}
+
+/// Whether ends of the arc from `start` that are in one direction from the centre are one spot.
+fn has_turn(start: Spot, bend: &Bend) -> bool
+    requires start_placed { IsPlaced start }
+    requires centre_placed { IsPlaced bend.now.centre }
+    requires end_placed { IsPlaced bend.now.end }
+    ensures { IsTrue result ↔ HasTurn (arc_of start bend.now) }
+{
+    let draw = draw_of(start, bend);
+    !in_one_direction(&draw) || is_same(draw.start, draw.end)
+}
+
 /// Whether the chain turns as often as the arc does.
 fn turns_as(draw: &Arc, chain: &[Spot]) -> bool
     requires centre_placed { IsPlaced draw.now.centre }
@@ -64,7 +74,7 @@ fn stands_for(start: Spot, bend: &Bend, chain: &[Spot], radius: u64) -> bool
         return false;
     }
     let draw = draw_of(start, bend);
-    is_even(start, bend) && turns_as(&draw, chain) && arcs::is_above(&draw, chain, radius)
+    has_turn(start, bend) && turns_as(&draw, chain) && arcs::is_above(&draw, chain, radius)
 }
 
 /// Whether the chain with the radius may stand for the part from `start`. For a straight part both are not
@@ -96,11 +106,11 @@ pub fn end_of(part: Part) -> Spot
 }
 
 /// Whether the polygon with the chains in place of the arcs, together with the capsules along the
-/// chains, holds the region whose contour begins at `start`. Where it says so, they do; others that
-/// do are refused.
+/// chains, holds the region whose contour begins at `start`, whatever curves its arcs are. Where it says
+/// so, they do; others that do are refused.
 pub fn is_above(start: Spot, stretches: &[Stretch]) -> bool
     ensures taken { IsTrue result ↔ TakenAbove start (all_chained stretches.now) }
-    ensures copper { IsTrue result → (p : Point) → InRegion start (parts_of (all_chained stretches.now)) p → InArea (edges_of (corners_of start (all_chained stretches.now))) p ⊎ InCapsules (all_chained stretches.now) p }
+    ensures copper { IsTrue result → (p : Point) → PossiblyIn start (parts_of (all_chained stretches.now)) p → InArea (edges_of (corners_of start (all_chained stretches.now))) p ⊎ InCapsules (all_chained stretches.now) p }
 {
     taken_holds();
     if !is_placed(start) {

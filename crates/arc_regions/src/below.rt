@@ -1,5 +1,5 @@
 //! Whether a polygon lies in a region.
-ghost use Rattle.arc_regions.specs.Copper.{InRegion};
+ghost use Rattle.arc_regions.specs.Copper.{SurelyIn};
 ghost use Rattle.arc_regions.specs.Taken.{AreClear, IsClear, IsPartClear, IsStretch, TakenBelow, all_chained, chained, odd_part, parts_of};
 ghost use Rattle.area_contact.specs.Contour.{InArea, area_box, edges_from, edges_of, first_of};
 ghost use Rattle.area_contact.specs.Parity.{crossed, odd};
@@ -170,8 +170,8 @@ fn first_corner(area: &Area) -> Spot
     area.corner(0)
 }
 
-/// Whether the area lies in the region whose contour begins at `start`. Where it says so, it does; others
-/// that do are refused. The area shares no point with the edges of the polygon that has the chains in place
+/// Whether the area lies in the region whose contour begins at `start`, whatever curves its arcs are. Where
+/// it says so, it does; others that do are refused. The area shares no point with the edges of the polygon that has the chains in place
 /// of the arcs, nor with a capsule along a chain, and its first corner lies inside the polygon. Area and
 /// capsules lie in the frame.
 pub fn is_below<L: Ledger>(
@@ -182,7 +182,7 @@ pub fn is_below<L: Ledger>(
     tests: &mut Steps<L>,
 ) -> bool
     ensures taken { IsTrue result ↔ TakenBelow frame start (all_chained stretches.now) area.now.points.items }
-    ensures copper { IsTrue result → (p : Point) → InArea (edges_of area.now.points.items) p → InRegion start (parts_of (all_chained stretches.now)) p }
+    ensures copper { IsTrue result → (p : Point) → InArea (edges_of area.now.points.items) p → SurelyIn start (parts_of (all_chained stretches.now)) p }
 {
     taken_lies();
     if !(is_placed(start) && area.bounds().inside(frame)) {

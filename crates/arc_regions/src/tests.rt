@@ -117,6 +117,25 @@ fn rounded(alloc: Global, radius: u64) -> Result<(Spot, Vec<Stretch>), Fail> {
     Ok((at((8000, -13_000)), all))
 }
 
+/// An arc whose end is 10 u further from the centre than the spot that it is on the ring, and the line back.
+fn stretched(alloc: Global, k: u8, links: u8, radius: u64) -> Result<(Spot, Vec<Stretch>), Fail> {
+    let (first, (x, y)) = (on_ring(k as u16), on_ring(k as u16 + links as u16));
+    let end = at((x as i32 + x as i32 / 500, y as i32 + y as i32 / 500));
+    let mut bent = arc(alloc, (0, 0), k, links, false, radius)?;
+    let _last = bent.chain.pop();
+    bent.chain.push(end)?;
+    bent.part = Part::Curved(Bend {
+        centre: at((0, 0)),
+        end,
+        counterclockwise: true,
+    });
+    let start = (first.0 as i32, first.1 as i32);
+    let mut all = Vec::new(alloc);
+    all.push(bent)?;
+    all.push(line(start, alloc))?;
+    Ok((at(start), all))
+}
+
 /// At the least radius, and one u less.
 #[test]
 fn chains_that_hold(rt: HostRuntime) -> Result<(), Fail> {
@@ -148,6 +167,22 @@ fn chains_that_do_not(rt: HostRuntime) -> Result<(), Fail> {
     assert!(rt; !is_above(start, &all));
     let (_, all) = bite(alloc, 257)?;
     assert!(rt; !is_above(at((-9000, -9001)), &all));
+    Ok(())
+}
+
+/// Ends at two distances: the radius is greater by as much. Ends in one direction are refused then.
+#[test]
+fn two_distances(rt: HostRuntime) -> Result<(), Fail> {
+    let alloc = rt.alloc();
+    for (k, links, radius, told) in [
+        (9, 6, 267, true),
+        (9, 6, 266, false),
+        (0, 12, 267, false),
+        (0, 24, 267, false),
+    ] {
+        let (start, all) = stretched(alloc, k, links, radius)?;
+        assert!(rt; is_above(start, &all) == told);
+    }
     Ok(())
 }
 
@@ -190,11 +225,14 @@ fn boxes_within(rt: HostRuntime) -> Result<(), Fail> {
     let whole = disc(alloc, 12, true, 257)?;
     let bitten = bite(alloc, 257)?;
     let round = rounded(alloc, 257)?;
+    let uneven = stretched(alloc, 9, 6, 267)?;
     for (region, low, high, told) in [
         (&half, (1, -1000), (2000, 1000), true),
         (&half, (0, -1000), (2000, 1000), false),
         (&half, (-2000, -1000), (-1, 1000), false),
         (&half, (1, -1000), (4485, 1000), false),
+        (&uneven, (1, -1000), (2000, 1000), true),
+        (&uneven, (1, -1000), (4485, 1000), false),
         (&whole, (-3000, -3000), (3000, 3000), true),
         (&whole, (-3400, -3400), (3400, 3400), false),
         (&whole, (-9000, -9000), (9000, 9000), false),

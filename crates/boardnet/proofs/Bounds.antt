@@ -10,7 +10,7 @@ use Rattle.arc_covers.specs.declared.side.Side.{Side}
 use Rattle.arc_covers.specs.declared.side.Side.TheVariants.{Below, Above}
 use Rattle.arc_covers.specs.Quarters.{LiesBelow}
 use Rattle.arc_covers.specs.Regions.{RegionAbove}
-use Rattle.arc_regions.specs.Copper.{InRegion}
+use Rattle.arc_regions.specs.Copper as regions
 use Rattle.arc_layer.specs.Real.{PlainReal, RealFigure, plain, bent, slanted, curved, plain_real, plain_reals, real_figure}
 use Rattle.real_shapes.specs.declared.RealShape.{RealShape}
 use Rattle.real_shapes.specs.declared.RealShape.TheVariants.{Plain, ArcDraw, Slanted, Region}
@@ -71,7 +71,7 @@ abbrev CopperBy : RealFigure → (Point → Type 0) → Type 0
 CopperBy (plain figure) holds = (p : Point) → InFigure figure p ↔ holds p
 CopperBy (bent arc) holds = IsCopperOf (ArcDraw arc) holds
 CopperBy (slanted line) holds = IsCopperOf (Slanted line) holds
-CopperBy (curved begins parts) holds = (p : Point) → InRegion begins parts p ↔ holds p
+CopperBy (curved begins parts) holds = regions.IsCopper begins parts holds
 
 copper_by : (s : RealShape) (holds : Point → Type 0) → IsCopperOf s holds ↔ CopperBy (real_figure s) holds
 copper_by (Plain s) holds = (λ h. h, λ h. h)

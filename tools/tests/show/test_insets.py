@@ -1,8 +1,10 @@
 """The bounds of contours with arcs in tools/show_board/regions.py, by the checks in crates/arc_covers and crates/arc_regions, written anew
 from their definitions."""
+import math
 import random
 import unittest
 
+from show_board.arcs import is_loop
 from show_board.regions import rounded_contour
 from show_board.spots import cross, dot, edges, odd_inside, segments_within
 from tests.show.test_arc_chains import is_above as is_chain_above
@@ -40,8 +42,7 @@ def stands_for(start, part, chain, radius):
     """The chain may stand for the arc."""
     centre, end, anticlockwise = part
     first, last = (start, end) if anticlockwise else (end, start)
-    return (dot(centre, start, start) == dot(centre, end, end) and is_chain_above(centre, first, last, 0, chain, radius)
-            and odd_round(centre, chain) == (first == last))
+    return not is_loop(centre, first, last) and is_chain_above(centre, first, last, 0, chain, radius) and odd_round(centre, chain) == (first == last)
 
 
 def is_above(told):
@@ -119,6 +120,13 @@ def backwards(contour):
     return [spots[-1], *(spots[k] if len(part) == 2 else (part[0], spots[k], not part[2]) for k, part in reversed([*enumerate(contour[1:])]))]
 
 
+def turned_by(rng, contour):
+    """The contour at an angle, its places rounded, so that most arcs have ends at two distances."""
+    angle, step = rng.random() * 7, rng.choice((1, 10, 100))
+    place = lambda p: tuple(step * round((p[0] * math.cos(angle + k) + p[1] * math.sin(angle + k)) / step) for k in (0, math.pi / 2))
+    return [place(part) if len(part) == 2 else (place(part[0]), place(part[1]), part[2]) for part in contour]
+
+
 def walk(rng):
     """Straight parts and arcs from a spot on, of any turn that keeps the distance; most cross themselves."""
     size, out = 10 ** rng.randrange(1, 8), [(0, 0)]
@@ -131,13 +139,13 @@ def walk(rng):
 
 
 class TestInsets(unittest.TestCase):
-    def tried(self, contour):
+    def tried(self, contour, is_even=True):
         made = rounded_contour(tuple(contour), False, True)
         if made.is_read:
             told = stretches(contour, [made.outer, *made.wide])
             with self.subTest(contour=contour):
                 self.assertTrue(is_above(told))
-                self.assertTrue(is_above(by_eighths(told)))
+                self.assertTrue(is_above(by_eighths(told)) or not is_even)
                 self.assertTrue(all(is_below(told, points) for points in made.inner))
         return made
 
@@ -148,6 +156,14 @@ class TestInsets(unittest.TestCase):
             contour = ring(rng)
             made = self.tried(contour)
             self.assertTrue(len(made.inner) == 1 or not made.wide or contour[0][0] < 30, contour)
+
+    def test_two_distances_are_taken(self):
+        """Boxes at angles, most of whose arcs have such ends: all whose corners have a radius of over 2 micrometres."""
+        rng = random.Random(66)
+        for _ in range(200):
+            contour = turned_by(rng, ring(rng))
+            made, sizes = self.tried(contour, False), [math.dist(*part[:2]) for part in contour if len(part) == 3]
+            self.assertTrue(made.is_read and len(made.inner) == 1 or min(sizes, default=0) < 20000, contour)
 
     def test_walks_are_taken(self):
         rng = random.Random(65)
@@ -160,7 +176,7 @@ class TestInsets(unittest.TestCase):
         self.assertLessEqual({(2, 2), (29998, 2), (29998, 9998), (9998, 29998), (2, 29998)}, {*made.inner[0]})
 
     def test_what_is_not_taken(self):
-        """The checks refuse an arc whose ends are not as far, draws that are a u less wide, and an area that touches the outline."""
+        """The checks refuse an arc that may be a whole turn or none, draws that are a u less wide, and an area that touches the outline."""
         contour = [(0, 0), (4000, 0), ((0, 0), (0, 4000), True), (0, 0)]
         made = rounded_contour(tuple(contour), False, True)
         told = stretches(contour, [made.outer, *made.wide])
@@ -169,7 +185,7 @@ class TestInsets(unittest.TestCase):
         self.assertFalse(is_below(told, [(0, 0), (100, 0), (0, 100)]))
         self.assertFalse(is_below(told, [(10, 10), (-100, 10), (-10, -100)]))
         self.assertFalse(is_below(told, [(-10, -10), (-100, -10), (-10, -100)]))
-        self.assertFalse(rounded_contour(((0, 0), (4000, 0), ((0, 0), (1, 4000), True), (0, 0)), False, True).is_read)
+        self.assertFalse(rounded_contour(((0, 9), (4000, 0), ((0, 0), (4001, 0), True), (0, 9)), False, True).is_read)
         self.assertFalse(rounded_contour(((0, 0), ((9000, 0), (0, 0), True)), False, True).is_read)
 
 
