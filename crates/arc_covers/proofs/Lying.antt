@@ -12,7 +12,7 @@ use Rattle.arc_regions.specs.declared.Part.{Part}
 use Rattle.arc_regions.specs.declared.Part.TheVariants.{Straight, Curved}
 use Rattle.arc_regions.specs.declared.Region.{Region as Contour}
 use Rattle.arc_covers.specs.Bounds.{BoundRegion, ContourFor}
-use Rattle.arc_covers.specs.Quarters.{IsPartPlaced, LiesBelow, by_eighths, frame_about, with_eighths}
+use Rattle.arc_covers.specs.Eighths.{IsPartPlaced, LiesBelow, by_eighths, frame_about, with_eighths}
 use Rattle.arc_covers.specs.Taken.{RegionTaken}
 use Rattle.arc_covers.specs.declared.side.Side.{Side}
 use Rattle.arc_covers.specs.declared.side.Side.TheVariants.{Above, Below}

@@ -11,7 +11,7 @@ use Rattle.arc_regions.specs.Taken.{Chained, all_chained, chained}
 use Rattle.arc_regions.specs.declared.Part.{Part}
 use Rattle.arc_regions.specs.declared.Part.TheVariants.{Straight, Curved}
 use Rattle.arc_regions.specs.declared.Stretch.{Stretch}
-use Rattle.arc_covers.specs.Quarters.{IsPartPlaced, IsRound, by_eighths, quarter_turn, with_eighths}
+use Rattle.arc_covers.specs.Eighths.{IsPartPlaced, IsRound, by_eighths, quarter_turn, with_eighths}
 
 -- ---- ways as they are read
 

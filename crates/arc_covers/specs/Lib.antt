@@ -1,10 +1,10 @@
 pub mod Bounds
 pub mod Counts
 pub mod CountsReading
+pub mod Eighths
 pub mod Faults
 pub mod Findings
 pub mod Laws
-pub mod Quarters
 pub mod RealBoards
 pub mod Regions
 pub mod Taken

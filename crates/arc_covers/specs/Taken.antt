@@ -11,7 +11,7 @@ use Rattle.real_shapes.specs.declared.RealShape.TheVariants.{Plain, ArcDraw, Sla
 use Rattle.slants.specs.Taken as slants
 use Rattle.slants.specs.declared.Slant.{Slant}
 use Rattle.arc_regions.specs.declared.Region.{Region as Contour}
-use Rattle.arc_covers.specs.Quarters.{LiesBelow}
+use Rattle.arc_covers.specs.Eighths.{LiesBelow}
 use Rattle.arc_covers.specs.Regions.{RegionAbove}
 use Rattle.arc_covers.specs.Bounds.{AddUp, IsOn, ContourFor, capsules_of, figures_of, share_of}
 use Rattle.arc_covers.specs.declared.side.Side.{Side}

@@ -6,7 +6,7 @@
 //! - `side`: the boards below and above a real one, and what a chain has to be there.
 //! - `rows`: whether pieces are a figure, a contour, or the capsules of a chain.
 //! - `regions`: whether they are a polygon and the capsules along its arcs.
-//! - `quarters`: whether they are a contour in a region.
+//! - `eighths`: whether they are a contour in a region, by chains of eighth turns.
 //! - `between`: the check over whole boards.
 //! - `counts`: the file of counts.
 //! - `laws`: what follows of every board whose copper the real pieces allow.
@@ -14,8 +14,8 @@
 
 mod between;
 mod counts;
+mod eighths;
 pub mod laws;
-mod quarters;
 mod regions;
 mod rows;
 mod side;

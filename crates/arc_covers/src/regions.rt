@@ -11,7 +11,7 @@ ghost use Rattle.planar.specs.Plane.{IsPlaced};
 ghost use Rattle.planar.specs.declared.Spot.{Spot};
 ghost use Rattle.std.specs.Prelude.{All, IfNone, IfOk, IfSome, IsTrue, List, ℕ, drop, length, pos, take, ◌≡◌, ◌≢◌, ◌≤◌, ◌↔◌, ◌∷◌};
 
-use crate::quarters::is_inside;
+use crate::eighths::is_inside;
 use crate::rows::next_spot;
 use crate::side::Side;
 use arc_regions::{Bend, Part, Region, end_of, is_part, is_same};

@@ -1,7 +1,7 @@
 //! A pad and a quarter circle that touches it in one point, between pads and chains, in u.
 ghost use Rattle.planar.specs.Plane.{IsPlaced};
 
-use crate::quarters::is_inside;
+use crate::eighths::is_inside;
 use crate::{BoundsFault, CountsFault, Side, check_between, read_counts};
 use arc_regions::{Bend, Part, Region};
 use arcs::{Arc, Spot};

@@ -34,7 +34,7 @@ arc_of a t = record { centre = t.centre; start = early a t; end = late a t; widt
 pub record HasTurn (a : Arc) : Type 0 where
   pub one : swing a ≡ pos 0 → pos 0 ≤ℤ dot_of a.centre a.start a.end → a.start ≡ a.end
 
--- the standard says what curves the arc may be
+-- it is settled what curves the arc may be: `IsMeant` suffices for that
 abbrev pub IsTold : Arc → Type 0
 IsTold a = IsMeant a × HasTurn a
 
@@ -47,7 +47,7 @@ abbrev pub OnSomeCurve : Spot → Part → Point → Type 0
 OnSomeCurve a (Straight b) p = InCapsule a b (pos 0) p
 OnSomeCurve a (Curved t) p = IsTold (arc_of a t) → InBand (inmost (arc_of a t)) (outmost (arc_of a t)) (arc_of a t) p
 
--- the point lies on every curve of the part: that of an arc, where its ends are at one distance
+-- the point lies on the one curve that the part may have: of an arc only where its ends are at one distance
 abbrev pub OnEachCurve : Spot → Part → Point → Type 0
 OnEachCurve a (Straight b) p = InCapsule a b (pos 0) p
 OnEachCurve a (Curved t) p = IsTold (arc_of a t) × InBand (outmost (arc_of a t)) (inmost (arc_of a t)) (arc_of a t) p
@@ -85,8 +85,8 @@ OddOver a (x ∷ rest) p = ExactlyOne (IsOver a x p) (OddOver (end_of x) rest p)
 
 -- ---- the copper
 
--- The point lies in the area that the parts bound, which begin at a, whatever curves their arcs are: on every curve of a part, or inside by even and odd (4.10: a contour that does not cross itself has an inside), where it may lie
--- on a curve only if it lies on every one
+-- The point lies in the area that the parts bound, which begin at a, whatever curves their arcs are: on the one curve of a part, or inside by even and odd (4.10: a contour that does not cross itself has an inside), where it may lie
+-- on a curve only if that is the one of its part
 abbrev pub SurelyIn : Spot → List Part → Point → Type 0
 SurelyIn a parts p = SomePart OnEachCurve a parts p ⊎ (OddOver a parts p × (SomePart OnSomeCurve a parts p → SomePart OnEachCurve a parts p))
 

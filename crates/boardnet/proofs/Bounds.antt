@@ -8,7 +8,7 @@ use Rattle.arc_covers.specs.Taken.{FirstTaken, PiecesAreTaken, StandTaken}
 use Rattle.arc_covers.specs.declared.between.BoundsFault.TheVariants as fault
 use Rattle.arc_covers.specs.declared.side.Side.{Side}
 use Rattle.arc_covers.specs.declared.side.Side.TheVariants.{Below, Above}
-use Rattle.arc_covers.specs.Quarters.{LiesBelow}
+use Rattle.arc_covers.specs.Eighths.{LiesBelow}
 use Rattle.arc_covers.specs.Regions.{RegionAbove}
 use Rattle.arc_regions.specs.Copper as regions
 use Rattle.arc_layer.specs.Real.{PlainReal, RealFigure, plain, bent, slanted, curved, plain_real, plain_reals, real_figure}

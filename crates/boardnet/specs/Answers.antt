@@ -32,12 +32,16 @@ use Rattle.witness_check.specs.declared.auditing.Ruling.TheVariants.{True, Untru
 
 -- the answer is one that finds no fault
 abbrev pub is_good : Note → Bool
+is_good note.Agrees = true
 is_good (note.Differs opens shorts missing) = false
+is_good note.AuditTrue = true
 is_good (note.AuditUntrue clause) = false
 is_good (note.TrialDone agrees) = agrees
+is_good note.NetlistWritten = true
+is_good note.NoGaps = true
 is_good (note.Gaps count) = false
+is_good note.Flattened = true
 is_good (note.Undecided opens shorts missing) = false
-is_good other = true
 
 -- the status of an answer
 abbrev pub status_of : Note → ℕ

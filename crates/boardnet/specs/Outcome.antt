@@ -55,7 +55,7 @@ reason_line subject report (NotAManifest name) = file_line name (codes "not a ma
 reason_line subject report (BoundTooLarge name box) = manifest_frame_line name box
 reason_line subject report (Unbound why) = unbound_line subject report why
 
--- A command stops, or refuses what it read for another reason, and this is its line.
+-- A command stops, or refuses for another reason, and this is its line.
 abbrev pub IsRefusedBy : Task → Source → List ℕ → Type 0
 IsRefusedBy task source line =
     ((stop : Stop) × task.stops source stop × IsLineOf task.subject stop line)

@@ -110,12 +110,16 @@ impl Note {
         ensures { result ≡ status_of self }
     {
         match self {
+            Note::Agrees => 0,
             Note::Differs { .. } => 1,
+            Note::AuditTrue => 0,
             Note::AuditUntrue { .. } => 1,
             Note::TrialDone { agrees } => { if agrees { 0 } else { 1 } }
+            Note::NetlistWritten => 0,
+            Note::NoGaps => 0,
             Note::Gaps { .. } => 1,
+            Note::Flattened => 0,
             Note::Undecided { .. } => 1,
-            _ => 0,
         }
     }
 

@@ -1,6 +1,6 @@
 use Rattle.std.proofs.Common.{refl}
 use Rattle.arc_covers.proofs.Turning.{less_read, more_read, stays_round}
-use Rattle.arc_covers.proofs.quarters.quarter_turn.Goals as goal
+use Rattle.arc_covers.proofs.eighths.quarter_turn.Goals as goal
 
 pub returns : goal.returns
 returns c =

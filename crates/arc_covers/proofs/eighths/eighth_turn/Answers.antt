@@ -1,7 +1,7 @@
 use Rattle.std.proofs.Common.{◌∙◌, ap, refl}
-use Rattle.arc_covers.specs.Quarters as spec
+use Rattle.arc_covers.specs.Eighths as spec
 use Rattle.arc_covers.proofs.Turning.{less_within, more_within, sum_read, ways_less, ways_more}
-use Rattle.arc_covers.proofs.quarters.eighth_turn.Goals as goal
+use Rattle.arc_covers.proofs.eighths.eighth_turn.Goals as goal
 
 pub shortened-requires : goal.shortened-requires
 shortened-requires c = rw (ways_less c.args.c c.args.s c.requires.c_placed c.requires.s_placed) record { within = less_within c.args.c c.args.s c.requires.c_placed c.requires.s_placed }

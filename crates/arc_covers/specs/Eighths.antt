@@ -11,7 +11,7 @@ use Rattle.arc_regions.specs.Copper.{end_of}
 use Rattle.arc_regions.specs.Taken.{Chained, TakenBelow, arc_of}
 use Rattle.arc_regions.specs.declared.Part.{Part}
 use Rattle.arc_regions.specs.declared.Part.TheVariants.{Straight, Curved}
-use Rattle.arc_covers.specs.declared.quarters.TheConstants.{HALF}
+use Rattle.arc_covers.specs.declared.eighths.TheConstants.{HALF}
 
 -- s turned about c by a quarter turn, counterclockwise
 abbrev pub quarter_turn : Spot → Spot → Spot

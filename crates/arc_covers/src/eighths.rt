@@ -1,7 +1,7 @@
 //! Whether a contour lies in a region, by chains of eighth turns for its arcs.
 ghost use Rattle.arc_covers.specs.Bounds.{ContourFor, figures_of};
-ghost use Rattle.arc_covers.specs.Quarters as spec;
-ghost use Rattle.arc_covers.specs.Quarters.{IsPartPlaced, IsRound, LiesBelow, passed};
+ghost use Rattle.arc_covers.specs.Eighths as spec;
+ghost use Rattle.arc_covers.specs.Eighths.{IsPartPlaced, IsRound, LiesBelow, passed};
 ghost use Rattle.arc_covers.specs.declared.side.Side.TheVariants.{Below};
 ghost use Rattle.arc_regions.specs.Taken.{TakenBelow, all_chained, chained};
 ghost use Rattle.board_shapes.specs.Pieces.{plain_pieces};

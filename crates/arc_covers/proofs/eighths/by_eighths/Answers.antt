@@ -2,9 +2,9 @@ use Rattle.std.proofs.Common.{List, ap, arith, drop, ◌+◌, subst, sym, ◌++�
 use Rattle.planar.specs.Plane.{IsPlaced}
 use Rattle.arc_regions.specs.Taken.{all_chained}
 use Rattle.arc_regions.specs.declared.Stretch.{Stretch}
-use Rattle.arc_covers.specs.Quarters as spec
+use Rattle.arc_covers.specs.Eighths as spec
 use Rattle.arc_covers.proofs.Turning.{end_placed, eighths_turn, there_placed}
-use Rattle.arc_covers.proofs.quarters.by_eighths.Goals as goal
+use Rattle.arc_covers.proofs.eighths.by_eighths.Goals as goal
 
 pub loop-part-preserved : goal.loop-part-preserved
 loop-part-preserved c = record {

@@ -1,8 +1,8 @@
 use Rattle.std.proofs.Common.{◌≡◌, ◌++◌, drop}
 use Rattle.planar.specs.Plane.{IsPlaced}
 use Rattle.arc_regions.specs.Taken.{all_chained}
-use Rattle.arc_covers.specs.Quarters as spec
-use Rattle.arc_covers.proofs.quarters.by_eighths.Given as goal
+use Rattle.arc_covers.specs.Eighths as spec
+use Rattle.arc_covers.proofs.eighths.by_eighths.Given as goal
 
 abbrev pub invariant-loop-part : goal.invariant-loop-part
 invariant-loop-part l = record {

@@ -1,7 +1,7 @@
 use Rattle.std.proofs.Common.{◌≡◌, ◌++◌, drop}
 use Rattle.planar.specs.Plane.{IsPlaced}
-use Rattle.arc_covers.specs.Quarters.{passed}
-use Rattle.arc_covers.proofs.quarters.push_passed.Given as goal
+use Rattle.arc_covers.specs.Eighths.{passed}
+use Rattle.arc_covers.proofs.eighths.push_passed.Given as goal
 
 abbrev pub invariant-loop-p : goal.invariant-loop-p
 invariant-loop-p l = record {
