@@ -1,6 +1,6 @@
 //! A line of two nets that come too close, and lines in order.
 ghost use Rattle.gaps.specs.Firsts.{AreFirsts, IsBeside, IsWithLess, beside};
-ghost use Rattle.std.specs.Prelude.{Contains, IsTrue, ◌≡◌};
+ghost use Rattle.std.specs.Prelude.{Contains, IsTrue, ◌≡◌, ◌↔◌};
 
 /// Two nets come too close on a layer: the lower and the higher net, and a piece of each. Layers
 /// count from 1, nets and pieces from 0.
@@ -23,15 +23,14 @@ impl Gap {
 
     /// Whether the pieces are no greater: by that of the lower net, then by that of the higher.
     fn is_with_less(&self, other: &Gap) -> bool
-        ensures { IsTrue result → IsWithLess self.now other.now }
+        ensures { IsTrue result ↔ IsWithLess self.now other.now }
     {
         self.first < other.first || self.first == other.first && self.second <= other.second
     }
 
     /// Whether the line is beside the other, and has no greater pieces.
     pub fn speaks_for(&self, other: &Gap) -> bool
-        ensures beside { IsTrue result → IsBeside other.now self.now }
-        ensures less { IsTrue result → IsWithLess self.now other.now }
+        ensures { IsTrue result ↔ IsBeside other.now self.now × IsWithLess self.now other.now }
     {
         self.is_beside(other) && self.is_with_less(other)
     }
