@@ -1,12 +1,10 @@
 //! boardnet: does the copper of a bare board join exactly the points that its netlist joins?
 //!
-//! `run` is the top call. The words of the command line are judged (`words`). Each command does its work on the package in a
-//! file of its own (`commands`) and has an answer, or a reason why there is none (`answer`): `check` builds and judges the
-//! package's board (`judged`), `audit` reads a report on it and rules on that, `trial` checks a made package, `write` makes a
-//! netlist of the nets, `gaps` lists the nets that come close, `x2` judges the board by the net names in its copper files,
-//! `flatten` rewrites a copper file without aperture macros, `between` judges a board of real copper by two that bound it
-//! (`findings`, `between_text`, `unbound`). The text goes to the output, and a line to the notes
-//! (`putting`, `lines`, `refusing`). `certified` is a check with the audit of its report. The laws stand in `laws`.
+//! `run` is the top call. The words of the command line are judged (`words`). Each command does its work in a file of its own,
+//! whose head says what it takes, puts and answers (`commands`), and has an answer, or a reason why there is none (`answer`).
+//! `judged` has the board and the verdict on it, `findings`, `between_text` and `unbound` what two boards say of one between them.
+//! The text goes to the output, and a line to the notes (`putting`, `lines`, `refusing`). `certified` is a check with the audit of
+//! its report. The laws stand in `laws`.
 #![tactic(auto)]
 
 mod answer;

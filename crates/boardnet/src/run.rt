@@ -24,24 +24,14 @@ use std::alloc::Global;
 
 /// Does what the words ask for, and answers the status.
 ///
-/// `check MANIFEST` builds the board of the package, judges it, puts the report to `out` in one piece and a line
-/// about it to `notes`. The report is of version 2, with the place of each test point and the source of each piece;
-/// `check MANIFEST 1` puts one of version 1, without them. `audit MANIFEST REPORT` builds the board, takes and reads the
-/// report, and puts whether it is the text of a right verdict on the board, or the number of the first clause that does
-/// not hold. `trial SEED SIZE` checks the made board of the two numbers, and puts a summary; it takes nothing from the
-/// package. `write MANIFEST` builds the board and puts a netlist of its nets. `gaps MANIFEST NANOMETRES` builds the board
-/// and lists the nets that come that close. `x2 MANIFEST` checks the package as `check` does, by the net names in its
-/// copper files in place of its netlist, which it does not take. `flatten FILE` takes one copper file, which may have
-/// aperture macros, and puts a copper file without them that every layer reads as exactly the same shapes. `between REAL
-/// LOWER UPPER COUNTS` builds the board of REAL, which may have arcs and macros, those of LOWER and UPPER, checks by the counts that
-/// they bound it, judges both, and puts what is certain of the real board and what is undecided.
+/// What each command takes and puts, and what 0, 1 and 3 mean of it, stands at the head of its file in `commands`.
 ///
 /// | Status | When |
 /// |---|---|
-/// | 0 | `check`, `trial`, `x2`: the copper joins exactly what the netlist, or the net names in the files, join; `audit`: the report is the text of a right verdict; `write`: the netlist is written; `flatten`: the file is; `gaps`: no two nets come that close; `between`: nothing is certain or undecided, so the real board agrees, whatever its copper is of those that its files allow |
-/// | 1 | `check`, `trial`, `x2`: there are opens, shorts or points without copper; `audit`: the report is the text of another verdict; `gaps`: some do; `between`: something certain differs, or it is undecided, and the line says which |
+/// | 0 | `out` got the command's text in one piece, which finds no fault |
+/// | 1 | so it did, and the text finds one |
 /// | 2 | the words are no command; nothing was taken |
-/// | 3 | the first refusal of the package or of the copper file, or of the report behind it; the line names its kind, file and place. `x2`: also a net name that is no text; `gaps`: also grown pieces of which the box is over 1 m; `trial`: there is no board of the size; `between`: also an arc or a macro of REAL, or the boards are no bounds, and the line says why |
+/// | 3 | the first refusal of what the command reads; the line names its kind, file and place |
 /// | 4 | a fault of reading the file in the line |
 /// | 5 | a fault of writing; `out` got a front of the text |
 /// | 6 | want of memory |

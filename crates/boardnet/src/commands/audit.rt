@@ -1,4 +1,7 @@
-//! The command `audit`.
+//! The command `audit MANIFEST REPORT`: builds the board, takes and reads the report, and puts whether it is the text of a right verdict
+//! on the board, or the number of the first clause that does not hold.
+//!
+//! 0: it is. 1: it is the text of another verdict. 3: the first refusal of the package, or of the report behind it.
 ghost use Rattle.board_package.specs.Causes.{HandedCause, KeepsFaults};
 ghost use Rattle.board_shapes.specs.Laws.{HasOneTables};
 ghost use Rattle.board_shapes.specs.Plain.{plain_board};

@@ -1,4 +1,9 @@
-//! The command `between`.
+//! The command `between REAL LOWER UPPER COUNTS`: builds the board of REAL, which may have arcs and macros, and those of LOWER and UPPER,
+//! checks by the counts that they bound it, judges both, and puts what is certain of the real board and what is undecided.
+//!
+//! 0: nothing is certain or undecided, so the real board agrees, whatever its copper is of those that its files allow. 1: something
+//! certain differs, or it is undecided; the line says which. 3: the first refusal of a package, an arc or a macro of REAL that is not
+//! taken, or the boards are no bounds, and the line says why.
 ghost use Rattle.arc_covers.specs.Counts.{AreCounts};
 ghost use Rattle.board_package.specs.HandedBoard.{ComesHanded, IsBoardHanded, IsFirstStopHanded};
 ghost use Rattle.board_shapes.specs.LawfulBoard.{IsLawfulBoard};

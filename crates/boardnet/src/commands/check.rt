@@ -1,4 +1,8 @@
-//! The command `check`.
+//! The command `check MANIFEST`: builds the board of the package, judges it, and puts the report. It is of version 2, with the place of
+//! each test point and the source of each piece; `check MANIFEST 1` puts one of version 1, without them.
+//!
+//! 0: the copper joins exactly what the netlist joins. 1: there are opens, shorts or points without copper. 3: the first refusal of
+//! the package.
 ghost use Rattle.boardnet.specs.HandedOutcome.{WorksOn};
 ghost use Rattle.boardnet.specs.Kept.{Leaves, LeftBy, Spares};
 ghost use Rattle.boardnet.specs.Command.{asked};

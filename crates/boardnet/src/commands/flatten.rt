@@ -1,4 +1,7 @@
-//! The command `flatten`.
+//! The command `flatten FILE`: takes one copper file, which may have aperture macros, and puts a copper file without them that every layer
+//! reads as exactly the same shapes.
+//!
+//! 0: it is written. 3: the first refusal of the file.
 ghost use Rattle.boardnet.specs.HandedOutcome.{WorksOn};
 ghost use Rattle.boardnet.specs.Kept.{Leaves, LeftBy, Spares};
 ghost use Rattle.boardnet.specs.Words.{Flatten, IsText};

@@ -1,4 +1,6 @@
-//! The command `gaps`.
+//! The command `gaps MANIFEST NANOMETRES`: builds the board and lists the nets that come that close.
+//!
+//! 0: no two do. 1: some do. 3: the first refusal of the package, or the box of its grown pieces is over 1 m.
 ghost use Rattle.board_shapes.specs.Plain.{plain_board};
 ghost use Rattle.boardnet.specs.Command.{asked};
 ghost use Rattle.boardnet.specs.Answers.{IsUngapped, line_of, status_of};

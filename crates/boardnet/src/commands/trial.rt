@@ -1,4 +1,6 @@
-//! The command `trial`.
+//! The command `trial SEED SIZE`: checks the made board of the two numbers, and puts a summary. It takes nothing from the package.
+//!
+//! 0, 1: as of `check`. 3: there is no board of the size.
 ghost use Rattle.boardnet.specs.Command.{asked};
 ghost use Rattle.boardnet.specs.Answers.{line_of, status_of};
 ghost use Rattle.boardnet.specs.HandedOutcome.{HasHandedReason};

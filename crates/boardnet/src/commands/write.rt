@@ -1,4 +1,6 @@
-//! The command `write`.
+//! The command `write MANIFEST`: builds the board and puts a netlist of its nets.
+//!
+//! 0: it is written. 3: the first refusal of the package.
 ghost use Rattle.board_shapes.specs.Plain.{plain_board};
 ghost use Rattle.boardnet.specs.HandedOutcome.{WorksOn};
 ghost use Rattle.boardnet.specs.Kept.{Leaves, LeftBy, Spares};

@@ -1,4 +1,8 @@
-//! The command `x2`.
+//! The command `x2 MANIFEST`: checks the package as `check` does, by the net names in its copper files in place of its netlist, which
+//! it does not take.
+//!
+//! 0: the copper joins exactly what the names join. 1: there are opens or shorts. 3: the first refusal of the package, or a net name
+//! that is no text.
 ghost use Rattle.boardnet.specs.HandedOutcome.{WorksOn};
 ghost use Rattle.boardnet.specs.Kept.{Leaves, LeftBy, Spares};
 ghost use Rattle.boardnet.specs.Words.{IsText, X2};
