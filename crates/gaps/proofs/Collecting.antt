@@ -1,6 +1,6 @@
 -- Lines that are pushed one by one.
 use Rattle.std.proofs.Common.{◌≡◌, ◌⊎◌, inl, inr, ℕ, zero, suc, ◌+◌, ◌<◌, ◌≤◌, List, [], ◌∷◌, ◌++◌, All, Contains, get_or, if◌then◌else◌, length, slice_get, Some, refl, ap, sym, subst, arith, ◌∙◌}
-use Rattle.std.proofs.lemmas.Bool.{cases_eq}
+use Rattle.std.proofs.lemmas.Bool.{cases_eq, cases_lt}
 use Rattle.std.proofs.lemmas.Nat.{and_le_r}
 use Rattle.std.specs.Int.Bits.{bit_and}
 use Rattle.std.proofs.lemmas.List.{get_or_default, get_or_past}
@@ -162,14 +162,21 @@ covered_more low high i j top layer next lines line e p q r s t now before gap l
 pub covered_all : (low high i j top past layer : ℕ) (lines : List Gap) → past ≤ layer → ((gap : Gap) → IsLineOf low high i j top layer gap → Covered lines gap) → (gap : Gap) → IsLineOf low high i j top past gap → Covered lines gap
 covered_all low high i j top past layer lines over h gap l = h gap record { low_is = l.low_is; high_is = l.high_is; first_is = l.first_is; second_is = l.second_is; from_top = l.from_top; before_past = omega (arith, l.before_past) }
 
--- what is thinned gathers what it did
-pub thinned : (old new : List Gap) → AreFirsts (λ gap. Contains old gap) new → Gathers (λ gap. Contains old gap) new
-thinned old new f = record { only = f.only; each = each }
+-- the least gather what all do
+least_gather : (old new : List Gap) → AreFirsts (λ gap. Contains old gap) new → Gathers (λ gap. Contains old gap) new
+least_gather old new f = record { only = f.only; each = each }
   where
     each : (gap : Gap) → Contains old gap → Covered new gap
     each gap k =
         let b : Beside new gap = f.all gap k in
         record { line = b.line; stands = b.stands; beside = b.beside; less = f.least b.line gap b.stands k b.beside }
+
+-- and so does what is thinned, or stays
+pub thinned : {A B : Type 0} (limit : ℕ) (old new : List Gap) → (length old < limit → (new ≡ old) × A) → (limit ≤ length old → AreFirsts (λ gap. Contains old gap) new × B) → Gathers (λ gap. Contains old gap) new
+thinned limit old new few many = elim (cases_lt (length old) limit) [
+  | inl l ↦ subst (λ (xs : List Gap). Gathers (λ gap. Contains old gap) xs) (sym (few l).0) record { only = λ gap k. k; each = itself old }
+  | inr l ↦ least_gather old new (many l).0
+]
 
 pub gathers_on : {P : Gap → Type 0} (old new : List Gap) → Gathers P old → Gathers (λ gap. Contains old gap) new → Gathers P new
 gathers_on {P} old new h k = record { only = λ gap c. h.only gap (k.only gap c); each = each }

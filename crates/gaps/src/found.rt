@@ -1,8 +1,8 @@
 //! The lines that were found, and where a line of a layer and two nets stands among them.
 ghost use Rattle.gaps.specs.Firsts.{AreFirsts};
-ghost use Rattle.gaps.specs.Meetings.{Covered, GainsLines, Gathers, IsLineOf};
+ghost use Rattle.gaps.specs.Meetings.{Covered, GainsLines, IsLineOf};
 ghost use Rattle.gaps.specs.declared.gap.Gap.{Gap};
-ghost use Rattle.std.specs.Prelude.{Contains, IfOk, IsTrue, OnOk, length, [], ◌+◌, ◌++◌, ◌<◌, ◌≡◌, ◌∷◌};
+ghost use Rattle.std.specs.Prelude.{Contains, IfOk, IsTrue, OnOk, length, max, min, [], ◌+◌, ◌-◌, ◌*◌, ◌^◌, ◌++◌, ◌<◌, ◌≤◌, ◌≡◌, ◌∷◌};
 
 use super::gap::{Gap, keep_firsts};
 use lengths::rows::NoMemory;
@@ -80,7 +80,8 @@ impl Found {
         mixed as usize & self.last
     }
 
-    /// Whether a line of the same layer and nets that has no greater pieces was looked up.
+    /// Whether a line of the same layer and nets that has no greater pieces was looked up. One may stand that was not: an
+    /// entry is a guess.
     fn covers(&self, line: &Gap) -> bool
         ensures { IsTrue result → Covered self.now.lines.items line.now }
     {
@@ -129,10 +130,11 @@ impl Found {
         Ok(())
     }
 
-    /// Where there are as many lines as `most` and as `FEW`, keeps of each layer and two nets the least; how many lines may
-    /// stand from then on.
+    /// Where there are as many lines as `most` and as `FEW`, keeps of each layer and two nets the least, else all; how many
+    /// lines may stand from then on: twice those that are kept, else `most`.
     pub fn thin(&mut self, most: usize) -> usize
-        ensures { Gathers (Contains self.old.lines.items) self.new.lines.items }
+        ensures few { length self.old.lines.items < max most FEW → (self.new.lines.items ≡ self.old.lines.items) × (result ≡ most) }
+        ensures many { max most FEW ≤ length self.old.lines.items → AreFirsts (Contains self.old.lines.items) self.new.lines.items × (result ≡ min (2 * length self.new.lines.items) (2 ^ 64 - 1)) }
     {
         if self.lines.len() < most.max(FEW) {
             return most;

@@ -4,7 +4,7 @@ use Rattle.cell_index.specs.Among.{TouchAmong, bottom_in, extent_in, top_in}
 use Rattle.cell_index.specs.Field.{IsNear, rivals_of}
 use Rattle.gaps.specs.Meetings.{IsOver, net_of, span_of}
 use Rattle.gaps.specs.declared.gap.Gap.{Gap}
-use Rattle.gaps.proofs.Collecting.{IsCollected, collected_all, collected_more, collected_none, gathers_on, one_row, rows_within}
+use Rattle.gaps.proofs.Collecting.{IsCollected, collected_all, collected_more, collected_none, gathers_on, one_row, rows_within, thinned}
 use Rattle.gaps.proofs.meetings.meetings.Goals as goal
 
 pub loop-i-init : goal.loop-i-init
@@ -29,7 +29,8 @@ loop-i-preserved g c =
     let e : c.deref.result.now ≡ c.candidates.new.into.items = search rules in (
       gathers_on c.add_piece.new.found.lines.items c.thin-most.new.self.lines.items
           (collected_more (length c.args.field.now.items.now) (TouchAmong g.S.Closed.holds c.args.field.now.items.now) c.args.numbers.now c.args.spans.now c.loop-i.i c.deref.result.now c.loop-i.found.lines.items c.add_piece.new.found.lines.items
-          (subst (λ (xs : List ℕ). (q : ℕ) → IsOver c.args.numbers.now c.args.spans.now (net_of c.args.numbers.now c.loop-i.i) (span_of c.args.spans.now c.loop-i.i) q → IsNear (length c.args.field.now.items.now) (TouchAmong g.S.Closed.holds c.args.field.now.items.now) c.loop-i.i q → Contains xs q) (sym e) c.in_ok-candidates.ensures.near) c.loop-i.invariant.0 c.in_ok-add_piece.ensures.lines) c.thin-most.ensures,
+          (subst (λ (xs : List ℕ). (q : ℕ) → IsOver c.args.numbers.now c.args.spans.now (net_of c.args.numbers.now c.loop-i.i) (span_of c.args.spans.now c.loop-i.i) q → IsNear (length c.args.field.now.items.now) (TouchAmong g.S.Closed.holds c.args.field.now.items.now) c.loop-i.i q → Contains xs q) (sym e) c.in_ok-candidates.ensures.near) c.loop-i.invariant.0 c.in_ok-add_piece.ensures.lines)
+          (thinned _ c.add_piece.new.found.lines.items c.thin-most.new.self.lines.items c.thin-most.ensures.few c.thin-most.ensures.many),
       omega arith,
       one_row (rivals_of (length c.args.field.now.items.now) (extent_in g.S.Closed.extent c.args.field.now.items.now) (top_in c.args.field.now.items.now) (bottom_in c.args.field.now.items.now)) c.loop-i.i _ _ _ c.loop-i.invariant.2 c.add_piece.ensures.ticks,
     )
