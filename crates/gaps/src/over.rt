@@ -1,5 +1,6 @@
 //! The pieces that may make lines with a piece.
 ghost use Rattle.gaps.specs.Meetings.{IsOver};
+ghost use Rattle.std.specs.Prelude.{IsTrue, length, ◌<◌};
 
 use super::meetings::Span;
 use cell_index::Wanted;
@@ -16,7 +17,11 @@ pub struct Over<'a> {
 impl<'a> Wanted for Over<'a> {
     ghost wanted = { λ over piece. IsOver over.numbers.now over.spans.now over.net over.span piece };
 
-    fn wants(&self, piece: u32) -> bool {
+    /// Of a piece with a span exactly whether it is one.
+    fn wants(&self, piece: u32) -> bool
+        ensures wanted { IsOver self.now.numbers.now self.now.spans.now self.now.net self.now.span piece → IsTrue result }
+        ensures only { piece < length self.now.spans.now → IsTrue result → IsOver self.now.numbers.now self.now.spans.now self.now.net self.now.span piece }
+    {
         let Some(net) = self.numbers.get(piece as usize) else {
             return false;
         };
