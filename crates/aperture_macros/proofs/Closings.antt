@@ -18,7 +18,7 @@ use Rattle.aperture_macros.specs.Images.{area_at, is_closed, is_done, judged_by,
 use Rattle.aperture_macros.specs.Outlines.{closing_at, last_from, moved_from}
 use Rattle.aperture_macros.specs.Seen.{IsRefusal, Makes}
 use Rattle.aperture_macros.specs.declared.primitive.Form.TheVariants.{Outline}
-use Rattle.aperture_macros.specs.declared.primitive.Lines.{Lines}
+use Rattle.aperture_macros.specs.declared.primitive.Copper.{Copper}
 use Rattle.aperture_macros.specs.declared.primitive.Rotation.{Rotation}
 use Rattle.aperture_macros.specs.declared.fault.FigureFault.{FigureFault}
 use Rattle.aperture_macros.specs.declared.fault.FigureFault.TheVariants.{Macro, NoMemory}
@@ -80,7 +80,7 @@ both false y h = cc
 abbrev spot : ℤ → ℤ → Spot
 spot x y = record { x = x; y = y }
 
-spot_is : (p q : Spot) → same_spot p q ≡ true → p ≡ q
+pub spot_is : (p q : Spot) → same_spot p q ≡ true → p ≡ q
 spot_is p q h =
     let b = both (int_eq p.x q.x) (int_eq p.y q.y) h in
     let x : p.x ≡ q.x = (Decides-int_eq p.x q.x).0 b.0 in
@@ -91,7 +91,7 @@ end_moved : (f : Spot → Spot) (p : Spot) (ps : List Spot) → end_from (f p) (
 end_moved f p [] = refl
 end_moved f p (q ∷ ps) = end_moved f q ps
 
-closed_moved : (f : Spot → Spot) (points : List Spot) → is_closed points ≡ true → IsClosed (map f points)
+pub closed_moved : (f : Spot → Spot) (points : List Spot) → is_closed points ≡ true → IsClosed (map f points)
 closed_moved f [] h = tt
 closed_moved f (p ∷ ps) h = end_moved f p ps ∙ ap f (spot_is (end_from p ps) p h)
 
@@ -149,9 +149,9 @@ judged_refused n text given unit fault h = by (outline_at n text given unit) (sy
     by (Err g) e = (let k : g ≡ fault = cc in ap Err k)
 
 -- what the judgement of an outline is
-pub judged_is : (lines : Lines) (n : ℕ) (text : List ℕ) (given : List Fraction) (unit : Measure) → closing_at n text given unit ≡ judged_by lines (Outline n) text given unit
+pub judged_is : (copper : Copper) (n : ℕ) (text : List ℕ) (given : List Fraction) (unit : Measure) → closing_at n text given unit ≡ judged_by copper (Outline n) text given unit
 unfolding judged_by
-judged_is lines n text given unit = closing_is n text given unit
+judged_is copper n text given unit = closing_is n text given unit
 
 -- why there are no moved points is why there is no figure
 pub points_refused : (rotation : Rotation) (at : Spot) (n : ℕ) (text : List ℕ) (given : List Fraction) (unit : Measure) (fault : FigureFault) → IsRefusal (moved_from (set_down rotation at) [] (n + 1) text given unit) fault → Makes (Err fault) (outlined rotation at (outline_at n text given unit))
@@ -164,3 +164,15 @@ outline_placed f n text given unit moved o placed = rw (o.outline, ← o.each, p
 
 pub outline_unplaced : (f : Spot → Spot) (n : ℕ) (text : List ℕ) (given : List Fraction) (unit : Measure) (moved : List Spot) → IsOutlined f n text given unit moved → list_all is_placed moved ≡ false → (outline_at n text given unit >>= λ points. area_at (map f points)) ≡ Err OutOfRange
 outline_unplaced f n text given unit moved o placed = rw (o.outline, ← o.each, placed) refl
+
+-- an outline is closed, and has a point more than edges
+pub outline_is : (n : ℕ) (text : List ℕ) (given : List Fraction) (unit : Measure) (points : List Spot) → outline_at n text given unit ≡ Ok points → (is_closed points ≡ true) × (length points ≡ n + 1)
+unfolding outline_at
+outline_is n text given unit points h = by (points_from [] (n + 1) text given unit) refl h
+  where
+    by : (r : Result (List Spot) MacroFault) → points_from [] (n + 1) text given unit ≡ r → (r >>= λ ps. cond (is_closed ps) (Ok ps) (Err BadMacro)) ≡ Ok points → (is_closed points ≡ true) × (length points ≡ n + 1)
+    by (Err fault) e h = cc
+    by (Ok made) e h =
+        let c = past_checked (is_closed made) made points h in
+        let long = length_is [] (n + 1) text given unit made e in
+        (subst (λ (ps : List Spot). is_closed ps ≡ true) c.1 c.0, ap length (sym c.1) ∙ long ∙ omega arith)

@@ -3,3 +3,6 @@ pub mod Steps
 pub mod Strokes
 pub mod Closings
 pub mod Turns
+pub mod Readings
+pub mod Told
+pub mod RealAreas

@@ -8,7 +8,7 @@ use Rattle.std.specs.Prelude.{nat_lt, IfOk}
 use Rattle.contact.specs.declared.TheConstants.{MOST_DIAMETER}
 use Rattle.planar.specs.Plane.{is_placed}
 use Rattle.planar.specs.declared.Spot.{Spot}
-use Rattle.board_shapes.specs.Figures.{Stroke as Figured, filled, round}
+use Rattle.board_shapes.specs.Figures.{Figure, Stroke as Figured, filled, round}
 use Rattle.board_shapes.specs.Rectangles.{halved, rectangle}
 use Rattle.lengths.specs.Decimal.{Fraction}
 use Rattle.lengths.specs.declared.decimal.Unit.{Unit as Measure}
@@ -18,16 +18,20 @@ use Rattle.aperture_macros.specs.declared.images.Sketch.{Sketch}
 use Rattle.aperture_macros.specs.declared.images.Sketch.TheVariants.{Disc, Rectangle, Stroke}
 use Rattle.aperture_macros.specs.declared.primitive.Form.{Form}
 use Rattle.aperture_macros.specs.declared.primitive.Form.TheVariants.{Circle, Outline, VectorLine, CentreLine}
-use Rattle.aperture_macros.specs.declared.primitive.Lines.{Lines}
-use Rattle.aperture_macros.specs.declared.primitive.Lines.TheVariants.{AlongAxes, Any}
+use Rattle.aperture_macros.specs.declared.primitive.Copper.{Copper}
+use Rattle.aperture_macros.specs.declared.primitive.Copper.TheVariants.{Exact, Real}
 use Rattle.aperture_macros.specs.declared.primitive.Rotation.{Rotation}
 use Rattle.aperture_macros.specs.declared.primitive.Rotation.TheVariants.{Unturned, Quarter, Half, ThreeQuarters}
 use Rattle.aperture_macros.specs.BodyWord.{◌>>=◌, part, past}
 use Rattle.aperture_macros.specs.Images.{area_at, circle_at, centre_at, centred, disc_at, figure_by, is_done, judged_by, line_at, line_between, outline_at, outlined, set_down, sketch_at, sketched, slanted, strip, stroke_at}
+use Rattle.aperture_macros.specs.declared.primitive.Turning.{Turning}
+use Rattle.aperture_macros.specs.declared.primitive.Turning.TheVariants.{Quarters, Degrees}
+use Rattle.aperture_macros.specs.Flashes.{figure_turned, tell, told_figure, turn_behind, turn_judged}
+use Rattle.aperture_macros.specs.Telling.{told}
 use Rattle.aperture_macros.specs.Laws.{FlashesDiscsAlone, IsSlanted, StrokesAreSlantedLines}
 use Rattle.aperture_macros.specs.Values.{diameter_at, point_at, size_at}
 
-then_ok : {A B : Type 0} (r : Result A MacroFault) (f : A → Result B MacroFault) (y : B) → (r >>= f) ≡ Ok y → (x : A) × (r ≡ Ok x) × (f x ≡ Ok y)
+pub then_ok : {A B : Type 0} (r : Result A MacroFault) (f : A → Result B MacroFault) (y : B) → (r >>= f) ≡ Ok y → (x : A) × (r ≡ Ok x) × (f x ≡ Ok y)
 then_ok (Ok x) f y h = (x, refl, h)
 then_ok (Err e) f y h = cc
 
@@ -39,9 +43,9 @@ done_ok (Err e) h = cc
 -- ---- Sketches
 
 -- a stroke is told by a slanted line, where these lines are taken
-IsFor : Lines → Option Sketch → Type 0
-IsFor lines (Some (Stroke p q w)) = (lines ≡ Any) × (p.x ≢ q.x) × (p.y ≢ q.y)
-IsFor lines other = Unit {0}
+IsFor : Copper → Option Sketch → Type 0
+IsFor copper (Some (Stroke p q w)) = (copper ≡ Real) × (p.x ≢ q.x) × (p.y ≢ q.y)
+IsFor copper other = Unit {0}
 
 -- none, a disc or a rectangle
 IsFlat : Option Sketch → Type 0
@@ -74,78 +78,78 @@ centre_flat text given unit s h =
     let same : centred w.0 t.0 p.0 ≡ s = cc in
     subst IsFlat same (one_flat _ _ _)
 
-strip_for : (lines : Lines) (a b : Bool) (low high low' high' : Spot) → IsFor lines (cond a None (cond b (Some (Rectangle low high)) (Some (Rectangle low' high'))))
+strip_for : (copper : Copper) (a b : Bool) (low high low' high' : Spot) → IsFor copper (cond a None (cond b (Some (Rectangle low high)) (Some (Rectangle low' high'))))
 unfolding IsFor
-strip_for lines true b low high low' high' = tt
-strip_for lines false true low high low' high' = tt
-strip_for lines false false low high low' high' = tt
+strip_for copper true b low high low' high' = tt
+strip_for copper false true low high low' high' = tt
+strip_for copper false false low high low' high' = tt
 
 differ : (x y : ℤ) → int_eq x y ≡ false → x ≢ y
 differ x y e same = let is : int_eq x y ≡ true = (Decides-int_eq x y).1 same in let never : false ≡ true = sym e ∙ is in cc
 
-slanted_for : (lines : Lines) (w : ℕ) (p q : Spot) (s : Option Sketch) → p.x ≢ q.x → p.y ≢ q.y → slanted lines w p q ≡ Ok s → IsFor lines s
+slanted_for : (copper : Copper) (w : ℕ) (p q : Spot) (s : Option Sketch) → p.x ≢ q.x → p.y ≢ q.y → slanted copper w p q ≡ Ok s → IsFor copper s
 unfolding IsFor
-slanted_for AlongAxes w p q s x y h = cc
-slanted_for Any w p q s x y h = by (nat_lt MOST_DIAMETER w) (w == 0) h
+slanted_for Exact w p q s x y h = cc
+slanted_for Real w p q s x y h = by (nat_lt MOST_DIAMETER w) (w == 0) h
   where
-    by : (a b : Bool) → cond a (Err OutOfRange) (Ok (cond b None (Some (Stroke p q w)))) ≡ Ok s → IsFor Any s
+    by : (a b : Bool) → cond a (Err OutOfRange) (Ok (cond b None (Some (Stroke p q w)))) ≡ Ok s → IsFor Real s
     by true b h = cc
-    by false true h = let same : None ≡ s = cc in subst (IsFor Any) same tt
-    by false false h = let same : Some (Stroke p q w) ≡ s = cc in subst (IsFor Any) same (refl, x, y)
+    by false true h = let same : None ≡ s = cc in subst (IsFor Real) same tt
+    by false false h = let same : Some (Stroke p q w) ≡ s = cc in subst (IsFor Real) same (refl, x, y)
 
-between_for : (lines : Lines) (w : ℕ) (p q : Spot) (s : Option Sketch) → line_between lines w p q ≡ Ok s → IsFor lines s
+between_for : (copper : Copper) (w : ℕ) (p q : Spot) (s : Option Sketch) → line_between copper w p q ≡ Ok s → IsFor copper s
 unfolding line_between
-between_for lines w p q s h = by (int_eq p.x q.x) (int_eq p.y q.y) refl refl h
+between_for copper w p q s h = by (int_eq p.x q.x) (int_eq p.y q.y) refl refl h
   where
-    by : (a b : Bool) → int_eq p.x q.x ≡ a → int_eq p.y q.y ≡ b → cond a (Ok (strip w p q w 0)) (cond b (Ok (strip w p q 0 w)) (slanted lines w p q)) ≡ Ok s → IsFor lines s
-    by true b e g h = let same : strip w p q w 0 ≡ s = cc in subst (IsFor lines) same (strip_for lines _ _ _ _ _ _)
-    by false true e g h = let same : strip w p q 0 w ≡ s = cc in subst (IsFor lines) same (strip_for lines _ _ _ _ _ _)
-    by false false e g h = slanted_for lines w p q s (differ p.x q.x e) (differ p.y q.y g) h
+    by : (a b : Bool) → int_eq p.x q.x ≡ a → int_eq p.y q.y ≡ b → cond a (Ok (strip w p q w 0)) (cond b (Ok (strip w p q 0 w)) (slanted copper w p q)) ≡ Ok s → IsFor copper s
+    by true b e g h = let same : strip w p q w 0 ≡ s = cc in subst (IsFor copper) same (strip_for copper _ _ _ _ _ _)
+    by false true e g h = let same : strip w p q 0 w ≡ s = cc in subst (IsFor copper) same (strip_for copper _ _ _ _ _ _)
+    by false false e g h = slanted_for copper w p q s (differ p.x q.x e) (differ p.y q.y g) h
 
 -- the width and the ends of a line that is taken
-record Between (lines : Lines) (text : List ℕ) (given : List Fraction) (unit : Measure) (s : Option Sketch) : Type 0 where
+record Between (copper : Copper) (text : List ℕ) (given : List Fraction) (unit : Measure) (s : Option Sketch) : Type 0 where
   w : ℕ
   p : Spot
   q : Spot
-  is : line_between lines w p q ≡ Ok s
-  all : (others : Lines) → line_at others text given unit ≡ line_between others w p q
+  is : line_between copper w p q ≡ Ok s
+  all : (others : Copper) → line_at others text given unit ≡ line_between others w p q
 
-same_ends : (lines : Lines) (text : List ℕ) (given : List Fraction) (unit : Measure) (w : ℕ) (p q : Spot) → size_at (part 0 text) given unit ≡ Ok w → point_at (past 1 text) given unit ≡ Ok p → point_at (past 3 text) given unit ≡ Ok q → line_at lines text given unit ≡ line_between lines w p q
+same_ends : (copper : Copper) (text : List ℕ) (given : List Fraction) (unit : Measure) (w : ℕ) (p q : Spot) → size_at (part 0 text) given unit ≡ Ok w → point_at (past 1 text) given unit ≡ Ok p → point_at (past 3 text) given unit ≡ Ok q → line_at copper text given unit ≡ line_between copper w p q
 unfolding line_at
-same_ends lines text given unit w p q size start end = rw (size, start, end) refl
+same_ends copper text given unit w p q size start end = rw (size, start, end) refl
 
-line_is : (lines : Lines) (text : List ℕ) (given : List Fraction) (unit : Measure) (s : Option Sketch) → line_at lines text given unit ≡ Ok s → Between lines text given unit s
+line_is : (copper : Copper) (text : List ℕ) (given : List Fraction) (unit : Measure) (s : Option Sketch) → line_at copper text given unit ≡ Ok s → Between copper text given unit s
 unfolding line_at
-line_is lines text given unit s h =
-    let w = then_ok (size_at (part 0 text) given unit) (λ w. point_at (past 1 text) given unit >>= λ p. point_at (past 3 text) given unit >>= λ q. line_between lines w p q) s h in
-    let p = then_ok (point_at (past 1 text) given unit) (λ p. point_at (past 3 text) given unit >>= λ q. line_between lines w.0 p q) s w.2 in
-    let q = then_ok (point_at (past 3 text) given unit) (λ q. line_between lines w.0 p.0 q) s p.2 in
+line_is copper text given unit s h =
+    let w = then_ok (size_at (part 0 text) given unit) (λ w. point_at (past 1 text) given unit >>= λ p. point_at (past 3 text) given unit >>= λ q. line_between copper w p q) s h in
+    let p = then_ok (point_at (past 1 text) given unit) (λ p. point_at (past 3 text) given unit >>= λ q. line_between copper w.0 p q) s w.2 in
+    let q = then_ok (point_at (past 3 text) given unit) (λ q. line_between copper w.0 p.0 q) s p.2 in
     record { w = w.0; p = p.0; q = q.0; is = q.2; all = λ others. same_ends others text given unit w.0 p.0 q.0 w.1 p.1 q.1 }
 
-line_for : (lines : Lines) (text : List ℕ) (given : List Fraction) (unit : Measure) (s : Option Sketch) → line_at lines text given unit ≡ Ok s → IsFor lines s
-line_for lines text given unit s h = let l = line_is lines text given unit s h in between_for lines l.w l.p l.q s l.is
+line_for : (copper : Copper) (text : List ℕ) (given : List Fraction) (unit : Measure) (s : Option Sketch) → line_at copper text given unit ≡ Ok s → IsFor copper s
+line_for copper text given unit s h = let l = line_is copper text given unit s h in between_for copper l.w l.p l.q s l.is
 
-taken_flat : (s : Option Sketch) → IsFor AlongAxes s → IsFlat s
+taken_flat : (s : Option Sketch) → IsFor Exact s → IsFlat s
 unfolding IsFor IsFlat
 taken_flat None f = tt
 taken_flat (Some (Disc p d)) f = tt
 taken_flat (Some (Rectangle low high)) f = tt
-taken_flat (Some (Stroke p q w)) f = let never : AlongAxes ≡ Any = f.0 in cc
+taken_flat (Some (Stroke p q w)) f = let never : Exact ≡ Real = f.0 in cc
 
 -- what is taken along an axis is the same where any line is
-between_same : (w : ℕ) (p q : Spot) (s : Option Sketch) → line_between AlongAxes w p q ≡ Ok s → line_between Any w p q ≡ Ok s
+between_same : (w : ℕ) (p q : Spot) (s : Option Sketch) → line_between Exact w p q ≡ Ok s → line_between Real w p q ≡ Ok s
 unfolding line_between
 between_same w p q s h = by (int_eq p.x q.x) (int_eq p.y q.y) h
   where
-    by : (a b : Bool) → cond a (Ok (strip w p q w 0)) (cond b (Ok (strip w p q 0 w)) (Err Slanted)) ≡ Ok s → cond a (Ok (strip w p q w 0)) (cond b (Ok (strip w p q 0 w)) (slanted Any w p q)) ≡ Ok s
+    by : (a b : Bool) → cond a (Ok (strip w p q w 0)) (cond b (Ok (strip w p q 0 w)) (Err Slanted)) ≡ Ok s → cond a (Ok (strip w p q w 0)) (cond b (Ok (strip w p q 0 w)) (slanted Real w p q)) ≡ Ok s
     by true b h = h
     by false true h = h
     by false false h = cc
 
-pub line_any : (lines : Lines) (text : List ℕ) (given : List Fraction) (unit : Measure) (r : Result (Option Sketch) MacroFault) → r ≡ line_at lines text given unit → IfOk r (λ s. line_at Any text given unit ≡ Ok s)
-line_any lines text given unit (Err why) h = tt
-line_any AlongAxes text given unit (Ok s) h = let l = line_is AlongAxes text given unit s (sym h) in l.all Any ∙ between_same l.w l.p l.q s l.is
-line_any Any text given unit (Ok s) h = sym h
+pub line_any : (copper : Copper) (text : List ℕ) (given : List Fraction) (unit : Measure) (r : Result (Option Sketch) MacroFault) → r ≡ line_at copper text given unit → IfOk r (λ s. line_at Real text given unit ≡ Ok s)
+line_any copper text given unit (Err why) h = tt
+line_any Exact text given unit (Ok s) h = let l = line_is Exact text given unit s (sym h) in l.all Real ∙ between_same l.w l.p l.q s l.is
+line_any Real text given unit (Ok s) h = sym h
 
 -- ---- Figures
 
@@ -192,7 +196,7 @@ turned_slanted ThreeQuarters at p q x y = (plus_differ at.x p.y q.y y, less_diff
 slanted_by : (a b : Spot) (s : Figured) → a ≡ s.a → b ≡ s.b → (a.x ≢ b.x) × (a.y ≢ b.y) → IsSlanted s
 slanted_by a b s h k differ = rw (h, k) at differ
 
-line_ends : (rotation : Rotation) (at : Spot) (o : Option Sketch) (s : Figured) → IsFor Any o → sketch_at rotation at o ≡ Ok (Some (round s)) → s.a ≢ s.b → IsSlanted s
+line_ends : (rotation : Rotation) (at : Spot) (o : Option Sketch) (s : Figured) → IsFor Real o → sketch_at rotation at o ≡ Ok (Some (round s)) → s.a ≢ s.b → IsSlanted s
 unfolding sketch_at IsFor
 line_ends rotation at None s f h apart = cc
 line_ends rotation at (Some (Disc p d)) s f h apart = absurd (apart (disc_ends (set_down rotation at p) d s h))
@@ -211,32 +215,49 @@ outline_none n rotation text given unit at s h =
 flat_by : (r : Result (Option Sketch) MacroFault) (rotation : Rotation) (at : Spot) (s : Figured) → ((o : Option Sketch) → r ≡ Ok o → IsFlat o) → sketched rotation at r ≡ Ok (Some (round s)) → s.a ≡ s.b
 flat_by r rotation at s flat h = let o = then_ok r (sketch_at rotation at) (Some (round s)) h in flat_ends rotation at o.0 s (flat o.0 o.1) o.2
 
-judged_flat : (text : List ℕ) (given : List Fraction) (unit : Measure) → is_done (line_at AlongAxes text given unit) ≡ Ok tt → (o : Option Sketch) → line_at Any text given unit ≡ Ok o → IsFlat o
+judged_flat : (text : List ℕ) (given : List Fraction) (unit : Measure) → is_done (line_at Exact text given unit) ≡ Ok tt → (o : Option Sketch) → line_at Real text given unit ≡ Ok o → IsFlat o
 judged_flat text given unit j o h =
-    let d = done_ok (line_at AlongAxes text given unit) j in
-    let l = line_is AlongAxes text given unit d.0 d.1 in
-    let there : ◌≡◌ {A = Result (Option Sketch) MacroFault} (Ok d.0) (Ok o) = sym (l.all Any ∙ between_same l.w l.p l.q d.0 l.is) ∙ h in
+    let d = done_ok (line_at Exact text given unit) j in
+    let l = line_is Exact text given unit d.0 d.1 in
+    let there : ◌≡◌ {A = Result (Option Sketch) MacroFault} (Ok d.0) (Ok o) = sym (l.all Real ∙ between_same l.w l.p l.q d.0 l.is) ∙ h in
     let same : d.0 ≡ o = cc in
-    subst IsFlat same (taken_flat d.0 (line_for AlongAxes text given unit d.0 d.1))
+    subst IsFlat same (taken_flat d.0 (line_for Exact text given unit d.0 d.1))
 
-discs_by : (form : Form) (rotation : Rotation) (text : List ℕ) (given : List Fraction) (unit : Measure) (at : Spot) (s : Figured) → judged_by AlongAxes form text given unit ≡ Ok tt → figure_by form rotation text given unit at ≡ Ok (Some (round s)) → s.a ≡ s.b
+discs_by : (form : Form) (rotation : Rotation) (text : List ℕ) (given : List Fraction) (unit : Measure) (at : Spot) (s : Figured) → judged_by Exact form text given unit ≡ Ok tt → figure_by form rotation text given unit at ≡ Ok (Some (round s)) → s.a ≡ s.b
 unfolding judged_by figure_by
 discs_by Circle rotation text given unit at s j h = flat_by (circle_at text given unit) rotation at s (circle_flat text given unit) h
 discs_by (Outline n) rotation text given unit at s j h = outline_none n rotation text given unit at s h
-discs_by VectorLine rotation text given unit at s j h = flat_by (line_at Any text given unit) rotation at s (judged_flat text given unit j) h
+discs_by VectorLine rotation text given unit at s j h = flat_by (line_at Real text given unit) rotation at s (judged_flat text given unit j) h
 discs_by CentreLine rotation text given unit at s j h = flat_by (centre_at text given unit) rotation at s (centre_flat text given unit) h
 
+told_round : (about : Spot) (rest : ℕ) (o : Option Figure) (s : Figured) → tell about rest o ≡ Ok (Some (round s)) → ◌≡◌ {A = Result (Option Figure) MacroFault} (Ok o) (Ok (Some (round s)))
+told_round about rest None s h = cc
+told_round about rest (Some (round t)) s h = h
+told_round about rest (Some (filled points)) s h = no_area (told about rest points) s h
+
+-- what tells no turn is as it is by quarter turns
+round_by : (turning : Turning) (form : Form) (text : List ℕ) (given : List Fraction) (unit : Measure) (at : Spot) (s : Figured) → figure_turned turning form text given unit at ≡ Ok (Some (round s)) → (rotation : Rotation) × (figure_by form rotation text given unit at ≡ Ok (Some (round s)))
+unfolding figure_turned
+round_by (Quarters rotation) form text given unit at s h = (rotation, h)
+round_by Degrees form text given unit at s h =
+    let t = then_ok (turn_behind form text given) (λ turn. told_figure turn form text given unit at) (Some (round s)) h in
+    let f = then_ok (figure_by form t.0.quarters text given unit at) (λ figure. tell at t.0.rest figure) (Some (round s)) t.2 in
+    (t.0.quarters, f.1 ∙ told_round at t.0.rest f.0 s f.2)
+
 pub flashes_discs_alone : FlashesDiscsAlone
-flashes_discs_alone p given unit at s j h = discs_by p.form p.rotation p.lengths given unit at s j h
+flashes_discs_alone p given unit at s j h =
+    let r = round_by p.rotation p.form p.lengths given unit at s h in
+    let d = then_ok (judged_by Exact p.form p.lengths given unit) (λ done. turn_judged p.rotation p.form p.lengths given unit) tt j in
+    discs_by p.form r.0 p.lengths given unit at s d.1 r.1
 
 strokes_by : (form : Form) (rotation : Rotation) (text : List ℕ) (given : List Fraction) (unit : Measure) (at : Spot) (s : Figured) → figure_by form rotation text given unit at ≡ Ok (Some (round s)) → s.a ≢ s.b → (form ≡ VectorLine) × IsSlanted s
 unfolding figure_by
 strokes_by Circle rotation text given unit at s h apart = absurd (apart (flat_by (circle_at text given unit) rotation at s (circle_flat text given unit) h))
 strokes_by (Outline n) rotation text given unit at s h apart = outline_none n rotation text given unit at s h
 strokes_by VectorLine rotation text given unit at s h apart =
-    let o = then_ok (line_at Any text given unit) (sketch_at rotation at) (Some (round s)) h in
-    (refl, line_ends rotation at o.0 s (line_for Any text given unit o.0 o.1) o.2 apart)
+    let o = then_ok (line_at Real text given unit) (sketch_at rotation at) (Some (round s)) h in
+    (refl, line_ends rotation at o.0 s (line_for Real text given unit o.0 o.1) o.2 apart)
 strokes_by CentreLine rotation text given unit at s h apart = absurd (apart (flat_by (centre_at text given unit) rotation at s (centre_flat text given unit) h))
 
 pub strokes_are_slanted_lines : StrokesAreSlantedLines
-strokes_are_slanted_lines p given unit at s h apart = strokes_by p.form p.rotation p.lengths given unit at s h apart
+strokes_are_slanted_lines p given unit at s h apart = let r = round_by p.rotation p.form p.lengths given unit at s h in strokes_by p.form r.0 p.lengths given unit at s r.1 apart

@@ -6,6 +6,10 @@ use Rattle.texts.specs.Words.{begins, is_word}
 use Rattle.lengths.specs.Decimal.{Fraction, is_decimal, fraction}
 use Rattle.aperture_macros.specs.declared.primitive.Form.{Form}
 use Rattle.aperture_macros.specs.declared.primitive.Form.TheVariants.{Circle, Outline, VectorLine, CentreLine}
+use Rattle.aperture_macros.specs.declared.primitive.Copper.{Copper}
+use Rattle.aperture_macros.specs.declared.primitive.Copper.TheVariants.{Exact, Real}
+use Rattle.aperture_macros.specs.declared.primitive.Turning.{Turning}
+use Rattle.aperture_macros.specs.declared.primitive.Turning.TheVariants.{Quarters, Degrees}
 use Rattle.aperture_macros.specs.declared.primitive.Rotation.{Rotation}
 use Rattle.aperture_macros.specs.declared.primitive.Rotation.TheVariants.{Unturned, Quarter, Half, ThreeQuarters}
 use Rattle.aperture_macros.specs.declared.primitive.Row.{Row}
@@ -22,7 +26,7 @@ abbrev pub ◌>>=◌ : {A B : Type 0} → Result A MacroFault → (A → Result 
 -- A primitive: what it is, how it is turned, and the body word from its first length on.
 pub record PlainPrimitive : Type 0 where
   pub form : Form
-  pub rotation : Rotation
+  pub rotation : Turning
   pub lengths : List ℕ
 
 abbrev pub is_comma : ℕ → Bool
@@ -103,26 +107,35 @@ rotation_of d =
     else (if is_number d 270 then Ok ThreeQuarters
     else Err Turn)))
 
--- The exposure, the lengths and the rotation are written as they must be, then the exposure is 1, then the rotation is
--- by quarter turns.
-unfoldable pub turned_at : Form → Fraction → List ℕ → List ℕ → Result PlainPrimitive MacroFault
-turned_at form exposure lengths rotation =
-    if not (are_expressions (count form) lengths) then Err BadMacro
-    else (if not (is_decimal rotation) then Err BadMacro
+-- The rotation is written as it must be, then the exposure is 1. Where copper is taken exactly, the rotation is a decimal, and then it is by
+-- quarter turns. In real copper it is an expression, and the turn by degrees; a circle may have none.
+unfoldable pub turning_at : Copper → Fraction → Bool → List ℕ → Result Turning MacroFault
+turning_at Exact exposure written rotation =
+    if not (is_decimal rotation) then Err BadMacro
     else (if not (is_number exposure 1) then Err ExposureOff
-    else (rotation_of (fraction rotation) >>= λ turn. Ok (record { form = form; rotation = turn; lengths = lengths }))))
+    else (rotation_of (fraction rotation) >>= λ turn. Ok (Quarters turn)))
+turning_at Real exposure written rotation =
+    if not (is_expression rotation) then Err BadMacro
+    else (if not (is_number exposure 1) then Err ExposureOff
+    else Ok (if written then Degrees else Quarters Unturned))
+
+-- the lengths are written as they must be, and then the rotation
+unfoldable pub turned_at : Copper → Form → Fraction → Bool → List ℕ → List ℕ → Result PlainPrimitive MacroFault
+turned_at copper form exposure written lengths rotation =
+    if not (are_expressions (count form) lengths) then Err BadMacro
+    else (turning_at copper exposure written rotation >>= λ turning. Ok (record { form = form; rotation = turning; lengths = lengths }))
 
 -- a word of n commas as a primitive of this form; its exposure is a decimal
-unfoldable pub form_in : Form → ℕ → List ℕ → Result PlainPrimitive MacroFault
-form_in form n word =
+unfoldable pub form_in : Copper → Form → ℕ → List ℕ → Result PlainPrimitive MacroFault
+form_in copper form n word =
     if not (is_decimal (part 1 word)) then Err BadMacro
-    else turned_at form (fraction (part 1 word)) (past (row form).head word) (rotation_text form n (past (row form).head word))
+    else turned_at copper form (fraction (part 1 word)) (has_rotation form n) (past (row form).head word) (rotation_text form n (past (row form).head word))
 
 -- a word whose code and commas give no form is no primitive
-abbrev pub some_form : Option Form → ℕ → List ℕ → Result (Option PlainPrimitive) MacroFault
-some_form None n word = Err BadMacro
-some_form (Some form) n word = form_in form n word >>= λ primitive. Ok (Some primitive)
+abbrev pub some_form : Copper → Option Form → ℕ → List ℕ → Result (Option PlainPrimitive) MacroFault
+some_form copper None n word = Err BadMacro
+some_form copper (Some form) n word = form_in copper form n word >>= λ primitive. Ok (Some primitive)
 
 -- a comment where the word begins with `0`, else a primitive
-unfoldable pub primitive_at : List ℕ → Result (Option PlainPrimitive) MacroFault
-primitive_at word = if begins word (codes "0") then Ok None else some_form (form_at word (commas word)) (commas word) word
+unfoldable pub primitive_at : Copper → List ℕ → Result (Option PlainPrimitive) MacroFault
+primitive_at copper word = if begins word (codes "0") then Ok None else some_form copper (form_at word (commas word)) (commas word) word

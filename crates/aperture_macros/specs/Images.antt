@@ -1,5 +1,5 @@
 -- The figures of primitives: about the origin of the macro, and where they are flashed.
-use Rattle.std.specs.Prelude.{◌≡◌, ◌≢◌, ℕ, zero, suc, ◌+◌, Bool, true, ◌&&◌, ◌||◌, ◌==◌, nat_lt, if◌then◌else◌, List, [], ◌∷◌, ◌++◌, map, ◌+ℤ◌, neg_ℤ, int_lt, Option, Some, None, Result, Ok, Err}
+use Rattle.std.specs.Prelude.{ℕ, zero, suc, ◌+◌, Bool, true, ◌&&◌, ◌||◌, ◌==◌, nat_lt, if◌then◌else◌, List, [], ◌∷◌, ◌++◌, map, ◌+ℤ◌, neg_ℤ, int_lt, Option, Some, None, Result, Ok, Err}
 use Rattle.std.specs.List.{list_all}
 use Rattle.std.specs.Ordering.{int_eq}
 use Rattle.planar.specs.Plane.{is_placed}
@@ -12,15 +12,15 @@ use Rattle.lengths.specs.Decimal.{Fraction}
 use Rattle.lengths.specs.declared.decimal.Unit.{Unit as Measure}
 use Rattle.aperture_macros.specs.declared.primitive.Form.{Form}
 use Rattle.aperture_macros.specs.declared.primitive.Form.TheVariants.{Circle, Outline, VectorLine, CentreLine}
-use Rattle.aperture_macros.specs.declared.primitive.Lines.{Lines}
-use Rattle.aperture_macros.specs.declared.primitive.Lines.TheVariants.{AlongAxes, Any}
+use Rattle.aperture_macros.specs.declared.primitive.Copper.{Copper}
+use Rattle.aperture_macros.specs.declared.primitive.Copper.TheVariants.{Exact, Real}
 use Rattle.aperture_macros.specs.declared.primitive.Rotation.{Rotation}
 use Rattle.aperture_macros.specs.declared.primitive.Rotation.TheVariants.{Unturned, Quarter, Half, ThreeQuarters}
 use Rattle.aperture_macros.specs.declared.images.Sketch.{Sketch}
 use Rattle.aperture_macros.specs.declared.images.Sketch.TheVariants.{Disc, Rectangle, Stroke}
 use Rattle.aperture_macros.specs.declared.fault.MacroFault.{MacroFault}
 use Rattle.aperture_macros.specs.declared.fault.MacroFault.TheVariants.{BadMacro, OutOfRange, Slanted}
-use Rattle.aperture_macros.specs.BodyWord.{◌>>=◌, PlainPrimitive, part, past}
+use Rattle.aperture_macros.specs.BodyWord.{◌>>=◌, part, past}
 use Rattle.aperture_macros.specs.Values.{diameter_at, point_at, size_at}
 
 -- the spots are one
@@ -48,21 +48,21 @@ strip w p q across up =
     else (if is_first p q then Some (between p q across up) else Some (between q p across up))
 
 -- A line along no axis is refused, or told by the stroke of its width between its ends, which its copper lies in; none with width 0.
-abbrev pub slanted : Lines → ℕ → Spot → Spot → Result (Option Sketch) MacroFault
-slanted AlongAxes w p q = Err Slanted
-slanted Any w p q = if nat_lt MOST_DIAMETER w then Err OutOfRange else Ok (if w == 0 then None else Some (Stroke p q w))
+abbrev pub slanted : Copper → ℕ → Spot → Spot → Result (Option Sketch) MacroFault
+slanted Exact w p q = Err Slanted
+slanted Real w p q = if nat_lt MOST_DIAMETER w then Err OutOfRange else Ok (if w == 0 then None else Some (Stroke p q w))
 
 -- A line from one point to the other: along an axis it is a rectangle, and none with width or length 0.
-unfoldable pub line_between : Lines → ℕ → Spot → Spot → Result (Option Sketch) MacroFault
-line_between lines w p q =
+unfoldable pub line_between : Copper → ℕ → Spot → Spot → Result (Option Sketch) MacroFault
+line_between copper w p q =
     if int_eq p.x q.x then Ok (strip w p q w 0)
-    else (if int_eq p.y q.y then Ok (strip w p q 0 w) else slanted lines w p q)
+    else (if int_eq p.y q.y then Ok (strip w p q 0 w) else slanted copper w p q)
 
 -- `w,x,y,x,y`: a vector line has flat ends (code 20)
-unfoldable pub line_at : Lines → List ℕ → List Fraction → Measure → Result (Option Sketch) MacroFault
-line_at lines text parameters unit =
+unfoldable pub line_at : Copper → List ℕ → List Fraction → Measure → Result (Option Sketch) MacroFault
+line_at copper text parameters unit =
     size_at (part 0 text) parameters unit >>= λ w. point_at (past 1 text) parameters unit >>= λ p. point_at (past 3 text) parameters unit >>= λ q.
-    line_between lines w p q
+    line_between copper w p q
 
 -- so far to each side of a point, by halves
 abbrev pub centred : ℕ → ℕ → Spot → Option Sketch
@@ -95,16 +95,12 @@ abbrev pub is_done : {A : Type 0} → Result A MacroFault → Result (Unit {0}) 
 is_done (Ok x) = Ok tt
 is_done (Err fault) = Err fault
 
--- by the form of the primitive and the text of its lengths, where these vector lines are taken
-unfoldable pub judged_by : Lines → Form → List ℕ → List Fraction → Measure → Result (Unit {0}) MacroFault
-judged_by lines Circle text parameters unit = is_done (circle_at text parameters unit)
-judged_by lines (Outline n) text parameters unit = is_done (outline_at n text parameters unit)
-judged_by lines VectorLine text parameters unit = is_done (line_at lines text parameters unit)
-judged_by lines CentreLine text parameters unit = is_done (centre_at text parameters unit)
-
--- the primitive's first fault with these parameters, if it has one
-abbrev pub judged : Lines → PlainPrimitive → List Fraction → Measure → Result (Unit {0}) MacroFault
-judged lines p parameters unit = judged_by lines p.form p.lengths parameters unit
+-- by the form of a primitive and the text of its lengths
+unfoldable pub judged_by : Copper → Form → List ℕ → List Fraction → Measure → Result (Unit {0}) MacroFault
+judged_by copper Circle text parameters unit = is_done (circle_at text parameters unit)
+judged_by copper (Outline n) text parameters unit = is_done (outline_at n text parameters unit)
+judged_by copper VectorLine text parameters unit = is_done (line_at copper text parameters unit)
+judged_by copper CentreLine text parameters unit = is_done (centre_at text parameters unit)
 
 -- the spot turned counterclockwise about the origin
 abbrev pub turned : Rotation → Spot → Spot
@@ -145,17 +141,5 @@ outlined rotation at points = points >>= λ ps. area_at (map (set_down rotation 
 unfoldable pub figure_by : Form → Rotation → List ℕ → List Fraction → Measure → Spot → Result (Option Figure) MacroFault
 figure_by Circle rotation text parameters unit at = sketched rotation at (circle_at text parameters unit)
 figure_by (Outline n) rotation text parameters unit at = outlined rotation at (outline_at n text parameters unit)
-figure_by VectorLine rotation text parameters unit at = sketched rotation at (line_at Any text parameters unit)
+figure_by VectorLine rotation text parameters unit at = sketched rotation at (line_at Real text parameters unit)
 figure_by CentreLine rotation text parameters unit at = sketched rotation at (centre_at text parameters unit)
-
--- what a primitive flashes at a spot
-abbrev pub figure_at : PlainPrimitive → List Fraction → Measure → Spot → Result (Option Figure) MacroFault
-figure_at p parameters unit at = figure_by p.form p.rotation p.lengths parameters unit at
-
--- the primitive has no image with these parameters: it flashes nothing, wherever that is
-abbrev pub IsBlank : PlainPrimitive → List Fraction → Measure → Type 0
-IsBlank p parameters unit = (at : Spot) → figure_at p parameters unit at ≡ Ok None
-
--- the primitive has an image with these parameters: wherever it is flashed, there is a figure or a fault
-abbrev pub HasImage : PlainPrimitive → List Fraction → Measure → Type 0
-HasImage p parameters unit = (at : Spot) → figure_at p parameters unit at ≢ Ok None

@@ -1,17 +1,21 @@
--- Laws of the strokes that primitives flash.
-use Rattle.std.specs.Prelude.{◌≡◌, ◌≢◌, List, Some, Ok}
-use Rattle.board_shapes.specs.Figures.{Stroke, round}
+-- Laws of the strokes and areas that primitives flash.
+use Rattle.std.specs.Prelude.{◌≡◌, ◌≢◌, ◌≤◌, ◌<◌, ℕ, List, length, Some, Ok}
+use Rattle.area_contact.specs.Contour.{IsClosed}
+use Rattle.board_shapes.specs.Figures.{Stroke, filled, round}
 use Rattle.lengths.specs.Decimal.{Fraction}
 use Rattle.lengths.specs.declared.decimal.Unit.{Unit as Measure}
 use Rattle.planar.specs.declared.Spot.{Spot}
 use Rattle.aperture_macros.specs.declared.primitive.Form.TheVariants.{VectorLine}
-use Rattle.aperture_macros.specs.declared.primitive.Lines.TheVariants.{AlongAxes}
-use Rattle.aperture_macros.specs.BodyWord.{PlainPrimitive}
-use Rattle.aperture_macros.specs.Images.{figure_at, judged}
+use Rattle.aperture_macros.specs.declared.primitive.Copper.TheVariants.{Exact, Real}
+use Rattle.aperture_macros.specs.declared.degrees.Turn.{Turn}
+use Rattle.aperture_macros.specs.BodyWord.{PlainPrimitive, primitive_at}
+use Rattle.aperture_macros.specs.Images.{figure_by}
+use Rattle.aperture_macros.specs.Flashes.{figure_at, judged, turn_behind}
+use Rattle.aperture_macros.specs.Telling.{told, told_in}
 
--- Where vector lines are taken along an axis alone, each stroke that a primitive flashes is a disc.
+-- Where copper is taken exactly, each stroke that a primitive flashes is a disc.
 abbrev pub FlashesDiscsAlone : Type 0
-FlashesDiscsAlone = (p : PlainPrimitive) (parameters : List Fraction) (unit : Measure) (at : Spot) (s : Stroke) → judged AlongAxes p parameters unit ≡ Ok tt → figure_at p parameters unit at ≡ Ok (Some (round s)) → s.a ≡ s.b
+FlashesDiscsAlone = (p : PlainPrimitive) (parameters : List Fraction) (unit : Measure) (at : Spot) (s : Stroke) → judged Exact p parameters unit ≡ Ok tt → figure_at p parameters unit at ≡ Ok (Some (round s)) → s.a ≡ s.b
 
 -- a stroke that runs along no axis
 abbrev pub IsSlanted : Stroke → Type 0
@@ -20,3 +24,20 @@ IsSlanted s = (s.a.x ≢ s.b.x) × (s.a.y ≢ s.b.y)
 -- A stroke that is no disc is that of a vector line along no axis.
 abbrev pub StrokesAreSlantedLines : Type 0
 StrokesAreSlantedLines = (p : PlainPrimitive) (parameters : List Fraction) (unit : Measure) (at : Spot) (s : Stroke) → figure_at p parameters unit at ≡ Ok (Some (round s)) → s.a ≢ s.b → (p.form ≡ VectorLine) × IsSlanted s
+
+-- What real copper tells of a closed contour of four spots or more is found in it.
+abbrev pub ToldIsFound : Type 0
+ToldIsFound = (about : Spot) (rest : ℕ) (contour : List Spot) → IsClosed contour → 4 ≤ length contour → told_in (told about rest contour) ≡ Some (record { contour = contour; about = about; rest = rest })
+
+-- an area that is told as the law below says
+pub record IsTold (p : PlainPrimitive) (parameters : List Fraction) (unit : Measure) (at : Spot) (points : List Spot) : Type 0 where
+  pub turn : Turn
+  pub contour : List Spot
+  pub said : turn_behind p.form p.lengths parameters ≡ Ok turn
+  pub below : turn.rest < 900000000
+  pub flashed : figure_by p.form turn.quarters p.lengths parameters unit at ≡ Ok (Some (filled contour))
+  pub found : told_in points ≡ Some (record { contour = contour; about = at; rest = turn.rest })
+
+-- Each area that a primitive of real copper flashes tells its contour by quarter turns, the spot, and what they leave of the rotation.
+abbrev pub RealAreasAreTold : Type 0
+RealAreasAreTold = (word : List ℕ) (p : PlainPrimitive) (parameters : List Fraction) (unit : Measure) (at : Spot) (points : List Spot) → primitive_at Real word ≡ Ok (Some p) → figure_at p parameters unit at ≡ Ok (Some (filled points)) → IsTold p parameters unit at points

@@ -3,6 +3,9 @@ pub mod Expression
 pub mod BodyWord
 pub mod Values
 pub mod Images
+pub mod Degrees
+pub mod Telling
+pub mod Flashes
 pub mod Seen
 pub mod Outlines
 pub mod Sketches

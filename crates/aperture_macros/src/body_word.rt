@@ -1,5 +1,5 @@
 //! How a body word is read.
-ghost use Rattle.std.specs.Prelude.{◌≡◌, IfSome};
+ghost use Rattle.std.specs.Prelude.{◌≡◌, Bool, IfSome};
 ghost use Rattle.lengths.specs.Decimal.{fraction};
 ghost use Rattle.aperture_macros.specs.BodyWord as spec;
 ghost use Rattle.aperture_macros.specs.Seen.{seen_body, seen_one};
@@ -7,7 +7,7 @@ ghost use Rattle.aperture_macros.specs.Sized.{IsSized};
 
 use crate::expression::is_expression;
 use crate::fault::MacroFault;
-use crate::primitive::{Form, Primitive, Rotation};
+use crate::primitive::{Copper, Form, Primitive, Rotation, Turning};
 use lengths::decimal::{Decimal, read_decimal};
 use texts::{after_byte, before_byte, begins, is_word};
 
@@ -16,10 +16,11 @@ use texts::{after_byte, before_byte, begins, is_word};
 /// `1,e,d,x,y,r`, `4,e,n,` with n + 1 points and `r`, `20,e,w,x,y,x,y,r` and `21,e,w,h,x,y,r`.
 ///
 /// `BadMacro` where it is none of these; then `ExposureOff` where the exposure is not equal to 1;
-/// then `Turn` where the rotation is not equal to 0, 90, 180 or 270.
+/// then, where copper is `Exact`, `Turn` where the rotation is not equal to 0, 90, 180 or 270. In `Real` copper the
+/// rotation is an expression.
 #[tactic(auto, unfolding(crate::specs::BodyWord::primitive_at))]
-pub fn read_body(word: &[u8]) -> Result<Option<Primitive<'_>>, MacroFault>
-    ensures { seen_body result ≡ spec.primitive_at word.now }
+pub fn read_body(copper: Copper, word: &[u8]) -> Result<Option<Primitive<'_>>, MacroFault>
+    ensures { seen_body result ≡ spec.primitive_at copper word.now }
 {
     if begins(word, b"0") {
         return Ok(None);
@@ -27,7 +28,7 @@ pub fn read_body(word: &[u8]) -> Result<Option<Primitive<'_>>, MacroFault>
     let commas = commas(word);
     match form_at(word, commas) {
         None => Err(MacroFault::BadMacro),
-        Some(form) => match form_in(form, commas, word) {
+        Some(form) => match form_in(copper, form, commas, word) {
             Ok(primitive) => Ok(Some(primitive)),
             Err(fault) => Err(fault),
         },
@@ -121,36 +122,84 @@ fn outline(word: &[u8], n: usize) -> Option<Form>
 }
 
 #[tactic(auto, unfolding(crate::specs::BodyWord::form_in))]
-fn form_in(form: Form, commas: usize, word: &[u8]) -> Result<Primitive<'_>, MacroFault>
+fn form_in(
+    copper: Copper,
+    form: Form,
+    commas: usize,
+    word: &[u8],
+) -> Result<Primitive<'_>, MacroFault>
     requires { IsSized form }
-    ensures { seen_one result ≡ spec.form_in form commas word.now }
+    ensures { seen_one result ≡ spec.form_in copper form commas word.now }
 {
     let Some(exposure) = read_decimal(part(1, word)) else {
         return Err(MacroFault::BadMacro);
     };
     let row = form.row();
     let lengths = past(row.head as u32, word);
-    let rotation = if commas == (row.head as u32 + row.count()) as usize {
+    let written = commas == (row.head as u32 + row.count()) as usize;
+    let rotation = if written {
         part(row.count(), lengths)
     } else {
         b"0"
     };
-    turned(form, &exposure, lengths, rotation)
+    turned(copper, form, &exposure, written, lengths, rotation)
 }
 
 #[tactic(auto, unfolding(crate::specs::BodyWord::turned_at))]
 fn turned<'a>(
+    copper: Copper,
     form: Form,
     exposure: &Decimal,
+    written: bool,
     lengths: &'a [u8],
     rotation: &[u8],
 ) -> Result<Primitive<'a>, MacroFault>
     requires { IsSized form }
-    ensures { seen_one result ≡ spec.turned_at form exposure.now lengths.now rotation.now }
+    ensures { seen_one result ≡ spec.turned_at copper form exposure.now written lengths.now rotation.now }
 {
     if !are_expressions(form.row().count(), lengths) {
         return Err(MacroFault::BadMacro);
     }
+    let rotation = turning(copper, exposure, written, rotation)?;
+    Ok(Primitive {
+        form,
+        rotation,
+        lengths,
+    })
+}
+
+// How a primitive is turned whose exposure is this, and which has a rotation if one is written.
+#[tactic(auto, unfolding(crate::specs::BodyWord::turning_at))]
+fn turning(
+    copper: Copper,
+    exposure: &Decimal,
+    written: bool,
+    rotation: &[u8],
+) -> Result<Turning, MacroFault>
+    ensures { result ≡ spec.turning_at copper exposure.now written rotation.now }
+{
+    match copper {
+        Copper::Exact => exact_turning(exposure, rotation),
+        Copper::Real => {
+            if !is_expression(rotation) {
+                return Err(MacroFault::BadMacro);
+            }
+            if !is_number(exposure, 1) {
+                return Err(MacroFault::ExposureOff);
+            }
+            Ok(if written {
+                Turning::Degrees
+            } else {
+                Turning::Quarters(Rotation::Unturned)
+            })
+        },
+    }
+}
+
+#[tactic(auto, unfolding(crate::specs::BodyWord::turning_at))]
+fn exact_turning(exposure: &Decimal, rotation: &[u8]) -> Result<Turning, MacroFault>
+    ensures { (written : Bool) → result ≡ spec.turning_at Copper.Exact exposure.now written rotation.now }
+{
     let Some(degrees) = read_decimal(rotation) else {
         return Err(MacroFault::BadMacro);
     };
@@ -158,11 +207,7 @@ fn turned<'a>(
         return Err(MacroFault::ExposureOff);
     }
     let rotation = rotation_of(&degrees)?;
-    Ok(Primitive {
-        form,
-        rotation,
-        lengths,
-    })
+    Ok(Turning::Quarters(rotation))
 }
 
 // Whether the first n parts of a text are expressions.

@@ -1,18 +1,24 @@
 //! Primitives with their parameters: whether they are lawful, and what they flash.
-ghost use Rattle.std.specs.Prelude.{◌≡◌, ◌≤◌, false, true, IfOk, length, map};
+ghost use Rattle.std.specs.Prelude.{◌≡◌, ◌≢◌, ◌≤◌, false, true, IfOk, None, Ok, length, map};
 ghost use Rattle.planar.specs.Plane.{IsPlaced};
 ghost use Rattle.contact.specs.declared.TheConstants.{MOST_DIAMETER};
 ghost use Rattle.area_contact.specs.Contour.{IsClosed};
 ghost use Rattle.board_shapes.specs.Rectangles.{IsReachable, rectangle};
+ghost use Rattle.aperture_macros.specs.Flashes as flashes;
 ghost use Rattle.aperture_macros.specs.Images as spec;
+ghost use Rattle.aperture_macros.specs.declared.primitive.Rotation.{Rotation as Turned};
+ghost use Rattle.planar.specs.declared.Spot.{Spot as At};
 ghost use Rattle.aperture_macros.specs.Seen.{IsMade, Makes, is_circle, plain};
 ghost use Rattle.aperture_macros.specs.Sketches.{IsNear, is_disc};
 
+use crate::body_word::part;
+use crate::degrees::{Turn, read_turn};
 use crate::fault::{FigureFault, MacroFault};
-use crate::images::{Sketch, centre_line, circle, line};
+use crate::images::{Sketch, centre_line, circle, line, same};
 use crate::outline::{Outline, bounded};
 use crate::placing::Placing;
-use crate::primitive::{Form, Lines, Primitive};
+use crate::primitive::{Copper, Form, Primitive, Rotation, Turning};
+use crate::telling::told;
 use board_shapes::{Shape, rectangle};
 use contact::Capsule;
 use lengths::decimal::{Decimal, Unit};
@@ -25,26 +31,49 @@ impl<'a> Primitive<'a> {
     ///
     /// First come the lengths in the order written, each term in turn with its `OffGrid` and its
     /// `OutOfRange`, and then the length itself. Then comes `BadMacro`, where an outline's last point
-    /// is not its first, or of a vector line along no axis `Slanted`, where those `AlongAxes` are taken
-    /// alone, and else `OutOfRange`, where it is wider than `MOST_DIAMETER`.
-    pub fn judge(&self, lines: Lines, parameters: &[Decimal], unit: Unit) -> Result<(), MacroFault>
-        ensures { result ≡ spec.judged lines (plain self.now) parameters.now unit }
+    /// is not its first, or of a vector line along no axis `Slanted`, where copper is `Exact`, and else
+    /// `OutOfRange`, where it is wider than `MOST_DIAMETER`. Then, where it is turned by degrees, the rotation, as a
+    /// length is judged with degrees for mm, and `Turn`, where a circle off the origin or a line along no axis is
+    /// turned by no quarter turns.
+    pub fn judge(
+        &self,
+        copper: Copper,
+        parameters: &[Decimal],
+        unit: Unit,
+    ) -> Result<(), MacroFault>
+        ensures { result ≡ flashes.judged copper (plain self.now) parameters.now unit }
     {
-        self.has_image(lines, parameters, unit)?;
+        self.has_image(copper, parameters, unit)?;
         Ok(())
     }
 
     /// Whether the primitive has an image with these parameters, where `judge` finds no fault.
-    #[tactic(auto, unfolding(crate::specs::Images::judged_by, crate::specs::Images::figure_by, crate::specs::Images::sketch_at))]
     pub fn has_image(
         &self,
-        lines: Lines,
+        copper: Copper,
         parameters: &[Decimal],
         unit: Unit,
     ) -> Result<bool, MacroFault>
-        ensures lawful { spec.is_done result ≡ spec.judged lines (plain self.now) parameters.now unit }
-        ensures blank { IfOk result (λ has. has ≡ false → spec.IsBlank (plain self.now) parameters.now unit) }
-        ensures image { IfOk result (λ has. has ≡ true → spec.HasImage (plain self.now) parameters.now unit) }
+        ensures lawful { spec.is_done result ≡ flashes.judged copper (plain self.now) parameters.now unit }
+        ensures blank { IfOk result (λ has. has ≡ false → flashes.IsBlank (plain self.now) parameters.now unit) }
+        ensures image { IfOk result (λ has. has ≡ true → flashes.HasImage (plain self.now) parameters.now unit) }
+    {
+        let has = self.has_figure(copper, parameters, unit)?;
+        self.judge_turn(parameters, unit)?;
+        Ok(has)
+    }
+
+    // Whether its lengths give a figure.
+    #[tactic(auto, unfolding(crate::specs::Images::judged_by, crate::specs::Images::figure_by, crate::specs::Images::sketch_at))]
+    fn has_figure(
+        &self,
+        copper: Copper,
+        parameters: &[Decimal],
+        unit: Unit,
+    ) -> Result<bool, MacroFault>
+        ensures lawful { spec.is_done result ≡ spec.judged_by copper self.now.form self.now.lengths.now parameters.now unit }
+        ensures blank { IfOk result (λ has. has ≡ false → (turned : Turned) (at : At) → spec.figure_by self.now.form turned self.now.lengths.now parameters.now unit at ≡ Ok None) }
+        ensures image { IfOk result (λ has. has ≡ true → (turned : Turned) (at : At) → spec.figure_by self.now.form turned self.now.lengths.now parameters.now unit at ≢ Ok None) }
     {
         match self.form {
             Form::Circle => Ok(circle(self.lengths, parameters, unit)?.is_some()),
@@ -60,8 +89,46 @@ impl<'a> Primitive<'a> {
                     Err(fault) => Err(fault),
                 }
             },
-            Form::VectorLine => Ok(line(lines, self.lengths, parameters, unit)?.is_some()),
+            Form::VectorLine => Ok(line(copper, self.lengths, parameters, unit)?.is_some()),
             Form::CentreLine => Ok(centre_line(self.lengths, parameters, unit)?.is_some()),
+        }
+    }
+
+    // Whether it is turned as it may be.
+    #[tactic(auto, unfolding(crate::specs::Flashes::turn_judged))]
+    fn judge_turn(&self, parameters: &[Decimal], unit: Unit) -> Result<(), MacroFault>
+        ensures { result ≡ flashes.turn_judged self.now.rotation self.now.form self.now.lengths.now parameters.now unit }
+    {
+        match self.rotation {
+            Turning::Quarters(_) => Ok(()),
+            Turning::Degrees => {
+                let turn = self.turn(parameters)?;
+                if turn.rest > 0 && self.needs_quarters(parameters, unit) {
+                    Err(MacroFault::Turn)
+                } else {
+                    Ok(())
+                }
+            },
+        }
+    }
+
+    // The turn that the expression behind the lengths says.
+    fn turn(&self, parameters: &[Decimal]) -> Result<Turn, MacroFault>
+        ensures { result ≡ flashes.turn_behind self.now.form self.now.lengths.now parameters.now }
+    {
+        read_turn(part(self.form.row().count(), self.lengths), parameters)
+    }
+
+    // Whether other turns than quarter turns would move its disc or slant its stroke.
+    #[tactic(auto, unfolding(crate::specs::Flashes::needs_quarters))]
+    fn needs_quarters(&self, parameters: &[Decimal], unit: Unit) -> bool
+        ensures { result ≡ flashes.needs_quarters self.now.form self.now.lengths.now parameters.now unit }
+    {
+        match self.form {
+            Form::Circle => is_moved(circle(self.lengths, parameters, unit)),
+            Form::VectorLine => is_moved(line(Copper::Real, self.lengths, parameters, unit)),
+            Form::Outline(_) => false,
+            Form::CentreLine => false,
         }
     }
 
@@ -70,11 +137,12 @@ impl<'a> Primitive<'a> {
     /// origin of the macro, turned counterclockwise about it and moved to the spot. `None` stands
     /// exactly where a diameter, a width, a height or the length of a vector line is 0. For a vector line
     /// along no axis stands its stroke: the places at most half its width from the segment between its ends.
+    /// Where it is turned by degrees, whole quarter turns are made, and an area is told with what is left.
     ///
-    /// The fault of `judge` of `Any` lines comes first, then `OutOfRange`, where the centre of a circle, a corner or an
-    /// end is over 1 m from 0 in x or y. `NoMemory` comes for outlines and lines alone:
-    /// a circle takes no memory.
-    #[tactic(auto, unfolding(crate::specs::Images::figure_by))]
+    /// The fault of its rotation comes first, then that of the lengths as `judge` has it of `Real` copper, then
+    /// `OutOfRange`, where the centre of a circle, a corner, an end or a spot that tells a turn is over 1 m from 0 in
+    /// x or y. `NoMemory` comes for outlines and lines alone: a circle takes no memory.
+    #[tactic(auto, unfolding(crate::specs::Flashes::figure_turned))]
     pub fn figure(
         &self,
         alloc: Global,
@@ -83,13 +151,54 @@ impl<'a> Primitive<'a> {
         at: Spot,
     ) -> Result<Option<Shape>, FigureFault>
         requires placed { IsPlaced at }
-        ensures shape { Makes result (spec.figure_at (plain self.now) parameters.now unit at) }
-        ensures no_memory { is_circle self.now.form ≡ true → IsMade result (spec.figure_at (plain self.now) parameters.now unit at) }
+        ensures shape { Makes result (flashes.figure_at (plain self.now) parameters.now unit at) }
+        ensures no_memory { is_circle self.now.form ≡ true → IsMade result (flashes.figure_at (plain self.now) parameters.now unit at) }
     {
-        let by = Placing {
-            rotation: self.rotation,
-            at,
-        };
+        match self.rotation {
+            Turning::Quarters(rotation) => self.figure_by(alloc, parameters, unit, rotation, at),
+            Turning::Degrees => match self.turn(parameters) {
+                Ok(turn) => self.told_figure(alloc, parameters, unit, turn, at),
+                Err(fault) => Err(FigureFault::Macro(fault)),
+            },
+        }
+    }
+
+    // The same where it is turned by degrees.
+    fn told_figure(
+        &self,
+        alloc: Global,
+        parameters: &[Decimal],
+        unit: Unit,
+        turn: Turn,
+        at: Spot,
+    ) -> Result<Option<Shape>, FigureFault>
+        requires placed { IsPlaced at }
+        ensures shape { Makes result (flashes.told_figure turn self.now.form self.now.lengths.now parameters.now unit at) }
+        ensures no_memory { is_circle self.now.form ≡ true → IsMade result (flashes.told_figure turn self.now.form self.now.lengths.now parameters.now unit at) }
+    {
+        match self.figure_by(alloc, parameters, unit, turn.quarters, at) {
+            Ok(Some(Shape::Filled(area))) => told(alloc, at, turn.rest, &area.points),
+            Ok(Some(Shape::Round(capsule))) => Ok(Some(Shape::Round(capsule))),
+            Ok(None) => Ok(None),
+            Err(fault) => Err(fault),
+        }
+    }
+
+    // The figure turned by quarter turns.
+    #[tactic(auto, unfolding(crate::specs::Images::figure_by))]
+    fn figure_by(
+        &self,
+        alloc: Global,
+        parameters: &[Decimal],
+        unit: Unit,
+        rotation: Rotation,
+        at: Spot,
+    ) -> Result<Option<Shape>, FigureFault>
+        requires placed { IsPlaced at }
+        ensures shape { Makes result (spec.figure_by self.now.form rotation self.now.lengths.now parameters.now unit at) }
+        ensures no_memory { is_circle self.now.form ≡ true → IsMade result (spec.figure_by self.now.form rotation self.now.lengths.now parameters.now unit at) }
+    {
+        let by = Placing { rotation, at };
         match self.form {
             Form::Circle => set_down(alloc, by, circle(self.lengths, parameters, unit)),
             Form::Outline(edges) => Outline {
@@ -102,10 +211,23 @@ impl<'a> Primitive<'a> {
             Form::VectorLine => set_down(
                 alloc,
                 by,
-                line(Lines::Any, self.lengths, parameters, unit),
+                line(Copper::Real, self.lengths, parameters, unit),
             ),
             Form::CentreLine => set_down(alloc, by, centre_line(self.lengths, parameters, unit)),
         }
+    }
+}
+
+// Whether another turn than quarter turns would move a disc or slant a stroke.
+fn is_moved(sketch: Result<Option<Sketch>, MacroFault>) -> bool
+    ensures { result ≡ flashes.is_moved sketch }
+{
+    match sketch {
+        Ok(Some(Sketch::Disc(p, _))) => !same(p, Spot { x: 0, y: 0 }),
+        Ok(Some(Sketch::Stroke(_, _, _))) => true,
+        Ok(Some(Sketch::Rectangle(_, _))) => false,
+        Ok(None) => false,
+        Err(_) => false,
     }
 }
 

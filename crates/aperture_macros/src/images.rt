@@ -7,7 +7,7 @@ ghost use Rattle.aperture_macros.specs.Sketches.{IsNear, is_disc};
 
 use crate::body_word::{part, past};
 use crate::fault::MacroFault;
-use crate::primitive::Lines;
+use crate::primitive::Copper;
 use crate::values::{diameter, point, size};
 use board_shapes::corners_around;
 use contact::MOST_DIAMETER;
@@ -42,28 +42,28 @@ pub fn circle(text: &[u8], parameters: &[Decimal], unit: Unit) -> Result<Option<
 /// The rectangle of `w,x,y,x,y`, or the stroke of a slanted line. What is taken is the same whichever lines are.
 #[tactic(auto, unfolding(crate::specs::Images::line_at))]
 pub fn line(
-    lines: Lines,
+    copper: Copper,
     text: &[u8],
     parameters: &[Decimal],
     unit: Unit,
 ) -> Result<Option<Sketch>, MacroFault>
-    ensures value { result ≡ spec.line_at lines text.now parameters.now unit }
-    ensures any { IfOk result (λ sketch. spec.line_at Lines.Any text.now parameters.now unit ≡ Ok sketch) }
+    ensures value { result ≡ spec.line_at copper text.now parameters.now unit }
+    ensures any { IfOk result (λ sketch. spec.line_at Copper.Real text.now parameters.now unit ≡ Ok sketch) }
     ensures near { IfOk result IsNear }
 {
     let w = size(part(0, text), parameters, unit)?;
     let p = point(past(1, text), parameters, unit)?;
     let q = point(past(3, text), parameters, unit)?;
-    line_between(lines, w, p, q)
+    line_between(copper, w, p, q)
 }
 
 // The same between two points.
 #[tactic(auto, unfolding(crate::specs::Images::line_between))]
-fn line_between(lines: Lines, w: u64, p: Spot, q: Spot) -> Result<Option<Sketch>, MacroFault>
+fn line_between(copper: Copper, w: u64, p: Spot, q: Spot) -> Result<Option<Sketch>, MacroFault>
     requires width { w ≤ METRE }
     requires start { IsPlaced p }
     requires end { IsPlaced q }
-    ensures value { result ≡ spec.line_between lines w p q }
+    ensures value { result ≡ spec.line_between copper w p q }
     ensures near { IfOk result IsNear }
 {
     if p.x == q.x {
@@ -71,20 +71,20 @@ fn line_between(lines: Lines, w: u64, p: Spot, q: Spot) -> Result<Option<Sketch>
     } else if p.y == q.y {
         Ok(strip(w, p, q, 0, w))
     } else {
-        slanted(lines, w, p, q)
+        slanted(copper, w, p, q)
     }
 }
 
 // What a line along no axis is.
-fn slanted(lines: Lines, w: u64, p: Spot, q: Spot) -> Result<Option<Sketch>, MacroFault>
+fn slanted(copper: Copper, w: u64, p: Spot, q: Spot) -> Result<Option<Sketch>, MacroFault>
     requires start { IsPlaced p }
     requires end { IsPlaced q }
-    ensures value { result ≡ spec.slanted lines w p q }
+    ensures value { result ≡ spec.slanted copper w p q }
     ensures near { IfOk result IsNear }
 {
-    match lines {
-        Lines::AlongAxes => Err(MacroFault::Slanted),
-        Lines::Any => if w > MOST_DIAMETER {
+    match copper {
+        Copper::Exact => Err(MacroFault::Slanted),
+        Copper::Real => if w > MOST_DIAMETER {
             Err(MacroFault::OutOfRange)
         } else {
             Ok(stroke(w, p, q))

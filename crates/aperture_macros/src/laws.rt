@@ -1,7 +1,7 @@
 //! Laws over the definitions alone.
-ghost use Rattle.aperture_macros.specs.Laws.{FlashesDiscsAlone, StrokesAreSlantedLines};
+ghost use Rattle.aperture_macros.specs.Laws.{FlashesDiscsAlone, RealAreasAreTold, StrokesAreSlantedLines, ToldIsFound};
 
-/// Where vector lines are taken along an axis alone, each stroke that a primitive flashes is a disc.
+/// Where copper is taken exactly, each stroke that a primitive flashes is a disc.
 pub fn flashes_discs_alone()
     ensures { FlashesDiscsAlone }
 {}
@@ -9,4 +9,15 @@ pub fn flashes_discs_alone()
 /// A stroke that is no disc is that of a vector line along no axis, and runs along none.
 pub fn strokes_are_slanted_lines()
     ensures { StrokesAreSlantedLines }
+{}
+
+/// What real copper tells of a closed contour of four spots or more is found in it.
+pub fn told_is_found()
+    ensures { ToldIsFound }
+{}
+
+/// Each area that a primitive of real copper flashes tells its contour by quarter turns, the spot, and what they leave
+/// of the rotation, which is below 90 degrees.
+pub fn real_areas_are_told()
+    ensures { RealAreasAreTold }
 {}

@@ -11,13 +11,16 @@
 //! - `body_word`: how a body word is read.
 //! - `values`: what lengths are with parameters.
 //! - `images`: figures about the origin of the macro.
+//! - `degrees`: how far a primitive is turned in real copper.
 //! - `placing`: where a figure is set down.
 //! - `outline`: the areas of outlines.
+//! - `telling`: how areas tell how far they are turned.
 //! - `figure`: figures where they are flashed.
-//! - `laws`: what strokes they flash.
+//! - `laws`: what strokes and areas they flash.
 #![tactic(auto)]
 
 mod body_word;
+mod degrees;
 mod expression;
 mod fault;
 mod figure;
@@ -26,8 +29,9 @@ pub mod laws;
 mod outline;
 mod placing;
 mod primitive;
+mod telling;
 mod values;
 
 pub use body_word::read_body;
 pub use fault::{FigureFault, MacroFault};
-pub use primitive::{Form, Lines, Primitive, Rotation};
+pub use primitive::{Copper, Form, Primitive, Rotation, Turning};

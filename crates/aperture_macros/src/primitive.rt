@@ -12,11 +12,12 @@ pub enum Form {
     CentreLine,
 }
 
-/// Which vector lines are taken: those along an axis alone, or also slanted ones, each told by its stroke.
+/// Which primitives are taken: those alone whose figures are exact, or those of real copper, which may be vector
+/// lines along no axis, each told by its stroke, and turned by degrees.
 #[derive(Clone, Copy, Debug, PartialEq, Eq)]
-pub enum Lines {
-    AlongAxes,
-    Any,
+pub enum Copper {
+    Exact,
+    Real,
 }
 
 /// What stands in a primitive's word: so many parts before its lengths, then sizes, then points, then the
@@ -68,12 +69,19 @@ pub enum Rotation {
     ThreeQuarters,
 }
 
+/// How a primitive is turned: by quarter turns, or by the degrees that an expression behind its lengths says.
+#[derive(Clone, Copy, Debug, PartialEq, Eq)]
+pub enum Turning {
+    Quarters(Rotation),
+    Degrees,
+}
+
 /// A primitive of a macro (Gerber Layer Format Specification, 4.5.1). Its lengths stand as they are
 /// written, cut at commas: the text is the body word from the first length on.
 #[derive(Clone, Copy)]
 pub struct Primitive<'a> {
     pub form: Form,
-    pub rotation: Rotation,
+    pub rotation: Turning,
     pub lengths: &'a [u8],
     ghost enough: { 3 ≤ outline_edges form },
     ghost few: { outline_edges form ≤ 5000 },

@@ -76,9 +76,9 @@ fn sum(text: &[u8], parameters: &[Decimal], unit: Unit) -> Result<i64, MacroFaul
     }
 }
 
-// A coordinate, at most 1 m from 0.
+/// A coordinate, at most 1 m from 0.
 #[tactic(auto, unfolding(crate::specs::Values::coordinate_at))]
-fn coordinate(text: &[u8], parameters: &[Decimal], unit: Unit) -> Result<i64, MacroFault>
+pub fn coordinate(text: &[u8], parameters: &[Decimal], unit: Unit) -> Result<i64, MacroFault>
     ensures value { result ≡ spec.coordinate_at text.now parameters.now unit }
     ensures reached { IfOk result IsReached }
 {

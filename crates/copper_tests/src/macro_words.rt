@@ -1,5 +1,5 @@
 // Body words as they are read, and what primitives flash.
-use aperture_macros::{FigureFault, Lines, Primitive, read_body};
+use aperture_macros::{Copper, FigureFault, Primitive, Turning, read_body};
 use board_shapes::Shape;
 use lengths::decimal::{Decimal, Unit, read_decimal};
 use planar::{Spot, is_placed};
@@ -103,18 +103,42 @@ fn of_orders() -> [Word; 18] {
     ]
 }
 
-fn named(alloc: Global, word: &str) -> Result<String, AllocError> {
-    match read_body(word.as_bytes()) {
+// Of real copper: a rotation is an expression, and each that is written a turn by degrees.
+fn of_degrees() -> [Word; 10] {
+    [
+        ("1,1,$1,0,0", "Circle Unturned"),
+        ("1,1,$1,0,0,$2", "Circle Degrees"),
+        ("21,1,$1,$2,0,0,$3", "CentreLine Degrees"),
+        (
+            "4,1,4,$1,$2,$3,$4,$5,$6,$7,$8,$1,$2,$9",
+            "Outline(4) Degrees",
+        ),
+        ("20,1,1,0,0,0,1,-90", "VectorLine Degrees"),
+        ("21,1,1,1,0,0,45-$1", "CentreLine Degrees"),
+        ("21,1,1,1,0,0,45x2", "BadMacro"),
+        ("21,1,1,1,0,0,", "BadMacro"),
+        ("21,0,1,1,0,0,45x2", "BadMacro"),
+        ("21,0,1,1,0,0,$1", "ExposureOff"),
+    ]
+}
+
+fn named(alloc: Global, copper: Copper, word: &str) -> Result<String, AllocError> {
+    match read_body(copper, word.as_bytes()) {
         Err(fault) => format!(in alloc; "{fault:?}"),
         Ok(None) => String::from_str(alloc, "comment"),
-        Ok(Some(primitive)) => format!(in alloc; "{:?} {:?}", primitive.form, primitive.rotation),
+        Ok(Some(primitive)) => match primitive.rotation {
+            Turning::Quarters(rotation) => {
+                format!(in alloc; "{:?} {:?}", primitive.form, rotation)
+            },
+            Turning::Degrees => format!(in alloc; "{:?} Degrees", primitive.form),
+        },
     }
 }
 
 // Whether each word is what its row says.
-fn all_read(alloc: Global, rows: &[Word]) -> Result<bool, AllocError> {
+fn all_read(alloc: Global, copper: Copper, rows: &[Word]) -> Result<bool, AllocError> {
     for (word, expected) in rows {
-        let read = named(alloc, *word)?;
+        let read = named(alloc, copper, *word)?;
         if read.as_str() != *expected {
             return Ok(false);
         }
@@ -124,10 +148,11 @@ fn all_read(alloc: Global, rows: &[Word]) -> Result<bool, AllocError> {
 
 #[test]
 fn body_words_are_read(rt: HostRuntime) -> Result<(), Fail> {
-    assert!(rt; all_read(rt.alloc(), &of_forms())?);
-    assert!(rt; all_read(rt.alloc(), &of_parts())?);
-    assert!(rt; all_read(rt.alloc(), &of_spellings())?);
-    assert!(rt; all_read(rt.alloc(), &of_orders())?);
+    assert!(rt; all_read(rt.alloc(), Copper::Exact, &of_forms())?);
+    assert!(rt; all_read(rt.alloc(), Copper::Exact, &of_parts())?);
+    assert!(rt; all_read(rt.alloc(), Copper::Exact, &of_spellings())?);
+    assert!(rt; all_read(rt.alloc(), Copper::Exact, &of_orders())?);
+    assert!(rt; all_read(rt.alloc(), Copper::Real, &of_degrees())?);
     Ok(())
 }
 
@@ -333,6 +358,62 @@ fn of_outlines() -> [Flash; 16] {
     ]
 }
 
+// Of real copper: areas with the three spots that tell their turn, of which the last is the first corner again. A
+// rotated rectangle and a rotated outline are as KiCad and Altium write them.
+fn of_turns() -> [Flash; 16] {
+    [
+        (
+            "21,1,$1,$2,0,0,$3",
+            "2X1X45.0",
+            0,
+            0,
+            "[-10000000 -5000000][10000000 -5000000][10000000 5000000][-10000000 5000000][-10000000 -5000000][0 0][15000 0]",
+        ),
+        (
+            "21,1,$1,$2,0,0,$3",
+            "2X1X90",
+            0,
+            0,
+            "[5000000 -10000000][5000000 10000000][-5000000 10000000][-5000000 -10000000][5000000 -10000000][0 0][0 0]",
+        ),
+        (
+            "21,1,2,1,0,0,-30",
+            "",
+            0,
+            0,
+            "[-5000000 10000000][-5000000 -10000000][5000000 -10000000][5000000 10000000][-5000000 10000000][0 0][20000 0]",
+        ),
+        (
+            "20,1,1.0,-1,0,1,0,0.0000001",
+            "",
+            7,
+            9,
+            "[-9999993 -4999991][10000007 -4999991][10000007 5000009][-9999993 5000009][-9999993 -4999991][7 9][7 10]",
+        ),
+        (
+            "4,1,4,$1,$2,$3,$4,$5,$6,$7,$8,$1,$2,$9",
+            "-1X-0.5X1X-0.5X1X0.5X-1X0.5X89.9999999",
+            0,
+            0,
+            "[-10000000 -5000000][10000000 -5000000][10000000 5000000][-10000000 5000000][-10000000 -5000000][0 0][29999 29999]",
+        ),
+        // A turn leaves a disc about the origin what it is; others, and lines along no axis, turn by quarters alone.
+        ("1,1,1.0,0,0,45", "", 0, 0, "0 0, 5000000"),
+        ("1,1,1.0,1.0,0,450", "", 0, 0, "0 10000000, 5000000"),
+        ("1,1,1.0,1.0,0,45", "", 0, 0, "Turn"),
+        ("20,1,0.2,0,0,1.0,1.0,-270", "", 0, 0, "0 0, 1000000"),
+        ("20,1,0.2,0,0,1.0,1.0,45", "", 0, 0, "Turn"),
+        // Terms are judged one by one, then the sum, behind the lengths.
+        ("21,1,2,1,0,0,0.00000001", "", 0, 0, "OffGrid"),
+        ("21,1,2,1,0,0,600+600", "", 0, 0, "OutOfRange"),
+        ("21,1,2,1,0,1001,0.00000001", "", 0, 0, "OutOfRange"),
+        ("1,1,1.0,1.0,0,45.00000001", "", 0, 0, "OffGrid"),
+        ("21,1,0,1,0,0,45", "", 0, 0, "none"),
+        // The spots that tell a turn are within 1 m too.
+        ("21,1,2,1,-2,0,45", "", 9_999_990_000, 0, "OutOfRange"),
+    ]
+}
+
 fn shown(alloc: Global, shape: &Shape) -> Result<String, AllocError> {
     let mut line = String::new(alloc);
     match shape {
@@ -359,9 +440,15 @@ fn parameters(alloc: Global, text: &str) -> Result<Vec<Decimal>, AllocError> {
     Ok(found)
 }
 
-fn flashed(alloc: Global, word: &str, text: &str, at: Spot) -> Result<String, AllocError> {
+fn flashed(
+    alloc: Global,
+    copper: Copper,
+    word: &str,
+    text: &str,
+    at: Spot,
+) -> Result<String, AllocError> {
     let given = parameters(alloc, text)?;
-    let primitive = match read_body(word.as_bytes()) {
+    let primitive = match read_body(copper, word.as_bytes()) {
         Err(fault) => return format!(in alloc; "{fault:?}"),
         Ok(None) => return String::from_str(alloc, "comment"),
         Ok(Some(primitive)) => primitive,
@@ -369,7 +456,7 @@ fn flashed(alloc: Global, word: &str, text: &str, at: Spot) -> Result<String, Al
     if !is_placed(at) {
         return String::from_str(alloc, "no spot");
     }
-    let image = match primitive.has_image(Lines::AlongAxes, &given, Unit::Mm) {
+    let image = match primitive.has_image(copper, &given, Unit::Mm) {
         Err(fault) => return format!(in alloc; "{fault:?}"),
         Ok(image) => image,
     };
@@ -386,9 +473,9 @@ fn flashed(alloc: Global, word: &str, text: &str, at: Spot) -> Result<String, Al
 }
 
 // Whether each primitive flashes as its row says.
-fn all_flash(alloc: Global, rows: &[Flash]) -> Result<bool, AllocError> {
+fn all_flash(alloc: Global, copper: Copper, rows: &[Flash]) -> Result<bool, AllocError> {
     for (word, text, x, y, expected) in rows {
-        let flash = flashed(alloc, *word, *text, Spot { x: *x, y: *y })?;
+        let flash = flashed(alloc, copper, *word, *text, Spot { x: *x, y: *y })?;
         if flash.as_str() != *expected {
             return Ok(false);
         }
@@ -398,8 +485,9 @@ fn all_flash(alloc: Global, rows: &[Flash]) -> Result<bool, AllocError> {
 
 #[test]
 fn primitives_flash(rt: HostRuntime) -> Result<(), Fail> {
-    assert!(rt; all_flash(rt.alloc(), &of_circles())?);
-    assert!(rt; all_flash(rt.alloc(), &of_lines())?);
-    assert!(rt; all_flash(rt.alloc(), &of_outlines())?);
+    assert!(rt; all_flash(rt.alloc(), Copper::Exact, &of_circles())?);
+    assert!(rt; all_flash(rt.alloc(), Copper::Exact, &of_lines())?);
+    assert!(rt; all_flash(rt.alloc(), Copper::Exact, &of_outlines())?);
+    assert!(rt; all_flash(rt.alloc(), Copper::Real, &of_turns())?);
     Ok(())
 }

@@ -306,7 +306,7 @@ fn of_lines() -> [(&'static str, &'static str); 7] {
         ),
         (
             "%AMV*20,1,0.2,0,0,1.0,0.5,45*%%ADD11V*%D11*X0Y0D03*M02*",
-            "Copper(Turn) at command 6",
+            "Copper(Turn) at command 7",
         ),
         (
             "%AMV*20,1,0.2,0,0,1.0,0.5,0*%%ADD11V*%G75*D10*G03X1000000I500000J0D01*D11*G01*X0Y0D03*M02*",

@@ -82,7 +82,7 @@ other_keeps p n k (operates x y code) e unlike h is = let o = outcome k (operate
 other_keeps p n k opens_region e unlike h is = simple p n k e (simple_by e opens (outcome k opens_region e is) tt) h
 other_keeps p n k closes_region e unlike h is = let o = outcome k closes_region e is in simple p n k e (simple_by e (leaves o.0) o.1 tt) h
 other_keeps p n k (names_macro name) e unlike h is = simple p n k e (simple_by e (begins_macro name) (outcome k (names_macro name) e is) tt) h
-other_keeps p n k (body_word text) e unlike h is = absurd (not_body k text e is)
+other_keeps p n k (body_word copper text) e unlike h is = absurd (not_body k copper text e is)
 other_keeps p n k other e unlike h is = simple p n k e (simple_by e stays (outcome k other e is) tt) h
 
 -- a step and repeat word

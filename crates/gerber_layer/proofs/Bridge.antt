@@ -76,7 +76,7 @@ contour-push p earlier ps (defines text) e o = keeps e (makes o.n o.tool) (conto
 contour-push p earlier ps (repeats text) e o = keeps e (steps o.next o.pieces) (contour_before earlier) (point_before earlier) o.is refl
 contour-push p earlier ps ends e o = keeps e (concludes o.0) (contour_before earlier) (point_before earlier) o.1 refl
 contour-push p earlier ps (names_macro name) e o = keeps e (begins_macro name) (contour_before earlier) (point_before earlier) o refl
-contour-push p earlier ps (body_word text) e o = filled_keeps (primitive_at text) e (contour_before earlier) (point_before earlier) o
+contour-push p earlier ps (body_word copper text) e o = filled_keeps (primitive_at copper text) e (contour_before earlier) (point_before earlier) o
 contour-push p earlier ps other e o = keeps e stays (contour_before earlier) (point_before earlier) o refl
 
 -- an operation and the end of a region leave the dictionary as it was
@@ -90,13 +90,13 @@ operation_keeps old new true Flash to e i t = absurd i
 abbrev Keeps : Command → Dictionary → Dictionary → Type 0
 Keeps (defines text) old new = Unit {0}
 Keeps (names_macro name) old new = Unit {0}
-Keeps (body_word text) old new = Unit {0}
+Keeps (body_word copper text) old new = Unit {0}
 Keeps other old new = new ≡ old
 
 keeps_dictionary : (old new : Dictionary) (k : Known) (c : Command) (e : Effect) → Outcome k c e → Turns old e new → Keeps c old new
 keeps_dictionary old new k (defines text) e o t = tt
 keeps_dictionary old new k (names_macro name) e o t = tt
-keeps_dictionary old new k (body_word text) e o t = tt
+keeps_dictionary old new k (body_word copper text) e o t = tt
 keeps_dictionary old new k (operates x y code) e o t = operation_keeps old new k.settings.region (code_of code) o.to e o.is t
 keeps_dictionary old new k closes_region e o t = subst (λ (f : Effect). Turns old f new) o.1 t
 keeps_dictionary old new k (repeats text) e o t = subst (λ (f : Effect). Turns old f new) o.is t
@@ -157,7 +157,7 @@ dictionary-push old new p earlier ps (defines text) e h o t u =
     by true m = refl
     by false m = refl
 dictionary-push old new p earlier ps (names_macro name) e h o t u = begun-push old new earlier name h (subst (λ (f : Effect). Turns old f new) o t)
-dictionary-push old new p earlier ps (body_word text) e h o t u = let f = filled-push old new earlier (primitive_at text) e h o t in record { defined = f.defined; size = f.size; latest = f.latest; others = f.others }
+dictionary-push old new p earlier ps (body_word copper text) e h o t u = let f = filled-push old new earlier (primitive_at copper text) e h o t in record { defined = f.defined; size = f.size; latest = f.latest; others = f.others }
 dictionary-push old new p earlier ps other e h o t u = let f = same_found old new earlier h u in record { defined = f.defined; size = f.size; latest = f.latest; others = f.others }
 
 -- the reader has obeyed these commands

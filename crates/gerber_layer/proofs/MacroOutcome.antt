@@ -11,8 +11,8 @@ use Rattle.apertures.specs.declared.fault.ApertureFault.TheVariants as aperture
 use Rattle.apertures.specs.Definition.{aperture_at, name_of}
 use Rattle.aperture_macros.specs.BodyWord.{PlainPrimitive, primitive_at}
 use Rattle.aperture_macros.specs.declared.fault.MacroFault.{MacroFault}
-use Rattle.aperture_macros.specs.declared.primitive.Lines.{Lines}
-use Rattle.aperture_macros.specs.declared.primitive.Lines.TheVariants.{AlongAxes, Any}
+use Rattle.aperture_macros.specs.declared.primitive.Copper.{Copper}
+use Rattle.aperture_macros.specs.declared.primitive.Copper.TheVariants.{Exact, Real}
 use Rattle.gerber_layer.specs.Command.{Command, defines, functions, names_macro, body_word}
 use Rattle.gerber_layer.specs.declared.TheConstants.{MOST_APERTURES}
 use Rattle.gerber_layer.specs.declared.kind.GerberKind.{GerberKind}
@@ -45,9 +45,9 @@ filled false (Ok (Some p)) e h = cc
 filled true (Err fault) e h = cc
 filled false (Err fault) e h = cc
 
-filled_is : (k : Known) (text : List ℕ) (e : Effect) → fill_macro k text ≡ Ok e → IsFilled (primitive_at text) e
+filled_is : (k : Known) (copper : Copper) (text : List ℕ) (e : Effect) → fill_macro k copper text ≡ Ok e → IsFilled (primitive_at copper text) e
 unfolding fill_macro
-filled_is k text e h = filled (has_room k.macros.latest) (primitive_at text) e h
+filled_is k copper text e h = filled (has_room k.macros.latest) (primitive_at copper text) e h
 
 -- a definition of an aperture by a macro
 of_macro : (r : Result (ℕ × Aperture) ApertureFault) (other : Option (ℕ × Tool)) → is_of_macro r ≡ true → tool_by r other ≡ other
@@ -60,44 +60,44 @@ record Composed (text : List ℕ) (unit : Measure) (e : Effect) : Type 0 where
   read : parameters_in (name_text text) ≡ Some parameters
   is : e ≡ makes (digits_value 10 (number_digits text)) (composed (name_of (name_text text)) parameters unit)
 
-composes : (lines : Lines) (k : Known) (n : ℕ) (name : List ℕ) (body : List PlainPrimitive) (parameters : List Fraction) (unit : Measure) (e : Effect) → compose_as lines k n name body parameters unit ≡ Ok e → e ≡ makes n (composed name parameters unit)
+composes : (copper : Copper) (k : Known) (n : ℕ) (name : List ℕ) (body : List PlainPrimitive) (parameters : List Fraction) (unit : Measure) (e : Effect) → compose_as copper k n name body parameters unit ≡ Ok e → e ≡ makes n (composed name parameters unit)
 unfolding compose_as
-composes lines k n name body parameters unit e h =
-    let last : Result Effect FlattenKind = as_macro (all_judged lines body parameters unit) >>= λ done. Ok (makes n (composed name parameters unit)) in
+composes copper k n name body parameters unit e h =
+    let last : Result Effect FlattenKind = as_macro (all_judged copper body parameters unit) >>= λ done. Ok (makes n (composed name parameters unit)) in
     let one = past_test (is_some (k.defined n)) (Gerber kind.ApertureTwice) (unless (nat_le MOST_APERTURES k.definitions) (Gerber kind.TooManyApertures) last) e h in
     let two = past_test (nat_le MOST_APERTURES k.definitions) (Gerber kind.TooManyApertures) last e one in
-    let d = bind_ok (as_macro (all_judged lines body parameters unit)) (λ done. Ok (makes n (composed name parameters unit))) e two in
+    let d = bind_ok (as_macro (all_judged copper body parameters unit)) (λ done. Ok (makes n (composed name parameters unit))) e two in
     let done : ◌≡◌ {A = Result Effect FlattenKind} (Ok (makes n (composed name parameters unit))) (Ok e) = d.2 in
     let same : makes n (composed name parameters unit) ≡ e = cc in
     sym same
 
-compose_did : (lines : Lines) (k : Known) (text : List ℕ) (unit : Measure) (e : Effect) → compose lines k text unit ≡ Ok e → Composed text unit e
+compose_did : (copper : Copper) (k : Known) (text : List ℕ) (unit : Measure) (e : Effect) → compose copper k text unit ≡ Ok e → Composed text unit e
 unfolding compose
-compose_did lines k text unit e h =
+compose_did copper k text unit e h =
     let n : ℕ = digits_value 10 (number_digits text) in
     let name : List ℕ = name_of (name_text text) in
-    let b = bind_ok (needed NoMacro (macro_named k.macros (name_of (name_text text)))) (λ body. needed BadMacro (parameters_in (name_text text)) >>= λ parameters. compose_as lines k (digits_value 10 (number_digits text)) (name_of (name_text text)) body parameters unit) e h in
-    let p = bind_ok (needed BadMacro (parameters_in (name_text text))) (λ parameters. compose_as lines k (digits_value 10 (number_digits text)) (name_of (name_text text)) b.0 parameters unit) e b.2 in
-    record { parameters = p.0; read = got BadMacro (parameters_in (name_text text)) p.0 p.1; is = composes lines k n name b.0 p.0 unit e p.2 }
+    let b = bind_ok (needed NoMacro (macro_named k.macros (name_of (name_text text)))) (λ body. needed BadMacro (parameters_in (name_text text)) >>= λ parameters. compose_as copper k (digits_value 10 (number_digits text)) (name_of (name_text text)) body parameters unit) e h in
+    let p = bind_ok (needed BadMacro (parameters_in (name_text text))) (λ parameters. compose_as copper k (digits_value 10 (number_digits text)) (name_of (name_text text)) b.0 parameters unit) e b.2 in
+    record { parameters = p.0; read = got BadMacro (parameters_in (name_text text)) p.0 p.1; is = composes copper k n name b.0 p.0 unit e p.2 }
 
 -- what it comes to where the macro and the parameters are there
-pub compose_is : (lines : Lines) (k : Known) (text word name : List ℕ) (unit : Measure) (body : List PlainPrimitive) (parameters : List Fraction) (n : ℕ) → word ≡ name_text text → name ≡ name_of word → Some body ≡ macro_named k.macros name → Some parameters ≡ parameters_in word → n ≡ digits_value 10 (number_digits text) → compose lines k text unit ≡ compose_as lines k n name body parameters unit
+pub compose_is : (copper : Copper) (k : Known) (text word name : List ℕ) (unit : Measure) (body : List PlainPrimitive) (parameters : List Fraction) (n : ℕ) → word ≡ name_text text → name ≡ name_of word → Some body ≡ macro_named k.macros name → Some parameters ≡ parameters_in word → n ≡ digits_value 10 (number_digits text) → compose copper k text unit ≡ compose_as copper k n name body parameters unit
 unfolding compose
-compose_is lines k text word name unit body parameters n a b h p e =
+compose_is copper k text word name unit body parameters n a b h p e =
     let there : name ≡ name_of (name_text text) = b ∙ ap name_of a in
     let named : macro_named k.macros (name_of (name_text text)) ≡ Some body = sym (h ∙ ap (macro_named k.macros) there) in
     let read : parameters_in (name_text text) ≡ Some parameters = sym (p ∙ ap parameters_in a) in
-    rw (named, read) (ap (λ (m : ℕ). compose_as lines k m (name_of (name_text text)) body parameters unit) (sym e) ∙ ap (λ (xs : List ℕ). compose_as lines k n xs body parameters unit) (sym there))
+    rw (named, read) (ap (λ (m : ℕ). compose_as copper k m (name_of (name_text text)) body parameters unit) (sym e) ∙ ap (λ (xs : List ℕ). compose_as copper k n xs body parameters unit) (sym there))
 
-defined_any : (lines : Lines) (k : Known) (text : List ℕ) (e : Effect) → define_any lines k text ≡ Ok e → Defined k text e
+defined_any : (copper : Copper) (k : Known) (text : List ℕ) (e : Effect) → define_any copper k text ≡ Ok e → Defined k text e
 unfolding define_any
-defined_any lines k text e h =
-    let u = bind_ok (needed (Gerber kind.MissingUnit) k.settings.unit) (λ unit. cond (is_of_macro (aperture_at text unit)) (compose lines k text unit) (gerber (define k text))) e h in
+defined_any copper k text e h =
+    let u = bind_ok (needed (Gerber kind.MissingUnit) k.settings.unit) (λ unit. cond (is_of_macro (aperture_at text unit)) (compose copper k text unit) (gerber (define k text))) e h in
     by u.0 (got (Gerber kind.MissingUnit) k.settings.unit u.0 u.1) (is_of_macro (aperture_at text u.0)) refl u.2
   where
-    by : (unit : Measure) → k.settings.unit ≡ Some unit → (b : Bool) → is_of_macro (aperture_at text unit) ≡ b → cond b (compose lines k text unit) (gerber (define k text)) ≡ Ok e → Defined k text e
+    by : (unit : Measure) → k.settings.unit ≡ Some unit → (b : Bool) → is_of_macro (aperture_at text unit) ≡ b → cond b (compose copper k text unit) (gerber (define k text)) ≡ Ok e → Defined k text e
     by unit is true of h =
-        let c = compose_did lines k text unit e h in
+        let c = compose_did copper k text unit e h in
         record {
           unit = unit;
           n = digits_value 10 (number_digits text);
@@ -108,17 +108,17 @@ defined_any lines k text e h =
         }
     by unit is false of h = define_did k text e (gerber_ok (define k text) e h)
 
-pub row_did : (lines : Lines) (k : Known) (c : Command) (e : Effect) → macro_row lines k c ≡ Ok e → Outcome k c e
+pub row_did : (copper : Copper) (k : Known) (c : Command) (e : Effect) → macro_row copper k c ≡ Ok e → Outcome k c e
 unfolding macro_row
-row_did lines k (names_macro name) e h = named k name e h
-row_did lines k (body_word text) e h = filled_is k text e h
-row_did lines k (defines text) e h = defined_any lines k text e h
-row_did lines k other e h = row_outcome k other e (gerber_ok (row k other) e h)
+row_did copper k (names_macro name) e h = named k name e h
+row_did copper k (body_word own text) e h = filled_is k own text e h
+row_did copper k (defines text) e h = defined_any copper k text e h
+row_did copper k other e h = row_outcome k other e (gerber_ok (row k other) e h)
 
 flat_did : (k : Known) (c : Command) (e : Effect) → row_with_macros k c ≡ Ok e → Outcome k c e
 unfolding row_with_macros
 flat_did k (functions function layer) e h = ok_stays e h
-flat_did k other e h = row_did AlongAxes k other e h
+flat_did k other e h = row_did Exact k other e h
 
 few_same : (x e : Effect) → few_radii x ≡ Ok e → x ≡ e
 few_same (concludes pieces) e h = let f : ◌≡◌ {A = Result Effect FlattenKind} (Ok (concludes pieces)) (Ok e) = past_test (nat_lt MOST_APERTURES (length (radii_of pieces))) TooManyRadii (Ok (concludes pieces)) e h in cc
@@ -139,6 +139,6 @@ pub outcome_loosely : (k : Known) (c : Command) (e : Effect) → effect_loosely 
 unfolding effect_loosely
 outcome_loosely k c e h = by k.settings.ended h
   where
-    by : (b : Bool) → cond b (cond (is_finish c) (Ok stays) (Err (Gerber kind.AfterEnd))) (macro_row Any k c) ≡ Ok e → Outcome k c e
+    by : (b : Bool) → cond b (cond (is_finish c) (Ok stays) (Err (Gerber kind.AfterEnd))) (macro_row Real k c) ≡ Ok e → Outcome k c e
     by true h = end_outcome k c e (Gerber kind.AfterEnd) h
-    by false h = row_did Any k c e h
+    by false h = row_did Real k c e h

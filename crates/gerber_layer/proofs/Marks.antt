@@ -7,7 +7,7 @@ use Rattle.texts.specs.Words.{is_word}
 use Rattle.lengths.specs.Decimal.{Fraction}
 use Rattle.lengths.specs.declared.decimal.Unit.{Unit as Measure}
 use Rattle.aperture_macros.specs.BodyWord.{PlainPrimitive}
-use Rattle.aperture_macros.specs.Images.{IsBlank}
+use Rattle.aperture_macros.specs.Flashes.{IsBlank}
 use Rattle.aperture_macros.specs.Seen.{plain}
 use Rattle.aperture_macros.specs.declared.primitive.Primitive.{Primitive}
 use Rattle.gerber_layer.specs.declared.dictionary.Dictionary.{Dictionary}

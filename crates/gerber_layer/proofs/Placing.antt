@@ -19,8 +19,8 @@ use Rattle.gerber_layer.specs.declared.command.Code.{Code}
 use Rattle.gerber_layer.specs.declared.command.Code.TheVariants.{Draw, Move, Flash}
 use Rattle.aperture_macros.specs.BodyWord.{PlainPrimitive, primitive_at}
 use Rattle.aperture_macros.specs.declared.fault.MacroFault.{MacroFault}
-use Rattle.aperture_macros.specs.declared.primitive.Lines.{Lines}
-use Rattle.aperture_macros.specs.declared.primitive.Lines.TheVariants.{AlongAxes, Any}
+use Rattle.aperture_macros.specs.declared.primitive.Copper.{Copper}
+use Rattle.aperture_macros.specs.declared.primitive.Copper.TheVariants.{Exact, Real}
 use Rattle.gerber_layer.specs.declared.macro_kind.FlattenKind.TheVariants.{Gerber}
 use Rattle.gerber_layer.specs.MacroTable.{effect_loosely, effect_with_macros, few_radii, macro_row, row_with_macros}
 use Rattle.gerber_layer.specs.Outcomes.{KeepsLayer, OnLayer}
@@ -128,7 +128,7 @@ row_on p k n (operates x y code) e on h = let o = row_outcome k (operates x y co
 row_on p k n opens_region e on h = simple_on p n k.pieces e (simple_by e opens (row_outcome k opens_region e h) tt) on
 row_on p k n closes_region e on h = let o = row_outcome k closes_region e h in simple_on p n k.pieces e (simple_by e (leaves o.0) o.1 tt) on
 row_on p k n (names_macro name) e on h = absurd (no_macro e h)
-row_on p k n (body_word text) e on h = absurd (no_macro e h)
+row_on p k n (body_word copper text) e on h = absurd (no_macro e h)
 row_on p k n other e on h = simple_on p n k.pieces e (simple_by e stays (row_outcome k other e h) tt) on
 
 filled_on : (p : Place) (k : Known) (n : ℕ) (r : Result (Option PlainPrimitive) MacroFault) (e : Effect) → IsFilled r e → All (OnLayer p) k.pieces → All (OnLayer p) (pieces_after p n k.pieces e)
@@ -136,17 +136,17 @@ filled_on p k n (Ok None) e is on = simple_on p n k.pieces e (simple_by e stays 
 filled_on p k n (Ok (Some primitive)) e is on = simple_on p n k.pieces e (simple_by e (fills_macro primitive) is tt) on
 filled_on p k n (Err fault) e is on = absurd is
 
-macro_on : (lines : Lines) (p : Place) (k : Known) (n : ℕ) (c : Command) (e : Effect) → All (OnLayer p) k.pieces → macro_row lines k c ≡ Ok e → All (OnLayer p) (pieces_after p n k.pieces e)
+macro_on : (copper : Copper) (p : Place) (k : Known) (n : ℕ) (c : Command) (e : Effect) → All (OnLayer p) k.pieces → macro_row copper k c ≡ Ok e → All (OnLayer p) (pieces_after p n k.pieces e)
 unfolding macro_row
-macro_on lines p k n (names_macro name) e on h = simple_on p n k.pieces e (simple_by e (begins_macro name) (row_did lines k (names_macro name) e h) tt) on
-macro_on lines p k n (body_word text) e on h = filled_on p k n (primitive_at text) e (row_did lines k (body_word text) e h) on
-macro_on lines p k n (defines text) e on h = let o = row_did lines k (defines text) e h in simple_on p n k.pieces e (simple_by e _ o.is tt) on
-macro_on lines p k n other e on h = row_on p k n other e on (gerber_ok (row k other) e h)
+macro_on copper p k n (names_macro name) e on h = simple_on p n k.pieces e (simple_by e (begins_macro name) (row_did copper k (names_macro name) e h) tt) on
+macro_on copper p k n (body_word own text) e on h = filled_on p k n (primitive_at own text) e (row_did copper k (body_word own text) e h) on
+macro_on copper p k n (defines text) e on h = let o = row_did copper k (defines text) e h in simple_on p n k.pieces e (simple_by e _ o.is tt) on
+macro_on copper p k n other e on h = row_on p k n other e on (gerber_ok (row k other) e h)
 
 flat_on : (p : Place) (k : Known) (n : ℕ) (c : Command) (e : Effect) → All (OnLayer p) k.pieces → row_with_macros k c ≡ Ok e → All (OnLayer p) (pieces_after p n k.pieces e)
 unfolding row_with_macros
 flat_on p k n (functions function layer) e on h = simple_on p n k.pieces e (simple_by e stays (ok_stays e h) tt) on
-flat_on p k n other e on h = macro_on AlongAxes p k n other e on h
+flat_on p k n other e on h = macro_on Exact p k n other e on h
 
 -- behind the end nothing is made
 ended_or : {W : Type 0} (p : Place) (k : Known) (n : ℕ) (ended finish : Bool) (why : W) (row : Result Effect W) (e : Effect) → All (OnLayer p) k.pieces → (row ≡ Ok e → All (OnLayer p) (pieces_after p n k.pieces e)) → cond ended (cond finish (Ok stays) (Err why)) row ≡ Ok e → All (OnLayer p) (pieces_after p n k.pieces e)
@@ -164,7 +164,7 @@ macros_on p k n c e on h = ended_or p k n k.settings.ended (is_finish c) (Gerber
 
 pub loose_on : KeepsLayer effect_loosely
 unfolding effect_loosely
-loose_on p k n c e on h = ended_or p k n k.settings.ended (is_finish c) (Gerber kind.AfterEnd) (macro_row Any k c) e on (macro_on Any p k n c e on) h
+loose_on p k n c e on h = ended_or p k n k.settings.ended (is_finish c) (Gerber kind.AfterEnd) (macro_row Real k c) e on (macro_on Real p k n c e on) h
 
 -- ---- A file
 

@@ -9,7 +9,7 @@ use Rattle.gerber_layer.specs.declared.macro_kind.FlattenKind.{FlattenKind}
 use Rattle.gerber_layer.specs.declared.macro_kind.FlattenKind.TheVariants.{Gerber}
 use Rattle.gerber_layer.specs.declared.reader.Reader.{Reader}
 use Rattle.aperture_macros.specs.Seen.{plain}
-use Rattle.aperture_macros.specs.declared.primitive.Lines.TheVariants.{Any}
+use Rattle.aperture_macros.specs.declared.primitive.Copper.TheVariants.{Real}
 use Rattle.board_shapes.specs.declared.shape.Shape.TheVariants.{Round}
 use Rattle.board_shapes.specs.Figures.{figure_of}
 use Rattle.gerber_layer.specs.declared.effect.Effect.{Effect as Seen}
@@ -71,10 +71,10 @@ obeys_loosely old new c what all o same = obeys_as old new c what all o (sym sam
 
 -- ---- Commands whose rows are those of a file without macros
 
-plain_row : (k : Known) (c : Command) → is_of_macros c ≡ false → gerber (row k c) ≡ macro_row Any k c
+plain_row : (k : Known) (c : Command) → is_of_macros c ≡ false → gerber (row k c) ≡ macro_row Real k c
 unfolding macro_row
 plain_row k (names_macro name) apart = absurd (cc)
-plain_row k (body_word text) apart = absurd (cc)
+plain_row k (body_word copper text) apart = absurd (cc)
 plain_row k (defines text) apart = absurd (cc)
 plain_row k other apart = refl
 
@@ -82,7 +82,7 @@ plain_effect : (k : Known) (c : Command) → is_of_macros c ≡ false → gerber
 unfolding effect effect_loosely
 plain_effect k c apart = by k.settings.ended (is_finish c)
   where
-    by : (ended last : Bool) → gerber (cond ended (cond last (Ok stays) (Err kind.AfterEnd)) (row k c)) ≡ cond ended (cond last (Ok stays) (Err (Gerber kind.AfterEnd))) (macro_row Any k c)
+    by : (ended last : Bool) → gerber (cond ended (cond last (Ok stays) (Err kind.AfterEnd)) (row k c)) ≡ cond ended (cond last (Ok stays) (Err (Gerber kind.AfterEnd))) (macro_row Real k c)
     by true true = refl
     by true false = refl
     by false last = plain_row k c apart

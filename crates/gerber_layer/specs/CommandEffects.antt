@@ -27,7 +27,7 @@ use Rattle.step_repeat.specs.declared.fault.RepeatFault.{RepeatFault}
 use Rattle.step_repeat.specs.declared.fault.RepeatFault.TheVariants as stepping
 use Rattle.texts.specs.Words.{is_word}
 use Rattle.aperture_macros.specs.BodyWord.{PlainPrimitive}
-use Rattle.aperture_macros.specs.Images.{figure_at}
+use Rattle.aperture_macros.specs.Flashes.{figure_at}
 use Rattle.aperture_macros.specs.declared.fault.MacroFault.{MacroFault}
 use Rattle.gerber_layer.specs.Tools.{Macros, Tool, standard, composed, macro_named, pen_with}
 use Rattle.area_contact.specs.declared.TheConstants.{MOST_CONTOUR_EDGES}
@@ -360,7 +360,7 @@ row k (formats format) = unless (other_format k.settings.format format) kind.Bad
 row k (defines text) = define k text
 -- 4.5, AM and the words behind it: only `MacroTable` reads macros
 row k (names_macro name) = Err kind.Macro
-row k (body_word text) = Err kind.Macro
+row k (body_word copper text) = Err kind.Macro
 -- Set current aperture, Dnn
 row k (selects n) = unless (is_none (k.defined n)) kind.NoAperture (Ok stays)
 -- 4.8, D01, D02 and D03

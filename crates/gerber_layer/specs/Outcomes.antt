@@ -69,7 +69,7 @@ Outcome k (repeats text) e = Repeated k text e
 Outcome k ends e = (pieces : List PlainPiece) × (e ≡ concludes pieces)
 Outcome k closes_region e = (area : Option Figure) × (e ≡ leaves area)
 Outcome k (names_macro name) e = e ≡ begins_macro name
-Outcome k (body_word text) e = IsFilled (primitive_at text) e
+Outcome k (body_word copper text) e = IsFilled (primitive_at copper text) e
 Outcome k other e = e ≡ stays
 
 -- the outcomes of a table are those of the commands

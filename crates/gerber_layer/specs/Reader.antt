@@ -13,7 +13,7 @@ use Rattle.aperture_macros.specs.declared.fault.FigureFault.TheVariants as figur
 use Rattle.board_shapes.specs.declared.shape.Shape.{Shape}
 use Rattle.board_shapes.specs.declared.placed.Placed.{Placed}
 use Rattle.aperture_macros.specs.BodyWord.{PlainPrimitive}
-use Rattle.aperture_macros.specs.Images.{IsBlank}
+use Rattle.aperture_macros.specs.Flashes.{IsBlank}
 use Rattle.aperture_macros.specs.Seen.{plain}
 use Rattle.aperture_macros.specs.declared.primitive.Primitive.{Primitive}
 use Rattle.apertures.specs.Flash.{IsLawful}

@@ -176,7 +176,7 @@ with_body m other = m
 -- the macros behind a command
 abbrev pub macros_by : Command → Macros → Macros
 macros_by (names_macro name) m = begun m name
-macros_by (body_word text) m = with_body m (primitive_at text)
+macros_by (body_word copper text) m = with_body m (primitive_at copper text)
 macros_by other m = m
 
 -- the macros: `AM` begins one, and the words of its body give it primitives

@@ -109,7 +109,8 @@ impl Dialect for WithMacros {
     }
 }
 
-/// Real copper: each arc draw is straight, and there may be aperture macros, whose vector lines may be slanted.
+/// Real copper: each arc draw is straight, and there may be aperture macros, whose lines may be slanted and whose turns are
+/// by degrees.
 pub struct Loose;
 
 impl Dialect for Loose {

@@ -1,6 +1,6 @@
 //! What a macro flashes.
 ghost use Rattle.std.specs.Prelude.{◌≡◌, ◌++◌, ◌≤◌, false, get_or, true, IfErr, IfOk, OnOk};
-ghost use Rattle.aperture_macros.specs.Images.{IsBlank, figure_at};
+ghost use Rattle.aperture_macros.specs.Flashes.{IsBlank, figure_at};
 ghost use Rattle.aperture_macros.specs.Seen.{Makes, plain};
 ghost use Rattle.board_shapes.specs.Figures.{seen_shape};
 ghost use Rattle.board_shapes.specs.Pieces.{plain_pieces};

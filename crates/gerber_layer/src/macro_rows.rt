@@ -20,7 +20,7 @@ use crate::parameters::{name_text, number, parameters};
 use crate::radii::Radii;
 use crate::reader::Reader;
 use crate::tool::Tool;
-use aperture_macros::{Lines, Primitive, read_body};
+use aperture_macros::{Copper, Primitive, read_body};
 use apertures::{ApertureFault, read_aperture};
 use file_reading::Halt;
 use lengths::decimal::{Decimal, Unit};
@@ -51,18 +51,18 @@ fn is_of_macro(text: &[u8], unit: Unit) -> bool
 #[tactic(auto, unfolding(crate::specs::MacroTable::all_judged))]
 fn judge(
     alloc: Global,
-    lines: Lines,
+    copper: Copper,
     body: &[Primitive],
     parameters: &[Decimal],
     unit: Unit,
 ) -> Result<Vec<bool>, Halt<FlattenKind>>
-    ensures ok { IfOk result (λ marks. spec.all_judged lines (body_of body.now) parameters.now unit ≡ Ok tt) }
+    ensures ok { IfOk result (λ marks. spec.all_judged copper (body_of body.now) parameters.now unit ≡ Ok tt) }
     ensures blank { IfOk result (λ marks. AreBlank (body_of body.now) parameters.now unit marks.items) }
-    ensures halt { IfErr result (Stops (as_macro (spec.all_judged lines (body_of body.now) parameters.now unit))) }
+    ensures halt { IfErr result (Stops (as_macro (spec.all_judged copper (body_of body.now) parameters.now unit))) }
 {
     let mut marks = Vec::new(alloc);
     for primitive in body {
-        let has_image = match primitive.has_image(lines, parameters, unit) {
+        let has_image = match primitive.has_image(copper, parameters, unit) {
             Ok(has_image) => has_image,
             Err(fault) => return Err(Halt::Fault(FlattenKind::from(fault))),
         };
@@ -91,7 +91,7 @@ pub fn is_of_macros(command: &Command) -> bool
 {
     matches!(
         command,
-        Command::Macro(_) | Command::Body(_) | Command::Define(_)
+        Command::Macro(_) | Command::Body(_, _) | Command::Define(_)
     )
 }
 
@@ -122,12 +122,12 @@ impl<'a> Reader<'a> {
 
     // A word of a macro's body.
     #[tactic(auto, unfolding(crate::specs::MacroTable::fill_macro))]
-    fn fill_macro(&self, text: &'a [u8]) -> Result<Effect<'a>, FlattenKind>
-        ensures value { showing_any (known_of self.now) result ≡ spec.fill_macro (known_of self.now) text.now }
+    fn fill_macro(&self, copper: Copper, text: &'a [u8]) -> Result<Effect<'a>, FlattenKind>
+        ensures value { showing_any (known_of self.now) result ≡ spec.fill_macro (known_of self.now) copper text.now }
         ensures fit { IfOk result (IsFit self.now.dictionary) }
     {
         let room = self.dictionary.has_room();
-        match read_body(text) {
+        match read_body(copper, text) {
             Ok(None) => Ok(Effect::Stays),
             Ok(Some(primitive)) => if room {
                 Ok(Effect::Fills(primitive))
@@ -144,11 +144,11 @@ impl<'a> Reader<'a> {
 
     // An aperture of a macro.
     #[tactic(auto, unfolding(crate::specs::MacroTable::compose))]
-    fn compose(&self, alloc: Global, lines: Lines, text: &'a [u8], unit: Unit) -> MacroRow<'a>
+    fn compose(&self, alloc: Global, copper: Copper, text: &'a [u8], unit: Unit) -> MacroRow<'a>
         requires { spec.is_of_macro (aperture_at text.now unit) ≡ true }
-        ensures ok { IfOk result (λ e. gerber (shown (known_of self.now) e) ≡ spec.compose lines (known_of self.now) text.now unit) }
+        ensures ok { IfOk result (λ e. gerber (shown (known_of self.now) e) ≡ spec.compose copper (known_of self.now) text.now unit) }
         ensures fit { IfOk result (IsFit self.now.dictionary) }
-        ensures halt { IfErr result (Stops (spec.compose lines (known_of self.now) text.now unit)) }
+        ensures halt { IfErr result (Stops (spec.compose copper (known_of self.now) text.now unit)) }
     {
         let word = name_text(text);
         let name = before_byte(word, b',');
@@ -161,7 +161,7 @@ impl<'a> Reader<'a> {
         let Some(parameters) = parameters else {
             return Err(Halt::Fault(FlattenKind::BadMacro));
         };
-        self.compose_as(alloc, lines, number(text), name, body, parameters, unit)
+        self.compose_as(alloc, copper, number(text), name, body, parameters, unit)
     }
 
     // An aperture of the macro of this name and body.
@@ -169,7 +169,7 @@ impl<'a> Reader<'a> {
     fn compose_as(
         &self,
         alloc: Global,
-        lines: Lines,
+        copper: Copper,
         n: u32,
         name: &'a [u8],
         body: &[Primitive],
@@ -177,9 +177,9 @@ impl<'a> Reader<'a> {
         unit: Unit,
     ) -> MacroRow<'a>
         requires found { macro_named (macros_in self.now.dictionary) name.now ≡ Some (body_of body.now) }
-        ensures ok { IfOk result (λ e. gerber (shown (known_of self.now) e) ≡ spec.compose_as lines (known_of self.now) n name.now (body_of body.now) parameters.items unit) }
+        ensures ok { IfOk result (λ e. gerber (shown (known_of self.now) e) ≡ spec.compose_as copper (known_of self.now) n name.now (body_of body.now) parameters.items unit) }
         ensures fit { IfOk result (IsFit self.now.dictionary) }
-        ensures halt { IfErr result (Stops (spec.compose_as lines (known_of self.now) n name.now (body_of body.now) parameters.items unit)) }
+        ensures halt { IfErr result (Stops (spec.compose_as copper (known_of self.now) n name.now (body_of body.now) parameters.items unit)) }
     {
         if self.dictionary.defines(n) {
             return Err(Halt::Fault(FlattenKind::Gerber(GerberKind::ApertureTwice)));
@@ -187,22 +187,22 @@ impl<'a> Reader<'a> {
         if self.dictionary.len() >= MOST_APERTURES {
             return Err(Halt::Fault(FlattenKind::Gerber(GerberKind::TooManyApertures)));
         }
-        let marks = judge(alloc, lines, body, &parameters, unit)?;
+        let marks = judge(alloc, copper, body, &parameters, unit)?;
         Ok(Effect::Makes(n, Tool::Composed(name, parameters, unit, marks)))
     }
 
     // `AD`.
     #[tactic(auto, unfolding(crate::specs::MacroTable::define_any))]
-    fn define_any(&self, alloc: Global, lines: Lines, text: &'a [u8]) -> MacroRow<'a>
-        ensures ok { IfOk result (λ e. gerber (shown (known_of self.now) e) ≡ spec.define_any lines (known_of self.now) text.now) }
+    fn define_any(&self, alloc: Global, copper: Copper, text: &'a [u8]) -> MacroRow<'a>
+        ensures ok { IfOk result (λ e. gerber (shown (known_of self.now) e) ≡ spec.define_any copper (known_of self.now) text.now) }
         ensures fit { IfOk result (IsFit self.now.dictionary) }
-        ensures halt { IfErr result (Stops (spec.define_any lines (known_of self.now) text.now)) }
+        ensures halt { IfErr result (Stops (spec.define_any copper (known_of self.now) text.now)) }
     {
         let Some(unit) = self.settings.unit else {
             return Err(Halt::Fault(FlattenKind::Gerber(GerberKind::MissingUnit)));
         };
         if is_of_macro(text, unit) {
-            return self.compose(alloc, lines, text, unit);
+            return self.compose(alloc, copper, text, unit);
         }
         self.define(text)
             .map_err(|kind| Halt::Fault(FlattenKind::Gerber(kind)))
@@ -224,18 +224,18 @@ impl<'a> Reader<'a> {
 
     // The row of a command where the file may have macros.
     #[tactic(auto, unfolding(crate::specs::MacroTable::macro_row))]
-    fn macro_row(&self, alloc: Global, lines: Lines, command: &Command<'a>) -> MacroRow<'a>
+    fn macro_row(&self, alloc: Global, copper: Copper, command: &Command<'a>) -> MacroRow<'a>
         requires lawful { IsLawfulReader self.now }
         requires command { IsLawfulCommand (view command.now) }
         requires before_end { self.now.settings.ended ≡ false }
-        ensures ok { IfOk result (λ e. gerber (shown (known_of self.now) e) ≡ spec.macro_row lines (known_of self.now) (view command.now)) }
+        ensures ok { IfOk result (λ e. gerber (shown (known_of self.now) e) ≡ spec.macro_row copper (known_of self.now) (view command.now)) }
         ensures fit { IfOk result (IsFit self.now.dictionary) }
-        ensures halt { IfErr result (Stops (spec.macro_row lines (known_of self.now) (view command.now))) }
+        ensures halt { IfErr result (Stops (spec.macro_row copper (known_of self.now) (view command.now))) }
     {
         match *command {
             Command::Macro(name) => self.name_macro(name).map_err(Halt::Fault),
-            Command::Body(text) => self.fill_macro(text).map_err(Halt::Fault),
-            Command::Define(text) => self.define_any(alloc, lines, text),
+            Command::Body(own, text) => self.fill_macro(own, text).map_err(Halt::Fault),
+            Command::Define(text) => self.define_any(alloc, copper, text),
             _ => self.standard_row(command),
         }
     }
@@ -255,7 +255,7 @@ impl<'a> Reader<'a> {
         if is_function(command) {
             return Ok(Effect::Stays);
         }
-        self.macro_row(alloc, Lines::AlongAxes, command)
+        self.macro_row(alloc, Copper::Exact, command)
     }
 
     /// What a command does in a file of real copper, or its fault.
@@ -270,7 +270,7 @@ impl<'a> Reader<'a> {
         if self.settings.ended {
             return behind_end(command);
         }
-        self.macro_row(alloc, Lines::Any, command)
+        self.macro_row(alloc, Copper::Real, command)
     }
 
     /// The pieces have at most `MOST_APERTURES` radii.

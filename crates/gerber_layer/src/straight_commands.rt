@@ -12,6 +12,7 @@ use crate::kind::GerberKind;
 use crate::word_commands::{
     Offsets, behind_line_code, code_in, from_x, goes_on, is_number_if, macro_or, part, read_command,
 };
+use aperture_macros::Copper;
 use gerber_words::Word;
 use texts::{begins, run_len};
 
@@ -113,5 +114,5 @@ pub fn read_loose_command<'a>(word: Word<'a>) -> Command<'a>
     ensures value { view result ≡ loose_command (entry_of word.entry) }
     ensures lawful { IsLawfulCommand (view result) }
 {
-    macro_or(read_straight_command(word), word)
+    macro_or(Copper::Real, read_straight_command(word), word)
 }

@@ -12,6 +12,7 @@ ghost use Rattle.gerber_words.specs.Stepping.{entry_of};
 
 use crate::command::{Code, Command, Format};
 use crate::kind::GerberKind;
+use aperture_macros::Copper;
 use gerber_words::{Attribute, AttributeKind, Word, is_field};
 use lengths::decimal::{Unit, read_decimal, small_value, unsigned};
 use texts::{ByteClass, Digit, all_digits, begins, is_digit, is_word, run_len};
@@ -157,18 +158,18 @@ pub fn read_macro_command<'a>(word: Word<'a>) -> Command<'a>
     ensures value { view result ≡ command_with_macros (entry_of word.entry) }
     ensures lawful { IsLawfulCommand (view result) }
 {
-    macro_or(read_command(word), word)
+    macro_or(Copper::Exact, read_command(word), word)
 }
 
-/// The command of a macro that a word is, or the other.
+/// The command of a macro of such copper that a word is, or the other.
 #[tactic(auto, unfolding(crate::specs::MacroCommands::macro_or))]
-pub fn macro_or<'a>(other: Command<'a>, word: Word<'a>) -> Command<'a>
+pub fn macro_or<'a>(copper: Copper, other: Command<'a>, word: Word<'a>) -> Command<'a>
     requires { IsLawfulCommand (view other) }
-    ensures value { view result ≡ macro_or (view other.entry) (entry_of word.entry) }
+    ensures value { view result ≡ macro_or copper (view other.entry) (entry_of word.entry) }
     ensures lawful { IsLawfulCommand (view result) }
 {
     if word.body {
-        return Command::Body(word.text);
+        return Command::Body(copper, word.text);
     }
     if word.extended && begins(word.text, b"AM") {
         return Command::Macro(&word.text[2..]);

@@ -20,6 +20,7 @@ use Rattle.apertures.specs.declared.fault.ApertureFault.TheVariants as aperture
 use Rattle.apertures.specs.Definition.{aperture_at, numbered_at, digits_len, name_of}
 use Rattle.apertures.specs.Flash.{IsLawful}
 use Rattle.apertures.proofs.Lawful.{numbered_lawful, past_test as past_apertures}
+use Rattle.aperture_macros.specs.declared.primitive.Copper.{Copper}
 use Rattle.aperture_macros.specs.BodyWord.{PlainPrimitive, primitive_at}
 use Rattle.aperture_macros.specs.Sized.{IsSized}
 use Rattle.aperture_macros.specs.declared.fault.MacroFault.{MacroFault}
@@ -31,7 +32,7 @@ use Rattle.gerber_layer.specs.declared.kind.GerberKind.{GerberKind}
 use Rattle.gerber_layer.specs.Tools.{Macro, Macros, Tool, standard, composed, composed_in, begun, filled_up, latest_or, longer, macro_named, name_text, number_digits, parameters_in, tool_by, tool_in}
 use Rattle.gerber_layer.specs.CommandEffects.{gridded, coordinate, code_of}
 use Rattle.gerber_layer.specs.Settings.{as_number, definition_in, defined_before, drawn, contour_by, contour_before, lengthened, macros_by, macros_before, point_before, region_open, unit_before, format_before, value_in, value_or, with_body, x_before, x_in, y_before, y_in}
-use Rattle.macro_flatten.proofs.Primitives.{read_sized}
+use Rattle.aperture_macros.proofs.Readings.{read_sized}
 use Rattle.planar.specs.declared.TheConstants.{METRE}
 
 -- ---- The current point
@@ -216,17 +217,17 @@ filled_sized m p s sized name body e = by m.latest (sized name) e
         named true h e = let same : last.body ++ p ∷ [] ≡ body = cc in subst AreSized same (more_sized p last.body s (h last.body refl))
         named false h e = h body e
 
-body_sized : (m : Macros) (text : List ℕ) → HaveSizes m → HaveSizes (with_body m (primitive_at text))
-body_sized m text sized = by (primitive_at text) refl
+body_sized : (m : Macros) (copper : Copper) (text : List ℕ) → HaveSizes m → HaveSizes (with_body m (primitive_at copper text))
+body_sized m copper text sized = by (primitive_at copper text) refl
   where
-    by : (r : Result (Option PlainPrimitive) MacroFault) → primitive_at text ≡ r → HaveSizes (with_body m r)
-    by (Ok (Some p)) e = filled_sized m p (read_sized text p e) sized
+    by : (r : Result (Option PlainPrimitive) MacroFault) → primitive_at copper text ≡ r → HaveSizes (with_body m r)
+    by (Ok (Some p)) e = filled_sized m p (read_sized copper text p e) sized
     by (Ok None) e = sized
     by (Err fault) e = sized
 
 macros_kept : (c : Command) (m : Macros) → HaveSizes m → HaveSizes (macros_by c m)
 macros_kept (names_macro name) m sized = begun_sized m name sized
-macros_kept (body_word text) m sized = body_sized m text sized
+macros_kept (body_word copper text) m sized = body_sized m copper text sized
 macros_kept other m sized = sized
 
 pub macros_sized : (h : List Command) → HaveSizes (macros_before h)

@@ -226,7 +226,7 @@ kept : {W : Type 0} (f : Profile W) → HasRows f → (p : Place) (h : List Comm
 unfolding IsIdle
 kept f t p h (defines text) e is w = let d = t.says (known_by f p h) (defines text) e is in idle f p h (defines text) e is (subst IsIdle (sym d.is) tt) refl w
 kept f t p h (names_macro name) e is w = idle f p h (names_macro name) e is (subst IsIdle (sym (t.says (known_by f p h) (names_macro name) e is)) tt) refl w
-kept f t p h (body_word text) e is w = idle f p h (body_word text) e is (as_filled (primitive_at text) e (t.says (known_by f p h) (body_word text) e is)) refl w
+kept f t p h (body_word copper text) e is w = idle f p h (body_word copper text) e is (as_filled (primitive_at copper text) e (t.says (known_by f p h) (body_word copper text) e is)) refl w
 kept f t p h (repeats text) e is w = kept_repeats f p h text e is (t.shares (known_by f p h) (repeats text) e tt is) w
 kept f t p h opens_region e is w = kept_opens f p h e is (t.says (known_by f p h) opens_region e is) w
 kept f t p h closes_region e is w = kept_closes f p h e is (t.shares (known_by f p h) closes_region e tt is) w

@@ -17,7 +17,7 @@ use Rattle.apertures.specs.declared.aperture.Aperture.TheVariants.{Circle, Recta
 use Rattle.apertures.specs.Definition.{is_zero}
 use Rattle.apertures.specs.Flash.{NoFlash, IsNarrow, IsSize, IsLawful, flash_of, half}
 use Rattle.aperture_macros.specs.BodyWord.{PlainPrimitive}
-use Rattle.aperture_macros.specs.Images.{figure_at}
+use Rattle.aperture_macros.specs.Flashes.{figure_at}
 use Rattle.aperture_macros.specs.Sized.{IsSized}
 use Rattle.aperture_macros.specs.declared.fault.MacroFault.{MacroFault}
 use Rattle.regions.specs.Contours.{Flaw, stays_open, too_short, close_of, same_spot}

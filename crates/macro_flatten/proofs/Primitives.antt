@@ -20,90 +20,25 @@ use Rattle.aperture_macros.specs.declared.images.Sketch.{Sketch}
 use Rattle.aperture_macros.specs.declared.images.Sketch.TheVariants.{Disc, Rectangle, Stroke}
 use Rattle.aperture_macros.specs.declared.primitive.Form.{Form}
 use Rattle.aperture_macros.specs.declared.primitive.Form.TheVariants.{Circle, Outline, VectorLine, CentreLine}
-use Rattle.aperture_macros.specs.declared.primitive.Lines.TheVariants.{Any}
+use Rattle.aperture_macros.specs.declared.primitive.Copper.TheVariants.{Real}
 use Rattle.aperture_macros.specs.declared.primitive.Rotation.{Rotation}
-use Rattle.aperture_macros.specs.BodyWord.{PlainPrimitive, ◌>>=◌, are_expressions, commas, count, fits, form_at, form_in, form_of, is_number, outline_of, part, past, primitive_at, rotation_of, rotation_text, row, some_form, turned_at}
-use Rattle.aperture_macros.specs.Images.{area_at, circle_at, centre_at, centred, disc_at, figure_at, figure_by, line_at, line_between, outline_at, set_down, sketch_at, sketched, slanted, stroke_at, outlined, strip}
+use Rattle.aperture_macros.specs.declared.primitive.Turning.{Turning}
+use Rattle.aperture_macros.specs.declared.primitive.Turning.TheVariants.{Quarters, Degrees}
+use Rattle.aperture_macros.specs.BodyWord.{PlainPrimitive, ◌>>=◌, part, past}
+use Rattle.aperture_macros.specs.Flashes.{figure_at, figure_turned, tell, told_figure, turn_behind}
+use Rattle.aperture_macros.specs.Telling.{told}
+use Rattle.aperture_macros.specs.Images.{area_at, circle_at, centre_at, centred, disc_at, figure_by, line_at, line_between, outline_at, set_down, sketch_at, sketched, slanted, stroke_at, outlined, strip}
 use Rattle.aperture_macros.specs.Outlines.{closing_at, moved_from}
 use Rattle.aperture_macros.specs.Sized.{IsSized}
 use Rattle.aperture_macros.specs.Values.{as_size, coordinate_at, diameter_at, point_at, size_at}
 use Rattle.aperture_macros.proofs.Closings.{closing_is, outline_refused, outlined_by}
+use Rattle.aperture_macros.proofs.Readings.{passed}
+use Rattle.aperture_macros.proofs.Strokes.{then_ok}
+use Rattle.aperture_macros.proofs.Told.{area_is, told_closed, told_length}
 use Rattle.macro_flatten.specs.Laws.{IsDrawn}
 use Rattle.macro_flatten.proofs.Drawn.{half_drawn, spot_placed, spots_placed}
 use Rattle.area_contact.specs.declared.TheConstants.{MOST_CONTOUR_POINTS}
 use Rattle.contact.specs.declared.TheConstants.{MOST_DIAMETER}
-
-then_ok : {A B : Type 0} (r : Result A MacroFault) (f : A → Result B MacroFault) (y : B) → (r >>= f) ≡ Ok y → (x : A) × (r ≡ Ok x) × (f x ≡ Ok y)
-then_ok (Ok x) f y h = (x, refl, h)
-then_ok (Err e) f y h = cc
-
--- what is behind a test that is not met
-passed : {A : Type 0} (b : Bool) (e : MacroFault) (r : Result A MacroFault) (y : A) → cond b (Err e) r ≡ Ok y → (b ≡ false) × (r ≡ Ok y)
-passed true e r y h = cc
-passed false e r y h = (refl, h)
-
--- ---- Forms
-
-either_sized : (b : Bool) (o p : Option Form) → IfSome o IsSized → IfSome p IsSized → IfSome (cond b o p) IsSized
-either_sized true o p h k = h
-either_sized false o p h k = k
-
-outline_sized : (word : List ℕ) (n : ℕ) → IfSome (outline_of word n) IsSized
-unfolding outline_of
-outline_sized word n = by (nat_le 3 n) (nat_le n 5000) refl refl
-  where
-    by : (a b : Bool) → nat_le 3 n ≡ a → nat_le n 5000 ≡ b → IfSome (cond (not (a && b)) None (cond (not (is_decimal (part 2 word))) None (cond (is_number (fraction (part 2 word)) n) (Some (Outline n)) None))) IsSized
-    by false b low high = tt
-    by true false low high = tt
-    by true true low high = either_sized (not (is_decimal (part 2 word))) None (cond (is_number (fraction (part 2 word)) n) (Some (Outline n)) None) tt (either_sized (is_number (fraction (part 2 word)) n) (Some (Outline n)) None (leb-true _ _ low, leb-true _ _ high) tt)
-
-fitting_sized : (n : ℕ) (o : Option Form) → IfSome o IsSized → IfSome (option_and_then (λ form. cond (fits form n) (Some form) None) o) IsSized
-fitting_sized n None h = tt
-fitting_sized n (Some form) h = either_sized (fits form n) (Some form) None h tt
-
-form_sized : (word : List ℕ) (n : ℕ) → IfSome (form_of word n) IsSized
-unfolding form_of
-form_sized word n =
-    let code = λ (text : List ℕ). is_word (part 0 word) text in
-    let edges = outline_of word ((n - 5) / 2) in
-    let centre : Option Form = cond (code (codes "21")) (Some CentreLine) None in
-    let vector : Option Form = cond (code (codes "20")) (Some VectorLine) centre in
-    let outline : Option Form = cond (code (codes "4")) edges vector in
-    let fourth = either_sized (code (codes "21")) (Some CentreLine) None (omega arith, omega arith) tt in
-    let third = either_sized (code (codes "20")) (Some VectorLine) centre (omega arith, omega arith) fourth in
-    let second = either_sized (code (codes "4")) edges vector (outline_sized word ((n - 5) / 2)) third in
-    either_sized (code (codes "1")) (Some Circle) outline (omega arith, omega arith) second
-
-turned_form : (form : Form) (exposure : Fraction) (lengths rotation : List ℕ) (p : PlainPrimitive) → turned_at form exposure lengths rotation ≡ Ok p → p.form ≡ form
-unfolding turned_at
-turned_form form exposure lengths rotation p h =
-    let a = passed (not (are_expressions (count form) lengths)) BadMacro _ p h in
-    let b = passed (not (is_decimal rotation)) BadMacro _ p a.1 in
-    let c = passed (not (is_number exposure 1)) ExposureOff _ p b.1 in
-    let t = then_ok (rotation_of (fraction rotation)) (λ turn. Ok (record { form = form; rotation = turn; lengths = lengths })) p c.1 in
-    let made : ◌≡◌ {A = Result PlainPrimitive MacroFault} (Ok (record { form = form; rotation = t.0; lengths = lengths })) (Ok p) = t.2 in
-    let same : ◌≡◌ {A = PlainPrimitive} (record { form = form; rotation = t.0; lengths = lengths }) p = cc in
-    sym (ap (λ (q : PlainPrimitive). q.form) same)
-
-form_kept : (form : Form) (n : ℕ) (word : List ℕ) (p : PlainPrimitive) → form_in form n word ≡ Ok p → p.form ≡ form
-unfolding form_in
-form_kept form n word p h =
-    let a = passed (not (is_decimal (part 1 word))) BadMacro _ p h in
-    turned_form form (fraction (part 1 word)) (past (row form).head word) (rotation_text form n (past (row form).head word)) p a.1
-
--- a primitive that is read has a form of lawful size
-pub read_sized : (word : List ℕ) (p : PlainPrimitive) → primitive_at word ≡ Ok (Some p) → IsSized p.form
-unfolding primitive_at
-read_sized word p h = by (begins word (codes "0")) (form_at word (commas word)) (fitting_sized (commas word) (form_of word (commas word)) (form_sized word (commas word))) h
-  where
-    by : (b : Bool) (o : Option Form) → IfSome o IsSized → cond b (Ok None) (some_form o (commas word) word) ≡ Ok (Some p) → IsSized p.form
-    by true o s h = cc
-    by false None s h = cc
-    by false (Some form) s h =
-        let f = then_ok (form_in form (commas word) word) (λ primitive. Ok (Some primitive)) (Some p) h in
-        let made : ◌≡◌ {A = Result (Option PlainPrimitive) MacroFault} (Ok (Some f.0)) (Ok (Some p)) = f.2 in
-        let same : f.0 ≡ p = cc in
-        subst IsSized (sym (form_kept form (commas word) word f.0 f.1) ∙ ap (λ (q : PlainPrimitive). q.form) same) s
 
 -- ---- Sketches
 
@@ -156,7 +91,7 @@ strip_pen false true low high low' high' = tt
 strip_pen false false low high low' high' = tt
 
 -- a slanted line
-slanted_pen : (w : ℕ) (p q : Spot) (s : Option Sketch) → w % 2 ≡ 0 → slanted Any w p q ≡ Ok s → IsPen s
+slanted_pen : (w : ℕ) (p q : Spot) (s : Option Sketch) → w % 2 ≡ 0 → slanted Real w p q ≡ Ok s → IsPen s
 unfolding IsPen
 slanted_pen w p q s even h =
     let few = passed (nat_lt MOST_DIAMETER w) OutOfRange (Ok (cond (eqb w 0) None (Some (Stroke p q w)))) s h in
@@ -166,16 +101,16 @@ slanted_pen w p q s even h =
     by true none few h = let same : None ≡ s = cc in subst IsPen same tt
     by false some few h = let same : Some (Stroke p q w) ≡ s = cc in subst IsPen same (even, few, some)
 
-line_pen : (text : List ℕ) (given : List Fraction) (unit : Measure) (s : Option Sketch) → line_at Any text given unit ≡ Ok s → IsPen s
+line_pen : (text : List ℕ) (given : List Fraction) (unit : Measure) (s : Option Sketch) → line_at Real text given unit ≡ Ok s → IsPen s
 unfolding line_at line_between
 line_pen text given unit s h =
-    let sketch = λ (w : ℕ) (p q : Spot). cond (int_eq p.x q.x) (Ok (strip w p q w 0)) (cond (int_eq p.y q.y) (Ok (strip w p q 0 w)) (slanted Any w p q)) in
+    let sketch = λ (w : ℕ) (p q : Spot). cond (int_eq p.x q.x) (Ok (strip w p q w 0)) (cond (int_eq p.y q.y) (Ok (strip w p q 0 w)) (slanted Real w p q)) in
     let w = then_ok (size_at (part 0 text) given unit) (λ w. point_at (past 1 text) given unit >>= λ p. point_at (past 3 text) given unit >>= λ q. sketch w p q) s h in
     let p = then_ok (point_at (past 1 text) given unit) (λ p. point_at (past 3 text) given unit >>= λ q. sketch w.0 p q) s w.2 in
     let q = then_ok (point_at (past 3 text) given unit) (λ q. sketch w.0 p.0 q) s p.2 in
     by w.0 p.0 q.0 (size_even (part 0 text) given unit w.0 w.1) (int_eq p.0.x q.0.x) (int_eq p.0.y q.0.y) q.2
   where
-    by : (w : ℕ) (p q : Spot) → w % 2 ≡ 0 → (a b : Bool) → ◌≡◌ {A = Result (Option Sketch) MacroFault} (cond a (Ok (strip w p q w 0)) (cond b (Ok (strip w p q 0 w)) (slanted Any w p q))) (Ok s) → IsPen s
+    by : (w : ℕ) (p q : Spot) → w % 2 ≡ 0 → (a b : Bool) → ◌≡◌ {A = Result (Option Sketch) MacroFault} (cond a (Ok (strip w p q w 0)) (cond b (Ok (strip w p q 0 w)) (slanted Real w p q))) (Ok s) → IsPen s
     by w p q even true b h = let same : strip w p q w 0 ≡ s = cc in subst IsPen same (strip_pen _ _ _ _ _ _)
     by w p q even false true h = let same : strip w p q 0 w ≡ s = cc in subst IsPen same (strip_pen _ _ _ _ _ _)
     by w p q even false false h = slanted_pen w p q s even h
@@ -260,9 +195,29 @@ figure_by_drawn : (form : Form) (rotation : Rotation) (text : List ℕ) (given :
 unfolding figure_by
 figure_by_drawn Circle rotation text given unit at f sized h = sketched_drawn rotation at (circle_at text given unit) f (circle_pen text given unit) h
 figure_by_drawn (Outline n) rotation text given unit at f sized h = outline_drawn n rotation text given unit at f sized.0 sized.1 h
-figure_by_drawn VectorLine rotation text given unit at f sized h = sketched_drawn rotation at (line_at Any text given unit) f (line_pen text given unit) h
+figure_by_drawn VectorLine rotation text given unit at f sized h = sketched_drawn rotation at (line_at Real text given unit) f (line_pen text given unit) h
 figure_by_drawn CentreLine rotation text given unit at f sized h = sketched_drawn rotation at (centre_at text given unit) f (centre_pen text given unit) h
+
+-- an area that is told with how far it is turned is closed too
+told_drawn : (about : Spot) (rest : ℕ) (o : Option Figure) (f : Figure) → ((g : Figure) → o ≡ Some g → IsDrawn g) → ((points : List Spot) → o ≡ Some (filled points) → length points ≤ 5001) → tell about rest o ≡ Ok (Some f) → IsDrawn f
+told_drawn about rest None f drawn few h = cc
+told_drawn about rest (Some (round s)) f drawn few h = same_figure (round s) f h (drawn (round s) refl)
+told_drawn about rest (Some (filled points)) f drawn few h =
+    let c = drawn (filled points) refl in
+    let long = told_length about rest points c.enough in
+    area_drawn (told about rest points) f (told_closed about rest points) (omega (arith, long)) (omega (arith, long, few points refl)) h
+
+turned_drawn : (turning : Turning) (form : Form) (text : List ℕ) (given : List Fraction) (unit : Measure) (at : Spot) (f : Figure) → IsSized form → figure_turned turning form text given unit at ≡ Ok (Some f) → IsDrawn f
+unfolding figure_turned
+turned_drawn (Quarters rotation) form text given unit at f sized h = figure_by_drawn form rotation text given unit at f sized h
+turned_drawn Degrees form text given unit at f sized h =
+    let t = then_ok (turn_behind form text given) (λ turn. told_figure turn form text given unit at) (Some f) h in
+    let g = then_ok (figure_by form t.0.quarters text given unit at) (λ figure. tell at t.0.rest figure) (Some f) t.2 in
+    told_drawn at t.0.rest g.0 f
+    (λ d is. figure_by_drawn form t.0.quarters text given unit at d sized (g.1 ∙ ap (λ (o : Option Figure). let r : Result (Option Figure) MacroFault = Ok o in r) is))
+    (λ points is. (area_is form t.0.quarters text given unit at points sized (g.1 ∙ ap (λ (o : Option Figure). let r : Result (Option Figure) MacroFault = Ok o in r) is)).few)
+    g.2
 
 -- what a primitive of lawful size flashes
 pub primitive_drawn : (p : PlainPrimitive) (given : List Fraction) (unit : Measure) (at : Spot) (f : Figure) → IsSized p.form → figure_at p given unit at ≡ Ok (Some f) → IsDrawn f
-primitive_drawn p given unit at f sized h = figure_by_drawn p.form p.rotation p.lengths given unit at f sized h
+primitive_drawn p given unit at f sized h = turned_drawn p.rotation p.form p.lengths given unit at f sized h

@@ -1,0 +1,74 @@
+-- What primitives flash as they are turned: by quarter turns, or in real copper by degrees.
+use Rattle.std.specs.Prelude.{◌≡◌, ◌≢◌, ℕ, Bool, true, false, ◌&&◌, not, nat_lt, if◌then◌else◌, List, pos, Option, Some, None, Result, Ok, Err}
+use Rattle.planar.specs.declared.Spot.{Spot}
+use Rattle.board_shapes.specs.Figures.{Figure, filled}
+use Rattle.lengths.specs.Decimal.{Fraction}
+use Rattle.lengths.specs.declared.decimal.Unit.{Unit as Measure}
+use Rattle.aperture_macros.specs.declared.degrees.Turn.{Turn}
+use Rattle.aperture_macros.specs.declared.primitive.Form.{Form}
+use Rattle.aperture_macros.specs.declared.primitive.Form.TheVariants.{Circle, VectorLine}
+use Rattle.aperture_macros.specs.declared.primitive.Copper.{Copper}
+use Rattle.aperture_macros.specs.declared.primitive.Copper.TheVariants.{Real}
+use Rattle.aperture_macros.specs.declared.primitive.Turning.{Turning}
+use Rattle.aperture_macros.specs.declared.primitive.Turning.TheVariants.{Quarters, Degrees}
+use Rattle.aperture_macros.specs.declared.images.Sketch.{Sketch}
+use Rattle.aperture_macros.specs.declared.images.Sketch.TheVariants.{Disc, Stroke}
+use Rattle.aperture_macros.specs.declared.fault.MacroFault.{MacroFault}
+use Rattle.aperture_macros.specs.declared.fault.MacroFault.TheVariants.{Turn as Turned}
+use Rattle.aperture_macros.specs.BodyWord.{◌>>=◌, PlainPrimitive, count, part}
+use Rattle.aperture_macros.specs.Degrees.{turn_at}
+use Rattle.aperture_macros.specs.Images.{area_at, circle_at, figure_by, judged_by, line_at, same_spot}
+use Rattle.aperture_macros.specs.Telling.{told}
+
+-- the turn that the expression behind the lengths says
+abbrev pub turn_behind : Form → List ℕ → List Fraction → Result Turn MacroFault
+turn_behind form text parameters = turn_at (part (count form) text) parameters
+
+-- a figure about the origin that other turns than quarter turns would move or slant: a disc off the origin, or a stroke
+abbrev pub is_moved : Result (Option Sketch) MacroFault → Bool
+is_moved (Ok (Some (Disc p d))) = not (same_spot p (record { x = pos 0; y = pos 0 }))
+is_moved (Ok (Some (Stroke p q w))) = true
+is_moved other = false
+
+-- the primitive flashes such a one
+unfoldable pub needs_quarters : Form → List ℕ → List Fraction → Measure → Bool
+needs_quarters Circle text parameters unit = is_moved (circle_at text parameters unit)
+needs_quarters VectorLine text parameters unit = is_moved (line_at Real text parameters unit)
+needs_quarters other text parameters unit = false
+
+-- what is judged of how a primitive is turned: such a one is turned by quarter turns alone
+unfoldable pub turn_judged : Turning → Form → List ℕ → List Fraction → Measure → Result (Unit {0}) MacroFault
+turn_judged (Quarters rotation) form text parameters unit = Ok tt
+turn_judged Degrees form text parameters unit =
+    turn_behind form text parameters >>= λ turn. if nat_lt 0 turn.rest && needs_quarters form text parameters unit then Err Turned else Ok tt
+
+-- the primitive's first fault with these parameters, if it has one: of its lengths, and then of its turn
+abbrev pub judged : Copper → PlainPrimitive → List Fraction → Measure → Result (Unit {0}) MacroFault
+judged copper p parameters unit = judged_by copper p.form p.lengths parameters unit >>= λ done. turn_judged p.rotation p.form p.lengths parameters unit
+
+-- an area is told with how far it is turned about a spot; discs and strokes are as they are
+abbrev pub tell : Spot → ℕ → Option Figure → Result (Option Figure) MacroFault
+tell about rest (Some (filled points)) = area_at (told about rest points)
+tell about rest other = Ok other
+
+-- in real copper quarter turns are made, and what is left is told
+abbrev pub told_figure : Turn → Form → List ℕ → List Fraction → Measure → Spot → Result (Option Figure) MacroFault
+told_figure turn form text parameters unit at = figure_by form turn.quarters text parameters unit at >>= λ figure. tell at turn.rest figure
+
+-- by how the primitive is turned
+unfoldable pub figure_turned : Turning → Form → List ℕ → List Fraction → Measure → Spot → Result (Option Figure) MacroFault
+figure_turned (Quarters rotation) form text parameters unit at = figure_by form rotation text parameters unit at
+figure_turned Degrees form text parameters unit at =
+    turn_behind form text parameters >>= λ turn. told_figure turn form text parameters unit at
+
+-- what a primitive flashes at a spot
+abbrev pub figure_at : PlainPrimitive → List Fraction → Measure → Spot → Result (Option Figure) MacroFault
+figure_at p parameters unit at = figure_turned p.rotation p.form p.lengths parameters unit at
+
+-- the primitive has no image with these parameters: it flashes nothing, wherever that is
+abbrev pub IsBlank : PlainPrimitive → List Fraction → Measure → Type 0
+IsBlank p parameters unit = (at : Spot) → figure_at p parameters unit at ≡ Ok None
+
+-- the primitive has an image with these parameters: wherever it is flashed, there is a figure or a fault
+abbrev pub HasImage : PlainPrimitive → List Fraction → Measure → Type 0
+HasImage p parameters unit = (at : Spot) → figure_at p parameters unit at ≢ Ok None

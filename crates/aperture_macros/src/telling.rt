@@ -1,0 +1,87 @@
+//! How an area is told with how far it is turned.
+ghost use Rattle.std.specs.Prelude.{◌≡◌, ◌≤◌, ◌+◌, IfErr, IfOk, length, slice_index_or};
+ghost use Rattle.planar.specs.Plane.{IsPlaced};
+ghost use Rattle.area_contact.specs.Contour.{IsClosed};
+ghost use Rattle.area_contact.specs.declared.TheConstants.{MOST_CONTOUR_POINTS};
+ghost use Rattle.aperture_macros.specs.Images.{area_at, set_down};
+ghost use Rattle.aperture_macros.specs.Seen.{Makes};
+ghost use Rattle.aperture_macros.specs.Telling as spec;
+ghost use Rattle.aperture_macros.specs.declared.primitive.Rotation.TheVariants as rotation;
+
+use crate::fault::{FigureFault, MacroFault};
+use crate::placing::Placing;
+use crate::primitive::Rotation;
+use board_shapes::Shape;
+use planar::{Spot, are_placed};
+use std::alloc::Global;
+
+/// The area whose contour is this one with three spots more: what it is turned about, that spot moved by what the
+/// turn is (`rest`, in 10^-7 degrees, by 30,000), and the first spot again.
+///
+/// `OutOfRange` where one of them is over 1 m from 0 in x or y.
+pub fn told(
+    alloc: Global,
+    about: Spot,
+    rest: u32,
+    contour: &[Spot],
+) -> Result<Option<Shape>, FigureFault>
+    requires about { IsPlaced about }
+    requires closed { IsClosed contour.now }
+    requires enough { 4 ≤ length contour.now }
+    requires few { length contour.now + 3 ≤ MOST_CONTOUR_POINTS }
+    ensures { Makes result (area_at (spec.told about rest contour.now)) }
+{
+    let points = told_spots(alloc, about, rest, contour)?;
+    if !are_placed(&points) {
+        return Err(FigureFault::Macro(MacroFault::OutOfRange));
+    }
+    match Shape::area_of(alloc, points) {
+        Ok(shape) => Ok(Some(shape)),
+        Err(_) => Err(FigureFault::NoMemory),
+    }
+}
+
+// The spots of a contour, and the three that tell its turn.
+fn told_spots(
+    alloc: Global,
+    about: Spot,
+    rest: u32,
+    contour: &[Spot],
+) -> Result<Vec<Spot>, FigureFault>
+    requires about { IsPlaced about }
+    requires enough { 4 ≤ length contour.now }
+    ensures spots { IfOk result (λ points. points.items ≡ spec.told about rest contour.now) }
+    ensures no_memory { IfErr result (λ fault. fault ≡ FigureFault.NoMemory) }
+{
+    let first = first_spot(contour);
+    let end = end_of_way(about, rest);
+    let Ok(mut points) = contour.to_vec(alloc) else {
+        return Err(FigureFault::NoMemory);
+    };
+    match points.extend_from_slice(&[about, end, first]) {
+        Ok(()) => Ok(points),
+        Err(_) => Err(FigureFault::NoMemory),
+    }
+}
+
+fn first_spot(contour: &[Spot]) -> Spot
+    requires { 4 ≤ length contour.now }
+    ensures { (d : Spot) → slice_index_or contour.now 0 d ≡ result }
+{
+    contour[0]
+}
+
+// Where the way that stands for a turn leads from a spot.
+fn end_of_way(about: Spot, rest: u32) -> Spot
+    requires { IsPlaced about }
+    ensures { result ≡ set_down rotation.Unturned about (spec.way_of rest) }
+{
+    let by = Placing {
+        rotation: Rotation::Unturned,
+        at: about,
+    };
+    by.moved(Spot {
+        x: i64::from(rest / 30_000),
+        y: i64::from(rest % 30_000),
+    })
+}
