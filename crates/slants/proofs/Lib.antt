@@ -1,9 +1,11 @@
-mod Corners
+mod Around
 mod Circle
-mod Cones
+mod Corners
 mod Fan
 mod Halves
 mod Level
+mod Near
+mod Parts
 mod Quadrilateral
 mod Read
 mod Sides

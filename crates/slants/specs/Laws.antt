@@ -1,13 +1,15 @@
 -- Laws over the definitions.
-use Rattle.std.specs.Prelude.{ℕ, ◌+◌, ◌≤◌, List, ℤ, pos, ◌+ℤ◌, ◌-ℤ◌, ◌*ℤ◌, ◌≤ℤ◌, ◌<ℤ◌, ◌≡◌, ◌↔◌}
+use Rattle.std.specs.Prelude.{ℕ, ◌+◌, ◌≤◌, ◌<◌, List, ℤ, pos, ◌+ℤ◌, ◌-ℤ◌, ◌*ℤ◌, ◌≤ℤ◌, ◌<ℤ◌, ◌≡◌, ◌↔◌}
 use Rattle.planar.specs.Plane.{Point, square}
 use Rattle.planar.specs.declared.Spot.{Spot}
 use Rattle.board_shapes.specs.Figures.{InFigure, filled}
 use Rattle.board_shapes.specs.Rectangles.{rectangle}
+use Rattle.slants.specs.Cones.{FigureAbove, FigureBelow, PossiblyTurned, SurelyTurned, cosine, sine, turns_by}
 use Rattle.slants.specs.Copper.{InSlant}
 use Rattle.slants.specs.Taken.{TakenAbove, TakenBelow}
 use Rattle.slants.specs.Turned.{IsBetween, IsTurn, meet_of}
 use Rattle.slants.specs.declared.Slant.{Slant}
+use Rattle.slants.specs.declared.cones.TheConstants.{RIGHT_ANGLE}
 use Rattle.slants.specs.declared.turns.Motions.{Motions}
 use Rattle.slants.specs.declared.turns.Turn.{Turn}
 
@@ -48,3 +50,22 @@ crossed_of u v = u.x *ℤ v.y -ℤ u.y *ℤ v.x
 -- Of two ways, the last on the left of the first, a way that is not on the right of the first nor on the left of the last is in the cone
 abbrev pub SidesTellCone : Type 0
 SidesTellCone = (m : Motions) (t : Turn) → IsTurn t → pos 1 ≤ℤ crossed_of m.first m.last → pos 0 ≤ℤ crossed_of m.first t → pos 0 ≤ℤ crossed_of t m.last → IsBetween m t
+
+-- ---- figures turned by an angle
+
+-- A contour that is taken below lies in the figure at each turn by about the angle, and one that is taken above holds it at each
+abbrev pub TurnedIsBetween : Type 0
+TurnedIsBetween = (contour : List Spot) (about : Spot) (angle : ℕ) (points : List Spot) (p : Point) → (FigureBelow contour about angle points → InFigure (filled points) p → SurelyTurned contour about angle p) × (FigureAbove contour about angle points → PossiblyTurned contour about angle p → InFigure (filled points) p)
+
+-- the way up or level is at most 1 off the cosine and the sine of half the angle, k times as long
+pub record IsNear (angle : ℕ) (k : ℤ) (t : Turn) : Type 0 where
+  pub some : pos 1 ≤ℤ k
+  pub up : pos 0 ≤ℤ t.y
+  pub x_from : (k *ℤ (pos (cosine angle) -ℤ pos 1)) ≤ℤ t.x
+  pub x_to : t.x ≤ℤ (k *ℤ (pos (cosine angle) +ℤ pos 1))
+  pub y_from : (k *ℤ (pos (sine angle) -ℤ pos 1)) ≤ℤ t.y
+  pub y_to : t.y ≤ℤ (k *ℤ (pos (sine angle) +ℤ pos 1))
+
+-- Such a way of an angle below a right one is in its cone
+abbrev pub NearIsBetween : Type 0
+NearIsBetween = (about : Spot) (angle : ℕ) (k : ℤ) (t : Turn) → angle < RIGHT_ANGLE → IsNear angle k t → IsBetween (turns_by about angle) t

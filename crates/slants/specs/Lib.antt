@@ -1,3 +1,4 @@
+pub mod Cones
 pub mod Copper
 pub mod Laws
 pub mod Taken

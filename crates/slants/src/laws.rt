@@ -1,5 +1,5 @@
 //! Laws over the definitions. Their calls do nothing.
-ghost use Rattle.slants.specs.Laws.{BelowIsAbove, EachTurnIsTold, LevelIsRectangle, OtherWayIsSame, SidesTellCone, TakenIsBetween};
+ghost use Rattle.slants.specs.Laws.{BelowIsAbove, EachTurnIsTold, LevelIsRectangle, NearIsBetween, OtherWayIsSame, SidesTellCone, TakenIsBetween, TurnedIsBetween};
 
 /// A contour that is taken below lies in the rectangle, one that is taken above holds it.
 pub fn taken_is_between()
@@ -29,4 +29,14 @@ pub fn each_turn_is_told()
 /// Which turns are between two is told by sides.
 pub fn sides_tell_cone()
     ensures { SidesTellCone }
+{}
+
+/// A contour that is taken below lies in the turned figure, one that is taken above holds it.
+pub fn turned_is_between()
+    ensures { TurnedIsBetween }
+{}
+
+/// A way that is at most 1 off the cosine and the sine of half an angle is in the angle's cone.
+pub fn near_is_between()
+    ensures { NearIsBetween }
 {}

@@ -5,7 +5,9 @@
 //!
 //! - `below`: whether a polygon lies in a slanted rectangle.
 //! - `above`: whether a polygon of four corners holds one.
+//! - `cones`: turns by about an angle, and whether polygons bound a figure that is turned by it.
 //! - `contours`: closed contours, and turns.
+//! - `figure`: figures that are turned by degrees.
 //! - `measures`: whole numbers for the length and the width.
 //! - `turns`: turns, and rigid motions by those between two.
 //! - `turned`: whether polygons bound a figure that is turned by any of them.
@@ -14,7 +16,9 @@
 
 mod above;
 mod below;
+mod cones;
 mod contours;
+mod figure;
 pub mod laws;
 mod measures;
 mod turned;
@@ -22,6 +26,8 @@ mod turns;
 
 pub use above::is_above;
 pub use below::is_below;
+pub use cones::{is_above_figure, is_below_figure};
+pub use figure::TurnedFigure;
 pub use measures::FINE;
 pub use planar::Spot;
 pub use turned::{is_above_turned, is_below_turned};

@@ -1,5 +1,6 @@
 //! Lines and polygons. The answers were reckoned by whole squares of any size. The polygons of the
 //! script are the bounds of `tools/show_board`.
+use super::cones::{RIGHT_ANGLE, place};
 use super::*;
 
 /// Start and end, the width, four corners, and whether the polygon is taken below and above.
@@ -553,5 +554,32 @@ fn is_turned(row: &TurnedRow) -> bool {
 fn turned_rows_are_told(rt: HostRuntime) {
     for row in turned_rows() {
         assert!(rt; is_turned(&row));
+    }
+}
+
+/// Angles, and what the ways of their turns are about: `tools/tests/test_cones.py` compares these numbers with cosines and
+/// sines of half the angle.
+fn angle_rows() -> [(u32, (u32, u32)); 13] {
+    [
+        (0, (99_999_999, 0)),
+        (1, (99_999_999, 0)),
+        (1_000_000, (99_999_961, 87_266)),
+        (50_000_000, (99_904_821, 4_361_939)),
+        (150_000_000, (99_144_485, 13_052_619)),
+        (225_000_000, (98_078_527, 19_509_032)),
+        (300_000_000, (96_592_582, 25_881_904)),
+        (371_234_567, (94_798_124, 31_832_616)),
+        (450_000_000, (92_387_952, 38_268_343)),
+        (600_000_000, (86_602_540, 50_000_000)),
+        (750_000_000, (79_335_333, 60_876_142)),
+        (899_000_000, (70_772_357, 70_648_944)),
+        (899_999_999, (70_710_677, 70_710_677)),
+    ]
+}
+
+#[test]
+fn angles_are_told(rt: HostRuntime) {
+    for (angle, told) in angle_rows() {
+        assert!(rt; angle < RIGHT_ANGLE && place(angle) == told);
     }
 }

@@ -1,6 +1,6 @@
 use Rattle.std.proofs.Common.{rules}
 use Rattle.slants.specs.Turned.{EachLeans, TurnedAbove}
-use Rattle.slants.proofs.Cones.{above_turned, turned_read}
+use Rattle.slants.proofs.Around.{above_turned, turned_read}
 use Rattle.slants.proofs.Read.{any_round, refused, round_read}
 use Rattle.slants.proofs.turned.is_above_turned.Goals as goal
 

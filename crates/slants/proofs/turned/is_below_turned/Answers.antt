@@ -1,7 +1,7 @@
 use Rattle.std.proofs.Common.{subst}
 use Rattle.slants.specs.Turned.{TurnedAbove}
 use Rattle.slants.specs.declared.turns.Motions.{Motions}
-use Rattle.slants.proofs.Cones.{below_turned, no_more}
+use Rattle.slants.proofs.Around.{below_turned, no_more}
 use Rattle.slants.proofs.Sums.{ready_back}
 use Rattle.slants.proofs.turned.is_below_turned.Goals as goal
 
