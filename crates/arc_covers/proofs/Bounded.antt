@@ -20,7 +20,7 @@ use Rattle.verdict.specs.declared.verdict.Verdict.{Verdict}
 use Rattle.arc_covers.specs.Laws.{AreBoundsOf, AreJudged, LiesBetween}
 use Rattle.arc_covers.specs.RealBoards.{IsCopperOf, IsReal, real_span}
 use Rattle.real_shapes.specs.declared.RealShape.{RealShape}
-use Rattle.real_shapes.specs.declared.RealShape.TheVariants.{Plain, ArcDraw, Region, Slanted}
+use Rattle.real_shapes.specs.declared.RealShape.TheVariants.{Plain, ArcDraw, Region, Slanted, Turned}
 use Rattle.arc_covers.specs.declared.side.Side.TheVariants.{Below, Above}
 use Rattle.arc_covers.proofs.Figures.{as_many}
 use Rattle.arc_covers.proofs.Covered.{AreChain, AreLinks, by_piece, covered, linked, star}
@@ -169,6 +169,7 @@ module _ (holds : ℕ → Point → Type 0) (real : Layout) (b : PlainBoard) (sp
   above_shape (Plain shape) copper same = above_one (figure_of shape) same (λ q h. (copper q).1 h)
   above_shape (ArcDraw arc) copper (chain, r, same, bound) = covered holds real (InPiece b) (layout_of b) span (pos r) some i first chain there (chain_at b span (pos r) first chain part at same on) (λ p h. bound p (copper.most p h))
   above_shape (Slanted line) copper (points, same, bound) = above_one (filled points) same (λ q h. bound q ((copper q).1 h))
+  above_shape (Turned t) copper (points, same, bound) = above_one (filled points) same (λ q h. bound q (copper.most q h))
   above_shape (Region area) copper together = above_all (PossiblyIn area.start area.parts.items) (λ q h. copper.most q h) together
 
   below_shape : (shape : RealShape) → IsCopperOf shape (holds i) → StandFor Below shape (figures_of part) → (j : ℕ) → first ≤ j → j < first + length part → IsCovered (InPiece b) (layout_of b) holds real j
@@ -177,6 +178,8 @@ module _ (holds : ℕ → Point → Type 0) (real : Layout) (b : PlainBoard) (sp
       linked (InPiece b) (layout_of b) holds real span (pos r) i there first chain (chain_at b span (pos r) first chain part at same on) (λ p h. copper.least p (bound p h)) j from (chain_length chain (pos r) part j first same from to)
   below_shape (Slanted line) copper (inl none) j from to = below_none none j from to
   below_shape (Slanted line) copper (inr (points, same, bound)) j from to = below_one (filled points) same (λ q h. (copper q).0 (bound q h)) j from to
+  below_shape (Turned t) copper (inl none) j from to = below_none none j from to
+  below_shape (Turned t) copper (inr (points, same, bound)) j from to = below_one (filled points) same (λ q h. copper.least q (bound q h)) j from to
   below_shape (Region area) copper (inl none) j from to = below_none none j from to
   below_shape (Region area) copper (inr (points, same, bound)) j from to = below_one (filled points) same (λ q h. copper.least q (bound q h)) j from to
 

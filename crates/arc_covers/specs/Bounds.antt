@@ -8,7 +8,8 @@ use Rattle.board_shapes.specs.declared.placed.Placed.{Placed}
 use Rattle.arcs.specs.Copper.{InChain, Possibly, Surely}
 use Rattle.arcs.specs.declared.Arc.{Arc}
 use Rattle.real_shapes.specs.declared.RealShape.{RealShape}
-use Rattle.real_shapes.specs.declared.RealShape.TheVariants.{Plain, ArcDraw, Slanted, Region}
+use Rattle.real_shapes.specs.declared.RealShape.TheVariants.{Plain, ArcDraw, Slanted, Region, Turned}
+use Rattle.slants.specs.Cones.{PossiblyTurned, SurelyTurned}
 use Rattle.slants.specs.Copper.{InSlant}
 use Rattle.arc_regions.specs.Copper.{PossiblyIn, SurelyIn}
 use Rattle.arc_regions.specs.declared.Region.{Region as Contour}
@@ -35,6 +36,11 @@ capsules_of (a ∷ rest) r = capsules_from a rest r
 abbrev pub IsLineBound : Side → Slant → List Spot → Type 0
 IsLineBound Below line points = (p : Point) → InFigure (filled points) p → InSlant line p
 IsLineBound Above line points = (p : Point) → InSlant line p → InFigure (filled points) p
+
+-- what a contour bounds lies in the turned figure at each turn of its cone, or holds it at each
+abbrev pub IsTurnedBound : Side → List Spot → Spot → ℕ → List Spot → Type 0
+IsTurnedBound Below contour about angle points = (p : Point) → InFigure (filled points) p → SurelyTurned contour about angle p
+IsTurnedBound Above contour about angle points = (p : Point) → PossiblyTurned contour about angle p → InFigure (filled points) p
 
 -- the figures are one contour of which P holds
 abbrev pub OneContour : (List Spot → Type 0) → List Figure → Type 0
@@ -63,13 +69,14 @@ abbrev pub BoundRegion : Side → Contour → List Figure → Type 0
 BoundRegion Below area figures = ContourFor Below (λ points. (p : Point) → InFigure (filled points) p → SurelyIn area.start area.parts.items p) figures
 BoundRegion Above area figures = HoldTogether (PossiblyIn area.start area.parts.items) figures
 
--- for a figure stands the figure itself, for an arc draw the capsules of one chain of one radius that is a bound: below it maybe none; for a slanted line one contour that is: below it maybe none;
+-- for a figure stands the figure itself, for an arc draw the capsules of one chain of one radius that is a bound: below it maybe none; for a slanted line or a turned figure one contour that is: below it maybe none;
 -- for a region below one contour that lies in it or none, above figures that hold it together
 abbrev pub StandFor : Side → RealShape → List Figure → Type 0
 StandFor side (Plain shape) figures = figures ≡ figure_of shape ∷ []
 StandFor side (ArcDraw arc) figures = (chain : List Spot) × (r : ℕ) × (figures ≡ capsules_of chain (pos r)) × IsBound side arc chain (pos r)
 StandFor side (Slanted line) figures = ContourFor side (IsLineBound side line) figures
 StandFor side (Region area) figures = BoundRegion side area figures
+StandFor side (Turned t) figures = ContourFor side (IsTurnedBound side t.contour.items t.about t.angle) figures
 
 -- the figures of the pieces
 abbrev pub figures_of : List PlainPiece → List Figure

@@ -1,4 +1,4 @@
--- Boards of figures, arc draws, slanted lines and regions with arcs, and the copper that these may have.
+-- Boards of figures, arc draws, slanted lines, regions with arcs and turned figures, and the copper that these may have.
 use Rattle.std.specs.Prelude.{ℕ, ◌≡◌, ◌↔◌, List, Some, map, slice_get}
 use Rattle.planar.specs.Plane.{Point}
 use Rattle.board_shapes.specs.Figures.{InFigure, figure_of}
@@ -6,16 +6,18 @@ use Rattle.board_shapes.specs.declared.placed.Placed.{Placed}
 use Rattle.arcs.specs.Copper.{IsCopper}
 use Rattle.covers.specs.Boards.{Layout, Span}
 use Rattle.real_shapes.specs.declared.RealShape.{RealShape}
-use Rattle.real_shapes.specs.declared.RealShape.TheVariants.{Plain, ArcDraw, Slanted, Region}
+use Rattle.real_shapes.specs.declared.RealShape.TheVariants.{Plain, ArcDraw, Slanted, Region, Turned}
+use Rattle.slants.specs.Cones.{IsTurnedCopper}
 use Rattle.slants.specs.Copper.{InSlant}
 use Rattle.arc_regions.specs.Copper as regions
 
--- the points are those of the figure or the slanted line, or a copper of the arc draw or the region
+-- the points are those of the figure or the slanted line, or a copper of the arc draw, the region or the turned figure
 abbrev pub IsCopperOf : RealShape → (Point → Type 0) → Type 0
 IsCopperOf (Plain shape) holds = (p : Point) → InFigure (figure_of shape) p ↔ holds p
 IsCopperOf (ArcDraw arc) holds = IsCopper arc holds
 IsCopperOf (Slanted line) holds = (p : Point) → InSlant line p ↔ holds p
 IsCopperOf (Region area) holds = regions.IsCopper area.start area.parts.items holds
+IsCopperOf (Turned t) holds = IsTurnedCopper t.contour.items t.about t.angle holds
 
 -- the layers of the piece
 abbrev pub real_span : Placed RealShape → Span

@@ -7,7 +7,8 @@ use Rattle.board_shapes.specs.declared.placed.Placed.{Placed}
 use Rattle.arcs.specs.Taken.{TakenAbove, TakenBelow}
 use Rattle.arcs.specs.declared.Arc.{Arc}
 use Rattle.real_shapes.specs.declared.RealShape.{RealShape}
-use Rattle.real_shapes.specs.declared.RealShape.TheVariants.{Plain, ArcDraw, Slanted, Region}
+use Rattle.real_shapes.specs.declared.RealShape.TheVariants.{Plain, ArcDraw, Slanted, Region, Turned}
+use Rattle.slants.specs.Cones.{FigureAbove, FigureBelow}
 use Rattle.slants.specs.Taken as slants
 use Rattle.slants.specs.declared.Slant.{Slant}
 use Rattle.arc_regions.specs.declared.Region.{Region as Contour}
@@ -27,18 +28,24 @@ abbrev pub IsLineTaken : Side → Slant → List Spot → Type 0
 IsLineTaken Below line points = slants.TakenBelow line points
 IsLineTaken Above line points = slants.TakenAbove line points
 
+-- and for the figure of the first contour, turned about the spot by the angle
+abbrev pub IsTurnedTaken : Side → List Spot → Spot → ℕ → List Spot → Type 0
+IsTurnedTaken Below contour about angle points = FigureBelow contour about angle points
+IsTurnedTaken Above contour about angle points = FigureAbove contour about angle points
+
 -- below they are one contour that is taken, or none; above the polygon and the capsules of chains that are
 abbrev pub RegionTaken : Side → Contour → List Figure → Type 0
 RegionTaken Below area figures = ContourFor Below (LiesBelow area.start area.parts.items) figures
 RegionTaken Above area figures = RegionAbove area.start area.parts.items figures
 
--- For a figure that figure, for a slanted line one contour that is taken or below none. For an arc draw the capsules of one chain of one radius that is taken. Capsules have one chain; no capsules are those of none and of each single
+-- For a figure that figure, for a slanted line or a turned figure one contour that is taken or below none. For an arc draw the capsules of one chain of one radius that is taken. Capsules have one chain; no capsules are those of none and of each single
 -- spot, of which the former is taken below and nothing above. For a region what its own check takes
 abbrev pub StandTaken : Side → RealShape → List Figure → Type 0
 StandTaken side (Plain shape) figures = figures ≡ figure_of shape ∷ []
 StandTaken side (ArcDraw arc) figures = (chain : List Spot) × (r : ℕ) × (figures ≡ capsules_of chain (pos r)) × IsTaken side arc chain r
 StandTaken side (Slanted line) figures = ContourFor side (IsLineTaken side line) figures
 StandTaken side (Region area) figures = RegionTaken side area figures
+StandTaken side (Turned t) figures = ContourFor side (IsTurnedTaken side t.contour.items t.about t.angle) figures
 
 -- the pieces are taken for the real piece, all on its layers
 pub record PiecesAreTaken (side : Side) (real : Placed RealShape) (pieces : List PlainPiece) : Type 0 where

@@ -5,6 +5,7 @@ use arc_regions::laws::{taken_holds, taken_lies};
 use board_shapes::laws::tables_are_unique;
 use covers::Copper;
 use covers::laws::verdicts_decide;
+use slants::laws::turned_is_between;
 
 /// Pieces that are taken for those of a real board stand for them.
 pub fn taken_are_bounds()
@@ -12,12 +13,13 @@ pub fn taken_are_bounds()
 {
     arcs::laws::taken_is_between();
     slants::laws::taken_is_between();
+    turned_is_between();
     taken_holds();
     taken_lies();
 }
 
-/// A board of figures, arc draws, slanted lines and regions with arcs lies between two whose pieces stand for its own,
-/// whatever copper it has of those that its pieces may have.
+/// A board of figures, arc draws, slanted lines, regions with arcs and turned figures lies between two whose pieces stand for
+/// its own, whatever copper it has of those that its pieces may have.
 pub fn bounds_lie_between<R: Copper>()
     ensures { BoundsLieBetween R.holds }
 {}

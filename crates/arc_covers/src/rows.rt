@@ -1,20 +1,20 @@
 //! Rows of pieces: chains of capsules, and single figures.
 ghost use Rattle.arc_covers.specs.Bounds.{IsOn, OneContour, capsules_from, capsules_of, figures_of};
-ghost use Rattle.arc_covers.specs.Taken.{IsLineTaken, StandTaken};
+ghost use Rattle.arc_covers.specs.Taken.{IsLineTaken, IsTurnedTaken, StandTaken};
 ghost use Rattle.arc_covers.specs.declared.side.Side.TheVariants.{Below};
-ghost use Rattle.real_shapes.specs.declared.RealShape.TheVariants.{ArcDraw, Slanted};
+ghost use Rattle.real_shapes.specs.declared.RealShape.TheVariants.{ArcDraw, Slanted, Turned};
 ghost use Rattle.board_shapes.specs.Figures.{Figure, area_figure, capsule_figure, figure_of, round};
 ghost use Rattle.board_shapes.specs.Pieces.{plain_piece, plain_pieces};
 ghost use Rattle.planar.specs.declared.Spot.{Spot};
 ghost use Rattle.std.specs.Prelude.{All, IfNone, IfOk, IfSome, IsTrue, List, length, pos, ◌≡◌, ◌↔◌, ◌∷◌, []};
 
-use crate::side::{Side, is_line_taken, is_taken};
+use crate::side::{Side, is_line_taken, is_taken, is_turned_taken};
 use arcs::{Arc, Spot};
 use area_contact::Area;
 use board_shapes::{Piece, Shape};
 use contact::Capsule;
 use lengths::rows::NoMemory;
-use slants::Slant;
+use slants::{Slant, TurnedFigure};
 use std::alloc::Global;
 
 /// Whether the piece is on the layers from `top` to `bottom` and on no others.
@@ -171,6 +171,27 @@ pub fn are_contour(side: Side, line: &Slant, pieces: &[Piece]) -> bool
     match pieces {
         [] => is_lower(side),
         [only] => is_contour(side, line, &only.shape),
+        _ => false,
+    }
+}
+
+/// Whether the shape is a contour that is taken for the turned figure.
+fn is_turned(side: Side, figure: &TurnedFigure, shape: &Shape) -> bool
+    ensures { IsTrue result ↔ OneContour (IsTurnedTaken side figure.now.contour.items figure.now.about figure.now.angle) (figure_of shape.now ∷ []) }
+{
+    match shape {
+        Shape::Filled(area) => is_turned_taken(side, figure, &area.points),
+        Shape::Round(_) => false,
+    }
+}
+
+/// Whether the pieces are one contour that is taken for the turned figure; below, none are taken too.
+pub fn are_turned(side: Side, figure: &TurnedFigure, pieces: &[Piece]) -> bool
+    ensures { IsTrue result ↔ StandTaken side (Turned figure.now) (figures_of (plain_pieces pieces.now)) }
+{
+    match pieces {
+        [] => is_lower(side),
+        [only] => is_turned(side, figure, &only.shape),
         _ => false,
     }
 }

@@ -1,9 +1,9 @@
 //! The board below a real one, and the board above.
-ghost use Rattle.arc_covers.specs.Taken.{IsLineTaken, IsTaken};
+ghost use Rattle.arc_covers.specs.Taken.{IsLineTaken, IsTaken, IsTurnedTaken};
 ghost use Rattle.std.specs.Prelude.{IsTrue, ◌↔◌};
 
 use arcs::{Arc, Spot, is_above, is_below};
-use slants::Slant;
+use slants::{Slant, TurnedFigure};
 
 /// On which side of a real board another lies.
 #[derive(Clone, Copy, Debug, PartialEq, Eq)]
@@ -31,5 +31,15 @@ pub fn is_line_taken(side: Side, line: &Slant, points: &[Spot]) -> bool
     match side {
         Side::Below => slants::is_below(line, points),
         Side::Above => slants::is_above(line, points),
+    }
+}
+
+/// Whether the contour is taken as a bound of the turned figure.
+pub fn is_turned_taken(side: Side, figure: &TurnedFigure, points: &[Spot]) -> bool
+    ensures { IsTrue result ↔ IsTurnedTaken side figure.now.contour.items figure.now.about figure.now.angle points.now }
+{
+    match side {
+        Side::Below => slants::is_below_figure(figure, points),
+        Side::Above => slants::is_above_figure(figure, points),
     }
 }

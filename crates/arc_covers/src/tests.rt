@@ -11,7 +11,7 @@ use contact::Capsule;
 use lengths::rows::NoMemory;
 use planar::are_placed;
 use real_shapes::{RealPiece, RealShape};
-use slants::Slant;
+use slants::{Slant, TurnedFigure};
 use std::alloc::Global;
 use std::test::Fail;
 
@@ -296,6 +296,91 @@ fn a_slanted_line(rt: HostRuntime) -> Result<(), Fail> {
     assert!(rt; found == Err(BoundsFault::Piece(Side::Below, 0)));
     let other = check_between(alloc, &real, &[], &[0], &[], &[0]);
     assert!(rt; other == Err(BoundsFault::Piece(Side::Above, 0)));
+    Ok(())
+}
+
+/// The contour of four corners.
+fn corners(alloc: Global, places: [(i64, i64); 4]) -> Result<Vec<Spot>, Fail> {
+    let mut points = Vec::new(alloc);
+    for (x, y) in [places[0], places[1], places[2], places[3], places[0]] {
+        points.push(Spot { x, y })?;
+    }
+    Ok(points)
+}
+
+/// It as a piece.
+fn polygon(alloc: Global, places: [(i64, i64); 4]) -> Result<Vec<Piece>, Fail> {
+    let points = corners(alloc, places)?;
+    let mut pieces = Vec::new(alloc);
+    if are_placed(&points) {
+        pieces.push(on(1, Shape::Filled(Area::new(alloc, points)?)))?;
+    }
+    Ok(pieces)
+}
+
+/// A rectangle of 1 mm by 0.5 mm, turned about its centre.
+fn turned_pad(alloc: Global, angle: u32) -> Result<Vec<RealPiece>, Fail> {
+    let contour = corners(
+        alloc,
+        [
+            (7_345_678, -4_500_000),
+            (17_345_678, -4_500_000),
+            (17_345_678, 500_000),
+            (7_345_678, 500_000),
+        ],
+    )?;
+    let about = Spot {
+        x: 12_345_678,
+        y: -2_000_000,
+    };
+    let mut real = Vec::new(alloc);
+    real.push(Placed {
+        shape: RealShape::Turned(TurnedFigure {
+            contour,
+            about,
+            angle,
+        }),
+        top: 1,
+        bottom: 1,
+        origin: ORIGIN,
+    })?;
+    Ok(real)
+}
+
+/// Contours just within a pad that is turned by 30 degrees and just round it, and one u beyond; by other angles they are none.
+#[test]
+fn a_turned_pad(rt: HostRuntime) -> Result<(), Fail> {
+    let alloc = rt.alloc();
+    let (first, second) = ((9_265_551, -6_665_063), (17_925_804, -1_665_063));
+    let (third, fourth) = ((15_425_805, 2_665_063), (6_765_552, -2_334_937));
+    let within = [first, second, third, fourth];
+    let beyond = [first, second, third, (6_765_551, -2_334_937)];
+    let (first, second) = ((9_265_551, -6_665_064), (17_925_806, -1_665_064));
+    let (third, fourth) = ((15_425_805, 2_665_064), (6_765_550, -2_334_936));
+    let round = [first, second, third, fourth];
+    let short = [first, (17_925_805, -1_665_064), third, fourth];
+    let below = Err(BoundsFault::Piece(Side::Below, 0));
+    let above = Err(BoundsFault::Piece(Side::Above, 0));
+    for (angle, lower, upper, told) in [
+        (300_000_000, within, round, Ok(())),
+        (300_000_000, beyond, round, below),
+        (300_000_000, within, short, above),
+        (300_000_000, round, round, below),
+        (300_000_000, within, within, above),
+        (299_999_000, within, round, below),
+        (300_001_000, within, round, below),
+        (900_000_000, within, round, below),
+    ] {
+        let real = turned_pad(alloc, angle)?;
+        let lower = polygon(alloc, lower)?;
+        let upper = polygon(alloc, upper)?;
+        let found = check_between(alloc, &real, &lower, &[1], &upper, &[1]);
+        assert!(rt; found == told, "at {angle}");
+        let none = check_between(alloc, &real, &[], &[0], &upper, &[1]);
+        assert!(rt; none == Ok(()) || told != Ok(()));
+        let nothing = check_between(alloc, &real, &[], &[0], &[], &[0]);
+        assert!(rt; nothing == above);
+    }
     Ok(())
 }
 

@@ -6,16 +6,17 @@
 use arc_regions::Region;
 use arcs::Arc;
 use board_shapes::{Placed, Shape};
-use slants::Slant;
+use slants::{Slant, TurnedFigure};
 
-/// A figure of ours, an arc draw with a round pen, a rectangle about a slanted line, or a region whose
-/// contour has arcs.
+/// A figure of ours, an arc draw with a round pen, a rectangle about a slanted line, a region whose
+/// contour has arcs, or a figure turned by degrees.
 #[derive(Drop)]
 pub enum RealShape {
     Plain(Shape),
     ArcDraw(Arc),
     Slanted(Slant),
     Region(Region),
+    Turned(TurnedFigure),
 }
 
 /// Such a shape on a span of layers, with what made it.

@@ -1,6 +1,6 @@
 use Rattle.std.proofs.Common.{refl}
 use Rattle.arc_covers.proofs.Figures.{answer_taken, layers_refused, pieces_taken}
-use Rattle.real_shapes.specs.declared.RealShape.TheVariants.{ArcDraw, Plain, Region, Slanted}
+use Rattle.real_shapes.specs.declared.RealShape.TheVariants.{ArcDraw, Plain, Region, Slanted, Turned}
 use Rattle.arc_covers.proofs.between.stand.Goals as goal
 
 pub returns-then-not-are_on : goal.returns-then-not-are_on
@@ -17,3 +17,6 @@ returns-in-Slanted c = pieces_taken c.args.side c.args.real.now (Slanted c.in-Sl
 
 pub returns-in-Region : goal.returns-in-Region
 returns-in-Region c = answer_taken c.args.side c.args.real.now (Region c.in-Region.region) c.args.pieces.now c.is_region.result c.in-Region.is (c.are_on.ensures.0 c.if-not-are_on.false) c.is_region.ensures
+
+pub returns-in-Turned : goal.returns-in-Turned
+returns-in-Turned c = pieces_taken c.args.side c.args.real.now (Turned c.in-Turned.figure) c.args.pieces.now c.are_turned.result c.in-Turned.is (c.are_on.ensures.0 c.if-not-are_on.false) c.are_turned.ensures
