@@ -1,10 +1,11 @@
 -- A way that is near that of half an angle is in the angle's cone.
-use Rattle.std.proofs.Common.{◌≡◌, inl, inr, ℕ, ◌+◌, ◌-◌, ◌*◌, ◌/◌, ◌≤◌, ◌<◌, ℤ, pos, neg_ℤ, ◌+ℤ◌, ◌-ℤ◌, ◌*ℤ◌, ◌≤ℤ◌, arith}
+use Rattle.std.proofs.Common.{◌≡◌, inl, inr, ℕ, ◌+◌, ◌-◌, ◌*◌, ◌/◌, ◌≤◌, ◌<◌, ℤ, pos, neg_ℤ, ◌+ℤ◌, ◌-ℤ◌, ◌*ℤ◌, ◌≤ℤ◌, List, arith}
 use Rattle.std.proofs.lemmas.Int.{ints}
 use Rattle.std.proofs.lemmas.Nat.{le-div}
+use Rattle.planar.specs.Plane.{Point}
 use Rattle.planar.specs.declared.Spot.{Spot}
-use Rattle.planar.proofs.Ring.{ring, linear, le_or_lt, over_zero, square_from_zero, square_over, times_from_zero, times_mono, times_mono_right}
-use Rattle.slants.specs.Cones.{cosine, cosine_by, half_of, lessened, scaled, sine, square_of, turns_by}
+use Rattle.planar.proofs.Ring.{ring, linear, le_or_lt, one-times, over_zero, square_from_zero, square_over, times_from_zero, times_mono, times_mono_right}
+use Rattle.slants.specs.Cones.{PossiblyTurned, SurelyTurned, cosine, cosine_by, half_of, lessened, scaled, sine, square_of, turns_by}
 use Rattle.slants.specs.Laws.{IsNear}
 use Rattle.slants.specs.Turned.{IsBetween}
 use Rattle.slants.specs.declared.cones.TheConstants.{ONE, RADIUS, RIGHT_ANGLE}
@@ -78,3 +79,23 @@ near_between about angle k t acute n =
     let up : pos 0 ≤ℤ pos (sine angle) = omega (arith, ints) in
     sides_tell (turns_by about angle) t (leads (pos (cosine angle)) k t.x t.y two n.some n.x_from) (left (pos (cosine angle)) (pos (sine angle)) one up)
     (over_first (pos (cosine angle)) (pos (sine angle)) k t.x t.y one n.some n.up n.x_from n.x_to n.y_from) (under_last (pos (cosine angle)) (pos (sine angle)) k t.x t.y one up n.x_from n.y_to)
+
+-- ---- what is at each turn is at one
+
+abbrev middle : ℕ → Turn
+middle angle = record { x = pos (cosine angle); y = pos (sine angle) }
+
+near_middle : (angle : ℕ) → IsNear angle (pos 1) (middle angle)
+near_middle angle = record {
+  some = omega (arith, ints);
+  up = omega (arith, ints);
+  x_from = omega (arith, linear, one-times (pos (cosine angle) -ℤ pos 1));
+  x_to = omega (arith, linear, one-times (pos (cosine angle) +ℤ pos 1));
+  y_from = omega (arith, linear, one-times (pos (sine angle) -ℤ pos 1));
+  y_to = omega (arith, linear, one-times (pos (sine angle) +ℤ pos 1));
+}
+
+pub surely_possibly : (contour : List Spot) (about : Spot) (angle : ℕ) (p : Point) → angle < RIGHT_ANGLE → SurelyTurned contour about angle p → PossiblyTurned contour about angle p
+surely_possibly contour about angle p acute h =
+    let between : IsBetween (turns_by about angle) (middle angle) = near_between about angle (pos 1) (middle angle) acute (near_middle angle) in
+    (middle angle, between, h (middle angle) between)

@@ -69,3 +69,7 @@ pub record IsNear (angle : ℕ) (k : ℤ) (t : Turn) : Type 0 where
 -- Such a way of an angle below a right one is in its cone
 abbrev pub NearIsBetween : Type 0
 NearIsBetween = (about : Spot) (angle : ℕ) (k : ℤ) (t : Turn) → angle < RIGHT_ANGLE → IsNear angle k t → IsBetween (turns_by about angle) t
+
+-- What lies in the figure at each of these turns lies in it at one: there is a copper of it
+abbrev pub SurelyIsPossibly : Type 0
+SurelyIsPossibly = (contour : List Spot) (about : Spot) (angle : ℕ) (p : Point) → angle < RIGHT_ANGLE → SurelyTurned contour about angle p → PossiblyTurned contour about angle p

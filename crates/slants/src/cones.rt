@@ -1,6 +1,8 @@
 //! Turns by about an angle, and whether polygons bound a figure that is turned by it.
+ghost use Rattle.board_shapes.specs.Figures.{InFigure, filled};
+ghost use Rattle.planar.specs.Plane.{Point};
 ghost use Rattle.slants.specs.Cones as spec;
-ghost use Rattle.slants.specs.Cones.{FigureAbove, FigureBelow, cosine_by, half_of, lessened, scaled, sine_by, square_of, turns_by};
+ghost use Rattle.slants.specs.Cones.{FigureAbove, FigureBelow, PossiblyTurned, SurelyTurned, cosine_by, half_of, lessened, scaled, sine_by, square_of, turns_by};
 ghost use Rattle.std.specs.Prelude.{IsTrue, ◌*◌, ◌/◌, ◌<◌, ◌≡◌, ◌≤◌, ◌↔◌};
 
 use super::figure::TurnedFigure;
@@ -116,7 +118,8 @@ fn turns(about: Spot, angle: u32) -> Motions
 /// Whether the polygon of four corners and the first again, which has to turn left at each, holds the figure. Where it
 /// says so, it does at each turn by about the angle; of others that do, it may refuse some (`FigureAbove`).
 pub fn is_above_figure(figure: &TurnedFigure, points: &[Spot]) -> bool
-    ensures { IsTrue result ↔ FigureAbove figure.now.contour.items figure.now.about figure.now.angle points.now }
+    ensures taken { IsTrue result ↔ FigureAbove figure.now.contour.items figure.now.about figure.now.angle points.now }
+    ensures copper { IsTrue result → (p : Point) → PossiblyTurned figure.now.contour.items figure.now.about figure.now.angle p → InFigure (filled points.now) p }
 {
     figure.angle < RIGHT_ANGLE
         && is_above_turned(&figure.contour, &turns(figure.about, figure.angle), points)
@@ -125,7 +128,8 @@ pub fn is_above_figure(figure: &TurnedFigure, points: &[Spot]) -> bool
 /// Whether the polygon lies in the figure, which has to have four corners, and to turn left at each. Where it says so, it
 /// does at each turn by about the angle; of others that do, it may refuse some (`FigureBelow`).
 pub fn is_below_figure(figure: &TurnedFigure, points: &[Spot]) -> bool
-    ensures { IsTrue result ↔ FigureBelow figure.now.contour.items figure.now.about figure.now.angle points.now }
+    ensures taken { IsTrue result ↔ FigureBelow figure.now.contour.items figure.now.about figure.now.angle points.now }
+    ensures copper { IsTrue result → (p : Point) → InFigure (filled points.now) p → SurelyTurned figure.now.contour.items figure.now.about figure.now.angle p }
 {
     figure.angle < RIGHT_ANGLE
         && is_below_turned(&figure.contour, &turns(figure.about, figure.angle), points)

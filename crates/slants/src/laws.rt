@@ -1,5 +1,5 @@
 //! Laws over the definitions. Their calls do nothing.
-ghost use Rattle.slants.specs.Laws.{BelowIsAbove, EachTurnIsTold, LevelIsRectangle, NearIsBetween, OtherWayIsSame, SidesTellCone, TakenIsBetween, TurnedIsBetween};
+ghost use Rattle.slants.specs.Laws.{BelowIsAbove, EachTurnIsTold, LevelIsRectangle, NearIsBetween, OtherWayIsSame, SidesTellCone, SurelyIsPossibly, TakenIsBetween, TurnedIsBetween};
 
 /// A contour that is taken below lies in the rectangle, one that is taken above holds it.
 pub fn taken_is_between()
@@ -39,4 +39,9 @@ pub fn turned_is_between()
 /// A way that is at most 1 off the cosine and the sine of half an angle is in the angle's cone.
 pub fn near_is_between()
     ensures { NearIsBetween }
+{}
+
+/// What lies in a turned figure at each turn by about the angle lies in it at one.
+pub fn surely_is_possibly()
+    ensures { SurelyIsPossibly }
 {}
