@@ -7,3 +7,5 @@ pub mod Quiet
 pub mod ReadSoFar
 pub mod Refusals
 pub mod Sums
+pub mod Tails
+pub mod Undone

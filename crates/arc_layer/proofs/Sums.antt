@@ -1,5 +1,5 @@
 -- Sums and differences of coordinates.
-use Rattle.std.proofs.Common.{◌≡◌, ℕ, ℤ, ◌+ℤ◌, ◌-ℤ◌, to_z, of_z, w64, arith}
+use Rattle.std.proofs.Common.{◌≡◌, ℕ, ℤ, pos, ◌+ℤ◌, ◌-ℤ◌, ◌*ℤ◌, to_z, of_z, w64, refl, arith}
 use Rattle.std.specs.Prelude.{FitsSigned, unsigned_abs}
 use Rattle.std.proofs.lemmas.Int.{ints, to_z-of_z}
 use Rattle.planar.specs.Plane.{IsReached, IsWithin}
@@ -13,3 +13,20 @@ apart_read a b d f g e = simp to_z-of_z at e
 
 pub sum_within : (a b : ℤ) → IsReached a → IsReached b → IsWithin TWO_METRES (to_z w64 (of_z w64 (to_z w64 (of_z w64 a) +ℤ to_z w64 (of_z w64 b))))
 sum_within a b h k = rw (sum_read a b h k) (omega (arith, ints))
+
+-- ---- 30,000 times one difference, and another
+
+abbrev wrapped : ℤ → ℤ
+wrapped z = to_z w64 (of_z w64 z)
+
+apart_wrapped : (a b : ℤ) → IsReached a → IsReached b → wrapped (wrapped b -ℤ wrapped a) ≡ b -ℤ a
+apart_wrapped a b h k = omega (arith, ints)
+
+apart_times : (a b : ℤ) → IsReached a → IsReached b → wrapped (pos 30000 *ℤ (b -ℤ a)) ≡ pos 30000 *ℤ (b -ℤ a)
+apart_times a b h k = omega (arith, ints)
+
+pub both_read : (a b c d : ℤ) → IsReached a → IsReached b → IsReached c → IsReached d → (wrapped (pos 30000 *ℤ wrapped (wrapped b -ℤ wrapped a)) +ℤ wrapped (wrapped d -ℤ wrapped c)) ≡ (pos 30000 *ℤ (b -ℤ a) +ℤ (d -ℤ c))
+both_read a b c d ha hb hc hd = rw (apart_wrapped a b ha hb, apart_wrapped c d hc hd, apart_times a b ha hb) refl
+
+pub both_fit : (a b c d : ℤ) → IsReached a → IsReached b → IsReached c → IsReached d → FitsSigned w64 (pos 30000 *ℤ (b -ℤ a) +ℤ (d -ℤ c))
+both_fit a b c d ha hb hc hd = omega (arith, ints)

@@ -1,13 +1,19 @@
 -- Laws over the definitions.
-use Rattle.std.specs.Prelude.{◌≡◌, ◌+◌, List, length, Option, Some, Ok}
+use Rattle.std.specs.Prelude.{◌≡◌, ℕ, ◌+◌, ◌==◌, ◌<◌, ◌≤◌, if◌then◌else◌, List, length, Option, Some, Ok}
+use Rattle.planar.specs.Plane.{IsPlaced}
 use Rattle.planar.specs.declared.Spot.{Spot}
+use Rattle.area_contact.specs.Contour.{IsClosed, IsContour}
+use Rattle.aperture_macros.specs.Telling.{told}
+use Rattle.board_shapes.specs.Figures.{filled}
 use Rattle.regions.specs.Contours.{close_of}
 use Rattle.gerber_layer.specs.CommandEffects.{edges_in}
 use Rattle.gerber_layer.specs.Settings.{contour_before}
 use Rattle.arc_layer.specs.Marks.{contour, edges_before, mark_behind}
+use Rattle.arc_layer.specs.Real.{flashed, plain, turned}
 use Rattle.arc_layer.specs.State.{commands_of}
 use Rattle.arc_layer.specs.Words.{Saying}
 use Rattle.arc_layer.specs.declared.draws.Bend.{Bend}
+use Rattle.slants.specs.declared.cones.TheConstants.{RIGHT_ANGLE}
 
 -- Behind any history, the open contour has as many bends of edges as edges, which are its points less one.
 abbrev pub EachEdgeHasABend : Type 0
@@ -16,3 +22,11 @@ EachEdgeHasABend = (earlier : List Saying) → length (edges_before earlier) ≡
 -- So where a command has the mark of a contour, and closes an area, that mark has a bend for each edge of the area.
 abbrev pub MarksFitAreas : Type 0
 MarksFitAreas = (earlier : List Saying) (w : Saying) (bends : List (Option Bend)) (area : List Spot) → mark_behind earlier w ≡ Ok (Some (contour bends)) → close_of (contour_before (commands_of earlier)) ≡ Ok (Some area) → length area ≡ length bends + 1
+
+-- An area that is told is its contour again, turned by what is left where something is.
+abbrev pub TurnsAreUndone : Type 0
+TurnsAreUndone = (about : Spot) (rest : ℕ) (contour : List Spot) → IsClosed contour → 4 ≤ length contour → rest < RIGHT_ANGLE → flashed (told about rest contour) ≡ (if rest == 0 then plain (filled contour) else turned contour about rest)
+
+-- What a contour of a flash has before its turn is a contour, turned about a spot within one metre by some angle below a right one.
+abbrev pub TurnedAreContours : Type 0
+TurnedAreContours = (points contour : List Spot) (about : Spot) (rest : ℕ) → IsContour points → flashed points ≡ turned contour about rest → IsContour contour × IsPlaced about × (1 ≤ rest) × (rest < RIGHT_ANGLE)

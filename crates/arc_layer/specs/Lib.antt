@@ -6,4 +6,5 @@ pub mod Marks
 pub mod Reading
 pub mod Real
 pub mod State
+pub mod Telling
 pub mod Words

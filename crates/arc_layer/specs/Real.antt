@@ -1,5 +1,5 @@
--- Real copper: the pieces of a copper file in which draws may be arcs, and macros may have slanted lines.
-use Rattle.std.specs.Prelude.{◌≡◌, ℕ, ◌*◌, ◌<◌, ◌≤◌, Bool, ◌||◌, not, nat_lt, if◌then◌else◌, List, [], ◌∷◌, drop, map, Option, Some, None, unsigned_abs, Result, Ok, Err}
+-- Real copper: the pieces of a copper file in which draws may be arcs, and macros may have slanted lines and turned figures.
+use Rattle.std.specs.Prelude.{◌≡◌, ℕ, ◌*◌, ◌<◌, ◌≤◌, Bool, ◌||◌, not, ◌==◌, nat_lt, if◌then◌else◌, List, [], ◌∷◌, drop, map, Option, Some, None, unsigned_abs, Result, Ok, Err}
 use Rattle.std.specs.Ordering.{int_eq}
 use Rattle.planar.specs.declared.Spot.{Spot}
 use Rattle.board_shapes.specs.Figures.{Figure, Stroke, round, filled, figure_of}
@@ -18,20 +18,23 @@ use Rattle.gerber_layer.specs.declared.place.Place.{Place}
 use Rattle.gerber_layer.specs.Dialect.{IsReadBy, IsRefusedBy}
 use Rattle.gerber_layer.specs.MacroLayer.{loose as loose_words}
 use Rattle.gerber_layer.specs.declared.macro_kind.FlattenKind.{FlattenKind}
+use Rattle.aperture_macros.specs.Telling.{Telling, told_in}
 use Rattle.arc_layer.specs.Marks.{AreMarks, IsBendRefused, PlainMark, arc, contour, flash}
 use Rattle.arc_layer.specs.Centres.{moved}
 use Rattle.arc_layer.specs.declared.draws.Bend.{Bend}
 use Rattle.arc_layer.specs.declared.kind.RealKind.{RealKind}
 use Rattle.arc_layer.specs.declared.kind.RealKind.TheVariants.{Copper}
+use Rattle.slants.specs.declared.cones.TheConstants.{RIGHT_ANGLE}
 use Rattle.real_shapes.specs.declared.RealShape.{RealShape}
 use Rattle.real_shapes.specs.declared.RealShape.TheVariants as shape
 
--- a figure, an arc draw, the rectangle of a slanted line, or a region whose contour has arcs
+-- a figure, an arc draw, the rectangle of a slanted line, a region whose contour has arcs, or a contour that is turned about a spot, counterclockwise, by so many parts of 10^-7 degrees
 pub data RealFigure : Type 0 where
   plain : Figure → RealFigure
   bent : Arc → RealFigure
   slanted : Slant → RealFigure
   curved : Spot → List Part → RealFigure
+  turned : List Spot → Spot → ℕ → RealFigure
 
 -- one on a span of layers
 pub record PlainReal : Type 0 where
@@ -46,6 +49,7 @@ real_figure (shape.Plain s) = plain (figure_of s)
 real_figure (shape.ArcDraw a) = bent a
 real_figure (shape.Slanted a) = slanted a
 real_figure (shape.Region area) = curved area.start area.parts.items
+real_figure (shape.Turned t) = turned t.contour.items t.about t.angle
 
 abbrev pub plain_real : Placed RealShape → PlainReal
 plain_real p = record { figure = real_figure p.shape; top = p.top; bottom = p.bottom; origin = p.origin }
@@ -85,11 +89,22 @@ abbrev pub region_by : List Spot → List (Option Bend) → RealFigure
 region_by [] edges = plain (filled [])
 region_by (p ∷ points) edges = curved p (parts_from p points edges)
 
+-- The area of a macro as what its contour tells: the figure before its turn (Gerber Layer Format Specification, 4.5.1), plain where nothing is left to turn. No macro's tells a right angle or more.
+abbrev pub told_area : List Spot → Option Telling → RealFigure
+told_area points None = plain (filled points)
+told_area points (Some t) =
+    if t.rest == 0 then plain (filled t.contour)
+    else (if nat_lt t.rest RIGHT_ANGLE then turned t.contour t.about t.rest else plain (filled points))
+
+abbrev pub flashed : List Spot → RealFigure
+flashed points = told_area points (told_in points)
+
 -- A draw with a bend is its arc, and an area behind the bends of its contour the region that they bound. A stroke along no axis that a flash makes is the vector line of a macro (Gerber Layer Format Specification,
--- 4.5.1, code 20): other primitives make none, and obrounds run along an axis. Each other figure is what it is.
+-- 4.5.1, code 20): other primitives make none, and obrounds run along an axis. An area that a flash makes is what it tells. Each other figure is what it is.
 abbrev pub with_mark : Option PlainMark → Figure → RealFigure
 with_mark (Some (arc b)) (round s) = bent (arc_of b s)
 with_mark (Some flash) (round s) = if is_slanted s then slanted (slant_of s) else plain (round s)
+with_mark (Some flash) (filled points) = flashed points
 with_mark (Some (contour edges)) (filled points) = region_by points edges
 with_mark mark figure = plain figure
 

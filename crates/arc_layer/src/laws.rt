@@ -1,10 +1,11 @@
 //! Laws over the definitions alone.
 ghost use Rattle.arc_layer.specs.Kinds.{RealKindsHaveOwnNumbers};
-ghost use Rattle.arc_layer.specs.Laws.{EachEdgeHasABend, MarksFitAreas};
+ghost use Rattle.arc_layer.specs.Laws.{EachEdgeHasABend, MarksFitAreas, TurnedAreContours, TurnsAreUndone};
 ghost use Rattle.arc_layer.specs.Real.{HasOneRealAnswer};
 ghost use Rattle.gerber_layer.specs.declared.place.Place.{Place};
 ghost use Rattle.std.specs.Prelude.{ℕ, List};
 
+use aperture_macros::laws::told_is_found;
 use gerber_layer::laws::{kinds_have_own_numbers, one_loose_answer};
 use gerber_words::laws::words_lie_ahead;
 
@@ -29,3 +30,12 @@ pub fn each_edge_has_a_bend()
     ensures bends { EachEdgeHasABend }
     ensures fit { MarksFitAreas }
 {}
+
+/// A macro's area is its contour again, turned by what is left to turn where something is; and what is turned is a contour,
+/// by an angle below a right one.
+pub fn turns_are_told()
+    ensures undone { TurnsAreUndone }
+    ensures lawful { TurnedAreContours }
+{
+    told_is_found();
+}

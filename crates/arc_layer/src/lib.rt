@@ -17,6 +17,7 @@ mod mark;
 mod marks;
 mod real;
 mod state;
+mod turned;
 mod words;
 
 pub use arcs::Arc;

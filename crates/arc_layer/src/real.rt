@@ -16,6 +16,7 @@ use crate::draws::Bend;
 use crate::kind::{RealFault, RealKind};
 use crate::mark::Mark;
 use crate::marks::{Marks, read_marks};
+use crate::turned::flashed;
 use arc_regions::{Bend as Curve, Part, Region};
 use arcs::Arc;
 use area_contact::Area;
@@ -170,7 +171,7 @@ fn marked_area(alloc: Global, mark: &Mark, area: Area) -> Result<RealShape, Real
     match mark {
         Mark::Contour(edges) => region_by(alloc, area, edges),
         Mark::Arc(_) => Ok(RealShape::Plain(Shape::Filled(area))),
-        Mark::Flash => Ok(RealShape::Plain(Shape::Filled(area))),
+        Mark::Flash => flashed(alloc, area),
     }
 }
 
@@ -293,7 +294,8 @@ fn first_fault(straight: FlattenFault, marks: Result<Marks, RealFault>) -> RealF
 
 /// The real copper of a layer, in the order of the commands that make it; all lengths are in u, a tenth of
 /// a nanometre. A draw under `G02` or `G03` is its arc, a vector line of a macro that runs along no axis its
-/// rectangle, and each other piece what `read_by::<Loose>` has.
+/// rectangle, a macro's area that is turned by degrees its figure before the turn with what is left to turn, and each other
+/// piece what `read_by::<Loose>` has.
 ///
 /// `Refused` is the first command with a fault, also of an arc, and the first condition of its row that holds; want of
 /// memory is `NoMemory`. The file has at most `MOST_BYTES` bytes.

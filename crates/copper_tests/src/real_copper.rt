@@ -4,12 +4,20 @@ use arc_layer::{Arc, RealFault, RealPiece, RealShape, read_real};
 use arc_regions::Part;
 use board_shapes::{Room, Shape};
 use gerber_layer::Place;
+use planar::Spot;
 use std::alloc::{AllocError, Global};
 use std::fmt::Write;
 use std::test::Fail;
 use texts::MOST_BYTES;
 
 const HEAD: &str = "%FSLAX46Y46*%%MOMM*%%ADD10C,1.0*%D10*";
+
+fn push_spots(line: &mut String, spots: &[Spot]) -> Result<(), AllocError> {
+    for spot in spots {
+        write!(line, ", {} {}", spot.x, spot.y)?;
+    }
+    Ok(())
+}
 
 fn shown(alloc: Global, piece: &RealPiece) -> Result<String, AllocError> {
     let mut line = String::new(alloc);
@@ -18,7 +26,10 @@ fn shown(alloc: Global, piece: &RealPiece) -> Result<String, AllocError> {
             let (a, b, r) = capsule.parts();
             write!(line, "{} {}, {} {}, {r}", a.x, a.y, b.x, b.y)?;
         },
-        RealShape::Plain(Shape::Filled(_)) => line.push_str("an area")?,
+        RealShape::Plain(Shape::Filled(area)) => {
+            line.push_str("an area")?;
+            push_spots(&mut line, &area.points)?;
+        },
         RealShape::ArcDraw(arc) => {
             let Arc {
                 centre: c,
@@ -47,6 +58,11 @@ fn shown(alloc: Global, piece: &RealPiece) -> Result<String, AllocError> {
                     },
                 }
             }
+        },
+        RealShape::Turned(figure) => {
+            let (about, angle) = (figure.about, figure.angle);
+            write!(line, "turned {angle} about {} {}", about.x, about.y)?;
+            push_spots(&mut line, &figure.contour)?;
         },
     }
     write!(line, " by {}.{}", piece.origin.command, piece.origin.copy)?;
@@ -294,7 +310,7 @@ fn of_lines() -> [(&'static str, &'static str); 7] {
         ),
         (
             "%AMV*20,1,0.2,0,0,1.0,0,0*%%ADD11V*%D11*X0Y0D03*M02*",
-            "an area by 9.0",
+            "an area, 0 -1000000, 10000000 -1000000, 10000000 1000000, 0 1000000, 0 -1000000 by 9.0",
         ),
         (
             "%AMV*20,1,$1,0,0,1.0,0.5,0*%%ADD11V,0.1*%D11*X0Y0D03*D10*X1000000Y1000000D01*M02*",
@@ -315,6 +331,48 @@ fn of_lines() -> [(&'static str, &'static str); 7] {
     ]
 }
 
+// Turned figures of macros, most as layout tools write them; all of this crate's own.
+fn of_turns() -> [(&'static str, &'static str); 9] {
+    [
+        (
+            "%AMRotRect*21,1,$1,$2,0,0,$3*%%ADD11RotRect,1.0X0.5X30.0*%D11*X0Y0D03*M02*",
+            "turned 300000000 about 0 0, -5000000 -2500000, 5000000 -2500000, 5000000 2500000, -5000000 2500000, -5000000 -2500000 by 9.0",
+        ),
+        (
+            "%AMRotRect*21,1,$1,$2,0,0,$3*%%ADD11RotRect,1.0X0.5X90.0*%D11*X1000000Y0D03*M02*",
+            "an area, 12500000 -5000000, 12500000 5000000, 7500000 5000000, 7500000 -5000000, 12500000 -5000000 by 9.0",
+        ),
+        (
+            "%AMRotRect*21,1,$1,$2,0,0,$3*%%ADD11RotRect,1.0X0.5X-29.5*%D11*X1000000Y0D03*M02*",
+            "turned 605000000 about 10000000 0, 7500000 5000000, 7500000 -5000000, 12500000 -5000000, 12500000 5000000, 7500000 5000000 by 9.0",
+        ),
+        (
+            "%AMOutline4P*0 Free polygon*4,1,4,$1,$2,$3,$4,$5,$6,$7,$8,$1,$2,$9*%%ADD11Outline4P,-0.5X-0.25X0.5X-0.25X0.4X0.25X-0.4X0.25X45.0*%D11*X0Y1000000D03*M02*",
+            "turned 450000000 about 0 10000000, -5000000 7500000, 5000000 7500000, 4000000 12500000, -4000000 12500000, -5000000 7500000 by 10.0",
+        ),
+        (
+            "%AMT*4,1,3,0,0,1,0,0,1,0,0,0.0000001*%%ADD11T*%%SRX2Y1I3.0J0*%D11*X0Y0D03*%SR*%M02*",
+            "turned 1 about 0 0, 0 0, 10000000 0, 0 10000000, 0 0 by 10.0\nturned 1 about 30000000 0, 30000000 0, 40000000 0, 30000000 10000000, 30000000 0 by 10.1",
+        ),
+        (
+            "%AMV*20,1,0.2,0,0,1.0,0,89.9999999*%%ADD11V*%D11*X0Y0D03*M02*",
+            "turned 899999999 about 0 0, 0 -1000000, 10000000 -1000000, 10000000 1000000, 0 1000000, 0 -1000000 by 9.0",
+        ),
+        (
+            "%AMV*1,1,1.0,0,0,45*21,1,1,1,0,0,-45*%%ADD11V*%%ADD12R,1X2*%D11*X0Y0D03*D12*X0Y0D03*M02*",
+            "0 0, 0 0, 5000000 by 11.0\nturned 450000000 about 0 0, -5000000 5000000, -5000000 -5000000, 5000000 -5000000, 5000000 5000000, -5000000 5000000 by 11.0\nan area, -5000000 -10000000, 5000000 -10000000, 5000000 10000000, -5000000 10000000, -5000000 -10000000 by 13.0",
+        ),
+        (
+            "%AMV*1,1,1.0,1,0,45*%%ADD11V*%D11*X0Y0D03*M02*",
+            "Copper(Turn) at command 7",
+        ),
+        (
+            "%AMRotRect*21,1,$1,$2,0,0,$3*%%ADD11RotRect,1.0X0.5X30.0*%D11*X999999999Y0D03*M02*",
+            "Copper(Gerber(OutOfRange)) at command 9",
+        ),
+    ]
+}
+
 // Contours with arcs, all of this crate's own; one without is an area.
 fn of_regions() -> [(&'static str, &'static str); 6] {
     [
@@ -328,7 +386,7 @@ fn of_regions() -> [(&'static str, &'static str); 6] {
         ),
         (
             "G75*G36*X0Y0D02*G03X1000000I500000J0D01*X0I-500000D01*X0I-500000D01*X3000000Y0D02*G01X4000000D01*Y1000000D01*X3000000Y0D01*G37*M02*",
-            "from 0 0, (5000000 0) true 10000000 0, (5000000 0) true 0 0, (-5000000 0) true 0 0 by 11.0\nan area by 15.0",
+            "from 0 0, (5000000 0) true 10000000 0, (5000000 0) true 0 0, (-5000000 0) true 0 0 by 11.0\nan area, 30000000 0, 40000000 0, 40000000 10000000, 30000000 0 by 15.0",
         ),
         (
             "%SRX2Y1I3.0J0*%G75*G36*X0Y0D02*G01X1000000D01*Y1000000D01*G03X0Y0I-500000J-500000D01*G37*%SR*%M02*",
@@ -352,6 +410,10 @@ fn arcs_are_read(rt: HostRuntime) -> Result<(), Fail> {
         assert_eq!(rt; read.as_str(), expected);
     }
     for (words, expected) in of_lines() {
+        let read = told(rt.alloc(), words)?;
+        assert_eq!(rt; read.as_str(), expected);
+    }
+    for (words, expected) in of_turns() {
         let read = told(rt.alloc(), words)?;
         assert_eq!(rt; read.as_str(), expected);
     }

@@ -1,12 +1,11 @@
 //! A board whose pieces may be other copper than figures, as arc draws.
-ghost use Rattle.arc_layer.specs.Real.{curved, plain_reals, real_figure};
+ghost use Rattle.arc_layer.specs.Real.{plain_reals, real_figure};
 ghost use Rattle.board_shapes.specs.Pieces.{plain_pieces};
 ghost use Rattle.board_shapes.specs.Plain.{plain_board};
 ghost use Rattle.real_package.specs.RealBoards as spec;
 ghost use Rattle.real_package.specs.RealBoards.{HasNetlistOf, as_reals, plain_real_board, real_edges};
 ghost use Rattle.std.specs.Prelude.{◌≡◌, ◌<◌, ◌≤◌, ◌^◌, ◌↔◌, length, IfOk, IsTrue};
 
-use arc_regions::Region;
 use board_package::{Parts, room_for};
 use board_shapes::{Board, MOST_PIECES, Piece, Placed, Room};
 use lengths::rows::NoMemory;
@@ -16,12 +15,12 @@ use std::alloc::Global;
 /// A real board: pieces that are figures or other copper, with the test points, names and layers of its package.
 pub type RealBoard = Parts<RealShape>;
 
-// As many edges as parts.
-fn parts_of(region: &Region) -> u32
-    ensures { result ≡ real_edges (curved region.now.start region.now.parts.items) }
+// A number as far as 32 bits tell it.
+fn counted(n: usize) -> u32
+    ensures { result ≡ spec.counted n }
 {
-    match u32::try_from(region.parts.len()) {
-        Ok(parts) => parts,
+    match u32::try_from(n) {
+        Ok(few) => few,
         Err(_) => u32::MAX,
     }
 }
@@ -33,7 +32,8 @@ fn edges_of(shape: &RealShape) -> u32
         RealShape::Plain(shape) => shape.edges(),
         RealShape::ArcDraw(_) => 0,
         RealShape::Slanted(_) => 0,
-        RealShape::Region(region) => parts_of(region),
+        RealShape::Region(region) => counted(region.parts.len()),
+        RealShape::Turned(figure) => counted(figure.contour.len().saturating_sub(1)),
     }
 }
 

@@ -26,7 +26,8 @@ mod turns;
 
 pub use above::is_above;
 pub use below::is_below;
-pub use cones::{is_above_figure, is_below_figure};
+pub use cones::{RIGHT_ANGLE, is_above_figure, is_below_figure};
+pub use contours::is_closed;
 pub use figure::TurnedFigure;
 pub use measures::FINE;
 pub use planar::Spot;

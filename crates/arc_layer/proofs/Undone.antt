@@ -1,0 +1,62 @@
+-- Turns that are told come back as figures before them.
+use Rattle.std.proofs.Common.{◌≡◌, ℕ, ◌-◌, ◌<◌, ◌≤◌, ◌==◌, nat_lt, Bool, true, false, cond, List, length, take, All, Option, Some, None, refl, sym, ap, ◌∙◌, subst, arith}
+use Rattle.std.proofs.lemmas.List.{length-take-le}
+use Rattle.std.proofs.lemmas.List.Elements.{All-take}
+use Rattle.planar.specs.Plane.{IsPlaced}
+use Rattle.planar.specs.declared.Spot.{Spot}
+use Rattle.area_contact.specs.Contour.{IsClosed, IsContour}
+use Rattle.aperture_macros.specs.Laws.{ToldIsFound}
+use Rattle.aperture_macros.specs.Telling.{Telling, told, told_in}
+use Rattle.board_shapes.specs.Figures.{filled}
+use Rattle.arc_layer.specs.Laws.{TurnedAreContours, TurnsAreUndone}
+use Rattle.arc_layer.specs.Real.{plain, told_area, turned}
+use Rattle.slants.specs.declared.cones.TheConstants.{RIGHT_ANGLE}
+use Rattle.arc_layer.proofs.Tails.{IsTold, is_told}
+
+pub undone : ToldIsFound → TurnsAreUndone
+undone law about rest contour closed long below =
+    ap (λ (t : Option Telling). told_area (told about rest contour) t) (law about rest contour closed long) ∙ by (rest == 0) (nat_lt rest RIGHT_ANGLE) refl
+  where
+    by : (none less : Bool) → nat_lt rest RIGHT_ANGLE ≡ less
+        → cond none (plain (filled contour)) (cond less (turned contour about rest) (plain (filled (told about rest contour)))) ≡ cond none (plain (filled contour)) (turned contour about rest)
+    by true less is = refl
+    by false true is = refl
+    by false false is = absurd (grind (arith, is, below))
+
+abbrev IsLawful : List Spot → Spot → ℕ → Type 0
+IsLawful contour about rest = IsContour contour × IsPlaced about × (1 ≤ rest) × (rest < RIGHT_ANGLE)
+
+-- the first points of a contour that are closed, four of them or more, are one
+shorter : (points contour : List Spot) (n : ℕ) → IsContour points → contour ≡ take n points → IsClosed contour → 4 ≤ n → n ≤ length points → IsContour contour
+shorter points contour n is same closed few most =
+    let long : length contour ≡ n = ap length same ∙ length-take-le n points most in
+    let enough = is.not_many in
+    record {
+      closed = closed;
+      enough = omega (arith, long);
+      not_many = omega (arith, long, enough);
+      placed = subst (λ (ps : List Spot). All IsPlaced ps) (sym same) (All-take IsPlaced n points is.placed);
+    }
+
+lawful_so : (points : List Spot) (t : Telling) → IsContour points → IsTold points t → 1 ≤ t.rest → t.rest < RIGHT_ANGLE → IsLawful t.contour t.about t.rest
+lawful_so points t is told some below =
+    let long = told.long in
+    (shorter points t.contour (length points - 3) is told.contour told.closed (omega (arith, long)) (omega arith), told.about is.placed, some, below)
+
+pub lawful : TurnedAreContours
+lawful points contour about rest is h = by (told_in points) refl h
+  where
+    inside : (t : Telling) (none less : Bool) → IsTold points t → (t.rest == 0) ≡ none → nat_lt t.rest RIGHT_ANGLE ≡ less
+        → cond none (plain (filled t.contour)) (cond less (turned t.contour t.about t.rest) (plain (filled points))) ≡ turned contour about rest → IsLawful contour about rest
+    inside t true less told e f k = absurd cc
+    inside t false true told e f k =
+        let one : t.contour ≡ contour = cc in
+        let two : t.about ≡ about = cc in
+        let three : t.rest ≡ rest = cc in
+        subst (λ (c : List Spot). IsLawful c about rest) one (subst (λ (s : Spot). IsLawful t.contour s rest) two (subst (λ (r : ℕ). IsLawful t.contour t.about r) three
+        (lawful_so points t is told (grind (arith, e)) (grind (arith, f)))))
+    inside t false false told e f k = absurd cc
+
+    by : (t : Option Telling) → told_in points ≡ t → told_area points t ≡ turned contour about rest → IsLawful contour about rest
+    by None e k = absurd cc
+    by (Some t) e k = inside t (t.rest == 0) (nat_lt t.rest RIGHT_ANGLE) (is_told points t e) refl refl k

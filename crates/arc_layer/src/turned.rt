@@ -1,0 +1,108 @@
+//! Areas of macros that are turned by degrees.
+ghost use Rattle.aperture_macros.specs.Telling as telling;
+ghost use Rattle.arc_layer.specs.Real as spec;
+ghost use Rattle.arc_layer.specs.Real.{real_figure};
+ghost use Rattle.arc_layer.specs.Telling.{telling_by};
+ghost use Rattle.board_shapes.specs.Figures.{filled};
+ghost use Rattle.file_reading.specs.declared.fault.FileFault.TheVariants as fault;
+ghost use Rattle.planar.specs.Plane.{IsPlaced};
+ghost use Rattle.std.specs.Prelude.{◌≡◌, ◌≤◌, ◌-◌, All, length, option_map, take, IfErr, IfOk, Some};
+
+use crate::kind::RealFault;
+use area_contact::Area;
+use board_shapes::Shape;
+use planar::Spot;
+use real_shapes::RealShape;
+use slants::{RIGHT_ANGLE, TurnedFigure, is_closed};
+use std::alloc::Global;
+
+/// What the spots behind a contour say: what it is turned about, and how far in 10^-7 degrees.
+#[derive(Clone, Copy)]
+pub struct Turning {
+    pub about: Spot,
+    pub rest: u64,
+}
+
+/// How far a figure is turned whose spot comes to another, in 10^-7 degrees.
+fn rest_of(about: Spot, to: Spot) -> u64
+    requires about { IsPlaced about }
+    requires to { IsPlaced to }
+    ensures { result ≡ telling.rest_of about to }
+{
+    (30_000 * (to.x - about.x) + (to.y - about.y)).unsigned_abs()
+}
+
+/// What the points of a contour tell: all but the last three are turned so.
+#[tactic(auto, unfolding(aperture_macros::specs::Telling::told_in))]
+fn told_in(points: &[Spot]) -> Option<Turning>
+    requires { All IsPlaced points.now }
+    ensures { option_map (telling_by points.now) result ≡ telling.told_in points.now }
+{
+    let [contour @ .., about, to, _] = points else {
+        return None;
+    };
+    if contour.len() < 4 {
+        return None;
+    }
+    if is_closed(contour) {
+        Some(Turning {
+            about: *about,
+            rest: rest_of(*about, *to),
+        })
+    } else {
+        None
+    }
+}
+
+/// The points of a contour but the last three.
+fn contour_of(area: Area) -> Vec<Spot>
+    requires { 3 ≤ length area.points.items }
+    ensures { result.items ≡ take (length area.points.items - 3) area.points.items }
+{
+    let mut points = area.points;
+    let edges = points.len() - 3;
+    points.truncate(edges);
+    points
+}
+
+/// The area of a contour where nothing is left to turn.
+fn unturned(alloc: Global, area: Area, turning: Turning) -> Result<RealShape, RealFault>
+    requires { telling.told_in area.points.items ≡ Some (telling_by area.points.items turning) }
+    ensures value { IfOk result (λ made. real_figure made ≡ spec.plain (filled (take (length area.points.items - 3) area.points.items))) }
+    ensures fault { IfErr result (λ why. why ≡ fault.NoMemory) }
+{
+    match Shape::area_of(alloc, contour_of(area)) {
+        Ok(shape) => Ok(RealShape::Plain(shape)),
+        Err(_) => Err(RealFault::NoMemory),
+    }
+}
+
+/// The area that tells this.
+fn told_area(alloc: Global, area: Area, turning: Turning) -> Result<RealShape, RealFault>
+    requires { telling.told_in area.points.items ≡ Some (telling_by area.points.items turning) }
+    ensures value { IfOk result (λ made. real_figure made ≡ spec.told_area area.points.items (Some (telling_by area.points.items turning))) }
+    ensures fault { IfErr result (λ why. why ≡ fault.NoMemory) }
+{
+    if turning.rest == 0 {
+        return unturned(alloc, area, turning);
+    }
+    if turning.rest >= u64::from(RIGHT_ANGLE) {
+        return Ok(RealShape::Plain(Shape::Filled(area)));
+    }
+    Ok(RealShape::Turned(TurnedFigure {
+        contour: contour_of(area),
+        about: turning.about,
+        angle: turning.rest as u32,
+    }))
+}
+
+/// The area that a flash makes behind a macro: before its turn, where its contour tells one.
+pub fn flashed(alloc: Global, area: Area) -> Result<RealShape, RealFault>
+    ensures value { IfOk result (λ made. real_figure made ≡ spec.flashed area.points.items) }
+    ensures fault { IfErr result (λ why. why ≡ fault.NoMemory) }
+{
+    match told_in(&area.points) {
+        None => Ok(RealShape::Plain(Shape::Filled(area))),
+        Some(turning) => told_area(alloc, area, turning),
+    }
+}
