@@ -23,14 +23,18 @@ def is_meant(centre, start, end):
     return (a, b) != (0, 0) != (c, d) and (turn == 0 or unlike <= max((a - c) ** 2 + (b - d) ** 2, 2 * abs(turn)))
 
 
+# Pads that are turned by a parameter, as KiCad writes them.
+PADS = ["%AMRotRect*", "21,1,$1,$2,0,0,$3*%", "%AMOutline4P*", "4,1,4,$1,$2,$3,$4,$5,$6,$7,$8,$1,$2,$9*%"]
+
+
 class Layer:
-    """A copper file: figures, arc draws of every kind, macros with slanted lines, regions with arcs, blocks. `arcs` counts the draws, and
-    `made` what else of the file is outside the profile; lengths are counted in the file's units. At 0 is a pad for both points."""
+    """A copper file: figures, arc draws of every kind, macros with slanted lines, pads turned by degrees, regions with arcs, blocks. `arcs` counts
+    the draws, and `made` what else of the file is outside the profile; lengths are counted in the file's units. At 0 is a pad for both points."""
 
     def __init__(self, rng, arcs, most=METRE // 20):
         self.rng, self.arcs, self.made, (digits, unit, self.unit) = rng, 0, Counter(), rng.choice(FORMATS)
         self.scale, self.most = 254 * 10 ** 6 if unit == "IN" else 10 ** 7, most // self.unit
-        self.lines = [f"%FSLAX{digits}Y{digits}*%", f"%MO{unit}*%", *self.apertures(), *self.macros(), "%ADD60C,0.01*%", "G01*", "D60*", "X0Y0D03*"]
+        self.lines = [f"%FSLAX{digits}Y{digits}*%", f"%MO{unit}*%", *self.apertures(), *self.macros(), *self.pads(), "%ADD60C,0.01*%", "G01*", "D60*", "X0Y0D03*"]
         while self.arcs < arcs:
             self.block() if rng.random() < .03 else self.object()
         self.lines += ["G01*", "M02*"]
@@ -54,7 +58,7 @@ class Layer:
         self.lines.append(f"{before}X{spot[0]}Y{spot[1]}{behind}D0{code}*")
 
     def object(self):
-        self.rng.choice((self.arc, self.arc, self.arc, self.arc, self.draw, self.flash, self.area, self.macro, self.bent))()
+        self.rng.choice((self.arc, self.arc, self.arc, self.arc, self.draw, self.flash, self.area, self.macro, self.pad, self.bent))()
 
     def block(self):
         gap = self.rng.randrange(1, 10 ** 7) * self.step() / self.scale
@@ -103,6 +107,25 @@ class Layer:
         w, end = 2 * abs(w), self.rng.choice(((x + dx, y + dy),) * 4 + ((x + dx, y), (x, y + dy)))
         return self.rng.choice((f"20,1,{text(w)},{text(x)},{text(y)},{text(end[0])},{text(end[1])}",) * 3 + (
             f"1,1,{text(w)},{text(x)},{text(y)}", f"21,1,{text(w)},{text(2 * abs(dx))},{text(x)},{text(y)}", "20,1,0,0,0,0.1,0.1"))
+
+    def pads(self):
+        """Pads of layout tools, turned by a parameter or by a number."""
+        yield from PADS
+        for k in range(50, 59):
+            size = 10 ** self.rng.randint(3, 7)
+            w, h, left, right = (f"{2 * self.length(size) / self.scale:.7f}" for _ in range(4))
+            turn = self.rng.choice((f"{90 * self.rng.randrange(-4, 5)}", f"{self.rng.randrange(-9000, 9000) / 10}", f"{self.rng.uniform(-360, 360):.7f}"))
+            if k % 3 == 0:
+                yield from (f"%AMP{k}*", f"21,1,{w},{h},0,0,{turn}*", f"1,1,{w},0,0,{turn}*", f"20,1,{h},0,0,{w},0,{turn}*%", f"%ADD{k}P{k}*%")
+            elif k % 3 == 1:
+                yield f"%ADD{k}RotRect,{w}X{h}X{turn}*%"
+            else:
+                yield f"%ADD{k}Outline4P,-{left}X-{h}X{right}X-{h}X{w}X{h}X-{w}X{h}X{turn}*%"
+
+    def pad(self):
+        self.pick(50, 58)
+        self.go(self.place(), 3)
+        self.made["flashes of turned pads"] += 1
 
     def macro(self):
         self.pick(40, 49)

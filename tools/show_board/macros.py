@@ -3,6 +3,7 @@ import re
 from fractions import Fraction as Q
 
 from .clear import Object, whole
+from .degrees import placed, turned_bounds
 from .exact import Refused, cos_sin, decimal, exact, limited, minus, plus, root, times, turned
 from .outlines import convex_bounds, disc_bounds, polygon_bounds, whole_corners
 from .slants import line_bounds
@@ -98,12 +99,13 @@ def vector_line(w, x1, y1, x2, y2):
     return [at(x1, y1, -1), at(x2, y2, -1), at(x2, y2, 1), at(x1, y1, 1)]
 
 
-def line(w, x1, y1, x2, y2, turn):
+def line(w, x1, y1, x2, y2, degrees):
     """Along an axis a rectangle from its lower left corner on; else by its ends, where these are whole, and so is the width."""
     if x1 == x2 or y1 == y2:
         aside = (w / 2, 0) if x1 == x2 else (0, w / 2)
         (left, right), (low, high) = sorted((x1, x2)), sorted((y1, y2))
-        return "convex", [turned(p, turn) for p in rectangle(left - aside[0], low - aside[1], right + aside[0], high + aside[1])]
+        return placed("convex", rectangle(left - aside[0], low - aside[1], right + aside[0], high + aside[1]), degrees)
+    turn = cos_sin(degrees)
     ends, is_whole = whole_corners([turned((exact(x), exact(y)), turn) for x, y in ((x1, y1), (x2, y2))])
     if is_whole and w.denominator == 1:
         return ("line", *ends, int(w))
@@ -123,8 +125,8 @@ COUNTS = {1: (5, 6), 2: (8,), 20: (8,), 21: (7,), 22: (7,), 5: (7,)}
 
 
 def figures(body, parameters, scale):
-    """The real shapes of a macro's body, turned, in u: ("disc", centre, radius), ("line", start, end, width) of whole numbers,
-    ("convex", corners) or ("outline", corners)."""
+    """The real shapes of a macro's body, turned, in u: ("disc", centre, radius), ("line", start, end, width) and ("turned", corners, angle)
+    of whole numbers, ("convex", corners) or ("outline", corners)."""
     variables = {k + 1: value for k, value in enumerate(parameters)}
     for word in body:
         word = re.sub(r"\s", "", word)
@@ -151,13 +153,13 @@ def primitive(values, scale):
     if len(values) < 2 or values[1] not in (0, 1):
         raise Refused("macro: exposure not 0 or 1")
     u = [v * scale for v in values]
-    turn = cos_sin(values[-1]) if code != 1 or len(values) == 6 else cos_sin(0)
+    degrees = values[-1] if code != 1 or len(values) == 6 else Q(0)
     if code == 1:
-        return sized(u[2]) and exposed(values[1], ("disc", turned((exact(u[3]), exact(u[4])), turn), u[2] / 2))
+        return sized(u[2]) and exposed(values[1], ("disc", turned((exact(u[3]), exact(u[4])), cos_sin(degrees)), u[2] / 2))
     kind, corners = "convex", None
     if code in (2, 20):
         if sized(u[2]) and u[3:5] != u[5:7]:
-            return exposed(values[1], line(*u[2:7], turn))
+            return exposed(values[1], line(*u[2:7], degrees))
     elif code == 21:
         if sized(u[2]) and sized(u[3]):
             corners = rectangle(u[4] - u[2] / 2, u[5] - u[3] / 2, u[4] + u[2] / 2, u[5] + u[3] / 2)
@@ -171,7 +173,7 @@ def primitive(values, scale):
             corners = regular(int(values[2]), u[3], u[4], u[5])
     else:
         kind, corners = "outline", outline(values, u)
-    return corners and exposed(values[1], (kind, [turned(p, turn) for p in corners]))
+    return corners and exposed(values[1], placed(kind, corners, degrees))
 
 
 def exposed(on, figure):
@@ -213,9 +215,10 @@ def outline(values, u):
 def bounds_of(figure):
     if figure[0] == "cut":
         return without(figure[1])[:2]
-    if figure[0] in ("disc", "line"):
-        return (disc_bounds if figure[0] == "disc" else line_bounds)(*figure[1:])
-    return (convex_bounds if figure[0] == "convex" else polygon_bounds)(figure[1])
+    return BOUNDS[figure[0]](*figure[1:])
+
+
+BOUNDS = {"disc": disc_bounds, "line": line_bounds, "turned": turned_bounds, "convex": convex_bounds, "outline": polygon_bounds}
 
 
 def without(figures_in_order):
@@ -229,7 +232,7 @@ def without(figures_in_order):
 
 
 def rows(figures_in_order):
-    """Of figures that `between` reads, as they stand or as slanted lines, how many pieces of both sides each has; else None."""
+    """Of figures that `between` reads, as they stand, as slanted lines or turned, how many pieces of both sides each has; else None."""
     told = [row(*figure) for figure in figures_in_order]
     return None if None in told else told
 
@@ -237,6 +240,8 @@ def rows(figures_in_order):
 def row(kind, *parts):
     if kind == "line":
         return (len(line_bounds(*parts)[0]), 1) if parts[2] % 2 == 0 else None
+    if kind == "turned":
+        return len(turned_bounds(*parts)[0]), 1
     if kind == "disc":
         return (1, 1) if whole_corners(parts[:1])[1] and parts[1].denominator == 1 else None
     return (1, 1) if kind in ("convex", "outline") and whole_corners(parts[0])[1] else None

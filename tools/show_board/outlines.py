@@ -23,13 +23,17 @@ def whole_corners(points):
 
 def mitred(spots, by):
     """Corners moved to the left of their edges by about `by` (to the inside where they run counterclockwise). A guess."""
-    out, n = [], len(spots)
+    return [(round(x), round(y)) for x, y in mitres(spots, by)]
+
+
+def mitres(spots, by):
+    """The same before they are rounded."""
+    n = len(spots)
     for k in range(n):
         p, v, q = spots[k - 1], spots[k], spots[(k + 1) % n]
         (ax, ay), (bx, by_) = unit_normal(p, v), unit_normal(v, q)
         below = max(1 + ax * bx + ay * by_, Q(1, 4096))
-        out.append((round(v[0] + by * (ax + bx) / below), round(v[1] + by * (ay + by_) / below)))
-    return out
+        yield v[0] + by * (ax + bx) / below, v[1] + by * (ay + by_) / below
 
 
 def unit_normal(a, b):

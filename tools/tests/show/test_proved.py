@@ -24,6 +24,10 @@ UNEVEN = ["G36*", "X500000Y0D02*", "X1500000Y0D01*", "G03X2000000Y500003I2J49999
 PAD = ["%AMRoundRect*", "0 by thirty degrees*", "4,1,4,$2,$3,$4,$5,$6,$7,$8,$9,$2,$3,0*", *(f"1,1,$1+$1,${k},${k + 1}*" for k in (2, 4, 6, 8)),
        *(f"20,1,$1+$1,${k},${k + 1},${m},${m + 1},0*" for k, m in ((2, 4), (4, 6), (6, 8))), "20,1,$1+$1,$8,$9,$2,$3,0*%",
        "%ADD20RoundRect,0.25X-0.433X-0.583X0.733X0.083X0.433X0.583X-0.733X-0.083*%"]
+# Pads of layout tools by degrees: of KiCad by a parameter, of Altium by a number.
+TURNED = ["%AMRotRect*", "0 Rectangle, with rotation*", "21,1,$1,$2,0,0,$3*%", "%AMOutline4P*", "4,1,4,$1,$2,$3,$4,$5,$6,$7,$8,$1,$2,$9*%",
+          "%AMROUNDEDRECT*", "21,1,0.6,0.4,0,0,45.0*", "21,1,0.4,0.6,0,0,45.0*", *(f"1,1,0.2,{x},{y}*" for x, y in ((0, .2828427), (-.2828427, 0), (0, -.2828427), (.2828427, 0))),
+          "%", "%ADD20RotRect,2.0X0.4X30*%", "%ADD21RotRect,2.0X0.4X90*%", "%ADD22Outline4P,-1X-0.5X1X-0.5X0.7X0.5X-0.7X0.5X-112.5*%", "%ADD23ROUNDEDRECT*%"]
 A, B = record("A", "J1.1", 1, 0), record("A", "J1.2", -1, 0)
 
 
@@ -73,6 +77,14 @@ class Asked(made.Case):
         half, flash = " ".join(str(self.links(side, 21)) for side in ("lower", "upper")), ["1 1", "1 1", "1 1", "0 1", "1 1"]
         self.assertEqual(program.texts[3], "\n".join(["boardnet-bounds 1", half, *flash, *flash, "1 1", ""]))
 
+    def test_counts_of_turned_pads(self):
+        """A line for each primitive, turned by numbers or by parameters; of thin ones nothing is below."""
+        thin, place = ["%AMTHIN*", "4,1,4,0,0,$3,0,$3,$3,0,$3,0,0,$1*", "20,1,0.2,0,0,1,0,-$1*", "1,1,0.2,0,0,$1*%", "%ADD24THIN,30X0X0.0000001*%"], "X5000000Y5000000D03*"
+        program = Recorder(Answer(3, b"", "no"))
+        self.told(program, [*HALF, *TURNED, *thin, *(word for k in range(20, 25) for word in (f"D{k}*", place))], [A, B])
+        half, *pads = program.texts[3].split("\n")[1:-1]
+        self.assertEqual(pads, [*["1 1"] * 9, "0 1", "1 1", "1 1"])
+
     def test_counts_of_regions(self):
         """A line for each contour of a region, which has one area below, or none where it is small."""
         bent = ["X2000000Y0D02*", "X3000000Y0D01*", "X3000000Y1000000D01*", "G03X2000000Y0I0J-1000000D01*", "G01*"]
@@ -117,7 +129,9 @@ class Asked(made.Case):
         """Where other copper is outside the profile, in any file; and where there is nothing to ask."""
         rows = [["%ADD14C,0.0000003*%"], ["%LPC*%", "D11*", "X9000000Y0D03*"], ["D12*", "X0Y5000000D02*", "X1Y5000001D01*"], ["%LR90*%", "D11*", "X9000000Y0D03*"],
                 ["G36*", "X9000000Y0D02*", "G03X9000000Y0I1000000J0D01*", "G37*"], ["X0Y0D03*", "X5Y5*"],
-                ["%AMA*", "20,1,0.2,0,0,0.3,0.4,30*%", "%ADD14A*%", "D14*", "X0Y5000000D03*"], ["%AMA*", "20,1,0.0000003,0,0,0.3,0.4,0*%", "%ADD14A*%", "D14*", "X0Y5000000D03*"],
+                ["%AMA*", "20,1,0.2,0,0,0.3,0.4,30*%", "%ADD14A*%", "D14*", "X0Y5000000D03*"], ["%AMA*", "1,1,0.2,1,0,30*%", "%ADD14A*%", "D14*", "X0Y5000000D03*"],
+                ["%AMA*", "4,1,3,0,0,1,0,0,1,0,0,30*%", "%ADD14A*%", "D14*", "X0Y5000000D03*"], ["%AMA*", "4,1,4,0,0,0,1,1,1,1,0,0,0,30*%", "%ADD14A*%", "D14*", "X0Y5000000D03*"],
+                ["%AMA*", "20,1,0.0000003,0,0,0.3,0.4,0*%", "%ADD14A*%", "D14*", "X0Y5000000D03*"],
                 ["%AMA*", "1,1,0.2,0,0*", "1,0,0.1,0,0*%", "%ADD14A*%", "D14*", "X0Y5000000D03*"], ["%AMA*", "1,1,0.2,0,0*%", "%ADD14A*%", "D14*", "%LS2*%", "X0Y5000000D03*"],
                 ["%ADD14C,1X0.2*%", "D14*", "X0Y5000000D03*"], ["%ABD15*%", "D11*", "X9000000Y0D03*", "%AB*%", "D15*", "X0Y0D03*"]]
         for lines in rows:
@@ -126,6 +140,9 @@ class Asked(made.Case):
         program, other = Recorder(), "\n".join([*HEAD, *HALF, *rows[0], "M02*", ""])
         self.assertEqual((self.told(program, HALF, [A, B], {"m.json": manifest(["top.gbr", "bot.gbr"]), "bot.gbr": other}), program.texts), (self.bounded, None))
         self.assertEqual((self.told(program, HALF, []), program.texts), (self.bounded, None))
+
+
+STATUSES = {"agrees": 0, "differs": 1, "undecided": 11}
 
 
 def having_between():
@@ -162,15 +179,46 @@ class Taken(made.Case):
         ("regions with arcs, two distances", UNEVEN, [record("A", "J1.1", 1, .5), record("A", "J1.2", .8, 1.5)], "agrees"),
     ]
 
+    # Pads that are turned by degrees, which not every program reads.
+    TURNED_ROWS = [
+        ("a turned pad", ["D20*", "X0Y0D03*"], [record("A", "J1.1", .779, .45), record("A", "J1.2", -.779, -.45)], "agrees"),
+        ("a short by a turned pad", ["D20*", "X0Y0D03*"], [record("A", "J1.1", .779, .45), record("B", "J1.2", -.779, -.45)], "differs"),
+        ("beside a turned pad", ["D20*", "X0Y0D03*"], [record("A", "J1.1", .779, .45), record("A", "J1.2", .9, 0)], "differs"),
+        ("nearer than the bounds", ["D20*", "X0Y0D03*", "D10*", "X-149989Y259814D03*"], [record("A", "J1.1", .779, .45), record("B", "J1.2", -.15, .26)], "undecided"),
+        ("by a parameter of a quarter turn", ["D21*", "X0Y0D03*", "D20*", "X9000000Y9000000D03*"], [record("A", "J1.1", 0, .9), record("A", "J1.2", 0, -.9)], "agrees"),
+        ("an outline", ["D22*", "X0Y0D03*"], [record("A", "J1.1", -.714, -.678), record("A", "J1.2", -.025, .985)], "agrees"),
+        ("two rectangles and discs", ["D23*", "X0Y0D03*"], [record("A", "J1.1", 0, .35), record("A", "J1.2", .35, 0)], "agrees"),
+        ("copies", ["D20*", "%SRX2Y2I1.3J0.75*%", "X0Y0D03*", "%SR*%"],
+         [record("A", "J1.1", 0, 0), record("A", "J1.2", 2.1, 1.2), record("B", "J1.3", 1.3, 0), record("C", "J1.4", 0, .75)], "agrees"),
+    ]
+
+    def told(self, program, name, lines, records):
+        """What `show` says of a file, by its status and its answer, and the notes."""
+        text = "\n".join([*HEAD, *lines, "M02*", ""])
+        text = text.replace("46Y46", "26Y26").replace("MM", "IN").replace("1000000", "39370") if name == "inches" else text
+        self.board({"m.json": manifest(drills=[("d.drl", 1, 1)]), "top.gbr": text, "n.ipc": netlist(*records), "d.drl": drill((20.0, 0.0), (21.0, 0.0))}, name)
+        status, out, notes = self.show(name, program=program)
+        return status, out.split(" (lower")[0].split(":")[1], notes
+
     def test_rows(self):
-        program, statuses = having_between(), {"agrees": 0, "differs": 1, "undecided": 11}
+        program = having_between()
         for name, lines, records, word in self.ROWS:
-            text = "\n".join([*HEAD, *lines, "M02*", ""])
-            text = text.replace("46Y46", "26Y26").replace("MM", "IN").replace("1000000", "39370") if name == "inches" else text
-            self.board({"m.json": manifest(drills=[("d.drl", 1, 1)]), "top.gbr": text, "n.ipc": netlist(*records), "d.drl": drill((20.0, 0.0), (21.0, 0.0))}, name)
-            status, out, notes = self.show(name, program=program)
             with self.subTest(name):
-                self.assertEqual((status, out.split(" (lower")[0].split(":")[1], notes), (statuses[word], f" {word}, between two bounds, proved", ""), out)
+                self.assertEqual(self.told(program, name, lines, records), (STATUSES[word], f" {word}, between two bounds, proved", ""))
+
+    def takes_turned(self, program):
+        """Whether the program reads such pads: then it is the counts that it refuses."""
+        pad, none = ("\n".join([*HEAD, *lines, "M02*", ""]) for lines in ([*TURNED, "D20*", "X0Y0D03*"], []))
+        self.board({"m.json": manifest(), "side.json": manifest(["side.gbr"]), "top.gbr": pad, "side.gbr": none, "n.ipc": netlist(A, B), "c.txt": ""}, "probe")
+        return "top.gbr" not in self.run_words([program, "between", "m.json", "side.json", "side.json", "c.txt"], self.path("probe"))[2]
+
+    def test_turned_rows(self):
+        program = having_between()
+        proved_or_not = ", proved" if self.takes_turned(program) else ""
+        for name, lines, records, word in self.TURNED_ROWS:
+            with self.subTest(name):
+                status, line, notes = self.told(program, name, [*TURNED, *lines], records)
+                self.assertEqual((status, line, notes), (STATUSES[word], f" {word}, between two bounds{proved_or_not}", ""))
 
     def test_kept_out(self):
         """What is not taken, and said without the word: an arc that has no place, and an arc and a primitive that `show` alone reads."""
