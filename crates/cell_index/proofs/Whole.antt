@@ -17,7 +17,7 @@ use Rattle.planar.specs.declared.Spot.{Spot}
 use Rattle.planar.specs.declared.TheConstants.{SIDE}
 use Rattle.cell_index.specs.Among.{TouchAmong, bottom_in, extent_in, top_in}
 use Rattle.cell_index.specs.Cells.{cell_of, is_in_cell, is_in_wide, is_wide, meets_side, wide_of}
-use Rattle.cell_index.specs.Field.{IsNear, boxes_meet}
+use Rattle.cell_index.specs.Field.{IsNear, ListsWanted, boxes_meet}
 use Rattle.cell_index.specs.Finding.{Begins, Finds, IsLesser}
 use Rattle.cell_index.specs.Rows.{IsPatch}
 use Rattle.cell_index.specs.Stretched.{copy_in, corner}
@@ -220,8 +220,15 @@ lesser_is_least P xs ys (Some x) (Some y) r f g is all = subst (λ (o : Option �
   λ q p. elim (all q p) [ inl h ↦ (let l = f.1 q (p, h) in omega arith) | inr h ↦ (let l = g.1 q (p, h) in omega arith) ],
 )
 
+pub wanted_listed : (near wanted : ℕ → Type 0) (found xs : List ℕ) → ((q : ℕ) → wanted q → near q → Contains found q) → Lists (λ q. near q × Contains found q) xs → ListsWanted near wanted xs
+wanted_listed near wanted found xs whole l = record { rising = l.rising; only = λ q h. (l.only q h).0; all = λ q n w. l.all q (n, whole q w n) }
+
+-- where all are wanted
+pub all_listed : (near : ℕ → Type 0) (xs : List ℕ) → ListsWanted near (λ q. Unit {0}) xs → Lists near xs
+all_listed near xs l = record { rising = l.rising; only = l.only; all = λ q n. l.all q n tt }
+
 pub near_listed : (near : ℕ → Type 0) (found xs : List ℕ) → ((q : ℕ) → near q → Contains found q) → Lists (λ q. near q × Contains found q) xs → Lists near xs
-near_listed near found xs whole l = record { rising = l.rising; only = λ q h. (l.only q h).0; all = λ q n. l.all q (n, whole q n) }
+near_listed near found xs whole l = all_listed near xs (wanted_listed near (λ q. Unit {0}) found xs (λ q asked n. whole q n) l)
 
 pub known_same : (n : ℕ) (sorted found : List ℕ) → ((q : ℕ) → Contains sorted q ↔ Contains found q) → All (λ q. q < n) found → All (λ q. q < n) sorted
 known_same n sorted found same known k d below = All-contains (λ q. q < n) found (get_or sorted k d) known ((same (get_or sorted k d)).0 (Contains-get_or sorted k d below))

@@ -122,7 +122,18 @@ impl<'a, S: Meets<S>> Field for Cells<'a, S> {
         into: &mut Vec<u32>,
         tests: &mut Steps<L>,
     ) -> Result<(), NoMemory> {
-        self.candidates(i, &Every, into)?;
+        self.wanted_neighbours(i, &Every, into, tests)?;
+        Ok(())
+    }
+
+    fn wanted_neighbours<W: Wanted, L: Ledger>(
+        &self,
+        i: usize,
+        wanted: &W,
+        into: &mut Vec<u32>,
+        tests: &mut Steps<L>,
+    ) -> Result<(), NoMemory> {
+        self.candidates(i, wanted, into)?;
         keep_near(self.items, self.frame, i, into, tests);
         Ok(())
     }

@@ -1,11 +1,12 @@
 //! What a search of nets asks of pieces, with no word of shapes.
-ghost use Rattle.cell_index.specs.Field.{IsNear, rivals_of};
+ghost use Rattle.cell_index.specs.Field.{IsNear, ListsWanted, rivals_of};
 ghost use Rattle.contact.specs.declared.Bounds.{Bounds};
 ghost use Rattle.planar.specs.Plane.{IsPlaced};
 ghost use Rattle.planar.specs.declared.Spot.{Spot};
 ghost use Rattle.std.specs.Prelude.{◌≡◌, ℕ, ◌+◌, ◌<◌, ◌≤◌, ◌^◌, OnOk, IfSome};
 ghost use Rattle.tables.specs.Lists.{Lists, IsLeast};
 
+use crate::wanted::Wanted;
 use lengths::rows::NoMemory;
 use planar::Spot;
 use std::sync::ledger::Ledger;
@@ -52,6 +53,22 @@ pub trait Field {
         requires { i < size self.now }
         ensures near { OnOk result (Lists (IsNear (size self.now) (touch self.now) i) into.new.items) }
         ensures ticks { tests.new ≤ tests.old + rivals_of (size self.now) (extent self.now) (top self.now) (bottom self.now) i };
+
+    /// Puts into `into`, rising, other pieces that touch piece i, among which are all that are wanted. After a refusal `into`
+    /// holds anything. It makes no more contact tests than `neighbours` may.
+    fn wanted_neighbours<W: Wanted, L: Ledger>(
+        &self,
+        i: usize,
+        _wanted: &W,
+        into: &mut Vec<u32>,
+        tests: &mut Steps<L>,
+    ) -> Result<(), NoMemory>
+        requires { i < size self.now }
+        ensures near { OnOk result (ListsWanted (IsNear (size self.now) (touch self.now) i) (W.wanted _wanted.now) into.new.items) }
+        ensures ticks { tests.new ≤ tests.old + rivals_of (size self.now) (extent self.now) (top self.now) (bottom self.now) i }
+    {
+        self.neighbours(i, into, tests)
+    }
 
     /// The least piece under a spot on a layer, or none where there is none. The spot lies within 1 m. No memory.
     fn least_at(&self, at: Spot, layer: u8) -> Option<u32>

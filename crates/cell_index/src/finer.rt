@@ -285,6 +285,9 @@ fn put_in_order(into: &mut Vec<u32>)
     ensures rising { IsStrictlyIncreasing into.new.items }
     ensures same { (q : ℕ) → Contains into.new.items q ↔ Contains into.old.items q }
 {
+    if into.len() < 2 {
+        return;
+    }
     into.sort_unstable();
     into.dedup();
 }
