@@ -5,8 +5,8 @@ ghost use Rattle.verdict.specs.Forest.{IsForest, pieces_of};
 ghost use Rattle.verdict.specs.declared.verdict.Twig.{Twig};
 ghost use Rattle.flood.specs.Flood.{IsSeen, unseen, weight, IsGrown, IsWhole};
 
-use cell_index::Field;
 use cell_index::laws::rivals_are_twice_the_pairs;
+use cell_index::{Field, Wanted};
 use lengths::rows::{NoMemory, Rows};
 use std::alloc::Global;
 use std::sync::ledger::Ledger;
@@ -38,6 +38,23 @@ pub fn flood<F: Field, L: Ledger>(
         }
     }
     Ok(nets)
+}
+
+// The pieces that were not seen.
+#[derive(Clone, Copy)]
+struct Unseen<'a> {
+    seen: &'a [bool],
+}
+
+impl Wanted for Unseen<'_> {
+    ghost wanted = { λ unseen q. IsSeen unseen.seen.now q → ⊥ };
+
+    fn wants(&self, piece: u32) -> bool {
+        match self.seen.get(piece as usize) {
+            None => true,
+            Some(seen) => !*seen,
+        }
+    }
 }
 
 // Most nets have at most so many pieces: their list takes memory once.
@@ -96,7 +113,8 @@ fn spread<F: Field, L: Ledger>(
     ensures fewer { (w : ℕ → ℕ) → unseen w 0 seen.new ≤ unseen w 0 seen.old }
     ensures ticks { tests.new ≤ tests.old + rivals_of (F.size field.now) (F.extent field.now) (F.top field.now) (F.bottom field.now) piece }
 {
-    field.neighbours(piece as usize, row, tests)?;
+    let unseen = Unseen { seen };
+    field.wanted_neighbours(piece as usize, &unseen, row, tests)?;
     for &other in row.as_slice() {
         if !seen[other as usize] {
             seen[other as usize] = true;
