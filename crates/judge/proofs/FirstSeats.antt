@@ -1,11 +1,11 @@
 -- The first seat of each name on each net.
-use Rattle.std.proofs.Common.{◌≡◌, ◌≢◌, ℕ, ◌+◌, ◌<◌, ◌≤◌, Bool, true, false, ◌==◌, inl, inr, List, [], ◌∷◌, ◌++◌, length, map, get_or, drop, All, Option, None, Some, refl, sym, ap, ◌∙◌, subst, append_assoc, rules}
-use Rattle.std.proofs.lemmas.List.{append-nil, at_drop_all, at_drop_more, get_or_past, map-append}
+use Rattle.std.proofs.Common.{◌≡◌, ◌≢◌, ℕ, ◌+◌, ◌<◌, ◌≤◌, Bool, true, false, not, ◌==◌, inl, inr, List, [], ◌∷◌, ◌++◌, length, map, get_or, drop, All, Option, None, Some, refl, sym, ap, ◌∙◌, subst, append_assoc, rules, arith}
+use Rattle.std.proofs.lemmas.List.{append-nil, at_drop_all, at_drop_more, get_or_default, get_or_past, map-append}
 use Rattle.verdict.proofs.Holding.{le_or_lt}
 use Rattle.verdict.specs.declared.verdict.PointLine.{PointLine}
 use Rattle.verdict.specs.declared.verdict.Seat.{Seat}
 use Rattle.verdict.specs.Right.{fresh, net_of, seats_from}
-use Rattle.judge.specs.Seated.{IsSeated, has_seat, with_point, with_seat}
+use Rattle.judge.specs.Seated.{IsFurther, IsSeated, has_seat, with_point, with_seat}
 use Rattle.verdict.proofs.Seating.{fresh_new, fresh_old, seats_none, seats_other, seats_some}
 use Rattle.verdict.specs.Seats.{AreFirstSeats, seats_at}
 
@@ -16,6 +16,34 @@ with_old seats s e = rw e refl
 
 with_new : (seats : List Seat) (s : Seat) → has_seat seats s.net ≡ false → with_seat seats s ≡ seats ++ s ∷ []
 with_new seats s e = rw e refl
+
+has_behind : (first : Seat) (rest : List Seat) (net : ℕ) → (first.net == net) ≡ false → has_seat (first ∷ rest) net ≡ has_seat rest net
+has_behind first rest net off = rw off refl
+
+-- Where the first is on another net, the others tell.
+pub has_further : (seats : List Seat) (s : Seat) → IsFurther seats s → has_seat seats s.net ≡ has_seat (drop 1 seats) s.net
+has_further seats s f = subst (λ (xs : List Seat). has_seat xs s.net ≡ has_seat (drop 1 xs) s.net) (sym f.2) (has_behind f.0 f.1 s.net f.3)
+
+pub told_new : (first old held : Bool) → first ≡ not old → first ≡ true → old ≡ held → held ≡ false
+told_new first true held a t s = cc
+told_new first false held a t s = sym s
+
+differs : (a b : ℕ) → (a ≡ b → ⊥) → (a == b) ≡ false
+differs a b off = by (a == b) refl where
+  by : (t : Bool) → (a == b) ≡ t → (a == b) ≡ false
+  by true e = (let same : a ≡ b = (search (rules, e)) in absurd (off same))
+  by false e = e
+
+further_in : (seats : List Seat) (e s : Seat) → 0 < length seats → ((get_or seats 0 e).net ≡ s.net → ⊥) → IsFurther seats s
+further_in [] e s some off = absurd (omega arith)
+further_in (first ∷ rest) e s some off = (first, rest, refl, differs first.net s.net off)
+
+pub further_at : (groups : List (List Seat)) (name : ℕ) (d slice : List Seat) (e s : Seat) → name < length groups → slice ≡ get_or groups name d → 0 < length slice → ((get_or slice 0 e).net ≡ s.net → ⊥) → IsFurther (seats_at groups name) s
+further_at groups name d slice e s below is some off = subst (λ (xs : List Seat). IsFurther xs s) (is ∙ get_or_default groups name d [] below) (further_in slice e s some off)
+
+-- A name gets a seat more, which no other of its seats has taken.
+pub seat_put : (seats new : List Seat) (s : Seat) → IsFurther seats s → has_seat (drop 1 seats) s.net ≡ false → new ≡ seats ++ s ∷ [] → new ≡ with_seat seats s
+seat_put seats new s further free put = put ∙ sym (with_new seats s (has_further seats s further ∙ free))
 
 with_rest : (seats : List Seat) (s : Seat) (rest : List Seat) → with_seat seats s ++ fresh (map net_of (with_seat seats s)) rest ≡ seats ++ fresh (map net_of seats) (s ∷ rest)
 with_rest seats s rest = by (has_seat seats s.net) refl where

@@ -1,5 +1,5 @@
 -- Seats of names one by one, with the pairs of a name and a net that were met.
-use Rattle.std.specs.Prelude.{◌≡◌, ◌≢◌, ℕ, Bool, ◌==◌, ◌&&◌, if◌then◌else◌, List, [], ◌∷◌, ◌++◌, map, Option, None, Some}
+use Rattle.std.specs.Prelude.{◌≡◌, ◌≢◌, ℕ, Bool, false, ◌==◌, ◌&&◌, if◌then◌else◌, List, [], ◌∷◌, ◌++◌, drop, map, Option, None, Some}
 use Rattle.std.specs.List.{list_any}
 use Rattle.verdict.specs.declared.verdict.PointLine.{PointLine}
 use Rattle.verdict.specs.declared.verdict.Seat.{Seat}
@@ -10,9 +10,13 @@ use Rattle.verdict.specs.Seats.{seats_at}
 abbrev pub has_seat : List Seat → ℕ → Bool
 has_seat seats net = list_any (λ n. n == net) (map net_of seats)
 
--- The pairs of a name and a net are those of the seats.
+-- The pairs of a name and a net are those of the seats behind the first of each name.
 abbrev pub AreSeated : List (ℕ × ℕ) → List (List Seat) → Type 0
-AreSeated pairs groups = (name net : ℕ) → list_any (λ p. name == p.0 && net == p.1) pairs ≡ has_seat (seats_at groups name) net
+AreSeated pairs groups = (name net : ℕ) → list_any (λ p. name == p.0 && net == p.1) pairs ≡ has_seat (drop 1 (seats_at groups name)) net
+
+-- There are seats, and the first is on another net than this one.
+abbrev pub IsFurther : List Seat → Seat → Type 0
+IsFurther seats s = (first : Seat) × (rest : List Seat) × (seats ≡ first ∷ rest) × ((first.net == s.net) ≡ false)
 
 -- the seats, and one more where none of them is on its net
 abbrev pub with_seat : List Seat → Seat → List Seat

@@ -1,5 +1,5 @@
 //! The points of each name, grouped by nets.
-ghost use Rattle.judge.specs.Seated.{AreSeated, IsSeated, with_seat};
+ghost use Rattle.judge.specs.Seated.{AreSeated, IsFurther, IsSeated, with_seat};
 ghost use Rattle.verdict.specs.Seats.{AreFirstSeats, seats_at};
 ghost use Rattle.std.specs.Prelude.{◌≡◌, ◌≢◌, ℕ, ◌<◌, ◌^◌, [], length, All, IfOk, OnOk};
 
@@ -39,7 +39,7 @@ fn seat_points(
     seat_all(lines, &mut pairs, groups)
 }
 
-// The same with the pairs of a name and a net that were met. The caller drops them: that costs a proof much in a loop.
+// The same with the pairs of a name and a net behind its first net that were met: most names are on one net. The caller drops them: that costs a proof much in a loop.
 fn seat_all(
     lines: &[PointLine],
     pairs: &mut IndexSet<(u32, u32)>,
@@ -83,6 +83,31 @@ fn seat_point(
     groups: &mut [Rows<Seat>],
 ) -> Result<(), NoMemory>
     requires name { name < length groups.old }
+    requires agree { AreSeated pairs.old.keys groups.old }
+    ensures agree { OnOk result (AreSeated pairs.new.keys groups.new) }
+    ensures seats { OnOk result (seats_at groups.new name ≡ with_seat (seats_at groups.old name) seat) }
+    ensures others { OnOk result ((other : ℕ) → other ≢ name → seats_at groups.new other ≡ seats_at groups.old other) }
+{
+    match groups[name as usize].as_slice() {
+        [] => groups[name as usize].push(seat),
+        [first, ..] => if first.net == seat.net {
+            Ok(())
+        } else {
+            seat_further(name, seat, pairs, groups)
+        },
+    }
+}
+
+// Gives a point its seat, where its name has one on another net, if none of these is on its net.
+#[tactic(auto, using(crate::proofs::FirstSeats::has_further))]
+fn seat_further(
+    name: u32,
+    seat: Seat,
+    pairs: &mut IndexSet<(u32, u32)>,
+    groups: &mut [Rows<Seat>],
+) -> Result<(), NoMemory>
+    requires name { name < length groups.old }
+    requires further { IsFurther (seats_at groups.old name) seat }
     requires agree { AreSeated pairs.old.keys groups.old }
     ensures agree { OnOk result (AreSeated pairs.new.keys groups.new) }
     ensures seats { OnOk result (seats_at groups.new name ≡ with_seat (seats_at groups.old name) seat) }
