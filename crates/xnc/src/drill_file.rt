@@ -68,7 +68,7 @@ pub fn read_drill(
     ensures fault { IfErr result (IsFault file.now (record { from = span.from; to = span.to; file = file_number; room = room.pieces })) }
 {
     let mut lines = Lines::new(file);
-    let mut reader = Reader::new(alloc, span, file_number, room.pieces);
+    let mut reader = Reader::new(alloc, file.len(), span, file_number, room.pieces);
     loop {
         match lines.next_line() {
             None => return finished(reader, file.len()),

@@ -1,5 +1,5 @@
 //! What the reader of a file keeps, and how it obeys a line.
-ghost use Rattle.std.specs.Prelude.{◌≡◌, ◌+◌, ◌^◌, ◌<◌, ◌≤◌, IfOk, IfErr, IfSome, OnOk};
+ghost use Rattle.std.specs.Prelude.{◌≡◌, ◌+◌, ◌^◌, ◌<◌, ◌≤◌, [], IfOk, IfErr, IfSome, OnOk};
 ghost use Rattle.contact.specs.declared.TheConstants.{MOST_DIAMETER};
 
 use crate::drill_effects::{after, diameter, half, is_drilling, is_ended, is_start, target};
@@ -16,6 +16,9 @@ use lengths::decimal::{Decimal, Unit, other_unit};
 use lengths::rows::NoMemory;
 use planar::Spot;
 use std::alloc::Global;
+
+// About how many bytes of a file make a barrel.
+const BYTES_OF_A_BARREL: usize = 16;
 
 /// What the lines of a drill file so far have set and made. Its barrels stand on the layers `from`
 /// to `to`, and `file` goes into their origins; `lines` counts those that were obeyed, and `room`
@@ -39,8 +42,8 @@ impl Reader {
     ghost use Rattle.xnc.specs.Reader.{Applies, AreLawful, Halts, IsFit, IsLawfulReader, IsNew, Obeys, known_of, placed_row, showing, shown};
     ghost use Rattle.xnc.specs.DrillEffects as spec;
 
-    /// Before the first line.
-    pub fn new(alloc: Global, span: Span, file: u32, room: u32) -> Reader
+    /// Before the first line of a file of so many bytes.
+    pub fn new(alloc: Global, size: usize, span: Span, file: u32, room: u32) -> Reader
         ensures new { IsNew (record { from = span.from; to = span.to; file = file; room = room }) result }
         ensures lawful { IsLawfulReader result }
     {
@@ -54,7 +57,7 @@ impl Reader {
                 at: Spot { x: 0, y: 0 },
             },
             tools: Tools::new(alloc),
-            pieces: Vec::new(alloc),
+            pieces: with_room(alloc, size, room),
             lines: 0,
             from: span.from,
             to: span.to,
@@ -284,5 +287,15 @@ impl Reader {
         ensures { result ≡ self.pieces }
     {
         self.pieces
+    }
+}
+
+// No pieces, with room for about as many as a file of that size makes, where memory serves: a list that grows is copied each time.
+fn with_room(alloc: Global, size: usize, room: u32) -> Vec<Piece>
+    ensures { result.items ≡ [] }
+{
+    match Vec::with_capacity(alloc, (size / BYTES_OF_A_BARREL).min(room as usize)) {
+        Ok(pieces) => pieces,
+        Err(_) => Vec::new(alloc),
     }
 }
