@@ -39,7 +39,8 @@ fn seat_points(
     seat_all(lines, &mut pairs, groups)
 }
 
-// The same with the pairs of a name and a net behind its first net that were met: most names are on one net. The caller drops them: that costs a proof much in a loop.
+// The same with the pairs of a name and a further net that were met: most names are on one net. The caller drops them: that costs
+// a proof much in a loop.
 fn seat_all(
     lines: &[PointLine],
     pairs: &mut IndexSet<(u32, u32)>,
