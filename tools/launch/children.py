@@ -1,6 +1,7 @@
 """Commands that the launcher starts, and signals: what it started has ended when it ends."""
 import contextlib
 import os
+import resource
 import signal
 import subprocess
 import time
@@ -32,18 +33,28 @@ def heard_later():
         raise KeyboardInterrupt
 
 
+def seconds_of_children():
+    """The seconds of processors of all children that ended."""
+    used = resource.getrusage(resource.RUSAGE_CHILDREN)
+    return used.ru_utime + used.ru_stime
+
+
 class Child:
     """A command that runs in a folder; what it says goes to files. It stays in the terminal's group, so that Ctrl-Z reaches it."""
 
     def __init__(self, words, folder, out, err=None, environment=None):
+        self.seconds = 0.0
         with open(out, "wb") as told, open(err or os.devnull, "wb") as notes:
             how = {"cwd": folder, "stdin": subprocess.DEVNULL, "stdout": told, "env": environment}
             with heard_later():
                 self.running = subprocess.Popen(words, stderr=notes if err else subprocess.STDOUT, **how)
 
     def status(self):
-        """How it ended, or None while it runs."""
-        return self.running.poll()
+        """How it ended, or None while it runs; `seconds` then are those of processors that it took, with all below it."""
+        before = seconds_of_children()
+        status = self.running.poll()
+        self.seconds += seconds_of_children() - before
+        return status
 
     def end(self):
         """A terminal tells rt to end too, a lone signal does not; rt's own commands end with it."""

@@ -1,4 +1,4 @@
-"""Which crates are proved next, and on how many processors each."""
+"""Which crates are proved next, and with how many jobs each."""
 import re
 
 # A check gains little from more.
@@ -47,19 +47,20 @@ def chains(under, work):
     return longest
 
 
-def chosen(ready, chain, work, running, processors):
-    """The crates to begin now, with their processors: those of the longest chains first, each on one and on those that no other waits for.
+def chosen(ready, chain, running, places):
+    """The crates to begin now, each with its jobs: those of the longest chains first.
 
-    `work` has the work of each crate that is left, `running` the processors of those that run. A chain that is longer than all that
-    is left would take on all processors is what the end waits for: its crate gets more, and one that is taken already with them.
+    `running` has the jobs of those that run. Jobs that are free are shared out among those that wait, some to each. What the end waits
+    for, the longest chain of all that wait or run, has half of the places, also where others took them before.
     """
-    begun, idle, waiting = {}, processors - sum(running.values()), sorted(ready, key=lambda it: -chain[it])
+    begun, free, waiting = {}, places - sum(running.values()), sorted(ready, key=lambda it: -chain[it])
     for at, name in enumerate(waiting):
-        if idle < 1:
+        is_first = all(chain[name] >= chain[it] for it in [*running, *begun])
+        if free < 1 and not is_first:
             break
-        jobs = max(1, idle // (len(waiting) - at))
-        if chain[name] * processors > sum(work.values()):
-            jobs = max(jobs, min(MOST_JOBS, idle + 1))
+        jobs = max(1, min(free, places // 4), free // (len(waiting) - at))
+        if is_first:
+            jobs = max(jobs, (places + 1) // 2)
         begun[name] = min(MOST_JOBS, jobs)
-        idle -= begun[name]
+        free -= begun[name]
     return begun

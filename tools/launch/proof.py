@@ -15,6 +15,7 @@ import tempfile
 import compiled
 import kept
 import order
+import times
 from children import Child, end_inside
 
 PROGRAM = "boardnet"
@@ -97,12 +98,12 @@ class Proof:
             text = file.read()
         self.below = order.wanted(order.below(order.uses(text)), PROGRAM)
         self.lines = {order.name_of(line): line + "\n" for line in text.splitlines()}
-        self.work = {name: self.size(name) for name in self.below}
+        self.work = times.work({name: self.size(name) for name in self.below}, times.read())
         self.chain = order.chains(self.below, self.work)
         self.left = list(self.below)
 
     def size(self, name):
-        """The bytes of a crate's sources: the work of a proof grows about with them."""
+        """The bytes of a crate's sources: the work of a proof grows about with them, where it is not noted."""
         crate = os.path.join(self.sources, "crates", name)
         return sum(os.path.getsize(os.path.join(at, it)) for at, _, files in os.walk(crate) for it in files)
 
@@ -147,23 +148,23 @@ class Proof:
     def said(self, name):
         return os.path.join(self.room.at, name, "said")
 
-    def step(self, processors):
-        """Notes which crates are proved since, and begins what can begin on so many processors."""
+    def step(self, places):
+        """Notes which crates are proved since, and begins what can begin with so many jobs in all."""
         for name in [name for name, (_, child) in self.running.items() if child.status() is not None]:
             self.ended(name)
         ready = [name for name in self.left if name not in self.running and not self.below[name] & set(self.left)]
-        work, running = {name: self.work[name] for name in self.left}, {name: jobs for name, (jobs, _) in self.running.items()}
-        for name, jobs in order.chosen(ready, self.chain, work, running, processors).items():
+        running = {name: jobs for name, (jobs, _) in self.running.items()}
+        for name, jobs in order.chosen(ready, self.chain, running, places).items():
             self.begin(name, jobs)
 
     def ended(self, name):
         """Notes what a crate's check said; a crate is proved where its library was built, and the program where it was run."""
-        status = self.running.pop(name)[1].status()
+        child = self.running.pop(name)[1]
         with open(self.said(name), "rb") as file:
             said = file.read()
         with open(self.log, "ab") as log:
-            log.write(f"== {name}\n".encode() + said)
-        if not (re.search(rb"(?m)^rt: running out/boardnet", said) if name == PROGRAM else status == 0):
+            log.write(times.head(name, child.seconds).encode() + said)
+        if not (re.search(rb"(?m)^rt: running out/boardnet", said) if name == PROGRAM else child.status() == 0):
             raise Failed
         self.left.remove(name)
 
