@@ -34,7 +34,7 @@ LEFT = {
     ("boardnet/specs/Common.antt", "67108864"): "the same words",
     ("boardnet/specs/Outcome.antt", "67108864"): "the same words",
     ("gaps/src/found.rt", "65_536"): "no limit: lines are thinned first when they are so many",
-    ("boardnet/proofs/SmallParts.antt", "1_000_000"): "no limit: what six digits tell",
+    ("reports/proofs/SmallParts.antt", "1_000_000"): "no limit: what six digits tell",
     ("lengths/src/decimal.rt", "1_000_000"): "no limit: the units of a decimal's last place",
     ("lengths/src/decimal.rt", "100_000"): "the same",
     ("arc_layer/src/centres.rt", "1_000_000"): "no limit: how many steps of a format are a unit",

@@ -9,14 +9,15 @@ use Rattle.board_package.specs.declared.fault.BuildFault.TheVariants as fault
 use Rattle.board_package.specs.declared.contents.Refusal.TheVariants as refusal
 use Rattle.boardnet.proofs.Ending.{HasReason, Works, small_status}
 use Rattle.boardnet.proofs.Sound.{HoldsHanded}
-use Rattle.boardnet.specs.Answers.{IsAnswerTo, RefusesFor, line_of, status_of, subject_of}
+use Rattle.boardnet.specs.Answers.{IsAnswerTo, RefusesFor, subject_of}
+use Rattle.reports.specs.Notes.{line_of, status_of}
 use Rattle.boardnet.specs.Ends.{Puts, StopsFor, cut, whole}
 use Rattle.boardnet.specs.HandedOutcome.{EndsHanded, HasHandedReason, WorksOn}
 use Rattle.boardnet.specs.Kept.{LeftBy, Spares}
-use Rattle.boardnet.specs.Lines.{Says}
+use Rattle.reports.specs.Lines.{Says}
 use Rattle.boardnet.specs.Outcome.{ComesFor, HandedOver, Held, IsLineOf, OutcomeOf, Refused, Source, Told, read_by}
 use Rattle.boardnet.specs.Words.{Command}
-use Rattle.boardnet.specs.declared.answer.Answer.{Answer}
+use Rattle.reports.specs.declared.answer.Answer.{Answer}
 use Rattle.boardnet.specs.declared.answer.Unanswered.{Unanswered}
 use Rattle.boardnet.specs.declared.answer.Unanswered.TheVariants.{Stopped}
 

@@ -5,12 +5,13 @@ use Rattle.board_package.specs.PackageBoard.{Stop, absent, longer, StopsTaking}
 use Rattle.board_shapes.proofs.BoardTables.{tables_are_consistent, tables_are_one}
 use Rattle.board_shapes.specs.Plain.{PlainBoard}
 use Rattle.boardnet.proofs.Sound.{Laws}
-use Rattle.boardnet.specs.Gapped.{IsGapListOn, IsGapStatus, IsTooWide}
-use Rattle.boardnet.specs.Lines.{counted_line, findings_line}
-use Rattle.boardnet.specs.Outcome.{HasStatus, IsLineOf}
-use Rattle.boardnet.specs.Right.{IsReportOn, IsRightOn}
-use Rattle.boardnet.specs.commands.Trial.{IsStatusOf}
-use Rattle.boardnet.specs.declared.words.Version.{Version}
+use Rattle.reports.specs.Gapped.{IsGapListOn, IsGapStatus, IsTooWide}
+use Rattle.reports.specs.Lines.{counted_line, findings_line}
+use Rattle.reports.specs.Right.{HasStatus}
+use Rattle.boardnet.specs.Outcome.{IsLineOf}
+use Rattle.reports.specs.Right.{IsReportOn, IsRightOn}
+use Rattle.reports.specs.Summary.{IsStatusOf}
+use Rattle.reports.specs.declared.judged.Version.{Version}
 use Rattle.contact.specs.declared.Bounds.{Bounds}
 use Rattle.gaps.specs.Gaps.{AreGaps, CloseAt}
 use Rattle.gaps.specs.GrownBox.{grown_common}

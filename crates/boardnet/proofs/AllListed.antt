@@ -13,9 +13,9 @@ use Rattle.board_shapes.specs.LawfulBoard.{IsLawfulBoard}
 use Rattle.board_shapes.specs.Plain.{PlainBoard}
 use Rattle.board_shapes.specs.Tables.{IsTables, point_of}
 use Rattle.board_shapes.specs.declared.probe.Probe.{Probe}
-use Rattle.boardnet.proofs.Besides.{in_map, listed}
+use Rattle.reports.proofs.Besides.{in_map, listed}
 use Rattle.boardnet.proofs.Decisions.{all_found, bounds_of, judged, unmapped}
-use Rattle.boardnet.specs.Findings.{NoneFound, besides, certain, possible, short_points, undecided}
+use Rattle.reports.specs.Findings.{NoneFound, besides, certain, possible, short_points, undecided}
 use Rattle.boardnet.specs.Laws.{AllIsListed, BoundedFindingsAreListed, HasBranch, HasListedOpen, HasListedShort, IsListedMissing}
 use Rattle.covers.specs.Agreeing.{AgreesWithNames, HasName}
 use Rattle.covers.specs.Boards.{HasCopper, Layout, PointsJoined}

@@ -10,18 +10,18 @@ use Rattle.board_package.specs.Laws.{HasOneOutcome}
 use Rattle.board_package.specs.PackageBoard.{IsBoardOf, IsHeld, StopsTaking, Stop, absent, longer}
 use Rattle.board_package.specs.declared.fault.BuildFault.{BuildFault}
 use Rattle.board_shapes.proofs.BoardTables.{tables_are_one}
-use Rattle.board_shapes.specs.Laws.{HasOneTables}
 use Rattle.board_shapes.specs.Plain.{PlainBoard}
 use Rattle.board_shapes.specs.Tables.{IsTables}
-use Rattle.boardnet.specs.Answers.{Answers, IsAnswerTo, IsRuledOn, IsUnruled, line_of, status_of}
+use Rattle.reports.specs.Rulings.{IsRulingOn}
+use Rattle.boardnet.specs.Answers.{IsAnswerTo, IsUnruled}
 use Rattle.boardnet.specs.HandedOutcome.{HasHandedReason}
 use Rattle.boardnet.specs.Kept.{LeftBy}
-use Rattle.boardnet.specs.Lines.{counted_line}
+use Rattle.reports.specs.Lines.{counted_line}
 use Rattle.boardnet.specs.Outcome.{ComesFor, HandedOver, HasRuling, Held, IsAnswer, IsAuditStop, IsNoReport, IsReadAs, IsTextOf, Source}
 use Rattle.boardnet.specs.Source.{FitsBefore, IsFileBy, IsFileWith}
 use Rattle.boardnet.specs.Words.{Audit}
 use Rattle.boardnet.specs.commands.Audit.{IsNoText}
-use Rattle.boardnet.specs.declared.answer.Answer.{Answer}
+use Rattle.reports.specs.declared.answer.Answer.{Answer}
 use Rattle.boardnet.specs.declared.answer.Unanswered.{Unanswered}
 use Rattle.boardnet.specs.declared.answer.Unanswered.TheVariants.{Stopped, NotAReport}
 use Rattle.tables.specs.Tables.{Tables}
@@ -29,15 +29,8 @@ use Rattle.verdict.proofs.Holding.{le_or_lt}
 use Rattle.verdict.specs.Laws.{ReportTextIsInjective}
 use Rattle.verdict.specs.Right.{FailsFirst}
 use Rattle.verdict.specs.declared.verdict.Verdict.{Verdict}
-use Rattle.witness_check.specs.Ruled.{Rules}
-use Rattle.witness_check.specs.declared.auditing.Ruling.{Ruling}
-use Rattle.witness_check.specs.declared.auditing.Ruling.TheVariants.{True, Untrue}
 
 -- ---- Rulings
-
-has_ruling : (tables : Tables) (v : Verdict) (ruling : Ruling) (answer : Answer) → Rules tables v ruling → Answers ruling answer → HasRuling tables v answer.text.items (status_of answer.note) (line_of answer.note)
-has_ruling tables v True answer rules (text, said) = inl (rules, text, ap status_of said, ap line_of said)
-has_ruling tables v (Untrue n) answer rules (text, said) = inr (n, rules, text, ap status_of said, ap line_of said)
 
 pub one_file : (files : Files) (name a b : List ℕ) → files name ≡ Some a → files name ≡ Some b → a ≡ b
 one_file files name a b p q = cc (p, q)
@@ -100,16 +93,15 @@ behind (Held files) manifest board A B f (is, x) = (is, f (Held files) x)
 behind (HandedOver before after) manifest board A B f (built, g, is, x) = (built, g, is, f (HandedOver built after) x)
 
 -- what is put for a ruling is the answer
-pub ruled : (source : Source) (manifest report : List ℕ) (board : PlainBoard) (bytes text : List ℕ) (ruling : Ruling) (answer : Answer)
-    → FitsBefore source manifest board (λ rest. IsFileBy rest report bytes) → HasOneTables board → text ≡ bytes → IsRuledOn board text ruling → Answers ruling answer
-    → IsAnswerTo source (Audit manifest report) answer
-ruled source manifest report board bytes text ruling answer is one e r said = record {
+pub ruled : (source : Source) (manifest report : List ℕ) (board : PlainBoard) (bytes text : List ℕ) (answer : Answer)
+    → FitsBefore source manifest board (λ rest. IsFileBy rest report bytes) → text ≡ bytes → IsRulingOn board text answer → IsAnswerTo source (Audit manifest report) answer
+ruled source manifest report board bytes text answer is e r = record {
   board = board;
-  tables = one.tables;
-  tables_are = one.are;
+  tables = r.tables;
+  tables_are = r.tables_are;
   verdict = r.verdict;
   read = behind source manifest board (λ rest. IsFileBy rest report bytes) (λ rest. IsFileWith rest report (λ z. IsTextOf z r.verdict)) (λ rest h. record { bytes = bytes; file = h; good = subst (λ (z : List ℕ). IsTextOf z r.verdict) e r.text }) is;
-  ruling = has_ruling one.tables r.verdict ruling answer (r.rules one.tables one.are) said;
+  ruling = r.ruling;
 }
 
 -- a report that is the text of no verdict is misread

@@ -15,15 +15,16 @@ use Rattle.board_shapes.specs.Touching.{TouchAt, UnderAt}
 use Rattle.board_shapes.specs.declared.probe.Probe.{Probe}
 use Rattle.board_package.specs.declared.fault.LabelledFault.{LabelledFault}
 use Rattle.board_package.specs.declared.fault.LabelledFault.TheVariants as labelled
-use Rattle.boardnet.specs.Answers.{IsAnswerTo, line_of, status_of, unlabelled_of}
+use Rattle.boardnet.specs.Answers.{IsAnswerTo, unlabelled_of}
+use Rattle.reports.specs.Notes.{line_of, status_of}
 use Rattle.boardnet.specs.HandedOutcome.{HasHandedReason}
 use Rattle.boardnet.specs.Kept.{LeftBy}
 use Rattle.boardnet.specs.Outcome.{HandedOver, Held, JoinsPieces, Source}
-use Rattle.boardnet.specs.Right.{IsReportOn, IsRightOn}
+use Rattle.reports.specs.Right.{IsReportOn, IsRightOn}
 use Rattle.boardnet.specs.Source.{IsLabelledBoardBy}
 use Rattle.boardnet.specs.Words.{X2}
-use Rattle.boardnet.specs.declared.answer.Answer.{Answer}
-use Rattle.boardnet.specs.declared.words.Version.TheVariants.{Two}
+use Rattle.reports.specs.declared.answer.Answer.{Answer}
+use Rattle.reports.specs.declared.judged.Version.TheVariants.{Two}
 use Rattle.tables.specs.Chains.{IsChain}
 use Rattle.tables.specs.Tables.{TestPoint}
 use Rattle.verdict.specs.Forest.{Holds}

@@ -9,20 +9,19 @@ use Rattle.arc_covers.specs.declared.side.Side.TheVariants.{Below, Above}
 use Rattle.board_shapes.proofs.BoardTables.{tables_are_one}
 use Rattle.board_shapes.specs.Plain.{PlainBoard}
 use Rattle.boardnet.proofs.Alike.{same_verdicts}
-use Rattle.boardnet.proofs.Besides.{besides_none, found_are}
+use Rattle.reports.proofs.Besides.{besides_none, found_are}
 use Rattle.boardnet.proofs.Bounds.{real_alike}
 use Rattle.boardnet.proofs.Sound.{Laws}
-use Rattle.boardnet.specs.BetweenText.{IsDecision, IsDecisionBy}
-use Rattle.boardnet.specs.Bounded.{IsDecisionOn}
+use Rattle.reports.specs.BetweenText.{IsDecision, IsDecisionBy}
+use Rattle.reports.specs.Decision.{IsDecisionOn}
 use Rattle.boardnet.specs.Command.{BoundNames}
-use Rattle.boardnet.specs.Findings.{Findings, NoneFound, besides, certain, possible, short_points, undecided, without}
+use Rattle.reports.specs.Findings.{Findings, NoneFound, besides, certain, possible, short_points, undecided, without}
 use Rattle.boardnet.specs.Laws.{BoundedBoardsAgree, BoundedBoardsAreDecided, BoundedFindingsAreCertain, IsLaidOut}
 use Rattle.boardnet.specs.Outcome.{IsDecided, Source}
-use Rattle.boardnet.specs.Right.{IsRightOn}
+use Rattle.reports.specs.Right.{IsRightOn}
 use Rattle.boardnet.specs.commands.Between.{AreBounded}
 use Rattle.covers.specs.Boards.{Layout}
 use Rattle.planar.specs.Plane.{Point}
-use Rattle.real_package.specs.RealBoards.{PlainRealBoard}
 use Rattle.tables.specs.Tables.{Tables}
 use Rattle.verdict.specs.Right.{IsRight}
 use Rattle.verdict.specs.declared.verdict.Open.{Open}
@@ -86,7 +85,7 @@ same_findings : (v v' w w' : Verdict) (s : ℕ) (l : List ℕ) → DifferInWitne
 same_findings v v' w w' s l d e h =
     subst (λ (f : Findings). IsDecisionBy (certain v' w') f s l) (undecided_alike v v' w w' d e) (subst (λ (f : Findings). IsDecisionBy f (undecided v w) s l) (certain_alike v v' w w' d e) h)
 
-pub same_decision : Laws → (r r' : PlainRealBoard) (l l' u u' : PlainBoard) (text said : List ℕ) (s t : ℕ) (line other : List ℕ) → l ≡ l' → u ≡ u' → IsDecisionOn r l u text s line → IsDecisionOn r' l' u' said t other → (s ≡ t) × (line ≡ other)
+pub same_decision : Laws → (r r' : ℕ) (l l' u u' : PlainBoard) (text said : List ℕ) (s t : ℕ) (line other : List ℕ) → l ≡ l' → u ≡ u' → IsDecisionOn r l u text s line → IsDecisionOn r' l' u' said t other → (s ≡ t) × (line ≡ other)
 same_decision same r r' l l' u u' text said s t line other e h x y =
     same_decisions (certain y.below y.above) (undecided y.below y.above) s t line other
     (same_findings x.below y.below x.above y.above s line (same_verdicts same l l' x.below y.below e x.lower_right y.lower_right) (same_verdicts same u u' x.above y.above h x.upper_right y.upper_right) x.status_is) y.status_is

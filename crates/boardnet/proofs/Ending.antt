@@ -12,14 +12,15 @@ use Rattle.board_package.specs.declared.fault.BuildFault.TheVariants as fault
 use Rattle.board_package.specs.declared.contents.Refusal.TheVariants as refusal
 use Rattle.boardnet.proofs.Sound.{OneOutcome}
 use Rattle.boardnet.proofs.Soundness.{sound}
-use Rattle.boardnet.specs.Answers.{IsAnswerTo, RefusesFor, line_of, is_good, subject_of, report_of, status_of}
+use Rattle.boardnet.specs.Answers.{IsAnswerTo, RefusesFor, subject_of, report_of}
+use Rattle.reports.specs.Notes.{line_of, is_good, status_of}
 use Rattle.boardnet.specs.Ends.{Ends, HasText, Puts, StopsFor, TakesFiles, cut, whole}
 use Rattle.boardnet.specs.Kept.{LeftBy, Spares}
-use Rattle.boardnet.specs.Lines.{Says, file_line, plain_line}
+use Rattle.reports.specs.Lines.{Says, file_line, plain_line}
 use Rattle.boardnet.specs.Outcome.{ComesFor, Held, IsLineOf, OfFilesRead, OutcomeOf, Refused, Source, Told, read_by, reason_line}
 use Rattle.boardnet.specs.Words.{Command, task_of, Flatten, Write}
-use Rattle.boardnet.specs.declared.answer.Answer.{Answer}
-use Rattle.boardnet.specs.declared.answer.Note.{Note}
+use Rattle.reports.specs.declared.answer.Answer.{Answer}
+use Rattle.reports.specs.declared.answer.Note.{Note}
 use Rattle.boardnet.specs.declared.answer.Unanswered.{Unanswered}
 use Rattle.boardnet.specs.declared.answer.Unanswered.TheVariants.{Stopped}
 

@@ -3,14 +3,11 @@ pub mod AllListed
 pub mod Agreeable
 pub mod Alike
 pub mod Ending
-pub mod OnBoard
 pub mod OneOutcome
-pub mod Says
 pub mod Sound
 pub mod Soundness
 pub mod Audits
 pub mod Behind
-pub mod Besides
 pub mod Bounds
 pub mod ByLabels
 pub mod Decisions
@@ -20,9 +17,5 @@ pub mod Netlists
 pub mod Passes
 pub mod TwoCalls
 pub mod Trials
-pub mod Supplements
-pub mod Ways
-pub mod SmallParts
-pub mod SmallNetlists
 pub mod ReportLength
 pub mod Readings

@@ -14,9 +14,9 @@ use Rattle.board_package.specs.declared.entry.Role.TheVariants.{Netlist}
 use Rattle.board_shapes.specs.Plain.{PlainBoard, with_netlist}
 use Rattle.board_shapes.specs.Tables.{IsTables}
 use Rattle.board_shapes.specs.declared.probe.Probe.{Probe}
-use Rattle.boardnet.proofs.OnBoard.{forest_on}
+use Rattle.reports.proofs.OnBoard.{forest_on}
 use Rattle.boardnet.specs.Laws.{HasNetlist, WrittenNetlistsPass}
-use Rattle.boardnet.specs.Outcome.{HasStatus}
+use Rattle.reports.specs.Right.{HasStatus}
 use Rattle.ipc356_records.specs.NetlistFile.{IsRead}
 use Rattle.netlist_writer.specs.Laws.{BoardsAreWritable, IsWritable, WrittenNetlistAgrees, WrittenNetlistReads, WrittenNetlistsAreShort, names_written, probes_written}
 use Rattle.netlist_writer.specs.WrittenNetlist.{written_netlist_of}

@@ -7,8 +7,8 @@ use Rattle.board_package.specs.declared.entry.Entry.{Entry}
 use Rattle.board_shapes.specs.Plain.{PlainBoard}
 use Rattle.boardnet.specs.Laws.{CanBeTaken, FirstReportsAreShort, HoldsReport, ReportsPass}
 use Rattle.boardnet.specs.Outcome.{Held, IsReport}
-use Rattle.boardnet.specs.declared.words.Version.{Version}
-use Rattle.boardnet.specs.declared.words.Version.TheVariants.{One, Two}
+use Rattle.reports.specs.declared.judged.Version.{Version}
+use Rattle.reports.specs.declared.judged.Version.TheVariants.{One, Two}
 
 still_held : (before after : Files) (report text name bytes : List ℕ) → HoldsReport before after report text → IsHeld before name bytes → IsHeld after name bytes
 still_held before after report text name bytes h i = record { held = h.still name bytes i.held; short = i.short }

@@ -1,5 +1,5 @@
 -- From what the stages of a reading give to what `between` reads, and to why it does not.
-use Rattle.std.proofs.Common.{◌≡◌, ◌≤◌, inl, inr, ℕ, List, ◌++◌, length, Some, slice_get, option_map, ap, refl, sym, subst, ◌∙◌, arith}
+use Rattle.std.proofs.Common.{◌≡◌, ◌≤◌, inl, inr, ℕ, List, length, Some, slice_get, option_map, ap, refl, sym, subst, ◌∙◌, arith}
 use Rattle.std.proofs.lemmas.Option.{slice_get-map, slice_get_within}
 use Rattle.arc_covers.specs.Faults.{IsBoundsFault}
 use Rattle.arc_covers.specs.Taken.{AreTaken}
@@ -21,12 +21,10 @@ use Rattle.board_shapes.specs.Pieces.{PlainPiece}
 use Rattle.board_shapes.specs.Plain.{PlainBoard}
 use Rattle.board_shapes.specs.declared.placed.Placed.{Placed}
 use Rattle.boardnet.specs.Answers.{behind_of, unreal_of}
-use Rattle.board_shapes.specs.declared.probe.Probe.{Probe}
-use Rattle.boardnet.specs.BetweenText.{IsDecision, IsDecisionBy, between_text, boards_part, decision_part}
-use Rattle.boardnet.specs.Bounded.{AreBoundedBy, AreCounted, ComesFrom, IsDecisionOn, IsUnboundBy}
+use Rattle.boardnet.specs.Bounded.{AreBoundedBy, AreCounted, ComesFrom, IsUnboundBy}
+use Rattle.reports.specs.Decision.{IsDecisionOn}
 use Rattle.boardnet.specs.Command.{BoundNames}
 use Rattle.boardnet.specs.Ends.{StopsFor}
-use Rattle.boardnet.specs.Findings.{Findings, certain, undecided}
 use Rattle.boardnet.specs.HandedOutcome.{HasHandedReason}
 use Rattle.boardnet.specs.Kept.{LeftBy}
 use Rattle.boardnet.specs.Outcome.{ComesFor, HandedOver, IsDecided, Source}
@@ -36,7 +34,6 @@ use Rattle.boardnet.specs.commands.Between.{AreRead, IsOfFile, at_counts, at_low
 use Rattle.boardnet.specs.declared.answer.Unanswered.{Unanswered}
 use Rattle.boardnet.specs.declared.answer.Unanswered.TheVariants.{Stopped, NotJson, NotAManifest, BoundTooLarge, Unbound}
 use Rattle.boardnet.specs.declared.unbound.Unbound.TheVariants.{NotCounts}
-use Rattle.verdict.specs.declared.verdict.Verdict.{Verdict}
 use Rattle.real_package.specs.HandedReal.{IsFirstRealStopHanded, IsRealBoardHanded, RealComesHanded}
 use Rattle.real_package.specs.RealBoards.{PlainRealBoard}
 use Rattle.real_package.specs.RealCauses.{real_faults}
@@ -159,20 +156,11 @@ unbounded_reason source names r l u bytes text before now lost (Stopped why) is 
 unbounded_reason source names r l u bytes text before now lost other is e h = absurd h
 
 pub decided_is : (source : Source) (names : BoundNames) (r : PlainRealBoard) (l u : PlainBoard) (bytes seen text line : List ℕ) (status : ℕ)
-    → AreRead source names r l u bytes → seen ≡ bytes → AreBoundedBy r l u seen → IsDecisionOn r l u text status line → IsDecided source names text status line
+    → AreRead source names r l u bytes → seen ≡ bytes → AreBoundedBy r l u seen → IsDecisionOn (length r.pieces) l u text status line → IsDecided source names text status line
 decided_is source names r l u bytes seen text line status is e b d = record {
   bounds = record { real = r; lower = l; upper = u; bytes = bytes; read = is; bounded = subst (AreBoundedBy r l u) e b };
   decision = d;
 }
-
-pub text_alike : (n m : ℕ) (p q : List Probe) (a b : List (List ℕ)) (v w : Verdict) (sure unsure : Findings) → n ≡ m → p ≡ q → a ≡ b → sure ≡ certain v w → unsure ≡ undecided v w → boards_part n v w ++ decision_part p a sure unsure ≡ between_text m q b v w
-text_alike n m p q a b v w sure unsure e f h c u =
-    ap (λ (k : ℕ). boards_part k v w ++ decision_part p a sure unsure) e ∙ (ap (λ (k : List Probe). boards_part m v w ++ decision_part k a sure unsure) f ∙
-    (ap (λ (k : List (List ℕ)). boards_part m v w ++ decision_part q k sure unsure) h ∙
-    (ap (λ (k : Findings). boards_part m v w ++ decision_part q b k unsure) c ∙ ap (λ (k : Findings). boards_part m v w ++ decision_part q b (certain v w) k) u)))
-
-pub decision_by : (v w : Verdict) (sure unsure : Findings) (status : ℕ) (line : List ℕ) → sure ≡ certain v w → unsure ≡ undecided v w → IsDecisionBy sure unsure status line → IsDecision v w status line
-decision_by v w sure unsure status line c u h = subst (λ (k : Findings). IsDecisionBy (certain v w) k status line) u (subst (λ (k : Findings). IsDecisionBy k unsure status line) c h)
 
 -- what is taken of the same pieces by the same counts
 pub taken_moved : (side : Side) (xs ys : List (Placed RealShape)) (c d : List ℕ) (p q : List PlainPiece) → xs ≡ ys → c ≡ d → p ≡ q → AreTaken side xs c p → AreTaken side ys d q

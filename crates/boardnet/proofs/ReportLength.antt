@@ -15,8 +15,9 @@ use Rattle.board_shapes.specs.Plain.{PlainBoard}
 use Rattle.board_shapes.specs.Tables.{IsTables, point_of}
 use Rattle.board_shapes.specs.declared.TheConstants.{MOST_LAYERS}
 use Rattle.board_shapes.specs.declared.probe.Probe.{Probe}
-use Rattle.boardnet.proofs.SmallNetlists.{IsCounted, IsSmallNetlist, small_netlist}
-use Rattle.boardnet.specs.Laws.{FirstReportsAreShort, IsSmallBoard, IsSmallPoint, RightVerdictsAreSmall}
+use Rattle.reports.proofs.SmallNetlists.{IsCounted, IsSmallNetlist, small_netlist}
+use Rattle.boardnet.specs.Laws.{FirstReportsAreShort}
+use Rattle.reports.specs.Laws.{IsSmallBoard, IsSmallPoint, RightVerdictsAreSmall}
 use Rattle.tables.specs.Tables.{Tables, TestPoint}
 use Rattle.verdict.specs.Laws.{ReportsAreShort}
 use Rattle.verdict.specs.Limits.{IsRecordName}

@@ -10,7 +10,7 @@ use Rattle.boardnet.specs.HandedOutcome.{HasHandedReason}
 use Rattle.boardnet.specs.Outcome.{Source, made_manifest}
 use Rattle.boardnet.specs.Trials.{IsUnlost}
 use Rattle.boardnet.specs.Words.{Trial}
-use Rattle.boardnet.specs.declared.answer.Answer.{Answer}
+use Rattle.reports.specs.declared.answer.Answer.{Answer}
 use Rattle.boardnet.specs.declared.answer.Unanswered.{Unanswered}
 use Rattle.boardnet.specs.declared.answer.Unanswered.TheVariants.{Stopped}
 

@@ -13,9 +13,9 @@ use Rattle.boardnet.proofs.Audits.{Ruled, one_answer}
 use Rattle.boardnet.specs.Laws.{CanBeTaken, HoldsReport, ReportsPass}
 use Rattle.boardnet.specs.Outcome.{Held, IsAnswer, IsReport}
 use Rattle.boardnet.specs.Words.{IsAudit, IsCheck}
-use Rattle.boardnet.specs.declared.words.Version.{Version}
+use Rattle.reports.specs.declared.judged.Version.{Version}
 use Rattle.verdict.specs.Laws.{ReportTextIsInjective}
-use Rattle.boardnet.specs.declared.words.Version.TheVariants.{One, Two}
+use Rattle.reports.specs.declared.judged.Version.TheVariants.{One, Two}
 
 still : (before mid after : Files) (report bytes name held : List ℕ) (same : Bool) → bytes_eq report name ≡ same → mid ≡ before → before report ≡ None
     → after name ≡ cond same (Some bytes) (mid name) → before name ≡ Some held → after name ≡ Some held

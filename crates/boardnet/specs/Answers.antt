@@ -1,64 +1,24 @@
 -- What the parts of the top call answer.
-use Rattle.std.specs.Prelude.{◌≡◌, ℕ, Bool, true, false, List, ◌++◌, if◌then◌else◌, codes, decimal}
+use Rattle.std.specs.Prelude.{◌≡◌, ℕ, List}
 use Rattle.board_package.specs.declared.fault.BuildFault.{BuildFault}
 use Rattle.board_package.specs.declared.fault.BuildFault.TheVariants as fault
 use Rattle.board_package.specs.declared.fault.LabelledFault.{LabelledFault}
 use Rattle.board_package.specs.declared.fault.LabelledFault.TheVariants as labelled
-use Rattle.board_shapes.specs.Plain.{PlainBoard}
-use Rattle.board_shapes.specs.Tables.{IsTables}
 use Rattle.board_maker.specs.declared.made.MakeFault.{MakeFault}
 use Rattle.board_maker.specs.declared.made.MakeFault.TheVariants as made
-use Rattle.boardnet.specs.Gapped.{IsTooWide}
 use Rattle.file_reading.specs.declared.fault.FileFault.{FileFault}
 use Rattle.file_reading.specs.declared.fault.FileFault.TheVariants as flat
 use Rattle.gerber_layer.specs.declared.macro_kind.FlattenKind.{FlattenKind}
 use Rattle.gaps.specs.declared.listing.GapFault.{GapFault}
 use Rattle.gaps.specs.declared.listing.GapFault.TheVariants as gap
-use Rattle.boardnet.specs.Lines.{counted_line, plain_line, findings_line, end}
-use Rattle.boardnet.specs.Outcome.{OutcomeOf, Source, Told, reason_line, IsNoReport, IsTextOf}
+use Rattle.boardnet.specs.Outcome.{OutcomeOf, Source, Told, reason_line, IsNoReport}
 use Rattle.boardnet.specs.Words.{Command, task_of}
-use Rattle.boardnet.specs.declared.answer.Answer.{Answer}
-use Rattle.boardnet.specs.declared.answer.Note.{Note}
-use Rattle.boardnet.specs.declared.answer.Note.TheVariants as note
+use Rattle.reports.specs.Notes.{line_of, status_of}
+use Rattle.reports.specs.declared.answer.Answer.{Answer}
 use Rattle.boardnet.specs.declared.answer.Unanswered.{Unanswered}
 use Rattle.boardnet.specs.declared.answer.Unanswered.TheVariants.{Stopped, NotAReport, SizeTooLarge, GrownTooLarge, Mislabelled, Unflat, Bent, NotJson, NotAManifest, BoundTooLarge}
 use Rattle.real_package.specs.declared.fault.RealBuildFault.{RealBuildFault}
 use Rattle.real_package.specs.declared.fault.RealBuildFault.TheVariants as real
-use Rattle.tables.specs.Tables.{Tables}
-use Rattle.verdict.specs.declared.verdict.Verdict.{Verdict}
-use Rattle.witness_check.specs.Ruled.{Rules}
-use Rattle.witness_check.specs.declared.auditing.Ruling.{Ruling}
-use Rattle.witness_check.specs.declared.auditing.Ruling.TheVariants.{True, Untrue}
-
--- the answer is one that finds no fault
-abbrev pub is_good : Note → Bool
-is_good note.Agrees = true
-is_good (note.Differs opens shorts missing) = false
-is_good note.AuditTrue = true
-is_good (note.AuditUntrue clause) = false
-is_good (note.TrialDone agrees) = agrees
-is_good note.NetlistWritten = true
-is_good note.NoGaps = true
-is_good (note.Gaps count) = false
-is_good note.Flattened = true
-is_good (note.Undecided opens shorts missing) = false
-
--- the status of an answer
-abbrev pub status_of : Note → ℕ
-status_of n = if is_good n then 0 else 1
-
--- the line about an answer
-abbrev pub line_of : Note → List ℕ
-line_of note.Agrees = plain_line (codes "agrees")
-line_of (note.Differs opens shorts missing) = findings_line (codes "differs") opens shorts missing
-line_of note.AuditTrue = plain_line (codes "audit true")
-line_of (note.AuditUntrue clause) = counted_line (codes "audit untrue ") clause
-line_of (note.TrialDone agrees) = plain_line (codes "trial done")
-line_of note.NetlistWritten = plain_line (codes "netlist written")
-line_of note.NoGaps = plain_line (codes "no gaps")
-line_of (note.Gaps count) = counted_line (codes "gaps ") count
-line_of note.Flattened = plain_line (codes "flattened")
-line_of (note.Undecided opens shorts missing) = findings_line (codes "undecided") opens shorts missing
 
 -- an answer is the outcome of a command
 abbrev pub IsAnswerTo : Source → Command → Answer → Type 0
@@ -97,11 +57,6 @@ behind_of name fault.BadManifest = NotAManifest name
 behind_of name (fault.FrameTooLarge box) = BoundTooLarge name box
 behind_of name other = Stopped other
 
--- why a board has no list of gaps
-abbrev pub IsUngapped : PlainBoard → ℕ → GapFault → Type 0
-IsUngapped board nanometres (gap.FrameTooLarge box) = IsTooWide board nanometres box
-IsUngapped board nanometres gap.NoMemory = Unit {0}
-
 -- why there is no answer where a copper file is not flattened
 abbrev pub unflat_of : FileFault FlattenKind → Unanswered
 unflat_of (flat.Refused kind command at) = Unflat kind command at
@@ -129,16 +84,3 @@ reason_status other = 3
 -- the status is the reason's, and `Line` holds of its line
 abbrev pub RefusesFor : Command → Unanswered → ℕ → (List ℕ → Type 0) → Type 0
 RefusesFor command why status Line = (status ≡ reason_status why) × Line (reason_line (subject_of command) (report_of command) why)
-
--- ---- Audits
-
--- The bytes are the text of a verdict, and this is the ruling on it.
-pub record IsRuledOn (board : PlainBoard) (bytes : List ℕ) (ruling : Ruling) : Type 0 where
-  pub verdict : Verdict
-  pub text : IsTextOf bytes verdict
-  pub rules : (t : Tables) → IsTables board t → Rules t verdict ruling
-
--- the answer says the ruling
-abbrev pub Answers : Ruling → Answer → Type 0
-Answers True answer = (answer.text.items ≡ codes "audit true" ++ end) × (answer.note ≡ note.AuditTrue)
-Answers (Untrue n) answer = (answer.text.items ≡ codes "audit untrue " ++ decimal n ++ end) × (answer.note ≡ note.AuditUntrue n)

@@ -1,5 +1,5 @@
 -- What the command `between` answers of a real board and of two that bound it.
-use Rattle.std.specs.Prelude.{◌≡◌, ℕ, List, [], ◌∷◌, length, Some, codes, decimal, slice_get}
+use Rattle.std.specs.Prelude.{◌≡◌, ℕ, List, [], ◌∷◌, Some, codes, decimal, slice_get}
 use Rattle.std.specs.List.{concat}
 use Rattle.arc_covers.specs.Counts.{AreCounts, IsFirstOther}
 use Rattle.arc_covers.specs.Faults.{IsBoundsFault, on_side}
@@ -10,17 +10,13 @@ use Rattle.arc_covers.specs.declared.side.Side.{Side}
 use Rattle.arc_covers.specs.declared.side.Side.TheVariants.{Below, Above}
 use Rattle.arc_layer.specs.Real.{PlainReal, plain_reals}
 use Rattle.real_shapes.specs.declared.RealShape.{RealShape}
-use Rattle.board_shapes.specs.LawfulBoard.{IsLawfulBoard}
 use Rattle.board_shapes.specs.Plain.{PlainBoard}
 use Rattle.board_shapes.specs.declared.placed.Origin.{Origin}
 use Rattle.board_shapes.specs.declared.placed.Placed.{Placed}
-use Rattle.boardnet.specs.BetweenText.{IsDecision, between_text}
-use Rattle.boardnet.specs.Lines.{begin, end, file_line}
-use Rattle.boardnet.specs.Right.{IsRightOn}
+use Rattle.reports.specs.Lines.{begin, end, file_line, not_counts_line}
 use Rattle.boardnet.specs.declared.unbound.Unbound.{Unbound}
 use Rattle.boardnet.specs.declared.unbound.Unbound.TheVariants.{NotCounts, Netlist, Counts, Piece}
 use Rattle.real_package.specs.RealBoards.{HasNetlistOf, PlainRealBoard}
-use Rattle.verdict.specs.declared.verdict.Verdict.{Verdict}
 
 -- ---- Bounds
 
@@ -74,26 +70,9 @@ abbrev pub piece_line : List ℕ → List ℕ → Origin → List ℕ
 piece_line real what origin =
     concat (begin ∷ real ∷ codes ": file " ∷ decimal origin.file ∷ codes ", command " ∷ decimal origin.command ∷ codes ", copy " ∷ decimal origin.copy ∷ what ∷ end ∷ [])
 
--- a file of counts that is none, at the number of a line
-abbrev pub not_counts_line : List ℕ → ℕ → List ℕ
-not_counts_line counts line = concat (begin ∷ counts ∷ codes ": not counts at line " ∷ decimal line ∷ end ∷ [])
-
 -- the line, by the names of the real manifest and of the file of counts
 abbrev pub unbound_line : (real counts : List ℕ) → Unbound → List ℕ
 unbound_line real counts (NotCounts line) = not_counts_line counts line
 unbound_line real counts (Netlist side) = file_line real (on_side side (codes "lower board has other test points, names or layers") (codes "upper board has other test points, names or layers"))
 unbound_line real counts (Counts side) = file_line counts (on_side side (codes "counts below do not add up") (codes "counts above do not add up"))
 unbound_line real counts (Piece side origin) = piece_line real (on_side side (codes ": not bounded below") (codes ": not bounded above")) origin
-
--- ---- What is decided
-
--- The text of right verdicts on both boards, with its status and its line.
-pub record IsDecisionOn (real : PlainRealBoard) (lower upper : PlainBoard) (text : List ℕ) (status : ℕ) (line : List ℕ) : Type 0 where
-  pub below : Verdict
-  pub above : Verdict
-  pub lower_lawful : IsLawfulBoard lower
-  pub upper_lawful : IsLawfulBoard upper
-  pub lower_right : IsRightOn lower below
-  pub upper_right : IsRightOn upper above
-  pub text_is : text ≡ between_text (length real.pieces) lower.probes lower.names below above
-  pub status_is : IsDecision below above status line

@@ -2,7 +2,7 @@
 use Rattle.std.specs.Prelude.{ℕ, List}
 use Rattle.boardnet.specs.declared.commands.Command.{Command as Given}
 use Rattle.boardnet.specs.declared.commands.Command.TheVariants as given
-use Rattle.boardnet.specs.declared.words.Version.{Version}
+use Rattle.reports.specs.declared.judged.Version.{Version}
 
 -- the names of a package's manifest, of those of two packages that bound it, and of their file of counts
 pub record BoundNames : Type 0 where

@@ -1,5 +1,5 @@
 -- What the commands share: the status of a verdict, the lines of refusals, and what an outcome is.
-use Rattle.std.specs.Prelude.{◌≡◌, ◌⊎◌, ℕ, List, length, codes}
+use Rattle.std.specs.Prelude.{◌≡◌, ℕ, List, codes}
 use Rattle.arc_layer.specs.Kinds.{real_row}
 use Rattle.arc_layer.specs.declared.kind.RealKind.{RealKind}
 use Rattle.board_package.specs.PackageBoard.{Stop, absent, longer, not_json, bad_manifest, refused, frame_too_large}
@@ -8,15 +8,7 @@ use Rattle.board_package.specs.declared.contents.Refusal.{Refusal}
 use Rattle.board_package.specs.declared.contents.Refusal.TheVariants.{Layer, Drill, Netlist}
 use Rattle.gerber_layer.specs.MacroKinds.{flatten_row}
 use Rattle.gerber_layer.specs.declared.macro_kind.FlattenKind.{FlattenKind}
-use Rattle.boardnet.specs.Lines.{at_byte, at_item, plain_line, file_line, frame_line, kind_line, findings_line}
-use Rattle.verdict.specs.ReportText.{Agrees}
-use Rattle.verdict.specs.declared.verdict.Verdict.{Verdict}
-
--- The status of a verdict, and its line.
-abbrev pub HasStatus : Verdict → ℕ → List ℕ → Type 0
-HasStatus v status line =
-    (Agrees v × (status ≡ 0) × (line ≡ plain_line (codes "agrees")))
-    ⊎ ((Agrees v → ⊥) × (status ≡ 1) × (line ≡ findings_line (codes "differs") (length v.opens) (length v.shorts) (length v.bare)))
+use Rattle.reports.specs.Lines.{at_byte, at_item, file_line, frame_line, kind_line}
 
 -- the form of a file that is refused
 abbrev pub form_of : Refusal → List ℕ

@@ -4,12 +4,12 @@ use Rattle.board_io.specs.Causes.{Rose}
 use Rattle.board_io.specs.Package.{Files}
 use Rattle.board_io.specs.Sink.{Gains, GainsFrontOf}
 use Rattle.board_package.specs.PackageBoard.{Stop}
-use Rattle.boardnet.specs.Answers.{line_of, status_of}
+use Rattle.reports.specs.Notes.{line_of, status_of}
 use Rattle.boardnet.specs.Kept.{Keeps}
-use Rattle.boardnet.specs.Lines.{plain_line, file_line, Says}
+use Rattle.reports.specs.Lines.{plain_line, file_line, Says}
 use Rattle.boardnet.specs.Outcome.{Held, Told, Refused, ComesFor, OfFilesRead, OutcomeOf, Source}
 use Rattle.boardnet.specs.Words.{Command, task_of}
-use Rattle.boardnet.specs.declared.answer.Answer.{Answer}
+use Rattle.reports.specs.declared.answer.Answer.{Answer}
 
 -- the names of files in a command are texts, and its numbers are in range
 abbrev pub HasNames : Command → Type 0

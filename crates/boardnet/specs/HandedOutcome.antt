@@ -5,10 +5,10 @@ use Rattle.board_io.specs.Sink.{Gains, GainsFrontOf}
 use Rattle.board_package.specs.Causes.{HandedCause}
 use Rattle.boardnet.specs.Answers.{IsAnswerTo}
 use Rattle.boardnet.specs.Ends.{StopsFor}
-use Rattle.boardnet.specs.Lines.{Says}
+use Rattle.reports.specs.Lines.{Says}
 use Rattle.boardnet.specs.Outcome.{ComesFor, HandedOver, OutcomeOf, Refused, Source, Told}
 use Rattle.boardnet.specs.Words.{Command, task_of}
-use Rattle.boardnet.specs.declared.answer.Answer.{Answer}
+use Rattle.reports.specs.declared.answer.Answer.{Answer}
 use Rattle.boardnet.specs.declared.answer.Unanswered.{Unanswered}
 use Rattle.boardnet.specs.declared.answer.Unanswered.TheVariants.{Stopped}
 

@@ -1,5 +1,5 @@
 -- The laws of the program.
-use Rattle.std.specs.Prelude.{◌≡◌, ◌≢◌, ◌⊎◌, ◌↔◌, ◌*◌, ◌<◌, ◌≤◌, ℕ, false, List, [], ◌∷◌, ◌++◌, length, All, Contains, Some, codes, slice_get}
+use Rattle.std.specs.Prelude.{◌≡◌, ◌≢◌, ◌⊎◌, ◌↔◌, ◌≤◌, ℕ, false, List, [], ◌∷◌, ◌++◌, length, All, Contains, Some, codes, slice_get}
 use Rattle.board_io.specs.Package.{Files}
 use Rattle.board_package.specs.PackageBoard.{IsBoardOf, IsManifestFile, order_of}
 use Rattle.texts.specs.declared.TheConstants.{MOST_BYTES}
@@ -7,8 +7,8 @@ use Rattle.board_package.specs.declared.entry.Entry.{Entry}
 use Rattle.board_package.specs.declared.entry.Role.TheVariants.{Netlist}
 use Rattle.board_package.specs.declared.manifest.Manifest.{Manifest}
 use Rattle.board_shapes.specs.Plain.{PlainBoard}
-use Rattle.boardnet.specs.Findings.{NoneFound, certain, possible, short_points, undecided}
-use Rattle.boardnet.specs.Lines.{end, plain_line}
+use Rattle.reports.specs.Findings.{NoneFound, certain, possible, short_points, undecided}
+use Rattle.reports.specs.Lines.{end, plain_line}
 use Rattle.boardnet.specs.Outcome.{AuditOutcome, CheckOutcome, Held, IsDecided, IsWritten, Source, Told}
 use Rattle.boardnet.specs.Command.{BoundNames}
 use Rattle.covers.specs.Agreeing.{AgreesWithNames, HasName}
@@ -22,43 +22,15 @@ use Rattle.arc_covers.specs.RealBoards.{IsReal}
 use Rattle.arc_layer.specs.Real.{plain_reals}
 use Rattle.real_shapes.specs.declared.RealShape.{RealShape}
 use Rattle.board_shapes.specs.declared.placed.Placed.{Placed}
-use Rattle.boardnet.specs.declared.words.Version.{Version}
-use Rattle.boardnet.specs.declared.words.Version.TheVariants.{One, Two}
-use Rattle.board_shapes.specs.declared.TheConstants.{MOST_PIECES}
-use Rattle.ipc356_records.specs.declared.TheConstants.{MOST_RECORDS}
-use Rattle.tables.specs.Tables.{Tables, TestPoint}
-use Rattle.verdict.specs.Limits.{HasFewParts, HasSixDigits, HasSmallParts, IsRecordName}
-use Rattle.verdict.specs.Right.{IsRight, is_unconnected}
+use Rattle.reports.specs.declared.judged.Version.{Version}
+use Rattle.reports.specs.declared.judged.Version.TheVariants.{One, Two}
+use Rattle.verdict.specs.Right.{is_unconnected}
 use Rattle.verdict.specs.declared.verdict.Branch.{Branch}
 use Rattle.verdict.specs.declared.verdict.Open.{Open}
 use Rattle.verdict.specs.declared.verdict.Short.{Short}
 use Rattle.verdict.specs.declared.verdict.Verdict.{Verdict}
 
 -- ---- Reports
-
--- the record and the layer of a test point have six digits at most, and its name is one of so many
-pub record IsSmallPoint (names : ℕ) (point : TestPoint) : Type 0 where
-  pub number : HasSixDigits point.number
-  pub layer : HasSixDigits point.layer
-  pub name : point.name < names
-
--- a board with as many pieces, points and names as a package may have, named as in its records
-pub record IsSmallBoard (board : Tables) : Type 0 where
-  pub pieces : length board.near ≤ MOST_PIECES
-  pub points : length board.points ≤ 2 * MOST_RECORDS
-  pub names : length board.names ≤ MOST_RECORDS
-  pub short_names : All IsRecordName board.names
-  pub known : All (IsSmallPoint (length board.names)) board.points
-
--- a verdict with small numbers and few parts
-pub record IsSmallVerdict (verdict : Verdict) : Type 0 where
-  pub small : HasSmallParts verdict
-  pub few : HasFewParts verdict
-
--- A right verdict on a small board is small: above all, in all paths together it lists no more pieces than the board has, and
--- one more for each branch.
-abbrev pub RightVerdictsAreSmall : Type 0
-RightVerdictsAreSmall = (board : Tables) (verdict : Verdict) → IsSmallBoard board → IsRight board verdict → IsSmallVerdict verdict
 
 -- The report of version 1 that `check` writes can be taken as a file.
 abbrev pub FirstReportsAreShort : Type 0

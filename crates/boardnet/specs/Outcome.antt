@@ -7,11 +7,14 @@ pub use Rattle.board_package.specs.PackageBoard.{IsBoardOf, IsHeld}
 pub use Rattle.board_shapes.specs.Plain.{Fits, PlainBoard, PlainPiece}
 pub use Rattle.gaps.specs.GrownBox.{grown_common}
 pub use Rattle.gerber_layer.specs.MacroLayer.{IsReadWithMacros}
-pub use Rattle.boardnet.specs.Common.{HasStatus, form_of, place_of, refusal_line, flatten_line, IsLineOf, Outcome, Told, Refused}
+pub use Rattle.reports.specs.Right.{HasStatus}
+pub use Rattle.boardnet.specs.Common.{form_of, place_of, refusal_line, flatten_line, IsLineOf, Outcome, Told, Refused}
 pub use Rattle.boardnet.specs.Source.{Source, Held, HandedOver}
 pub use Rattle.boardnet.specs.commands.Check.{IsReport}
-pub use Rattle.boardnet.specs.commands.Audit.{IsTextOf, IsNoReport, HasRuling, IsAnswer, IsReadAs, IsAuditStop}
-pub use Rattle.boardnet.specs.commands.Trial.{made_manifest, summary_text, IsTrialReport}
+pub use Rattle.reports.specs.Rulings.{IsTextOf, IsNoReport, HasRuling}
+pub use Rattle.boardnet.specs.commands.Audit.{IsAnswer, IsReadAs, IsAuditStop}
+pub use Rattle.boardnet.specs.commands.Trial.{made_manifest, IsTrialReport}
+pub use Rattle.reports.specs.Summary.{summary_text}
 pub use Rattle.boardnet.specs.commands.Write.{IsWritten}
 pub use Rattle.boardnet.specs.commands.Gaps.{IsGapped}
 pub use Rattle.boardnet.specs.commands.X2.{JoinsPieces, IsLabelledReport}
@@ -23,7 +26,7 @@ use Rattle.board_package.specs.declared.contents.Refusal.TheVariants.{Layer, Dri
 use Rattle.board_package.specs.declared.fault.BuildFault.TheVariants as fault
 use Rattle.boardnet.specs.Bounded.{unbound_line}
 use Rattle.boardnet.specs.Common.{arc_line}
-use Rattle.boardnet.specs.Lines.{plain_line, file_line, frame_line, label_line, manifest_frame_line}
+use Rattle.reports.specs.Lines.{plain_line, file_line, frame_line, label_line, manifest_frame_line}
 use Rattle.boardnet.specs.Task.{Task}
 use Rattle.boardnet.specs.Words.{Command, Check, Audit, Trial, Version, task_of}
 use Rattle.boardnet.specs.declared.answer.Unanswered.{Unanswered}

@@ -5,7 +5,7 @@ ghost use Rattle.board_io.specs.MemorySink.{faults_of as sink_faults_of, got_of}
 ghost use Rattle.board_package.specs.PackageBoard.{IsBoardOf};
 ghost use Rattle.board_shapes.specs.Plain.{PlainBoard};
 ghost use Rattle.boardnet.specs.Words.{IsAudit, IsCheck};
-ghost use Rattle.boardnet.specs.declared.words.Version.{Version};
+ghost use Rattle.reports.specs.declared.judged.Version.{Version};
 ghost use Rattle.std.specs.Prelude.{List, None, [], length, ℕ, ◌<◌, ◌≡◌, ◌≤◌, ◌⊎◌};
 
 use crate::laws::reports_pass;

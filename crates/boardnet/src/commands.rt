@@ -25,9 +25,10 @@ use self::trial::summary;
 use self::write::netlist;
 use self::x2::labelled_report;
 use crate::answer::Answered;
-use crate::words::{MADE_MANIFEST, Version};
+use crate::words::MADE_MANIFEST;
 use board_io::Package;
 use lengths::text::is_text;
+use reports::Version;
 use std::alloc::Global;
 
 /// What the words ask for. Names of files are texts of 1 to 200 printable bytes.

@@ -1,6 +1,6 @@
 //! Laws over the outcomes. Their calls do nothing.
 ghost use Rattle.boardnet.specs.FilesAgree.{FilesAgree, OutcomesAgree};
-ghost use Rattle.boardnet.specs.Laws.{BoundedBoardsAgree, BoundedBoardsAreDecided, BoundedFindingsAreCertain, BoundedFindingsAreListed, FirstReportsAreShort, ReportsPass, RightVerdictsAreSmall, WrittenNetlistsPass};
+ghost use Rattle.boardnet.specs.Laws.{BoundedBoardsAgree, BoundedBoardsAreDecided, BoundedFindingsAreCertain, BoundedFindingsAreListed, FirstReportsAreShort, ReportsPass, WrittenNetlistsPass};
 ghost use Rattle.boardnet.specs.OneOutcome.{OneHandedOutcome, OneOutcome};
 
 use arc_covers::laws as bounds;
@@ -11,7 +11,8 @@ use gaps::laws as lists;
 use gerber_layer::laws as layers;
 use netlist_writer::laws as netlists;
 use real_package::laws as reals;
-use verdict::laws as reports;
+use reports::laws as said;
+use verdict::laws as report_texts;
 use witness_check::laws as verdicts;
 
 /// Unless a name was handed over twice with other bytes, there are files that agree with all that was handed over: so what is said of all such
@@ -39,7 +40,7 @@ pub fn one_outcome()
     layers::one_macro_answer();
     bounds::counts_are_one();
     lists::gap_lists_are_one();
-    reports::report_text_is_injective();
+    report_texts::report_text_is_injective();
     verdicts::verdicts_differ_in_witnesses_only();
 }
 
@@ -52,21 +53,12 @@ pub fn one_handed_outcome()
     reals::handed_is_held();
 }
 
-/// A right verdict on a board of at most 200,000 pieces, 400,000 points and 200,000 names of at most 14 bytes lists no more than
-/// that, in all paths no more pieces than the board has and one for each branch. Where records and layers are below a million,
-/// and the name of each point is one of the names, its numbers have at most six digits.
-pub fn right_verdicts_are_small()
-    ensures { RightVerdictsAreSmall }
-{
-    reports::right_verdicts_are_few();
-}
-
 /// The report of version 1 that `check` writes has at most 67,108,864 bytes, so it can be taken as a file.
 pub fn first_reports_are_short()
     ensures { FirstReportsAreShort }
 {
-    right_verdicts_are_small();
-    reports::reports_are_short();
+    said::right_verdicts_are_small();
+    report_texts::reports_are_short();
 }
 
 /// The report that `check` writes passes the audit of the same package: that of version 1 whatever its length, that of version

@@ -2,19 +2,16 @@
 //!
 //! `run` is the top call. The words of the command line are judged (`words`). Each command does its work in a file of its own,
 //! whose head says what it takes, puts and answers (`commands`), and has an answer, or a reason why there is none (`answer`).
-//! `judged` has the board and the verdict on it, `findings`, `between_text` and `unbound` what two boards say of one between them.
-//! The text goes to the output, and a line to the notes (`putting`, `lines`, `refusing`). `certified` is a check with the audit of
-//! its report. The laws stand in `laws`.
+//! `boards` has the board of a package; what is said of it is told by the crate `reports`. `unbound` says why two boards are no bounds of
+//! one between them. The text goes to the output, and a line to the notes (`putting`, `refusing`). `certified` is a check with the
+//! audit of its report. The laws stand in `laws`.
 #![tactic(auto)]
 
 mod answer;
-mod between_text;
+mod boards;
 mod certified;
 mod commands;
-mod findings;
-mod judged;
 pub mod laws;
-mod lines;
 mod putting;
 mod refusing;
 pub mod run;

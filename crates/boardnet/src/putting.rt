@@ -2,17 +2,14 @@
 ghost use Rattle.boardnet.specs.Answers.{RefusesFor};
 ghost use Rattle.boardnet.specs.Command.{asked};
 ghost use Rattle.boardnet.specs.Ends.{Puts};
-ghost use Rattle.boardnet.specs.Lines.{Gains, GainsFrontOf, Rose, Says, plain_line};
-ghost use Rattle.std.specs.List.{flat_map};
+ghost use Rattle.reports.specs.Lines.{Gains, GainsFrontOf, Rose, Says, plain_line};
 ghost use Rattle.std.specs.Prelude.{IfOk, MatchResult, [], codes, false, true, ◌++◌, ◌∷◌, ◌≡◌, ◌≤◌};
 
 use crate::answer::Answered;
 use crate::commands::Command;
-use crate::lines;
 use crate::refusing::refuse;
 use board_io::{Put, Sink};
-use lengths::rows::NoMemory;
-use std::alloc::Global;
+use reports::lines;
 
 /// Puts the answer to a command and the line about it, or the line that says why there is none, and answers the status.
 pub fn conclude<S: Sink, N: Sink>(
@@ -54,15 +51,4 @@ fn put_text<S: Sink, N: Sink>(text: &[u8], out: &mut S, notes: &mut N) -> bool
         return false;
     }
     true
-}
-
-/// The pieces of a text, one behind another.
-pub fn joined(alloc: Global, pieces: &[&[u8]]) -> Result<Vec<u8>, NoMemory>
-    ensures { IfOk result (λ text. text.items ≡ flat_map (λ piece. piece.now) pieces.now) }
-{
-    let mut text = Vec::new(alloc);
-    for piece in pieces {
-        text.extend_from_slice(*piece)?;
-    }
-    Ok(text)
 }

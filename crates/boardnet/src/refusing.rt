@@ -1,18 +1,18 @@
 //! Refusals: the line of each, and its status.
 ghost use Rattle.boardnet.specs.Answers.{RefusesFor, fault_status};
 ghost use Rattle.boardnet.specs.Command.{asked};
-ghost use Rattle.boardnet.specs.Lines.{Says};
+ghost use Rattle.reports.specs.Lines.{Says};
 ghost use Rattle.boardnet.specs.Outcome.{fault_line, form_of, reason_line, refusal_line};
 ghost use Rattle.lengths.specs.Text.{IsText};
 ghost use Rattle.std.specs.Prelude.{IfErr, IfOk, ◌≡◌, ◌≤◌};
 
 use crate::answer::Unanswered;
 use crate::commands::Command;
-use crate::lines::{self, Kind};
 use board_io::Sink;
 use board_package::{BuildFault, Refusal};
 use file_reading::RefusalKind;
 use lengths::text::Text;
+use reports::lines::{self, Kind};
 use std::alloc::Global;
 
 /// Puts the line that says why a command has no answer, and answers its status.

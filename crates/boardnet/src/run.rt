@@ -4,14 +4,13 @@ ghost use Rattle.boardnet.specs.Command.{asked};
 ghost use Rattle.boardnet.specs.Ends.{Ends, HasNames};
 ghost use Rattle.boardnet.specs.HandedOutcome.{EndsHanded};
 ghost use Rattle.boardnet.specs.Kept.{Keeps, Leaves};
-ghost use Rattle.boardnet.specs.Lines.{Gains, GainsFrontOf, Rose, Says, file_line, plain_line};
+ghost use Rattle.reports.specs.Lines.{Gains, GainsFrontOf, Rose, Says, file_line, plain_line};
 ghost use Rattle.boardnet.specs.Outcome.{ComesFor, Fits, HandedOver, Held, AreBounded, IsAnswer, IsBoardOf, IsDecided, IsFlatText, IsGapped, IsHeld, IsLabelledBoardOf, IsLabelledReport, IsReadWithMacros, IsReport, IsTextOf, IsTrialReport, IsWritten, OfFilesRead, OutcomeOf, PlainBoard, PlainPiece, Refused, Told, grown_common};
 ghost use Rattle.boardnet.specs.Words.{Asks, BoundNames, Command as Asked, IsAudit, IsBetween, IsCheck, IsFlatten, IsGaps, IsTrial, IsUnderstood, IsWrite, IsX2, Trial, Version, Write, Flatten};
 ghost use Rattle.verdict.specs.declared.verdict.Verdict.{Verdict};
 ghost use Rattle.std.specs.Prelude.{IfSome, List, Some, [], codes, ◌++◌, ◌∷◌, pos, ℕ, ◌*◌, ◌↔◌, ◌≡◌, ◌≢◌, ◌≤◌, ◌⊎◌};
 
 use crate::commands::{Command, answer_to};
-use crate::lines;
 use crate::putting::conclude;
 use crate::words::command_of;
 use arc_covers::laws as bounds;
@@ -20,6 +19,7 @@ use board_package::laws as packages;
 use gerber_layer::laws as layers;
 use made_files::made_packages_fit;
 use real_package::laws as reals;
+use reports::lines;
 use std::alloc::Global;
 
 /// Does what the words ask for, and answers the status.

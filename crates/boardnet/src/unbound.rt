@@ -1,13 +1,13 @@
 //! Why two boards are no bounds of a real one, and the line of each reason.
 ghost use Rattle.arc_covers.specs.Faults.{on_side};
 ghost use Rattle.boardnet.specs.Bounded.{piece_line, unbound_line};
-ghost use Rattle.boardnet.specs.Lines.{Says};
+ghost use Rattle.reports.specs.Lines.{Says};
 ghost use Rattle.std.specs.Prelude.{codes, ◌≡◌};
 
-use crate::lines;
 use arc_covers::Side;
 use board_io::Sink;
 use board_shapes::Origin;
+use reports::lines;
 use texts::Numeral;
 
 /// Why two boards are no bounds of a real one.

@@ -13,7 +13,8 @@ use Rattle.boardnet.proofs.Alike.{one_taking}
 use Rattle.boardnet.proofs.Sound.{OneOutcome, Sound, HoldsHanded}
 use Rattle.boardnet.specs.Outcome.{ComesFor, HandedOver, Held, IsAnswer, IsAuditStop, IsReadAs, IsTextOf, OfFilesRead, OutcomeOf, Told}
 use Rattle.boardnet.specs.Source.{FitsBefore, IsBoardBy, IsFileWith, NextBy, StopsFileBy}
-use Rattle.boardnet.specs.commands.Audit.{AuditRefuses, IsNoReport, IsNoText}
+use Rattle.boardnet.specs.commands.Audit.{AuditRefuses, IsNoText}
+use Rattle.reports.specs.Rulings.{IsNoReport}
 use Rattle.boardnet.specs.Words.{Asks, Command, Audit, IsAudit}
 use Rattle.boardnet.specs.declared.answer.Unanswered.{Unanswered}
 use Rattle.boardnet.specs.declared.answer.Unanswered.TheVariants.{NotAReport}

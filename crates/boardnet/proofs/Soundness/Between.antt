@@ -1,5 +1,5 @@
 -- That what is told of the command `between` is sound.
-use Rattle.std.proofs.Common.{◌≡◌, ◌≤◌, ℕ, List, Option, Some, None, IfSome, String, ◌⊎◌, inl, inr, refl, ap, subst, sym, ◌∙◌}
+use Rattle.std.proofs.Common.{◌≡◌, ◌≤◌, ℕ, List, length, Option, Some, None, IfSome, String, ◌⊎◌, inl, inr, refl, ap, subst, sym, ◌∙◌}
 use Rattle.std.specs.declared.alloc.Global.{Global}
 use Rattle.board_io.specs.Handed.{AgreeWith, Handed}
 use Rattle.board_io.specs.Package.{Files}
@@ -116,7 +116,7 @@ no_decision law f names why (inr (reason, u, e)) b = bounded_or_not law f names 
 one_decision : Laws → (f : Files) (names : BoundNames) (text said : List ℕ) (s t : ℕ) (l k : List ℕ) → IsDecided (Held f) names text s l → IsDecided (Held f) names said t k → (s ≡ t) × (l ≡ k)
 one_decision law f names text said s t l k x y =
     let (a, b, c, d) = same_read law.one f names x.bounds.real y.bounds.real x.bounds.lower y.bounds.lower x.bounds.upper y.bounds.upper x.bounds.bytes y.bounds.bytes x.bounds.read y.bounds.read in
-    same_decision law x.bounds.real y.bounds.real x.bounds.lower y.bounds.lower x.bounds.upper y.bounds.upper text said s t l k b c x.decision y.decision
+    same_decision law (length x.bounds.real.pieces) (length y.bounds.real.pieces) x.bounds.lower y.bounds.lower x.bounds.upper y.bounds.upper text said s t l k b c x.decision y.decision
 
 stop_or_unbound : OneOutcome → (f : Files) (names : BoundNames) (stop : ReadStop) (reason : NoBounds) → StopsReading (Held f) names stop → AreUnbound (Held f) names reason → ⊥
 stop_or_unbound law f names stop reason s u = stop_or_read law f names stop u.real u.lower u.upper u.bytes s u.read

@@ -12,8 +12,8 @@ use Rattle.boardnet.proofs.Sound.{Sound, HoldsHanded, held_fit}
 use Rattle.boardnet.specs.Outcome.{OfFilesRead}
 use Rattle.boardnet.specs.commands.{command_of_words}
 use Rattle.boardnet.specs.Words.{Asks, Command, Check, IsCheck, version_words}
-use Rattle.boardnet.specs.declared.words.Version.{Version}
-use Rattle.boardnet.specs.declared.words.Version.TheVariants.{One, Two}
+use Rattle.reports.specs.declared.judged.Version.{Version}
+use Rattle.reports.specs.declared.judged.Version.TheVariants.{One, Two}
 
 read_check : (version : Version) (manifest : List ℕ) → command_of_words (codes "check" ∷ manifest ∷ version_words version) ≡ Some (Check version manifest)
 read_check One manifest = refl

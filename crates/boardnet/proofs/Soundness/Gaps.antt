@@ -10,7 +10,7 @@ use Rattle.board_shapes.specs.Plain.{PlainBoard}
 use Rattle.boardnet.proofs.Named.{Completes}
 use Rattle.boardnet.proofs.Alike.{same_box, same_gaps}
 use Rattle.boardnet.proofs.Sound.{OneOutcome, Sound, value, HoldsHanded, held_fit}
-use Rattle.boardnet.specs.Gapped.{IsTooWide}
+use Rattle.reports.specs.Gapped.{IsTooWide}
 use Rattle.boardnet.specs.Outcome.{HandedOver, Held, OfFilesRead}
 use Rattle.boardnet.specs.commands.Gaps.{GapsRefuses}
 use Rattle.boardnet.specs.Words.{Asks, Command, Gaps, IsGaps}

@@ -15,7 +15,7 @@ use Rattle.boardnet.specs.commands.X2.{X2Refuses}
 use Rattle.boardnet.specs.Words.{Asks, Command, X2, IsX2}
 use Rattle.boardnet.specs.declared.answer.Unanswered.{Unanswered}
 use Rattle.boardnet.specs.declared.answer.Unanswered.TheVariants.{Mislabelled}
-use Rattle.boardnet.specs.declared.words.Version.TheVariants.{Two}
+use Rattle.reports.specs.declared.judged.Version.TheVariants.{Two}
 
 one_label : OneOutcome → (f : Files) (manifest : List ℕ) (why other : Unanswered) → X2Refuses (Held f) manifest why → X2Refuses (Held f) manifest other → why ≡ other
 one_label law f manifest (Mislabelled name number byte) (Mislabelled file command at) x y =

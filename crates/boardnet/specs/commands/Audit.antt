@@ -1,20 +1,18 @@
 -- The command `audit MANIFEST REPORT`: a report on the package is audited.
-use Rattle.std.specs.Prelude.{◌≡◌, ◌⊎◌, ℕ, List, [], ◌∷◌, ◌++◌, codes, decimal, map, string_bytes, String, Option, Some, None}
+use Rattle.std.specs.Prelude.{◌≡◌, ◌⊎◌, ℕ, List, [], ◌∷◌, codes, map, string_bytes, String, Option, Some, None}
 use Rattle.std.specs.declared.alloc.Global.{Global}
 use Rattle.board_package.specs.PackageBoard.{Stop}
 use Rattle.board_shapes.specs.Plain.{PlainBoard}
 use Rattle.board_shapes.specs.Tables.{IsTables}
 use Rattle.boardnet.specs.Command.{Command, Audit}
-use Rattle.boardnet.specs.Lines.{counted_line, plain_line, end}
 use Rattle.boardnet.specs.Source.{Source, ComesBy, FitsBefore, FitsThen, IsFileWith, IsFirstStopBy, NextBy, StopsFileBy}
 use Rattle.boardnet.specs.Task.{Task, on_package}
 use Rattle.boardnet.specs.declared.answer.Unanswered.{Unanswered}
 use Rattle.boardnet.specs.declared.answer.Unanswered.TheVariants.{NotAReport}
+use Rattle.reports.specs.Rulings.{HasRuling, IsNoReport, IsTextOf}
 use Rattle.lengths.specs.Text.{IsText}
 use Rattle.tables.specs.Tables.{Tables}
-use Rattle.verdict.specs.Lawful.{IsVerdict}
 use Rattle.verdict.specs.ReportText.{report_text}
-use Rattle.verdict.specs.Right.{FailsFirst, IsRight}
 use Rattle.verdict.specs.declared.verdict.Verdict.{Verdict}
 
 -- `audit`, the name of a manifest and the name of a report
@@ -22,21 +20,6 @@ pub record IsAudit (words : List (String Global)) (manifest report : List ℕ) :
   pub spelled : map string_bytes words ≡ codes "audit" ∷ manifest ∷ report ∷ []
   pub manifest_text : IsText manifest
   pub report_text : IsText report
-
--- The bytes are the text of this verdict.
-pub record IsTextOf (bytes : List ℕ) (verdict : Verdict) : Type 0 where
-  pub lawful : IsVerdict verdict
-  pub text_is : bytes ≡ report_text verdict
-
--- The bytes are the text of no verdict.
-abbrev pub IsNoReport : List ℕ → Type 0
-IsNoReport bytes = (verdict : Verdict) → IsTextOf bytes verdict → ⊥
-
--- What an audit answers: true, or the number of the first clause that does not hold; with the status and the line.
-abbrev pub HasRuling : Tables → Verdict → List ℕ → ℕ → List ℕ → Type 0
-HasRuling tables v text status line =
-    (IsRight tables v × (text ≡ codes "audit true" ++ end) × (status ≡ 0) × (line ≡ plain_line (codes "audit true")))
-    ⊎ ((n : ℕ) × FailsFirst tables v n × (text ≡ codes "audit untrue " ++ decimal n ++ end) × (status ≡ 1) × (line ≡ counted_line (codes "audit untrue ") n))
 
 -- The package fits, with this board, and the report behind it is the text of this verdict.
 abbrev pub IsReadAs : Source → List ℕ → List ℕ → PlainBoard → Verdict → Type 0

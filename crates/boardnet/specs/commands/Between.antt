@@ -1,9 +1,10 @@
 -- The command `between REAL LOWER UPPER COUNTS`: a package that may have arcs and macros is judged by two packages that bound it.
-use Rattle.std.specs.Prelude.{◌≡◌, ◌⊎◌, ⊤, ℕ, List, [], ◌∷◌, codes, map, string_bytes, String, Option, Some, None}
+use Rattle.std.specs.Prelude.{◌≡◌, ◌⊎◌, ⊤, ℕ, List, [], ◌∷◌, codes, length, map, string_bytes, String, Option, Some, None}
 use Rattle.std.specs.declared.alloc.Global.{Global}
 use Rattle.board_package.specs.PackageBoard.{Stop, not_json, bad_manifest, frame_too_large}
 use Rattle.board_shapes.specs.Plain.{PlainBoard}
-use Rattle.boardnet.specs.Bounded.{AreBoundedBy, IsDecisionOn, IsUnboundBy}
+use Rattle.boardnet.specs.Bounded.{AreBoundedBy, IsUnboundBy}
+use Rattle.reports.specs.Decision.{IsDecisionOn}
 use Rattle.boardnet.specs.Command.{BoundNames, Command, Between, bound_names}
 use Rattle.boardnet.specs.Source.{Source, ComesBy, FitsBefore, FitsRealBefore, FitsRealThen, FitsThen, IsFileBy, IsFirstRealStopBy, IsFirstStopBy, NextBy, RealComesBy, StopsFileBy}
 use Rattle.boardnet.specs.Task.{Task, on_package}
@@ -77,7 +78,7 @@ pub record AreBounded (source : Source) (names : BoundNames) : Type 0 where
 -- So it is, and this is the text of right verdicts on both, with its status and its line.
 pub record IsDecided (source : Source) (names : BoundNames) (text : List ℕ) (status : ℕ) (line : List ℕ) : Type 0 where
   pub bounds : AreBounded source names
-  pub decision : IsDecisionOn bounds.real bounds.lower bounds.upper text status line
+  pub decision : IsDecisionOn (length bounds.real.pieces) bounds.lower bounds.upper text status line
 
 -- The packages fit, but the boards are no bounds of the real one, for this reason.
 pub record AreUnbound (source : Source) (names : BoundNames) (reason : NoBounds) : Type 0 where

@@ -2,11 +2,11 @@
 use Rattle.std.specs.Prelude.{◌≡◌, ℕ, List, [], ◌∷◌, codes, map, string_bytes, String, Option, Some, None}
 use Rattle.std.specs.declared.alloc.Global.{Global}
 use Rattle.boardnet.specs.Command.{Command, Check}
-use Rattle.boardnet.specs.Right.{IsReportOn}
+use Rattle.reports.specs.Right.{IsReportOn}
 use Rattle.boardnet.specs.Source.{Source, FitsWith}
 use Rattle.boardnet.specs.Task.{Task, on_package}
-use Rattle.boardnet.specs.declared.words.Version.{Version}
-use Rattle.boardnet.specs.declared.words.Version.TheVariants.{One, Two}
+use Rattle.reports.specs.declared.judged.Version.{Version}
+use Rattle.reports.specs.declared.judged.Version.TheVariants.{One, Two}
 use Rattle.lengths.specs.Text.{IsText}
 
 -- what stands behind the manifest's name: nothing for version 2, and `1` for version 1

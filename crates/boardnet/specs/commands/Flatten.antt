@@ -3,7 +3,7 @@ use Rattle.std.specs.Prelude.{◌≡◌, ℕ, List, [], ◌∷◌, codes, map, s
 use Rattle.std.specs.declared.alloc.Global.{Global}
 use Rattle.board_shapes.specs.Plain.{PlainPiece}
 use Rattle.boardnet.specs.Command.{Command, Flatten}
-use Rattle.boardnet.specs.Lines.{plain_line}
+use Rattle.reports.specs.Lines.{plain_line}
 use Rattle.boardnet.specs.Source.{Source, IsFileBy, NextBy, StopsFileBy}
 use Rattle.boardnet.specs.Task.{Task, on_package}
 use Rattle.boardnet.specs.declared.answer.Unanswered.{Unanswered}

@@ -4,7 +4,7 @@ use Rattle.std.specs.Prelude.{◌≡◌, ◌≤◌, ℕ, List, [], ◌∷◌, co
 use Rattle.std.specs.declared.alloc.Global.{Global}
 use Rattle.board_shapes.specs.Plain.{Fits, PlainBoard}
 use Rattle.boardnet.specs.Command.{Command, Gaps}
-use Rattle.boardnet.specs.Gapped.{IsGapListOn, IsTooWide}
+use Rattle.reports.specs.Gapped.{IsGapListOn, IsTooWide}
 use Rattle.boardnet.specs.Source.{Source, FitsWith, IsBoardBy}
 use Rattle.boardnet.specs.Task.{Task, on_package}
 use Rattle.boardnet.specs.declared.answer.Unanswered.{Unanswered}

@@ -1,18 +1,17 @@
 -- The command `trial SEED SIZE`: the made board of two numbers is checked.
-use Rattle.std.specs.List.{concat}
 use Rattle.std.specs.Str.Parse.{digits_value}
-use Rattle.std.specs.Prelude.{◌≡◌, ◌<◌, ◌≤◌, ◌⊎◌, ℕ, List, [], ◌∷◌, length, Some, codes, decimal, ◌^◌, map, string_bytes, String, Option, None}
+use Rattle.std.specs.Prelude.{◌≡◌, ◌<◌, ◌≤◌, ℕ, List, [], ◌∷◌, Some, codes, decimal, ◌^◌, map, string_bytes, String, Option, None}
 use Rattle.std.specs.declared.alloc.Global.{Global}
 use Rattle.board_maker.specs.MadePackage.{made_files}
 use Rattle.board_package.specs.PackageBoard.{IsBoardOf, IsFirstStop}
 use Rattle.board_shapes.specs.Plain.{PlainBoard}
 use Rattle.boardnet.specs.Command.{Command, Trial}
-use Rattle.boardnet.specs.Lines.{plain_line, end}
-use Rattle.boardnet.specs.Right.{IsRightOn}
+use Rattle.reports.specs.Lines.{plain_line}
+use Rattle.reports.specs.Right.{IsRightOn}
 use Rattle.boardnet.specs.Task.{Task}
 use Rattle.boardnet.specs.declared.answer.Unanswered.{Unanswered}
 use Rattle.boardnet.specs.declared.answer.Unanswered.TheVariants.{SizeTooLarge}
-use Rattle.verdict.specs.ReportText.{Agrees}
+use Rattle.reports.specs.Summary.{IsStatusOf, summary_text}
 use Rattle.verdict.specs.declared.verdict.Verdict.{Verdict}
 
 -- `trial`, a seed below 2^64 and a size below 2^32, as decimals without a sign or a leading zero
@@ -24,16 +23,6 @@ pub record IsTrial (words : List (String Global)) (seed size : ℕ) : Type 0 whe
 -- the name of a made package's manifest
 abbrev pub made_manifest : List ℕ
 made_manifest = codes "m.json"
-
--- the summary of a verdict on a made board: its two numbers, and the count of each part of the verdict
-abbrev pub summary_text : ℕ → ℕ → Verdict → List ℕ
-summary_text seed size v = concat (codes "trial " ∷ decimal seed ∷ codes " " ∷ decimal size
-    ∷ codes "\npieces " ∷ decimal v.pieces ∷ codes "\nnets " ∷ decimal (length v.nets) ∷ codes "\npoints " ∷ decimal (length v.points)
-    ∷ codes "\nopens " ∷ decimal (length v.opens) ∷ codes "\nshorts " ∷ decimal (length v.shorts) ∷ codes "\nmissing " ∷ decimal (length v.bare) ∷ end ∷ [])
-
--- the status of a verdict, as for `check`
-abbrev pub IsStatusOf : Verdict → ℕ → Type 0
-IsStatusOf v status = (Agrees v × (status ≡ 0)) ⊎ ((Agrees v → ⊥) × (status ≡ 1))
 
 -- The made package fits, and this is the summary of a right verdict on its board, with its status and its line.
 pub record IsTrialReport (seed size : ℕ) (text : List ℕ) (status : ℕ) (line : List ℕ) : Type 0 where

@@ -4,10 +4,10 @@ use Rattle.std.specs.declared.alloc.Global.{Global}
 use Rattle.board_package.specs.PackageBoard.{IsWithinLimits}
 use Rattle.board_shapes.specs.Plain.{PlainBoard}
 use Rattle.boardnet.specs.Command.{Command, Write}
-use Rattle.boardnet.specs.Lines.{plain_line}
+use Rattle.reports.specs.Lines.{plain_line}
 use Rattle.boardnet.specs.Source.{Source, IsBoardBy}
 use Rattle.boardnet.specs.Task.{Task, on_package}
-use Rattle.boardnet.specs.Written.{IsNetlistOn}
+use Rattle.reports.specs.Written.{IsNetlistOn}
 use Rattle.lengths.specs.Text.{IsText}
 
 -- `write` and the name of a manifest

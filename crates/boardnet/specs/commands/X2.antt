@@ -6,12 +6,12 @@ use Rattle.board_shapes.specs.Plain.{PlainBoard}
 use Rattle.board_shapes.specs.Touching.{Joined}
 use Rattle.board_shapes.specs.declared.probe.Probe.{Probe}
 use Rattle.boardnet.specs.Command.{Command, X2}
-use Rattle.boardnet.specs.Right.{IsReportOn}
+use Rattle.reports.specs.Right.{IsReportOn}
 use Rattle.boardnet.specs.Source.{Source, IsFirstLabelledStopBy, IsLabelledBoardBy, LabelledComesBy}
 use Rattle.boardnet.specs.Task.{Task, on_package}
 use Rattle.boardnet.specs.declared.answer.Unanswered.{Unanswered}
 use Rattle.boardnet.specs.declared.answer.Unanswered.TheVariants.{Mislabelled}
-use Rattle.boardnet.specs.declared.words.Version.TheVariants.{Two}
+use Rattle.reports.specs.declared.judged.Version.TheVariants.{Two}
 use Rattle.lengths.specs.Text.{IsText}
 use Rattle.verdict.specs.Right.{HaveOneNet}
 use Rattle.verdict.specs.declared.verdict.Verdict.{Verdict}

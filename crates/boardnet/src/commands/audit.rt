@@ -3,31 +3,28 @@
 //!
 //! 0: it is. 1: it is the text of another verdict. 3: the first refusal of the package, or of the report behind it.
 ghost use Rattle.board_package.specs.Causes.{HandedCause, KeepsFaults};
-ghost use Rattle.board_shapes.specs.Laws.{HasOneTables};
 ghost use Rattle.board_shapes.specs.Plain.{plain_board};
 ghost use Rattle.boardnet.specs.Command.{asked};
-ghost use Rattle.boardnet.specs.Answers.{Answers, IsRuledOn, IsUnruled};
+ghost use Rattle.boardnet.specs.Answers.{IsUnruled};
 ghost use Rattle.boardnet.specs.HandedOutcome.{WorksOn};
 ghost use Rattle.boardnet.specs.Kept.{Leaves, LeftBy, Spares};
 ghost use Rattle.boardnet.specs.Outcome.{ComesFor, HandedOver, IsAuditStop};
 ghost use Rattle.boardnet.specs.Source.{FitsBefore, IsFileBy};
 ghost use Rattle.boardnet.specs.Words.{Audit, IsText};
+ghost use Rattle.reports.specs.Rulings.{IsRulingOn};
 ghost use Rattle.std.specs.Prelude.{IfErr, IfNone, IfOk, IfSome, ◌≡◌};
 
-use crate::answer::{Answer, Answered, Note, Unanswered};
+use crate::answer::{Answered, Unanswered};
+use crate::boards::board_of;
 use crate::commands::Command;
-use crate::judged::board_of;
-use crate::putting::joined;
 use crate::refusing::name_of;
 use board_io::Package;
 use board_package::{BuildFault, take_file};
-use board_shapes::{Board, laws as shapes};
-use lengths::rows::NoMemory;
+use board_shapes::Board;
 use lengths::text::is_text;
+use reports::{Answer, ruled};
 use std::alloc::Global;
-use texts::Numeral;
-use verdict::{ReadFault, read_report};
-use witness_check::{Ruling, audit};
+use verdict::ReadFault;
 
 /// `audit MANIFEST REPORT`: an audit of the report.
 pub fn of_words<'a>(manifest: &'a str, report: &'a str) -> Option<Command<'a>>
@@ -52,36 +49,7 @@ pub fn ruling<P: Package>(alloc: Global, manifest: &str, report: &str, package: 
     let mut file = Vec::new(alloc);
     let board = taken(alloc, manifest, report, package, &mut file)?;
     let ruling = ruling_on(alloc, &board, file.as_slice())?;
-    Ok(answer_of(alloc, ruling)?)
-}
-
-// The answer that says a ruling.
-fn answer_of(alloc: Global, ruling: Ruling) -> Result<Answer, NoMemory>
-    ensures { IfOk result (Answers ruling) }
-{
-    match ruling {
-        Ruling::True => {
-            let text = joined(alloc, &[b"audit true\n"])?;
-            Ok(Answer {
-                text,
-                note: Note::AuditTrue,
-            })
-        }
-        Ruling::Untrue(clause) => {
-            let text = joined(
-                alloc,
-                &[
-                    b"audit untrue ",
-                    Numeral::of(u64::from(clause)).as_bytes(),
-                    b"\n",
-                ],
-            )?;
-            Ok(Answer {
-                text,
-                note: Note::AuditUntrue { clause },
-            })
-        }
-    }
+    Ok(ruling)
 }
 
 // Builds the board, and then takes the report.
@@ -105,16 +73,13 @@ fn taken<P: Package>(
     Ok(board)
 }
 
-// The ruling on the verdict whose text this is. The calls of laws do nothing when the program runs.
-fn ruling_on(alloc: Global, board: &Board, text: &[u8]) -> Result<Ruling, Unanswered>
-    ensures one { HasOneTables (plain_board board.now) }
-    ensures ok { IfOk result (λ ruling. IsRuledOn (plain_board board.now) text.now ruling) }
+// The answer that says the ruling on the verdict whose text this is.
+fn ruling_on(alloc: Global, board: &Board, text: &[u8]) -> Result<Answer, Unanswered>
+    ensures ok { IfOk result (IsRulingOn (plain_board board.now) text.now) }
     ensures fault { IfErr result (IsUnruled text.now) }
 {
-    shapes::boards_are_lawful();
-    shapes::tables_are_unique();
-    match read_report(alloc, text) {
-        Ok(verdict) => Ok(audit(alloc, board, &verdict)?),
+    match ruled(alloc, board, text) {
+        Ok(answer) => Ok(answer),
         Err(ReadFault::NotAReport) => Err(Unanswered::NotAReport),
         Err(ReadFault::NoMemory) => Err(Unanswered::Stopped(BuildFault::NoMemory)),
     }

@@ -8,8 +8,10 @@ ghost use Rattle.arc_covers.specs.Counts.{AreCounts};
 ghost use Rattle.board_package.specs.HandedBoard.{ComesHanded, IsBoardHanded, IsFirstStopHanded};
 ghost use Rattle.board_shapes.specs.LawfulBoard.{IsLawfulBoard};
 ghost use Rattle.board_shapes.specs.Plain.{plain_board};
-ghost use Rattle.boardnet.specs.Answers.{behind_of, line_of, status_of};
-ghost use Rattle.boardnet.specs.Bounded.{AreBoundedBy, HasOtherNetlist, IsDecisionOn};
+ghost use Rattle.boardnet.specs.Answers.{behind_of};
+ghost use Rattle.reports.specs.Notes.{line_of, status_of};
+ghost use Rattle.boardnet.specs.Bounded.{AreBoundedBy, HasOtherNetlist};
+ghost use Rattle.reports.specs.Decision.{IsDecisionOn};
 ghost use Rattle.boardnet.specs.Command.{asked};
 ghost use Rattle.boardnet.specs.HandedOutcome.{HasHandedReason, WorksOn};
 ghost use Rattle.boardnet.specs.Kept.{Leaves, LeftBy, Spares};
@@ -20,11 +22,8 @@ ghost use Rattle.boardnet.specs.commands.Between.{AreRead};
 ghost use Rattle.real_package.specs.RealBoards.{HasNetlistOf, plain_real_board};
 ghost use Rattle.std.specs.Prelude.{IfErr, IfNone, IfOk, IfSome, IsTrue, length, ◌≡◌, ◌↔◌};
 
-use crate::answer::{Answer, Answered, Note, Unanswered};
-use crate::between_text::write_between;
+use crate::answer::{Answered, Unanswered};
 use crate::commands::Command;
-use crate::findings::{certain, undecided};
-use crate::judged::verdict_on;
 use crate::refusing::name_of;
 use crate::unbound::Unbound;
 use arc_covers::{BoundsFault, Counts, CountsFault, Side, check_between, read_counts};
@@ -34,6 +33,7 @@ use board_shapes::Board;
 use lengths::rows::NoMemory;
 use lengths::text::{Text, is_text};
 use real_package::{RealBoard, build_real, has_its_netlist};
+use reports::{Answer, decision_on};
 use std::alloc::Global;
 
 // The names of the three manifests, and of the file of counts.
@@ -250,23 +250,8 @@ fn bounded(alloc: Global, boards: &Boards, bytes: &[u8]) -> Result<(), Unanswere
 fn decided(alloc: Global, boards: &Boards) -> Result<Answer, NoMemory>
     requires lower { IsLawfulBoard (plain_board boards.now.lower) }
     requires upper { IsLawfulBoard (plain_board boards.now.upper) }
-    ensures { IfOk result (λ answer. IsDecisionOn (plain_real_board boards.now.real) (plain_board boards.now.lower) (plain_board boards.now.upper) answer.text.items (status_of answer.note) (line_of answer.note)) }
+    ensures { IfOk result (λ answer. IsDecisionOn (length (plain_real_board boards.now.real).pieces) (plain_board boards.now.lower) (plain_board boards.now.upper) answer.text.items (status_of answer.note) (line_of answer.note)) }
 {
-    let below = verdict_on(alloc, &boards.lower)?;
-    let above = verdict_on(alloc, &boards.upper)?;
-    let sure = certain(alloc, &below, &above)?;
-    let unsure = undecided(alloc, &below, &above)?;
     let count = boards.real.pieces.as_slice().len();
-    let text = write_between(
-        alloc,
-        count,
-        boards.lower.probes(),
-        boards.lower.names(),
-        &below,
-        &above,
-        &sure,
-        &unsure,
-    )?;
-    let note = Note::between(&sure, &unsure);
-    Ok(Answer { text, note })
+    decision_on(alloc, count, &boards.lower, &boards.upper)
 }

@@ -7,15 +7,15 @@ ghost use Rattle.boardnet.specs.HandedOutcome.{WorksOn};
 ghost use Rattle.boardnet.specs.Kept.{Leaves, LeftBy, Spares};
 ghost use Rattle.boardnet.specs.Command.{asked};
 ghost use Rattle.boardnet.specs.Words.{Check, IsText};
-ghost use Rattle.boardnet.specs.declared.words.Version.TheVariants.{One};
+ghost use Rattle.reports.specs.declared.judged.Version.TheVariants.{One};
 ghost use Rattle.std.specs.Prelude.{IfNone, IfSome, codes, ◌≡◌};
 
 use crate::answer::Answered;
+use crate::boards::board_of;
 use crate::commands::Command;
-use crate::judged::{board_of, report_on};
-use crate::words::Version;
 use board_io::Package;
 use lengths::text::is_text;
+use reports::{Version, report_on};
 use std::alloc::Global;
 
 /// `check MANIFEST 1`: a check of version 1.

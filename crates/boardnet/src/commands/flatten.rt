@@ -6,11 +6,12 @@ ghost use Rattle.boardnet.specs.HandedOutcome.{WorksOn};
 ghost use Rattle.boardnet.specs.Kept.{Leaves, LeftBy, Spares};
 ghost use Rattle.boardnet.specs.Words.{Flatten, IsText};
 
-use crate::answer::{Answer, Answered, Note};
+use crate::answer::Answered;
 use crate::refusing::name_of;
 use board_io::Package;
 use board_package::take_file;
 use macro_flatten::flatten;
+use reports::{Answer, Note};
 use std::alloc::Global;
 
 /// The text of the image of a copper file.

@@ -2,24 +2,22 @@
 //!
 //! 0, 1: as of `check`. 3: there is no board of the size.
 ghost use Rattle.boardnet.specs.Command.{asked};
-ghost use Rattle.boardnet.specs.Answers.{line_of, status_of};
+ghost use Rattle.reports.specs.Notes.{line_of, status_of};
 ghost use Rattle.boardnet.specs.HandedOutcome.{HasHandedReason};
-ghost use Rattle.boardnet.specs.Outcome.{IsBoardOf, IsTrialReport, PlainBoard, Source, made_files, made_manifest, summary_text};
-ghost use Rattle.boardnet.specs.Right.{IsRightOn};
+ghost use Rattle.boardnet.specs.Outcome.{IsBoardOf, IsTrialReport, PlainBoard, Source, made_files, made_manifest};
+ghost use Rattle.reports.specs.Right.{IsRightOn};
 ghost use Rattle.boardnet.specs.Trials.{IsUnlost};
 ghost use Rattle.boardnet.specs.Words.{Trial};
 ghost use Rattle.std.specs.Prelude.{IfErr, IfNone, IfOk, IfSome, List, decimal, ℕ, ◌<◌, ◌≡◌, ◌≤◌, ◌^◌};
 
-use crate::answer::{Answer, Answered, Note, Unanswered};
+use crate::answer::{Answered, Unanswered};
+use crate::boards::board_of;
 use crate::commands::Command;
-use crate::judged::{board_of, verdict_on};
-use crate::putting::joined;
 use crate::words::{MADE_MANIFEST, count_of, number_of};
 use board_maker::make;
 use board_package::BuildFault;
-use lengths::rows::NoMemory;
+use reports::{Answer, Note, summary_of, verdict_on};
 use std::alloc::Global;
-use texts::Numeral;
 use verdict::Verdict;
 
 /// `trial SEED SIZE`: a check of the made board of both numbers.
@@ -65,32 +63,4 @@ fn unlost(fault: BuildFault) -> BuildFault
         BuildFault::CannotRead(_) => BuildFault::NoMemory,
         other => other,
     }
-}
-
-// The summary of a verdict.
-fn summary_of(alloc: Global, seed: u64, size: u32, verdict: &Verdict) -> Result<Vec<u8>, NoMemory>
-    ensures { IfOk result (λ text. text.items ≡ summary_text seed size verdict.now) }
-{
-    joined(
-        alloc,
-        &[
-            b"trial ",
-            Numeral::of(seed).as_bytes(),
-            b" ",
-            Numeral::of(u64::from(size)).as_bytes(),
-            b"\npieces ",
-            Numeral::of(u64::from(verdict.pieces)).as_bytes(),
-            b"\nnets ",
-            Numeral::of(verdict.nets.as_slice().len() as u64).as_bytes(),
-            b"\npoints ",
-            Numeral::of(verdict.points.as_slice().len() as u64).as_bytes(),
-            b"\nopens ",
-            Numeral::of(verdict.opens.as_slice().len() as u64).as_bytes(),
-            b"\nshorts ",
-            Numeral::of(verdict.shorts.as_slice().len() as u64).as_bytes(),
-            b"\nmissing ",
-            Numeral::of(verdict.bare.as_slice().len() as u64).as_bytes(),
-            b"\n",
-        ],
-    )
 }

@@ -8,11 +8,10 @@ ghost use Rattle.boardnet.specs.Kept.{Leaves, LeftBy, Spares};
 ghost use Rattle.boardnet.specs.Words.{IsText, X2};
 
 use crate::answer::Answered;
-use crate::judged::report_on;
 use crate::refusing::name_of;
-use crate::words::Version;
 use board_io::Package;
 use board_package::{build_labelled, laws as packages};
+use reports::{Version, report_on};
 use std::alloc::Global;
 
 /// The report on the package of a manifest by the net names in its copper files.

@@ -1,5 +1,5 @@
 use Rattle.std.proofs.Common.{List, ℕ, subst, sym}
-use Rattle.boardnet.specs.Lines.{Says, manifest_frame_line}
+use Rattle.reports.specs.Lines.{Says, manifest_frame_line}
 use Rattle.boardnet.specs.Outcome.{reason_line}
 use Rattle.boardnet.proofs.refusing.put_reason.Goals as goal
 

@@ -12,7 +12,7 @@ use Rattle.boardnet.proofs.Soundness.Write.{netlisted_named, of_write}
 use Rattle.boardnet.proofs.Soundness.X2.{labelled_named, of_x2}
 use Rattle.boardnet.specs.Command.{asked}
 use Rattle.boardnet.specs.Ends.{Ends, HasText, TakesFiles}
-use Rattle.boardnet.specs.Lines.{Says}
+use Rattle.reports.specs.Lines.{Says}
 use Rattle.boardnet.specs.Outcome.{HandedOver, Held, OutcomeOf, Refused, Told}
 use Rattle.boardnet.specs.HandedOutcome.{EndsHanded}
 use Rattle.boardnet.specs.Words.{Audit, Between, Check, Flatten, Gaps, Trial, Write, X2}

@@ -19,5 +19,5 @@ returns-in_err-ruling-clause-work g c =
 
 pub returns-clause-work : goal.returns-clause-work
 returns-clause-work g c =
-    ruled (HandedOver (g.P.Package.handed c.args.package.now) (g.P.Package.handed c.taken.new.package)) c.args.manifest.now c.args.report.now (plain_board c.in_ok-board.board) c.taken.new.file.items c.as_slice.result.now c.in_ok-ruling.ruling c.in_ok-answer_of.field-0
-    c.in_ok-board.ensures.handed c.in_ok-ruling.ensures.one c.as_slice.ensures.value c.in_ok-ruling.ensures.ok c.in_ok-answer_of.ensures
+    ruled (HandedOver (g.P.Package.handed c.args.package.now) (g.P.Package.handed c.taken.new.package)) c.args.manifest.now c.args.report.now (plain_board c.in_ok-board.board) c.taken.new.file.items c.as_slice.result.now c.in_ok-ruling.ruling
+    c.in_ok-board.ensures.handed c.as_slice.ensures.value c.in_ok-ruling.ensures.ok

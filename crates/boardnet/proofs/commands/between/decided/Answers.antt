@@ -1,17 +1,12 @@
-use Rattle.std.proofs.Common.{ap, length, sym, ◌∙◌}
+use Rattle.std.proofs.Common.{ℕ, IfOk, ap, length, subst, sym, ◌∙◌}
 use Rattle.std.proofs.lemmas.List.{length-map}
 use Rattle.arc_layer.specs.Real.{plain_real}
-use Rattle.boardnet.proofs.Readings.{decision_by, text_alike}
+use Rattle.board_shapes.specs.Plain.{plain_board}
+use Rattle.reports.specs.Decision.{IsDecisionOn}
+use Rattle.reports.specs.Notes.{line_of, status_of}
 use Rattle.boardnet.proofs.commands.between.decided.Goals as goal
 
 pub returns : goal.returns
-returns c = record {
-  below = c.in_ok-below.below;
-  above = c.in_ok-above.above;
-  lower_lawful = c.requires.lower;
-  upper_lawful = c.requires.upper;
-  lower_right = c.in_ok-below.ensures.right;
-  upper_right = c.in_ok-above.ensures.right;
-  text_is = c.in_ok-text.ensures ∙ text_alike _ _ _ _ _ _ c.in_ok-below.below c.in_ok-above.above c.in_ok-sure.sure c.in_ok-unsure.unsure (ap length c.as_slice-count.ensures.value ∙ sym (length-map c.args.boards.now.real.pieces.items plain_real)) c.probes.ensures.items c.names.ensures.items c.in_ok-sure.ensures c.in_ok-unsure.ensures;
-  status_is = decision_by c.in_ok-below.below c.in_ok-above.above c.in_ok-sure.sure c.in_ok-unsure.unsure _ _ c.in_ok-sure.ensures c.in_ok-unsure.ensures c.between-note.ensures;
-}
+returns c =
+    subst (λ (n : ℕ). IfOk c.decision_on.result (λ answer. IsDecisionOn n (plain_board c.args.boards.now.lower) (plain_board c.args.boards.now.upper) answer.text.items (status_of answer.note) (line_of answer.note)))
+    (ap length c.as_slice-count.ensures.value ∙ sym (length-map c.args.boards.now.real.pieces.items plain_real)) c.decision_on.ensures

@@ -2,7 +2,7 @@ use Rattle.std.proofs.Common.{subst}
 use Rattle.board_package.proofs.Lift.{climbs}
 use Rattle.board_shapes.specs.Plain.{plain_board}
 use Rattle.boardnet.proofs.Readings.{decided_is, left_calm, unbounded_reason}
-use Rattle.boardnet.specs.Answers.{line_of, status_of}
+use Rattle.reports.specs.Notes.{line_of, status_of}
 use Rattle.boardnet.specs.Command.{BoundNames}
 use Rattle.boardnet.specs.HandedOutcome.{HasHandedReason}
 use Rattle.boardnet.specs.Outcome.{HandedOver}

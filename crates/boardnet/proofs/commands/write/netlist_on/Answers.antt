@@ -1,6 +1,0 @@
-use Rattle.board_shapes.specs.Plain.{plain_board}
-use Rattle.boardnet.proofs.OnBoard.{forest_on}
-use Rattle.boardnet.proofs.commands.write.netlist_on.Goals as goal
-
-pub write_netlist-requires : goal.write_netlist-requires
-write_netlist-requires c = record { nets = forest_on (plain_board c.args.board.now) c.in_ok-verdict.verdict c.in_ok-verdict.ensures.right }

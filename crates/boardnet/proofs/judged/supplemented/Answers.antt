@@ -1,6 +1,0 @@
-use Rattle.board_shapes.specs.Plain.{plain_board}
-use Rattle.boardnet.proofs.Supplements.{supplemented_on}
-use Rattle.boardnet.proofs.judged.supplemented.Goals as goal
-
-pub returns-clause-right : goal.returns-clause-right
-returns-clause-right c = supplemented_on (plain_board c.args.board.now) c.args.verdict c.in_ok-more.more c.requires c.in_ok-more.ensures.right

@@ -1,0 +1,9 @@
+pub mod Besides
+pub mod Decided
+pub mod OnBoard
+pub mod Rulings
+pub mod Says
+pub mod SmallNetlists
+pub mod SmallParts
+pub mod Supplements
+pub mod Ways

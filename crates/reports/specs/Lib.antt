@@ -1,0 +1,11 @@
+pub mod BetweenText
+pub mod Decision
+pub mod Findings
+pub mod Gapped
+pub mod Laws
+pub mod Lines
+pub mod Notes
+pub mod Right
+pub mod Rulings
+pub mod Summary
+pub mod Written
