@@ -68,7 +68,7 @@ unfoldable pub all_judged : Copper → List PlainPrimitive → List Fraction →
 all_judged copper [] parameters unit = Ok tt
 all_judged copper (p ∷ body) parameters unit = judged copper p parameters unit >>= λ done. all_judged copper body parameters unit
 
--- an aperture n of the macro of this name and body with these parameters, where these vector lines are taken
+-- an aperture n of the macro of this name and body with these parameters, of such copper
 unfoldable pub compose_as : Copper → Known → ℕ → List ℕ → List PlainPrimitive → List Fraction → Measure → Result Effect FlattenKind
 compose_as copper k n name body parameters unit =
     unless (is_some (k.defined n)) (Gerber kind.ApertureTwice) (unless (nat_le MOST_APERTURES k.definitions) (Gerber kind.TooManyApertures)
@@ -111,7 +111,7 @@ abbrev pub is_function : Command → Bool
 is_function (functions function layer) = true
 is_function other = false
 
--- Where copper is flattened, vector lines run along an axis, and a file's function is any.
+-- Where copper is flattened, it is taken exactly, and a file's function is any.
 unfoldable pub row_with_macros : Known → Command → Result Effect FlattenKind
 row_with_macros k c = if is_function c then Ok stays else macro_row Exact k c
 

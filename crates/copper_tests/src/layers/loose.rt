@@ -65,7 +65,7 @@ fn files() -> [(&'static str, &'static str); 8] {
         ),
         // A rectangle of 2 mm by 1 mm that is turned by 45 degrees, as KiCad writes it.
         (
-            "%AMR*21,1,$1,$2,0,0,$3*%%ADD10R,2X1X45*%D10*X1000000D03*M02*",
+            "%AMT*21,1,$1,$2,0,0,$3*%%ADD10T,2X1X45*%D10*X1000000D03*M02*",
             "[0 -5000000][20000000 -5000000][20000000 5000000][0 5000000][0 -5000000][10000000 0][10015000 0] on 1 by 7.0",
         ),
         // The file's function is judged, and how a slanted line is turned.
