@@ -72,7 +72,7 @@ class TestDegrees(unittest.TestCase):
     def test_the_contours_are_taken(self):
         """Wherever they are flashed; nothing below only where the figure is small."""
         rng = random.Random(63)
-        for angle in angles(rng, 400):
+        for angle in angles(rng, 200):
             (first, last), at = cone_of(angle), tuple(rng.randint(-METRE // 2, METRE // 2) for _ in "xy")
             for corners in outlines(rng):
                 below, above = turned_bounds(tuple(corners), angle)
@@ -85,7 +85,7 @@ class TestDegrees(unittest.TestCase):
     def test_the_figure_lies_between(self):
         """By intervals, at the angle itself."""
         rng = random.Random(64)
-        for angle in angles(rng, 100):
+        for angle in angles(rng, 60):
             turn = cos_sin(Q(angle, 10 ** 7))
             for corners in outlines(rng):
                 (below, above), real = turned_bounds(tuple(corners), angle), [turned(pointed(p), turn) for p in corners]
@@ -120,7 +120,7 @@ class TestDegrees(unittest.TestCase):
     def test_the_cone_holds_the_angle(self):
         """Its ways are on both sides of that by half the angle, and the check takes them."""
         rng = random.Random(66)
-        for angle in [*angles(rng, 2000), *range(RIGHT // 360, RIGHT, RIGHT // 360)]:
+        for angle in [*angles(rng, 500), *range(RIGHT // 360, RIGHT, RIGHT // 360)]:
             first, last = cone_of(angle)
             c, s = cos_sin(Q(angle, 2 * 10 ** 7))
             turn = lambda way: plus(times(exact(way[0]), s), minus(times(exact(way[1]), c)))
