@@ -9,7 +9,12 @@ use texts::Numeral;
 use verdict::Verdict;
 
 /// The summary of a verdict on the made board of both numbers.
-pub fn summary_of(alloc: Global, seed: u64, size: u32, verdict: &Verdict) -> Result<Vec<u8>, NoMemory>
+pub fn summary_of(
+    alloc: Global,
+    seed: u64,
+    size: u32,
+    verdict: &Verdict,
+) -> Result<Vec<u8>, NoMemory>
     ensures { IfOk result (λ text. text.items ≡ summary_text seed size verdict.now) }
 {
     joined(
