@@ -78,9 +78,9 @@ fn real_packages(rt: HostRuntime) -> Result<(), Fail> {
             "layers 2 pieces 3 arcs 0 lines 1 probes 2, 5 files",
         ),
         (
-            "%AMV*20,1,0.2,0,0,1.0,0.5,45*%",
+            "%AMV*20,1,0.2,0,0,1.0,0.5,45*%%ADD11V*%",
             b"",
-            "t.gbr 35 Turn 6 42, 2 files",
+            "t.gbr 35 Turn 7 68, 2 files",
         ),
         (
             "G75*G02X1000000I500000J0D01*G01X0D01*",
