@@ -1,4 +1,4 @@
-"""Tries docs/CLAIMS.md: that it has each clause of the top call and names no other, and that its laws are there."""
+"""Tries docs/CLAIMS.md: that it has each clause of the top call and names no other, that its laws are there, and that crates' pages have all others."""
 import glob
 import os
 import re
@@ -26,6 +26,14 @@ def rows(head):
     return found
 
 
+def laws_told():
+    """The page's laws with their crates: of a row that names none, those of the row before."""
+    before = []
+    for laws, crates, *_ in rows("Law"):
+        before = NAME.findall(crates) or before
+        yield from ((crate, law) for crate in before for law in NAME.findall(laws))
+
+
 def laws_of(crate):
     """The source of a crate's laws: its root, where it has nothing else."""
     name = "laws.rt" if os.path.exists(os.path.join(common.TOP, "crates", crate, "src", "laws.rt")) else "lib.rt"
@@ -51,9 +59,12 @@ class Claims(unittest.TestCase):
             self.assertTrue(named <= edits, named - edits)
 
     def test_laws(self):
-        before = []
-        for laws, crates, *_ in rows("Law"):
-            before = NAME.findall(crates) or before
-            for crate in before:
-                for law in NAME.findall(laws):
-                    self.assertRegex(laws_of(crate), rf"pub fn {law}\b", (crate, law))
+        for crate, law in laws_told():
+            self.assertRegex(laws_of(crate), rf"pub fn {law}\b", (crate, law))
+
+    def test_other_laws(self):
+        told = set(laws_told())
+        for path in sorted(glob.glob(os.path.join(common.TOP, "crates", "*", "src", "laws.rt"))):
+            crate = os.path.relpath(path, os.path.join(common.TOP, "crates")).split(os.sep)[0]
+            for law in re.findall(r"(?m)^pub fn (\w+)", laws_of(crate)):
+                self.assertTrue((crate, law) in told or re.search(rf"\b{law}\b", read("crates", crate, "README.md")), (crate, law))

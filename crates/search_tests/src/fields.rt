@@ -1,6 +1,6 @@
 // Discs on layers: who touches whom, and who is under a place.
 ghost use Rattle.contact.specs.Round.{IsLawful, box_of};
-ghost use Rattle.contact.specs.RoundLaws.{boxed, boxes_share, not_empty, shared_by_itself, turned};
+ghost use Rattle.contact.specs.RoundLaws.{boxed, boxes_share, not_empty, shared_by_itself};
 ghost use Rattle.contact.specs.Solid.{IsInside};
 ghost use Rattle.planar.specs.Plane.{InCapsule, IsPlaced};
 ghost use Rattle.std.specs.Prelude.{◌≡◌, ◌<◌, ◌≤◌, ◌↔◌, All, IfOk, IfSome, IsTrue};
@@ -254,8 +254,6 @@ impl<'a> Meets<Counted<'a>> for Counted<'a> {
     fn meets<L: Ledger>(&self, other: &Counted<'a>, frame: Frame, tests: &mut Steps<L>) -> bool {
         self.round.meets(&other.round, frame, tests)
     }
-
-    ghost symmetric = { λ s t h k m. turned m };
 
     ghost reflexive = { λ s h. shared_by_itself s.round.a s.round.b s.round.r h };
 

@@ -179,7 +179,7 @@ class Taken(made.Case):
         ("regions with arcs, two distances", UNEVEN, [record("A", "J1.1", 1, .5), record("A", "J1.2", .8, 1.5)], "agrees"),
     ]
 
-    # Pads that are turned by degrees, which not every program reads.
+    # Behind TURNED.
     TURNED_ROWS = [
         ("a turned pad", ["D20*", "X0Y0D03*"], [record("A", "J1.1", .779, .45), record("A", "J1.2", -.779, -.45)], "agrees"),
         ("a short by a turned pad", ["D20*", "X0Y0D03*"], [record("A", "J1.1", .779, .45), record("B", "J1.2", -.779, -.45)], "differs"),
@@ -200,25 +200,17 @@ class Taken(made.Case):
         status, out, notes = self.show(name, program=program)
         return status, out.split(" (lower")[0].split(":")[1], notes
 
-    def test_rows(self):
+    def try_rows(self, rows, before=()):
         program = having_between()
-        for name, lines, records, word in self.ROWS:
+        for name, lines, records, word in rows:
             with self.subTest(name):
-                self.assertEqual(self.told(program, name, lines, records), (STATUSES[word], f" {word}, between two bounds, proved", ""))
+                self.assertEqual(self.told(program, name, [*before, *lines], records), (STATUSES[word], f" {word}, between two bounds, proved", ""))
 
-    def takes_turned(self, program):
-        """Whether the program reads such pads: then it is the counts that it refuses."""
-        pad, none = ("\n".join([*HEAD, *lines, "M02*", ""]) for lines in ([*TURNED, "D20*", "X0Y0D03*"], []))
-        self.board({"m.json": manifest(), "side.json": manifest(["side.gbr"]), "top.gbr": pad, "side.gbr": none, "n.ipc": netlist(A, B), "c.txt": ""}, "probe")
-        return "top.gbr" not in self.run_words([program, "between", "m.json", "side.json", "side.json", "c.txt"], self.path("probe"))[2]
+    def test_rows(self):
+        self.try_rows(self.ROWS)
 
     def test_turned_rows(self):
-        program = having_between()
-        proved_or_not = ", proved" if self.takes_turned(program) else ""
-        for name, lines, records, word in self.TURNED_ROWS:
-            with self.subTest(name):
-                status, line, notes = self.told(program, name, [*TURNED, *lines], records)
-                self.assertEqual((status, line, notes), (STATUSES[word], f" {word}, between two bounds{proved_or_not}", ""))
+        self.try_rows(self.TURNED_ROWS, TURNED)
 
     def test_kept_out(self):
         """What is not taken, and said without the word: an arc that has no place, and an arc and a primitive that `show` alone reads."""
