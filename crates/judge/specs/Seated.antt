@@ -27,6 +27,10 @@ abbrev pub with_point : Option ℕ → ℕ → List Seat → List Seat
 with_point None probe seats = seats
 with_point (Some net) probe seats = with_seat seats (record { net = net; probe = probe })
 
+-- the name has these seats now, and each other name those that it had
+abbrev pub HasNow : ℕ → List Seat → List (List Seat) → List (List Seat) → Type 0
+HasNow name seats old new = (seats_at new name ≡ seats) × ((other : ℕ) → other ≢ name → seats_at new other ≡ seats_at old other)
+
 -- the point of that number got its seat, and no other name did
 abbrev pub IsSeated : PointLine → ℕ → List (List Seat) → List (List Seat) → Type 0
-IsSeated line probe old new = (seats_at new line.name ≡ with_point line.net probe (seats_at old line.name)) × ((other : ℕ) → other ≢ line.name → seats_at new other ≡ seats_at old other)
+IsSeated line probe old new = HasNow line.name (with_point line.net probe (seats_at old line.name)) old new

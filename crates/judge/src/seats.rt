@@ -1,7 +1,7 @@
 //! The points of each name, grouped by nets.
-ghost use Rattle.judge.specs.Seated.{AreSeated, IsFurther, IsSeated, with_seat};
+ghost use Rattle.judge.specs.Seated.{AreSeated, HasNow, IsFurther, IsSeated, with_seat};
 ghost use Rattle.verdict.specs.Seats.{AreFirstSeats, seats_at};
-ghost use Rattle.std.specs.Prelude.{◌≡◌, ◌≢◌, ℕ, ◌<◌, ◌^◌, [], length, All, IfOk, OnOk};
+ghost use Rattle.std.specs.Prelude.{◌≡◌, ◌<◌, ◌^◌, [], length, All, IfOk, OnOk};
 
 use indexmap::IndexSet;
 use lengths::rows::{NoMemory, Rows, empty_rows};
@@ -86,8 +86,7 @@ fn seat_point(
     requires name { name < length groups.old }
     requires agree { AreSeated pairs.old.keys groups.old }
     ensures agree { OnOk result (AreSeated pairs.new.keys groups.new) }
-    ensures seats { OnOk result (seats_at groups.new name ≡ with_seat (seats_at groups.old name) seat) }
-    ensures others { OnOk result ((other : ℕ) → other ≢ name → seats_at groups.new other ≡ seats_at groups.old other) }
+    ensures seated { OnOk result (HasNow name (with_seat (seats_at groups.old name) seat) groups.old groups.new) }
 {
     match groups[name as usize].as_slice() {
         [] => groups[name as usize].push(seat),
@@ -111,8 +110,7 @@ fn seat_further(
     requires further { IsFurther (seats_at groups.old name) seat }
     requires agree { AreSeated pairs.old.keys groups.old }
     ensures agree { OnOk result (AreSeated pairs.new.keys groups.new) }
-    ensures seats { OnOk result (seats_at groups.new name ≡ with_seat (seats_at groups.old name) seat) }
-    ensures others { OnOk result ((other : ℕ) → other ≢ name → seats_at groups.new other ≡ seats_at groups.old other) }
+    ensures seated { OnOk result (HasNow name (with_seat (seats_at groups.old name) seat) groups.old groups.new) }
 {
     let first = pairs.insert((name, seat.net))?;
     if first {
