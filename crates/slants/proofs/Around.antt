@@ -1,19 +1,19 @@
 -- What holds at the three corners of the triangle of a cone holds at each turn of it, and so of a figure and an edge.
-use Rattle.std.proofs.Common.{All, Bool, false, IsTrue, ◌≡◌, ◌↔◌, ◌⊎◌, inl, inr, ℤ, pos, neg_ℤ, ◌+ℤ◌, ◌-ℤ◌, ◌*ℤ◌, ◌≤ℤ◌, List, [], ◌∷◌, arith, refl, subst}
+use Rattle.std.proofs.Common.{Bool, false, IsTrue, ◌≡◌, ◌⊎◌, inl, inr, ℤ, pos, neg_ℤ, ◌+ℤ◌, ◌-ℤ◌, ◌*ℤ◌, ◌≤ℤ◌, List, [], ◌∷◌, arith, refl, subst}
 use Rattle.planar.specs.declared.Spot.{Spot}
-use Rattle.planar.specs.Plane.{IsPlaced, Point, cross_of, dot_of}
+use Rattle.planar.specs.Plane.{Point, cross_of, dot_of}
 use Rattle.planar.proofs.Ring.{ring, linear, times_from_zero, times_cancel, over_zero, times-zero, mul-neg}
 use Rattle.board_shapes.specs.Figures.{InFigure, filled}
-use Rattle.area_contact.specs.Contour.{InArea, IsClosed, edges_from, end_from}
+use Rattle.area_contact.specs.Contour.{InArea, edges_from, end_from}
 use Rattle.area_contact.specs.Parity.{side_of}
-use Rattle.slants.specs.Taken.{Each, GoesRound}
-use Rattle.slants.specs.Turned.{AreReady, EachLeans, InTurned, IsBetween, IsTurn, Leans, LeansIn, TurnedAbove, TurnedBelow, back_of, lean_of, meet_of, mirrored, turned_back}
+use Rattle.slants.specs.Taken.{Each}
+use Rattle.slants.specs.Turned.{AllLean, InTurned, IsBetween, IsTurn, Leans, TurnedAbove, TurnedBelow, back_of, lean_of, meet_of, mirrored, turned_back}
 use Rattle.slants.specs.declared.turns.Heading.{Heading}
 use Rattle.slants.specs.declared.turns.Motions.{Motions}
 use Rattle.slants.specs.declared.turns.Turn.{Turn}
 use Rattle.slants.proofs.Corners.{each_as}
 use Rattle.slants.proofs.Halves.{Under, area_under}
-use Rattle.slants.proofs.Quadrilateral.{lies_inside}
+use Rattle.slants.proofs.Inside.{lies_inside}
 
 -- ---- the cone
 
@@ -153,33 +153,21 @@ above_turned [] m points t p h k inside = absurd (none inside.inside)
     none : ⊥ ⊎ ⊥ → ⊥
     none (inl z) = z
     none (inr z) = z
-above_turned (a ∷ rest) m points t p h k inside = rw h.round.is (lies_inside h.round.b h.round.c h.round.d h.round.e p h.round.turns (left h.round.b h.round.c (λ q l. l.first)) (left h.round.c h.round.d (λ q l. l.second)) (left h.round.d h.round.e (λ q l. l.third)) (left h.round.e h.round.b (λ q l. l.fourth)))
+above_turned (a ∷ rest) m points t p h k inside = lies_inside points p left h.round
   where
-    left : (b c : Spot) → ((q : Spot) → LeansIn m h.round.b h.round.c h.round.d h.round.e q → Leans m b c q) → pos 0 ≤ℤ side_of b c p.x p.y p.n
-    left b c pick = above_left m t inside.some b c a rest p h.closed (each_as (λ q l. leans_at m t b c q k (pick q l)) (a ∷ rest) h.round.holds) inside.inside
+    left : (b c : Spot) → AllLean (a ∷ rest) m b c → pos 0 ≤ℤ side_of b c p.x p.y p.n
+    left b c all = above_left m t inside.some b c a rest p h.closed (each_as (λ q l. leans_at m t b c q k l) (a ∷ rest) all) inside.inside
 
 pub below_turned : (figure : List Spot) (m : Motions) (points : List Spot) (t : Turn) (p : Point) → TurnedBelow figure m points → IsBetween m t → InFigure (filled points) p → InTurned figure m t p
 below_turned figure m [] t p h k (inl z) = absurd z
 below_turned figure m [] t p h k (inr z) = absurd z
-below_turned figure m (a ∷ rest) t p h k inside = record {
-  some = k.some;
-  inside = rw h.round.is (lies_inside h.round.b h.round.c h.round.d h.round.e (turned_back m t k.some p) h.round.turns (left h.round.b h.round.c (λ q l. l.first)) (left h.round.c h.round.d (λ q l. l.second)) (left h.round.d h.round.e (λ q l. l.third)) (left h.round.e h.round.b (λ q l. l.fourth)));
-}
+below_turned figure m (a ∷ rest) t p h k inside = record { some = k.some; inside = lies_inside figure (turned_back m t k.some p) left h.round }
   where
     at_back : (b c q : Spot) → Leans (back_of m) b c q → pos 0 ≤ℤ lean_of (back_of m) b c (heading_back t) q
     at_back b c q l = subst (λ (d : Heading). pos 0 ≤ℤ lean_of (back_of m) b c d q) (meets_back t) (leans_at (back_of m) (mirrored t) b c q (back_between m t k) l)
 
-    left : (b c : Spot) → ((q : Spot) → LeansIn (back_of m) h.round.b h.round.c h.round.d h.round.e q → Leans (back_of m) b c q) → pos 0 ≤ℤ side_of b c (turned_back m t k.some p).x (turned_back m t k.some p).y (turned_back m t k.some p).n
-    left b c pick = below_left m t k.some b c a rest p h.closed (each_as (λ q l. at_back b c q (pick q l)) (a ∷ rest) h.round.holds) inside
-
--- ---- what the code tells
-
-pub turned_read : (figure : List Spot) (m : Motions) (points : List Spot) (t : Bool) → AreReady m → All IsPlaced figure → All IsPlaced points → IsClosed figure
-    → IsTrue t ↔ GoesRound (EachLeans figure m) points → IsTrue t ↔ TurnedAbove figure m points
-turned_read figure m points t ready figure_placed placed closed told = (
-  λ yes. record { ready = ready; figure_placed = figure_placed; placed = placed; closed = closed; round = told.0 yes },
-  λ h. told.1 h.round,
-)
+    left : (b c : Spot) → AllLean (a ∷ rest) (back_of m) b c → pos 0 ≤ℤ side_of b c (turned_back m t k.some p).x (turned_back m t k.some p).y (turned_back m t k.some p).n
+    left b c all = below_left m t k.some b c a rest p h.closed (each_as (at_back b c) (a ∷ rest) all) inside
 
 pub no_more : {b : Bool} → IsTrue b → b ≡ false → ⊥
 no_more t e = cc

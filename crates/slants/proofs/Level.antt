@@ -1,17 +1,18 @@
 -- A line back, and a level line.
-use Rattle.std.proofs.Common.{◌≡◌, ◌↔◌, ℕ, ◌+◌, ◌≤◌, ℤ, pos, neg_ℤ, ◌+ℤ◌, ◌-ℤ◌, ◌*ℤ◌, ◌≤ℤ◌, arith, refl, sym, subst, ◌∙◌}
+use Rattle.std.proofs.Common.{◌≡◌, ◌↔◌, inl, inr, ℕ, ◌+◌, ◌≤◌, ℤ, pos, neg_ℤ, ◌+ℤ◌, ◌-ℤ◌, ◌*ℤ◌, ◌≤ℤ◌, [], ◌∷◌, arith, refl, sym, subst, ◌∙◌}
 use Rattle.std.proofs.lemmas.Int.{ints}
 use Rattle.planar.specs.declared.Spot.{Spot}
 use Rattle.planar.specs.Plane.{Point, at, dot_of, square}
 use Rattle.planar.proofs.Ring.{ring, linear, times_from_zero, times_mono, times_cancel, square_cancel, over_zero, square-neg, mul-neg, mul-add_left, mul-add_right, one-times, times-zero}
 use Rattle.board_shapes.specs.Figures.{InFigure, filled}
+use Rattle.area_contact.specs.Parity.{is_lt, not_lt, side_of}
 use Rattle.board_shapes.specs.Rectangles.{rectangle}
 use Rattle.slants.specs.Copper.{InSlant}
 use Rattle.slants.specs.Laws.{LevelIsRectangle, OtherWayIsSame}
-use Rattle.slants.specs.Taken.{TurnsLeft}
+use Rattle.slants.specs.Rounds.{GoesOnce}
 use Rattle.slants.specs.declared.Slant.{Slant}
 use Rattle.slants.proofs.Corners.{corners_lie, square_between}
-use Rattle.slants.proofs.Quadrilateral.{lies_inside}
+use Rattle.slants.proofs.Inside.{lies_left}
 
 -- ---- back
 
@@ -62,15 +63,6 @@ twice_height n h = mul-add_right n h h ∙ sym (double (n *ℤ h))
 -- the turns of the rectangle, and a point's sides of its edges
 turn_b : (u v w h : ℤ) → (v -ℤ u) *ℤ ((w +ℤ h) -ℤ (w -ℤ h)) -ℤ ((w -ℤ h) -ℤ (w -ℤ h)) *ℤ (v -ℤ u) ≡ (v -ℤ u) *ℤ (h +ℤ h)
 turn_b u v w h = simp ring (omega (arith, linear))
-
-turn_c : (u v w h : ℤ) → (v -ℤ v) *ℤ ((w +ℤ h) -ℤ (w -ℤ h)) -ℤ ((w +ℤ h) -ℤ (w -ℤ h)) *ℤ (u -ℤ v) ≡ (v -ℤ u) *ℤ (h +ℤ h)
-turn_c u v w h = simp ring (omega (arith, linear))
-
-turn_d : (u v w h : ℤ) → (u -ℤ v) *ℤ ((w -ℤ h) -ℤ (w +ℤ h)) -ℤ ((w +ℤ h) -ℤ (w +ℤ h)) *ℤ (u -ℤ v) ≡ (v -ℤ u) *ℤ (h +ℤ h)
-turn_d u v w h = simp ring (omega (arith, linear))
-
-turn_e : (u v w h : ℤ) → (u -ℤ u) *ℤ ((w -ℤ h) -ℤ (w +ℤ h)) -ℤ ((w -ℤ h) -ℤ (w +ℤ h)) *ℤ (v -ℤ u) ≡ (v -ℤ u) *ℤ (h +ℤ h)
-turn_e u v w h = simp ring (omega (arith, linear))
 
 side_b : (u v w h x y n : ℤ) → (v -ℤ u) *ℤ (y -ℤ n *ℤ (w -ℤ h)) +ℤ (n *ℤ u -ℤ x) *ℤ ((w -ℤ h) -ℤ (w -ℤ h)) ≡ (v -ℤ u) *ℤ (y -ℤ (n *ℤ w -ℤ n *ℤ h))
 side_b u v w h x y n = simp ring (omega (arith, linear))
@@ -180,23 +172,34 @@ module _ (s : Spot) (v : ℤ) (h k : ℕ) (right : pos 1 ≤ℤ (v -ℤ s.x)) (w
     round : pos 1 ≤ℤ (l *ℤ (pos h +ℤ pos h))
     round = over_zero l (pos h +ℤ pos h) right (omega (arith, ints))
 
-    turns : TurnsLeft b c d e
-    turns = record {
-      first = rw (turn_b s.x v s.y (pos h)) round;
-      second = rw (turn_c s.x v s.y (pos h)) round;
-      third = rw (turn_d s.x v s.y (pos h)) round;
-      fourth = rw (turn_e s.x v s.y (pos h)) round;
+    once : GoesOnce b (c ∷ d ∷ e ∷ b ∷ [])
+    once = record {
+      once = inr (rw (
+        not_lt (s.y -ℤ pos h) (s.y -ℤ pos h) (omega (arith, linear)),
+        is_lt (s.y -ℤ pos h) (s.y +ℤ pos h) (omega (arith, ints, some)),
+        not_lt (s.y +ℤ pos h) (s.y +ℤ pos h) (omega (arith, linear)),
+        not_lt (s.y +ℤ pos h) (s.y -ℤ pos h) (omega (arith, ints)),
+      ) (omega arith));
+      wide = λ all. omega (arith, linear, all.1.0, round, turn_b s.x v s.y (pos h));
     }
 
     slant_in : (p : Point) → InSlant line p → InFigure (filled (rectangle b d)) p
-    slant_in p q = lies_inside b c d e p turns
-        (rw (side_b s.x v s.y (pos h) p.x p.y p.n) (times_from_zero l (p.y -ℤ (p.n *ℤ s.y -ℤ p.n *ℤ pos h)) from (omega (arith, linear, boxed.not_below))))
-        (rw (side_c v s.y (pos h) p.x p.y p.n) (times_from_zero (p.n *ℤ v -ℤ p.x) (pos h +ℤ pos h) (omega (arith, linear, boxed.not_right)) (omega (arith, ints))))
-        (rw (side_d s.x v s.y (pos h) p.x p.y p.n) (times_from_zero l ((p.n *ℤ s.y +ℤ p.n *ℤ pos h) -ℤ p.y) from (omega (arith, linear, boxed.not_above))))
-        (rw (side_e s.x s.y (pos h) p.x p.y p.n) (times_from_zero (p.x -ℤ p.n *ℤ s.x) (pos h +ℤ pos h) (omega (arith, linear, boxed.not_left)) (omega (arith, ints))))
+    slant_in p q = lies_left (rectangle b d) p (refl, once, inl (low, (right_side, (top, (left_side, tt)))))
       where
         boxed : IsBoxed s.x v s.y (pos h) p.x p.y p.n
         boxed = box_out p q
+
+        low : pos 0 ≤ℤ side_of b c p.x p.y p.n
+        low = rw (side_b s.x v s.y (pos h) p.x p.y p.n) (times_from_zero l (p.y -ℤ (p.n *ℤ s.y -ℤ p.n *ℤ pos h)) from (omega (arith, linear, boxed.not_below)))
+
+        right_side : pos 0 ≤ℤ side_of c d p.x p.y p.n
+        right_side = rw (side_c v s.y (pos h) p.x p.y p.n) (times_from_zero (p.n *ℤ v -ℤ p.x) (pos h +ℤ pos h) (omega (arith, linear, boxed.not_right)) (omega (arith, ints)))
+
+        top : pos 0 ≤ℤ side_of d e p.x p.y p.n
+        top = rw (side_d s.x v s.y (pos h) p.x p.y p.n) (times_from_zero l ((p.n *ℤ s.y +ℤ p.n *ℤ pos h) -ℤ p.y) from (omega (arith, linear, boxed.not_above)))
+
+        left_side : pos 0 ≤ℤ side_of e b p.x p.y p.n
+        left_side = rw (side_e s.x s.y (pos h) p.x p.y p.n) (times_from_zero (p.x -ℤ p.n *ℤ s.x) (pos h +ℤ pos h) (omega (arith, linear, boxed.not_left)) (omega (arith, ints)))
 
 pub level_is_rectangle : LevelIsRectangle
 level_is_rectangle a h p right level width some =

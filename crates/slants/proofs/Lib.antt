@@ -1,12 +1,12 @@
 mod Around
 mod Circle
 mod Corners
-mod Fan
 mod Halves
+mod Inside
 mod Level
 mod Near
 mod Parts
-mod Quadrilateral
 mod Read
+mod Runs
 mod Sides
 mod Sums

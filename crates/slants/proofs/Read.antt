@@ -1,7 +1,6 @@
 -- What the code's numbers and answers tell.
-use Rattle.std.proofs.Common.{◌≡◌, ◌↔◌, Bool, false, IsTrue, Some, sym, FitsSigned, to_z, of_z, to_z-of_z, ℕ, ◌+◌, ◌*◌, ◌≤◌, ℤ, pos, negsuc, unsigned_abs, ◌+ℤ◌, ◌-ℤ◌, ◌*ℤ◌, ◌≤ℤ◌, ◌<ℤ◌, inl, inr, length, List, [], ◌∷◌, slice_index_or, suc, arith, ap, subst, refl, ◌∙◌}
+use Rattle.std.proofs.Common.{◌≡◌, ◌↔◌, Bool, IsTrue, sym, FitsSigned, to_z, of_z, to_z-of_z, ℕ, ◌+◌, ◌*◌, ◌≤◌, ℤ, pos, negsuc, unsigned_abs, ◌+ℤ◌, ◌-ℤ◌, ◌*ℤ◌, ◌≤ℤ◌, ◌<ℤ◌, inl, inr, List, suc, arith, ap, subst, refl, ◌∙◌}
 use Rattle.std.proofs.lemmas.Int.{ints}
-use Rattle.std.specs.Bool.{⊤}
 use Rattle.std.specs.Int.{w128}
 use Rattle.planar.specs.declared.Spot.{Spot}
 use Rattle.planar.specs.declared.TheConstants.{TWO_METRES}
@@ -9,10 +8,11 @@ use Rattle.planar.specs.Plane.{IsPlaced, IsWithin, at, cross_of, dot_of, square}
 use Rattle.planar.proofs.Ring.{ring, linear, le_or_lt, one-times, times_mono, square_mono, square-neg}
 use Rattle.area_contact.specs.Parity.{side_of}
 use Rattle.slants.specs.Copper.{InSlant, along_of}
-use Rattle.slants.specs.Taken.{AreCorners, ArePlaced, GoesRound, HasRoot, Keeps, KeepsAll, TakenAbove, band, reach}
+use Rattle.slants.specs.Taken.{HasRoot, Keeps, band, reach}
 use Rattle.slants.specs.declared.measures.TheConstants.{FINE}
 use Rattle.slants.specs.declared.Slant.{Slant}
-use Rattle.slants.specs.declared.contours.Corners.{Corners}
+use Rattle.slants.specs.Rounds.{GoesRound}
+use Rattle.slants.proofs.Inside.{round_as}
 use Rattle.slants.proofs.Sums.{dot_within}
 
 -- ---- numbers of 128 bits
@@ -105,48 +105,9 @@ not_under m root n h k = elim (le_or_lt m (pos root)) [
   | inr l ↦ absurd (omega (arith, linear, h, k, square_mono (pos (root + 1)) m (omega (arith, ints)) (omega (arith, ints, l))))
 ]
 
-pub root_read : (a : Slant) (b c d e : Spot) (root : ℕ) (t : Bool) → square (pos root) ≤ℤ (square (pos (2 * FINE)) *ℤ dot_of a.start a.end a.end) → (square (pos (2 * FINE)) *ℤ dot_of a.start a.end a.end) <ℤ square (pos (root + 1))
-    → IsTrue t ↔ KeepsAll a (pos root) b c d e → IsTrue t ↔ HasRoot a b c d e
-root_read a b c d e root t under over told = (
-  λ yes. record { root = pos root; from_zero = omega (arith, ints); is = under; edges = told.0 yes },
-  λ h. let l : h.root ≤ℤ pos root = not_under h.root root (square (pos (2 * FINE)) *ℤ dot_of a.start a.end a.end) h.is over in told.1 record {
-    first = keeps_more a h.root (pos root) b c l h.edges.first;
-    second = keeps_more a h.root (pos root) c d l h.edges.second;
-    third = keeps_more a h.root (pos root) d e l h.edges.third;
-    fourth = keeps_more a h.root (pos root) e b l h.edges.fourth;
-  },
+pub root_read : (a : Slant) (points : List Spot) (root : ℕ) (t : Bool) → square (pos root) ≤ℤ (square (pos (2 * FINE)) *ℤ dot_of a.start a.end a.end) → (square (pos (2 * FINE)) *ℤ dot_of a.start a.end a.end) <ℤ square (pos (root + 1))
+    → IsTrue t ↔ GoesRound (Keeps a (pos root)) points → IsTrue t ↔ HasRoot a points
+root_read a points root t under over told = (
+  λ yes. record { root = pos root; from_zero = omega (arith, ints); is = under; round = told.0 yes },
+  λ h. let l : h.root ≤ℤ pos root = not_under h.root root (square (pos (2 * FINE)) *ℤ dot_of a.start a.end a.end) h.is over in told.1 (round_as (λ b c k. keeps_more a h.root (pos root) b c l k) points h.round),
 )
-
--- ---- four corners
-
-abbrev Four : (Spot → Spot → Spot → Spot → Type 0) → List Spot → Type 0
-Four P (b ∷ c ∷ d ∷ e ∷ rest) = P b c d e
-Four P points = ⊥
-
-pub round_read : (P : Spot → Spot → Spot → Spot → Type 0) (points : List Spot) (k : Corners) (t : Bool) → AreCorners (Some k) points → IsTrue t ↔ P k.b k.c k.d k.e → IsTrue t ↔ GoesRound P points
-round_read P points k t corners told = (
-  λ yes. record { b = k.b; c = k.c; d = k.d; e = k.e; is = corners.0; turns = corners.1; holds = told.0 yes },
-  λ h. told.1 (subst (Four P) (sym h.is ∙ corners.0) h.holds),
-)
-
--- points that go round four corners of which something holds go round four corners
-pub any_round : (P : Spot → Spot → Spot → Spot → Type 0) (points : List Spot) → GoesRound P points → GoesRound (λ b c d e. ⊤) points
-any_round P points h = record { b = h.b; c = h.c; d = h.d; e = h.e; is = h.is; turns = h.turns; holds = tt }
-
-pub five_is : (points : List Spot) (d : Spot) → length points ≡ 5 → slice_index_or points 0 d ≡ slice_index_or points 4 d → points ≡ slice_index_or points 0 d ∷ slice_index_or points 1 d ∷ slice_index_or points 2 d ∷ slice_index_or points 3 d ∷ slice_index_or points 0 d ∷ []
-five_is [] d five same = absurd (omega arith)
-five_is (b ∷ []) d five same = absurd (omega arith)
-five_is (b ∷ c ∷ []) d five same = absurd (omega arith)
-five_is (b ∷ c ∷ d ∷ []) z five same = absurd (omega arith)
-five_is (b ∷ c ∷ d ∷ e ∷ []) z five same = absurd (omega arith)
-five_is (b ∷ c ∷ d ∷ e ∷ last ∷ []) z five same = ap (λ (f : Spot). b ∷ c ∷ d ∷ e ∷ f ∷ []) (sym same)
-five_is (b ∷ c ∷ d ∷ e ∷ last ∷ f ∷ more) z five same = absurd (omega arith)
-
-pub above_read : (a : Slant) (points : List Spot) (t : Bool) → ArePlaced a points → IsTrue t ↔ GoesRound (HasRoot a) points → IsTrue t ↔ TakenAbove a points
-above_read a points t placed told = (λ yes. record { placed = placed; round = told.0 yes }, λ h. told.1 h.round)
-
-no_true : IsTrue false → ⊥
-no_true t = cc
-
-pub refused : (X : Type 0) → (X → ⊥) → IsTrue false ↔ X
-refused X not = (λ t. absurd (no_true t), λ x. absurd (not x))

@@ -7,10 +7,10 @@ use Rattle.planar.proofs.Ring.{ring, linear, times_from_zero, times_mono, times_
 use Rattle.board_shapes.specs.Figures.{InFigure, filled}
 use Rattle.area_contact.specs.Parity.{side_of}
 use Rattle.slants.specs.Copper.{InSlant, along_of}
-use Rattle.slants.specs.Taken.{HasRoot, IsOff, Keeps, TakenAbove, rise}
+use Rattle.slants.specs.Taken.{IsOff, Keeps, TakenAbove, rise}
 use Rattle.slants.specs.declared.Slant.{Slant}
 use Rattle.slants.specs.declared.measures.TheConstants.{FINE}
-use Rattle.slants.proofs.Quadrilateral.{lies_inside, own_is}
+use Rattle.slants.proofs.Inside.{lies_inside}
 
 -- ---- lengths by their squares
 
@@ -77,6 +77,9 @@ between n d along c e s v hn hd ha hb h k =
         let none : m *ℤ pos 0 ≡ pos 0 = simp ring in
         times_cancel m (pos 0) ((m -ℤ along) *ℤ c +ℤ along *ℤ e +ℤ t) hm (omega (arith, linear, f, g, same, none))
 
+own_is : (ax ay bx by x y n : ℤ) → (bx -ℤ ax) *ℤ (y -ℤ n *ℤ ay) +ℤ (n *ℤ ax -ℤ x) *ℤ (by -ℤ ay) ≡ (bx -ℤ ax) *ℤ (y -ℤ n *ℤ ay) -ℤ (by -ℤ ay) *ℤ (x -ℤ n *ℤ ax)
+own_is ax ay bx by x y n = simp ring (omega (arith, linear))
+
 side_by : (bx by cx cy sx sy x y n : ℤ) → (cx -ℤ bx) *ℤ (y -ℤ n *ℤ by) +ℤ (n *ℤ bx -ℤ x) *ℤ (cy -ℤ by) ≡ (cx -ℤ bx) *ℤ ((y -ℤ n *ℤ sy) +ℤ n *ℤ (sy -ℤ by)) -ℤ (cy -ℤ by) *ℤ ((x -ℤ n *ℤ sx) +ℤ n *ℤ (sx -ℤ bx))
 side_by bx by cx cy sx sy x y n = simp ring (omega (arith, linear))
 
@@ -129,10 +132,4 @@ module _ (a : Slant) (b c : Spot) (root : ℤ) (apart : pos 1 ≤ℤ dot_of a.st
         times_cancel whole (pos 0) (side_of b c p.x p.y p.n) apart (omega (arith, linear, f, times_side, times-zero whole))
 
 pub above_holds : (a : Slant) (points : List Spot) (p : Point) → TakenAbove a points → InSlant a p → InFigure (filled points) p
-above_holds a points p t inside = rw t.round.is (lies_inside t.round.b t.round.c t.round.d t.round.e p t.round.turns (left t.round.b t.round.c root.edges.first) (left t.round.c t.round.d root.edges.second) (left t.round.d t.round.e root.edges.third) (left t.round.e t.round.b root.edges.fourth))
-  where
-    root : HasRoot a t.round.b t.round.c t.round.d t.round.e
-    root = t.round.holds
-
-    left : (b c : Spot) → Keeps a root.root b c → pos 0 ≤ℤ side_of b c p.x p.y p.n
-    left b c k = on_left a b c root.root inside.apart root.is p inside k
+above_holds a points p t inside = lies_inside points p (λ b c k. on_left a b c t.edges.root inside.apart t.edges.is p inside k) t.edges.round

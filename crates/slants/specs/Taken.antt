@@ -5,7 +5,7 @@ use Rattle.planar.specs.declared.Spot.{Spot}
 use Rattle.area_contact.specs.Contour.{IsClosed}
 use Rattle.slants.specs.Copper.{InSlant}
 use Rattle.slants.specs.declared.Slant.{Slant}
-use Rattle.slants.specs.declared.contours.Corners.{Corners}
+use Rattle.slants.specs.Rounds.{GoesRound}
 use Rattle.slants.specs.declared.measures.TheConstants.{FINE}
 
 -- what is said of a spot holds of each of the list
@@ -61,56 +61,14 @@ IsOff a root b c q = (pos 0 ≤ℤ cross_of b c q) × (pos (reach a b c) ≤ℤ 
 abbrev pub Keeps : Slant → ℤ → Spot → Spot → Type 0
 Keeps a root b c = (reach a b c < 2 ^ 128) × IsOff a root b c a.start × IsOff a root b c a.end
 
--- what is said of two spots holds of the four edges
-pub record OfFour (P : Spot → Spot → Type 0) (b c d e : Spot) : Type 0 where
-  pub first : P b c
-  pub second : P c d
-  pub third : P d e
-  pub fourth : P e b
-
--- the four edges do
-abbrev pub KeepsAll : Slant → ℤ → Spot → Spot → Spot → Spot → Type 0
-KeepsAll a root b c d e = OfFour (Keeps a root) b c d e
-
--- four corners in counterclockwise order, with a left turn at each
-pub record TurnsLeft (b c d e : Spot) : Type 0 where
-  pub first : pos 1 ≤ℤ cross_of b c d
-  pub second : pos 1 ≤ℤ cross_of c d e
-  pub third : pos 1 ≤ℤ cross_of d e b
-  pub fourth : pos 1 ≤ℤ cross_of e b c
-
--- the points go round four corners of which it holds, with a left turn at each, and end with the first
-pub record GoesRound (P : Spot → Spot → Spot → Spot → Type 0) (points : List Spot) : Type 0 where
-  pub b : Spot
-  pub c : Spot
-  pub d : Spot
-  pub e : Spot
-  pub is : points ≡ b ∷ c ∷ d ∷ e ∷ b ∷ []
-  pub turns : TurnsLeft b c d e
-  pub holds : P b c d e
-
--- some whole number is at most the length, in parts of 2 FINE, and serves for each edge
-pub record HasRoot (a : Slant) (b c d e : Spot) : Type 0 where
+-- some whole number is at most the length, in parts of 2 FINE, and serves for each edge of a contour that goes round once
+pub record HasRoot (a : Slant) (points : List Spot) : Type 0 where
   pub root : ℤ
   pub from_zero : pos 0 ≤ℤ root
   pub is : square root ≤ℤ (square (pos (2 * FINE)) *ℤ dot_of a.start a.end a.end)
-  pub edges : KeepsAll a root b c d e
+  pub round : GoesRound (Keeps a root) points
 
--- a contour of four corners that turns left at each, and has the rectangle on the left of each edge
+-- a contour that goes round once, and has the rectangle on the left of each edge
 pub record TakenAbove (a : Slant) (points : List Spot) : Type 0 where
   pub placed : ArePlaced a points
-  pub round : GoesRound (HasRoot a) points
-
--- ---- words that only contracts want
-
--- the corners are within a metre
-pub record ArePlacedCorners (k : Corners) : Type 0 where
-  pub b : IsPlaced k.b
-  pub c : IsPlaced k.c
-  pub d : IsPlaced k.d
-  pub e : IsPlaced k.e
-
--- the four corners that the points go round, with a left turn at each; none where they go round none
-abbrev pub AreCorners : Option Corners → List Spot → Type 0
-AreCorners None points = ¬ GoesRound (λ b c d e. ⊤) points
-AreCorners (Some k) points = (points ≡ k.b ∷ k.c ∷ k.d ∷ k.e ∷ k.b ∷ []) × TurnsLeft k.b k.c k.d k.e
+  pub edges : HasRoot a points

@@ -7,7 +7,8 @@ use Rattle.planar.specs.declared.TheConstants.{TWO_METRES}
 use Rattle.planar.proofs.Ring.{over_zero}
 use Rattle.area_contact.specs.Contour.{IsClosed}
 use Rattle.board_shapes.specs.Figures.{InFigure, filled}
-use Rattle.slants.specs.Taken.{Each, GoesRound, OfFour}
+use Rattle.slants.specs.Rounds.{GoesRound}
+use Rattle.slants.specs.Taken.{Each}
 use Rattle.slants.specs.declared.turned.Parts.{Parts}
 use Rattle.slants.specs.declared.turns.Heading.{Heading}
 use Rattle.slants.specs.declared.turns.Motions.{Motions}
@@ -77,21 +78,17 @@ lean_of m b c d q = cross_of b c m.to *ℤ d.n +ℤ (cross_of b c q -ℤ cross_o
 abbrev pub Leans : Motions → Spot → Spot → Spot → Type 0
 Leans m b c q = (pos 0 ≤ℤ lean_of m b c (meet_of m.first m.first) q) × (pos 0 ≤ℤ lean_of m b c (meet_of m.first m.last) q) × (pos 0 ≤ℤ lean_of m b c (meet_of m.last m.last) q)
 
--- it is so of four edges
-abbrev pub LeansIn : Motions → Spot → Spot → Spot → Spot → Spot → Type 0
-LeansIn m b c d e q = OfFour (λ z w. Leans m z w q) b c d e
+-- and so is each corner of the figure
+abbrev pub AllLean : List Spot → Motions → Spot → Spot → Type 0
+AllLean figure m b c = Each (Leans m b c) figure
 
--- and of each corner of the figure
-abbrev pub EachLeans : List Spot → Motions → Spot → Spot → Spot → Spot → Type 0
-EachLeans figure m b c d e = Each (LeansIn m b c d e) figure
-
--- a closed figure, and a contour of four corners that turns left at each and has each corner of the figure on the left of each edge
+-- a closed figure, and a contour that goes round once and has each corner of the figure on the left of each edge
 pub record TurnedAbove (figure : List Spot) (m : Motions) (points : List Spot) : Type 0 where
   pub ready : AreReady m
   pub figure_placed : All IsPlaced figure
   pub placed : All IsPlaced points
   pub closed : IsClosed figure
-  pub round : GoesRound (EachLeans figure m) points
+  pub round : GoesRound (AllLean figure m) points
 
 -- the motions back
 abbrev pub mirrored : Turn → Turn
@@ -100,6 +97,6 @@ mirrored t = record { x = t.x; y = neg_ℤ t.y }
 abbrev pub back_of : Motions → Motions
 back_of m = record { first = mirrored m.first; last = mirrored m.last; from = m.to; to = m.from }
 
--- the figure has four corners, and is taken above the points that are turned back
+-- the figure goes round once, and is taken above the points that are turned back
 abbrev pub TurnedBelow : List Spot → Motions → List Spot → Type 0
 TurnedBelow figure m points = TurnedAbove points (back_of m) figure

@@ -1,12 +1,13 @@
-//! Whether a polygon of four corners holds a slanted rectangle.
+//! Whether a polygon holds a slanted rectangle.
 ghost use Rattle.board_shapes.specs.Figures.{InFigure, filled};
 ghost use Rattle.planar.specs.Plane.{IsPlaced, Point, cross_of, dot_of};
 ghost use Rattle.slants.specs.Copper.{InSlant};
-ghost use Rattle.slants.specs.Taken.{ArePlacedCorners, HasRoot, IsPlacedSlant, Keeps, KeepsAll, TakenAbove, reach};
-ghost use Rattle.std.specs.Prelude.{IsTrue, SomeIff, pos, unsigned_abs, ◌*◌, ◌<◌, ◌^◌, ◌≤◌, ◌*ℤ◌, ◌≤ℤ◌, ◌↔◌};
+ghost use Rattle.slants.specs.Rounds.{EachEdge, EachFrom, GoesRound, on_way};
+ghost use Rattle.slants.specs.Taken.{HasRoot, IsPlacedSlant, Keeps, TakenAbove, reach};
+ghost use Rattle.std.specs.Prelude.{All, IsTrue, SomeIff, pos, unsigned_abs, ◌*◌, ◌<◌, ◌^◌, ◌≤◌, ◌*ℤ◌, ◌≤ℤ◌, ◌↔◌};
 
 use super::Slant;
-use super::contours::{Corners, corners_of};
+use super::contours::{goes_once, is_closed};
 use super::measures::{FINE, is_ready, root_of};
 use planar::{Spot, cross, dot};
 
@@ -62,38 +63,76 @@ fn keeps(slant: &Slant, root: u128, b: Spot, c: Spot) -> bool
     }
 }
 
-/// Whether each of the four edges does.
-fn keeps_all(slant: &Slant, root: u128, corners: &Corners) -> bool
+/// Whether that from `b` to `c` does, or `back` that from `c` to `b`.
+fn keeps_so(slant: &Slant, root: u128, back: bool, b: Spot, c: Spot) -> bool
     requires slant { IsPlacedSlant slant.now }
-    requires corners { ArePlacedCorners corners.now }
-    ensures { IsTrue result ↔ KeepsAll slant.now (pos root) corners.now.b corners.now.c corners.now.d corners.now.e }
+    requires b_placed { IsPlaced b }
+    requires c_placed { IsPlaced c }
+    ensures { IsTrue result ↔ on_way back (Keeps slant.now (pos root)) b c }
 {
-    let near = keeps(slant, root, corners.b, corners.c) && keeps(slant, root, corners.c, corners.d);
-    let far = keeps(slant, root, corners.d, corners.e) && keeps(slant, root, corners.e, corners.b);
-    near && far
+    if back {
+        keeps(slant, root, c, b)
+    } else {
+        keeps(slant, root, b, c)
+    }
 }
 
-/// Whether they do so for some root.
-fn has_root(slant: &Slant, corners: &Corners) -> bool
+/// Whether each edge of the way from `start` does, or each of the way back.
+fn each_keeps(slant: &Slant, root: u128, back: bool, start: Spot, rest: &[Spot]) -> bool
     requires slant { IsPlacedSlant slant.now }
-    requires corners { ArePlacedCorners corners.now }
-    ensures { IsTrue result ↔ HasRoot slant.now corners.now.b corners.now.c corners.now.d corners.now.e }
+    requires start_placed { IsPlaced start }
+    requires rest_placed { All IsPlaced rest.now }
+    ensures { IsTrue result ↔ EachFrom (on_way back (Keeps slant.now (pos root))) start rest.now }
 {
-    keeps_all(slant, root_of(slant), corners)
+    let mut from = start;
+    for to in rest {
+        if !keeps_so(slant, root, back, from, *to) {
+            return false;
+        }
+        from = *to;
+    }
+    true
 }
 
-/// Whether the polygon of four corners and the first again holds the rectangle. It has to turn left
-/// at each corner, and its edges are compared with the length rounded down in parts of 2 `FINE`. Where
+/// Whether each of one of both does.
+fn keeps_round(slant: &Slant, root: u128, start: Spot, rest: &[Spot]) -> bool
+    requires slant { IsPlacedSlant slant.now }
+    requires start_placed { IsPlaced start }
+    requires rest_placed { All IsPlaced rest.now }
+    ensures { IsTrue result ↔ EachEdge (Keeps slant.now (pos root)) start rest.now }
+{
+    each_keeps(slant, root, false, start, rest) || each_keeps(slant, root, true, start, rest)
+}
+
+/// Whether the polygon goes round the rectangle once.
+fn goes_round(slant: &Slant, root: u128, points: &[Spot]) -> bool
+    requires slant { IsPlacedSlant slant.now }
+    requires placed { All IsPlaced points.now }
+    ensures { IsTrue result ↔ GoesRound (Keeps slant.now (pos root)) points.now }
+{
+    match points {
+        [] => false,
+        [first, rest @ ..] => is_closed(points)
+            && goes_once(*first, rest)
+            && keeps_round(slant, root, *first, rest),
+    }
+}
+
+/// Whether it does so for some root.
+fn has_root(slant: &Slant, points: &[Spot]) -> bool
+    requires slant { IsPlacedSlant slant.now }
+    requires placed { All IsPlaced points.now }
+    ensures { IsTrue result ↔ HasRoot slant.now points.now }
+{
+    goes_round(slant, root_of(slant), points)
+}
+
+/// Whether the polygon, which ends where it begins, holds the rectangle. Its edges have to rise in one run, with the
+/// rectangle on one side of each, and are compared with the length rounded down in parts of 2 `FINE`. Where
 /// it says so, it does; others that do are refused (`TakenAbove`).
 pub fn is_above(slant: &Slant, points: &[Spot]) -> bool
     ensures taken { IsTrue result ↔ TakenAbove slant.now points.now }
     ensures copper { IsTrue result → (p : Point) → InSlant slant.now p → InFigure (filled points.now) p }
 {
-    if !is_ready(slant, points) {
-        return false;
-    }
-    match corners_of(points) {
-        Some(corners) => has_root(slant, &corners),
-        None => false,
-    }
+    is_ready(slant, points) && has_root(slant, points)
 }

@@ -115,8 +115,8 @@ fn turns(about: Spot, angle: u32) -> Motions
     }
 }
 
-/// Whether the polygon of four corners and the first again, which has to turn left at each, holds the figure. Where it
-/// says so, it does at each turn by about the angle; of others that do, it may refuse some (`FigureAbove`).
+/// Whether the polygon, whose edges have to rise in one run, holds the figure. Where it says so, it does at each turn
+/// by about the angle; of others that do, it may refuse some (`FigureAbove`).
 pub fn is_above_figure(figure: &TurnedFigure, points: &[Spot]) -> bool
     ensures taken { IsTrue result ↔ FigureAbove figure.now.contour.items figure.now.about figure.now.angle points.now }
     ensures copper { IsTrue result → (p : Point) → PossiblyTurned figure.now.contour.items figure.now.about figure.now.angle p → InFigure (filled points.now) p }
@@ -125,8 +125,8 @@ pub fn is_above_figure(figure: &TurnedFigure, points: &[Spot]) -> bool
         && is_above_turned(&figure.contour, &turns(figure.about, figure.angle), points)
 }
 
-/// Whether the polygon lies in the figure, which has to have four corners, and to turn left at each. Where it says so, it
-/// does at each turn by about the angle; of others that do, it may refuse some (`FigureBelow`).
+/// Whether the polygon lies in the figure, whose edges have to rise in one run. Where it says so, it does at each turn
+/// by about the angle; of others that do, it may refuse some (`FigureBelow`).
 pub fn is_below_figure(figure: &TurnedFigure, points: &[Spot]) -> bool
     ensures taken { IsTrue result ↔ FigureBelow figure.now.contour.items figure.now.about figure.now.angle points.now }
     ensures copper { IsTrue result → (p : Point) → InFigure (filled points.now) p → SurelyTurned figure.now.contour.items figure.now.about figure.now.angle p }

@@ -1,8 +1,9 @@
-//! Closed contours, and turns.
+//! Closed contours, and which go round once.
 ghost use Rattle.area_contact.specs.Contour.{IsClosed};
-ghost use Rattle.planar.specs.Plane.{IsPlaced, cross_of};
-ghost use Rattle.slants.specs.Taken.{AreCorners, ArePlacedCorners, TurnsLeft};
-ghost use Rattle.std.specs.Prelude.{All, IfSome, IsTrue, pos, ◌≡◌, ◌≤ℤ◌, ◌↔◌};
+ghost use Rattle.planar.specs.Plane.{IsPlaced};
+ghost use Rattle.slants.specs.Rounds as spec;
+ghost use Rattle.slants.specs.Rounds.{EachFrom, GoesOnce, IsFlat, changes};
+ghost use Rattle.std.specs.Prelude.{All, IsTrue, ◌≡◌, ◌≤◌, ◌↔◌};
 
 use planar::{Spot, cross};
 
@@ -20,58 +21,71 @@ pub fn is_closed(points: &[Spot]) -> bool
     points.is_empty() || is_same(points[points.len() - 1], points[0])
 }
 
-/// Whether the way from `a` over `b` to `c` turns left.
-fn turns_left(a: Spot, b: Spot, c: Spot) -> bool
+/// Whether `b` is higher than `a`.
+fn rises(a: Spot, b: Spot) -> bool
+    ensures { result ≡ spec.rises a b }
+{
+    a.y < b.y
+}
+
+/// 1 where one of two ways goes up and the other does not, else 0.
+fn change(up: bool, next: bool) -> u32
+    ensures { result ≡ spec.change up next }
+{
+    if up == next { 0 } else { 1 }
+}
+
+/// Whether the way from `start`, before which it went up or did not, changes at most twice between both.
+fn changes_little(up: bool, start: Spot, rest: &[Spot]) -> bool
+    ensures { IsTrue result ↔ changes up start rest.now ≤ 2 }
+{
+    let mut count = 0;
+    let mut before = up;
+    let mut from = start;
+    for to in rest {
+        let next = rises(from, *to);
+        count += change(before, next);
+        if count > 2 {
+            return false;
+        }
+        before = next;
+        from = *to;
+    }
+    true
+}
+
+/// Whether `a` is on the line through `b` and `c`.
+fn is_flat(a: Spot, b: Spot, c: Spot) -> bool
     requires a_placed { IsPlaced a }
     requires b_placed { IsPlaced b }
     requires c_placed { IsPlaced c }
-    ensures { IsTrue result ↔ pos 1 ≤ℤ cross_of a b c }
+    ensures { IsTrue result ↔ IsFlat a b c }
 {
-    cross(a, b, c) > 0
+    cross(a, b, c) == 0
 }
 
-/// The corners of a polygon of four, in their order.
-#[derive(Clone, Copy)]
-pub struct Corners {
-    pub b: Spot,
-    pub c: Spot,
-    pub d: Spot,
-    pub e: Spot,
-}
-
-/// Whether the way round the corners turns left at each.
-fn is_convex(corners: &Corners) -> bool
-    requires placed { ArePlacedCorners corners.now }
-    ensures { IsTrue result ↔ TurnsLeft corners.now.b corners.now.c corners.now.d corners.now.e }
+/// Whether `start` is on the line of each edge of the way from it.
+fn is_lined(start: Spot, rest: &[Spot]) -> bool
+    requires start_placed { IsPlaced start }
+    requires rest_placed { All IsPlaced rest.now }
+    ensures { IsTrue result ↔ EachFrom (IsFlat start) start rest.now }
 {
-    let near = turns_left(corners.b, corners.c, corners.d)
-        && turns_left(corners.c, corners.d, corners.e);
-    let far = turns_left(corners.d, corners.e, corners.b)
-        && turns_left(corners.e, corners.b, corners.c);
-    near && far
-}
-
-/// The four corners that the points go round, with a left turn at each and back to the first; `None` where
-/// they do not.
-pub fn corners_of(points: &[Spot]) -> Option<Corners>
-    requires placed { All IsPlaced points.now }
-    ensures corners { AreCorners result points.now }
-    ensures placed { IfSome result ArePlacedCorners }
-{
-    match points {
-        [b, c, d, e, last] => {
-            let corners = Corners {
-                b: *b,
-                c: *c,
-                d: *d,
-                e: *e,
-            };
-            if is_same(*b, *last) && is_convex(&corners) {
-                Some(corners)
-            } else {
-                None
-            }
+    let mut from = start;
+    for to in rest {
+        if !is_flat(start, from, *to) {
+            return false;
         }
-        _ => None,
+        from = *to;
     }
+    true
+}
+
+/// Whether the edges of the contour from `start` on rise in one run, and are not all on lines through it.
+pub fn goes_once(start: Spot, rest: &[Spot]) -> bool
+    requires start_placed { IsPlaced start }
+    requires rest_placed { All IsPlaced rest.now }
+    ensures { IsTrue result ↔ GoesOnce start rest.now }
+{
+    let once = changes_little(true, start, rest) || changes_little(false, start, rest);
+    once && !is_lined(start, rest)
 }

@@ -4,9 +4,9 @@
 //! along any whole direction, or holds it; and so of a figure that is turned by any turn between two.
 //!
 //! - `below`: whether a polygon lies in a slanted rectangle.
-//! - `above`: whether a polygon of four corners holds one.
+//! - `above`: whether a polygon holds one.
 //! - `cones`: turns by about an angle, and whether polygons bound a figure that is turned by it.
-//! - `contours`: closed contours, and turns.
+//! - `contours`: closed contours, and which go round once.
 //! - `figure`: figures that are turned by degrees.
 //! - `measures`: whole numbers for the length and the width.
 //! - `turns`: turns, and rigid motions by those between two.

@@ -1,12 +1,12 @@
 //! Whether polygons bound a figure that is turned by any turn between two.
 ghost use Rattle.board_shapes.specs.Figures.{InFigure, filled};
 ghost use Rattle.planar.specs.Plane.{IsPlaced, IsWithin, Point, cross_of, dot_of};
-ghost use Rattle.slants.specs.Taken.{ArePlacedCorners};
-ghost use Rattle.slants.specs.Turned.{AreBounded, AreReady, EachLeans, InTurned, IsBetween, IsBounded, IsSmall, Leans, LeansIn, TurnedAbove, TurnedBelow, lean_of, meet_of};
+ghost use Rattle.slants.specs.Rounds.{EachEdge, EachFrom, GoesRound, on_way};
+ghost use Rattle.slants.specs.Turned.{AllLean, AreBounded, AreReady, InTurned, IsBetween, IsBounded, IsSmall, Leans, TurnedAbove, TurnedBelow, lean_of, meet_of};
 ghost use Rattle.slants.specs.declared.turns.Turn.{Turn as AnyTurn};
 ghost use Rattle.std.specs.Prelude.{All, IsTrue, pos, ◌≡◌, ◌+ℤ◌, ◌-ℤ◌, ◌*ℤ◌, ◌≤ℤ◌, ◌↔◌};
 
-use super::contours::{Corners, corners_of, is_closed};
+use super::contours::{goes_once, is_closed};
 use super::turns::{Heading, Motions, Turn, are_ready, back, meet};
 use planar::{Spot, are_placed, cross, dot};
 
@@ -71,36 +71,84 @@ fn leans(m: &Motions, b: Spot, c: Spot, q: Spot) -> bool
         && leans_so(m, b, c, m.last, m.last, q)
 }
 
-/// Whether it is so of each of the four edges.
-fn leans_in(m: &Motions, corners: &Corners, q: Spot) -> bool
-    requires ready { AreReady m.now }
-    requires corners { ArePlacedCorners corners.now }
-    requires placed { IsPlaced q }
-    ensures { IsTrue result ↔ LeansIn m.now corners.now.b corners.now.c corners.now.d corners.now.e q }
-{
-    let near = leans(m, corners.b, corners.c, q) && leans(m, corners.c, corners.d, q);
-    let far = leans(m, corners.d, corners.e, q) && leans(m, corners.e, corners.b, q);
-    near && far
-}
-
 /// Whether it is so of each corner of the figure.
-fn all_lean(m: &Motions, corners: &Corners, figure: &[Spot]) -> bool
+fn all_lean(m: &Motions, b: Spot, c: Spot, figure: &[Spot]) -> bool
     requires ready { AreReady m.now }
-    requires corners { ArePlacedCorners corners.now }
+    requires b_placed { IsPlaced b }
+    requires c_placed { IsPlaced c }
     requires placed { All IsPlaced figure.now }
-    ensures { IsTrue result ↔ EachLeans figure.now m.now corners.now.b corners.now.c corners.now.d corners.now.e }
+    ensures { IsTrue result ↔ AllLean figure.now m.now b c }
 {
     for q in figure {
-        if !leans_in(m, corners, *q) {
+        if !leans(m, b, c, *q) {
             return false;
         }
     }
     true
 }
 
-/// Whether the polygon of four corners and the first again, which has to turn left at each, holds the
-/// figure of the contour for each of the motions. Where it says so, it does; of others that do, it may
-/// refuse some, the more the further the two turns are apart (`TurnedAbove`).
+/// Whether it is so for the edge from `b` to `c`, or `back` for that from `c` to `b`.
+fn all_lean_so(m: &Motions, back: bool, b: Spot, c: Spot, figure: &[Spot]) -> bool
+    requires ready { AreReady m.now }
+    requires b_placed { IsPlaced b }
+    requires c_placed { IsPlaced c }
+    requires placed { All IsPlaced figure.now }
+    ensures { IsTrue result ↔ on_way back (AllLean figure.now m.now) b c }
+{
+    if back {
+        all_lean(m, c, b, figure)
+    } else {
+        all_lean(m, b, c, figure)
+    }
+}
+
+/// Whether it is so for each edge of the way from `start`, or for each of the way back.
+fn each_leans(m: &Motions, back: bool, start: Spot, rest: &[Spot], figure: &[Spot]) -> bool
+    requires ready { AreReady m.now }
+    requires start_placed { IsPlaced start }
+    requires rest_placed { All IsPlaced rest.now }
+    requires placed { All IsPlaced figure.now }
+    ensures { IsTrue result ↔ EachFrom (on_way back (AllLean figure.now m.now)) start rest.now }
+{
+    let mut from = start;
+    for to in rest {
+        if !all_lean_so(m, back, from, *to, figure) {
+            return false;
+        }
+        from = *to;
+    }
+    true
+}
+
+/// Whether it is so for one of both.
+fn leans_round(m: &Motions, start: Spot, rest: &[Spot], figure: &[Spot]) -> bool
+    requires ready { AreReady m.now }
+    requires start_placed { IsPlaced start }
+    requires rest_placed { All IsPlaced rest.now }
+    requires placed { All IsPlaced figure.now }
+    ensures { IsTrue result ↔ EachEdge (AllLean figure.now m.now) start rest.now }
+{
+    each_leans(m, false, start, rest, figure) || each_leans(m, true, start, rest, figure)
+}
+
+/// Whether the polygon goes round the figure once.
+fn goes_round(m: &Motions, points: &[Spot], figure: &[Spot]) -> bool
+    requires ready { AreReady m.now }
+    requires points_placed { All IsPlaced points.now }
+    requires placed { All IsPlaced figure.now }
+    ensures { IsTrue result ↔ GoesRound (AllLean figure.now m.now) points.now }
+{
+    match points {
+        [] => false,
+        [first, rest @ ..] => is_closed(points)
+            && goes_once(*first, rest)
+            && leans_round(m, *first, rest, figure),
+    }
+}
+
+/// Whether the polygon, which ends where it begins, holds the figure of the contour for each of the motions. Its edges
+/// have to rise in one run, as those of a convex polygon do, with the figure on one side of each. Where it says so, it
+/// does; of others that do, it may refuse some, the more the further the two turns are apart (`TurnedAbove`).
 pub fn is_above_turned(figure: &[Spot], m: &Motions, points: &[Spot]) -> bool
     ensures taken { IsTrue result ↔ TurnedAbove figure.now m.now points.now }
     ensures copper { IsTrue result → (t : AnyTurn) (p : Point) → IsBetween m.now t → InTurned figure.now m.now t p → InFigure (filled points.now) p }
@@ -108,17 +156,11 @@ pub fn is_above_turned(figure: &[Spot], m: &Motions, points: &[Spot]) -> bool
     if !(are_ready(m) && are_placed(figure) && are_placed(points)) {
         return false;
     }
-    if !is_closed(figure) {
-        return false;
-    }
-    match corners_of(points) {
-        Some(corners) => all_lean(m, &corners, figure),
-        None => false,
-    }
+    is_closed(figure) && goes_round(m, points, figure)
 }
 
-/// Whether the polygon lies in the figure of four corners and the first again, which has to turn left at each,
-/// for each of the motions. Where it says so, it does; of others that do, it may refuse some
+/// Whether the polygon lies in the figure for each of the motions. The edges of the figure have to rise in one run, with
+/// the polygon on one side of each. Where it says so, it does; of others that do, it may refuse some
 /// (`TurnedBelow`).
 pub fn is_below_turned(figure: &[Spot], m: &Motions, points: &[Spot]) -> bool
     ensures taken { IsTrue result ↔ TurnedBelow figure.now m.now points.now }
