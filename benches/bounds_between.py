@@ -109,21 +109,37 @@ class Layer:
             f"1,1,{text(w)},{text(x)},{text(y)}", f"21,1,{text(w)},{text(2 * abs(dx))},{text(x)},{text(y)}", "20,1,0,0,0,0.1,0.1"))
 
     def pads(self):
-        """Pads of layout tools, turned by a parameter or by a number."""
+        """Pads of layout tools, and convex outlines, turned by a parameter or by a number."""
         yield from PADS
-        for k in range(50, 59):
+        for k in range(50, 60):
             size = 10 ** self.rng.randint(3, 7)
             w, h, left, right = (f"{2 * self.length(size) / self.scale:.7f}" for _ in range(4))
             turn = self.rng.choice((f"{90 * self.rng.randrange(-4, 5)}", f"{self.rng.randrange(-9000, 9000) / 10}", f"{self.rng.uniform(-360, 360):.7f}"))
-            if k % 3 == 0:
+            if k % 4 == 3:
+                yield from (f"%AMP{k}*", f"{self.outline(size)},{turn}*%", f"%ADD{k}P{k}*%")
+            elif k % 4 == 0:
                 yield from (f"%AMP{k}*", f"21,1,{w},{h},0,0,{turn}*", f"1,1,{w},0,0,{turn}*", f"20,1,{h},0,0,{w},0,{turn}*%", f"%ADD{k}P{k}*%")
-            elif k % 3 == 1:
+            elif k % 4 == 1:
                 yield f"%ADD{k}RotRect,{w}X{h}X{turn}*%"
             else:
                 yield f"%ADD{k}Outline4P,-{left}X-{h}X{right}X-{h}X{w}X{h}X-{w}X{h}X{turn}*%"
 
+    def outline(self, size):
+        """A triangle up to a figure of twenty corners, or a box without its corners, either way round."""
+        rng, far = self.rng, max(size, 10 ** 4) // self.step()
+        if rng.random() < .5:
+            (w, h), (a, b, c, d) = (rng.randint(far // 2, far) for _ in "xy"), (rng.randint(1, far // 5) for _ in range(4))
+            spots = [(-w, a - h), (a - w, -h), (w - b, -h), (w, b - h), (w, h - c), (w - c, h), (d - w, h), (-w, h - d)]
+        else:
+            count, flat = rng.randrange(3, 21), rng.uniform(.6, 1)
+            turns = (2 * math.pi * (k + rng.uniform(0, .3)) / count for k in range(count))
+            spots = [(round(far * math.cos(turn)), round(far * flat * math.sin(turn))) for turn in turns]
+        spots = spots[::rng.choice((1, -1))]
+        places = (f"{v * self.step() / self.scale:.7f}" for spot in [*spots, spots[0]] for v in spot)
+        return f"4,1,{len(spots)},{','.join(places)}"
+
     def pad(self):
-        self.pick(50, 58)
+        self.pick(50, 59)
         self.go(self.place(), 3)
         self.made["flashes of turned pads"] += 1
 

@@ -1,4 +1,4 @@
-"""Figures of macros that are turned by no quarter turn, between contours of four whole corners, as the crate `slants` takes them.
+"""Convex figures of macros that are turned by no quarter turn, between contours of whole corners, as the crate `slants` takes them.
 
 How the corners were found does not matter: they are tested, at each turn of the cone of the angle.
 """
@@ -9,9 +9,9 @@ from .cones import DEGREE, RIGHT_ANGLE, cone_of, way_of
 from .exact import cos_sin, turned
 from .outlines import mitres, whole_corners
 from .rounds import is_convex
-from .spots import cross, dot, edges
+from .spots import cross, edges
 
-CORNERS = 4     # of a figure that is taken
+CORNERS = 500   # at most: each is compared with each edge
 FURTHER = [Q(k, 2) for k in (1, 2, 3, 4, 6, 8, 12, 16, 32, 64, 128)]    # u that edges are tried further in or out
 ORIGIN = (0, 0)
 
@@ -24,13 +24,13 @@ def placed(kind, corners, degrees):
 def figure_of(corners, degrees):
     """Its corners after the whole quarter turns, and what is left; None where nothing is left, or the check takes no bounds of it."""
     quarters, angle = divmod(degrees * DEGREE, RIGHT_ANGLE)
-    if not angle or angle.denominator != 1 or len(corners) != CORNERS:
+    if not angle or angle.denominator != 1 or len(corners) > CORNERS:
         return None
     spots, is_whole = whole_corners(corners)
     for _ in range(quarters % 4):
         spots = [(-y, x) for x, y in spots]
     found = tuple(spots), int(angle)
-    return ("turned", *found) if is_whole and is_convex(spots) and turned_bounds(*found) else None
+    return ("turned", *found) if is_whole and turned_bounds(*found) else None
 
 
 # ---- the check
@@ -40,25 +40,47 @@ def meet(u, v):
     return u[0] * v[0] - u[1] * v[1], u[0] * v[1] + u[1] * v[0], u[0] * v[0] + u[1] * v[1]
 
 
-def lean(b, c, q, heading):
-    """How far a place, turned so about the origin, is on the left of the line from b to c, times n and the line's length."""
-    (x, y, n), still, ahead = heading, cross(b, c, ORIGIN), dot(b, c, ORIGIN)
-    return still * n + (cross(b, c, q) - still) * x + (dot(b, c, q) - ahead) * y
+def lean(b, c, heading):
+    """How far a place (p, q), turned so about the origin, is on the left of the line from b to c, times n and the line's length: w + u p + v q."""
+    (x, y, n), ahead, aside = heading, c[0] - b[0], c[1] - b[1]
+    return cross(b, c, ORIGIN) * n, ahead * y - aside * x, ahead * x + aside * y
+
+
+def goes_once(corners):
+    """Round them edges change at most twice between up and not, and some edge's line has the first corner beside it."""
+    ups = [b[1] > a[1] for a, b in edges(corners)]
+    changes = sum(a != b for a, b in zip(ups, ups[1:]))
+    return changes <= 2 and any(cross(corners[0], b, c) for b, c in edges(corners))
 
 
 def lies_round(figure, first, last, found):
-    """All corners of the figure are on the left of each edge, at both turns and where the tangents at them meet."""
-    headings = meet(first, first), meet(first, last), meet(last, last)
-    return is_convex(found) and all(lean(b, c, q, d) >= 0 for b, c in edges(found) for q in figure for d in headings)
+    """All corners of the figure are on one side of each edge, at both turns and where the tangents at them meet."""
+    headings, round_it = (meet(first, first), meet(first, last), meet(last, last)), edges(found)
+    ways = round_it, [(c, b) for b, c in round_it]
+    lies = lambda way: all(w + u * p + v * q >= 0 for b, c in way for w, u, v in (lean(b, c, d) for d in headings) for p, q in figure)
+    return goes_once(found) and any(map(lies, ways))
 
 
 def lies_within(figure, first, last, found):
     """The figure lies so round what was found, turned back."""
     (a, b), (c, d) = first, last
-    return is_convex(found) and lies_round(found, (a, -b), (c, -d), figure)
+    return lies_round(found, (a, -b), (c, -d), figure)
 
 
 # ---- the contours
+
+def area(corners):
+    """Twice it; under 0 where they run clockwise."""
+    return sum(cross(ORIGIN, a, b) for a, b in edges(corners))
+
+
+def bends(corners):
+    """The corners counterclockwise, without those that stand twice or on straight ways."""
+    spots = [v for k, v in enumerate(corners) if v != corners[k - 1]]
+    if area(spots) < 0:
+        spots.reverse()
+    return [v for k, v in enumerate(spots) if cross(spots[k - 1], v, spots[(k + 1) % len(spots)])]
+
 
 def near(corners, way, by):
     """Whole corners near those of the turned figure with its edges moved outwards, or inwards by less than 0."""
@@ -68,8 +90,12 @@ def near(corners, way, by):
 
 @lru_cache(4096)
 def turned_bounds(corners, angle):
-    """The pieces within and round a convex figure that is turned about the origin by less than a right angle; None where there is none round it."""
-    cone, tried = cone_of(angle), lambda way_out: (near(corners, way_of(angle), way_out * by) for by in FURTHER)
-    inner = next((found for found in tried(-1) if lies_within(corners, *cone, found)), None)
+    """The pieces within and round a convex figure that is turned about the origin by less than a right angle; None where it is not convex, or
+    there is none round it."""
+    cone, shape = cone_of(angle), bends(corners)
+    if not is_convex(shape):
+        return None
+    tried = lambda way_out: (near(shape, way_of(angle), way_out * by) for by in FURTHER)
+    inner = next((found for found in tried(-1) if area(found) > 0 and lies_within(corners, *cone, found)), None)
     outer = next((found for found in tried(1) if lies_round(corners, *cone, found)), None)
     return ([("area", inner)] if inner else [], [("area", outer)]) if outer else None

@@ -557,6 +557,115 @@ fn turned_rows_are_told(rt: HostRuntime) {
     }
 }
 
+/// Six corners of a figure, six of a polygon, and whether that is taken below and above the figure by the turn of 3, 4, 5.
+type OutlineRow = ([i64; 12], [i64; 12], (bool, bool));
+
+fn outline_rows() -> [OutlineRow; 8] {
+    [
+        // a hexagon, with whole corners
+        (
+            [
+                1000, 0, 500, 800, -500, 800, -1000, 0, -500, -800, 500, -800,
+            ],
+            [
+                800, 600, -80, 940, -880, 340, -800, -600, 80, -940, 880, -340,
+            ],
+            (true, true),
+        ),
+        // the other way round, from another corner
+        (
+            [
+                500, 800, 1000, 0, 500, -800, -500, -800, -1000, 0, -500, 800,
+            ],
+            [
+                800, 600, -80, 940, -880, 340, -800, -600, 80, -940, 880, -340,
+            ],
+            (true, true),
+        ),
+        // a corner one u too far
+        (
+            [
+                1000, 0, 500, 800, -500, 800, -1000, 0, -500, -800, 500, -800,
+            ],
+            [
+                801, 600, -80, 940, -880, 340, -800, -600, 80, -940, 880, -340,
+            ],
+            (false, true),
+        ),
+        // a corner one u too near
+        (
+            [
+                1000, 0, 500, 800, -500, 800, -1000, 0, -500, -800, 500, -800,
+            ],
+            [
+                799, 600, -80, 940, -880, 340, -800, -600, 80, -940, 880, -340,
+            ],
+            (true, false),
+        ),
+        // spots on straight ways
+        (
+            [
+                1000, -500, 1000, 0, 1000, 500, -1000, 500, -1000, -500, 0, -500,
+            ],
+            [
+                1100, 200, 800, 600, 500, 1000, -1100, -200, -500, -1000, 300, -400,
+            ],
+            (true, true),
+        ),
+        // a triangle twice round has nothing inside
+        (
+            [
+                0, 1000, -1000, -500, 1000, -500, 0, 1000, -1000, -500, 1000, -500,
+            ],
+            [80, 60, -8, 94, -88, 34, -80, -60, 8, -94, 88, -34],
+            (false, false),
+        ),
+        // and is round nothing
+        (
+            [100, 0, 50, 80, -50, 80, -100, 0, -50, -80, 50, -80],
+            [
+                -600, 800, -500, -1000, 1100, 200, -600, 800, -500, -1000, 1100, 200,
+            ],
+            (false, false),
+        ),
+        // a line there and back, short of a spot on it
+        (
+            [300, 100, 300, 100, 300, 100, 300, 100, 300, 100, 300, 100],
+            [0, 0, 90, 130, 0, 0, 90, 130, 90, 130, 90, 130],
+            (false, false),
+        ),
+    ]
+}
+
+/// The corners and the first again.
+fn outline(p: [i64; 12]) -> [Spot; 7] {
+    let first = spot(p[0], p[1]);
+    [
+        first,
+        spot(p[2], p[3]),
+        spot(p[4], p[5]),
+        spot(p[6], p[7]),
+        spot(p[8], p[9]),
+        spot(p[10], p[11]),
+        first,
+    ]
+}
+
+/// Whether the checks answer as the row says.
+fn is_outlined(row: &OutlineRow) -> bool {
+    let (figure, points, answers) = *row;
+    let m = motions([3, 1, 3, 1], [0, 0, 0, 0]);
+    is_below_turned(&outline(figure), &m, &outline(points)) == answers.0
+        && is_above_turned(&outline(figure), &m, &outline(points)) == answers.1
+}
+
+#[test]
+fn outline_rows_are_told(rt: HostRuntime) {
+    for row in outline_rows() {
+        assert!(rt; is_outlined(&row));
+    }
+}
+
 /// Angles, and what the ways of their turns are about: `tools/tests/test_cones.py` compares these numbers with cosines and
 /// sines of half the angle.
 fn angle_rows() -> [(u32, (u32, u32)); 13] {

@@ -20,11 +20,12 @@ def are_placed(spots):
 
 
 def goes_round(points):
-    """Four corners and the first again, with a left turn at each."""
-    if len(points) != 5 or points[0] != points[4]:
+    """It is closed, changes at most twice between rising and not, and has its first corner beside the line of some edge."""
+    if not points or points[0] != points[-1]:
         return False
-    b, c, d, e, _ = points
-    return min(cross(*corner) for corner in ((b, c, d), (c, d, e), (d, e, b), (e, b, c))) >= 1
+    ways = list(zip(points, points[1:]))
+    changes = lambda up: sum(was != now for was, now in zip([up] + [b[1] > a[1] for a, b in ways], [b[1] > a[1] for a, b in ways]))
+    return min(changes(True), changes(False)) <= 2 and any(cross(points[0], a, b) for a, b in ways)
 
 
 def lean_of(about, to, b, c, heading, q):
@@ -33,13 +34,14 @@ def lean_of(about, to, b, c, heading, q):
 
 
 def is_above(figure, first, last, about, to, points):
-    """A figure, turned about a spot that comes to another, is on the left of each edge at three headings."""
+    """A figure, turned about a spot that comes to another, is on the left of each edge at three headings, or of each from its end to its start."""
     meet = lambda u, v: (u[0] * v[0] - u[1] * v[1], u[0] * v[1] + u[1] * v[0], u[0] * v[0] + u[1] * v[1])
     is_ready = max(abs(v) for way in (first, last) for v in way) <= MOST_PART and are_placed([about, to, *figure, *points])
     is_closed = len(figure) > 3 and figure[0] == figure[-1]
     headings = meet(first, first), meet(first, last), meet(last, last)
-    return is_ready and is_closed and goes_round(points) and all(
-        lean_of(about, to, b, c, heading, q) >= 0 for q in figure for b, c in zip(points, points[1:]) for heading in headings)
+    leans = lambda b, c: all(lean_of(about, to, b, c, heading, q) >= 0 for q in figure for heading in headings)
+    ways = list(zip(points, points[1:]))
+    return is_ready and is_closed and goes_round(points) and (all(leans(b, c) for b, c in ways) or all(leans(c, b) for b, c in ways))
 
 
 def is_below(figure, first, last, about, to, points):
@@ -59,20 +61,50 @@ def angles(rng, count):
 
 
 def outlines(rng):
-    """Rectangles and other figures of four corners that turn left, within some 30 mm of the origin."""
+    """Rectangles and other convex figures, either way round, within some 30 mm of the origin."""
     size = int(10 ** rng.uniform(1.5, 8.3))
     w, h, x, y = (rng.randint(8, 8 + size) for _ in range(4))
     yield [(-w, -h), (w, -h), (w, h), (-w, h)]
     yield [(x, y), (x + w, y), (x + w, y + h), (x, y + h)]
     left, right = (rng.randint(-min(w, h) // 2, 2 * h) for _ in "lr")
     yield [(-w, -h), (w, -h), (w + right, h), (-w - left, h)]
+    yield either_way(rng, chamfered(rng, w + 30, h + 30))
+    yield either_way(rng, rounded_off(rng, size + 9999, rng.randrange(3, 25)))
+
+
+def either_way(rng, corners):
+    """From any corner on, either way round."""
+    at = rng.randrange(len(corners))
+    return (corners[at:] + corners[:at])[::rng.choice((1, -1))]
+
+
+def chamfered(rng, w, h):
+    """A box without its corners, or some of them."""
+    a, b, c, d = (rng.choice((0, rng.randint(1, min(w, h) // 2))) for _ in range(4))
+    found = [(-w, a - h), (a - w, -h), (w - b, -h), (w, b - h), (w, h - c), (w - c, h), (d - w, h), (-w, h - d)]
+    return [v for k, v in enumerate(found) if v != found[k - 1]]
+
+
+def rounded_off(rng, r, count):
+    """So many corners on an ellipse."""
+    turns, flat = (2 * math.pi * (k + rng.uniform(0, .4)) / count for k in range(count)), rng.uniform(.5, 1)
+    return [(round(r * math.cos(turn)), round(r * flat * math.sin(turn))) for turn in turns]
+
+
+def counterclockwise(corners):
+    return corners[::1 if sum(cross((0, 0), a, b) for a, b in edges(corners)) > 0 else -1]
+
+
+def is_small(corners):
+    """It may be that nothing is within, of a rectangle or a figure with level edges."""
+    return len(corners) == 4 and min(corners[2][1] - corners[1][1], corners[1][0] - corners[0][0], corners[2][0] - corners[3][0]) < 24
 
 
 class TestDegrees(unittest.TestCase):
     def test_the_contours_are_taken(self):
         """Wherever they are flashed; nothing below only where the figure is small."""
         rng = random.Random(63)
-        for angle in angles(rng, 200):
+        for angle in angles(rng, 120):
             (first, last), at = cone_of(angle), tuple(rng.randint(-METRE // 2, METRE // 2) for _ in "xy")
             for corners in outlines(rng):
                 below, above = turned_bounds(tuple(corners), angle)
@@ -80,7 +112,7 @@ class TestDegrees(unittest.TestCase):
                     ((_, outer),) = above
                     self.assertTrue(is_above(ring(corners, at), first, last, at, at, ring(outer, at)))
                     self.assertTrue(not below or is_below(ring(corners, at), first, last, at, at, ring(below[0][1], at)))
-                    self.assertTrue(below or min(corners[2][1] - corners[1][1], corners[1][0] - corners[0][0], corners[2][0] - corners[3][0]) < 24)
+                    self.assertTrue(below or is_small(corners))
 
     def test_the_figure_lies_between(self):
         """By intervals, at the angle itself."""
@@ -88,7 +120,7 @@ class TestDegrees(unittest.TestCase):
         for angle in angles(rng, 60):
             turn = cos_sin(Q(angle, 10 ** 7))
             for corners in outlines(rng):
-                (below, above), real = turned_bounds(tuple(corners), angle), [turned(pointed(p), turn) for p in corners]
+                (below, above), real = turned_bounds(tuple(corners), angle), [turned(pointed(p), turn) for p in counterclockwise(corners)]
                 with self.subTest(angle=angle, corners=corners):
                     self.assertTrue(all(cross_least(a, b, pointed(q)) >= 0 for _, inner in below for q in inner for a, b in edges(real)))
                     self.assertTrue(all(cross_least(pointed(a), pointed(b), q) >= 0 for a, b in edges(above[0][1]) for q in real))
@@ -114,8 +146,8 @@ class TestDegrees(unittest.TestCase):
             other = lambda corners, by: [(p + by * x, q + by * y) if at in (k, (k + 1) % 4) else (p, q) for at, (p, q) in enumerate(corners)]
             self.assertFalse(is_above(ring(square), first, last, origin, origin, ring(other(outer, -3))))
             self.assertFalse(is_below(ring(square), first, last, origin, origin, ring(other(inner, 3))))
-        self.assertFalse(is_above(ring(square), first, last, origin, origin, ring(outer[::-1])))
-        self.assertFalse(is_below(ring(square[::-1]), first, last, origin, origin, ring(inner)))
+        self.assertTrue(is_above(ring(square), first, last, origin, origin, ring(outer[::-1])))
+        self.assertTrue(is_below(ring(square[::-1]), first, last, origin, origin, ring(inner)))
 
     def test_the_cone_holds_the_angle(self):
         """Its ways are on both sides of that by half the angle, and the check takes them."""
@@ -136,9 +168,15 @@ class TestFigures(unittest.TestCase):
         ("by others", ROT_RECT, [2, 1, -450], ["convex"], [(1, 1)]),
         ("Outline4P", OUTLINE, [*TRAPEZOID, Q("-22.5")], ["turned"], [(1, 1)]),
         ("Outline4P by quarter turns", OUTLINE, [*TRAPEZOID, 180], ["outline"], [(1, 1)]),
-        ("Outline4P the other way round", OUTLINE, [*(v for k in (6, 4, 2, 0) for v in TRAPEZOID[k:k + 2]), 30], ["outline"], None),
+        ("Outline4P the other way round", OUTLINE, [*(v for k in (6, 4, 2, 0) for v in TRAPEZOID[k:k + 2]), 30], ["turned"], [(1, 1)]),
         ("FreePoly", FREE, [270], ["outline"], [(1, 1)]),
-        ("FreePoly at an angle", FREE, [1], ["outline"], None),
+        ("FreePoly at an angle", FREE, [1], ["turned"], [(1, 1)]),
+        ("a triangle", ["4,1,3,0,0,1,0,0,1,0,0,$1"], [45], ["turned"], [(1, 1)]),
+        ("a chamfered box", ["4,1,8,-1,-.5,-.8,-.7,.8,-.7,1,-.5,1,.5,.8,.7,-.8,.7,-1,.5,-1,-.5,$1"], [Q("12.3456789")], ["turned"], [(1, 1)]),
+        ("one with spots on straight ways", ["4,1,6,0,0,1,0,2,0,2,0,2,2,0,2,0,0,$1"], [45], ["turned"], [(1, 1)]),
+        ("a corner inwards", ["4,1,5,0,0,2,0,2,2,1,1,0,2,0,0,$1"], [45], ["outline"], None),
+        ("a star, twice round", ["4,1,5,0,1,.6,-.8,-1,.3,1,.3,-.6,-.8,0,1,$1"], [45], ["outline"], None),
+        ("a line there and back", ["4,1,3,0,0,1,1,2,2,0,0,$1"], [45], ["outline"], None),
         ("of Altium", ["21,1,0.6,0.4,0,0,45.0", "21,1,0.4,0.6,0,0,45.0", "1,1,0.2,0.1,0.3"], [], ["turned", "turned", "disc"], [(1, 1), (1, 1), (1, 1)]),
         ("a sum", ["21,1,1,1,1,0,$1+$2-.5"], [45, Q("45.5")], ["convex"], [(1, 1)]),
         ("no sum of whole turns", ["21,1,1,1,1,0,$1+$2"], [45, Q("45.5")], ["turned"], [(1, 1)]),
