@@ -5,38 +5,36 @@ use Rattle.std.proofs.lemmas.Fmt.{decimal_digit, decimal_step}
 use Rattle.std.specs.Fmt.{decimal}
 use Rattle.texts.specs.LastDigits.{last_digits}
 
--- a number of one to five digits
-pub one : (n : ℕ) → n < 10 → decimal n ≡ (48 + n % 10) ∷ []
-one n few = let e : n % 10 ≡ n = omega arith in decimal_digit n few ∙ ap (λ (d : ℕ). (48 + d) ∷ []) (sym e)
+-- both digits of a number below 100
+abbrev pub pair : ℕ → List ℕ
+pair n = (48 + n / 10) ∷ (48 + n % 10) ∷ []
 
-pub two : (n : ℕ) → 10 ≤ n → n < 100 → decimal n ≡ (48 + n / 10 % 10) ∷ (48 + n % 10) ∷ []
+-- a number of one to five digits
+pub one : (n : ℕ) → n < 10 → decimal n ≡ (48 + n) ∷ []
+one n few = decimal_digit n few
+
+pub two : (n : ℕ) → 10 ≤ n → n < 100 → decimal n ≡ pair n
 two n many few = decimal_step n many (omega arith) ∙ ap (λ (t : List ℕ). t ++ (48 + n % 10) ∷ []) (one (n / 10) (omega arith))
 
-pub three : (n : ℕ) → 100 ≤ n → n < 1_000 → decimal n ≡ (48 + n / 100 % 10) ∷ (48 + n / 10 % 10) ∷ (48 + n % 10) ∷ []
-three n many few =
+-- a number is what stands in front of its last two digits, and these
+with_pair : (n : ℕ) → 100 ≤ n → n < 100_000 → decimal n ≡ decimal (n / 100) ++ pair (n % 100)
+with_pair n many few =
     let e : n / 10 / 10 ≡ n / 100 = omega arith in
-    decimal_step n (omega arith) (omega arith) ∙ ap (λ (t : List ℕ). t ++ (48 + n % 10) ∷ []) (rw e at (two (n / 10) (omega arith) (omega arith)))
+    let f : n / 10 % 10 ≡ n % 100 / 10 = omega arith in
+    let g : n % 10 ≡ n % 100 % 10 = omega arith in
+    decimal_step n (omega arith) (omega arith)
+    ∙ ap (λ (t : List ℕ). t ++ (48 + n % 10) ∷ []) (decimal_step (n / 10) (omega arith) (omega arith))
+    ∙ append_assoc (decimal (n / 10 / 10)) ((48 + n / 10 % 10) ∷ []) ((48 + n % 10) ∷ [])
+    ∙ rw (e, f, g) refl
 
-pub four : (n : ℕ) → 1_000 ≤ n → n < 10_000 → decimal n ≡ (48 + n / 1_000 % 10) ∷ (48 + n / 100 % 10) ∷ (48 + n / 10 % 10) ∷ (48 + n % 10) ∷ []
-four n many few =
-    let e : n / 10 / 10 ≡ n / 100 = omega arith in
-    let f : n / 10 / 100 ≡ n / 1_000 = omega arith in
-    decimal_step n (omega arith) (omega arith) ∙ ap (λ (t : List ℕ). t ++ (48 + n % 10) ∷ []) (rw (e, f) at (three (n / 10) (omega arith) (omega arith)))
+pub three : (n : ℕ) → 100 ≤ n → n < 1_000 → decimal n ≡ (48 + n / 100) ∷ pair (n % 100)
+three n many few = with_pair n many (omega arith) ∙ ap (λ (t : List ℕ). t ++ pair (n % 100)) (one (n / 100) (omega arith))
 
-pub five : (n : ℕ) → 10_000 ≤ n → n < 100_000 → decimal n ≡ (48 + n / 10_000 % 10) ∷ (48 + n / 1_000 % 10) ∷ (48 + n / 100 % 10) ∷ (48 + n / 10 % 10) ∷ (48 + n % 10) ∷ []
-five n many few =
-    let e : n / 10 / 10 ≡ n / 100 = omega arith in
-    let f : n / 10 / 100 ≡ n / 1_000 = omega arith in
-    let g : n / 10 / 1_000 ≡ n / 10_000 = omega arith in
-    decimal_step n (omega arith) (omega arith) ∙ ap (λ (t : List ℕ). t ++ (48 + n % 10) ∷ []) (rw (e, f, g) at (four (n / 10) (omega arith) (omega arith)))
+pub four : (n : ℕ) → 1_000 ≤ n → n < 10_000 → decimal n ≡ pair (n / 100) ++ pair (n % 100)
+four n many few = with_pair n (omega arith) (omega arith) ∙ ap (λ (t : List ℕ). t ++ pair (n % 100)) (two (n / 100) (omega arith) (omega arith))
 
--- the last five digits
-pub last_five : (n : ℕ) → last_digits 5 n ≡ (48 + n / 10_000 % 10) ∷ (48 + n / 1_000 % 10) ∷ (48 + n / 100 % 10) ∷ (48 + n / 10 % 10) ∷ (48 + n % 10) ∷ []
-last_five n =
-    let e : n / 10 / 10 ≡ n / 100 = omega arith in
-    let f : n / 100 / 10 ≡ n / 1_000 = omega arith in
-    let g : n / 1_000 / 10 ≡ n / 10_000 = omega arith in
-    rw (e, f, g) refl
+pub five : (n : ℕ) → 10_000 ≤ n → n < 100_000 → decimal n ≡ (48 + n / 100 / 100) ∷ (pair (n / 100 % 100) ++ pair (n % 100))
+five n many few = with_pair n (omega arith) few ∙ ap (λ (t : List ℕ). t ++ pair (n % 100)) (three (n / 100) (omega arith) (omega arith))
 
 pow_positive : (k : ℕ) → 1 ≤ 10 ^ k
 pow_positive zero = omega arith

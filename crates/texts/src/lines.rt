@@ -1,5 +1,6 @@
 //! The lines of a file, one after another.
-ghost use Rattle.std.specs.Prelude.{◌≡◌, ◌≤◌, ◌+◌, length};
+ghost use Rattle.std.specs.Prelude.{◌≡◌, ◌==◌, ◌≤◌, ◌+◌, length};
+ghost use Rattle.std.specs.List.{list_any, position_or_len};
 ghost use Rattle.texts.specs.Lines as spec;
 ghost use Rattle.texts.specs.declared.TheConstants.{MOST_BYTES};
 
@@ -21,6 +22,38 @@ pub struct Lines<'a> {
     rest: &'a [u8],
     ghost fits: { at + length rest.now ≤ MOST_BYTES },
     ghost counts: { number ≤ at + 1 },
+}
+
+// So many bytes are compared at once.
+const STRIDE: usize = 16;
+
+// Whether the byte is among these. The loop has no early exit, so that it is compiled to vector code.
+#[inline(always)]
+fn is_among(byte: u8, bytes: &[u8; STRIDE]) -> bool
+    ensures { result ≡ list_any (λ b. b == byte) bytes.now }
+{
+    let mut found = false;
+    for b in bytes {
+        found |= *b == byte;
+    }
+    found
+}
+
+// Where a byte first stands, or the length where it does not: as `place_of`, where that is far.
+fn far_place_of(text: &[u8], byte: u8) -> usize
+    ensures value { result ≡ position_or_len (λ b. b == byte) text.now }
+    ensures within { result ≤ length text.now }
+{
+    let mut len = 0;
+    let mut rest = text;
+    while let Some((front, behind)) = rest.split_first_chunk::<STRIDE>() {
+        if is_among(byte, front) {
+            return len + place_of(rest, byte);
+        }
+        len += STRIDE;
+        rest = behind;
+    }
+    len + place_of(rest, byte)
 }
 
 // The text without a carriage return at its end.
@@ -68,7 +101,7 @@ impl<'a> Lines<'a> {
         if rest.is_empty() {
             return None;
         }
-        let len = place_of(rest, b'\n');
+        let len = far_place_of(rest, b'\n');
         if len == rest.len() {
             *self = Lines {
                 number: number + 1,

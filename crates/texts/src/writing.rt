@@ -1,7 +1,7 @@
 //! Bytes and whole numbers, put behind a text. Where memory is wanted, the answer is std's own error. After an error the
 //! text holds anything.
 ghost use Rattle.std.specs.Fmt.{decimal, signed_decimal};
-ghost use Rattle.std.specs.Prelude.{◌≡◌, ◌<◌, ◌∷◌, ◌++◌, OnOk};
+ghost use Rattle.std.specs.Prelude.{◌≡◌, ◌+◌, ◌/◌, ◌%◌, ◌<◌, ◌∷◌, ◌++◌, OnOk};
 ghost use Rattle.texts.specs.LastDigits.{last_digits};
 
 use crate::numerals::Numeral;
@@ -63,14 +63,23 @@ fn put_from_buffer(text: &mut Vec<u8>, byte: u8, n: u64) -> Result<(), AllocErro
     put(text, Numeral::behind(byte, n).as_bytes())
 }
 
-/// The last digit of a number.
-macro_rules! digit {
-    ($n:expr) => {
-        b'0' + ($n % 10) as u8
-    };
+/// The two digits of each number below 100.
+static PAIRS: [u8; 200] =
+    *b"00010203040506070809101112131415161718192021222324252627282930313233343536373839404142434445464748495051525354555657585960616263646566676869707172737475767778798081828384858687888990919293949596979899";
+
+// Both digits of a number below 100.
+#[inline(always)]
+fn pair(n: u32) -> (u8, u8)
+    requires { n < 100 }
+    ensures tens { result.0 ≡ 48 + n / 10 }
+    ensures ones { result.1 ≡ 48 + n % 10 }
+{
+    let at = n as usize * 2;
+    (PAIRS[at], PAIRS[at + 1])
 }
 
-// Puts a byte and a number of at most five digits. Where there is room for them no call is made.
+// Puts a byte and a number of at most five digits, two of them by one division. Where there is room for them no call is made. Most
+// numbers of a long report have many digits, so those are asked first.
 fn put_few(text: &mut Vec<u8>, byte: u8, n: u64) -> Result<(), AllocError>
     requires { n < 100_000 }
     ensures { OnOk result (text.new.items ≡ text.old.items ++ (byte ∷ decimal n)) }
@@ -78,54 +87,46 @@ fn put_few(text: &mut Vec<u8>, byte: u8, n: u64) -> Result<(), AllocError>
     if text.capacity() - text.len() < 6 {
         return put_from_buffer(text, byte, n);
     }
+    let few = n as u32;
+    if few < 100 {
+        return put_two(text, byte, few);
+    }
+    let hundreds = few / 100;
+    let (tens, ones) = pair(few % 100);
+    if few >= 10_000 {
+        let first = b'0' + (hundreds / 100) as u8;
+        let (second, third) = pair(hundreds % 100);
+        return put(text, &[byte, first, second, third, tens, ones]);
+    }
+    if few >= 1_000 {
+        let (first, second) = pair(hundreds);
+        return put(text, &[byte, first, second, tens, ones]);
+    }
+    put(text, &[byte, b'0' + hundreds as u8, tens, ones])
+}
+
+// Puts a byte and a number of at most two digits.
+fn put_two(text: &mut Vec<u8>, byte: u8, n: u32) -> Result<(), AllocError>
+    requires { n < 100 }
+    ensures { OnOk result (text.new.items ≡ text.old.items ++ (byte ∷ decimal n)) }
+{
     if n < 10 {
-        return put(text, &[byte, digit!(n)]);
+        return put(text, &[byte, b'0' + n as u8]);
     }
-    if n < 100 {
-        return put(text, &[byte, digit!(n / 10), digit!(n)]);
-    }
-    if n < 1_000 {
-        return put(text, &[byte, digit!(n / 100), digit!(n / 10), digit!(n)]);
-    }
-    if n < 10_000 {
-        return put(
-            text,
-            &[
-                byte,
-                digit!(n / 1_000),
-                digit!(n / 100),
-                digit!(n / 10),
-                digit!(n),
-            ],
-        );
-    }
-    put(
-        text,
-        &[
-            byte,
-            digit!(n / 10_000),
-            digit!(n / 1_000),
-            digit!(n / 100),
-            digit!(n / 10),
-            digit!(n),
-        ],
-    )
+    let (tens, ones) = pair(n);
+    put(text, &[byte, tens, ones])
 }
 
 // Puts the last five digits of a number.
 fn put_last_five(text: &mut Vec<u8>, n: u64) -> Result<(), AllocError>
     ensures { OnOk result (text.new.items ≡ text.old.items ++ last_digits 5 n) }
 {
-    put(
-        text,
-        &[
-            digit!(n / 10_000),
-            digit!(n / 1_000),
-            digit!(n / 100),
-            digit!(n / 10),
-            digit!(n),
-        ],
-    )
+    let last = (n % 100_000) as u32;
+    let hundreds = last / 100;
+    let (second, third) = pair(hundreds % 100);
+    let (tens, ones) = pair(last % 100);
+    let first = b'0' + (hundreds / 100) as u8;
+    put(text, &[first, second, third, tens, ones])
 }
 
 /// Puts a blank and a signed number.
