@@ -14,7 +14,7 @@ gone_placed : (t : Tools) (here : Spot) (e : Seen) → IsPlaced here → IsFit t
 gone_placed t here seen.Stays h k = h
 gone_placed t here (seen.Makes n d) h k = h
 gone_placed t here (seen.Moves to) h k = k
-gone_placed t here (seen.Drills to shape) h k = k
+gone_placed t here (seen.Drills to barrel) h k = k
 
 pub after_placed : (t : Tools) (s : Settings) (f : DrillLine) (e : Seen) → IsPlaced s.at → IsFit t e → IsPlaced (after s f (shown e)).at
 after_placed t s (form.Rout to) e h k = gone_placed t s.at e h k

@@ -3,7 +3,8 @@ use Rattle.std.specs.Prelude.{◌≡◌, ℕ, ◌+◌, ◌≤◌, ◌==◌, if�
 use Rattle.std.specs.HashMap.{get, hash_map_len}
 use Rattle.contact.specs.declared.TheConstants.{MOST_DIAMETER}
 use Rattle.planar.specs.Plane.{IsPlaced}
-use Rattle.board_shapes.specs.Plain.{figure_of, plain_pieces}
+use Rattle.board_shapes.specs.Figures.{capsule_figure}
+use Rattle.board_shapes.specs.Plain.{plain_pieces}
 use Rattle.board_shapes.specs.declared.shape.Shape.{Shape}
 use Rattle.board_shapes.specs.declared.placed.Placed.{Placed}
 use Rattle.xnc.specs.declared.kind.DrillKind.{DrillKind}
@@ -22,12 +23,12 @@ use Rattle.xnc.specs.FaultPlace.{Place}
 use Rattle.xnc.specs.DrillEffects.{Known, Effect, stays, makes, moves, drills, rout, straight, hit, slot, effect, after}
 use Rattle.xnc.specs.Settings.{piece_of, settings_at}
 
--- the effect that was seen, its shape as its figure, or the fault of a line
+-- the effect that was seen, its barrel as its figure, or the fault of a line
 abbrev pub shown : Seen → Effect
 shown seen.Stays = stays
 shown (seen.Makes n d) = makes n d
 shown (seen.Moves to) = moves to
-shown (seen.Drills to shape) = drills to (figure_of shape)
+shown (seen.Drills to barrel) = drills to (capsule_figure barrel)
 
 abbrev pub showing : Result Seen DrillKind → Result Effect DrillKind
 showing (Ok e) = Ok (shown e)
@@ -95,7 +96,7 @@ abbrev pub IsFit : Tools → Seen → Type 0
 IsFit t seen.Stays = Unit {0}
 IsFit t (seen.Makes n d) = (d ≤ MOST_DIAMETER) × (defined_in t n ≡ None)
 IsFit t (seen.Moves to) = IsPlaced to
-IsFit t (seen.Drills to shape) = IsPlaced to
+IsFit t (seen.Drills to barrel) = IsPlaced to
 
 -- the reader with an effect, before the settings change
 pub record Applies (old : Reader) (e : Effect) (new : Reader) : Type 0 where

@@ -1,5 +1,5 @@
 //! What a line does.
-use board_shapes::Shape;
+use contact::Capsule;
 use planar::Spot;
 
 /// Besides its settings a line may define a tool by its diameter in u, go to a place, or go to a
@@ -8,5 +8,5 @@ pub enum Effect {
     Stays,
     Makes(u32, u64),
     Moves(Spot),
-    Drills(Spot, Shape),
+    Drills(Spot, Capsule),
 }

@@ -38,7 +38,7 @@ pub struct Reader {
 
 impl Reader {
     ghost use Rattle.planar.specs.Plane.{IsPlaced};
-    ghost use Rattle.board_shapes.specs.Plain.{figure_of};
+    ghost use Rattle.board_shapes.specs.Figures.{capsule_figure};
     ghost use Rattle.xnc.specs.Reader.{Applies, AreLawful, Halts, IsFit, IsLawfulReader, IsNew, Obeys, known_of, placed_row, showing, shown};
     ghost use Rattle.xnc.specs.DrillEffects as spec;
 
@@ -91,10 +91,11 @@ impl Reader {
         Ok(Effect::Makes(n, size))
     }
 
-    // A barrel, if there is room for it.
+    // A barrel of the diameter, if there is room for it.
     #[tactic(auto, unfolding(crate::specs::DrillEffects::barrel))]
-    fn barrel(&self, from: Spot, to: Spot) -> Result<Effect, DrillKind>
-        requires lawful { IsLawfulReader self.now }
+    fn barrel(&self, from: Spot, to: Spot, diameter: Option<u64>) -> Result<Effect, DrillKind>
+        requires diameter { diameter ≡ spec.diameter (known_of self.now) }
+        requires bound { IfSome diameter (λ d. d ≤ MOST_DIAMETER) }
         requires from { IsPlaced from }
         requires to { IsPlaced to }
         ensures value { showing result ≡ spec.barrel (known_of self.now) from to }
@@ -103,14 +104,16 @@ impl Reader {
         if self.room as usize <= self.pieces.len() {
             return Err(DrillKind::TooManyPieces);
         }
-        let barrel = Capsule::new(from, to, half(self.diameter()));
-        Ok(Effect::Drills(to, Shape::Round(barrel)))
+        let barrel = Capsule::new(from, to, half(diameter));
+        Ok(Effect::Drills(to, barrel))
     }
 
-    // What a line does that names a place, where the mode and the tool allow it.
+    // What a line does that names a place, where the mode and the tool allow it. The diameter was looked up once.
     #[tactic(auto, unfolding(crate::specs::Reader::placed_row, crate::specs::DrillEffects::rout, crate::specs::DrillEffects::straight, crate::specs::DrillEffects::hit, crate::specs::DrillEffects::slot))]
-    fn placed_row(&self, form: &DrillLine) -> Result<Effect, DrillKind>
+    fn placed_row(&self, form: &DrillLine, diameter: Option<u64>) -> Result<Effect, DrillKind>
         requires lawful { IsLawfulReader self.now }
+        requires diameter { diameter ≡ spec.diameter (known_of self.now) }
+        requires bound { IfSome diameter (λ d. d ≤ MOST_DIAMETER) }
         ensures value { showing result ≡ placed_row (known_of self.now) form.now }
         ensures fit { IfOk result (IsFit self.now.tools) }
     {
@@ -123,16 +126,16 @@ impl Reader {
             },
             DrillLine::Straight(to) => {
                 let to = target(unit, here, to)?;
-                self.barrel(here, to)
+                self.barrel(here, to, diameter)
             },
             DrillLine::Hit(at) => {
                 let at = target(unit, here, at)?;
-                self.barrel(at, at)
+                self.barrel(at, at, diameter)
             },
             DrillLine::Slot(from, to) => {
                 let from = target(unit, here, from)?;
                 let to = target(unit, from, to)?;
-                self.barrel(from, to)
+                self.barrel(from, to, diameter)
             },
             _ => Err(DrillKind::BadLine),
         }
@@ -165,6 +168,7 @@ impl Reader {
     {
         let down = self.settings.down;
         let drilling = is_drilling(self.settings.mode);
+        let diameter = self.diameter();
         match *form {
             DrillLine::Arc => Err(DrillKind::ArcRout),
             DrillLine::NoTool | DrillLine::Drill | DrillLine::End if down => Err(
@@ -177,19 +181,17 @@ impl Reader {
             DrillLine::Select(n) if self.tools.find(n).is_none() => Err(DrillKind::NoTool),
             DrillLine::Select(_) => Ok(Effect::Stays),
             DrillLine::Rout(_) if down => Err(DrillKind::WrongMode),
-            DrillLine::Rout(_) => self.placed_row(form),
+            DrillLine::Rout(_) => self.placed_row(form, diameter),
             DrillLine::Lower if drilling || down => Err(DrillKind::WrongMode),
-            DrillLine::Lower if self.diameter().is_none() => Err(DrillKind::NoTool),
+            DrillLine::Lower if diameter.is_none() => Err(DrillKind::NoTool),
             DrillLine::Lower => Ok(Effect::Stays),
             DrillLine::Raise if !down => Err(DrillKind::WrongMode),
             DrillLine::Raise => Ok(Effect::Stays),
             DrillLine::Straight(_) if !down => Err(DrillKind::WrongMode),
-            DrillLine::Straight(_) => self.placed_row(form),
+            DrillLine::Straight(_) => self.placed_row(form, diameter),
             DrillLine::Hit(_) | DrillLine::Slot(_, _) if !drilling => Err(DrillKind::WrongMode),
-            DrillLine::Hit(_) | DrillLine::Slot(_, _) if self.diameter().is_none() => Err(
-                DrillKind::NoTool,
-            ),
-            DrillLine::Hit(_) | DrillLine::Slot(_, _) => self.placed_row(form),
+            DrillLine::Hit(_) | DrillLine::Slot(_, _) if diameter.is_none() => Err(DrillKind::NoTool),
+            DrillLine::Hit(_) | DrillLine::Slot(_, _) => self.placed_row(form, diameter),
             _ => Err(DrillKind::BadLine),
         }
     }
@@ -242,13 +244,13 @@ impl Reader {
         match effect {
             Effect::Stays | Effect::Moves(_) => Ok(()),
             Effect::Makes(n, diameter) => self.tools.add(n, diameter),
-            Effect::Drills(_, shape) => self.add_hole(shape),
+            Effect::Drills(_, barrel) => self.add_hole(barrel),
         }
     }
 
-    fn add_hole(&mut self, shape: Shape) -> Result<(), NoMemory>
+    fn add_hole(&mut self, barrel: Capsule) -> Result<(), NoMemory>
         requires few { self.old.lines + 1 < 2 ^ 32 }
-        ensures ok { OnOk result (Applies self.old (spec.drills self.old.settings.at (figure_of shape)) self.new) }
+        ensures ok { OnOk result (Applies self.old (spec.drills self.old.settings.at (capsule_figure barrel)) self.new) }
     {
         let origin = Origin {
             file: self.file,
@@ -256,7 +258,7 @@ impl Reader {
             copy: 0,
         };
         self.pieces.push(Placed {
-            shape,
+            shape: Shape::Round(barrel),
             top: self.from,
             bottom: self.to,
             origin,
