@@ -19,8 +19,8 @@ pub struct Turn {
     pub rest: u32,
 }
 
-/// The turn that a rotation says, in degrees: of each term at most seven decimals, and in all at most 1,000 degrees
-/// from 0.
+/// The turn that a rotation says, in degrees: each term a whole number of 10^-7 degrees, and at most 1,000 degrees from 0, as
+/// is the sum.
 #[tactic(auto, unfolding(crate::specs::Degrees::turn_at))]
 pub fn read_turn(text: &[u8], parameters: &[Decimal]) -> Result<Turn, MacroFault>
     ensures { result ≡ spec.turn_at text.now parameters.now }

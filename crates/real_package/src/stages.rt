@@ -18,8 +18,8 @@ use board_package::{Entry, take_file, take_manifest};
 use lengths::text::Text;
 use std::alloc::Global;
 
-/// The real board of a package under the name of its manifest: the pieces of its copper files, in which draws may be arcs,
-/// and then its drill files', the probes and names of its netlist, and as many layers as copper files.
+/// The real board of a package under the name of its manifest: the pieces of its copper files, as real copper, and then its
+/// drill files', the probes and names of its netlist, and as many layers as copper files.
 ///
 /// It takes the manifest, each copper file, each drill file and the netlist, in this order. Each is judged before the
 /// next is taken, and after a refusal nothing more is taken. No frame is judged.
