@@ -10,6 +10,8 @@ import errno
 # a fault of `show` itself.
 UNCLEAR, UNDECIDED, UNJUDGED, FAULT = 10, 11, 12, 70
 UNWRITABLE, NO_MEMORY = 5, 6
+# What the system says where a file has no room.
+FULL = (errno.ENOSPC, errno.EDQUOT)
 
 
 class Stop(Exception):
@@ -26,7 +28,7 @@ def fault_of(path, fault):
         return fault
     if isinstance(fault, MemoryError):
         return Stop(NO_MEMORY, f"{path}: out of memory")
-    if isinstance(fault, OSError) and fault.errno in (errno.ENOSPC, errno.EDQUOT):
+    if isinstance(fault, OSError) and fault.errno in FULL:
         return Stop(UNWRITABLE, f"{path}: {fault.strerror}")
     step = fault.__traceback__
     while step.tb_next:

@@ -4,7 +4,7 @@ import shutil
 
 from manifest_files import Refused
 
-from . import UNCLEAR, Stop, manifest
+from . import FULL, UNCLEAR, Stop, manifest
 
 UNREADABLE = 4
 # Declared net ties, beside the manifest.
@@ -108,11 +108,8 @@ def beside(package, word):
 
 def of_manifest(path, scratch):
     """The package of a manifest that is there."""
-    try:
-        with open(path, "rb") as file:
-            data = file.read()
-    except OSError as error:
-        raise Stop(UNREADABLE, f"{path}: {error.strerror}") from None
+    with open(path, "rb") as file:
+        data = file.read()
     told = manifest.of_text(data)
     home, name = os.path.dirname(path), os.path.basename(path)
     package = Package(told, room(scratch, told.names() if told else []), name)
@@ -178,7 +175,10 @@ def opened(path, asked, scratch):
     except Refused as why:
         raise Stop(UNCLEAR, str(why)) from None
     except OSError as error:
-        raise Stop(UNREADABLE, f"{error.filename}: {error.strerror}") from None
+        if error.errno in FULL:
+            raise
+        inside = os.path.relpath(error.filename or path, path)
+        raise Stop(UNREADABLE, ("" if inside == "." else f"{inside}: ") + f"cannot be read: {error.strerror}") from None
 
 
 def keep(package, report, folder):

@@ -1,5 +1,6 @@
 //! Refusals: the line of each, and its status.
 ghost use Rattle.boardnet.specs.Answers.{RefusesFor, fault_status};
+ghost use Rattle.boardnet.specs.Common.{arc_line};
 ghost use Rattle.boardnet.specs.Command.{asked};
 ghost use Rattle.reports.specs.Lines.{Says};
 ghost use Rattle.boardnet.specs.Outcome.{fault_line, form_of, reason_line, refusal_line};
@@ -8,6 +9,7 @@ ghost use Rattle.std.specs.Prelude.{IfErr, IfOk, ◌≡◌, ◌≤◌};
 
 use crate::answer::Unanswered;
 use crate::commands::Command;
+use arc_layer::RealKind;
 use board_io::Sink;
 use board_package::{BuildFault, Refusal};
 use file_reading::RefusalKind;
@@ -63,14 +65,7 @@ fn put_reason<N: Sink>(subject: &str, report: &str, why: &Unanswered, notes: &mu
             kind,
             command,
             at,
-        } => {
-            let kind = Kind {
-                form: "Gerber",
-                number: kind.number(),
-                name: kind.name(),
-            };
-            lines::refused_at_byte(notes, file.as_bytes(), kind, b"command", *command, *at)
-        }
+        } => put_bent(file.as_bytes(), *kind, *command, *at, notes),
         Unanswered::NotJson(file) => lines::about_file(notes, file.as_bytes(), b"not JSON"),
         Unanswered::NotAManifest(file) => {
             lines::about_file(notes, file.as_bytes(), b"not a manifest")
@@ -80,6 +75,18 @@ fn put_reason<N: Sink>(subject: &str, report: &str, why: &Unanswered, notes: &mu
         }
         Unanswered::Unbound(why) => why.put(subject, report, notes),
     }
+}
+
+// Puts the line of a file that is refused as real copper.
+fn put_bent<N: Sink>(file: &[u8], kind: RealKind, command: u32, at: usize, notes: &mut N)
+    ensures { Says N.got N.faults notes.old notes.new (arc_line file.now kind command at) }
+{
+    let kind = Kind {
+        form: "Gerber",
+        number: kind.number(),
+        name: kind.name(),
+    };
+    lines::refused_at_byte(notes, file, kind, b"command", command, at)
 }
 
 // Puts the line of a fault of a package.

@@ -119,7 +119,9 @@ class Answers(made.Case):
         for word in ("--help", "-h"):
             status, out, _ = self.show(word)
             self.assertEqual((status, out.startswith("boardnet show PATH.. [OPTION ..]\ntells what is wrong")), (0, True))
-        self.assertEqual(self.show("nowhere")[0], 4)
+        self.assertEqual(self.show("nowhere")[:2], (4, "nowhere: cannot be read: No such file or directory\n"))
+        os.makedirs(self.path("odd", "m.json"))
+        self.assertEqual(self.show("odd")[:2], (4, "odd: m.json: cannot be read: Is a directory\n"))
 
     def test_folder_without_a_manifest(self):
         files = {**GOOD, "top.gbr": "%TF.FileFunction,Copper,L1,Top*%\n" + GOOD["top.gbr"], "notes.txt": "hello"}
