@@ -39,7 +39,7 @@ class Shown:
 
     def lacks(self, why):
         """Something that was asked for is not known."""
-        self.notes.append(why)
+        self.line = f"{self.line}; {why}"
         self.status = self.status or UNJUDGED
 
     def found(self, certain, possible, words):

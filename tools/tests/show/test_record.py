@@ -110,10 +110,11 @@ class Records(made.Case):
         for text, words in (("[", "no JSON"), ('{"boardnet_record": 2, "boardnet_record": 1}', "no JSON"), ("{}", "no record of the form 1"), ('{"boardnet_record": 2}', "no record of the form 1"), (None, "No such file")):
             if text is not None:
                 self.write("r.json", text)
-            status, out, _ = self.show("board", "--verify", "r.json" if text is not None else "none.json")
-            self.assertEqual(status, 12)
-            self.assertIn("not verified: ", out)
-            self.assertIn(words, out)
+            # The board's own line says why, which is all that a batch and an editor get.
+            for form in ([], ["-q"]):
+                status, out, _ = self.show("board", "--verify", "r.json" if text is not None else "none.json", *form)
+                self.assertEqual(status, 12)
+                self.assertRegex(out, rf"(?m)^board: .*; not verified: .*{words}")
 
     def test_archive_and_pages(self):
         """Of an archive the sums are those of its members; the page has the record, also where no picture is drawn."""
