@@ -6,10 +6,10 @@ comes nearest, or where two names part, is a suggestion and is called so.
 """
 import errno
 
-# The statuses beside those of the program: no package can be made of the files; the answer lies between two bounds; nothing was judged;
-# a fault of `show` itself.
+# Statuses of the program, and those beside: no package can be made of the files; the answer lies between two bounds; nothing was
+# judged; a fault of `show` itself.
+NOT_UNDERSTOOD, REFUSED, UNREADABLE, UNWRITABLE, NO_MEMORY = 2, 3, 4, 5, 6
 UNCLEAR, UNDECIDED, UNJUDGED, FAULT = 10, 11, 12, 70
-UNWRITABLE, NO_MEMORY = 5, 6
 # What the system says where a file has no room.
 FULL = (errno.ENOSPC, errno.EDQUOT)
 

@@ -2,13 +2,12 @@
 import re
 from typing import NamedTuple, Optional
 
-from . import UNJUDGED, Stop, netlist
+from . import NOT_UNDERSTOOD, UNJUDGED, Stop, netlist
 from .copper import BadCopper
 from .package import Package
 from .report import BadReport, Report
 
 MACRO = re.compile(r"(.*): Gerber 12 Macro at command ")
-NOT_UNDERSTOOD = 2
 NO_FLATTEN = "this program has no command `flatten`, so its copper is not known here: what is told is the report alone"
 
 

@@ -7,11 +7,10 @@ against the copper's own names: that these are the right ones nothing says.
 import re
 from typing import NamedTuple
 
-from . import UNCLEAR, Stop, clear, netlist, points, ties, two_sides
+from . import UNCLEAR, UNREADABLE, Stop, clear, netlist, points, ties, two_sides
 from .exact import Refused
 from .manifest import Manifest
 from .own_names import MADE
-from .package import UNREADABLE
 from .side import words_of
 from .tree import Tree
 from .words import at_most, counted, spoken

@@ -5,10 +5,8 @@ from mends import package as mends
 from mends import ways
 from mends.plating import unplated_hole
 
-from . import UNJUDGED, Stop
+from . import REFUSED, UNJUDGED, Stop
 from .words import counted
-
-REFUSED = 3
 
 
 def mend(package, progress):

@@ -4,9 +4,8 @@ import shutil
 
 from manifest_files import Refused
 
-from . import FULL, UNCLEAR, Stop, manifest
+from . import FULL, NOT_UNDERSTOOD, UNCLEAR, UNREADABLE, UNWRITABLE, Stop, manifest
 
-UNREADABLE = 4
 # Declared net ties, beside the manifest.
 TIES = "ties.txt"
 
@@ -181,17 +180,24 @@ def opened(path, asked, scratch):
         raise Stop(UNREADABLE, ("" if inside == "." else f"{inside}: ") + f"cannot be read: {error.strerror}") from None
 
 
+def need_netlist(package, asked):
+    """Refuses a netlist that is asked for where the manifest names another: the answer would be by that."""
+    its = package.manifest.netlist if package.manifest else None
+    if asked.netlist and its and its != asked.netlist:
+        raise Stop(NOT_UNDERSTOOD, f"--netlist {asked.netlist}: {package.name} names {its}, so have it name the other")
+
+
 def keep(package, report, folder):
     """Copies the package as it was judged, and its report, to a folder that must not be there yet."""
     if os.path.exists(folder):
-        raise Stop(5, f"{folder} is there already: --keep wants a new folder")
+        raise Stop(UNWRITABLE, f"{folder} is there already: --keep wants a new folder")
     try:
         shutil.copytree(package.folder, folder)
         with open(os.path.join(folder, "report.txt"), "wb") as file:
             file.write(report)
     except OSError as error:
         shutil.rmtree(folder, ignore_errors=True)
-        raise Stop(5, f"{folder}: {error.strerror}: cannot be written") from None
+        raise Stop(UNWRITABLE, f"{folder}: {error.strerror}: cannot be written") from None
     except BaseException:
         shutil.rmtree(folder, ignore_errors=True)
         raise

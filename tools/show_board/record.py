@@ -10,7 +10,7 @@ import os
 import subprocess
 from functools import lru_cache
 
-from . import Stop, indented
+from . import REFUSED, UNREADABLE, Stop, indented
 from .program import TOOLS
 from .words import counted, spoken
 
@@ -110,11 +110,11 @@ def read(path):
         with open(path, "rb") as file:
             record = json.loads(file.read().decode("utf-8"), object_pairs_hook=once)
     except OSError as error:
-        raise Stop(4, f"{path}: {error.strerror}") from None
+        raise Stop(UNREADABLE, f"{path}: {error.strerror}") from None
     except ValueError:
-        raise Stop(3, f"{path}: no record, since it is no JSON") from None
+        raise Stop(REFUSED, f"{path}: no record, since it is no JSON") from None
     if not isinstance(record, dict) or record.get("boardnet_record") != FORM:
-        raise Stop(3, f"{path}: no record of the form {FORM}")
+        raise Stop(REFUSED, f"{path}: no record of the form {FORM}")
     return record
 
 

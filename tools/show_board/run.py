@@ -5,12 +5,12 @@ import signal
 import sys
 import tempfile
 
-from . import Stop, fault_of, lines, seldom, unbuilt, written
+from . import NOT_UNDERSTOOD, UNWRITABLE, Stop, fault_of, lines, seldom, unbuilt, written
 from .program import TOOLS, Program, found
 from .progress import Progress
 from .shown import show
 
-NOT_UNDERSTOOD, UNWRITABLE, INTERRUPTED = 2, 5, 130
+INTERRUPTED = 130
 ONE_BOARD = ("rdb", "page", "svg", "keep", "ipc", "record", "verify")
 WITH_VALUES = ("--page", "--svg", "--at", "--json", "--junit", "--rdb", "--keep", "--netlist", "--ipc", "--like", "--gaps", "--record", "--verify")
 OFTEN = ("--tie",)

@@ -117,6 +117,7 @@ def show(path, asked, program, scratch):
     shown = Shown(path)
     try:
         files = package.opened(path, asked, scratch)
+        package.need_netlist(files, asked)
         own = by_own_names(files, asked)
         shown.ties = ties.declared(asked.tie, files)
         mending.mend(files, program.progress)

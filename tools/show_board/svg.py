@@ -1,13 +1,12 @@
 """A picture for a mail or a ticket: the whole board with its findings, or the place of one finding. Lengths are micrometres."""
 from xml.sax.saxutils import escape
 
-from . import Stop
+from . import NOT_UNDERSTOOD, Stop
 from .grid import meet as boxes_meet
 from .rdb import micrometres
 from .tree import apart, cover
 from .words import for_xml
 
-NOT_UNDERSTOOD = 2
 # Room round a finding, the least side of what is shown, both in u, and the width of the picture in pixels.
 ROOM, LEAST, WIDTH = 10_000_000, 60_000_000, 1000
 STYLE = """

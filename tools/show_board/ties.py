@@ -6,12 +6,11 @@ is not changed: its report has each tie as a short, and `audit` confirms that re
 import re
 from typing import NamedTuple
 
-from . import Stop
+from . import NOT_UNDERSTOOD, Stop
 from .netlist import NO_NET
 from .package import TIES
 from .words import counted
 
-NOT_UNDERSTOOD = 2
 # A line of ties.txt that begins with the sign, or what comes behind it with blanks round it: names may have it.
 COMMENT = re.compile(r"\A\s*#.*|\s#(\s.*)?\Z")
 

@@ -3,9 +3,7 @@ import os
 import sys
 import tempfile
 
-from . import Stop
-
-UNWRITABLE = 5
+from . import UNWRITABLE, Stop
 
 
 def write(path, text):

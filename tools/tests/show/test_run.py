@@ -122,6 +122,9 @@ class Answers(made.Case):
         self.assertEqual(self.show("nowhere")[:2], (4, "nowhere: cannot be read: No such file or directory\n"))
         os.makedirs(self.path("odd", "m.json"))
         self.assertEqual(self.show("odd")[:2], (4, "odd: m.json: cannot be read: Is a directory\n"))
+        # Nothing is judged by another netlist than the one that is asked for.
+        self.assertEqual(self.show("board", "--netlist", "n.ipc")[0], 0)
+        self.assertEqual(self.show("board", "--netlist", "other.ipc")[:2], (2, "board: --netlist other.ipc: m.json names n.ipc, so have it name the other\n"))
 
     def test_folder_without_a_manifest(self):
         files = {**GOOD, "top.gbr": "%TF.FileFunction,Copper,L1,Top*%\n" + GOOD["top.gbr"], "notes.txt": "hello"}
