@@ -1,5 +1,5 @@
 -- What the code's sums and products of turned figures are: no bits are lost.
-use Rattle.std.proofs.Common.{false, IsTrue, ◌≡◌, ◌↔◌, inl, inr, refl, ◌∙◌, ◌*◌, ℤ, pos, neg_ℤ, ◌+ℤ◌, ◌-ℤ◌, ◌*ℤ◌, ◌≤ℤ◌, arith, FitsSigned, to_z, of_z, to_z-of_z}
+use Rattle.std.proofs.Common.{false, IsTrue, ◌≡◌, ◌↔◌, inl, inr, refl, ◌*◌, ℤ, pos, neg_ℤ, ◌+ℤ◌, ◌-ℤ◌, ◌*ℤ◌, ◌≤ℤ◌, arith, FitsSigned, to_z, of_z, to_z-of_z}
 use Rattle.std.proofs.lemmas.Int.{ints}
 use lib.Signed.{le_z}
 use Rattle.std.specs.Int.{w128}
@@ -8,8 +8,7 @@ use Rattle.planar.specs.declared.TheConstants.{METRE, TWO_METRES}
 use Rattle.planar.specs.Plane.{IsPlaced, IsWithin, cross_of, dot_of}
 use Rattle.planar.proofs.Ring.{linear, le_or_lt, mul-neg, neg-mul, product_within}
 use Rattle.area_contact.specs.Parity.{is_le, not_le}
-use Rattle.slants.specs.Turned.{AreReady, IsBounded, IsSmall, back_of, lean_of, meet_of}
-use Rattle.slants.specs.declared.turned.Parts.{Parts}
+use Rattle.slants.specs.Turned.{AreReady, IsBounded, IsSmall, back_of, meet_of}
 use Rattle.slants.specs.declared.turns.Heading.{Heading}
 use Rattle.slants.specs.declared.turns.Motions.{Motions}
 use Rattle.slants.specs.declared.turns.Turn.{Turn}
@@ -164,20 +163,12 @@ module _ (a b c d e f : ℤ) (ha : IsPart a) (hb : IsPart b) (hc : IsPart c) (hd
 
 -- ---- the test
 
-lean_by : (m : Motions) (b c q : Spot) (d : Heading) (parts : Parts) (h : Heading) → h ≡ d → parts.still ≡ cross_of b c m.to → parts.across ≡ cross_of b c q -ℤ cross_of b c m.from → parts.along ≡ dot_of b c q -ℤ dot_of b c m.from
-    → parts.still *ℤ h.n +ℤ parts.across *ℤ h.x +ℤ parts.along *ℤ h.y ≡ lean_of m b c d q
-lean_by m b c q d parts h e f g k = rw (e, f, g, k) refl
-
 -- a sign that is told by the number's bits
-sign_read : (r z : ℤ) → r ≡ z → FitsSigned w128 r → IsTrue (le_z (pos 0) (read r)) ↔ (pos 0 ≤ℤ z)
+pub sign_read : (r z : ℤ) → r ≡ z → FitsSigned w128 r → IsTrue (le_z (pos 0) (read r)) ↔ (pos 0 ≤ℤ z)
 sign_read r z e f = rw (to_z-of_z f, e) (there, λ l. rw (is_le (pos 0) z l) refl)
   where
     there : IsTrue (le_z (pos 0) z) → pos 0 ≤ℤ z
     there t = elim (le_or_lt (pos 0) z) [ inl l ↦ l | inr l ↦ (let n : le_z (pos 0) z ≡ false = not_le (pos 0) z l in cc) ]
-
-pub lean_read : (m : Motions) (b c q : Spot) (d : Heading) (parts : Parts) (h : Heading) (r : ℤ) → h ≡ d → parts.still ≡ cross_of b c m.to → parts.across ≡ cross_of b c q -ℤ cross_of b c m.from → parts.along ≡ dot_of b c q -ℤ dot_of b c m.from
-    → FitsSigned w128 r → r ≡ parts.still *ℤ h.n +ℤ parts.across *ℤ h.x +ℤ parts.along *ℤ h.y → IsTrue (le_z (pos 0) (read r)) ↔ (pos 0 ≤ℤ lean_of m b c d q)
-lean_read m b c q d parts h r e f g k fits is = sign_read r (lean_of m b c d q) (is ∙ lean_by m b c q d parts h e f g k) fits
 
 -- ---- the motions back
 

@@ -10,6 +10,7 @@ use Rattle.board_shapes.specs.Figures.{InFigure, filled}
 use Rattle.slants.specs.Rounds.{GoesRound}
 use Rattle.slants.specs.Taken.{Each}
 use Rattle.slants.specs.declared.turned.Parts.{Parts}
+use Rattle.slants.specs.declared.turns.Triangle.{Triangle}
 use Rattle.slants.specs.declared.turns.Heading.{Heading}
 use Rattle.slants.specs.declared.turns.Motions.{Motions}
 use Rattle.slants.specs.declared.turns.Turn.{Turn}
@@ -67,6 +68,15 @@ pub record AreReady (m : Motions) : Type 0 where
 abbrev pub IsBounded : Heading → Type 0
 IsBounded d = IsWithin (2 * MOST_PART * MOST_PART) d.x × IsWithin (2 * MOST_PART * MOST_PART) d.y × IsWithin (2 * MOST_PART * MOST_PART) d.n
 
+-- of a triangle that holds each direction of the cone, where the ways are less than a right angle apart: both directions, and where the tangents there meet
+pub record IsTriangle (m : Motions) (k : Triangle) : Type 0 where
+  pub first : k.first ≡ meet_of m.first m.first
+  pub middle : k.middle ≡ meet_of m.first m.last
+  pub last : k.last ≡ meet_of m.last m.last
+  pub first_bounded : IsBounded k.first
+  pub middle_bounded : IsBounded k.middle
+  pub last_bounded : IsBounded k.last
+
 abbrev pub AreBounded : Parts → Type 0
 AreBounded a = IsWithin (4 * TWO_METRES * TWO_METRES) a.still × IsWithin (4 * TWO_METRES * TWO_METRES) a.across × IsWithin (4 * TWO_METRES * TWO_METRES) a.along
 
@@ -74,7 +84,7 @@ AreBounded a = IsWithin (4 * TWO_METRES * TWO_METRES) a.still × IsWithin (4 * T
 abbrev pub lean_of : Motions → Spot → Spot → Heading → Spot → ℤ
 lean_of m b c d q = cross_of b c m.to *ℤ d.n +ℤ (cross_of b c q -ℤ cross_of b c m.from) *ℤ d.x +ℤ (dot_of b c q -ℤ dot_of b c m.from) *ℤ d.y
 
--- the spot is on the left at three corners: where the ways are less than a right angle apart, of a triangle that holds each direction of the cone
+-- the spot is on the left at the three corners of that
 abbrev pub Leans : Motions → Spot → Spot → Spot → Type 0
 Leans m b c q = (pos 0 ≤ℤ lean_of m b c (meet_of m.first m.first) q) × (pos 0 ≤ℤ lean_of m b c (meet_of m.first m.last) q) × (pos 0 ≤ℤ lean_of m b c (meet_of m.last m.last) q)
 

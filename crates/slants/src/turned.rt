@@ -2,12 +2,12 @@
 ghost use Rattle.board_shapes.specs.Figures.{InFigure, filled};
 ghost use Rattle.planar.specs.Plane.{IsPlaced, IsWithin, Point, cross_of, dot_of};
 ghost use Rattle.slants.specs.Rounds.{EachEdge, EachFrom, GoesRound, on_way};
-ghost use Rattle.slants.specs.Turned.{AllLean, AreBounded, AreReady, InTurned, IsBetween, IsBounded, IsSmall, Leans, TurnedAbove, TurnedBelow, lean_of, meet_of};
+ghost use Rattle.slants.specs.Turned.{AllLean, AreBounded, AreReady, InTurned, IsBetween, IsBounded, IsTriangle, Leans, TurnedAbove, TurnedBelow};
 ghost use Rattle.slants.specs.declared.turns.Turn.{Turn as AnyTurn};
 ghost use Rattle.std.specs.Prelude.{All, IsTrue, pos, ◌≡◌, ◌+ℤ◌, ◌-ℤ◌, ◌*ℤ◌, ◌≤ℤ◌, ◌↔◌};
 
 use super::contours::{goes_once, is_closed};
-use super::turns::{Heading, Motions, Turn, are_ready, back, meet};
+use super::turns::{Heading, Motions, Triangle, are_ready, back, triangle_of};
 use planar::{Spot, are_placed, cross, dot};
 
 /// How far a spot is on the left of a line, in square u: without a turn, and by the cosine and by the sine of one.
@@ -45,42 +45,41 @@ fn parts_of(m: &Motions, b: Spot, c: Spot, q: Spot) -> Parts
     }
 }
 
-/// Whether the spot is on the left of the line from `b` to `c`, where it goes to for a heading.
-fn leans_so(m: &Motions, b: Spot, c: Spot, u: Turn, v: Turn, q: Spot) -> bool
-    requires ready { AreReady m.now }
-    requires b_placed { IsPlaced b }
-    requires c_placed { IsPlaced c }
-    requires u_small { IsSmall u }
-    requires v_small { IsSmall v }
-    requires q_placed { IsPlaced q }
-    ensures { IsTrue result ↔ pos 0 ≤ℤ lean_of m.now b c (meet_of u v) q }
+/// Whether that is 0 or over.
+fn leans_so(parts: Parts, d: Heading) -> bool
+    requires parts_bounded { AreBounded parts }
+    requires bounded { IsBounded d }
+    ensures { IsTrue result ↔ pos 0 ≤ℤ (parts.still *ℤ d.n +ℤ parts.across *ℤ d.x +ℤ parts.along *ℤ d.y) }
 {
-    lean(parts_of(m, b, c, q), meet(u, v)) >= 0
+    lean(parts, d) >= 0
 }
 
-/// Whether it is so for the three corners of a triangle about all directions.
-fn leans(m: &Motions, b: Spot, c: Spot, q: Spot) -> bool
+/// Whether the spot is on the left of the line from `b` to `c`, where it goes to for the three headings.
+fn leans(m: &Motions, triangle: &Triangle, b: Spot, c: Spot, q: Spot) -> bool
     requires ready { AreReady m.now }
+    requires triangle { IsTriangle m.now triangle.now }
     requires b_placed { IsPlaced b }
     requires c_placed { IsPlaced c }
     requires q_placed { IsPlaced q }
     ensures { IsTrue result ↔ Leans m.now b c q }
 {
-    leans_so(m, b, c, m.first, m.first, q)
-        && leans_so(m, b, c, m.first, m.last, q)
-        && leans_so(m, b, c, m.last, m.last, q)
+    let parts = parts_of(m, b, c, q);
+    leans_so(parts, triangle.first)
+        && leans_so(parts, triangle.middle)
+        && leans_so(parts, triangle.last)
 }
 
 /// Whether it is so of each corner of the figure.
-fn all_lean(m: &Motions, b: Spot, c: Spot, figure: &[Spot]) -> bool
+fn all_lean(m: &Motions, triangle: &Triangle, b: Spot, c: Spot, figure: &[Spot]) -> bool
     requires ready { AreReady m.now }
+    requires triangle { IsTriangle m.now triangle.now }
     requires b_placed { IsPlaced b }
     requires c_placed { IsPlaced c }
     requires placed { All IsPlaced figure.now }
     ensures { IsTrue result ↔ AllLean figure.now m.now b c }
 {
     for q in figure {
-        if !leans(m, b, c, *q) {
+        if !leans(m, triangle, b, c, *q) {
             return false;
         }
     }
@@ -88,23 +87,39 @@ fn all_lean(m: &Motions, b: Spot, c: Spot, figure: &[Spot]) -> bool
 }
 
 /// Whether it is so for the edge from `b` to `c`, or `back` for that from `c` to `b`.
-fn all_lean_so(m: &Motions, back: bool, b: Spot, c: Spot, figure: &[Spot]) -> bool
+fn all_lean_so(
+    m: &Motions,
+    triangle: &Triangle,
+    back: bool,
+    b: Spot,
+    c: Spot,
+    figure: &[Spot],
+) -> bool
     requires ready { AreReady m.now }
+    requires triangle { IsTriangle m.now triangle.now }
     requires b_placed { IsPlaced b }
     requires c_placed { IsPlaced c }
     requires placed { All IsPlaced figure.now }
     ensures { IsTrue result ↔ on_way back (AllLean figure.now m.now) b c }
 {
     if back {
-        all_lean(m, c, b, figure)
+        all_lean(m, triangle, c, b, figure)
     } else {
-        all_lean(m, b, c, figure)
+        all_lean(m, triangle, b, c, figure)
     }
 }
 
 /// Whether it is so for each edge of the way from `start`, or for each of the way back.
-fn each_leans(m: &Motions, back: bool, start: Spot, rest: &[Spot], figure: &[Spot]) -> bool
+fn each_leans(
+    m: &Motions,
+    triangle: &Triangle,
+    back: bool,
+    start: Spot,
+    rest: &[Spot],
+    figure: &[Spot],
+) -> bool
     requires ready { AreReady m.now }
+    requires triangle { IsTriangle m.now triangle.now }
     requires start_placed { IsPlaced start }
     requires rest_placed { All IsPlaced rest.now }
     requires placed { All IsPlaced figure.now }
@@ -112,7 +127,7 @@ fn each_leans(m: &Motions, back: bool, start: Spot, rest: &[Spot], figure: &[Spo
 {
     let mut from = start;
     for to in rest {
-        if !all_lean_so(m, back, from, *to, figure) {
+        if !all_lean_so(m, triangle, back, from, *to, figure) {
             return false;
         }
         from = *to;
@@ -121,19 +136,28 @@ fn each_leans(m: &Motions, back: bool, start: Spot, rest: &[Spot], figure: &[Spo
 }
 
 /// Whether it is so for one of both.
-fn leans_round(m: &Motions, start: Spot, rest: &[Spot], figure: &[Spot]) -> bool
+fn leans_round(
+    m: &Motions,
+    triangle: &Triangle,
+    start: Spot,
+    rest: &[Spot],
+    figure: &[Spot],
+) -> bool
     requires ready { AreReady m.now }
+    requires triangle { IsTriangle m.now triangle.now }
     requires start_placed { IsPlaced start }
     requires rest_placed { All IsPlaced rest.now }
     requires placed { All IsPlaced figure.now }
     ensures { IsTrue result ↔ EachEdge (AllLean figure.now m.now) start rest.now }
 {
-    each_leans(m, false, start, rest, figure) || each_leans(m, true, start, rest, figure)
+    each_leans(m, triangle, false, start, rest, figure)
+        || each_leans(m, triangle, true, start, rest, figure)
 }
 
 /// Whether the polygon goes round the figure once.
-fn goes_round(m: &Motions, points: &[Spot], figure: &[Spot]) -> bool
+fn goes_round(m: &Motions, triangle: &Triangle, points: &[Spot], figure: &[Spot]) -> bool
     requires ready { AreReady m.now }
+    requires triangle { IsTriangle m.now triangle.now }
     requires points_placed { All IsPlaced points.now }
     requires placed { All IsPlaced figure.now }
     ensures { IsTrue result ↔ GoesRound (AllLean figure.now m.now) points.now }
@@ -142,7 +166,7 @@ fn goes_round(m: &Motions, points: &[Spot], figure: &[Spot]) -> bool
         [] => false,
         [first, rest @ ..] => is_closed(points)
             && goes_once(*first, rest)
-            && leans_round(m, *first, rest, figure),
+            && leans_round(m, triangle, *first, rest, figure),
     }
 }
 
@@ -156,7 +180,7 @@ pub fn is_above_turned(figure: &[Spot], m: &Motions, points: &[Spot]) -> bool
     if !(are_ready(m) && are_placed(figure) && are_placed(points)) {
         return false;
     }
-    is_closed(figure) && goes_round(m, points, figure)
+    is_closed(figure) && goes_round(m, &triangle_of(m), points, figure)
 }
 
 /// Whether the polygon lies in the figure for each of the motions. The edges of the figure have to rise in one run, with

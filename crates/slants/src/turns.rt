@@ -1,6 +1,6 @@
 //! Turns, and rigid motions by those between two.
 ghost use Rattle.planar.specs.Plane.{IsWithin};
-ghost use Rattle.slants.specs.Turned.{AreReady, IsBounded, IsSmall, back_of, meet_of, mirrored};
+ghost use Rattle.slants.specs.Turned.{AreReady, IsBounded, IsTriangle, IsSmall, back_of, meet_of, mirrored};
 ghost use Rattle.std.specs.Prelude.{IsTrue, ◌≡◌, ◌↔◌};
 
 use planar::{Spot, cross, dot, is_placed};
@@ -79,7 +79,7 @@ fn way(t: Turn) -> Spot
 }
 
 /// Where the tangents at the directions of both turns meet; of one turn, its direction.
-pub fn meet(u: Turn, v: Turn) -> Heading
+fn meet(u: Turn, v: Turn) -> Heading
     requires u_small { IsSmall u }
     requires v_small { IsSmall v }
     ensures value { result ≡ meet_of u v }
@@ -90,5 +90,26 @@ pub fn meet(u: Turn, v: Turn) -> Heading
         x: dot(zero, way(u), way(mirror(v))),
         y: cross(zero, way(mirror(u)), way(v)),
         n: dot(zero, way(u), way(v)),
+    }
+}
+
+/// The corners of a triangle about the directions of all turns between two: the directions of both, and where the tangents
+/// there meet.
+#[derive(Clone, Copy)]
+pub struct Triangle {
+    pub first: Heading,
+    pub middle: Heading,
+    pub last: Heading,
+}
+
+/// Those of the motions.
+pub fn triangle_of(m: &Motions) -> Triangle
+    requires ready { AreReady m.now }
+    ensures { IsTriangle m.now result }
+{
+    Triangle {
+        first: meet(m.first, m.first),
+        middle: meet(m.first, m.last),
+        last: meet(m.last, m.last),
     }
 }
