@@ -12,13 +12,13 @@ use crate::paths::{flag_path, path_of};
 use crate::places::place_net;
 use lengths::rows::{NoMemory, Rows};
 use std::alloc::Global;
-use verdict::{Branch, Mark, Short, Tree, Twig};
+use verdict::{Branch, Mark, Short, SmallRows, Tree, Twig};
 
 /// The shorts of all nets, from the names on each net.
 pub fn shorts_of(
     alloc: Global,
     nets: &[Tree],
-    marks: &[Rows<Mark>],
+    marks: &[SmallRows<Mark>],
     count: usize,
     homes: &[Option<u32>],
 ) -> Result<Rows<Short>, NoMemory>

@@ -7,3 +7,4 @@ pub mod Lawful
 pub mod Limits
 pub mod Laws
 pub mod ReportReading
+pub mod Stored

@@ -391,6 +391,37 @@ impl Line for SpotLine {
     }
 }
 
+// Writes the copy and the span of a source, and the end of its line. Mostly each number has one digit: then all are put at once.
+fn write_copy_and_span(out: &mut Vec<u8>, source: &SourceLine) -> Result<(), AllocError>
+    ensures written { OnOk result (out.new.items ≡ out.old.items ++ (report.word source.now.copy ++ report.word source.now.top ++ report.word source.now.bottom ++ report.end)) }
+    ensures lawful { OnOk result (IsSourceLine source.now) }
+{
+    let SourceLine {
+        copy,
+        top,
+        bottom,
+        ..
+    } = *source;
+    if copy < 10 && top < 10 && bottom < 10 {
+        return put(
+            out,
+            &[
+                b' ',
+                b'0' + copy as u8,
+                b' ',
+                b'0' + top,
+                b' ',
+                b'0' + bottom,
+                b'\n',
+            ],
+        );
+    }
+    put_blank_number(out, u64::from(copy))?;
+    put_blank_number(out, u64::from(top))?;
+    put_blank_number(out, u64::from(bottom))?;
+    put(out, b"\n")
+}
+
 impl Line for SourceLine {
     ghost at = { spec.source_at };
 
@@ -418,10 +449,9 @@ impl Line for SourceLine {
 
     fn write(&self, number: u64, out: &mut Vec<u8>) -> Result<(), AllocError> {
         write_heading(out, b"source", number)?;
-        write_words(out, &[self.file, self.command, self.copy])?;
-        put_blank_number(out, u64::from(self.top))?;
-        put_blank_number(out, u64::from(self.bottom))?;
-        put(out, b"\n")
+        put_blank_number(out, u64::from(self.file))?;
+        put_blank_number(out, u64::from(self.command))?;
+        write_copy_and_span(out, self)
     }
 }
 

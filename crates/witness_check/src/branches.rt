@@ -8,10 +8,9 @@ ghost use Rattle.verdict.specs.declared.verdict.PointLine.{PointLine};
 ghost use Rattle.witness_check.specs.Marked.{AreStamped, AreUpTo, HasMarks};
 
 use crate::nets::first_of;
-use crate::small_rows::SmallRows;
 use lengths::rows::NoMemory;
 use std::alloc::Global;
-use verdict::{Branch, Mark, Short, Tree, Twig};
+use verdict::{Branch, Mark, Short, SmallRows, Tree, Twig};
 
 /// Whether the branches of all shorts are right. The shorts have the names of the marks on their nets, and each mark
 /// says which point its branch has; points and pieces of branches may be any numbers. The ends of a short's branches are

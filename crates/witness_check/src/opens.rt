@@ -5,9 +5,8 @@ ghost use Rattle.verdict.specs.Seats.{AreFirstSeats};
 ghost use Rattle.verdict.specs.declared.verdict.PointLine.{PointLine};
 ghost use Rattle.witness_check.specs.Opened.{IsPast, open_by};
 
-use crate::small_rows::SmallRows;
 use lengths::text::Text;
-use verdict::{Open, Seat};
+use verdict::{Open, Seat, SmallRows};
 
 /// Whether the opens are those of all names, from the first point of each name on each net. The list is gone through
 /// once, beside the names.

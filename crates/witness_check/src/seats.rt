@@ -6,10 +6,9 @@ ghost use Rattle.verdict.specs.Seats.{AreFirstSeats, marks_at, marks_from, marks
 ghost use Rattle.witness_check.specs.Marked.{AreUpTo};
 ghost use Rattle.witness_check.specs.Seated.{HaveFirsts, Takes, begins_on};
 
-use crate::small_rows::{SmallRows, small_rows};
 use lengths::rows::NoMemory;
 use std::alloc::Global;
-use verdict::{Mark, PointLine, Seat};
+use verdict::{Mark, PointLine, Seat, SmallRows, empty_small_rows};
 
 /// What the points say of names and nets.
 #[derive(Drop)]
@@ -37,7 +36,7 @@ pub fn groups_of(
     ensures marks { IfOk result (λ groups. (net : ℕ) → net < nets → marks_at groups.marks.items net ≡ marks_from net 0 groups.seats.items) }
 {
     let rows = seats_of_names(alloc, names, lines)?;
-    let mut marks = small_rows(alloc, nets)?;
+    let mut marks = empty_small_rows(alloc, nets)?;
     let seats = first_seats(alloc, rows.as_slice(), lines, marks.as_mut_slice())?;
     Ok(Groups { seats, marks })
 }
@@ -77,7 +76,7 @@ fn seats_of_names(
     ensures long { IfOk result (λ rows. length rows.items ≡ names) }
     ensures seats { IfOk result (λ rows. HaveFirsts rows.items lines.now) }
 {
-    let mut table = small_rows(alloc, names)?;
+    let mut table = empty_small_rows(alloc, names)?;
     seat_all(alloc, lines, table.as_mut_slice())?;
     Ok(table)
 }

@@ -4,8 +4,7 @@ ghost use Rattle.verdict.specs.Right.{outline};
 ghost use Rattle.verdict.specs.Seats.{branch_name, mark_name};
 ghost use Rattle.witness_check.specs.Marked.{outline_of, outlines_from};
 
-use crate::small_rows::SmallRows;
-use verdict::{Branch, Mark, Short};
+use verdict::{Branch, Mark, Short, SmallRows};
 
 /// Whether the shorts are those of the nets with two marks or more, in their order, with a branch for each mark.
 pub fn shorts_hold(marks: &[SmallRows<Mark>], shorts: &[Short]) -> bool

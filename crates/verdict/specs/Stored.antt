@@ -1,7 +1,7 @@
 -- The items of a small list.
 use Rattle.std.specs.Prelude.{List, [], ◌∷◌}
-use Rattle.witness_check.specs.declared.small_rows.Stored.{Stored}
-use Rattle.witness_check.specs.declared.small_rows.Stored.TheVariants.{Nothing, One, Many}
+use Rattle.verdict.specs.declared.small_rows.Stored.{Stored}
+use Rattle.verdict.specs.declared.small_rows.Stored.TheVariants.{Nothing, One, Many}
 
 -- the items in order
 abbrev pub stored_items : {T : Type 0} → Stored T → List T

@@ -23,7 +23,7 @@ pub struct SmallRows<T> {
 
 impl<T> Model for SmallRows<T> {
     ghost use Rattle.std.specs.Prelude.{List};
-    ghost use Rattle.witness_check.specs.Stored.{stored_items};
+    ghost use Rattle.verdict.specs.Stored.{stored_items};
 
     ghost Value = { List T };
 
@@ -83,7 +83,7 @@ fn pair<T: Copy>(alloc: Global, first: T, second: T) -> Result<Rows<T>, NoMemory
 }
 
 /// So many empty lists. `NoMemory` where memory is wanted.
-pub fn small_rows<T: Copy>(alloc: Global, count: usize) -> Result<Vec<SmallRows<T>>, NoMemory>
+pub fn empty_small_rows<T: Copy>(alloc: Global, count: usize) -> Result<Vec<SmallRows<T>>, NoMemory>
     ensures long { IfOk result (λ rows. length rows.items ≡ count) }
     ensures empty { IfOk result (λ rows. All (λ row. row ≡ []) rows.items) }
 {
