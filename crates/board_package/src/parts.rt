@@ -39,7 +39,7 @@ impl<S: Drop> Parts<S> {
         }
     }
 
-    /// Adds the pieces of a file, for which there is room. `NoMemory` is its only fault.
+    /// Adds the pieces of a file, for which there is room. `NoMemory` is its only fault. Those of the first file stay where they are.
     pub fn add(&mut self, mut pieces: Vec<Placed<S>>) -> Result<(), BuildFault>
         requires lawful { IsLawfulParts self.old }
         requires few { length self.old.pieces.items + length pieces.items ≤ MOST_PIECES }
@@ -48,6 +48,10 @@ impl<S: Drop> Parts<S> {
         ensures lawful { OnOk result (IsLawfulParts self.new) }
         ensures fault { IfErr result (λ why. why ≡ fault.NoMemory) }
     {
+        if self.pieces.is_empty() {
+            self.pieces = pieces;
+            return Ok(());
+        }
         Ok(self.pieces.append(&mut pieces)?)
     }
 }

@@ -65,7 +65,7 @@ fn digits_in(digits: &[u8]) -> Option<u32>
     }
 }
 
-// The number in so many columns.
+// The number in so many columns. Most are coordinates of six digits: where their count is known, the loops over them are unrolled.
 fn number_of(text: &[u8], width: usize) -> Option<u32>
     requires width { width ≤ 6 }
     requires within { length text.now ≤ width }
@@ -74,7 +74,11 @@ fn number_of(text: &[u8], width: usize) -> Option<u32>
     if text.len() < width {
         return None;
     }
-    digits_in(without_front(text))
+    let digits = without_front(text);
+    match digits.first_chunk::<6>() {
+        Some(six) => digits_in(six),
+        None => digits_in(digits),
+    }
 }
 
 #[tactic(auto, unfolding(crate::specs::RecordLines::access_in))]
