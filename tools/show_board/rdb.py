@@ -2,7 +2,7 @@
 from xml.sax.saxutils import escape
 
 from .lines import doubt
-from .words import counted, for_xml
+from .words import for_xml
 
 KINDS = {"open": "Parts of a name that no copper joins", "short": "Names that copper joins", "missing": "Test points without copper",
          "gap": "Nets that are too close", "wider": "Copper that the upper of two bounds has and the lower one has not"}
@@ -60,7 +60,7 @@ def text(shown):
     categories = "".join(f"<category><name>{kind}</name><description>{told}</description><categories/></category>" for kind, told in KINDS.items())
     items = items_of(shown)
     rows = ['<?xml version="1.0" encoding="utf-8"?>', "<report-database>",
-            f"  <description>{escape(shown.title)}: {counted(len(shown.findings), 'finding')} of boardnet</description>", "  <original-file/>",
+            f"  <description>{escape(shown.title)}: {escape(shown.line)}</description>", "  <original-file/>",
             "  <generator>boardnet show</generator>", "  <top-cell>board</top-cell>", "  <tags/>",
             f"  <categories>{categories}</categories>", "  <cells><cell><name>board</name><variant/><layout-name/><references/></cell></cells>",
             "  <items>", *items, "  </items>", "</report-database>", ""]

@@ -65,46 +65,63 @@ def status_of(all_shown):
 def told(asked, all_shown):
     """What is printed."""
     if asked.q:
-        return [row for shown in all_shown for row in lines.quiet(shown)]
-    if len(all_shown) > 1:
-        return [lines.summary(shown) for shown in all_shown]
-    return list(lines.reader(all_shown[0], asked.all))
+        rows = [row for shown in all_shown for row in lines.quiet(shown)]
+    elif len(all_shown) > 1:
+        rows = [lines.summary(shown) for shown in all_shown]
+    else:
+        rows = lines.reader(all_shown[0], asked.all)
+    return "".join(row + "\n" for row in rows)
 
 
-def write(asked, all_shown):
-    """Writes what was asked for, and prints the rest; where a form goes to the standard output, nothing else does."""
+def forms(asked, all_shown):
+    """Each FILE that is asked for with its text, or with None where there is nothing to write."""
+    first = all_shown[0]
     if asked.json:
         from . import json_form
-        written.write(asked.json, json_form.text(all_shown))
+        yield asked.json, json_form.text(all_shown)
     if asked.junit:
         from . import junit
-        written.write(asked.junit, junit.text(all_shown))
+        yield asked.junit, junit.text(all_shown)
     if asked.rdb:
         from . import rdb
-        written.write(asked.rdb, rdb.text(all_shown[0]))
-    if asked.ipc and all_shown[0].tester and all_shown[0].tester.text:
-        written.write(asked.ipc, all_shown[0].tester.text)
-    if asked.record and all_shown[0].record:
+        yield asked.rdb, rdb.text(first)
+    if asked.ipc:
+        yield asked.ipc, first.tester and first.tester.text
+    if asked.record:
         from . import record
-        written.write(asked.record, record.text(all_shown[0].record))
+        yield asked.record, first.record and record.text(first.record)
     if asked.page or asked.svg:
-        pictures(asked, all_shown[0])
-    if "-" not in (asked.json, asked.junit, asked.rdb, asked.page, asked.svg, asked.ipc, asked.record):
-        written.write("-", "".join(row + "\n" for row in told(asked, all_shown)))
+        yield from pictures(asked, first)
 
 
 def pictures(asked, shown):
     if not shown.board or shown.board.shapes is None:
-        if asked.page and shown.record:
+        if asked.page:
             from . import record_page
-            written.write(asked.page, record_page.page(shown))
+            yield asked.page, shown.record and record_page.page(shown)
+        if asked.svg:
+            yield asked.svg, None
         print(f"boardnet: no picture is drawn, since the copper of {shown.path} is not known", file=sys.stderr)
         return
     from . import page, svg
     if asked.page:
-        written.write(asked.page, page.text(shown))
+        yield asked.page, page.text(shown)
     if asked.svg:
-        written.write(asked.svg, svg.text(shown, asked.at))
+        yield asked.svg, svg.text(shown, asked.at)
+
+
+def write(asked, all_shown):
+    """Writes what was asked for, and prints the rest. Where a form goes to the standard output, nothing else does: what is told goes
+    to the standard error where there is no such form."""
+    is_form = False
+    for path, text in forms(asked, all_shown):
+        is_form = is_form or path == "-"
+        if text:
+            written.write(path, text)
+        elif path == "-":
+            print(told(asked, all_shown), end="", file=sys.stderr)
+    if not is_form:
+        written.write("-", told(asked, all_shown))
 
 
 def boards(asked, program):

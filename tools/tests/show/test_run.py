@@ -226,6 +226,11 @@ class Answers(made.Case):
         refused = self.board({**GOOD, "top.gbr": "%FSLAX46Y46*%\n"}, "refused")
         self.show(refused, "--junit", "r.xml")
         self.assertIn("NotEnded", minidom.parseString(self.read("r.xml")).getElementsByTagName("error")[0].getAttribute("message"))
+        # Where there is no such form, the standard error has the words.
+        for name in ("--ipc", "--record", "--page", "--svg"):
+            status, out, notes = self.show("nowhere", name, "-")
+            self.assertEqual((status, out, notes.split("\n")[0]), (4, "", "nowhere: cannot be read: No such file or directory"), name)
+        self.assertIn("<description>nowhere: cannot be read: No such file", self.show("nowhere", "--rdb", "-")[1])
 
     def test_output_that_cannot_be_written(self):
         self.board(BAD)
