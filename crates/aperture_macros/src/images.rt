@@ -39,7 +39,7 @@ pub fn circle(text: &[u8], parameters: &[Decimal], unit: Unit) -> Result<Option<
     })
 }
 
-/// The rectangle of `w,x,y,x,y`, or the stroke of a slanted line. What is taken is the same whichever lines are.
+/// The rectangle of `w,x,y,x,y`, or the stroke of a slanted line, in either copper.
 #[tactic(auto, unfolding(crate::specs::Images::line_at))]
 pub fn line(
     copper: Copper,
