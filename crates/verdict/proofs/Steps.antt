@@ -1,5 +1,5 @@
 -- Steps of reading, and the fields of a report: what is read stood in front, and what stands in front is read.
-use Rattle.std.proofs.Common.{◌≡◌, ℕ, zero, suc, ◌+◌, ◌-◌, ◌^◌, ◌<◌, Bool, true, false, not, ◌&&◌, ◌||◌, cond, eqb, ltb, leb, List, [], ◌∷◌, ◌++◌, length, take, drop, get_or, Option, Some, None, Result, Ok, Err, refl, sym, ap, subst, ◌∙◌, append_assoc, arith, rules, inl, inr}
+use Rattle.std.proofs.Common.{◌≡◌, ℕ, zero, suc, ◌+◌, ◌-◌, ◌^◌, ◌<◌, ◌≤◌, Bool, true, false, not, ◌&&◌, ◌||◌, cond, eqb, ltb, leb, List, [], ◌∷◌, ◌++◌, length, take, drop, get_or, Option, Some, None, Result, Ok, Err, refl, sym, ap, subst, ◌∙◌, append_assoc, arith, rules, inl, inr}
 use Rattle.std.specs.Prelude.{decimal}
 use Rattle.std.specs.Cmp.Lexicographic.{pointwise}
 use Rattle.std.specs.List.{list_all, list_any, prefix_len, take_while, before_first, after_first, position_or_len, AllByRecursion}
@@ -7,7 +7,7 @@ use Rattle.std.specs.Result.{OkIff, result_ok}
 use Rattle.std.specs.Str.Parse.{digits_value, ParsesUnsigned}
 use Rattle.std.proofs.lemmas.Bool.{cases_lt, ltb-true, lt-ltb, le-ltb, leb-true, le-leb, eq-eqb, eqb-true}
 use Rattle.std.proofs.lemmas.Fmt.{decimal_digit, decimal_nonempty, first_decimal, decimal-digits_value, digits_value-decimal, digits_decimal}
-use Rattle.std.proofs.lemmas.List.{take_at, drop_at, take-append-drop, take-take, length-append, length-take}
+use Rattle.std.proofs.lemmas.List.{take_at, drop_at, take-append-drop, take-take, get_or-take, length-append, length-take, length-take-le}
 use Rattle.std.proofs.lemmas.List.Elements.{All-from_recursion, recursion_from_All}
 use Rattle.std.proofs.lemmas.List.Sums.{take_while-cons, split_at_first, passes_at_first}
 use Rattle.std.proofs.lemmas.Slice.Eq.{bytes_eq-Decides}
@@ -91,7 +91,7 @@ numeral_parts [] e = absurd cc
 numeral_parts (c ∷ []) e = (omega arith, λ _. refl)
 numeral_parts (c ∷ d ∷ rest) e = (omega arith, λ h. absurd (not_true (eqb c 48) (eq-eqb c 48 h) e))
 
-numeral_from : (ds : List ℕ) → 0 < length ds → 48 < get_or ds 0 0 → is_numeral ds ≡ true
+pub numeral_from : (ds : List ℕ) → 0 < length ds → 48 < get_or ds 0 0 → is_numeral ds ≡ true
 numeral_from [] some high = absurd (omega arith)
 numeral_from (c ∷ []) some high = refl
 numeral_from (c ∷ d ∷ rest) some high = by (eqb c 48) refl
@@ -155,6 +155,17 @@ wide_is bytes digits rest len value e front back some is small =
     let left : drop (prefix_len is_decimal_digit bytes) bytes ≡ rest = sym (back ∙ ap (λ (k : ℕ). drop k bytes) e) in
     let below : ltb value (2 ^ 64) ≡ true = lt-ltb value (2 ^ 64) (omega (arith, small)) in
     rw (numeral, worth, below, left) refl
+
+-- two digits or more in front, of which the first is no zero, are a number
+pub number_is : (bytes rest : List ℕ) (len value : ℕ) → IsRun bytes len value → 2 ≤ len → len ≤ 18 → 48 < get_or bytes 0 0 → value < 2 ^ 32 → rest ≡ drop len bytes → number_at bytes ≡ Some (value, rest)
+unfolding number_at
+number_is bytes rest len value run some few high small back =
+    let within = run.within in
+    let first : get_or (take len bytes) 0 0 ≡ get_or bytes 0 0 = get_or-take len bytes 0 0 (omega (arith, some)) in
+    let long : length (take len bytes) ≡ len = length-take-le len bytes within in
+    let numeral : is_numeral (take len bytes) ≡ true = numeral_from (take len bytes) (omega (arith, long, some)) (omega (arith, first, high)) in
+    let wide : wide_at bytes ≡ Some (value, rest) = wide_is bytes (take len bytes) rest len value run.long refl back numeral (run.worth few) (run.small few) in
+    rw (wide, lt-ltb value (2 ^ 32) small) refl
 
 pub wide_takes : (bytes : List ℕ) (n : ℕ) (rest : List ℕ) → wide_at bytes ≡ Some (n, rest) → (bytes ≡ decimal n ++ rest) × (n < 2 ^ 64)
 unfolding wide_at value_of

@@ -144,9 +144,24 @@ pub fn wide(bytes: &[u8]) -> Result<(u64, &[u8]), ReadFault>
     }
 }
 
-/// A number below 2^32.
-#[tactic(auto, unfolding(crate::specs::ReportReading::number_at))]
+/// A number below 2^32. One of two to eighteen digits, as most are, is told with few tests.
 pub fn number(bytes: &[u8]) -> Result<(u32, &[u8]), ReadFault>
+    ensures reads { spec.Gives (λ x. (x.0, x.1.now)) result (spec.number_at bytes.now) }
+    ensures cause { IfErr result (λ fault. fault ≡ ReadFault.NotAReport) }
+{
+    let (len, value) = leading(bytes);
+    if len >= 2 && len <= 18 && bytes[0] > b'0' && value < 4_294_967_296 {
+        let (_, rest) = bytes.split_at(len);
+        return Ok((value as u32, rest));
+    }
+    any_number(bytes)
+}
+
+// The same of any digits.
+#[cold]
+#[inline(never)]
+#[tactic(auto, unfolding(crate::specs::ReportReading::number_at))]
+fn any_number(bytes: &[u8]) -> Result<(u32, &[u8]), ReadFault>
     ensures reads { spec.Gives (λ x. (x.0, x.1.now)) result (spec.number_at bytes.now) }
     ensures cause { IfErr result (λ fault. fault ≡ ReadFault.NotAReport) }
 {

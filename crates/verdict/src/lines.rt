@@ -455,7 +455,9 @@ impl Line for SourceLine {
     }
 }
 
-// So many items. Memory is taken for those that are there, and not for the count.
+// So many items. Memory is taken for those that are there, and not for the count. Not inlined, so that the loop over each kind of
+// line has the registers.
+#[inline(never)]
 fn items<T: Line>(alloc: Global, count: u64, bytes: &[u8]) -> Result<(Rows<T>, &[u8]), ReadFault>
     ensures { spec.Gives (λ x. (x.0, x.1.now)) result (spec.items_at T.at count 0 bytes.now) }
 {
