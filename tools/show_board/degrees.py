@@ -47,8 +47,8 @@ def lean(b, c, heading):
 
 
 def goes_once(corners):
-    """Round them edges change at most twice between up and not, and some edge's line has the first corner beside it."""
-    ups = [b[1] > a[1] for a, b in edges(corners)]
+    """Round them edges change at most twice between up and down, and some edge's line has the first corner beside it."""
+    ups = [b[1] > a[1] for a, b in edges(corners) if a[1] != b[1]]
     changes = sum(a != b for a, b in zip(ups, ups[1:]))
     return changes <= 2 and any(cross(corners[0], b, c) for b, c in edges(corners))
 

@@ -1,5 +1,5 @@
 -- A point that is on the left of each edge of a contour that goes round once, or on the right of each, lies in its area.
-use Rattle.std.proofs.Common.{Bool, true, false, not, ◌&&◌, ◌||◌, int_lt, ◌≡◌, ◌≤◌, ◌⊎◌, inl, inr, ℤ, pos, neg_ℤ, ◌+ℤ◌, ◌-ℤ◌, ◌*ℤ◌, ◌≤ℤ◌, ◌<ℤ◌, List, [], ◌∷◌, arith, refl, subst, sym, ◌∙◌}
+use Rattle.std.proofs.Common.{Bool, true, false, not, ◌&&◌, ◌||◌, int_le, int_lt, ◌≡◌, ◌≤◌, ◌⊎◌, inl, inr, ℤ, pos, neg_ℤ, ◌+ℤ◌, ◌-ℤ◌, ◌*ℤ◌, ◌≤ℤ◌, ◌<ℤ◌, List, [], ◌∷◌, arith, refl, subst, sym, ◌∙◌}
 use lib.Signed.{lt_z}
 use Rattle.planar.specs.declared.Spot.{Spot}
 use Rattle.planar.specs.Plane.{InCapsule, Point, cross_of, square}
@@ -7,7 +7,7 @@ use Rattle.planar.proofs.Ring.{ring, linear, le_or_lt, times_from_zero, times_mo
 use Rattle.area_contact.specs.Contour.{InArea, OnEdge, SomeEdge, edges_from, edges_of, end_from}
 use Rattle.area_contact.specs.Parity.{crossed, is_le, is_lt, not_le, not_lt, odd, odd_is, passes, side_of}
 use Rattle.area_contact.proofs.Hits.{on_turned}
-use Rattle.slants.specs.Rounds.{EachFrom, GoesRound, IsFlat, changes, on_way, rises}
+use Rattle.slants.specs.Rounds.{EachFrom, GoesRound, IsFlat, changes, goes_up, on_way}
 use Rattle.slants.specs.Taken.{Each}
 use Rattle.slants.proofs.Corners.{each_as}
 use Rattle.slants.proofs.Runs.{fallen, fallen_is, risen, told}
@@ -112,21 +112,28 @@ is_down : (y n : ℤ) (c : Spot) → up y n c ≡ false → (n *ℤ c.y -ℤ y) 
 unfolding up
 is_down y n c h = elim (le_or_lt (n *ℤ c.y -ℤ y) (pos 0)) [ inl l ↦ l | inr l ↦ (let e : lt_z (pos 0) (n *ℤ c.y -ℤ y) ≡ true = is_lt (pos 0) (n *ℤ c.y -ℤ y) l in cc) ]
 
-less_is : (a b : ℤ) → int_lt a b ≡ true → a <ℤ b
-less_is a b h = elim (le_or_lt b a) [ inl l ↦ (let e : int_lt a b ≡ false = not_lt a b l in cc) | inr l ↦ l ]
+none_up : (r : Bool) → (false || (r && false)) ≡ true → ⊥
+none_up true h = cc
+none_up false h = cc
 
-not_less_is : (a b : ℤ) → int_lt a b ≡ false → b ≤ℤ a
-not_less_is a b h = elim (le_or_lt b a) [ inl l ↦ l | inr l ↦ (let e : int_lt a b ≡ true = is_lt a b l in cc) ]
+not_down : (r : Bool) (a b : ℤ) → (int_lt a b || (r && int_le a b)) ≡ true → a ≤ℤ b
+not_down r a b h = elim (le_or_lt a b) [
+  | inl l ↦ l
+  | inr l ↦ (let e : (false || (r && false)) ≡ true = rw (not_lt a b (omega (arith, linear, l)), not_le a b l) at h in absurd (none_up r e))
+]
 
-goes_up : (y n : ℤ) (c : Spot) → pos 0 <ℤ (n *ℤ c.y -ℤ y) → up y n c ≡ true
+not_up : (r : Bool) (a b : ℤ) → (int_lt a b || (r && int_le a b)) ≡ false → b ≤ℤ a
+not_up r a b h = elim (le_or_lt b a) [ inl l ↦ l | inr l ↦ (let e : (true || (r && int_le a b)) ≡ false = rw (is_lt a b l) at h in cc) ]
+
+is_over : (y n : ℤ) (c : Spot) → pos 0 <ℤ (n *ℤ c.y -ℤ y) → up y n c ≡ true
 unfolding up
-goes_up y n c h = is_lt (pos 0) (n *ℤ c.y -ℤ y) h
+is_over y n c h = is_lt (pos 0) (n *ℤ c.y -ℤ y) h
 
-rise_up : (p : Point) (a b : Spot) → rises a b ≡ true → up p.y p.n a ≡ true → up p.y p.n b ≡ true
-rise_up p a b h k = goes_up p.y p.n b (omega (arith, linear, is_up p.y p.n a k, times_mono p.n a.y b.y (omega (arith, linear, p.positive)) (omega (arith, linear, less_is a.y b.y h))))
+rise_up : (p : Point) (r : Bool) (a b : Spot) → goes_up r a b ≡ true → up p.y p.n a ≡ true → up p.y p.n b ≡ true
+rise_up p r a b h k = is_over p.y p.n b (omega (arith, linear, is_up p.y p.n a k, times_mono p.n a.y b.y (omega (arith, linear, p.positive)) (not_down r a.y b.y h)))
 
-fall_up : (p : Point) (a b : Spot) → rises a b ≡ false → up p.y p.n b ≡ true → up p.y p.n a ≡ true
-fall_up p a b h k = goes_up p.y p.n a (omega (arith, linear, is_up p.y p.n b k, times_mono p.n b.y a.y (omega (arith, linear, p.positive)) (not_less_is a.y b.y h)))
+fall_up : (p : Point) (r : Bool) (a b : Spot) → goes_up r a b ≡ false → up p.y p.n b ≡ true → up p.y p.n a ≡ true
+fall_up p r a b h k = is_over p.y p.n a (omega (arith, linear, is_up p.y p.n b k, times_mono p.n b.y a.y (omega (arith, linear, p.positive)) (not_up r a.y b.y h)))
 
 -- of an edge that it is not on the right of, the point is on it, or the ray crosses it exactly where it comes up
 meets_left : (a b : Spot) (p : Point) → pos 0 ≤ℤ side_of a b p.x p.y p.n → InCapsule a b (pos 0) p ⊎ (crossed (record { start = a; end = b }) p.x p.y p.n ≡ (not (up p.y p.n a) && up p.y p.n b))

@@ -5,7 +5,7 @@ use Rattle.planar.specs.declared.Spot.{Spot}
 use Rattle.planar.specs.Plane.{Point, at, dot_of, square}
 use Rattle.planar.proofs.Ring.{ring, linear, times_from_zero, times_mono, times_cancel, square_cancel, over_zero, square-neg, mul-neg, mul-add_left, mul-add_right, one-times, times-zero}
 use Rattle.board_shapes.specs.Figures.{InFigure, filled}
-use Rattle.area_contact.specs.Parity.{is_lt, not_lt, side_of}
+use Rattle.area_contact.specs.Parity.{is_le, is_lt, not_le, not_lt, side_of}
 use Rattle.board_shapes.specs.Rectangles.{rectangle}
 use Rattle.slants.specs.Copper.{InSlant}
 use Rattle.slants.specs.Laws.{LevelIsRectangle, OtherWayIsSame}
@@ -178,7 +178,9 @@ module _ (s : Spot) (v : ℤ) (h k : ℕ) (right : pos 1 ≤ℤ (v -ℤ s.x)) (w
         not_lt (s.y -ℤ pos h) (s.y -ℤ pos h) (omega (arith, linear)),
         is_lt (s.y -ℤ pos h) (s.y +ℤ pos h) (omega (arith, ints, some)),
         not_lt (s.y +ℤ pos h) (s.y +ℤ pos h) (omega (arith, linear)),
+        is_le (s.y +ℤ pos h) (s.y +ℤ pos h) (omega (arith, linear)),
         not_lt (s.y +ℤ pos h) (s.y -ℤ pos h) (omega (arith, ints)),
+        not_le (s.y +ℤ pos h) (s.y -ℤ pos h) (omega (arith, ints, some)),
       ) (omega arith));
       wide = λ all. omega (arith, linear, all.1.0, round, turn_b s.x v s.y (pos h));
     }

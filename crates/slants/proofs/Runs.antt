@@ -4,7 +4,7 @@ use Rattle.planar.specs.declared.Spot.{Spot}
 use Rattle.planar.proofs.EdgeLaw.{xor}
 use Rattle.area_contact.specs.Contour.{end_from}
 use Rattle.area_contact.specs.Parity.{xor-same, xor-chain, xor-equal}
-use Rattle.slants.specs.Rounds.{change, changes, rises}
+use Rattle.slants.specs.Rounds.{change, changes, goes_up}
 use Rattle.slants.specs.Taken.{Each}
 
 abbrev one_of : Bool → ℕ
@@ -122,10 +122,10 @@ module _ (up : Spot → Bool) where
       by false false k o e g h = h (omega (arith, e))
 
   -- ---- a way up leaves no corner that is up, a way down leads to none
-  module _ (rise : (a b : Spot) → rises a b ≡ true → up a ≡ true → up b ≡ true) (fall : (a b : Spot) → rises a b ≡ false → up b ≡ true → up a ≡ true) where
+  module _ (rise : (r : Bool) (a b : Spot) → goes_up r a b ≡ true → up a ≡ true → up b ≡ true) (fall : (r : Bool) (a b : Spot) → goes_up r a b ≡ false → up b ≡ true → up a ≡ true) where
     bounded : (r : Bool) (a : Spot) (rest : List Spot) → climbs a rest + climbs a rest + one_of (up a) ≤ changes r a rest + change r (up a) + one_of (up (end_from a rest))
     bounded r a [] = omega arith
-    bounded r a (b ∷ rest) = further r (rises a b) (up a) (up b) (climbs b rest) (changes (rises a b) b rest) (one_of (up (end_from b rest))) (rise a b) (fall a b) (bounded (rises a b) b rest)
+    bounded r a (b ∷ rest) = further r (goes_up r a b) (up a) (up b) (climbs b rest) (changes (goes_up r a b) b rest) (one_of (up (end_from b rest))) (rise r a b) (fall r a b) (bounded (goes_up r a b) b rest)
 
     at_most_once : (r : Bool) (a : Spot) (rest : List Spot) → end_from a rest ≡ a → changes r a rest ≤ 2 → climbs a rest ≤ 1
     at_most_once r a rest closed few =

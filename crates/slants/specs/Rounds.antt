@@ -1,24 +1,24 @@
 -- Contours that go round once: their edges rise in one run.
-use Rattle.std.specs.Prelude.{ℕ, ◌+◌, ◌≤◌, Bool, true, false, int_lt, pos, ◌≡◌, ◌⊎◌, ⊤, List, [], ◌∷◌}
+use Rattle.std.specs.Prelude.{ℕ, ◌+◌, ◌≤◌, Bool, true, false, ◌&&◌, ◌||◌, int_le, int_lt, pos, ◌≡◌, ◌⊎◌, ⊤, List, [], ◌∷◌}
 use Rattle.planar.specs.Plane.{cross_of}
 use Rattle.planar.specs.declared.Spot.{Spot}
 use Rattle.area_contact.specs.Contour.{IsClosed}
 
--- the way from a to b goes up
-abbrev pub rises : Spot → Spot → Bool
-rises a b = int_lt a.y b.y
+-- the way goes up from a to b: b is higher, or as high where the way went up before
+abbrev pub goes_up : Bool → Spot → Spot → Bool
+goes_up up a b = int_lt a.y b.y || (up && int_le a.y b.y)
 
--- 1 where one of two ways goes up and the other does not
+-- 1 where of two ways one goes up and one down
 abbrev pub change : Bool → Bool → ℕ
 change true true = 0
 change true false = 1
 change false true = 1
 change false false = 0
 
--- how often the way from a through the spots changes between up and not, where it came up to a, or did not
+-- how often the way from a through the spots changes between up and down, where it came to a so; what is level goes on as before
 abbrev pub changes : Bool → Spot → List Spot → ℕ
 changes up a [] = 0
-changes up a (b ∷ rest) = change up (rises a b) + changes (rises a b) b rest
+changes up a (b ∷ rest) = change up (goes_up up a b) + changes (goes_up up a b) b rest
 
 -- what is said of two spots holds of the start and the end of each edge of the way from a through the spots
 abbrev pub EachFrom : (Spot → Spot → Type 0) → Spot → List Spot → Type 0
@@ -29,7 +29,7 @@ EachFrom P a (b ∷ rest) = P a b × EachFrom P b rest
 abbrev pub IsFlat : Spot → Spot → Spot → Type 0
 IsFlat a b c = cross_of a b c ≡ pos 0
 
--- the way from a through the spots changes at most twice between up and not, and some edge's line has a beside it
+-- the way from a through the spots changes at most twice between up and down, and some edge's line has a beside it
 pub record GoesOnce (a : Spot) (rest : List Spot) : Type 0 where
   pub once : (changes true a rest ≤ 2) ⊎ (changes false a rest ≤ 2)
   pub wide : ¬ EachFrom (IsFlat a) a rest

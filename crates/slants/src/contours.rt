@@ -21,21 +21,21 @@ pub fn is_closed(points: &[Spot]) -> bool
     points.is_empty() || is_same(points[points.len() - 1], points[0])
 }
 
-/// Whether `b` is higher than `a`.
-fn rises(a: Spot, b: Spot) -> bool
-    ensures { result ≡ spec.rises a b }
+/// Whether a way that went up, or not, goes up from `a` to `b`: a level one goes on as before.
+fn goes_up(up: bool, a: Spot, b: Spot) -> bool
+    ensures { result ≡ spec.goes_up up a b }
 {
-    a.y < b.y
+    a.y < b.y || (up && a.y <= b.y)
 }
 
-/// 1 where one of two ways goes up and the other does not, else 0.
+/// 1 where of two ways one goes up and one down, else 0.
 fn change(up: bool, next: bool) -> u32
     ensures { result ≡ spec.change up next }
 {
     if up == next { 0 } else { 1 }
 }
 
-/// Whether the way from `start`, before which it went up or did not, changes at most twice between both.
+/// Whether the way from `start`, to which it came up or down, changes at most twice between both.
 fn changes_little(up: bool, start: Spot, rest: &[Spot]) -> bool
     ensures { IsTrue result ↔ changes up start rest.now ≤ 2 }
 {
@@ -43,7 +43,7 @@ fn changes_little(up: bool, start: Spot, rest: &[Spot]) -> bool
     let mut before = up;
     let mut from = start;
     for to in rest {
-        let next = rises(from, *to);
+        let next = goes_up(before, from, *to);
         count += change(before, next);
         if count > 2 {
             return false;

@@ -560,7 +560,7 @@ fn turned_rows_are_told(rt: HostRuntime) {
 /// Six corners of a figure, six of a polygon, and whether that is taken below and above the figure by the turn of 3, 4, 5.
 type OutlineRow = ([i64; 12], [i64; 12], (bool, bool));
 
-fn outline_rows() -> [OutlineRow; 8] {
+fn outline_rows() -> [OutlineRow; 9] {
     [
         // a hexagon, with whole corners
         (
@@ -609,6 +609,16 @@ fn outline_rows() -> [OutlineRow; 8] {
             ],
             [
                 1100, 200, 800, 600, 500, 1000, -1100, -200, -500, -1000, 300, -400,
+            ],
+            (true, true),
+        ),
+        // one twice, on a side that rises
+        (
+            [
+                1000, -500, 1000, 0, 1000, 0, 1000, 500, -1000, 500, -1000, -500,
+            ],
+            [
+                1100, 200, 800, 600, 800, 600, 500, 1000, -1100, -200, -500, -1000,
             ],
             (true, true),
         ),

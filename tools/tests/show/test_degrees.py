@@ -19,13 +19,21 @@ def are_placed(spots):
     return all(-METRE <= v <= METRE for spot in spots for v in spot)
 
 
+def changes(up, ways):
+    """How often they change between up and down; a level one goes on as before."""
+    count = 0
+    for a, b in ways:
+        was, up = up, b[1] > a[1] or up and b[1] == a[1]
+        count += was != up
+    return count
+
+
 def goes_round(points):
-    """It is closed, changes at most twice between rising and not, and has its first corner beside the line of some edge."""
+    """It is closed, changes at most twice between up and down, and has its first corner beside the line of some edge."""
     if not points or points[0] != points[-1]:
         return False
     ways = list(zip(points, points[1:]))
-    changes = lambda up: sum(was != now for was, now in zip([up] + [b[1] > a[1] for a, b in ways], [b[1] > a[1] for a, b in ways]))
-    return min(changes(True), changes(False)) <= 2 and any(cross(points[0], a, b) for a, b in ways)
+    return min(changes(True, ways), changes(False, ways)) <= 2 and any(cross(points[0], a, b) for a, b in ways)
 
 
 def lean_of(about, to, b, c, heading, q):
@@ -174,6 +182,7 @@ class TestFigures(unittest.TestCase):
         ("a triangle", ["4,1,3,0,0,1,0,0,1,0,0,$1"], [45], ["turned"], [(1, 1)]),
         ("a chamfered box", ["4,1,8,-1,-.5,-.8,-.7,.8,-.7,1,-.5,1,.5,.8,.7,-.8,.7,-1,.5,-1,-.5,$1"], [Q("12.3456789")], ["turned"], [(1, 1)]),
         ("one with spots on straight ways", ["4,1,6,0,0,1,0,2,0,2,0,2,2,0,2,0,0,$1"], [45], ["turned"], [(1, 1)]),
+        ("a corner twice on a side that rises", ["4,1,4,1,1,1,1,0,2,0,0,1,1,$1"], [1], ["turned"], [(1, 1)]),
         ("a corner inwards", ["4,1,5,0,0,2,0,2,2,1,1,0,2,0,0,$1"], [45], ["outline"], None),
         ("a star, twice round", ["4,1,5,0,1,.6,-.8,-1,.3,1,.3,-.6,-.8,0,1,$1"], [45], ["outline"], None),
         ("a line there and back", ["4,1,3,0,0,1,1,2,2,0,0,$1"], [45], ["outline"], None),
