@@ -1,7 +1,9 @@
 """Apertures of a copper file as what both sides write for them: passed on, or as pieces within the shape and pieces round it."""
 from fractions import Fraction as Q
 
-from .arcs import Arc, arc_chain, chain_bounds
+from mends.definitions import MOST_WIDE
+
+from .arcs import Arc, arc_chain, chain_bounds, draw_bounds
 from .exact import Refused, exact
 from .macros import figures, rectangle, regular, rows, without
 from .outlines import convex_bounds
@@ -74,6 +76,8 @@ def standard(name, lengths, hole):
     low, high = [even_down(v) for v in lengths], [even_up(v) for v in lengths]
     if hole and name == OBROUND:
         return holed_shape(obround(*lengths), hole)
+    if name == CIRCLE and is_ring(*lengths, hole):
+        return ring_shape(int(lengths[0]), int(hole))
     if hole:
         lower, upper = holed(name, low, hole), solid(name, high)
         return Shape(lower, upper, "a shape with a hole" if upper and not lower else None)
@@ -101,6 +105,18 @@ def obround(w, h):
     x, y = w / 2 - r, h / 2 - r
     ends = [("disc", (exact(s * x), exact(s * y)), r) for s in (-1, 1)]
     return ends + ([("convex", rectangle(*((-x, -r, x, r) if x else (-r, -y, r, y))))] if x or y else []) if r else []
+
+
+def is_ring(d, hole):
+    """Whether a circle has a round hole as `between` reads it: a draw once round it has whole places."""
+    return d % 2 == hole % 2 == (d + hole) % 4 == 0 < hole < d <= MOST_WIDE
+
+
+def ring_shape(d, hole):
+    """A circle with a round hole by a draw once round it."""
+    spot = ((d + hole) // 4, 0)
+    both = draw_bounds((0, 0), spot, spot, Q(d - hole, 4))[1]
+    return Shape(*both, None if both[0] else "a shape with a hole", rows=[tuple(map(len, both))])
 
 
 def holed_shape(figures, hole):

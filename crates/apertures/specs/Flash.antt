@@ -1,5 +1,5 @@
 -- What an aperture flashes.
-use Rattle.std.specs.Prelude.{◌≡◌, ℕ, Bool, true, false, ◌&&◌, ◌==◌, ◌%◌, ◌/◌, ◌-◌, min, nat_lt, if◌then◌else◌, ℤ, pos, ◌≤◌, ◌≤ℤ◌, unsigned_abs, Option, Some, None, Result, Ok, Err}
+use Rattle.std.specs.Prelude.{◌≡◌, ℕ, Bool, true, false, ◌&&◌, ◌==◌, ◌%◌, ◌/◌, ◌-◌, min, nat_lt, if◌then◌else◌, List, ℤ, pos, ◌≤◌, ◌≤ℤ◌, unsigned_abs, Option, Some, None, Result, Ok, Err}
 use Rattle.std.specs.List.{list_all}
 use Rattle.contact.specs.declared.TheConstants.{MOST_DIAMETER}
 use Rattle.planar.specs.Plane.{is_placed}
@@ -9,10 +9,12 @@ use Rattle.board_shapes.specs.declared.shape.Shape.{Shape}
 use Rattle.board_shapes.specs.Figures.{Figure, Stroke, filled, round, seen_shape}
 use Rattle.board_shapes.specs.Rectangles.{lower, rectangle, upper}
 use Rattle.apertures.specs.declared.aperture.Aperture.{Aperture}
-use Rattle.apertures.specs.declared.aperture.Aperture.TheVariants.{Circle, Rectangle, Obround}
+use Rattle.apertures.specs.declared.aperture.Aperture.TheVariants.{Circle, Rectangle, Obround, Ring}
 use Rattle.apertures.specs.declared.fault.FlashFault.{FlashFault}
 use Rattle.apertures.specs.declared.fault.FlashFault.TheVariants.{OutOfRange, NoMemory}
 use Rattle.apertures.specs.Definition.{is_zero}
+use Rattle.apertures.specs.Holes.{is_ring}
+use Rattle.apertures.specs.Telling.{told_ring}
 
 -- a size: even, and from 0 to 1 m
 pub record IsSize (z : ℤ) : Type 0 where
@@ -25,18 +27,20 @@ abbrev pub IsNarrow : ℕ → Type 0
 IsNarrow size = size ≤ MOST_DIAMETER
 
 -- every size is one, only a circle has a size of 0, and neither a circle's diameter nor an obround's lesser side is over
--- MOST_DIAMETER
+-- MOST_DIAMETER; a hole is less than its circle
 abbrev pub IsLawful : Aperture → Type 0
 IsLawful (Circle d) = IsSize d × IsNarrow (unsigned_abs d)
 IsLawful (Rectangle x y) = IsSize x × IsSize y × (is_zero x ≡ false) × (is_zero y ≡ false)
 IsLawful (Obround x y) = IsSize x × IsSize y × (is_zero x ≡ false) × (is_zero y ≡ false) × IsNarrow (min (unsigned_abs x) (unsigned_abs y))
+IsLawful (Ring d hole) = IsSize d × IsSize hole × IsNarrow (unsigned_abs d) × (is_ring (unsigned_abs d) (unsigned_abs hole) ≡ true)
 
--- whether the aperture is a rectangle
-abbrev pub is_rectangle : Aperture → Bool
-is_rectangle (Rectangle x y) = true
-is_rectangle other = false
+-- whether the aperture flashes an area
+abbrev pub is_of_area : Aperture → Bool
+is_of_area (Rectangle x y) = true
+is_of_area (Ring d hole) = true
+is_of_area other = false
 
--- the diameter of the pen that the aperture is: a circle alone draws
+-- the diameter of the pen that the aperture is: a circle without a hole alone draws (4.8)
 abbrev pub pen_of : Aperture → Option ℤ
 pen_of (Circle d) = Some d
 pen_of other = None
@@ -53,9 +57,13 @@ disc d at = if d == 0 then None else Some (round (record { a = at; b = at; r = p
 pub data NoFlash : Type 0 where
   leaves : NoFlash
 
--- the area of four corners, each within 1 m
+-- the area of these spots, each within 1 m
+abbrev pub area_at : List Spot → Result (Option Figure) NoFlash
+area_at points = if list_all is_placed points then Ok (Some (filled points)) else Err leaves
+
+-- that of four corners
 abbrev pub rectangle_at : ℕ → ℕ → Spot → Result (Option Figure) NoFlash
-rectangle_at x y at = if list_all is_placed (rectangle (lower at x y) (upper at x y)) then Ok (Some (filled (rectangle (lower at x y) (upper at x y)))) else Err leaves
+rectangle_at x y at = area_at (rectangle (lower at x y) (upper at x y))
 
 -- a capsule with both ends within 1 m
 abbrev pub placed : Stroke → Result (Option Figure) NoFlash
@@ -67,11 +75,12 @@ obround x y at =
     if nat_lt y x then placed (record { a = lower at (x - y) 0; b = upper at (x - y) 0; r = pos (y / 2) })
     else placed (record { a = lower at 0 (y - x); b = upper at 0 (y - x); r = pos (x / 2) })
 
--- what the aperture makes at a spot (Gerber Layer Format Specification, 4.4)
+-- What the aperture makes at a spot (Gerber Layer Format Specification, 4.4); of a circle with a hole, what tells it.
 unfoldable pub flash_of : Aperture → Spot → Result (Option Figure) NoFlash
 flash_of (Circle d) at = Ok (disc (unsigned_abs d) at)
 flash_of (Rectangle x y) at = rectangle_at (unsigned_abs x) (unsigned_abs y) at
 flash_of (Obround x y) at = obround (unsigned_abs x) (unsigned_abs y) at
+flash_of (Ring d hole) at = area_at (told_ring (unsigned_abs d) (unsigned_abs hole) at)
 
 -- the answer is the flash
 abbrev pub IsFlash : Result (Option Shape) FlashFault → Result (Option Figure) NoFlash → Type 0

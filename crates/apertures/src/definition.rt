@@ -1,9 +1,9 @@
 //! How an aperture's definition is read.
-ghost use Rattle.std.specs.Prelude.{◌≡◌, ◌==◌, ◌*◌, ◌+◌, ◌<◌, ◌^◌, true, false, take, drop, Option, Some, None, Result, IfOk};
+ghost use Rattle.std.specs.Prelude.{◌≡◌, ◌==◌, ◌*◌, ◌+◌, ◌<◌, ◌≤◌, ◌^◌, true, false, take, drop, length, unsigned_abs, Option, Some, None, Result, IfOk};
 ghost use Rattle.std.specs.List.{after_first, before_first, list_all, list_any, position_or_len, prefix_len};
-ghost use Rattle.std.specs.Str.Parse.{digits_value_after};
+ghost use Rattle.std.specs.Str.Parse.{digits_value, digits_value_after};
 ghost use Rattle.texts.specs.Digits.{is_decimal_digit};
-ghost use Rattle.apertures.specs.Flash.{IsLawful};
+ghost use Rattle.apertures.specs.Flash.{IsLawful, IsNarrow};
 ghost use Rattle.apertures.specs.Definition as spec;
 
 use crate::aperture::Aperture;
@@ -30,6 +30,33 @@ pub fn read_aperture(word: &[u8], unit: Unit) -> Result<(u32, Aperture), Apertur
     let text = &word[3..];
     let len = digits_len(text);
     numbered(&text[..len], &text[len..], unit)
+}
+
+// What follows `ADD`.
+fn behind_letters(word: &[u8]) -> &[u8]
+    ensures { result.now ≡ drop 3 word.now }
+{
+    if word.len() < 3 {
+        return &[];
+    }
+    &word[3..]
+}
+
+/// The name of an aperture with its parameters, which stand behind its number.
+pub fn name_text(word: &[u8]) -> &[u8]
+    ensures { result.now ≡ spec.name_text word.now }
+{
+    let text = behind_letters(word);
+    &text[digits_len(text)..]
+}
+
+/// The number of an aperture, of at most nine digits.
+pub fn number(word: &[u8]) -> u32
+    requires { length (spec.number_digits word.now) ≤ 9 }
+    ensures { result ≡ digits_value 10 (spec.number_digits word.now) }
+{
+    let text = behind_letters(word);
+    small_value(&text[..digits_len(text)])
 }
 
 #[tactic(auto, unfolding(crate::specs::Definition::numbered_at))]
@@ -77,9 +104,9 @@ fn circle(text: &[u8], unit: Unit) -> Result<Aperture, ApertureFault>
     Ok(Aperture::Circle(d))
 }
 
-// Whether a parameter stands behind the byte, and no further one behind it.
+/// Whether a parameter stands behind the byte, and no further one behind it.
 #[tactic(auto, unfolding(crate::specs::Definition::last_behind))]
-fn last_behind(text: &[u8], byte: u8) -> Result<(), ApertureFault>
+pub fn last_behind(text: &[u8], byte: u8) -> Result<(), ApertureFault>
     ensures { result ≡ spec.last_behind (λ b. b == byte) text.now }
 {
     if !has(text, byte) {
@@ -123,10 +150,11 @@ fn sides_in(parameters: &[u8], unit: Unit) -> Result<(i64, i64), ApertureFault>
     Ok((x, y))
 }
 
-// A size that is at most `MOST_DIAMETER`.
+/// A size that is at most `MOST_DIAMETER`.
 #[tactic(auto, unfolding(crate::specs::Definition::diameter_at))]
-fn diameter(text: &[u8], unit: Unit) -> Result<i64, ApertureFault>
-    ensures { result ≡ spec.diameter_at text.now unit }
+pub fn diameter(text: &[u8], unit: Unit) -> Result<i64, ApertureFault>
+    ensures value { result ≡ spec.diameter_at text.now unit }
+    ensures narrow { IfOk result (λ d. IsNarrow (unsigned_abs d)) }
 {
     let d = size(text, unit)?;
     if d.unsigned_abs() > MOST_DIAMETER {

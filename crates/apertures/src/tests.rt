@@ -117,6 +117,37 @@ fn of_parameters() -> [Word; 13] {
     ]
 }
 
+// Words of real copper, in mm: a circle may have a round hole, and all else is read as above.
+const HOLES: [(&str, &str); 15] = [
+    ("ADD10C,1.0X0.5", "Ok((10, Ring(10000000, 5000000)))"),
+    ("ADD010C,0.000001X.0000006", "Ok((10, Ring(10, 6)))"),
+    ("ADD10C,1.0", "Ok((10, Circle(10000000)))"),
+    ("ADD10C,1X0.5X0.5", "Err(Hole)"),
+    ("ADD10R,1X1X0.5", "Err(Hole)"),
+    ("ADD10O,1X1X0.5", "Err(Hole)"),
+    // For each parameter in turn.
+    ("ADD10C,xX0.0000001", "Err(BadText)"),
+    ("ADD10C,0.0000001Xx", "Err(OffGrid)"),
+    ("ADD10C,50.0000002Xx", "Err(OutOfRange)"),
+    ("ADD10C,1X", "Err(BadText)"),
+    ("ADD10C,1X-0.5", "Err(OutOfRange)"),
+    // Then whether the hole leaves a ring whose middle line is on the grid.
+    ("ADD10C,1X0", "Err(Hole)"),
+    ("ADD10C,1X1", "Err(Hole)"),
+    ("ADD10C,1X1.5", "Err(Hole)"),
+    ("ADD10C,0.000001X.0000008", "Err(Hole)"),
+];
+
+#[test]
+fn holes_are_read(rt: HostRuntime) -> Result<(), Fail> {
+    for (word, expected) in HOLES {
+        let read = read_real_aperture(word.as_bytes(), Unit::Mm);
+        let found = format!(in rt.alloc(); "{read:?}")?;
+        assert_eq!(rt; found.as_str(), expected, "{word:?}");
+    }
+    Ok(())
+}
+
 // Whether each word defines what its row says.
 fn all_define(alloc: Global, rows: &[Word]) -> Result<bool, AllocError> {
     for (word, unit, expected) in rows {
@@ -139,7 +170,7 @@ fn words_define_apertures(rt: HostRuntime) -> Result<(), Fail> {
 
 /// Words in mm and spots with the shape there: a disc or a capsule by its ends and its radius, an
 /// area by its corners, in u.
-const FLASHES: [(&str, i64, i64, &str); 15] = [
+const FLASHES: [(&str, i64, i64, &str); 18] = [
     ("ADD11C,0", 5, 5, "none"),
     ("ADD10C,1.0", 7, -9, "7 -9, 7 -9, 5000000"),
     ("ADD10C,60", 0, 0, "no aperture"),
@@ -182,6 +213,15 @@ const FLASHES: [(&str, i64, i64, &str); 15] = [
     ),
     ("ADD10R,0.8X0.8", 9_996_000_001, 0, "OutOfRange"),
     ("ADD10R,0.8X0.8", 0, -9_996_000_001, "OutOfRange"),
+    // What tells a circle with a hole.
+    ("ADD10C,1.0X0.5", 7, -9, "[7 -9][3750007 -9][2500007 -9]"),
+    (
+        "ADD10C,1.0X0.5",
+        9_996_250_000,
+        0,
+        "[9996250000 0][10000000000 0][9998750000 0]",
+    ),
+    ("ADD10C,1.0X0.5", 9_996_250_001, 0, "OutOfRange"),
 ];
 
 fn shown(alloc: Global, shape: &Shape) -> Result<String, AllocError> {
@@ -200,7 +240,7 @@ fn shown(alloc: Global, shape: &Shape) -> Result<String, AllocError> {
 }
 
 fn flashed(alloc: Global, word: &str, at: Spot) -> Result<String, AllocError> {
-    let Ok((_, aperture)) = read_aperture(word.as_bytes(), Unit::Mm) else {
+    let Ok((_, aperture)) = read_real_aperture(word.as_bytes(), Unit::Mm) else {
         return String::from_str(alloc, "no aperture");
     };
     if !is_placed(at) {

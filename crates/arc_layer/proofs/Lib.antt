@@ -6,6 +6,7 @@ pub mod OneAnswer
 pub mod Quiet
 pub mod ReadSoFar
 pub mod Refusals
+pub mod Rings
 pub mod Sums
 pub mod Tails
 pub mod Undone

@@ -1,6 +1,7 @@
--- Bytes that no code of curves, no offset and no macro begins with.
+-- Bytes that no code of curves, no offset and no macro begins with, and no hole.
 use Rattle.std.proofs.Common.{◌≡◌, ℕ, ◌+◌, ◌==◌, Bool, true, false, cond, ◌&&◌, not, nat_eq, List, [], ◌∷◌, ◌++◌, take, drop, length, codes, Option, None, refl, sym, ap, ◌∙◌, subst, arith, append_assoc, take-append-drop}
 use Rattle.texts.specs.Words.{begins}
+use Rattle.apertures.specs.Holes.{ends_number, has_further, is_circle, may_have_hole}
 use Rattle.std.specs.List.{list_all}
 use Rattle.std.proofs.lemmas.List.Folds.{list_all-append}
 use Rattle.file_reading.specs.Reading.{IsRead, Item}
@@ -12,7 +13,7 @@ use Rattle.gerber_layer.specs.MacroCommands.{loose_command}
 use Rattle.gerber_layer.specs.StraightCommands.{behind_code}
 use Rattle.gerber_layer.specs.WordCommands.{behind, number_len}
 use Rattle.arc_layer.specs.Marks.{HasNoMarks, mark_behind, marks_in}
-use Rattle.arc_layer.specs.Words.{IsQuiet, Saying, begins_offset, behind_numbers, curve_in, from_offsets, are_free, is_free, is_line, is_mute, is_quiet, plain, saying, silent, stop_saying}
+use Rattle.arc_layer.specs.Words.{IsQuiet, Saying, begins_offset, begins_telling, behind_numbers, curve_in, from_offsets, are_free, is_free, is_line, is_mute, is_quiet, plain, saying, silent, stop_saying}
 use Rattle.arc_layer.specs.declared.words.Curve.{Curve}
 use Rattle.arc_layer.proofs.Quiet.{StillTo, all_still, quiet_text, still_more, still_stop}
 
@@ -70,36 +71,64 @@ mute_text (b ∷ text) h =
 abbrev Free : List ℕ → Type 0
 Free bytes = are_free bytes ≡ true
 
-mutes : (text : List ℕ) → Free text → Mute text
-mutes [] h = refl
-mutes (b ∷ text) h =
-    let p = both (is_free b text) (are_free text) h in
-    let q = both (is_mute b) (not (65 == b && begins text (codes "M"))) p.0 in
-    rw q.0 (mutes text p.1)
+-- what such a byte is not
+record IsFreeByte (b : ℕ) (text : List ℕ) : Type 0 where
+  mute : is_mute b ≡ true
+  macro : (65 == b && begins text (codes "M")) ≡ false
+  further : (ends_number b && begins text (codes "X")) ≡ false
 
-no_macro : (text : List ℕ) → Free text → begins_macro text ≡ false
-no_macro [] h = refl
-no_macro (b ∷ text) h =
-    let p = both (is_free b text) (are_free text) h in
-    false_of (65 == b && begins text (codes "M")) (both (is_mute b) (not (65 == b && begins text (codes "M"))) p.0).1
+free_byte : (b : ℕ) (text : List ℕ) → is_free b text ≡ true → IsFreeByte b text
+free_byte b text h =
+    let p = both (is_mute b) (not (65 == b && begins text (codes "M")) && not (ends_number b && begins text (codes "X"))) h in
+    let q = both (not (65 == b && begins text (codes "M"))) (not (ends_number b && begins text (codes "X"))) p.1 in
+    record { mute = p.0; macro = false_of (65 == b && begins text (codes "M")) q.0; further = false_of (ends_number b && begins text (codes "X")) q.1 }
   where
     false_of : (t : Bool) → not t ≡ true → t ≡ false
     false_of true k = sym k
     false_of false k = refl
 
--- whether bytes behind another are free, and with the first begin no macro
+mutes : (text : List ℕ) → Free text → Mute text
+mutes [] h = refl
+mutes (b ∷ text) h =
+    let p = both (is_free b text) (are_free text) h in
+    rw (free_byte b text p.0).mute (mutes text p.1)
+
+no_macro : (text : List ℕ) → Free text → begins_macro text ≡ false
+no_macro [] h = refl
+no_macro (b ∷ text) h = (free_byte b text (both (is_free b text) (are_free text) h).0).macro
+
+no_further : (text : List ℕ) → Free text → has_further text ≡ false
+no_further [] h = refl
+no_further (b ∷ text) h =
+    let p = both (is_free b text) (are_free text) h in
+    rw (free_byte b text p.0).further (no_further text p.1)
+
+no_hole : (text : List ℕ) → Free text → may_have_hole text ≡ false
+no_hole text h = by (begins text (codes "ADD")) (is_circle text) (no_further text h)
+  where
+    by : (a b : Bool) {c : Bool} → c ≡ false → (a && (b && c)) ≡ false
+    by true true none = none
+    by true false none = refl
+    by false b none = refl
+
+no_telling : (text : List ℕ) → Free text → begins_telling text ≡ false
+no_telling text h = rw (no_macro text h) (no_hole text h)
+
+-- whether bytes behind another are free, and with the first begin no macro and go on behind no number
 abbrev pub free_behind : ℕ → List ℕ → Bool
-free_behind before bytes = not (65 == before && begins bytes (codes "M")) && are_free bytes
+free_behind before bytes = (not (65 == before && begins bytes (codes "M")) && not (ends_number before && begins bytes (codes "X"))) && are_free bytes
 
 front : (b : ℕ) (xs ys : List ℕ) → is_free b (xs ++ ys) ≡ true → is_free b xs ≡ true
-front b [] ys h = by (65 == b) refl
+front b [] ys h = by (65 == b) (ends_number b) refl refl
   where
     mute : is_mute b ≡ true
-    mute = (both (is_mute b) (not (65 == b && begins ys (codes "M"))) h).0
+    mute = (free_byte b ys h).mute
 
-    by : (t : Bool) → (65 == b) ≡ t → is_free b [] ≡ true
-    by true is = rw (is, mute) refl
-    by false is = rw (is, mute) refl
+    by : (s t : Bool) → (65 == b) ≡ s → ends_number b ≡ t → is_free b [] ≡ true
+    by true true is at = rw (is, at, mute) refl
+    by true false is at = rw (is, at, mute) refl
+    by false true is at = rw (is, at, mute) refl
+    by false false is at = rw (is, at, mute) refl
 front b (x ∷ xs) ys h = h
 
 parted_free : (xs ys : List ℕ) → Free (xs ++ ys) → Free xs × Free ys
@@ -112,8 +141,8 @@ parted_free (b ∷ xs) ys h =
 quiet_word : (w : Entry) → Free w.text → IsQuiet (saying w)
 quiet_word w h = by w.extended
   where
-    by : (b : Bool) → IsQuiet (cond b (silent (loose_command w) (begins_macro w.text)) (plain (loose_command w) w.text))
-    by true = record { line = refl; i = refl; j = refl; more = refl; names = no_macro w.text h }
+    by : (b : Bool) → IsQuiet (cond b (silent (loose_command w) (begins_telling w.text)) (plain (loose_command w) w.text))
+    by true = record { line = refl; i = refl; j = refl; more = refl; tells = no_telling w.text h }
     by false = quiet_text (loose_command w) w.text (mute_text w.text (mutes w.text h))
 
 -- each word of free bytes is quiet

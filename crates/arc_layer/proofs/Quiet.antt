@@ -1,4 +1,4 @@
--- Words that say nothing of arcs, and begin no macro, make no marks.
+-- Words that say nothing of arcs, and behind which no flash tells more, make no marks.
 use Rattle.std.specs.List.{list_any}
 use Rattle.std.proofs.lemmas.List.Folds.{list_any-append}
 use Rattle.std.proofs.Common.{is_some, ◌≡◌, ℕ, ◌+◌, ◌==◌, Bool, true, false, cond, ◌&&◌, ◌||◌, not, nat_eq, List, [], ◌∷◌, length, Option, Some, None, Ok, Result, refl, sym, ap, ◌∙◌, subst, arith}
@@ -65,7 +65,7 @@ pub quiet_text : (c : Command) (text : List ℕ) → is_quiet text ≡ true → 
 quiet_text c text h =
     let parts = both (is_line (curve_in text)) (begins_offset (from_offsets text)) h in
     let none = no_offset (from_offsets text) parts.1 in
-    record { line = line_said (curve_in text) parts.0; i = none.i; j = none.j; more = none.more; names = refl }
+    record { line = line_said (curve_in text) parts.0; i = none.i; j = none.j; more = none.more; tells = refl }
 
 -- a word that says nothing of arcs has no bend behind lines
 by_code : (code : Code) (s : State) (w : Saying) → s.curve ≡ Line → IsQuiet w → operation_by (curve_of code s w) s w ≡ Ok None
@@ -77,14 +77,14 @@ quiet_bend : (c : Command) (s : State) (w : Saying) → s.curve ≡ Line → IsQ
 quiet_bend (operates x y code) s w line q = by_code (code_of code) s w line q
 quiet_bend other s w line q = refl
 
-no_flash : (c : Command) (s : State) → s.macros ≡ false → flashes c s ≡ false
+no_flash : (c : Command) (s : State) → s.tells ≡ false → flashes c s ≡ false
 no_flash (operates x y code) s none = rw none refl
 no_flash other s none = refl
 
--- a history that says nothing of arcs, and in which no macro begins
+-- a history that says nothing of arcs, and behind which no flash tells more
 pub record Still (earlier : List Saying) : Type 0 where
   pub line : (state_before earlier).curve ≡ Line
-  pub macros : (state_before earlier).macros ≡ false
+  pub tells : (state_before earlier).tells ≡ false
   pub edges : list_any is_some (edges_before earlier) ≡ false
   pub none : (n : ℕ) → marks_in earlier n ≡ None
 
@@ -115,13 +115,13 @@ mark_none earlier w s q =
     let state = state_before earlier in
     let edges = edges_before earlier in
     ap (λ (r : Result (Option Bend) RealKind). marked r (closes w.command state) edges (flashes w.command state)) (quiet_bend w.command state w s.line q)
-    ∙ ap (λ (b : Bool). marked (Ok None) (closes w.command state) edges b) (no_flash w.command state s.macros)
+    ∙ ap (λ (b : Bool). marked (Ok None) (closes w.command state) edges b) (no_flash w.command state s.tells)
     ∙ ap (λ (m : Option PlainMark). Ok m) (unmarked (closes w.command state) edges s.edges)
 
 still : (earlier : List Saying) (w : Saying) → Still earlier → IsQuiet w → Still (w ∷ earlier)
 still earlier w s q = record {
   line = ap (λ (c : Curve). latest w.curve c) s.line ∙ q.line;
-  macros = ap (λ (b : Bool). b || (state_before earlier).macros) q.names ∙ s.macros;
+  tells = ap (λ (b : Bool). b || (state_before earlier).tells) q.tells ∙ s.tells;
   edges =
       let e : edges_before (w ∷ earlier) ≡ edges_by w.command (state_before earlier).region (edges_before earlier) None = ap (λ (r : Result (Option Bend) RealKind). edges_by w.command (state_before earlier).region (edges_before earlier) (ok_or_none r)) (quiet_bend w.command (state_before earlier) w s.line q) in
       ap (λ (xs : List (Option Bend)). list_any is_some xs) e ∙ edges_none w.command (state_before earlier).region (edges_before earlier) s.edges;
@@ -134,7 +134,7 @@ pub record StillTo (all earlier rest : List (Item Saying)) : Type 0 where
   pub still : Still (said earlier)
 
 pub still_start : (all : List (Item Saying)) → StillTo all [] all
-still_start all = record { read = read-start mark_behind all; still = record { line = refl; macros = refl; edges = refl; none = λ n. refl } }
+still_start all = record { read = read-start mark_behind all; still = record { line = refl; tells = refl; edges = refl; none = λ n. refl } }
 
 pub still_more : (all earlier rest : List (Item Saying)) (item : Item Saying) → StillTo all earlier (item ∷ rest) → IsQuiet item.says → StillTo all (item ∷ earlier) rest
 still_more all earlier rest item s q = record {

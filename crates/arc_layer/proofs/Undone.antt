@@ -1,5 +1,5 @@
 -- Turns that are told come back as figures before them.
-use Rattle.std.proofs.Common.{◌≡◌, ℕ, ◌-◌, ◌<◌, ◌≤◌, ◌==◌, nat_lt, Bool, true, false, cond, List, length, take, All, Option, Some, None, refl, sym, ap, ◌∙◌, subst, arith}
+use Rattle.std.proofs.Common.{◌≡◌, ℕ, ◌-◌, ◌<◌, ◌≤◌, ◌==◌, nat_lt, Bool, true, false, cond, List, length, take, All, Option, Some, None, option_map, refl, sym, ap, ◌∙◌, subst, arith}
 use Rattle.std.proofs.lemmas.List.{length-take-le}
 use Rattle.std.proofs.lemmas.List.Elements.{All-take}
 use Rattle.planar.specs.Plane.{IsPlaced}
@@ -7,15 +7,20 @@ use Rattle.planar.specs.declared.Spot.{Spot}
 use Rattle.area_contact.specs.Contour.{IsClosed, IsContour}
 use Rattle.aperture_macros.specs.Laws.{ToldIsFound}
 use Rattle.aperture_macros.specs.Telling.{Telling, told, told_in}
+use Rattle.aperture_macros.proofs.Told.{told_length}
+use Rattle.apertures.specs.Telling.{Ring, ring_told}
 use Rattle.board_shapes.specs.Figures.{filled}
 use Rattle.arc_layer.specs.Laws.{TurnedAreContours, TurnsAreUndone}
-use Rattle.arc_layer.specs.Real.{plain, told_area, turned}
+use Rattle.arc_layer.specs.Real.{bent_or, plain, ring_draw, told_area, turned}
 use Rattle.slants.specs.declared.cones.TheConstants.{RIGHT_ANGLE}
+use Rattle.arc_layer.proofs.Rings.{no_ring}
 use Rattle.arc_layer.proofs.Tails.{IsTold, is_told}
 
 pub undone : ToldIsFound → TurnsAreUndone
 undone law about rest contour closed long below =
-    ap (λ (t : Option Telling). told_area (told about rest contour) t) (law about rest contour closed long) ∙ by (rest == 0) (nat_lt rest RIGHT_ANGLE) refl
+    let points = told about rest contour in
+    ap (λ (r : Option Ring). bent_or (option_map ring_draw r) (told_area points (told_in points))) (no_ring points (omega (arith, long, told_length about rest contour long))) ∙
+    ap (λ (t : Option Telling). told_area points t) (law about rest contour closed long) ∙ by (rest == 0) (nat_lt rest RIGHT_ANGLE) refl
   where
     by : (none less : Bool) → nat_lt rest RIGHT_ANGLE ≡ less
         → cond none (plain (filled contour)) (cond less (turned contour about rest) (plain (filled (told about rest contour)))) ≡ cond none (plain (filled contour)) (turned contour about rest)
@@ -44,7 +49,7 @@ lawful_so points t is told some below =
     (shorter points t.contour (length points - 3) is told.contour told.closed (omega (arith, long)) (omega arith), told.about is.placed, some, below)
 
 pub lawful : TurnedAreContours
-lawful points contour about rest is h = by (told_in points) refl h
+lawful points contour about rest is h = past_ring (ring_told points) h
   where
     inside : (t : Telling) (none less : Bool) → IsTold points t → (t.rest == 0) ≡ none → nat_lt t.rest RIGHT_ANGLE ≡ less
         → cond none (plain (filled t.contour)) (cond less (turned t.contour t.about t.rest) (plain (filled points))) ≡ turned contour about rest → IsLawful contour about rest
@@ -60,3 +65,7 @@ lawful points contour about rest is h = by (told_in points) refl h
     by : (t : Option Telling) → told_in points ≡ t → told_area points t ≡ turned contour about rest → IsLawful contour about rest
     by None e k = absurd cc
     by (Some t) e k = inside t (t.rest == 0) (nat_lt t.rest RIGHT_ANGLE) (is_told points t e) refl refl k
+
+    past_ring : (r : Option Ring) → bent_or (option_map ring_draw r) (told_area points (told_in points)) ≡ turned contour about rest → IsLawful contour about rest
+    past_ring (Some ring) k = cc
+    past_ring None k = by (told_in points) refl k

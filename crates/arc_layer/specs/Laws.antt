@@ -1,15 +1,18 @@
 -- Laws over the definitions.
-use Rattle.std.specs.Prelude.{◌≡◌, ℕ, ◌+◌, ◌==◌, ◌<◌, ◌≤◌, if◌then◌else◌, List, length, Option, Some, Ok}
+use Rattle.std.specs.Prelude.{◌≡◌, ℕ, ◌+◌, ◌-◌, ◌/◌, ◌==◌, ◌<◌, ◌≤◌, if◌then◌else◌, List, length, ℤ, unsigned_abs, Option, Some, Ok}
 use Rattle.planar.specs.Plane.{IsPlaced}
 use Rattle.planar.specs.declared.Spot.{Spot}
 use Rattle.area_contact.specs.Contour.{IsClosed, IsContour}
 use Rattle.aperture_macros.specs.Telling.{told}
-use Rattle.board_shapes.specs.Figures.{filled}
+use Rattle.apertures.specs.Flash.{IsLawful, flash_of}
+use Rattle.apertures.specs.declared.aperture.Aperture.TheVariants.{Ring}
+use Rattle.board_shapes.specs.Figures.{Figure, filled}
+use Rattle.board_shapes.specs.Rectangles.{upper}
 use Rattle.regions.specs.Contours.{close_of}
 use Rattle.gerber_layer.specs.CommandEffects.{edges_in}
 use Rattle.gerber_layer.specs.Settings.{contour_before}
-use Rattle.arc_layer.specs.Marks.{contour, edges_before, mark_behind}
-use Rattle.arc_layer.specs.Real.{flashed, plain, turned}
+use Rattle.arc_layer.specs.Marks.{contour, edges_before, flash, mark_behind}
+use Rattle.arc_layer.specs.Real.{bent, flashed, plain, turned, with_mark}
 use Rattle.arc_layer.specs.State.{commands_of}
 use Rattle.arc_layer.specs.Words.{Saying}
 use Rattle.arc_layer.specs.declared.draws.Bend.{Bend}
@@ -26,6 +29,16 @@ MarksFitAreas = (earlier : List Saying) (w : Saying) (bends : List (Option Bend)
 -- An area that is told is its contour again, turned by what is left where something is.
 abbrev pub TurnsAreUndone : Type 0
 TurnsAreUndone = (about : Spot) (rest : ℕ) (contour : List Spot) → IsClosed contour → 4 ≤ length contour → rest < RIGHT_ANGLE → flashed (told about rest contour) ≡ (if rest == 0 then plain (filled contour) else turned contour about rest)
+
+-- A flash of a circle with a hole is a draw once round the spot. The middle of its pen lies halfway between the hole and the outside, at a quarter of the sum of both diameters; the pen is as wide as the copper, half their difference.
+abbrev pub RingsAreUndone : Type 0
+RingsAreUndone = (d hole : ℤ) (at : Spot) (figure : Figure) → IsLawful (Ring d hole) → flash_of (Ring d hole) at ≡ Ok (Some figure)
+    → with_mark (Some flash) figure ≡ bent (record {
+      centre = at;
+      start = upper at ((unsigned_abs d + unsigned_abs hole) / 2) 0;
+      end = upper at ((unsigned_abs d + unsigned_abs hole) / 2) 0;
+      width = (unsigned_abs d - unsigned_abs hole) / 2;
+    })
 
 -- What a contour of a flash has before its turn is a contour, turned about a spot within one metre by some angle below a right one.
 abbrev pub TurnedAreContours : Type 0

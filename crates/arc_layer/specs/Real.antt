@@ -1,5 +1,5 @@
--- Real copper: the pieces of a copper file in which draws may be arcs, and macros may have slanted lines and turned figures.
-use Rattle.std.specs.Prelude.{◌≡◌, ℕ, ◌*◌, ◌<◌, ◌≤◌, Bool, ◌||◌, not, ◌==◌, nat_lt, if◌then◌else◌, List, [], ◌∷◌, drop, map, Option, Some, None, unsigned_abs, Result, Ok, Err}
+-- Real copper: the pieces of a copper file in which draws may be arcs, circles may have round holes, and macros may have slanted lines and turned figures.
+use Rattle.std.specs.Prelude.{◌≡◌, ℕ, ◌*◌, ◌<◌, ◌≤◌, Bool, ◌||◌, not, ◌==◌, nat_lt, if◌then◌else◌, List, [], ◌∷◌, drop, map, Option, Some, None, option_map, unsigned_abs, Result, Ok, Err}
 use Rattle.std.specs.Ordering.{int_eq}
 use Rattle.planar.specs.declared.Spot.{Spot}
 use Rattle.board_shapes.specs.Figures.{Figure, Stroke, round, filled, figure_of}
@@ -18,6 +18,7 @@ use Rattle.gerber_layer.specs.declared.place.Place.{Place}
 use Rattle.gerber_layer.specs.Dialect.{IsReadBy, IsRefusedBy}
 use Rattle.gerber_layer.specs.MacroLayer.{loose as loose_words}
 use Rattle.gerber_layer.specs.declared.macro_kind.FlattenKind.{FlattenKind}
+use Rattle.apertures.specs.Telling.{Ring, ring_told}
 use Rattle.aperture_macros.specs.Telling.{Telling, told_in}
 use Rattle.arc_layer.specs.Marks.{AreMarks, IsBendRefused, PlainMark, arc, contour, flash}
 use Rattle.arc_layer.specs.Centres.{moved}
@@ -96,8 +97,20 @@ told_area points (Some t) =
     if t.rest == 0 then plain (filled t.contour)
     else (if nat_lt t.rest RIGHT_ANGLE then turned t.contour t.about t.rest else plain (filled points))
 
+-- A circle with a round hole (4.4.2) has the copper of a round pen that is drawn once round its middle (4.7.2).
+abbrev pub ring_draw : Ring → Arc
+ring_draw ring = record { centre = ring.centre; start = ring.start; end = ring.start; width = ring.pen }
+
+abbrev pub ring_in : List Spot → Option Arc
+ring_in points = option_map ring_draw (ring_told points)
+
+-- An area that a flash makes: that of a circle with a hole, or what it tells of a macro's.
+abbrev pub bent_or : Option Arc → RealFigure → RealFigure
+bent_or (Some a) area = bent a
+bent_or None area = area
+
 abbrev pub flashed : List Spot → RealFigure
-flashed points = told_area points (told_in points)
+flashed points = bent_or (ring_in points) (told_area points (told_in points))
 
 -- A draw with a bend is its arc, and an area behind the bends of its contour the region that they bound. A stroke along no axis that a flash makes is the vector line of a macro (Gerber Layer Format Specification,
 -- 4.5.1, code 20): other primitives make none, and obrounds run along an axis. An area that a flash makes is what it tells. Each other figure is what it is.

@@ -17,7 +17,7 @@ use Rattle.arc_layer.specs.declared.words.Curve.TheVariants.{Line}
 abbrev pub commands_of : List Saying → List Command
 commands_of earlier = map (λ s. s.command) earlier
 
--- Before a word: format, unit, current point and region as for straight draws; the last curve, lines at first; the last quadrants; whether a macro has begun.
+-- Before a word: format, unit, current point and region as for straight draws; the last curve, lines at first; the last quadrants; whether flashes may tell more than they show.
 abbrev pub state_before : List Saying → State
 state_before earlier = record {
   format = format_before (commands_of earlier);
@@ -26,7 +26,7 @@ state_before earlier = record {
   region = region_open (commands_of earlier);
   curve = last_or Line (λ s. s.curve) earlier;
   quadrants = last_said (λ s. s.quadrants) earlier;
-  macros = list_any (λ s. s.names) earlier;
+  tells = list_any (λ s. s.tells) earlier;
 }
 
 -- where a command leads
@@ -46,7 +46,7 @@ state_behind s w = record {
   region = latest (region_in w.command) s.region;
   curve = curve_at s w;
   quadrants = option_or w.quadrants s.quadrants;
-  macros = w.names || s.macros;
+  tells = w.tells || s.tells;
 }
 
 -- a format in range, and a current point within one metre

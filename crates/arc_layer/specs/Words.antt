@@ -1,6 +1,7 @@
--- What a word says of arcs (Gerber Layer Format Specification, 4.7 and 4.8), and whether it begins a macro (4.5).
+-- What a word says of arcs (Gerber Layer Format Specification, 4.7 and 4.8), and whether it begins a macro (4.5) or defines a circle with a hole (4.4.2).
 use Rattle.std.specs.Prelude.{◌≡◌, ℕ, Bool, true, false, ◌&&◌, ◌||◌, ◌==◌, not, nat_lt, if◌then◌else◌, List, [], ◌∷◌, drop, codes, Option, Some, None, is_none, option_map}
 use Rattle.texts.specs.Words.{begins, is_word}
+use Rattle.apertures.specs.Holes.{ends_number, may_have_hole}
 use Rattle.file_reading.specs.LookingBack.{latest}
 use Rattle.gerber_words.specs.Words.{Entry, Stop, begins_macro}
 use Rattle.gerber_layer.specs.Command.{Command, selects, view}
@@ -14,7 +15,7 @@ use Rattle.arc_layer.specs.declared.words.Quadrants.{Quadrants}
 use Rattle.arc_layer.specs.declared.words.Quadrants.TheVariants.{Single, Multi}
 use Rattle.arc_layer.specs.declared.words.Saying.{Saying as Seen}
 
--- what a word says: its command where arcs are straight, the curve and the quadrants that it sets, its offsets, and whether it begins a macro
+-- what a word says: its command where arcs are straight, the curve and the quadrants that it sets, its offsets, and whether flashes behind it may tell more than they show: it begins a macro, or may define a circle with a hole
 pub record Saying : Type 0 where
   pub command : Command
   pub curve : Option Curve
@@ -23,7 +24,7 @@ pub record Saying : Type 0 where
   pub j : Option (List ℕ)
   -- there are further offsets
   pub more : Bool
-  pub names : Bool
+  pub tells : Bool
 
 -- the same without where it lies in memory
 abbrev pub saying_of : Seen → Saying
@@ -34,7 +35,7 @@ saying_of s = record {
   i = option_map (λ t. t.now) s.i;
   j = option_map (λ t. t.now) s.j;
   more = s.more;
-  names = s.names;
+  tells = s.tells;
 }
 
 -- a short code of arcs is told apart from longer codes by what follows it
@@ -73,20 +74,24 @@ with_offsets command curve quadrants offsets = record {
   i = number_in 73 offsets;
   j = number_in 74 (behind 73 offsets);
   more = begins_offset (behind 74 (behind 73 offsets));
-  names = false;
+  tells = false;
 }
 
 -- a plain word
 abbrev pub plain : Command → List ℕ → Saying
 plain command text = with_offsets command (curve_in text) (quadrants_in text) (from_offsets text)
 
--- a word that says nothing of arcs, and may begin a macro
+-- a word that says nothing of arcs
 abbrev pub silent : Command → Bool → Saying
-silent command names = record { command = command; curve = None; quadrants = None; i = None; j = None; more = false; names = names }
+silent command tells = record { command = command; curve = None; quadrants = None; i = None; j = None; more = false; tells = tells }
 
--- Of arcs only plain words say something, and extended words alone begin macros.
+-- it begins a macro, or may define a circle with a hole
+abbrev pub begins_telling : List ℕ → Bool
+begins_telling text = begins_macro text || may_have_hole text
+
+-- Of arcs only plain words say something, and extended words alone define something.
 abbrev pub saying : Entry → Saying
-saying w = if w.extended then silent (loose_command w) (begins_macro w.text) else plain (loose_command w) w.text
+saying w = if w.extended then silent (loose_command w) (begins_telling w.text) else plain (loose_command w) w.text
 
 -- and the stop of a file says nothing
 abbrev pub stop_saying : Stop → Saying
@@ -96,9 +101,9 @@ abbrev pub is_selection : Command → Bool
 is_selection (selects n) = true
 is_selection other = false
 
--- a word that selects an aperture and says neither a curve, nor quadrants, nor a macro's name: behind it the same is in force
+-- a word that selects an aperture, and says neither a curve nor quadrants nor what may tell more: behind it the same is in force
 abbrev pub selects_alone : Saying → Bool
-selects_alone w = is_selection w.command && (is_none w.curve && (is_none w.quadrants && not w.names))
+selects_alone w = is_selection w.command && (is_none w.curve && (is_none w.quadrants && not w.tells))
 
 -- no other curve than a line
 abbrev pub is_line : Option Curve → Bool
@@ -114,18 +119,18 @@ is_quiet text = is_line (curve_in text) && not (begins_offset (from_offsets text
 abbrev pub is_mute : ℕ → Bool
 is_mute b = nat_lt b 71 || nat_lt 74 b
 
--- a byte that begins no code of arcs, no offset and, in front of others, no macro; and bytes that are all so
+-- a byte that begins no code of arcs, no offset and, in front of others, no macro, and ends no number before an `X`; and bytes that are all so
 abbrev pub is_free : ℕ → List ℕ → Bool
-is_free b bytes = is_mute b && not (65 == b && begins bytes (codes "M"))
+is_free b bytes = is_mute b && (not (65 == b && begins bytes (codes "M")) && not (ends_number b && begins bytes (codes "X")))
 
 abbrev pub are_free : List ℕ → Bool
 are_free [] = true
 are_free (b ∷ bytes) = is_free b bytes && are_free bytes
 
--- so of any word by what it says: behind lines, it makes no arc and has no fault of one; and it begins no macro
+-- so of any word by what it says: behind lines, it makes no arc and has no fault of one; and no flash behind it may tell more
 pub record IsQuiet (w : Saying) : Type 0 where
   pub line : latest w.curve Line ≡ Line
   pub i : w.i ≡ None
   pub j : w.j ≡ None
   pub more : w.more ≡ false
-  pub names : w.names ≡ false
+  pub tells : w.tells ≡ false

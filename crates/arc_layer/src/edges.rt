@@ -36,7 +36,7 @@ pub fn flashes(command: &Command, state: &State) -> bool
     ensures { result ≡ spec.flashes (view command.now) state.now }
 {
     match *command {
-        Command::Operate(_, _, code) => state.macros && is_flash(code_of(code)),
+        Command::Operate(_, _, code) => state.tells && is_flash(code_of(code)),
         _ => false,
     }
 }

@@ -27,8 +27,8 @@ pub struct State {
     pub region: bool,
     pub curve: Curve,
     pub quadrants: Option<Quadrants>,
-    /// A macro has begun.
-    pub macros: bool,
+    /// Flashes may tell more than they show.
+    pub tells: bool,
 }
 
 /// Before the first word.
@@ -43,7 +43,7 @@ pub fn at_start() -> State
         region: false,
         curve: Curve::Line,
         quadrants: None,
-        macros: false,
+        tells: false,
     }
 }
 
@@ -156,7 +156,7 @@ impl State {
                 Some(quadrants) => Some(quadrants),
                 None => self.quadrants,
             },
-            macros: word.names || self.macros,
+            tells: word.tells || self.tells,
         }
     }
 }

@@ -1,14 +1,16 @@
-//! Areas of macros that are turned by degrees.
+//! Areas of flashes that tell more than they show: circles with a hole, and areas of macros that are turned by degrees.
 ghost use Rattle.aperture_macros.specs.Telling as telling;
+ghost use Rattle.apertures.specs.Telling.{ring_told};
 ghost use Rattle.arc_layer.specs.Real as spec;
 ghost use Rattle.arc_layer.specs.Real.{real_figure};
 ghost use Rattle.arc_layer.specs.Telling.{telling_by};
 ghost use Rattle.board_shapes.specs.Figures.{filled};
 ghost use Rattle.file_reading.specs.declared.fault.FileFault.TheVariants as fault;
 ghost use Rattle.planar.specs.Plane.{IsPlaced};
-ghost use Rattle.std.specs.Prelude.{◌≡◌, ◌≤◌, ◌-◌, All, length, option_map, take, IfErr, IfOk, Some};
+ghost use Rattle.std.specs.Prelude.{◌≡◌, ◌≤◌, ◌*◌, ◌-◌, ◌-ℤ◌, unsigned_abs, All, length, option_map, take, IfErr, IfOk, Some};
 
 use crate::kind::RealFault;
+use arcs::Arc;
 use area_contact::Area;
 use board_shapes::Shape;
 use planar::Spot;
@@ -96,11 +98,40 @@ fn told_area(alloc: Global, area: Area, turning: Turning) -> Result<RealShape, R
     }))
 }
 
-/// The area that a flash makes behind a macro: before its turn, where its contour tells one.
+// How wide a pen is whose middle starts at a spot, and which reaches another at its left or right.
+fn pen_of(start: Spot, border: Spot) -> u64
+    requires start { IsPlaced start }
+    requires border { IsPlaced border }
+    ensures { result ≡ 2 * unsigned_abs (start.x -ℤ border.x) }
+{
+    2 * start.x.abs_diff(border.x)
+}
+
+/// The draw of a circle with a hole, where the spots of an area tell one.
+fn ring_in(points: &[Spot]) -> Option<Arc>
+    requires { All IsPlaced points.now }
+    ensures { result ≡ spec.ring_in points.now }
+{
+    let [centre, start, border, _] = points else {
+        return None;
+    };
+    Some(Arc {
+        centre: *centre,
+        start: *start,
+        end: *start,
+        width: pen_of(*start, *border),
+    })
+}
+
+/// What the area is that a flash makes behind a macro or a circle with a hole: such a circle's draw, or its area before its
+/// turn, where its contour tells one.
 pub fn flashed(alloc: Global, area: Area) -> Result<RealShape, RealFault>
     ensures value { IfOk result (λ made. real_figure made ≡ spec.flashed area.points.items) }
     ensures fault { IfErr result (λ why. why ≡ fault.NoMemory) }
 {
+    if let Some(arc) = ring_in(&area.points) {
+        return Ok(RealShape::ArcDraw(arc));
+    }
     match told_in(&area.points) {
         None => Ok(RealShape::Plain(Shape::Filled(area))),
         Some(turning) => told_area(alloc, area, turning),

@@ -1,4 +1,5 @@
-//! What a word says of arcs, and whether it begins a macro.
+//! What a word says of arcs, and whether it begins a macro or may define a circle with a hole.
+ghost use Rattle.apertures.specs.Holes.{ends_number};
 ghost use Rattle.arc_layer.specs.Words as spec;
 ghost use Rattle.gerber_layer.specs.Command.{view};
 ghost use Rattle.gerber_layer.specs.Lawful.{IsLawfulCommand};
@@ -7,6 +8,7 @@ ghost use Rattle.gerber_words.specs.Words as words;
 ghost use Rattle.std.specs.Option.{option_copied};
 ghost use Rattle.std.specs.Prelude.{◌≡◌, ◌≤◌, ◌==◌, ◌&&◌, not, true, length, option_map};
 
+use apertures::{is_further, may_have_hole};
 use gerber_layer::{Command, behind_code, goes_on, part, read_loose_command};
 use gerber_words::Word;
 use texts::{begins, is_word};
@@ -37,14 +39,20 @@ pub struct Saying<'a> {
     pub j: Option<&'a [u8]>,
     /// There are further offsets.
     pub more: bool,
-    /// It begins a macro.
-    pub names: bool,
+    /// Flashes behind it may tell more than they show: it begins a macro, or may define a circle with a hole.
+    pub tells: bool,
 }
 
 fn begins_macro(text: &[u8]) -> bool
     ensures { result ≡ words.begins_macro text.now }
 {
     begins(text, b"AM")
+}
+
+fn begins_telling(text: &[u8]) -> bool
+    ensures { result ≡ spec.begins_telling text.now }
+{
+    begins_macro(text) || may_have_hole(text)
 }
 
 fn is_short(text: &[u8]) -> bool
@@ -103,9 +111,9 @@ fn from_offsets(text: &[u8]) -> &[u8]
     behind_numbers(behind_code(text))
 }
 
-// A word that says nothing of arcs, and may begin a macro.
-fn silent<'a>(command: Command<'a>, names: bool) -> Saying<'a>
-    ensures { spec.saying_of result ≡ spec.silent (view command.entry) names }
+// A word that says nothing of arcs.
+fn silent<'a>(command: Command<'a>, tells: bool) -> Saying<'a>
+    ensures { spec.saying_of result ≡ spec.silent (view command.entry) tells }
 {
     Saying {
         command,
@@ -114,7 +122,7 @@ fn silent<'a>(command: Command<'a>, names: bool) -> Saying<'a>
         i: None,
         j: None,
         more: false,
-        names,
+        tells,
     }
 }
 
@@ -136,7 +144,7 @@ fn with_offsets<'a>(
         i,
         j,
         more: begins_offset(rest),
-        names: false,
+        tells: false,
     }
 }
 
@@ -164,7 +172,7 @@ pub fn read_word<'a>(word: Word<'a>) -> Saying<'a>
 {
     let command = read_loose_command(word);
     if word.extended {
-        silent(command, begins_macro(word.text))
+        silent(command, begins_telling(word.text))
     } else {
         plain(command, word.text)
     }
@@ -180,7 +188,7 @@ fn is_selection(command: &Command) -> bool
 pub fn selects_alone(word: &Saying) -> bool
     ensures { result ≡ spec.selects_alone (spec.saying_of word.now) }
 {
-    is_selection(&word.command) && word.curve.is_none() && word.quadrants.is_none() && !word.names
+    is_selection(&word.command) && word.curve.is_none() && word.quadrants.is_none() && !word.tells
 }
 
 fn is_line(curve: Option<Curve>) -> bool
@@ -200,15 +208,22 @@ fn is_mute(byte: u8) -> bool
     byte < b'G' || b'J' < byte
 }
 
-// Whether a byte behind another begins nothing, and is not the second of those that begin a macro.
-fn goes_free(before: u8, b: u8) -> bool
-    ensures { result ≡ (spec.is_mute b && not (65 == before && 77 == b)) }
+// Whether a byte behind another is not the second of those that begin a macro, and no `X` behind a number.
+fn begins_none(before: u8, b: u8) -> bool
+    ensures { result ≡ (not (65 == before && 77 == b) && not (ends_number before && 88 == b)) }
 {
-    is_mute(b) && !(b'A' == before && b'M' == b)
+    !(b'A' == before && b'M' == b) && !is_further(before, b)
 }
 
-/// Whether no byte is from `G` to `J` and no macro begins, so that no word of these bytes says anything. All bytes are looked
-/// at, for then a processor can look at many at a time.
+// Whether such a byte begins nothing either.
+fn goes_free(before: u8, b: u8) -> bool
+    ensures { result ≡ (spec.is_mute b && (not (65 == before && 77 == b) && not (ends_number before && 88 == b))) }
+{
+    is_mute(b) && begins_none(before, b)
+}
+
+/// Whether no byte is from `G` to `J`, no macro begins and no `X` stands behind a number, so that no word of these bytes
+/// says anything. All bytes are looked at, for then a processor can look at many at a time.
 pub fn are_free(bytes: &[u8]) -> bool
     ensures { result ≡ spec.are_free bytes.now }
 {
@@ -232,12 +247,12 @@ fn is_quiet_text(text: &[u8]) -> bool
     }
 }
 
-/// Whether a word says nothing of arcs and begins no macro, so that behind lines its command need not be read.
+/// Whether a word says nothing of arcs, begins no macro and defines no hole, so that behind lines its command need not be read.
 pub fn is_quiet(word: Word) -> bool
     ensures { result ≡ true → spec.IsQuiet (spec.saying (entry_of word.entry)) }
 {
     if word.extended {
-        !begins_macro(word.text)
+        !begins_telling(word.text)
     } else {
         is_quiet_text(word.text)
     }

@@ -373,6 +373,36 @@ fn of_turns() -> [(&'static str, &'static str); 9] {
     ]
 }
 
+// Circles with a hole, all of this crate's own: a draw once round the middle, and no pen. A contour is none.
+fn of_holes() -> [(&'static str, &'static str); 6] {
+    [
+        (
+            "%ADD11C,1.0X0.5*%D11*X1000000Y0D03*D10*D03*M02*",
+            "(10000000 0) 13750000 0, 13750000 0, 2500000 by 7.0\n10000000 0, 10000000 0, 5000000 by 9.0",
+        ),
+        (
+            "%ADD11C,1.0X0.5*%%SRX2Y1I3.0J0*%D11*X0Y0D03*%SR*%M02*",
+            "(0 0) 3750000 0, 3750000 0, 2500000 by 8.0\n(30000000 0) 33750000 0, 33750000 0, 2500000 by 8.1",
+        ),
+        (
+            "%ADD11C,1.0X0.5*%G36*X0Y0D02*X375000D01*X250000D01*X0D01*G37*D11*D03*M02*",
+            "an area, 0 0, 3750000 0, 2500000 0, 0 0 by 11.0\n(0 0) 3750000 0, 3750000 0, 2500000 by 13.0",
+        ),
+        (
+            "%ADD11C,1.0X0.5*%D11*X1000000D01*M02*",
+            "Copper(Gerber(PenNotCircle)) at command 7",
+        ),
+        (
+            "%ADD11C,1.0X1.0*%M02*",
+            "Copper(Gerber(Hole)) at command 5",
+        ),
+        (
+            "%ADD11R,1.0X1.0X0.5*%M02*",
+            "Copper(Gerber(Hole)) at command 5",
+        ),
+    ]
+}
+
 // Contours with arcs, all of this crate's own; one without is an area.
 fn of_regions() -> [(&'static str, &'static str); 6] {
     [
@@ -414,6 +444,10 @@ fn arcs_are_read(rt: HostRuntime) -> Result<(), Fail> {
         assert_eq!(rt; read.as_str(), expected);
     }
     for (words, expected) in of_turns() {
+        let read = told(rt.alloc(), words)?;
+        assert_eq!(rt; read.as_str(), expected);
+    }
+    for (words, expected) in of_holes() {
         let read = told(rt.alloc(), words)?;
         assert_eq!(rt; read.as_str(), expected);
     }

@@ -1,14 +1,11 @@
 -- The words of definitions, and the macros by their names.
-use Rattle.std.proofs.Common.{◌≡◌, ℕ, ◌+◌, ◌-◌, ◌<◌, ◌≤◌, suc, Bool, true, false, ◌||◌, cond, List, [], ◌∷◌, ◌++◌, length, Option, Some, None, option_map, Result, Err, refl, sym, ap, ◌∙◌, append_assoc, arith}
-use Rattle.std.specs.Prelude.{nat_lt}
+use Rattle.std.proofs.Common.{◌≡◌, ℕ, ◌+◌, ◌-◌, ◌<◌, ◌≤◌, suc, Bool, true, false, cond, List, [], ◌∷◌, ◌++◌, length, Option, Some, None, option_map, refl, sym, ap, ◌∙◌, append_assoc, arith}
 use Rattle.std.specs.List.{after_first, before_first}
 use Rattle.texts.specs.Words.{is_word}
 use Rattle.lengths.specs.Decimal.{Fraction, decimal, fraction, is_decimal}
 use Rattle.lengths.specs.declared.decimal.Unit.{Unit as Measure}
-use Rattle.apertures.specs.declared.aperture.Aperture.{Aperture}
-use Rattle.apertures.specs.declared.fault.ApertureFault.{ApertureFault}
-use Rattle.apertures.specs.declared.fault.ApertureFault.TheVariants as aperture
-use Rattle.apertures.specs.Definition.{aperture_at, is_x, numbered_at}
+use Rattle.apertures.specs.Definition.{aperture_at, is_x}
+use Rattle.apertures.proofs.Digits.{few_digits}
 use Rattle.aperture_macros.specs.BodyWord.{PlainPrimitive}
 use Rattle.gerber_layer.specs.Tools.{Macro, decimals_in, latest_or, number_digits}
 use Rattle.gerber_layer.specs.MacroTable.{is_of_macro}
@@ -50,11 +47,4 @@ one_decimal n k text done new d some h e =
 
 -- the number of an aperture of a macro has at most nine digits
 pub short_number : (word : List ℕ) (unit : Measure) → is_of_macro (aperture_at word unit) ≡ true → length (number_digits word) ≤ 9
-unfolding aperture_at numbered_at
-short_number word unit h = by _ _ (nat_lt 9 (length (number_digits word))) _ _ refl h
-  where
-    by : (a e l m : Bool) (rest : Result (ℕ × Aperture) ApertureFault) → nat_lt 9 (length (number_digits word)) ≡ l → is_of_macro (cond a (Err aperture.BadText) (cond e (Err aperture.BadText) (cond (l || m) (Err aperture.Number) rest))) ≡ true → length (number_digits word) ≤ 9
-    by true e l m rest is h = cc
-    by false true l m rest is h = cc
-    by false false true m rest is h = cc
-    by false false false m rest is h = grind (arith, is)
+short_number word unit h = few_digits is_of_macro refl refl word unit h

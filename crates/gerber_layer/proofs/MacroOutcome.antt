@@ -9,6 +9,7 @@ use Rattle.apertures.specs.declared.aperture.Aperture.{Aperture}
 use Rattle.apertures.specs.declared.fault.ApertureFault.{ApertureFault}
 use Rattle.apertures.specs.declared.fault.ApertureFault.TheVariants as aperture
 use Rattle.apertures.specs.Definition.{aperture_at, name_of}
+use Rattle.apertures.specs.Holes.{or_ring, real_aperture_at, ring_at}
 use Rattle.aperture_macros.specs.BodyWord.{PlainPrimitive, primitive_at}
 use Rattle.aperture_macros.specs.declared.fault.MacroFault.{MacroFault}
 use Rattle.aperture_macros.specs.declared.primitive.Copper.{Copper}
@@ -20,9 +21,9 @@ use Rattle.gerber_layer.specs.declared.kind.GerberKind.TheVariants as kind
 use Rattle.gerber_layer.specs.declared.macro_kind.FlattenKind.{FlattenKind}
 use Rattle.gerber_layer.specs.declared.macro_kind.FlattenKind.TheVariants.{Gerber, BadMacro, MacroTwice, NoMacro, TooManyRadii}
 use Rattle.gerber_layer.specs.Tools.{Tool, composed, composed_in, has_room, macro_named, name_text, number_digits, parameters_in, tool_by}
-use Rattle.gerber_layer.specs.CommandEffects.{Known, Effect, stays, makes, begins_macro, fills_macro, concludes, ◌>>=◌, unless, needed, define, is_finish, row}
-use Rattle.gerber_layer.specs.MacroTable.{gerber, as_macro, all_judged, is_reserved, name_macro, fill_by, fill_macro, compose, compose_as, is_of_macro, define_any, few_radii, macro_row, row_with_macros, effect_loosely, effect_with_macros}
-use Rattle.gerber_layer.proofs.Outcome.{Defined, IsFilled, Outcome, bind_ok, past_test, got, ok_stays, define_did, row_outcome, end_outcome}
+use Rattle.gerber_layer.specs.CommandEffects.{Known, Effect, stays, makes, begins_macro, fills_macro, concludes, ◌>>=◌, unless, needed, is_finish, row}
+use Rattle.gerber_layer.specs.MacroTable.{gerber, as_macro, all_judged, is_reserved, name_macro, fill_by, fill_macro, compose, compose_as, is_of_macro, define_any, define_in, define_real, few_radii, macro_row, row_with_macros, effect_loosely, effect_with_macros}
+use Rattle.gerber_layer.proofs.Outcome.{Defined, IsFilled, Outcome, bind_ok, past_test, got, ok_stays, define_did, reads_did, row_outcome, end_outcome}
 
 pub gerber_ok : {A : Type 0} (r : Result A GerberKind) (x : A) → gerber r ≡ Ok x → r ≡ Ok x
 gerber_ok (Ok y) x h = let e : y ≡ x = cc in ap Ok e
@@ -50,9 +51,9 @@ unfolding fill_macro
 filled_is k copper text e h = filled (has_room k.macros.latest) (primitive_at copper text) e h
 
 -- a definition of an aperture by a macro
-of_macro : (r : Result (ℕ × Aperture) ApertureFault) (other : Option (ℕ × Tool)) → is_of_macro r ≡ true → tool_by r other ≡ other
-of_macro (Err aperture.Macro) other h = refl
-of_macro any other h = cc
+of_macro : (r ring : Result (ℕ × Aperture) ApertureFault) (other : Option (ℕ × Tool)) → is_of_macro r ≡ true → tool_by (or_ring r ring) other ≡ other
+of_macro (Err aperture.Macro) ring other h = refl
+of_macro any ring other h = cc
 
 -- what it makes
 record Composed (text : List ℕ) (unit : Measure) (e : Effect) : Type 0 where
@@ -89,13 +90,19 @@ compose_is copper k text word name unit body parameters n a b h p e =
     let read : parameters_in (name_text text) ≡ Some parameters = sym (p ∙ ap parameters_in a) in
     rw (named, read) (ap (λ (m : ℕ). compose_as copper k m (name_of (name_text text)) body parameters unit) (sym e) ∙ ap (λ (xs : List ℕ). compose_as copper k n xs body parameters unit) (sym there))
 
+-- a definition of a standard aperture
+standard_did : (copper : Copper) (k : Known) (text : List ℕ) (unit : Measure) (e : Effect) → k.settings.unit ≡ Some unit → define_in copper k text unit ≡ Ok e → Defined k text e
+unfolding define_real
+standard_did Exact k text unit e is h = define_did k text e h
+standard_did Real k text unit e is h = reads_did k text unit (real_aperture_at text unit) e is (λ d same. same) h
+
 defined_any : (copper : Copper) (k : Known) (text : List ℕ) (e : Effect) → define_any copper k text ≡ Ok e → Defined k text e
 unfolding define_any
 defined_any copper k text e h =
-    let u = bind_ok (needed (Gerber kind.MissingUnit) k.settings.unit) (λ unit. cond (is_of_macro (aperture_at text unit)) (compose copper k text unit) (gerber (define k text))) e h in
+    let u = bind_ok (needed (Gerber kind.MissingUnit) k.settings.unit) (λ unit. cond (is_of_macro (aperture_at text unit)) (compose copper k text unit) (gerber (define_in copper k text unit))) e h in
     by u.0 (got (Gerber kind.MissingUnit) k.settings.unit u.0 u.1) (is_of_macro (aperture_at text u.0)) refl u.2
   where
-    by : (unit : Measure) → k.settings.unit ≡ Some unit → (b : Bool) → is_of_macro (aperture_at text unit) ≡ b → cond b (compose copper k text unit) (gerber (define k text)) ≡ Ok e → Defined k text e
+    by : (unit : Measure) → k.settings.unit ≡ Some unit → (b : Bool) → is_of_macro (aperture_at text unit) ≡ b → cond b (compose copper k text unit) (gerber (define_in copper k text unit)) ≡ Ok e → Defined k text e
     by unit is true of h =
         let c = compose_did copper k text unit e h in
         record {
@@ -103,10 +110,10 @@ defined_any copper k text e h =
           n = digits_value 10 (number_digits text);
           tool = composed (name_of (name_text text)) c.parameters unit;
           unit_is = is;
-          read_is = of_macro (aperture_at text unit) (composed_in text unit) of ∙ ap (option_map (λ (ps : List Fraction). (digits_value 10 (number_digits text), composed (name_of (name_text text)) ps unit))) c.read;
+          read_is = of_macro (aperture_at text unit) (ring_at text unit) (composed_in text unit) of ∙ ap (option_map (λ (ps : List Fraction). (digits_value 10 (number_digits text), composed (name_of (name_text text)) ps unit))) c.read;
           is = c.is;
         }
-    by unit is false of h = define_did k text e (gerber_ok (define k text) e h)
+    by unit is false of h = standard_did copper k text unit e is (gerber_ok (define_in copper k text unit) e h)
 
 pub row_did : (copper : Copper) (k : Known) (c : Command) (e : Effect) → macro_row copper k c ≡ Ok e → Outcome k c e
 unfolding macro_row

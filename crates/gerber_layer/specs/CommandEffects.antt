@@ -101,12 +101,16 @@ abbrev pub read : Result (ℕ × Aperture) ApertureFault → Result (ℕ × Aper
 read (Ok definition) = Ok definition
 read (Err fault) = Err (kind_of_aperture fault)
 
+-- the aperture of this number is new, and there is room for it
+abbrev pub define_as : Known → ℕ × Aperture → Result Effect GerberKind
+define_as k made = unless (is_some (k.defined made.0)) kind.ApertureTwice (unless (nat_le MOST_APERTURES k.definitions) kind.TooManyApertures (Ok (makes made.0 (standard made.1))))
+
 -- the row of a definition (Gerber Layer Format Specification, 4.3)
 unfoldable pub define : Known → List ℕ → Result Effect GerberKind
 define k text = do
   unit ← needed kind.MissingUnit k.settings.unit
   made ← read (aperture_at text unit)
-  unless (is_some (k.defined made.0)) kind.ApertureTwice (unless (nat_le MOST_APERTURES k.definitions) kind.TooManyApertures (Ok (makes made.0 (standard made.1))))
+  define_as k made
 
 -- the operation of a word without `D` counts as `D01`
 abbrev pub code_of : Option Code → Code

@@ -9,6 +9,7 @@ use Rattle.apertures.specs.declared.aperture.Aperture.{Aperture}
 use Rattle.apertures.specs.declared.fault.ApertureFault.{ApertureFault}
 use Rattle.apertures.specs.declared.fault.ApertureFault.TheVariants as aperture
 use Rattle.apertures.specs.Definition.{aperture_at, name_of}
+use Rattle.apertures.specs.Holes.{real_aperture_at}
 use Rattle.aperture_macros.specs.BodyWord.{PlainPrimitive, primitive_at}
 use Rattle.aperture_macros.specs.Flashes.{judged}
 use Rattle.aperture_macros.specs.declared.fault.MacroFault.{MacroFault}
@@ -24,7 +25,7 @@ use Rattle.gerber_layer.specs.declared.macro_kind.FlattenKind.TheVariants.{Gerbe
 use Rattle.gerber_layer.specs.Radii.{radii_of}
 use Rattle.gerber_layer.specs.WordCommands.{is_empty}
 use Rattle.gerber_layer.specs.Tools.{composed, has_room, macro_named, name_text, number_digits, parameters_in}
-use Rattle.gerber_layer.specs.CommandEffects.{Known, Effect, stays, makes, begins_macro, fills_macro, concludes, ◌>>=◌, unless, needed, define, is_finish, row}
+use Rattle.gerber_layer.specs.CommandEffects.{Known, Effect, stays, makes, begins_macro, fills_macro, concludes, ◌>>=◌, unless, needed, read, define, define_as, is_finish, row}
 
 -- how the rows of `CommandEffects` refuse
 abbrev pub gerber : {A : Type 0} → Result A GerberKind → Result A FlattenKind
@@ -86,11 +87,19 @@ abbrev pub is_of_macro : Result (ℕ × Aperture) ApertureFault → Bool
 is_of_macro (Err aperture.Macro) = true
 is_of_macro other = false
 
+-- the row of a definition of a standard aperture in such copper: in real copper a circle may have a hole
+unfoldable pub define_real : Known → List ℕ → Measure → Result Effect GerberKind
+define_real k text unit = read (real_aperture_at text unit) >>= λ made. define_as k made
+
+abbrev pub define_in : Copper → Known → List ℕ → Measure → Result Effect GerberKind
+define_in Exact k text unit = define k text
+define_in Real k text unit = define_real k text unit
+
 -- the row of a definition
 unfoldable pub define_any : Copper → Known → List ℕ → Result Effect FlattenKind
 define_any copper k text =
     needed (Gerber kind.MissingUnit) k.settings.unit >>= λ unit.
-    if is_of_macro (aperture_at text unit) then compose copper k text unit else gerber (define k text)
+    if is_of_macro (aperture_at text unit) then compose copper k text unit else gerber (define_in copper k text unit)
 
 -- The rows where a file may have macros.
 unfoldable pub macro_row : Copper → Known → Command → Result Effect FlattenKind

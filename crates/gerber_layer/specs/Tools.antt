@@ -1,5 +1,5 @@
 -- What the aperture dictionary and the macros of a file hold.
-use Rattle.std.specs.Prelude.{ℕ, ◌+◌, zero, suc, Bool, false, nat_lt, if◌then◌else◌, List, [], ◌∷◌, ◌++◌, length, take, drop, ℤ, Option, Some, None, option_map, Result, Ok, Err}
+use Rattle.std.specs.Prelude.{ℕ, ◌+◌, zero, suc, Bool, false, nat_lt, if◌then◌else◌, List, [], ◌∷◌, ◌++◌, length, ℤ, Option, Some, None, option_map, Result, Ok, Err}
 use Rattle.std.specs.List.{after_first, before_first, count_by, list_any}
 use Rattle.std.specs.Str.Parse.{digits_value}
 use Rattle.texts.specs.Words.{is_word}
@@ -9,7 +9,9 @@ use Rattle.apertures.specs.declared.aperture.Aperture.{Aperture}
 use Rattle.apertures.specs.declared.fault.ApertureFault.{ApertureFault}
 use Rattle.apertures.specs.declared.fault.ApertureFault.TheVariants as aperture
 use Rattle.apertures.specs.Flash.{pen_of}
-use Rattle.apertures.specs.Definition.{aperture_at, digits_len, is_comma, is_x, name_of}
+pub use Rattle.apertures.specs.Definition.{name_text, number_digits}
+use Rattle.apertures.specs.Definition.{is_comma, is_x, name_of}
+use Rattle.apertures.specs.Holes.{real_aperture_at}
 use Rattle.aperture_macros.specs.BodyWord.{PlainPrimitive}
 
 -- An aperture: a standard one, or the macro of a name with its parameters and their unit.
@@ -60,13 +62,6 @@ filled_up m p = record { latest = option_map (longer p) m.latest; others = m.oth
 
 -- ---- An `AD` word of a macro (Gerber Layer Format Specification, 4.3)
 
--- the digits of its number, and the name with the parameters behind them
-abbrev pub number_digits : List ℕ → List ℕ
-number_digits word = take (digits_len (drop 3 word)) (drop 3 word)
-
-abbrev pub name_text : List ℕ → List ℕ
-name_text word = drop (digits_len (drop 3 word)) (drop 3 word)
-
 -- n decimals, cut at `X`
 unfoldable pub decimals_in : ℕ → List ℕ → Option (List Fraction)
 decimals_in zero text = Some []
@@ -91,6 +86,6 @@ tool_by (Ok made) other = Some (made.0, standard made.1)
 tool_by (Err aperture.Macro) other = other
 tool_by (Err fault) other = None
 
--- what an `AD` word defines: a standard aperture, or one of a macro
+-- what an `AD` word defines: a standard aperture, or one of a macro. Where copper is taken exactly, a hole is refused.
 abbrev pub tool_in : List ℕ → Measure → Option (ℕ × Tool)
-tool_in word unit = tool_by (aperture_at word unit) (composed_in word unit)
+tool_in word unit = tool_by (real_aperture_at word unit) (composed_in word unit)

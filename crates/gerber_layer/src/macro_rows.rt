@@ -16,12 +16,12 @@ use crate::command_effects::is_finish;
 use crate::effect::Effect;
 use crate::kind::GerberKind;
 use crate::macro_kind::FlattenKind;
-use crate::parameters::{name_text, number, parameters};
+use crate::parameters::parameters;
 use crate::radii::Radii;
 use crate::reader::Reader;
 use crate::tool::Tool;
 use aperture_macros::{Copper, Primitive, read_body};
-use apertures::{ApertureFault, read_aperture};
+use apertures::{ApertureFault, name_text, number, read_aperture, read_real_aperture};
 use file_reading::Halt;
 use lengths::decimal::{Decimal, Unit};
 use std::alloc::Global;
@@ -104,6 +104,7 @@ fn is_function(command: &Command) -> bool
 
 impl<'a> Reader<'a> {
     ghost use Rattle.gerber_layer.specs.MacroReader.{showing_any};
+    ghost use Rattle.gerber_layer.specs.Reader.{showing};
 
     // `AM`.
     #[tactic(auto, unfolding(crate::specs::MacroTable::name_macro))]
@@ -191,6 +192,26 @@ impl<'a> Reader<'a> {
         Ok(Effect::Makes(n, Tool::Composed(name, parameters, unit, marks)))
     }
 
+    // A standard aperture, which in real copper may have a hole.
+    #[tactic(auto, unfolding(crate::specs::MacroTable::define_real))]
+    fn define_real(&self, text: &[u8], unit: Unit) -> Result<Effect<'a>, GerberKind>
+        ensures value { showing (known_of self.now) result ≡ spec.define_real (known_of self.now) text.now unit }
+        ensures fit { IfOk result (IsFit self.now.dictionary) }
+    {
+        let (n, aperture) = read_real_aperture(text, unit)?;
+        self.define_as(n, aperture)
+    }
+
+    fn define_in(&self, copper: Copper, text: &[u8], unit: Unit) -> Result<Effect<'a>, GerberKind>
+        ensures value { showing (known_of self.now) result ≡ spec.define_in copper (known_of self.now) text.now unit }
+        ensures fit { IfOk result (IsFit self.now.dictionary) }
+    {
+        match copper {
+            Copper::Exact => self.define(text),
+            Copper::Real => self.define_real(text, unit),
+        }
+    }
+
     // `AD`.
     #[tactic(auto, unfolding(crate::specs::MacroTable::define_any))]
     fn define_any(&self, alloc: Global, copper: Copper, text: &'a [u8]) -> MacroRow<'a>
@@ -204,7 +225,7 @@ impl<'a> Reader<'a> {
         if is_of_macro(text, unit) {
             return self.compose(alloc, copper, text, unit);
         }
-        self.define(text)
+        self.define_in(copper, text, unit)
             .map_err(|kind| Halt::Fault(FlattenKind::Gerber(kind)))
     }
 

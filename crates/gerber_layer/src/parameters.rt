@@ -1,41 +1,13 @@
 //! The definition of an aperture by a macro.
-ghost use Rattle.std.specs.Prelude.{◌≡◌, ◌≤◌, drop, length, IfOk, option_map};
+ghost use Rattle.std.specs.Prelude.{◌≡◌, IfOk, option_map};
 ghost use Rattle.std.specs.List.{count_by};
-ghost use Rattle.std.specs.Str.Parse.{digits_value as value_of_digits};
 ghost use Rattle.apertures.specs.Definition.{is_x};
 ghost use Rattle.gerber_layer.specs.Tools as spec;
 
-use lengths::decimal::{Decimal, read_decimal, small_value};
+use lengths::decimal::{Decimal, read_decimal};
 use lengths::rows::NoMemory;
 use std::alloc::Global;
-use texts::{after_byte, before_byte, digits_len, has};
-
-/// The name of an aperture with its parameters, which stand behind its number.
-pub fn name_text(word: &[u8]) -> &[u8]
-    ensures { result.now ≡ spec.name_text word.now }
-{
-    let text = behind_letters(word);
-    &text[digits_len(text)..]
-}
-
-/// The number of an aperture.
-pub fn number(word: &[u8]) -> u32
-    requires { length (spec.number_digits word.now) ≤ 9 }
-    ensures { result ≡ value_of_digits 10 (spec.number_digits word.now) }
-{
-    let text = behind_letters(word);
-    small_value(&text[..digits_len(text)])
-}
-
-// What follows `ADD`.
-fn behind_letters(word: &[u8]) -> &[u8]
-    ensures { result.now ≡ drop 3 word.now }
-{
-    if word.len() < 3 {
-        return &[];
-    }
-    &word[3..]
-}
+use texts::{after_byte, before_byte, has};
 
 // How often `X` stands in a text.
 fn count(text: &[u8]) -> usize

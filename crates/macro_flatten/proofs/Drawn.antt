@@ -14,9 +14,10 @@ use Rattle.board_shapes.specs.Figures.{Figure, Stroke, round, filled}
 use Rattle.board_shapes.specs.Moved.{shifted, shifted_figure, corners as ends}
 use Rattle.board_shapes.specs.Rectangles.{lower, rectangle, upper}
 use Rattle.apertures.specs.Definition.{is_zero}
-use Rattle.apertures.specs.Flash.{NoFlash, leaves, IsNarrow, IsSize, IsLawful, half, disc, rectangle_at, obround, placed, flash_of}
+use Rattle.apertures.specs.Flash.{NoFlash, leaves, IsNarrow, IsSize, IsLawful, half, area_at, disc, rectangle_at, obround, placed, flash_of}
+use Rattle.apertures.specs.Telling.{told_ring}
 use Rattle.apertures.specs.declared.aperture.Aperture.{Aperture}
-use Rattle.apertures.specs.declared.aperture.Aperture.TheVariants.{Circle, Rectangle, Obround}
+use Rattle.apertures.specs.declared.aperture.Aperture.TheVariants.{Circle, Rectangle, Obround, Ring}
 use Rattle.regions.specs.Contours.{stays_open, too_short, close_of, same_number, same_spot}
 use Rattle.macro_flatten.specs.Laws.{IsDrawn}
 use Rattle.area_contact.specs.declared.TheConstants.{MOST_CONTOUR_POINTS}
@@ -72,20 +73,20 @@ disc_drawn n to f even most h e = by (eqb n 0) refl e
     by true z e = cc
     by false z e = let r = half_drawn n even most z in same_figure (round (record { a = to; b = to; r = pos (n / 2) })) f e (h, h, r.0, r.1)
 
-rectangle_drawn : (x y : ℕ) (to : Spot) (f : Figure) → rectangle_at x y to ≡ Ok (Some f) → IsDrawn f
-rectangle_drawn x y to f e = by (rectangle (lower to x y) (upper to x y)) refl (omega arith) (omega arith) e
+area_drawn : (points : List Spot) (f : Figure) → IsClosed points → 4 ≤ length points → length points ≤ MOST_CONTOUR_POINTS → area_at points ≡ Ok (Some f) → IsDrawn f
+area_drawn points f closed enough few e = placed_or_not (list_all is_placed points) refl e
   where
-    by : (points : List Spot) → IsClosed points → 4 ≤ length points → length points ≤ MOST_CONTOUR_POINTS → cond (list_all is_placed points) (Ok (Some (filled points))) (Err leaves) ≡ Ok (Some f) → IsDrawn f
-    by points closed enough few e = placed_or_not (list_all is_placed points) refl e
-      where
-        placed_or_not : (b : Bool) → list_all is_placed points ≡ b → cond b (Ok (Some (filled points))) (Err leaves) ≡ Ok (Some f) → IsDrawn f
-        placed_or_not false z e = cc
-        placed_or_not true z e = same_figure (filled points) f e (record {
-          closed = closed;
-          enough = enough;
-          not_many = few;
-          placed = All-from_recursion IsPlaced points (spots_placed points z);
-        })
+    placed_or_not : (b : Bool) → list_all is_placed points ≡ b → cond b (Ok (Some (filled points))) (Err leaves) ≡ Ok (Some f) → IsDrawn f
+    placed_or_not false z e = cc
+    placed_or_not true z e = same_figure (filled points) f e (record {
+      closed = closed;
+      enough = enough;
+      not_many = few;
+      placed = All-from_recursion IsPlaced points (spots_placed points z);
+    })
+
+rectangle_drawn : (x y : ℕ) (to : Spot) (f : Figure) → rectangle_at x y to ≡ Ok (Some f) → IsDrawn f
+rectangle_drawn x y to f e = area_drawn (rectangle (lower to x y) (upper to x y)) f refl (omega arith) (omega arith) e
 
 ends_drawn : (s : Stroke) (f : Figure) → pos 0 <ℤ s.r → s.r ≤ℤ MOST_RADIUS → placed s ≡ Ok (Some f) → IsDrawn f
 ends_drawn s f low high e = by (is_placed s.a && is_placed s.b) refl e
@@ -108,6 +109,7 @@ flash_drawn (Circle (pos n)) to f h k e = disc_drawn n to f h.0.even h.1 k e
 flash_drawn (Circle (negsuc n)) to f h k e = let l = h.0.low in absurd (omega (arith, ints, l))
 flash_drawn (Rectangle x y) to f h k e = rectangle_drawn (unsigned_abs x) (unsigned_abs y) to f e
 flash_drawn (Obround x y) to f h k e = obround_drawn x y to f h.0 h.1 h.2 h.3 h.4 e
+flash_drawn (Ring d hole) to f h k e = area_drawn (told_ring (unsigned_abs d) (unsigned_abs hole) to) f refl (omega arith) (omega arith) e
 
 -- ---- Contours
 

@@ -1,10 +1,10 @@
 -- What earlier commands of a copper file have set is lawful, whatever they did: apertures, macros, the current point and the contour.
-use Rattle.std.proofs.Common.{◌≡◌, ℕ, ◌≤◌, Bool, true, false, not, cond, eqb, nat_lt, List, [], ◌∷◌, ◌++◌, ℤ, Option, Some, None, Result, Ok, Err, refl, sym, ap, subst, arith}
+use Rattle.std.proofs.Common.{◌≡◌, ℕ, ◌≤◌, Bool, true, false, cond, eqb, nat_lt, List, [], ◌∷◌, ◌++◌, ℤ, Option, Some, None, Result, Ok, Err, refl, ap, subst, arith}
 use Rattle.std.specs.Option.{option_or}
 use Rattle.std.proofs.lemmas.Bool.{ltb-false}
 use Rattle.std.proofs.lemmas.Int.{ints}
-use Rattle.std.specs.List.{AllByRecursion, starts_with}
-use Rattle.std.specs.Prelude.{codes, nat_eq, take, drop, option_map}
+use Rattle.std.specs.List.{AllByRecursion}
+use Rattle.std.specs.Prelude.{option_map}
 use Rattle.std.specs.Str.Parse.{digits_value}
 use Rattle.lengths.specs.Decimal.{Fraction, signed, over_power}
 use Rattle.lengths.specs.Grid.{amount_of, as_position, position_of}
@@ -17,9 +17,10 @@ use Rattle.texts.specs.Words.{is_word}
 use Rattle.apertures.specs.declared.aperture.Aperture.{Aperture}
 use Rattle.apertures.specs.declared.fault.ApertureFault.{ApertureFault}
 use Rattle.apertures.specs.declared.fault.ApertureFault.TheVariants as aperture
-use Rattle.apertures.specs.Definition.{aperture_at, numbered_at, digits_len, name_of}
+use Rattle.apertures.specs.Definition.{name_of}
+use Rattle.apertures.specs.Holes.{real_aperture_at}
 use Rattle.apertures.specs.Flash.{IsLawful}
-use Rattle.apertures.proofs.Lawful.{numbered_lawful, past_test as past_apertures}
+use Rattle.apertures.proofs.Lawful.{real_lawful}
 use Rattle.aperture_macros.specs.declared.primitive.Copper.{Copper}
 use Rattle.aperture_macros.specs.BodyWord.{PlainPrimitive, primitive_at}
 use Rattle.aperture_macros.specs.Sized.{IsSized}
@@ -132,13 +133,6 @@ abbrev pub IsLawfulTool : Tool → Type 0
 IsLawfulTool (standard a) = IsLawful a
 IsLawfulTool (composed name parameters unit) = Unit {0}
 
-aperture_lawful : (text : List ℕ) (unit : Measure) (r : ℕ × Aperture) → aperture_at text unit ≡ Ok r → IsLawful r.1
-unfolding aperture_at
-aperture_lawful text unit r e =
-    let rest = drop 3 text in
-    let one = past_apertures (not (starts_with nat_eq text (codes "ADD"))) aperture.BadText (numbered_at (take (digits_len rest) rest) (drop (digits_len rest) rest) unit) r e in
-    numbered_lawful (take (digits_len rest) rest) (drop (digits_len rest) rest) unit (Ok r) (sym one)
-
 composed_lawful : (text : List ℕ) (unit : Measure) (m : ℕ × Tool) → composed_in text unit ≡ Some m → IsLawfulTool m.1
 composed_lawful text unit m h = by (parameters_in (name_text text)) h
   where
@@ -149,12 +143,12 @@ composed_lawful text unit m h = by (parameters_in (name_text text)) h
         subst (λ (t : ℕ × Tool). IsLawfulTool t.1) same tt
 
 tool_lawful : (text : List ℕ) (unit : Measure) (m : ℕ × Tool) → tool_in text unit ≡ Some m → IsLawfulTool m.1
-tool_lawful text unit m h = by (aperture_at text unit) refl h
+tool_lawful text unit m h = by (real_aperture_at text unit) refl h
   where
-    by : (r : Result (ℕ × Aperture) ApertureFault) → aperture_at text unit ≡ r → tool_by r (composed_in text unit) ≡ Some m → IsLawfulTool m.1
+    by : (r : Result (ℕ × Aperture) ApertureFault) → real_aperture_at text unit ≡ r → tool_by r (composed_in text unit) ≡ Some m → IsLawfulTool m.1
     by (Ok made) e h =
         let same : ◌≡◌ {A = ℕ × Tool} (made.0, standard made.1) m = cc in
-        subst (λ (t : ℕ × Tool). IsLawfulTool t.1) same (aperture_lawful text unit made e)
+        subst (λ (t : ℕ × Tool). IsLawfulTool t.1) same (real_lawful text unit made e)
     by (Err aperture.Macro) e h = composed_lawful text unit m h
     by (Err aperture.BadText) e h = cc
     by (Err aperture.Hole) e h = cc

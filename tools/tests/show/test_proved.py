@@ -97,6 +97,16 @@ class Asked(made.Case):
         half = " ".join(str(self.links(side, 10)) for side in ("lower", "upper"))
         self.assertEqual(program.texts[3], "\n".join(["boardnet-bounds 1", half, "1 1", f"{low} {high}", f"{least} {few}", "1 1", "1 1", ""]))
 
+    def test_counts_of_holes(self):
+        """A line for each circle with a hole, which is a draw once round it; of a thin one nothing is below."""
+        holes = ["%ADD14C,3X1*%", "%ADD15C,0.000001X0.0000006*%", "D14*", "%SRX2Y1I9.0J0*%", "X0Y5000000D03*", "%SR*%", "D15*", "X0Y0D03*"]
+        program = Recorder(Answer(3, b"", "no"))
+        self.told(program, [*HALF, *holes, "D14*", "X0Y9000000D03*"], [A, B])
+        half, first, copy, thin, last = program.texts[3].split("\n")[1:-1]
+        self.assertEqual((first, copy), (last, last))
+        self.assertEqual([thin, last], [" ".join(str(self.links(side, number)) for side in ("lower", "upper")) for number in (19, 21)])
+        self.assertEqual(thin.split(" ")[0], "0")
+
     def test_smaller_areas(self):
         """With regions the word is said where the smaller areas within them say the same, and a weaker answer is none."""
         bent = ["G36*", "X0Y0D02*", "X2000000Y0D01*", "G03X0Y2000000I-2000000J0D01*", "G01X0Y0D01*", "G37*"]
@@ -133,7 +143,7 @@ class Asked(made.Case):
                 ["%AMA*", "4,1,3,0,0,1,0,0,1,0,0,30*%", "%ADD14A*%", "D14*", "X0Y5000000D03*"], ["%AMA*", "4,1,4,0,0,0,1,1,1,1,0,0,0,30*%", "%ADD14A*%", "D14*", "X0Y5000000D03*"],
                 ["%AMA*", "20,1,0.0000003,0,0,0.3,0.4,0*%", "%ADD14A*%", "D14*", "X0Y5000000D03*"],
                 ["%AMA*", "1,1,0.2,0,0*", "1,0,0.1,0,0*%", "%ADD14A*%", "D14*", "X0Y5000000D03*"], ["%AMA*", "1,1,0.2,0,0*%", "%ADD14A*%", "D14*", "%LS2*%", "X0Y5000000D03*"],
-                ["%ADD14C,1X0.2*%", "D14*", "X0Y5000000D03*"], ["%ABD15*%", "D11*", "X9000000Y0D03*", "%AB*%", "D15*", "X0Y0D03*"]]
+                ["%ADD14R,1X1X0.2*%", "D14*", "X0Y5000000D03*"], ["%ADD14C,0.000001X0.0000008*%", "D14*", "X0Y5000000D03*"], ["%ABD15*%", "D11*", "X9000000Y0D03*", "%AB*%", "D15*", "X0Y0D03*"]]
         for lines in rows:
             program = Recorder()
             self.assertEqual((self.told(program, [*HALF, *lines], [A, B]), program.texts), (self.bounded, None), lines)
@@ -175,6 +185,10 @@ class Taken(made.Case):
         ("slanted lines", [*LINES, "D20*", "X0Y0D03*"], [record("A", "J1.1", 1.9, .9), record("A", "J1.2", 1.1, .1), record("B", "J2.1", -2.1, .9), record("B", "J2.2", -2.9, .1)], "agrees"),
         ("a short by a slanted line", [*LINES, "D20*", "X0Y0D03*"], [record("A", "J1.1", 1.9, .9), record("B", "J2.1", 1.1, .1)], "differs"),
         ("turned pads of KiCad", [*PAD, *HALF, "D20*", "%SRX2Y1I5.0J0*%", "X1000000Y0D03*", "%SR*%"], [A, B, record("A", "J1.3", 1.5, .65), record("B", "J2.1", 6, 0)], "agrees"),
+        ("a circle with a hole", ["%ADD14C,3X1*%", "D14*", "X0Y0D03*"], [A, B], "agrees"),
+        ("circles with a hole, two nets", ["%ADD14C,3X2*%", "D14*", "%SRX2Y1I5.0J0*%", "X0Y0D03*", "%SR*%", "D11*", "X0Y0D03*"], [record("A", "J1.1", 1.2, 0), record("B", "J1.2", 0, 0), record("C", "J1.3", 3.8, 0)], "agrees"),
+        ("a point in a hole", ["%ADD14C,3X2.2*%", "D14*", "X0Y0D03*"], [record("A", "J1.1", 1.3, 0), B], "differs"),
+        ("nearer to the border of a hole", ["%ADD14C,3X2*%", "D14*", "X0Y0D03*"], [record("A", "J1.1", 1.2, 0), record("A", "J1.2", -1.0001, 0)], "undecided"),
         ("regions with arcs", ROUNDED, [record("A", "J1.1", 1, .5), record("A", "J1.2", .5, 1), record("B", "J2.1", 7.5, .4)], "agrees"),
         ("regions with arcs, two distances", UNEVEN, [record("A", "J1.1", 1, .5), record("A", "J1.2", .8, 1.5)], "agrees"),
     ]
