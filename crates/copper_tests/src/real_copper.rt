@@ -392,10 +392,7 @@ fn of_holes() -> [(&'static str, &'static str); 6] {
             "%ADD11C,1.0X0.5*%D11*X1000000D01*M02*",
             "Copper(Gerber(PenNotCircle)) at command 7",
         ),
-        (
-            "%ADD11C,1.0X1.0*%M02*",
-            "Copper(Gerber(Hole)) at command 5",
-        ),
+        ("%ADD11C,1.0X1.0*%M02*", "Copper(Gerber(Hole)) at command 5"),
         (
             "%ADD11R,1.0X1.0X0.5*%M02*",
             "Copper(Gerber(Hole)) at command 5",

@@ -190,7 +190,9 @@ impl Reader {
             DrillLine::Straight(_) if !down => Err(DrillKind::WrongMode),
             DrillLine::Straight(_) => self.placed_row(form, diameter),
             DrillLine::Hit(_) | DrillLine::Slot(_, _) if !drilling => Err(DrillKind::WrongMode),
-            DrillLine::Hit(_) | DrillLine::Slot(_, _) if diameter.is_none() => Err(DrillKind::NoTool),
+            DrillLine::Hit(_) | DrillLine::Slot(_, _) if diameter.is_none() => Err(
+                DrillKind::NoTool,
+            ),
             DrillLine::Hit(_) | DrillLine::Slot(_, _) => self.placed_row(form, diameter),
             _ => Err(DrillKind::BadLine),
         }
