@@ -1,12 +1,15 @@
 """Apertures of a copper file as what both sides write for them: passed on, or as pieces within the shape and pieces round it."""
 from fractions import Fraction as Q
+from math import cos, pi, sin
 
 from mends.definitions import MOST_WIDE
 
-from .arcs import Arc, arc_chain, chain_bounds, draw_bounds
+from .arcs import Arc, arc_chain, chain_bounds, draw_bounds, leaves
 from .exact import Refused, exact
+from .insets import eighth_chain, eighth_radius
 from .macros import figures, rectangle, regular, rows, without
 from .outlines import convex_bounds
+from .regions import rounded_contour
 from .spots import cross
 
 OBROUND, RECTANGLE, CIRCLE = "O", "R", "C"
@@ -14,10 +17,10 @@ OBROUND, RECTANGLE, CIRCLE = "O", "R", "C"
 
 class Shape:
     """A flash: its pieces on both sides, and what the lower side leaves out. One that is a pen has one convex piece a side. Where
-    `between` reads it, `rows` has for each of its own pieces how many those of both sides are."""
+    `between` reads it, `rows` has for each of its own pieces how many those of both sides are; `smaller` is one that it takes in its place."""
 
     def __init__(self, lower, upper, lost=None, is_pen=False, rows=None):
-        self.both, self.lost, self.is_pen, self.rows = (lower, upper), lost, is_pen, rows
+        self.both, self.lost, self.is_pen, self.rows, self.smaller = (lower, upper), lost, is_pen, rows, None
 
 
 class Pen:
@@ -78,6 +81,8 @@ def standard(name, lengths, hole):
         return holed_shape(obround(*lengths), hole)
     if name == CIRCLE and is_ring(*lengths, hole):
         return ring_shape(int(lengths[0]), int(hole))
+    if name == RECTANGLE and is_frame(*lengths, hole):
+        return frame_shape(*map(int, (*lengths, hole)))
     if hole:
         lower, upper = holed(name, low, hole), solid(name, high)
         return Shape(lower, upper, "a shape with a hole" if upper and not lower else None)
@@ -117,6 +122,37 @@ def ring_shape(d, hole):
     spot = ((d + hole) // 4, 0)
     both = draw_bounds((0, 0), spot, spot, Q(d - hole, 4))[1]
     return Shape(*both, None if both[0] else "a shape with a hole", rows=[tuple(map(len, both))])
+
+
+def is_frame(w, h, hole):
+    """Whether a rectangle has a round hole as `between` reads it."""
+    return w % 2 == h % 2 == hole % 2 == 0 < hole < min(w, h) and hole <= MOST_WIDE
+
+
+def frame_shape(w, h, hole):
+    """A rectangle with a round hole: above a region with a cut-in, below an area with a cut; the smaller one keeps off its border."""
+    x, y, r = w // 2, h // 2, hole // 2
+    around = rounded_contour(((r, 0), ((0, 0), (r, 0), True), (x, 0), (x, y), (-x, y), (-x, -y), (x, -y), (x, 0), (r, 0)), False, True)
+    upper = [("area", around.outer), *around.wide]
+    shape, corners = framed(holed(RECTANGLE, (w, h), hole), upper), clear_frame(x, y, r)
+    shape.smaller = framed([("area", corners)] if corners else [], upper)
+    return shape
+
+
+def framed(lower, upper):
+    return Shape(lower, upper, None if lower else "a shape with a hole", rows=[(len(lower), len(upper))])
+
+
+def clear_frame(x, y, r):
+    """Corners within a rectangle that keep off its sides, off a cut at the right, and off draws along eighth turns of a hole; None where
+    these leave too little. Floats only choose places, which the program tests."""
+    turns, keep = eighth_chain((0, 0), (r, 0), (r, 0)), eighth_radius((0, 0), (r, 0))
+    far = (r + keep + 2) * 203 // 202 + 2       # an edge of 32 is nearer by less than a 200th
+    if far > min(x, y) - 2 or r < 100 or leaves((0, 0), turns, r, r) > keep:
+        return None
+    around = [(round(far * cos(pi * k / 32)), round(far * sin(pi * k / 32))) for k in range(1, 64, 2)]
+    edge = around[0][0]
+    return [(x - 1, 1), (x - 1, y - 1), (1 - x, y - 1), (1 - x, 1 - y), (x - 1, 1 - y), (x - 1, -1), (edge, -1), *around[::-1], (edge, 1)]
 
 
 def holed_shape(figures, hole):

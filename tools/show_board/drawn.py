@@ -143,6 +143,8 @@ class Operations:
             return
         if made is not None and (self.change.alters(made) or not isinstance(made, apertures.Pen)):
             shape = self.changed(made)
+            if shape.smaller:
+                self.is_bent, shape = True, shape.smaller if self.is_coarse else shape
             self.stands(shape.rows)
             if shape.lost:
                 self.lose(f"{shape.lost} at command {self.number}")

@@ -12,8 +12,8 @@ use Rattle.lengths.specs.declared.decimal.Unit.{Unit as Measure}
 use Rattle.apertures.specs.declared.aperture.Aperture.{Aperture}
 use Rattle.apertures.specs.declared.fault.ApertureFault.{ApertureFault}
 use Rattle.apertures.specs.declared.fault.ApertureFault.TheVariants.{BadText, Hole}
-use Rattle.apertures.specs.Definition.{◌>>=◌, aperture_at, as_fault, diameter_at, digits_len, is_comma, is_x, last_behind, name_text, not_wide, number_digits, numbered_at, size_at}
-use Rattle.apertures.specs.Holes.{ends_number, has_further, is_circle, ring_at, ring_in, ring_of}
+use Rattle.apertures.specs.Definition.{◌>>=◌, aperture_at, as_fault, diameter_at, is_x, last_behind, name_text, not_wide, not_zero, number_digits, numbered_at, side_at, size_at}
+use Rattle.apertures.specs.Holes.{ends_number, frame_behind, frame_in, frame_of, has_further, holed_at, holed_in, is_circle, is_rectangle, parameters, ring_in, ring_of}
 use Rattle.apertures.specs.Laws.{HolesAreSeen}
 use Rattle.apertures.proofs.Lawful.{bind_ok}
 
@@ -129,20 +129,24 @@ behind_decimal (c ∷ text) some decimal = by (is_x c) refl some
 
 -- ---- Parts of a word
 
-behind_drop : (n : ℕ) (text : List ℕ) → has_further (drop n text) ≡ true → has_further text ≡ true
+pub behind_drop : (n : ℕ) (text : List ℕ) → has_further (drop n text) ≡ true → has_further text ≡ true
 behind_drop zero text h = h
 behind_drop (suc n) [] h = h
 behind_drop (suc n) (b ∷ text) h = or_true (ends_number b && begins text (codes "X")) (has_further text) (behind_drop n text h)
 
 -- ---- Parameters
 
-number_read : (text : List ℕ) (unit : Measure) (d : ℤ) → diameter_at text unit ≡ Ok d → is_decimal text ≡ true
-unfolding diameter_at size_at
-number_read text unit d h = by (is_decimal text) refl (bind_ok (size_at text unit) not_wide d h).1
+size_read : (text : List ℕ) (unit : Measure) (u : ℤ) → size_at text unit ≡ Ok u → is_decimal text ≡ true
+unfolding size_at
+size_read text unit u h = by (is_decimal text) refl h
   where
-    by : (b : Bool) → is_decimal text ≡ b → cond b (as_fault (size_of (fraction text) unit)) (Err BadText) ≡ Ok (bind_ok (size_at text unit) not_wide d h).0 → is_decimal text ≡ true
+    by : (b : Bool) → is_decimal text ≡ b → cond b (as_fault (size_of (fraction text) unit)) (Err BadText) ≡ Ok u → is_decimal text ≡ true
     by true is k = is
     by false is k = absurd cc
+
+number_read : (text : List ℕ) (unit : Measure) (d : ℤ) → diameter_at text unit ≡ Ok d → is_decimal text ≡ true
+unfolding diameter_at
+number_read text unit d h = let s = bind_ok (size_at text unit) not_wide d h in size_read text unit s.0 s.1
 
 some_behind : (text : List ℕ) → last_behind is_x text ≡ Ok tt → list_any is_x text ≡ true
 unfolding last_behind
@@ -159,6 +163,19 @@ further_in text unit a h =
     let d = bind_ok (diameter_at (before_first is_x text) unit) (λ d. diameter_at (after_first is_x text) unit >>= λ hole. ring_of d hole) a last.2 in
     behind_decimal text (some_behind text last.1) (number_read (before_first is_x text) unit d.0 d.1)
 
+side_read : (text : List ℕ) (unit : Measure) (u : ℤ) → side_at text unit ≡ Ok u → is_decimal text ≡ true
+unfolding side_at
+side_read text unit u h = let s = bind_ok (size_at text unit) not_zero u h in size_read text unit s.0 s.1
+
+frame_further : (text : List ℕ) (unit : Measure) (a : Aperture) → frame_in text unit ≡ Ok a → has_further (after_first is_x text) ≡ true
+unfolding frame_in frame_behind
+frame_further text unit a h =
+    let rest : List ℕ = after_first is_x text in
+    let last = bind_ok (last_behind is_x rest) (λ _. side_at (before_first is_x text) unit >>= λ x. frame_behind x rest unit) a h in
+    let x = bind_ok (side_at (before_first is_x text) unit) (λ x. frame_behind x rest unit) a last.2 in
+    let y = bind_ok (side_at (before_first is_x rest) unit) (λ y. diameter_at (after_first is_x rest) unit >>= λ hole. frame_of x.0 y hole) a x.2 in
+    behind_decimal rest (some_behind rest last.1) (side_read (before_first is_x rest) unit y.0 y.1)
+
 -- ---- The word
 
 begins_so : (word : List ℕ) (unit : Measure) → aperture_at word unit ≡ Err Hole → begins word (codes "ADD") ≡ true
@@ -169,20 +186,18 @@ begins_so word unit h = by (starts_with nat_eq word (codes "ADD")) refl h
     by true is k = is
     by false is k = absurd cc
 
-ring_seen : (word : List ℕ) (unit : Measure) (r : ℕ × Aperture) → ring_at word unit ≡ Ok r → (is_circle word && has_further word) ≡ true
-unfolding ring_at
-ring_seen word unit r h = by (is_circle word) h
+seen_in : (word text : List ℕ) (unit : Measure) (a : Aperture) → holed_in word text unit ≡ Ok a → (is_circle word && has_further text || is_rectangle word && has_further (after_first is_x text)) ≡ true
+unfolding holed_in
+seen_in word text unit a h = by (is_circle word) (is_rectangle word) h
   where
-    text : List ℕ
-    text = after_first is_comma (name_text word)
-
-    by : (b : Bool) → cond b (ring_in text unit >>= λ ring. Ok (digits_value 10 (number_digits word), ring)) (Err Hole) ≡ Ok r → (b && has_further word) ≡ true
-    by true k =
-        let s = bind_ok (ring_in text unit) (λ ring. Ok (digits_value 10 (number_digits word), ring)) r k in
-        behind_drop 3 word (behind_drop (digits_len (drop 3 word)) (drop 3 word) (behind_drop (position_or_len is_comma (name_text word) + 1) (name_text word) (further_in text unit s.0 s.1)))
-    by false k = absurd cc
+    by : (c r : Bool) → cond c (ring_in text unit) (cond r (frame_in text unit) (Err Hole)) ≡ Ok a → (c && has_further text || r && has_further (after_first is_x text)) ≡ true
+    by true r k = rw (further_in text unit a k) refl
+    by false true k = frame_further text unit a k
+    by false false k = absurd cc
 
 pub holes_are_seen : HolesAreSeen
+unfolding holed_at
 holes_are_seen word unit r hole real =
-    let ring : ring_at word unit ≡ Ok r = rw hole at real in
-    rw (begins_so word unit hole) (ring_seen word unit r ring)
+    let holed : holed_at word unit ≡ Ok r = rw hole at real in
+    let s = bind_ok (holed_in word (parameters word) unit) (λ holed. Ok (digits_value 10 (number_digits word), holed)) r holed in
+    rw (begins_so word unit hole) (seen_in word (parameters word) unit s.0 s.1)

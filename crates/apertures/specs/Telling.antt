@@ -1,9 +1,9 @@
--- How real copper tells a circle with a round hole: by an area of three spots and the first again, of which one that is flashed otherwise has more.
+-- How real copper tells circles and rectangles with a round hole: by an area of three spots, or of five, and the first again. Areas that are flashed otherwise have four, or more.
 use Rattle.std.specs.Prelude.{ℕ, ◌+◌, ◌*◌, ◌/◌, ◌-ℤ◌, unsigned_abs, List, [], ◌∷◌, Option, Some, None}
 use Rattle.planar.specs.declared.Spot.{Spot}
-use Rattle.board_shapes.specs.Rectangles.{upper}
+use Rattle.board_shapes.specs.Rectangles.{lower, upper}
 
--- They are the middle, and to its right the spot halfway between the hole and the outside, and one on the hole's border.
+-- Of a circle they are the middle, and to its right the spot halfway between the hole and the outside, and one on the hole's border.
 abbrev pub told_ring : ℕ → ℕ → Spot → List Spot
 told_ring d hole at = at ∷ upper at ((d + hole) / 2) 0 ∷ upper at hole 0 ∷ at ∷ []
 
@@ -16,3 +16,18 @@ pub record Ring : Type 0 where
 abbrev pub ring_told : List Spot → Option Ring
 ring_told (centre ∷ start ∷ border ∷ last ∷ []) = Some (record { centre = centre; start = start; pen = 2 * unsigned_abs (start.x -ℤ border.x) })
 ring_told other = None
+
+-- Of a rectangle they are the middle, one on the hole's border to its right, the corners lower left and upper right, and that on the border again.
+abbrev pub told_frame : ℕ → ℕ → ℕ → Spot → List Spot
+told_frame x y hole at = at ∷ upper at hole 0 ∷ lower at x y ∷ upper at x y ∷ upper at hole 0 ∷ at ∷ []
+
+-- What they tell: a rectangle between two corners without the disc round the middle up to its border.
+pub record Frame : Type 0 where
+  pub centre : Spot
+  pub border : Spot
+  pub low : Spot
+  pub high : Spot
+
+abbrev pub frame_told : List Spot → Option Frame
+frame_told (centre ∷ border ∷ low ∷ high ∷ again ∷ last ∷ []) = Some (record { centre = centre; border = border; low = low; high = high })
+frame_told other = None

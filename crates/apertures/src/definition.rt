@@ -163,9 +163,9 @@ pub fn diameter(text: &[u8], unit: Unit) -> Result<i64, ApertureFault>
     Ok(d)
 }
 
-// A size that is no 0.
+/// A size that is no 0.
 #[tactic(auto, unfolding(crate::specs::Definition::side_at))]
-fn side(text: &[u8], unit: Unit) -> Result<i64, ApertureFault>
+pub fn side(text: &[u8], unit: Unit) -> Result<i64, ApertureFault>
     ensures { result ≡ spec.side_at text.now unit }
 {
     let u = size(text, unit)?;

@@ -1,22 +1,25 @@
 //! How an aperture's definition is read in real copper.
 ghost use Rattle.std.specs.Prelude.{◌≡◌, ◌==◌, ◌≤◌, ◌&&◌, ◌||◌, drop, length, IfOk};
-ghost use Rattle.apertures.specs.Definition.{number_digits};
+ghost use Rattle.apertures.specs.Definition.{is_x, number_digits};
 ghost use Rattle.apertures.specs.Flash.{IsLawful, IsNarrow};
+ghost use Rattle.std.specs.List.{after_first};
 ghost use Rattle.apertures.specs.Holes as spec;
 ghost use Rattle.apertures.specs.Laws.{HolesAreSeen};
 
 use crate::aperture::Aperture;
-use crate::definition::{diameter, last_behind, name_text, number, read_aperture};
+use crate::definition::{diameter, last_behind, name_text, number, read_aperture, side};
 use crate::fault::ApertureFault;
 use lengths::decimal::Unit;
 use texts::{after_byte, before_byte, begins, is_word};
 
-/// Reads an `AD` word of real copper: as `read_aperture`, but a circle may have a round hole (Gerber Layer
-/// Format Specification, 4.4.2 and 4.4.6), `ADD<n>C,<d>X<d>`. It takes no memory.
+/// Reads an `AD` word of real copper: as `read_aperture`, but circles and rectangles may have a round hole
+/// (Gerber Layer Format Specification, 4.4.2, 4.4.3 and 4.4.6), `ADD<n>C,<d>X<d>` and `ADD<n>R,<x>X<y>X<d>`.
+/// It takes no memory.
 ///
-/// Where `read_aperture` says `Hole`, the refusals of a circle of two parameters come in this order: for
-/// each in turn `BadText`, `OffGrid`, and `OutOfRange` over 50 mm; `Hole` where the hole is 0 or not less
-/// than the circle, or the sum of both no multiple of 4 u.
+/// Where `read_aperture` says `Hole`, the refusals of a circle or a rectangle with one parameter more come in
+/// this order: for each in turn `BadText`, `OffGrid`, and `OutOfRange` (a side of 0, a diameter over 50 mm);
+/// `Hole` where the hole is 0 or not less than the circle or a side, or of a circle the sum of both
+/// diameters no multiple of 4 u.
 #[tactic(auto, unfolding(crate::specs::Definition::aperture_at))]
 pub fn read_real_aperture(word: &[u8], unit: Unit) -> Result<(u32, Aperture), ApertureFault>
     ensures value { result ≡ spec.real_aperture_at word.now unit }
@@ -24,7 +27,7 @@ pub fn read_real_aperture(word: &[u8], unit: Unit) -> Result<(u32, Aperture), Ap
 {
     let exact = read_aperture(word, unit);
     if is_holed(&exact) {
-        ring(word, unit)
+        holed(word, unit)
     } else {
         exact
     }
@@ -44,16 +47,40 @@ fn is_circle(word: &[u8]) -> bool
     is_word(before_byte(name_text(word), b','), b"C")
 }
 
-#[tactic(auto, unfolding(crate::specs::Holes::ring_at))]
-fn ring(word: &[u8], unit: Unit) -> Result<(u32, Aperture), ApertureFault>
-    requires { length (number_digits word.now) ≤ 9 }
-    ensures { result ≡ spec.ring_at word.now unit }
+// Whether it is that of a rectangle.
+fn is_rectangle(word: &[u8]) -> bool
+    ensures { result ≡ spec.is_rectangle word.now }
 {
-    if !is_circle(word) {
-        return Err(ApertureFault::Hole);
+    is_word(before_byte(name_text(word), b','), b"R")
+}
+
+// What stands behind the comma of a word.
+fn parameters(word: &[u8]) -> &[u8]
+    ensures { result.now ≡ spec.parameters word.now }
+{
+    after_byte(name_text(word), b',')
+}
+
+#[tactic(auto, unfolding(crate::specs::Holes::holed_at))]
+fn holed(word: &[u8], unit: Unit) -> Result<(u32, Aperture), ApertureFault>
+    requires { length (number_digits word.now) ≤ 9 }
+    ensures { result ≡ spec.holed_at word.now unit }
+{
+    let holed = holed_in(word, parameters(word), unit)?;
+    Ok((number(word), holed))
+}
+
+#[tactic(auto, unfolding(crate::specs::Holes::holed_in))]
+fn holed_in(word: &[u8], text: &[u8], unit: Unit) -> Result<Aperture, ApertureFault>
+    ensures { result ≡ spec.holed_in word.now text.now unit }
+{
+    if is_circle(word) {
+        ring_in(text, unit)
+    } else if is_rectangle(word) {
+        frame_in(text, unit)
+    } else {
+        Err(ApertureFault::Hole)
     }
-    let ring = ring_in(after_byte(name_text(word), b','), unit)?;
-    Ok((number(word), ring))
 }
 
 #[tactic(auto, unfolding(crate::specs::Holes::ring_in))]
@@ -77,6 +104,37 @@ fn is_ring(d: u64, hole: u64) -> bool
     ensures { result ≡ spec.is_ring d hole }
 {
     0 < hole && hole < d && (d + hole) % 4 == 0
+}
+
+#[tactic(auto, unfolding(crate::specs::Holes::frame_in))]
+fn frame_in(text: &[u8], unit: Unit) -> Result<Aperture, ApertureFault>
+    ensures { result ≡ spec.frame_in text.now unit }
+{
+    let rest = after_byte(text, b'X');
+    last_behind(rest, b'X')?;
+    let x = side(before_byte(text, b'X'), unit)?;
+    frame_behind(x, rest, unit)
+}
+
+// A rectangle with a hole by its first side, and what stands behind that.
+#[tactic(auto, unfolding(crate::specs::Holes::frame_behind))]
+fn frame_behind(x: i64, text: &[u8], unit: Unit) -> Result<Aperture, ApertureFault>
+    ensures { result ≡ spec.frame_behind x text.now unit }
+{
+    let y = side(before_byte(text, b'X'), unit)?;
+    let hole = diameter(after_byte(text, b'X'), unit)?;
+    if is_frame(x.unsigned_abs(), y.unsigned_abs(), hole.unsigned_abs()) {
+        Ok(Aperture::Frame(x, y, hole))
+    } else {
+        Err(ApertureFault::Hole)
+    }
+}
+
+// Whether a hole leaves something at each side of a rectangle.
+fn is_frame(x: u64, y: u64, hole: u64) -> bool
+    ensures { result ≡ spec.is_frame x y hole }
+{
+    0 < hole && hole < x && hole < y
 }
 
 // Whether a byte may be the last of a number.
@@ -106,11 +164,30 @@ fn has_further(text: &[u8]) -> bool
     found
 }
 
-/// Whether a word may define a circle with a hole.
+// Whether a word has parameters for a hole.
+fn has_hole(word: &[u8]) -> bool
+    ensures { result ≡ (spec.is_circle word.now && spec.has_further (spec.parameters word.now) || spec.is_rectangle word.now && spec.has_further (after_first is_x (spec.parameters word.now))) }
+{
+    has_second(word) || has_third(word)
+}
+
+fn has_second(word: &[u8]) -> bool
+    ensures { result ≡ (spec.is_circle word.now && spec.has_further (spec.parameters word.now)) }
+{
+    is_circle(word) && has_further(parameters(word))
+}
+
+fn has_third(word: &[u8]) -> bool
+    ensures { result ≡ (spec.is_rectangle word.now && spec.has_further (after_first is_x (spec.parameters word.now))) }
+{
+    is_rectangle(word) && has_further(after_byte(parameters(word), b'X'))
+}
+
+/// Whether a word may define a circle or a rectangle with a hole.
 pub fn may_have_hole(word: &[u8]) -> bool
     ensures { result ≡ spec.may_have_hole word.now }
 {
-    begins(word, b"ADD") && is_circle(word) && has_further(word)
+    begins(word, b"ADD") && has_hole(word)
 }
 
 /// A word that is refused for a hole where copper is taken exactly, and not in real copper, may have a hole.

@@ -117,13 +117,18 @@ fn of_parameters() -> [Word; 13] {
     ]
 }
 
-// Words of real copper, in mm: a circle may have a round hole, and all else is read as above.
-const HOLES: [(&str, &str); 15] = [
+// Words of real copper, in mm: circles and rectangles may have a round hole, and all else is read as above.
+const HOLES: [(&str, &str); 25] = [
     ("ADD10C,1.0X0.5", "Ok((10, Ring(10000000, 5000000)))"),
     ("ADD010C,0.000001X.0000006", "Ok((10, Ring(10, 6)))"),
     ("ADD10C,1.0", "Ok((10, Circle(10000000)))"),
     ("ADD10C,1X0.5X0.5", "Err(Hole)"),
-    ("ADD10R,1X1X0.5", "Err(Hole)"),
+    (
+        "ADD10R,2X1X0.5",
+        "Ok((10, Frame(20000000, 10000000, 5000000)))",
+    ),
+    ("ADD10R,2X1", "Ok((10, Rectangle(20000000, 10000000)))"),
+    ("ADD10R,2X1X0.5X0.5", "Err(Hole)"),
     ("ADD10O,1X1X0.5", "Err(Hole)"),
     // For each parameter in turn.
     ("ADD10C,xX0.0000001", "Err(BadText)"),
@@ -131,6 +136,14 @@ const HOLES: [(&str, &str); 15] = [
     ("ADD10C,50.0000002Xx", "Err(OutOfRange)"),
     ("ADD10C,1X", "Err(BadText)"),
     ("ADD10C,1X-0.5", "Err(OutOfRange)"),
+    ("ADD10R,xX0Xx", "Err(BadText)"),
+    ("ADD10R,0XxXx", "Err(OutOfRange)"),
+    ("ADD10R,1X0Xx", "Err(OutOfRange)"),
+    ("ADD10R,1X1X", "Err(BadText)"),
+    ("ADD10R,60X60X50.0000002", "Err(OutOfRange)"),
+    ("ADD10R,2X1X0", "Err(Hole)"),
+    ("ADD10R,2X1X1", "Err(Hole)"),
+    ("ADD10R,1X2X1", "Err(Hole)"),
     // Then whether the hole leaves a ring whose middle line is on the grid.
     ("ADD10C,1X0", "Err(Hole)"),
     ("ADD10C,1X1", "Err(Hole)"),
@@ -170,7 +183,7 @@ fn words_define_apertures(rt: HostRuntime) -> Result<(), Fail> {
 
 /// Words in mm and spots with the shape there: a disc or a capsule by its ends and its radius, an
 /// area by its corners, in u.
-const FLASHES: [(&str, i64, i64, &str); 18] = [
+const FLASHES: [(&str, i64, i64, &str); 20] = [
     ("ADD11C,0", 5, 5, "none"),
     ("ADD10C,1.0", 7, -9, "7 -9, 7 -9, 5000000"),
     ("ADD10C,60", 0, 0, "no aperture"),
@@ -222,6 +235,13 @@ const FLASHES: [(&str, i64, i64, &str); 18] = [
         "[9996250000 0][10000000000 0][9998750000 0]",
     ),
     ("ADD10C,1.0X0.5", 9_996_250_001, 0, "OutOfRange"),
+    (
+        "ADD10R,4.0X1.0X0.5",
+        7,
+        -9,
+        "[7 -9][2500007 -9][-19999993 -5000009][20000007 4999991][2500007 -9]",
+    ),
+    ("ADD10R,0.8X0.8X0.5", 0, -9_996_000_001, "OutOfRange"),
 ];
 
 fn shown(alloc: Global, shape: &Shape) -> Result<String, AllocError> {

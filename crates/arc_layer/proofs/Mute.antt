@@ -1,8 +1,10 @@
 -- Bytes that no code of curves, no offset and no macro begins with, and no hole.
-use Rattle.std.proofs.Common.{◌≡◌, ℕ, ◌+◌, ◌==◌, Bool, true, false, cond, ◌&&◌, not, nat_eq, List, [], ◌∷◌, ◌++◌, take, drop, length, codes, Option, None, refl, sym, ap, ◌∙◌, subst, arith, append_assoc, take-append-drop}
+use Rattle.std.proofs.Common.{◌≡◌, ℕ, ◌+◌, ◌==◌, Bool, true, false, cond, ◌&&◌, not, ◌||◌, nat_eq, List, [], ◌∷◌, ◌++◌, take, drop, length, codes, Option, None, refl, sym, ap, ◌∙◌, subst, arith, append_assoc, take-append-drop}
 use Rattle.texts.specs.Words.{begins}
-use Rattle.apertures.specs.Holes.{ends_number, has_further, is_circle, may_have_hole}
-use Rattle.std.specs.List.{list_all}
+use Rattle.apertures.specs.Definition.{digits_len, is_comma, is_x, name_text}
+use Rattle.apertures.specs.Holes.{ends_number, has_further, is_circle, is_rectangle, may_have_hole, parameters}
+use Rattle.apertures.proofs.Seen.{behind_drop}
+use Rattle.std.specs.List.{list_all, position_or_len}
 use Rattle.std.proofs.lemmas.List.Folds.{list_all-append}
 use Rattle.file_reading.specs.Reading.{IsRead, Item}
 use Rattle.gerber_words.specs.Words.{Ahead, Entry, Part, Stop, HasWords, begins_macro, blank, entries, percent, spelling, start, turned, with_word, word}
@@ -103,13 +105,28 @@ no_further (b ∷ text) h =
     let p = both (is_free b text) (are_free text) h in
     rw (free_byte b text p.0).further (no_further text p.1)
 
-no_hole : (text : List ℕ) → Free text → may_have_hole text ≡ false
-no_hole text h = by (begins text (codes "ADD")) (is_circle text) (no_further text h)
+-- and none in a part of such a text
+none_behind : (n : ℕ) (text : List ℕ) → has_further text ≡ false → has_further (drop n text) ≡ false
+none_behind n text none = by (has_further (drop n text)) refl
   where
-    by : (a b : Bool) {c : Bool} → c ≡ false → (a && (b && c)) ≡ false
-    by true true none = none
-    by true false none = refl
-    by false b none = refl
+    by : (b : Bool) → has_further (drop n text) ≡ b → b ≡ false
+    by true is = absurd (let some = behind_drop n text is in cc)
+    by false is = refl
+
+no_hole : (text : List ℕ) → Free text → may_have_hole text ≡ false
+no_hole text h = by (begins text (codes "ADD")) (is_circle text) (is_rectangle text) second (none_behind (position_or_len is_x (parameters text) + 1) (parameters text) second)
+  where
+    second : has_further (parameters text) ≡ false
+    second =
+        none_behind (position_or_len is_comma (name_text text) + 1) (name_text text)
+        (none_behind (digits_len (drop 3 text)) (drop 3 text) (none_behind 3 text (no_further text h)))
+
+    by : (a b c : Bool) {f g : Bool} → f ≡ false → g ≡ false → (a && (b && f || c && g)) ≡ false
+    by true true true none last = rw (none, last) refl
+    by true true false none last = rw none refl
+    by true false true none last = last
+    by true false false none last = refl
+    by false b c none last = refl
 
 no_telling : (text : List ℕ) → Free text → begins_telling text ≡ false
 no_telling text h = rw (no_macro text h) (no_hole text h)

@@ -1,4 +1,4 @@
--- Circles with a hole, as their spots tell them.
+-- Circles and rectangles with a hole, as their spots tell them.
 use Rattle.std.proofs.Common.{◌≡◌, ℕ, ℤ, pos, ◌+◌, ◌-◌, ◌*◌, ◌/◌, ◌%◌, ◌<◌, ◌≤◌, ◌==◌, ◌+ℤ◌, ◌-ℤ◌, nat_lt, Bool, true, false, cond, ◌&&◌, List, [], ◌∷◌, length, Option, Some, None, Result, Ok, Err, refl, ap, subst, arith}
 use Rattle.std.specs.Prelude.{unsigned_abs}
 use Rattle.std.specs.List.{list_all}
@@ -7,12 +7,12 @@ use Rattle.planar.specs.Plane.{is_placed}
 use Rattle.planar.specs.declared.Spot.{Spot}
 use Rattle.apertures.specs.Flash.{NoFlash, leaves, flash_of}
 use Rattle.apertures.specs.Holes.{is_ring}
-use Rattle.apertures.specs.Telling.{ring_told, told_ring}
+use Rattle.apertures.specs.Telling.{Frame, Ring, frame_told, ring_told, told_frame, told_ring}
 use Rattle.board_shapes.specs.Figures.{Figure, filled}
-use Rattle.board_shapes.specs.Rectangles.{upper}
-use Rattle.arc_layer.specs.Laws.{RingsAreUndone}
+use Rattle.board_shapes.specs.Rectangles.{lower, upper}
+use Rattle.arc_layer.specs.Laws.{FramesAreUndone, RingsAreUndone}
 use Rattle.arc_layer.specs.Marks.{flash}
-use Rattle.arc_layer.specs.Real.{RealFigure, bent, with_mark}
+use Rattle.arc_layer.specs.Real.{RealFigure, bent, frame_region, with_mark}
 
 -- longer contours tell none
 pub no_ring : (points : List Spot) → 7 ≤ length points → ring_told points ≡ None
@@ -22,6 +22,16 @@ no_ring (a ∷ b ∷ []) h = absurd (omega (arith, h))
 no_ring (a ∷ b ∷ c ∷ []) h = absurd (omega (arith, h))
 no_ring (a ∷ b ∷ c ∷ d ∷ []) h = absurd (omega (arith, h))
 no_ring (a ∷ b ∷ c ∷ d ∷ e ∷ rest) h = refl
+
+pub no_frame : (points : List Spot) → 7 ≤ length points → frame_told points ≡ None
+no_frame [] h = absurd (omega (arith, h))
+no_frame (a ∷ []) h = absurd (omega (arith, h))
+no_frame (a ∷ b ∷ []) h = absurd (omega (arith, h))
+no_frame (a ∷ b ∷ c ∷ []) h = absurd (omega (arith, h))
+no_frame (a ∷ b ∷ c ∷ d ∷ []) h = absurd (omega (arith, h))
+no_frame (a ∷ b ∷ c ∷ d ∷ e ∷ []) h = absurd (omega (arith, h))
+no_frame (a ∷ b ∷ c ∷ d ∷ e ∷ f ∷ []) h = absurd (omega (arith, h))
+no_frame (a ∷ b ∷ c ∷ d ∷ e ∷ f ∷ g ∷ rest) h = refl
 
 pen_is : (x : ℤ) (d hole : ℕ) → hole < d → (d + hole) % 4 ≡ 0 → hole % 2 ≡ 0 → 2 * unsigned_abs ((x +ℤ pos ((d + hole) / 2 / 2)) -ℤ (x +ℤ pos (hole / 2))) ≡ (d - hole) / 2
 pen_is x d hole less whole even = omega (arith, ints)
@@ -52,4 +62,17 @@ rings d hole at figure lawful h = by (list_all is_placed (told_ring (unsigned_ab
         let same : filled (told_ring (unsigned_abs d) (unsigned_abs hole) at) ≡ figure = cc in
         let s = sizes (unsigned_abs d) (unsigned_abs hole) lawful.3 in
         subst (λ (f : Figure). with_mark (Some flash) f ≡ drawn at (unsigned_abs d) (unsigned_abs hole)) same (told (unsigned_abs d) (unsigned_abs hole) at s.0 s.1 lawful.1.even)
+    by false h = cc
+
+pub frames : FramesAreUndone
+unfolding flash_of
+frames x y hole at figure h = by (list_all is_placed (told_frame (unsigned_abs x) (unsigned_abs y) (unsigned_abs hole) at)) h
+  where
+    f : Frame
+    f = record { centre = at; border = upper at (unsigned_abs hole) 0; low = lower at (unsigned_abs x) (unsigned_abs y); high = upper at (unsigned_abs x) (unsigned_abs y) }
+
+    by : (b : Bool) → ◌≡◌ {A = Result (Option Figure) NoFlash} (cond b (Ok (Some (filled (told_frame (unsigned_abs x) (unsigned_abs y) (unsigned_abs hole) at)))) (Err leaves)) (Ok (Some figure)) → with_mark (Some flash) figure ≡ frame_region f
+    by true h =
+        let same : filled (told_frame (unsigned_abs x) (unsigned_abs y) (unsigned_abs hole) at) ≡ figure = cc in
+        subst (λ (g : Figure). with_mark (Some flash) g ≡ frame_region f) same refl
     by false h = cc

@@ -8,18 +8,20 @@ use Rattle.area_contact.specs.Contour.{IsClosed, IsContour}
 use Rattle.aperture_macros.specs.Laws.{ToldIsFound}
 use Rattle.aperture_macros.specs.Telling.{Telling, told, told_in}
 use Rattle.aperture_macros.proofs.Told.{told_length}
-use Rattle.apertures.specs.Telling.{Ring, ring_told}
+use Rattle.apertures.specs.Telling.{Frame, Ring, frame_told, ring_told}
 use Rattle.board_shapes.specs.Figures.{filled}
 use Rattle.arc_layer.specs.Laws.{TurnedAreContours, TurnsAreUndone}
-use Rattle.arc_layer.specs.Real.{bent_or, plain, ring_draw, told_area, turned}
+use Rattle.arc_layer.specs.Real.{bent_or, frame_or, plain, ring_draw, told_area, turned}
 use Rattle.slants.specs.declared.cones.TheConstants.{RIGHT_ANGLE}
-use Rattle.arc_layer.proofs.Rings.{no_ring}
+use Rattle.arc_layer.proofs.Rings.{no_frame, no_ring}
 use Rattle.arc_layer.proofs.Tails.{IsTold, is_told}
 
 pub undone : ToldIsFound → TurnsAreUndone
 undone law about rest contour closed long below =
     let points = told about rest contour in
-    ap (λ (r : Option Ring). bent_or (option_map ring_draw r) (told_area points (told_in points))) (no_ring points (omega (arith, long, told_length about rest contour long))) ∙
+    let more : 7 ≤ length points = omega (arith, long, told_length about rest contour long) in
+    ap (λ (r : Option Ring). bent_or (option_map ring_draw r) (frame_or (frame_told points) (told_area points (told_in points)))) (no_ring points more) ∙
+    ap (λ (f : Option Frame). frame_or f (told_area points (told_in points))) (no_frame points more) ∙
     ap (λ (t : Option Telling). told_area points t) (law about rest contour closed long) ∙ by (rest == 0) (nat_lt rest RIGHT_ANGLE) refl
   where
     by : (none less : Bool) → nat_lt rest RIGHT_ANGLE ≡ less
@@ -49,7 +51,7 @@ lawful_so points t is told some below =
     (shorter points t.contour (length points - 3) is told.contour told.closed (omega (arith, long)) (omega arith), told.about is.placed, some, below)
 
 pub lawful : TurnedAreContours
-lawful points contour about rest is h = past_ring (ring_told points) h
+lawful points contour about rest is h = past_ring (ring_told points) (frame_told points) h
   where
     inside : (t : Telling) (none less : Bool) → IsTold points t → (t.rest == 0) ≡ none → nat_lt t.rest RIGHT_ANGLE ≡ less
         → cond none (plain (filled t.contour)) (cond less (turned t.contour t.about t.rest) (plain (filled points))) ≡ turned contour about rest → IsLawful contour about rest
@@ -66,6 +68,7 @@ lawful points contour about rest is h = past_ring (ring_told points) h
     by None e k = absurd cc
     by (Some t) e k = inside t (t.rest == 0) (nat_lt t.rest RIGHT_ANGLE) (is_told points t e) refl refl k
 
-    past_ring : (r : Option Ring) → bent_or (option_map ring_draw r) (told_area points (told_in points)) ≡ turned contour about rest → IsLawful contour about rest
-    past_ring (Some ring) k = cc
-    past_ring None k = by (told_in points) refl k
+    past_ring : (r : Option Ring) (f : Option Frame) → bent_or (option_map ring_draw r) (frame_or f (told_area points (told_in points))) ≡ turned contour about rest → IsLawful contour about rest
+    past_ring (Some ring) f k = cc
+    past_ring None (Some frame) k = cc
+    past_ring None None k = by (told_in points) refl k

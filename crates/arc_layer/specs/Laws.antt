@@ -5,14 +5,14 @@ use Rattle.planar.specs.declared.Spot.{Spot}
 use Rattle.area_contact.specs.Contour.{IsClosed, IsContour}
 use Rattle.aperture_macros.specs.Telling.{told}
 use Rattle.apertures.specs.Flash.{IsLawful, flash_of}
-use Rattle.apertures.specs.declared.aperture.Aperture.TheVariants.{Ring}
+use Rattle.apertures.specs.declared.aperture.Aperture.TheVariants.{Frame, Ring}
 use Rattle.board_shapes.specs.Figures.{Figure, filled}
-use Rattle.board_shapes.specs.Rectangles.{upper}
+use Rattle.board_shapes.specs.Rectangles.{lower, upper}
 use Rattle.regions.specs.Contours.{close_of}
 use Rattle.gerber_layer.specs.CommandEffects.{edges_in}
 use Rattle.gerber_layer.specs.Settings.{contour_before}
 use Rattle.arc_layer.specs.Marks.{contour, edges_before, flash, mark_behind}
-use Rattle.arc_layer.specs.Real.{bent, flashed, plain, turned, with_mark}
+use Rattle.arc_layer.specs.Real.{bent, flashed, frame_region, plain, turned, with_mark}
 use Rattle.arc_layer.specs.State.{commands_of}
 use Rattle.arc_layer.specs.Words.{Saying}
 use Rattle.arc_layer.specs.declared.draws.Bend.{Bend}
@@ -38,6 +38,16 @@ RingsAreUndone = (d hole : ℤ) (at : Spot) (figure : Figure) → IsLawful (Ring
       start = upper at ((unsigned_abs d + unsigned_abs hole) / 2) 0;
       end = upper at ((unsigned_abs d + unsigned_abs hole) / 2) 0;
       width = (unsigned_abs d - unsigned_abs hole) / 2;
+    })
+
+-- A flash of a rectangle with a hole is the region about the spot with that hole: its border begins half the diameter to the right.
+abbrev pub FramesAreUndone : Type 0
+FramesAreUndone = (x y hole : ℤ) (at : Spot) (figure : Figure) → flash_of (Frame x y hole) at ≡ Ok (Some figure)
+    → with_mark (Some flash) figure ≡ frame_region (record {
+      centre = at;
+      border = upper at (unsigned_abs hole) 0;
+      low = lower at (unsigned_abs x) (unsigned_abs y);
+      high = upper at (unsigned_abs x) (unsigned_abs y);
     })
 
 -- What a contour of a flash has before its turn is a contour, turned about a spot within one metre by some angle below a right one.

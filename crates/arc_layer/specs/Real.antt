@@ -1,5 +1,5 @@
--- Real copper: the pieces of a copper file in which draws may be arcs, circles may have round holes, and macros may have slanted lines and turned figures.
-use Rattle.std.specs.Prelude.{◌≡◌, ℕ, ◌*◌, ◌<◌, ◌≤◌, Bool, ◌||◌, not, ◌==◌, nat_lt, if◌then◌else◌, List, [], ◌∷◌, drop, map, Option, Some, None, option_map, unsigned_abs, Result, Ok, Err}
+-- Real copper: the pieces of a copper file in which draws may be arcs, circles and rectangles may have round holes, and macros may have slanted lines and turned figures.
+use Rattle.std.specs.Prelude.{◌≡◌, ℕ, ◌*◌, ◌<◌, ◌≤◌, Bool, true, ◌||◌, not, ◌==◌, nat_lt, if◌then◌else◌, List, [], ◌∷◌, drop, map, Option, Some, None, option_map, unsigned_abs, Result, Ok, Err}
 use Rattle.std.specs.Ordering.{int_eq}
 use Rattle.planar.specs.declared.Spot.{Spot}
 use Rattle.board_shapes.specs.Figures.{Figure, Stroke, round, filled, figure_of}
@@ -18,7 +18,7 @@ use Rattle.gerber_layer.specs.declared.place.Place.{Place}
 use Rattle.gerber_layer.specs.Dialect.{IsReadBy, IsRefusedBy}
 use Rattle.gerber_layer.specs.MacroLayer.{loose as loose_words}
 use Rattle.gerber_layer.specs.declared.macro_kind.FlattenKind.{FlattenKind}
-use Rattle.apertures.specs.Telling.{Ring, ring_told}
+use Rattle.apertures.specs.Telling.{Frame, Ring, frame_told, ring_told}
 use Rattle.aperture_macros.specs.Telling.{Telling, told_in}
 use Rattle.arc_layer.specs.Marks.{AreMarks, IsBendRefused, PlainMark, arc, contour, flash}
 use Rattle.arc_layer.specs.Centres.{moved}
@@ -104,13 +104,25 @@ ring_draw ring = record { centre = ring.centre; start = ring.start; end = ring.s
 abbrev pub ring_in : List Spot → Option Arc
 ring_in points = option_map ring_draw (ring_told points)
 
--- An area that a flash makes: that of a circle with a hole, or what it tells of a macro's.
+-- A rectangle with a round hole (4.4.3) is a region with a cut-in (4.10): from the right of the hole once round its middle, straight to the right side, round the rectangle, and the same way back.
+abbrev pub frame_region : Frame → RealFigure
+frame_region f =
+    curved f.border (
+    Curved (record { centre = f.centre; end = f.border; counterclockwise = true }) ∷ Straight (record { x = f.high.x; y = f.border.y }) ∷
+    Straight f.high ∷ Straight (record { x = f.low.x; y = f.high.y }) ∷ Straight f.low ∷ Straight (record { x = f.high.x; y = f.low.y }) ∷
+    Straight (record { x = f.high.x; y = f.border.y }) ∷ Straight f.border ∷ [])
+
+abbrev pub frame_or : Option Frame → RealFigure → RealFigure
+frame_or (Some f) area = frame_region f
+frame_or None area = area
+
+-- An area that a flash makes: that of a circle or a rectangle with a hole, or what it tells of a macro's.
 abbrev pub bent_or : Option Arc → RealFigure → RealFigure
 bent_or (Some a) area = bent a
 bent_or None area = area
 
 abbrev pub flashed : List Spot → RealFigure
-flashed points = bent_or (ring_in points) (told_area points (told_in points))
+flashed points = bent_or (ring_in points) (frame_or (frame_told points) (told_area points (told_in points)))
 
 -- A draw with a bend is its arc, and an area behind the bends of its contour the region that they bound. A stroke along no axis that a flash makes is the vector line of a macro (Gerber Layer Format Specification,
 -- 4.5.1, code 20): other primitives make none, and obrounds run along an axis. An area that a flash makes is what it tells. Each other figure is what it is.

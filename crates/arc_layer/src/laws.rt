@@ -1,6 +1,6 @@
 //! Laws over the definitions alone.
 ghost use Rattle.arc_layer.specs.Kinds.{RealKindsHaveOwnNumbers};
-ghost use Rattle.arc_layer.specs.Laws.{EachEdgeHasABend, MarksFitAreas, RingsAreUndone, TurnedAreContours, TurnsAreUndone};
+ghost use Rattle.arc_layer.specs.Laws.{EachEdgeHasABend, FramesAreUndone, MarksFitAreas, RingsAreUndone, TurnedAreContours, TurnsAreUndone};
 ghost use Rattle.arc_layer.specs.Real.{HasOneRealAnswer};
 ghost use Rattle.gerber_layer.specs.declared.place.Place.{Place};
 ghost use Rattle.std.specs.Prelude.{ℕ, List};
@@ -40,7 +40,8 @@ pub fn turns_are_told()
     told_is_found();
 }
 
-/// What a flash of a circle with a hole tells is the draw of its copper.
-pub fn rings_are_told()
-    ensures { RingsAreUndone }
+/// What a flash of a circle with a hole tells is the draw of its copper, and what one of a rectangle tells is that region.
+pub fn holes_are_told()
+    ensures rings { RingsAreUndone }
+    ensures frames { FramesAreUndone }
 {}

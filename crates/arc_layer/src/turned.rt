@@ -1,15 +1,16 @@
-//! Areas of flashes that tell more than they show: circles with a hole, and areas of macros that are turned by degrees.
+//! Areas of flashes that tell more than they show: circles and rectangles with a hole, and areas of macros that are turned by degrees.
 ghost use Rattle.aperture_macros.specs.Telling as telling;
-ghost use Rattle.apertures.specs.Telling.{ring_told};
+ghost use Rattle.apertures.specs.Telling.{frame_told};
 ghost use Rattle.arc_layer.specs.Real as spec;
 ghost use Rattle.arc_layer.specs.Real.{real_figure};
-ghost use Rattle.arc_layer.specs.Telling.{telling_by};
+ghost use Rattle.arc_layer.specs.Telling.{telling_by, told_of};
 ghost use Rattle.board_shapes.specs.Figures.{filled};
 ghost use Rattle.file_reading.specs.declared.fault.FileFault.TheVariants as fault;
 ghost use Rattle.planar.specs.Plane.{IsPlaced};
 ghost use Rattle.std.specs.Prelude.{◌≡◌, ◌≤◌, ◌*◌, ◌-◌, ◌-ℤ◌, unsigned_abs, All, length, option_map, take, IfErr, IfOk, Some};
 
 use crate::kind::RealFault;
+use arc_regions::{Bend, Part, Region};
 use arcs::Arc;
 use area_contact::Area;
 use board_shapes::Shape;
@@ -123,7 +124,75 @@ fn ring_in(points: &[Spot]) -> Option<Arc>
     })
 }
 
-/// What the area is that a flash makes behind a macro or a circle with a hole: such a circle's draw, or its area before its
+// The spots of a rectangle with a hole.
+#[derive(Clone, Copy)]
+struct Frame {
+    centre: Spot,
+    border: Spot,
+    low: Spot,
+    high: Spot,
+}
+
+/// The parts of the region of such a rectangle, from the hole's border on.
+fn frame_parts(frame: Frame) -> [Part; 8]
+    ensures { spec.curved frame.border result ≡ spec.frame_region (told_of frame) }
+{
+    let right = Spot {
+        x: frame.high.x,
+        y: frame.border.y,
+    };
+    [
+        Part::Curved(Bend {
+            centre: frame.centre,
+            end: frame.border,
+            counterclockwise: true,
+        }),
+        Part::Straight(right),
+        Part::Straight(frame.high),
+        Part::Straight(Spot {
+            x: frame.low.x,
+            y: frame.high.y,
+        }),
+        Part::Straight(frame.low),
+        Part::Straight(Spot {
+            x: frame.high.x,
+            y: frame.low.y,
+        }),
+        Part::Straight(right),
+        Part::Straight(frame.border),
+    ]
+}
+
+/// The spots of a rectangle with a hole, where those of an area tell one.
+fn frame_in(points: &[Spot]) -> Option<Frame>
+    ensures { option_map told_of result ≡ frame_told points.now }
+{
+    let [centre, border, low, high, _, _] = points else {
+        return None;
+    };
+    Some(Frame {
+        centre: *centre,
+        border: *border,
+        low: *low,
+        high: *high,
+    })
+}
+
+/// The region of a rectangle with a hole.
+fn region_of(alloc: Global, frame: Frame) -> Result<RealShape, RealFault>
+    ensures value { IfOk result (λ made. real_figure made ≡ spec.frame_region (told_of frame)) }
+    ensures fault { IfErr result (λ why. why ≡ fault.NoMemory) }
+{
+    match frame_parts(frame).as_slice().to_vec(alloc) {
+        Ok(parts) => Ok(RealShape::Region(Region {
+            start: frame.border,
+            parts,
+        })),
+        Err(_) => Err(RealFault::NoMemory),
+    }
+}
+
+/// What the area is that a flash makes behind a macro or a hole: a circle's draw, a rectangle's region, or the area before its
 /// turn, where its contour tells one.
 pub fn flashed(alloc: Global, area: Area) -> Result<RealShape, RealFault>
     ensures value { IfOk result (λ made. real_figure made ≡ spec.flashed area.points.items) }
@@ -131,6 +200,9 @@ pub fn flashed(alloc: Global, area: Area) -> Result<RealShape, RealFault>
 {
     if let Some(arc) = ring_in(&area.points) {
         return Ok(RealShape::ArcDraw(arc));
+    }
+    if let Some(frame) = frame_in(&area.points) {
+        return region_of(alloc, frame);
     }
     match told_in(&area.points) {
         None => Ok(RealShape::Plain(Shape::Filled(area))),

@@ -373,8 +373,9 @@ fn of_turns() -> [(&'static str, &'static str); 9] {
     ]
 }
 
-// Circles with a hole, all of this crate's own: a draw once round the middle, and no pen. A contour is none.
-fn of_holes() -> [(&'static str, &'static str); 6] {
+// Circles and rectangles with a hole, all of this crate's own: draws once round the middle, regions, and no pens. A
+// contour is none.
+fn of_holes() -> [(&'static str, &'static str); 7] {
     [
         (
             "%ADD11C,1.0X0.5*%D11*X1000000Y0D03*D10*D03*M02*",
@@ -394,7 +395,11 @@ fn of_holes() -> [(&'static str, &'static str); 6] {
         ),
         ("%ADD11C,1.0X1.0*%M02*", "Copper(Gerber(Hole)) at command 5"),
         (
-            "%ADD11R,1.0X1.0X0.5*%M02*",
+            "%ADD11R,2.0X1.0X0.5*%%SRX2Y1I3.0J0*%D11*X0Y0D03*%SR*%M02*",
+            "from 2500000 0, (0 0) true 2500000 0, 10000000 0, 10000000 5000000, -10000000 5000000, -10000000 -5000000, 10000000 -5000000, 10000000 0, 2500000 0 by 8.0\nfrom 32500000 0, (30000000 0) true 32500000 0, 40000000 0, 40000000 5000000, 20000000 5000000, 20000000 -5000000, 40000000 -5000000, 40000000 0, 32500000 0 by 8.1",
+        ),
+        (
+            "%ADD11O,1.0X1.0X0.5*%M02*",
             "Copper(Gerber(Hole)) at command 5",
         ),
     ]

@@ -104,8 +104,8 @@ class Files(unittest.TestCase):
     def test_holes(self):
         copper = copper_of("%ADD10C,1X.4*%", "%ADD11R,1X.6X.3*%", "D10*", "X0Y0D03*", "D11*", "X5000000Y0D03*")
         low, high = (pieces_of(side) for side in copper.sides)
-        rows = [((0, 0), False, False), ((1990000, 0), False, False), ((2010000, 0), True, True), ((4990000, 0), True, True), ((50000000, 0), False, True),
-                ((50000000, 1490000), False, True), ((50000000, 1510000), True, True), ((45010000, -2990000), True, True)]
+        rows = [((0, 0), False, False), ((1990000, 0), False, False), ((2010000, 0), True, True), ((4990000, 0), True, True), ((50000000, 0), False, False),
+                ((50000000, 1490000), False, False), ((50000000, 1510000), True, True), ((45010000, -2990000), True, True)]
         for p, below, above in rows:
             self.assertEqual((has(low, fine(p)), has(high, fine(p))), (below, above), p)
         for aperture, lost in (("C,1X1", ["a shape with a hole at command 6"]), ("C,0X1", []), ("C,1X.4", [])):

@@ -107,6 +107,14 @@ class Asked(made.Case):
         self.assertEqual([thin, last], [" ".join(str(self.links(side, number)) for side in ("lower", "upper")) for number in (19, 21)])
         self.assertEqual(thin.split(" ")[0], "0")
 
+    def test_counts_of_frames(self):
+        """A line for each rectangle with a hole, a region, of which there is one area below, or none where it is thin."""
+        holes = ["%ADD14R,3X2X1*%", "%ADD15R,1X1X0.99*%", "D14*", "%SRX2Y1I9.0J0*%", "X0Y5000000D03*", "%SR*%", "D15*", "X0Y0D03*"]
+        program = Recorder(Answer(3, b"", "no"))
+        self.told(program, [*HALF, *holes], [A, B])
+        half, first, copy, thin = program.texts[3].split("\n")[1:-1]
+        self.assertEqual((first, copy, first[:2], thin[:2]), (copy, first, "1 ", "0 "))
+
     def test_smaller_areas(self):
         """With regions the word is said where the smaller areas within them say the same, and a weaker answer is none."""
         bent = ["G36*", "X0Y0D02*", "X2000000Y0D01*", "G03X0Y2000000I-2000000J0D01*", "G01X0Y0D01*", "G37*"]
@@ -143,7 +151,7 @@ class Asked(made.Case):
                 ["%AMA*", "4,1,3,0,0,1,0,0,1,0,0,30*%", "%ADD14A*%", "D14*", "X0Y5000000D03*"], ["%AMA*", "4,1,4,0,0,0,1,1,1,1,0,0,0,30*%", "%ADD14A*%", "D14*", "X0Y5000000D03*"],
                 ["%AMA*", "20,1,0.0000003,0,0,0.3,0.4,0*%", "%ADD14A*%", "D14*", "X0Y5000000D03*"],
                 ["%AMA*", "1,1,0.2,0,0*", "1,0,0.1,0,0*%", "%ADD14A*%", "D14*", "X0Y5000000D03*"], ["%AMA*", "1,1,0.2,0,0*%", "%ADD14A*%", "D14*", "%LS2*%", "X0Y5000000D03*"],
-                ["%ADD14R,1X1X0.2*%", "D14*", "X0Y5000000D03*"], ["%ADD14C,0.000001X0.0000008*%", "D14*", "X0Y5000000D03*"], ["%ABD15*%", "D11*", "X9000000Y0D03*", "%AB*%", "D15*", "X0Y0D03*"]]
+                ["%ADD14O,1X1X0.2*%", "D14*", "X0Y5000000D03*"], ["%ADD14C,0.000001X0.0000008*%", "D14*", "X0Y5000000D03*"], ["%ABD15*%", "D11*", "X9000000Y0D03*", "%AB*%", "D15*", "X0Y0D03*"]]
         for lines in rows:
             program = Recorder()
             self.assertEqual((self.told(program, [*HALF, *lines], [A, B]), program.texts), (self.bounded, None), lines)
@@ -189,6 +197,8 @@ class Taken(made.Case):
         ("circles with a hole, two nets", ["%ADD14C,3X2*%", "D14*", "%SRX2Y1I5.0J0*%", "X0Y0D03*", "%SR*%", "D11*", "X0Y0D03*"], [record("A", "J1.1", 1.2, 0), record("B", "J1.2", 0, 0), record("C", "J1.3", 3.8, 0)], "agrees"),
         ("a point in a hole", ["%ADD14C,3X2.2*%", "D14*", "X0Y0D03*"], [record("A", "J1.1", 1.3, 0), B], "differs"),
         ("nearer to the border of a hole", ["%ADD14C,3X2*%", "D14*", "X0Y0D03*"], [record("A", "J1.1", 1.2, 0), record("A", "J1.2", -1.0001, 0)], "undecided"),
+        ("a rectangle with a hole", ["%ADD14R,3X2X1*%", "D14*", "X0Y0D03*"], [A, B], "agrees"),
+        ("a point in the hole of a rectangle", ["%ADD14R,3X2X1*%", "D14*", "%SRX2Y1I5.0J0*%", "X0Y0D03*", "%SR*%"], [A, record("B", "J1.2", 5, 0)], "differs"),
         ("regions with arcs", ROUNDED, [record("A", "J1.1", 1, .5), record("A", "J1.2", .5, 1), record("B", "J2.1", 7.5, .4)], "agrees"),
         ("regions with arcs, two distances", UNEVEN, [record("A", "J1.1", 1, .5), record("A", "J1.2", .8, 1.5)], "agrees"),
     ]

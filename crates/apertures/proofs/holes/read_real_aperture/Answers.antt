@@ -5,10 +5,10 @@ use Rattle.apertures.proofs.Digits.{few_digits}
 use Rattle.apertures.proofs.Lawful.{real_is_lawful}
 use Rattle.apertures.proofs.holes.read_real_aperture.Goals as goal
 
-pub ring-requires : goal.ring-requires
-ring-requires c = few_digits is_holed refl refl c.args.word.now c.args.unit (ap is_holed (sym c.read_aperture-exact.ensures.value) ∙ sym c.is_holed.ensures ∙ c.if-is_holed.true)
+pub holed-requires : goal.holed-requires
+holed-requires c = few_digits is_holed refl refl c.args.word.now c.args.unit (ap is_holed (sym c.read_aperture-exact.ensures.value) ∙ sym c.is_holed.ensures ∙ c.if-is_holed.true)
 
 pub returns-then-is_holed-clause-lawful : goal.returns-then-is_holed-clause-lawful
 returns-then-is_holed-clause-lawful c =
     let holed : is_holed (aperture_at c.args.word.now c.args.unit) ≡ true = ap is_holed (sym c.read_aperture-exact.ensures.value) ∙ sym c.is_holed.ensures ∙ c.if-is_holed.true in
-    real_is_lawful c.args.word.now c.args.unit c.ring.result (c.ring.ensures ∙ rw holed refl)
+    real_is_lawful c.args.word.now c.args.unit c.holed.result (c.holed.ensures ∙ rw holed refl)
