@@ -13,14 +13,16 @@ from .regions import rounded_contour
 from .spots import cross
 
 OBROUND, RECTANGLE, CIRCLE = "O", "R", "C"
+MOST_FRAMES = 1_000     # flashes of rectangles with a hole in a file that have many pieces, so that others have room
 
 
 class Shape:
     """A flash: its pieces on both sides, and what the lower side leaves out. One that is a pen has one convex piece a side. Where
-    `between` reads it, `rows` has for each of its own pieces how many those of both sides are; `smaller` is one that it takes in its place."""
+    `between` reads it, `rows` has for each of its own pieces how many those of both sides are; `smaller` is one that it takes in its place,
+    and `plainer` one of few pieces."""
 
     def __init__(self, lower, upper, lost=None, is_pen=False, rows=None):
-        self.both, self.lost, self.is_pen, self.rows, self.smaller = (lower, upper), lost, is_pen, rows, None
+        self.both, self.lost, self.is_pen, self.rows, self.smaller, self.plainer = (lower, upper), lost, is_pen, rows, None, None
 
 
 class Pen:
@@ -136,6 +138,7 @@ def frame_shape(w, h, hole):
     upper = [("area", around.outer), *around.wide]
     shape, corners = framed(holed(RECTANGLE, (w, h), hole), upper), clear_frame(x, y, r)
     shape.smaller = framed([("area", corners)] if corners else [], upper)
+    shape.plainer = Shape(shape.both[0], solid(RECTANGLE, (w, h)), shape.lost)
     return shape
 
 

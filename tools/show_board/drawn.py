@@ -26,7 +26,7 @@ class Operations:
     of both sides are."""
 
     def __init__(self):
-        self.spot, self.mode, self.quadrants, self.last, self.rows = (0, 0), STRAIGHT, None, None, {}
+        self.spot, self.mode, self.quadrants, self.last, self.rows, self.frames = (0, 0), STRAIGHT, None, None, {}, 0
 
     def stands(self, pieces):
         """Notes these pieces, each as those that stand for it on both sides, of a command that is written otherwise."""
@@ -142,9 +142,7 @@ class Operations:
             self.flash_block(made)
             return
         if made is not None and (self.change.alters(made) or not isinstance(made, apertures.Pen)):
-            shape = self.changed(made)
-            if shape.smaller:
-                self.is_bent, shape = True, shape.smaller if self.is_coarse else shape
+            shape = self.framed(self.changed(made))
             self.stands(shape.rows)
             if shape.lost:
                 self.lose(f"{shape.lost} at command {self.number}")
@@ -158,6 +156,16 @@ class Operations:
             if made:
                 side.select(self.chosen, self.number)
             side.operate(self.spot, FLASH, self.number)
+
+    def framed(self, shape):
+        """The shape; of a rectangle with a hole the one that `between` takes, where it is asked, and of further ones the plain one."""
+        if not shape.smaller:
+            return shape
+        self.frames += 1
+        if self.frames > apertures.MOST_FRAMES:
+            return shape.plainer
+        self.is_bent = True
+        return shape.smaller if self.is_coarse else shape
 
     def flash_block(self, block):
         """Its objects, each changed and moved; a clear flash turns dark into clear and clear into dark."""

@@ -111,6 +111,12 @@ class Files(unittest.TestCase):
         for aperture, lost in (("C,1X1", ["a shape with a hole at command 6"]), ("C,0X1", []), ("C,1X.4", [])):
             self.assertEqual(copper_of(f"%ADD10{aperture}*%", "D10*", "X0Y0D03*").lost, lost)
 
+    def test_many_rectangles_with_a_hole(self):
+        """Behind the first 1,000 of a file one is solid above, so that the board keeps its bounds."""
+        high = pieces_of(copper_of("%ADD11R,1X.6X.3*%", "D11*", *(f"X{k}000000Y0D03*" for k in range(1002))).sides[1])
+        self.assertEqual([has(high, fine((k * 10 ** 7, 0))) for k in (0, 999, 1000, 1001)], [False, False, True, True])
+        self.assertLess(len(high), 100_000)
+
     def test_single_quadrant(self):
         copper = copper_of("%ADD10C,0.2*%", "D10*", "G74*", "X1000000Y0D02*", "G03X0Y1000000I1000000J0D01*")
         low, high = (pieces_of(side) for side in copper.sides)
