@@ -134,7 +134,7 @@ def is_frame(w, h, hole):
 def frame_shape(w, h, hole):
     """A rectangle with a round hole: above a region with a cut-in, below an area with a cut; the smaller one keeps off its border."""
     x, y, r = w // 2, h // 2, hole // 2
-    around = rounded_contour(((r, 0), ((0, 0), (r, 0), True), (x, 0), (x, y), (-x, y), (-x, -y), (x, -y), (x, 0), (r, 0)), False, True)
+    around = rounded_contour(((r, 0), ((0, 0), (r, 0), False), (x, 0), (x, y), (-x, y), (-x, -y), (x, -y), (x, 0), (r, 0)), False, True)
     upper = [("area", around.outer), *around.wide]
     shape, corners = framed(holed(RECTANGLE, (w, h), hole), upper), clear_frame(x, y, r)
     shape.smaller = framed([("area", corners)] if corners else [], upper)

@@ -1,5 +1,5 @@
 -- Real copper: the pieces of a copper file in which draws may be arcs, circles and rectangles may have round holes, and macros may have slanted lines and turned figures.
-use Rattle.std.specs.Prelude.{◌≡◌, ℕ, ◌*◌, ◌<◌, ◌≤◌, Bool, true, ◌||◌, not, ◌==◌, nat_lt, if◌then◌else◌, List, [], ◌∷◌, drop, map, Option, Some, None, option_map, unsigned_abs, Result, Ok, Err}
+use Rattle.std.specs.Prelude.{◌≡◌, ℕ, ◌*◌, ◌<◌, ◌≤◌, Bool, false, ◌||◌, not, ◌==◌, nat_lt, if◌then◌else◌, List, [], ◌∷◌, drop, map, Option, Some, None, option_map, unsigned_abs, Result, Ok, Err}
 use Rattle.std.specs.Ordering.{int_eq}
 use Rattle.planar.specs.declared.Spot.{Spot}
 use Rattle.board_shapes.specs.Figures.{Figure, Stroke, round, filled, figure_of}
@@ -104,11 +104,11 @@ ring_draw ring = record { centre = ring.centre; start = ring.start; end = ring.s
 abbrev pub ring_in : List Spot → Option Arc
 ring_in points = option_map ring_draw (ring_told points)
 
--- A rectangle with a round hole (4.4.3) is a region with a cut-in (4.10): from the right of the hole once round its middle, straight to the right side, round the rectangle, and the same way back.
+-- A rectangle with a round hole (4.4.3) has the copper of a region with a cut-in (4.10): from the right of the hole clockwise once round its middle, straight to the right side, counterclockwise round the rectangle, and the same way back.
 abbrev pub frame_region : Frame → RealFigure
 frame_region f =
     curved f.border (
-    Curved (record { centre = f.centre; end = f.border; counterclockwise = true }) ∷ Straight (record { x = f.high.x; y = f.border.y }) ∷
+    Curved (record { centre = f.centre; end = f.border; counterclockwise = false }) ∷ Straight (record { x = f.high.x; y = f.border.y }) ∷
     Straight f.high ∷ Straight (record { x = f.low.x; y = f.high.y }) ∷ Straight f.low ∷ Straight (record { x = f.high.x; y = f.low.y }) ∷
     Straight (record { x = f.high.x; y = f.border.y }) ∷ Straight f.border ∷ [])
 

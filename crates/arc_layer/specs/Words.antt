@@ -1,4 +1,4 @@
--- What a word says of arcs (Gerber Layer Format Specification, 4.7 and 4.8), and whether it begins a macro (4.5) or defines a circle with a hole (4.4.2).
+-- What a word says of arcs (Gerber Layer Format Specification, 4.7 and 4.8), and whether it begins a macro (4.5) or may define a hole (4.4.6).
 use Rattle.std.specs.Prelude.{◌≡◌, ℕ, Bool, true, false, ◌&&◌, ◌||◌, ◌==◌, not, nat_lt, if◌then◌else◌, List, [], ◌∷◌, drop, codes, Option, Some, None, is_none, option_map}
 use Rattle.texts.specs.Words.{begins, is_word}
 use Rattle.apertures.specs.Holes.{ends_number, may_have_hole}
@@ -15,7 +15,7 @@ use Rattle.arc_layer.specs.declared.words.Quadrants.{Quadrants}
 use Rattle.arc_layer.specs.declared.words.Quadrants.TheVariants.{Single, Multi}
 use Rattle.arc_layer.specs.declared.words.Saying.{Saying as Seen}
 
--- what a word says: its command where arcs are straight, the curve and the quadrants that it sets, its offsets, and whether flashes behind it may tell more than they show: it begins a macro, or may define a circle with a hole
+-- what a word says: its command where arcs are straight, the curve and the quadrants that it sets, its offsets, and whether flashes behind it may tell more than they show: it begins a macro, or may define a hole
 pub record Saying : Type 0 where
   pub command : Command
   pub curve : Option Curve
@@ -85,7 +85,7 @@ plain command text = with_offsets command (curve_in text) (quadrants_in text) (f
 abbrev pub silent : Command → Bool → Saying
 silent command tells = record { command = command; curve = None; quadrants = None; i = None; j = None; more = false; tells = tells }
 
--- it begins a macro, or may define a circle with a hole
+-- it begins a macro, or may define a hole
 abbrev pub begins_telling : List ℕ → Bool
 begins_telling text = begins_macro text || may_have_hole text
 

@@ -145,7 +145,7 @@ fn frame_parts(frame: Frame) -> [Part; 8]
         Part::Curved(Bend {
             centre: frame.centre,
             end: frame.border,
-            counterclockwise: true,
+            counterclockwise: false,
         }),
         Part::Straight(right),
         Part::Straight(frame.high),

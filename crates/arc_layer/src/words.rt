@@ -1,4 +1,4 @@
-//! What a word says of arcs, and whether it begins a macro or may define a circle with a hole.
+//! What a word says of arcs, and whether it begins a macro or may define a hole.
 ghost use Rattle.apertures.specs.Holes.{ends_number};
 ghost use Rattle.arc_layer.specs.Words as spec;
 ghost use Rattle.gerber_layer.specs.Command.{view};
@@ -39,7 +39,7 @@ pub struct Saying<'a> {
     pub j: Option<&'a [u8]>,
     /// There are further offsets.
     pub more: bool,
-    /// Flashes behind it may tell more than they show: it begins a macro, or may define a circle with a hole.
+    /// Flashes behind it may tell more than they show: it begins a macro, or may define a hole.
     pub tells: bool,
 }
 
