@@ -197,7 +197,7 @@ class Taken(made.Case):
         ("circles with a hole, two nets", ["%ADD14C,3X2*%", "D14*", "%SRX2Y1I5.0J0*%", "X0Y0D03*", "%SR*%", "D11*", "X0Y0D03*"], [record("A", "J1.1", 1.2, 0), record("B", "J1.2", 0, 0), record("C", "J1.3", 3.8, 0)], "agrees"),
         ("a point in a hole", ["%ADD14C,3X2.2*%", "D14*", "X0Y0D03*"], [record("A", "J1.1", 1.3, 0), B], "differs"),
         ("nearer to the border of a hole", ["%ADD14C,3X2*%", "D14*", "X0Y0D03*"], [record("A", "J1.1", 1.2, 0), record("A", "J1.2", -1.0001, 0)], "undecided"),
-        ("a rectangle with a hole", ["%ADD14R,3X2X1*%", "D14*", "X0Y0D03*"], [A, B], "agrees"),
+        ("a rectangle with a hole", ["%ADD14R,3X2X1*%", "D14*", "X0Y0D03*"], [record("A", "J1.1", 1, .4), record("A", "J1.2", -.6, 0)], "agrees"),
         ("a point in the hole of a rectangle", ["%ADD14R,3X2X1*%", "D14*", "%SRX2Y1I5.0J0*%", "X0Y0D03*", "%SR*%"], [A, record("B", "J1.2", 5, 0)], "differs"),
         ("regions with arcs", ROUNDED, [record("A", "J1.1", 1, .5), record("A", "J1.2", .5, 1), record("B", "J2.1", 7.5, .4)], "agrees"),
         ("regions with arcs, two distances", UNEVEN, [record("A", "J1.1", 1, .5), record("A", "J1.2", .8, 1.5)], "agrees"),
