@@ -28,13 +28,13 @@ PADS = ["%AMRotRect*", "21,1,$1,$2,0,0,$3*%", "%AMOutline4P*", "4,1,4,$1,$2,$3,$
 
 
 class Layer:
-    """A copper file: figures, arc draws of every kind, macros with slanted lines, pads turned by degrees, regions with arcs, blocks. `arcs` counts
+    """A copper file: figures, arc draws of every kind, macros with slanted lines, pads turned by degrees, round holes, regions with arcs, blocks. `arcs` counts
     the draws, and `made` what else of the file is outside the profile; lengths are counted in the file's units. At 0 is a pad for both points."""
 
     def __init__(self, rng, arcs, most=METRE // 20):
         self.rng, self.arcs, self.made, (digits, unit, self.unit) = rng, 0, Counter(), rng.choice(FORMATS)
         self.scale, self.most = 254 * 10 ** 6 if unit == "IN" else 10 ** 7, most // self.unit
-        self.lines = [f"%FSLAX{digits}Y{digits}*%", f"%MO{unit}*%", *self.apertures(), *self.macros(), *self.pads(), "%ADD60C,0.01*%", "G01*", "D60*", "X0Y0D03*"]
+        self.lines = [f"%FSLAX{digits}Y{digits}*%", f"%MO{unit}*%", *self.apertures(), *self.macros(), *self.pads(), *self.holes(), "%ADD60C,0.01*%", "G01*", "D60*", "X0Y0D03*"]
         while self.arcs < arcs:
             self.block() if rng.random() < .03 else self.object()
         self.lines += ["G01*", "M02*"]
@@ -58,7 +58,7 @@ class Layer:
         self.lines.append(f"{before}X{spot[0]}Y{spot[1]}{behind}D0{code}*")
 
     def object(self):
-        self.rng.choice((self.arc, self.arc, self.arc, self.arc, self.draw, self.flash, self.area, self.macro, self.pad, self.bent))()
+        self.rng.choice((self.arc, self.arc, self.arc, self.arc, self.draw, self.flash, self.area, self.macro, self.pad, self.holed, self.bent))()
 
     def block(self):
         gap = self.rng.randrange(1, 10 ** 7) * self.step() / self.scale
@@ -142,6 +142,18 @@ class Layer:
         self.pick(50, 59)
         self.go(self.place(), 3)
         self.made["flashes of turned pads"] += 1
+
+    def holes(self):
+        """Circles and rectangles with a round hole; the sum of a circle's diameters is a multiple of 4 u."""
+        for k in range(61, 69):
+            hole, more, across = (4 * self.length(10 ** self.rng.randint(3, 7)) for _ in "dxy")
+            sides = f"R,{(hole + more) / self.scale:.7f}X{(hole + across) / self.scale:.7f}" if k % 2 else f"C,{(hole + more) / self.scale:.7f}"
+            yield f"%ADD{k}{sides}X{hole / self.scale:.7f}*%"
+
+    def holed(self):
+        self.pick(61, 68)
+        self.go(self.place(), 3)
+        self.made["flashes with a hole"] += 1
 
     def macro(self):
         self.pick(40, 49)
