@@ -6,7 +6,6 @@ import unittest
 
 import common
 
-RUN = os.path.join(common.TOP, "crates", "boardnet", "src", "run.rt")
 NAME = re.compile(r"`(\w+)`")
 
 
