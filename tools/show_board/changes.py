@@ -3,7 +3,7 @@ from fractions import Fraction as Q
 from functools import lru_cache
 from typing import NamedTuple
 
-from .apertures import Block, Pen, Shape
+from .apertures import Pen, Shape
 from .clear import Object
 from .exact import cos_sin, exact, minus, times, turned, whole_near
 from .outlines import polygon_bounds

@@ -7,7 +7,6 @@ import os
 from typing import NamedTuple
 
 from . import UNDECIDED, Stop, between, bounds, copper, findings, judged, labels, mending, netlist, package, tester
-from .board import Board
 from .distances import from_line
 from .hints import Trials, best_placement
 from .nearest import gap_of_lines

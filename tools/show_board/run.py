@@ -5,7 +5,7 @@ import signal
 import sys
 import tempfile
 
-from . import NOT_UNDERSTOOD, UNWRITABLE, Stop, fault_of, lines, seldom, unbuilt, written
+from . import UNWRITABLE, Stop, fault_of, lines, seldom, unbuilt, written
 from .program import TOOLS, Program, found
 from .progress import Progress
 from .shown import show

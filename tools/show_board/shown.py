@@ -1,7 +1,7 @@
 """One board, from its files to its findings."""
 import os
 
-from . import FAULT, UNDECIDED, UNJUDGED, Stop, beside, copper, fault_of, findings, judged, mending, netlist, own_names, package, report, ties, unjudged
+from . import FAULT, UNDECIDED, UNJUDGED, beside, copper, fault_of, findings, judged, mending, netlist, own_names, package, report, ties, unjudged
 from .board import Board
 
 NO_PLACES = "this program writes reports of version 1, which do not say where copper is from: what is told is the report and the netlist alone"
