@@ -3,10 +3,6 @@ from .arcs import Arc
 from .spots import Bands, Segments, dot, edges, segments_within
 
 
-def contour_lower(parts):
-    return contour_bound(parts, False)
-
-
 def contour_bound(parts, upper):
     """parts: spots (the next corner of a straight edge) and Arcs, in order, closed. Corners of an area within the real one, or
     round it, or None. Between a chain and its arc lies a sliver; what the two areas do not share lies in slivers. Where no other

@@ -7,7 +7,7 @@ from fractions import Fraction as Q
 
 from real_shapes import FINE, NEAR, Real, circle_ends, contour_of, every, fine, gerber_of, has, in_sector, on_circle, pieces_of, through
 from show_board.arcs import Arc, arc_chain, chain_bounds, goes_once
-from show_board.contours import contour_bound, contour_lower
+from show_board.contours import contour_bound
 from show_board.exact import Refused, cos_sin, minus, plus, root, times
 from show_board.macros import Expression, bounds_of, macro_bounds
 from show_board.spots import cross, dot, odd_inside, point_within
@@ -271,7 +271,7 @@ class Regions(unittest.TestCase):
             arcs = [p for p in parts if isinstance(p, Arc)]
             if not arcs:
                 continue
-            corners = contour_lower(parts)
+            corners = contour_bound(parts, False)
             cases, lost = cases + 1, lost + (corners is None)
             low, high = [("area", corners)] if corners else [], pieces_of(Copper(gerber_of(contour)).sides[1])
             round_it = contour_bound(parts, True)
@@ -292,7 +292,7 @@ class Regions(unittest.TestCase):
             contour = contour_of(rng)
             parts = parts_of(contour)
             arcs = [p for p in parts if isinstance(p, Arc)]
-            corners = contour_lower(parts) if arcs else None
+            corners = contour_bound(parts, False) if arcs else None
             if not corners:
                 continue
             high = pieces_of(Copper(gerber_of(contour)).sides[1])
@@ -318,7 +318,7 @@ class Regions(unittest.TestCase):
                 contour += [] if a == b else [half] if rng.random() < .5 else [b]
             parts = parts_of(contour)
             arcs = [p for p in parts if isinstance(p, Arc)]
-            corners = contour_lower(parts) if arcs else None
+            corners = contour_bound(parts, False) if arcs else None
             given += bool(corners)
             outer = contour_bound(parts, True) if arcs else None
             for _ in range(60 if corners or outer else 0):
@@ -335,7 +335,7 @@ class Regions(unittest.TestCase):
             a = (r + rng.randint(-v, v) // rng.choice((3, 10, 20, 40)), v * rng.choice((-1, 1, 1)))
             start, end = (r, 0), rng.choice(((0, r), (0, -r), (-r, 0)))
             contour = [a, start, ((0, 0), end, True), a] if rng.random() < .5 else [a, end, ((0, 0), start, False), a]
-            corners = contour_lower(parts_of(contour))
+            corners = contour_bound(parts_of(contour), False)
             given += bool(corners)
             outer = contour_bound(parts_of(contour), True)
             for _ in range(60 if corners or outer else 0):
