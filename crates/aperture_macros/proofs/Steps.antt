@@ -23,26 +23,9 @@ pub sum_bad : (n k : ℕ) (text : List ℕ) → k < n → is_empty text ≡ fals
 unfolding is_sum
 sum_bad n k text some full term = let e : n - k ≡ suc (n - (k + 1)) = omega (arith, some) in rw (e, full, term) refl
 
-pub sum_end : (n : ℕ) (text : List ℕ) → is_empty text ≡ true → is_sum n text ≡ true
-unfolding is_sum
-sum_end zero text none = none
-sum_end (suc n) text none = rw none refl
-
-pub sum_none : (text : List ℕ) → is_sum 0 text ≡ is_empty text
-unfolding is_sum
-sum_none text = refl
-
 pub expressions_more : (n k : ℕ) (text : List ℕ) → k < n → is_expression (before_first is_comma text) ≡ true → are_expressions (n - k) text ≡ are_expressions (n - (k + 1)) (after_first is_comma text)
 unfolding are_expressions
 expressions_more n k text some this = let e : n - k ≡ suc (n - (k + 1)) = omega (arith, some) in rw (e, this) refl
-
-pub expressions_bad : (n k : ℕ) (text : List ℕ) → k < n → is_expression (before_first is_comma text) ≡ false → are_expressions (n - k) text ≡ false
-unfolding are_expressions
-expressions_bad n k text some this = let e : n - k ≡ suc (n - (k + 1)) = omega (arith, some) in rw (e, this) refl
-
-pub expressions_none : (text : List ℕ) → are_expressions 0 text ≡ true
-unfolding are_expressions
-expressions_none text = refl
 
 pub value_more : (n k : ℕ) (sum u : ℤ) (text : List ℕ) (given : List Fraction) (unit : Measure) → k < n → is_empty text ≡ false → term_at (first_term text) given unit ≡ Ok u → sum_from (n - k) sum text given unit ≡ sum_from (n - (k + 1)) (sum +ℤ u) (further_terms text) given unit
 unfolding sum_from

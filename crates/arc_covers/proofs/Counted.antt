@@ -219,11 +219,3 @@ other_line bytes rest lower upper line n even below above whole some none = subs
       some = some;
       other = λ b a more few many e. none_some ((b, a), more) (sym none ∙ (ap both_at e ∙ both_again b a more few many));
     }
-
-pub all_lines : (bytes rest lower upper : List ℕ) → length lower ≡ length upper → All IsCount lower → All IsCount upper → bytes ≡ count_lines lower upper ++ rest → rest ≡ [] → AreCounts (first_line ++ bytes) lower upper
-all_lines bytes rest lower upper even below above whole none = record {
-  even = even;
-  below = below;
-  above = above;
-  spelled = ap (λ (t : List ℕ). first_line ++ t) (whole ∙ (ap (λ (t : List ℕ). count_lines lower upper ++ t) none ∙ append-nil (count_lines lower upper)));
-}

@@ -288,9 +288,6 @@ pub record IsListedShort (v : Verdict) (s : Short) : Type 0 where
   pub rise : (i j : ℕ) (x y : Branch) → i < j → slice_get s.branches i ≡ Some x → slice_get s.branches j ≡ Some y → x.name < y.name
   pub seated : (x : Branch) → Contains s.branches x → IsSeated v x.probe x.name s.net
 
-branch_name : Branch → ℕ
-branch_name b = b.name
-
 pub shorts_said : (board : Tables) (v : Verdict) → IsRight board v → (s : Short) → Contains v.shorts s → IsListedShort v s
 shorts_said board v right s inside =
     let all : All (IsOutline board.names v.points) (map outline v.shorts) = subst (λ (xs : List Outline). All (IsOutline board.names v.points) xs) (sym (right Shorts)) (outlines board.names v.points 0 v.nets) in

@@ -66,14 +66,6 @@ told_closed points about to d closed long first second is = by (nat_le 7 (length
     by true far = rw (three, is) refl
     by false far = absurd (grind (arith, far, long))
 
-pub told_short : (points : List Spot) → length points ≤ 6 → told_in points ≡ None
-unfolding told_in
-told_short points short = by (nat_le 7 (length points)) refl
-  where
-    by : (b : Bool) → nat_le 7 (length points) ≡ b → cond b (telling_at (take (length points - 3) points) (drop (length points - 3) points)) None ≡ None
-    by true far = absurd (grind (arith, far, short))
-    by false far = refl
-
 -- ---- where something is told
 
 -- all but the last three of at least seven points, which are closed

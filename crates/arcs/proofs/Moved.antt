@@ -14,9 +14,6 @@ use Rattle.arcs.proofs.Vectors.{norm, norm_from_zero}
 use Rattle.arcs.proofs.Radii.{apart_some, spread_none, spread_when}
 use Rattle.arcs.proofs.Turned.{flat, inside_by, turned}
 
-twice : ℤ → ℤ
-twice z = z +ℤ z
-
 -- ---- on the circle, with r from the start, d from end to end, n times
 
 -- what is on the circle is at most |k| over A of the way past an end

@@ -1,35 +1,10 @@
 -- The least number whose square is over another, and the greatest whose square is under it.
-use Rattle.std.proofs.Common.{◌≡◌, ◌⊎◌, Some, inl, inr, ℕ, ◌+◌, ◌-◌, ◌*◌, ◌≤◌, ◌<◌, ℤ, pos, negsuc, ◌+ℤ◌, ◌-ℤ◌, ◌≤ℤ◌, ◌^◌, arith}
-use Rattle.std.proofs.Math.Nat.{mul-le-mul}
+use Rattle.std.proofs.Common.{◌≡◌, Some, ℕ, ◌+◌, ◌-◌, ◌*◌, ◌≤◌, ◌<◌, ℤ, pos, negsuc, ◌+ℤ◌, ◌-ℤ◌, ◌≤ℤ◌, ◌^◌, arith}
 use Rattle.std.proofs.lemmas.Int.{ints, clamps}
 use Rattle.std.specs.Int.{int_max}
 use Rattle.planar.specs.Plane.{square}
 use Rattle.arcs.specs.Chains.{IsGreatestUnder, IsLeastOver, IsRing, IsRootOver, IsWidest}
 use Rattle.arcs.proofs.Read.{room_read}
-
-least_or_more : (a b : ℕ) → (a ≤ b) ⊎ (b < a)
-least_or_more a b = grind arith
-
--- a number whose square is at least n is not under one whose square is less
-pub over_root : (n root m : ℕ) → root * root < n → n ≤ m * m → root + 1 ≤ m
-over_root n root m under over = elim (least_or_more m root) [
-  | inl l ↦ absurd (let p : m * m ≤ root * root = mul-le-mul l l in omega (arith, p, under, over))
-  | inr g ↦ omega (arith, g)
-]
-
-pub exact_root : (n root m : ℕ) → root * root ≡ n → n ≤ m * m → root ≤ m
-exact_root n root m is over = elim (least_or_more root m) [
-  | inl l ↦ l
-  | inr g ↦ let h : m + 1 ≤ root = omega (arith, g) in absurd (let p : (m + 1) * (m + 1) ≤ root * root = mul-le-mul h h in omega (arith, p, is, over))
-]
-
-pub under_root : (n root m : ℕ) → n < (root + 1) * (root + 1) → m * m ≤ n → m ≤ root
-under_root n root m over under = elim (least_or_more m root) [
-  | inl l ↦ l
-  | inr g ↦ let h : root + 1 ≤ m = omega (arith, g) in absurd (let p : (root + 1) * (root + 1) ≤ m * m = mul-le-mul h h in omega (arith, p, over, under))
-]
-
--- ---- the same for integers
 
 pub greatest_under : (low : ℤ) (n root : ℕ) → low ≡ pos n → root * root ≤ n → ((m : ℕ) → m * m ≤ n → m ≤ root) → IsGreatestUnder low (pos root)
 greatest_under low n root is under greatest = record { under = rw is (omega (arith, ints, under)); greatest = each }

@@ -104,12 +104,6 @@ by_start a b r p h = by_place (pos 0) a b a record { le = tt } record { le = tt 
     here : (a b : ℤ) → a +ℤ pos 0 *ℤ (b -ℤ a) ≡ a
     here a b = omega (arith, linear, zero-times (b -ℤ a))
 
-pub by_end : (a b : Spot) (r : ℤ) (p : Point) → IsNear r b p → InCapsule a b r p
-by_end a b r p h = by_place (pos 1) a b b record { le = tt } record { le = tt } (here a.x b.x) (here a.y b.y) r p h
-  where
-    here : (a b : ℤ) → a +ℤ pos 1 *ℤ (b -ℤ a) ≡ b
-    here a b = omega (arith, linear, one-times (b -ℤ a))
-
 -- c itself is not further from a spot than the spot from c
 from_centre : (x y n ax ay cx cy far r : ℤ) → pos 1 ≤ℤ n → pos 0 ≤ℤ far → far ≤ℤ r → x -ℤ n *ℤ cx ≡ pos 0 → y -ℤ n *ℤ cy ≡ pos 0 → norm (ax -ℤ cx) (ay -ℤ cy) ≤ℤ square far → norm (x -ℤ n *ℤ ax) (y -ℤ n *ℤ ay) ≤ℤ square (n *ℤ r)
 from_centre x y n ax ay cx cy far r some hf l hx hy h =

@@ -171,9 +171,6 @@ run_apart points numbers b around u v r t about lawful is none meet = (λ h. abs
 
 -- ---- The boxes of the runs
 
-pub about_none : (points : List Spot) (numbers : List ℕ) (size : ℕ) → AreAbout size points numbers []
-about_none points numbers size k d below = absurd (omega arith)
-
 pub about_more : (points : List Spot) (numbers run : List ℕ) (boxes : List Bounds) (size k : ℕ) (b : Bounds) → length boxes ≡ k → run ≡ take size (drop (size * k) numbers) → IsAbout points b run → AreAbout size points numbers boxes → AreAbout size points numbers (boxes ++ b ∷ [])
 about_more points numbers run boxes size k b long is here before j d below = elim (le_or_lt k j) [
   | inl last ↦

@@ -2,7 +2,7 @@
 use Rattle.std.proofs.Common.{◌≡◌, ◌<◌, ℕ, List, [], ◌∷◌, ◌++◌, length, drop, Some, IsSomeAnd, append_assoc, refl, sym, ap, subst, ◌∙◌}
 use Rattle.std.proofs.Math.Seq.{drop-append_seam}
 use Rattle.std.specs.List.{AllByRecursion}
-use Rattle.board_io.specs.Handed.{AgreeWith, Agrees, File, Grows, Handed, IfAgreed, Long, with_file, with_long}
+use Rattle.board_io.specs.Handed.{AgreeWith, Agrees, File, Grows, Handed, Long, with_file, with_long}
 use Rattle.board_io.specs.Package.{Files}
 
 append_none : (xs : List Handed) → xs ++ [] ≡ xs
@@ -61,11 +61,3 @@ agree_file files a b name bytes e w = (gained files a b (File name bytes ∷ [])
 
 pub agree_long : (files : Files) (a b : List Handed) (name : List ℕ) (most : ℕ) → b ≡ with_long a name most → AgreeWith files a b → IsSomeAnd (files name) (λ bytes. most < length bytes)
 agree_long files a b name most e w = (gained files a b (Long name most ∷ []) e w).0
-
--- ---- Facts of all files that agree
-
-pub agreed_front : (a b c : List Handed) (P : Files → Type 0) → Grows a b → Grows b c → IfAgreed a b P → IfAgreed a c P
-agreed_front a b c P g h p = λ files w. p files (agree_front files a b c g h w)
-
-pub agreed_back : (a b c : List Handed) (P : Files → Type 0) → Grows a b → Grows b c → IfAgreed b c P → IfAgreed a c P
-agreed_back a b c P g h p = λ files w. p files (agree_back files a b c g h w)

@@ -3,7 +3,7 @@ use Rattle.std.proofs.Common.{◌≡◌, ℕ, ◌+◌, ◌<◌, ◌≤◌, Bool,
 use Rattle.std.specs.List.{AllByRecursion, list_any}
 use Rattle.std.specs.Prelude.{option_and_then}
 use Rattle.std.proofs.lemmas.Option.{slice_get_past, slice_get_read}
-use Rattle.std.proofs.lemmas.List.{get_or-map, length-map, length-reverse, length-take, reverse-append, take_all, take_more}
+use Rattle.std.proofs.lemmas.List.{get_or-map, length-map, length-reverse, length-take, reverse-append, take_more}
 use Rattle.std.proofs.lemmas.List.Elements.{All-head, All-nil, All-push, All-tail}
 use Rattle.area_contact.specs.Contour.{first_of}
 use Rattle.board_shapes.specs.Figures.{Figure, round, filled, figure_of, IsLawfulFigure}
@@ -154,9 +154,3 @@ texts_kept name names h all = by (list_any (is_name name) names)
     by : (b : Bool) → All IsText (cond b names (names ++ name ∷ []))
     by true = all
     by false = All-push IsText names name all h
-
--- all pieces
-pub named_whole : (tables : List (List Label)) (pieces : List (Placed Shape)) (i : ℕ) (n : Named) → length pieces ≤ i → n ≡ named_by tables (reverse (take i (plain_pieces pieces))) → n ≡ named_by tables (reverse (plain_pieces pieces))
-named_whole tables pieces i n whole e =
-    let size : length (plain_pieces pieces) ≡ length pieces = length-map pieces plain_piece in
-    e ∙ ap (λ (xs : List PlainPiece). named_by tables (reverse xs)) (take_all i (plain_pieces pieces) (omega (arith, size, whole)))

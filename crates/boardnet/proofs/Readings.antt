@@ -28,12 +28,11 @@ use Rattle.boardnet.specs.Ends.{StopsFor}
 use Rattle.boardnet.specs.HandedOutcome.{HasHandedReason}
 use Rattle.boardnet.specs.Kept.{LeftBy}
 use Rattle.boardnet.specs.Outcome.{ComesFor, HandedOver, IsDecided, Source}
-use Rattle.boardnet.specs.Unbounded.{IsBehindReason, IsInRange, IsNoCounts, IsNotTaken, IsUnboundedBy}
+use Rattle.boardnet.specs.Unbounded.{IsBehindReason, IsInRange, IsNotTaken, IsUnboundedBy}
 use Rattle.boardnet.specs.Words.{Between}
 use Rattle.boardnet.specs.commands.Between.{AreRead, IsOfFile, at_counts, at_lower, at_real, at_upper}
 use Rattle.boardnet.specs.declared.answer.Unanswered.{Unanswered}
 use Rattle.boardnet.specs.declared.answer.Unanswered.TheVariants.{Stopped, NotJson, NotAManifest, BoundTooLarge, Unbound}
-use Rattle.boardnet.specs.declared.unbound.Unbound.TheVariants.{NotCounts}
 use Rattle.real_package.specs.HandedReal.{IsFirstRealStopHanded, IsRealBoardHanded, RealComesHanded}
 use Rattle.real_package.specs.RealBoards.{PlainRealBoard}
 use Rattle.real_package.specs.RealCauses.{real_faults}
@@ -134,12 +133,6 @@ in_range pieces lower upper lc uc bounds.NoMemory h = tt
 pub comes_from : (real : PlainRealBoard) (pieces : List (Placed RealShape)) (n : ℕ) (piece : Placed RealShape) → plain_reals pieces ≡ real.pieces → slice_get pieces n ≡ Some piece → ComesFrom real n piece.origin
 comes_from real pieces n piece e at =
     (plain_real piece, ap (λ (xs : List PlainReal). slice_get xs n) (sym e) ∙ (slice_get-map plain_real pieces n ∙ ap (option_map plain_real) at), refl)
-
-pub no_counts : (r : PlainRealBoard) (l u : PlainBoard) (bytes : List ℕ) (why : Unanswered) → IsNoCounts bytes why → IsUnboundedBy r l u bytes why
-no_counts r l u bytes (Unbound (NotCounts line)) h = h
-no_counts r l u bytes (Unbound other) h = absurd h
-no_counts r l u bytes (Stopped why) h = h
-no_counts r l u bytes other h = absurd h
 
 pub not_taken : (r : PlainRealBoard) (l u : PlainBoard) (bytes : List ℕ) (c : AreCounted r l u bytes) (why : BoundsFault) (given : Unanswered)
     → IsBoundsFault c.pieces c.lower_counts l.pieces c.upper_counts u.pieces why → IsNotTaken r why given → IsUnboundedBy r l u bytes given

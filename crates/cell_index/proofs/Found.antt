@@ -1,5 +1,5 @@
 -- What a search of cells finds, step by step.
-use Rattle.std.proofs.Common.{append-nil, int_le, ◌≡◌, inl, inr, ℕ, zero, suc, ◌+◌, ◌<◌, ◌≤◌, Bool, true, false, if◌then◌else◌, List, [], ◌∷◌, ◌++◌, length, get_or, set, take, All, Contains, Some, refl, sym, ap, subst, ◌∙◌, arith, length-set}
+use Rattle.std.proofs.Common.{append-nil, int_le, ◌≡◌, inl, inr, ℕ, zero, suc, ◌+◌, ◌<◌, ◌≤◌, Bool, true, false, if◌then◌else◌, List, [], ◌∷◌, ◌++◌, length, get_or, set, take, All, Contains, Some, sym, ap, subst, ◌∙◌, arith, length-set}
 use Rattle.std.proofs.lemmas.Bool.{cases_eq, cases_lt}
 use Rattle.std.specs.Int.{int_max, int_min}
 use Rattle.std.proofs.lemmas.List.{get_or-set_other, get_or_default, get_or_past, take_more_set}
@@ -21,9 +21,6 @@ use Rattle.cell_index.proofs.Pairs.{rivals_within}
 use Rattle.cell_index.proofs.Rows.{both_told}
 use Rattle.cell_index.proofs.Sides.{int_le_told}
 
-pub grows_same : (n : ℕ) (xs : List ℕ) → All (λ q. q < n) xs → Grows n xs xs
-grows_same n xs known = record { known = known; kept = λ q h. h }
-
 pub grows_then : (n : ℕ) (a b c : List ℕ) → Grows n a b → Grows n b c → Grows n a c
 grows_then n a b c f g = record { known = g.known; kept = λ q h. g.kept q (f.kept q h) }
 
@@ -34,9 +31,6 @@ grows_push n old xs q g below = record { known = All-push (λ q. q < n) xs q g.k
 pub record IsGathered (n : ℕ) (P : ℕ → Type 0) (list : List ℕ) (k : ℕ) (old now : List ℕ) : Type 0 where
   pub grows : Grows n old now
   pub found : (j : ℕ) → j < k → P (get_or list j 0) → Contains now (get_or list j 0)
-
-pub gathered_start : (n : ℕ) (P : ℕ → Type 0) (list old : List ℕ) → All (λ q. q < n) old → IsGathered n P list 0 old old
-gathered_start n P list old known = record { grows = grows_same n old known; found = λ j h. absurd (omega arith) }
 
 pub gathered_push : (n : ℕ) (P : ℕ → Type 0) (list : List ℕ) (k q : ℕ) (old now : List ℕ) → q ≡ get_or list k 0 → q < n → IsGathered n P list k old now → IsGathered n P list (k + 1) old (now ++ q ∷ [])
 gathered_push n P list k q old now is below g = record {
@@ -84,20 +78,6 @@ pub record IsKept (near : ℕ → Type 0) (old : List ℕ) (k kept : ℕ) (now :
   pub below : (x j : ℕ) → Contains (take kept now) x → k ≤ j → j < length old → x < get_or old j 0
   pub only : (x : ℕ) → Contains (take kept now) x → near x × Contains old x
   pub all : (j : ℕ) → j < k → near (get_or old j 0) → Contains (take kept now) (get_or old j 0)
-
-no_member : (xs : List ℕ) (x : ℕ) → Contains (take 0 xs) x → ⊥
-no_member xs x h = let b = h.1 in absurd (omega arith)
-
-pub kept_start : (near : ℕ → Type 0) (old : List ℕ) → IsKept near old 0 0 old
-kept_start near old = record {
-  long = refl;
-  order = omega arith;
-  ahead = λ j h. refl;
-  rising = λ k h. absurd (omega arith);
-  below = λ x j h. absurd (no_member old x h);
-  only = λ x h. absurd (no_member old x h);
-  all = λ j h. absurd (omega arith);
-}
 
 kept_more : (near : ℕ → Type 0) (old : List ℕ) (k kept q : ℕ) (now : List ℕ) → IsStrictlyIncreasing old → k < length old → q ≡ get_or now k 0 → near q → IsKept near old k kept now → IsKept near old (k + 1) (kept + 1) (set now kept q)
 kept_more near old k kept q now rises inside is holds s =

@@ -103,9 +103,6 @@ pub wide_or_not : (b : Bool) → (b ≡ true) ⊎ (b ≡ false)
 wide_or_not true = inl refl
 wide_or_not false = inr refl
 
-some_same : {A : Type 0} (a b : A) (o : Option A) → o ≡ Some a → o ≡ Some b → a ≡ b
-some_same a b o e f = cc
-
 lower : (from a b : ℤ) → from ≤ℤ a → from ≤ℤ int_max a b
 lower from a b h = omega (arith, ints, clamps)
 

@@ -1,5 +1,5 @@
 -- How a net grows.
-use Rattle.std.proofs.Common.{◌≡◌, inl, inr, ℕ, ◌+◌, ◌<◌, ◌≤◌, Bool, true, List, [], ◌∷◌, ◌++◌, length, get_or, set, Contains, Some, refl, sym, ap, subst, ◌∙◌, append_assoc, append-nil, arith}
+use Rattle.std.proofs.Common.{◌≡◌, inl, inr, ℕ, ◌+◌, ◌<◌, ◌≤◌, Bool, true, List, [], ◌∷◌, ◌++◌, length, get_or, set, Contains, Some, refl, sym, ap, subst, ◌∙◌, append_assoc, arith}
 use Rattle.std.proofs.lemmas.List.{length-set}
 use Rattle.std.proofs.lemmas.Bool.{cases_eq}
 use Rattle.verdict.specs.declared.verdict.Twig.{Twig}
@@ -38,18 +38,6 @@ pub record IsSpread (near : ℕ → ℕ → Type 0) (net_old : List Twig) (seen_
   pub done : (k : ℕ) → k < i → IsSeen seen (get_or row k 0)
   pub kept : (w : ℕ → ℕ) → unseen w 0 seen + weight w net ≡ unseen w 0 seen_old + weight w net_old
   pub fewer : (w : ℕ → ℕ) → unseen w 0 seen ≤ unseen w 0 seen_old
-
-pub spread_start : (near : ℕ → ℕ → Type 0) (net : List Twig) (seen : List Bool) (row : List ℕ) → IsSpread near net seen row 0 net seen
-spread_start near net seen row = record {
-  long = refl;
-  more = ([], sym (append-nil net));
-  inside = λ p h. h;
-  grown = λ base first g. g;
-  stays = λ q h. h;
-  done = λ k h. absurd (omega arith);
-  kept = λ w. refl;
-  fewer = λ w. omega arith;
-}
 
 done_more : (P : ℕ → Type 0) (row : List ℕ) (i : ℕ) → ((k : ℕ) → k < i → P (get_or row k 0)) → P (get_or row i 0) → (k : ℕ) → k < i + 1 → P (get_or row k 0)
 done_more P row i before here k below = elim (cases_eq k i) [

@@ -2,7 +2,7 @@
 use Rattle.std.proofs.Common.{◌≡◌, ◌≢◌, ◌↔◌, ℕ, ◌+◌, ◌*◌, ◌<◌, ◌≤◌, ℤ, pos, ◌+ℤ◌, ◌≤ℤ◌, List, [], ◌∷◌, ◌++◌, All, Option, Some, None, length, map, take, max, min, get_or, slice_get, refl, sym, ap, subst, ◌∙◌, arith}
 use Rattle.std.proofs.lemmas.Int.{ints}
 use Rattle.std.proofs.lemmas.List.{get_or-map, length-map, map-append, take_all, take_more}
-use Rattle.std.proofs.lemmas.List.Elements.{All-nil, All-push}
+use Rattle.std.proofs.lemmas.List.Elements.{All-push}
 use Rattle.std.proofs.lemmas.Option.{get_or_from_slice_get, slice_get-map, slice_get_within}
 use Rattle.planar.specs.Plane.{Point}
 use Rattle.contact.specs.Solid.{SharePoint}
@@ -176,9 +176,6 @@ all_fats P g pieces fats grown h i d below =
     (subst (λ (z : PlainPiece). P z g) (get_or-map piece_in fats i d (piece_in d) below) k)
 
 -- ---- how the grown pieces are made
-
-pub grown_none : (g : ℤ) (pieces : List (Placed Shape)) → AreGrown g (plain_pieces (take 0 pieces)) []
-grown_none g pieces = record { pieces_are = refl; growths = All-nil (λ (f : Placed Fat). f.shape.grow ≡ g) }
 
 pub grown_more : (g : ℤ) (pieces : List (Placed Shape)) (i : ℕ) (p : Placed Shape) (fats new : List (Placed Fat)) (f : Placed Fat) → i < length pieces → p ≡ get_or pieces i p → AreGrown g (plain_pieces (take i pieces)) fats →
     new ≡ fats ++ f ∷ [] → piece_in f ≡ plain_piece p → f.shape.grow ≡ g → AreGrown g (plain_pieces (take (i + 1) pieces)) new

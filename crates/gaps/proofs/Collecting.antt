@@ -1,11 +1,10 @@
 -- Lines that are pushed one by one.
-use Rattle.std.proofs.Common.{◌≡◌, ◌⊎◌, inl, inr, ℕ, zero, suc, ◌+◌, ◌<◌, ◌≤◌, List, [], ◌∷◌, ◌++◌, All, Contains, get_or, if◌then◌else◌, length, slice_get, Some, refl, ap, sym, subst, arith, ◌∙◌}
+use Rattle.std.proofs.Common.{◌≡◌, ◌⊎◌, inl, inr, ℕ, zero, suc, ◌+◌, ◌<◌, ◌≤◌, List, [], ◌∷◌, ◌++◌, All, Contains, get_or, if◌then◌else◌, length, refl, ap, sym, subst, arith, ◌∙◌}
 use Rattle.std.proofs.lemmas.Bool.{cases_eq, cases_lt}
 use Rattle.std.proofs.lemmas.Nat.{and_le_r}
 use Rattle.std.specs.Int.Bits.{bit_and}
-use Rattle.std.proofs.lemmas.List.{get_or_default, get_or_past}
-use Rattle.std.proofs.lemmas.List.Elements.{Contains-get_or, Contains-push, Contains-push_cases, Contains-append_left}
-use Rattle.std.proofs.lemmas.Option.{get_or_from_slice_get, slice_get_within}
+use Rattle.std.proofs.lemmas.List.{get_or_default}
+use Rattle.std.proofs.lemmas.List.Elements.{Contains-push, Contains-push_cases, Contains-append_left}
 use Rattle.gaps.specs.declared.gap.Gap.{Gap}
 use Rattle.gaps.specs.declared.meetings.Span.{Span}
 use Rattle.contact.specs.declared.Bounds.{Bounds}
@@ -15,14 +14,6 @@ use Rattle.cell_index.proofs.Pairs.{rivals_within}
 use Rattle.gaps.specs.Firsts.{AreFirsts, Beside, IsBeside, IsWithLess}
 use Rattle.gaps.specs.declared.found.Pair.{Pair}
 use Rattle.gaps.specs.Meetings.{Covered, CoversLines, GainsLines, Gathers, IsFieldLine, IsLineOf, IsNearLine, IsOver, IsPairLine, IsTouchLine, net_of, pair_in, span_of}
-
--- before the first layer
-pub none_yet : (low high i j top : ℕ) (old : List Gap) → GainsLines (IsLineOf low high i j top top) old old
-none_yet low high i j top old gap = (λ h. inl h, back)
-  where
-    back : Contains old gap ⊎ IsLineOf low high i j top top gap → Contains old gap
-    back (inl h) = h
-    back (inr l) = absurd (omega (arith, l.from_top, l.before_past))
 
 same_line : (g h : Gap) → g.layer ≡ h.layer → g.low ≡ h.low → g.high ≡ h.high → g.first ≡ h.first → g.second ≡ h.second → g ≡ h
 same_line g h a b c d e =
@@ -90,17 +81,6 @@ beside_trans f g h a b = (a.0 ∙ b.0, a.1 ∙ b.1, a.2 ∙ b.2)
 
 -- ---- pairs
 
-nothing : (P : Gap → Type 0) (lines : List Gap) → ((gap : Gap) → P gap → Covered lines gap) → CoversLines P lines lines
-nothing P lines h = record { only = λ gap c. inl c; kept = λ gap c. c; each = h }
-
--- the second net is not higher, or lines that stand already speak for those of the pair
-pub no_pair : (size : ℕ) (touch : ℕ → ℕ → Type 0) (pair : Pair) (old : List Gap) → (pair.high ≤ pair.low) ⊎ ((gap : Gap) → IsLineOf pair.low pair.high pair.first pair.second pair.top (pair.bottom + 1) gap → Covered old gap) → CoversLines (IsTouchLine size touch pair) old old
-no_pair size touch pair old (inl h) = nothing (IsTouchLine size touch pair) old (λ gap l. absurd (omega (arith, l.order)))
-no_pair size touch pair old (inr h) = nothing (IsTouchLine size touch pair) old (λ gap l. h gap l.line)
-
-pub apart_pair : (size : ℕ) (touch : ℕ → ℕ → Type 0) (pair : Pair) (old : List Gap) → (IsNear size touch pair.first pair.second → ⊥) → CoversLines (IsTouchLine size touch pair) old old
-apart_pair size touch pair old h = nothing (IsTouchLine size touch pair) old (λ gap l. absurd (h l.near))
-
 pub a_pair : (size : ℕ) (touch : ℕ → ℕ → Type 0) (pair : Pair) (old new : List Gap) → IsNear size touch pair.first pair.second → pair.low < pair.high →
     GainsLines (IsLineOf pair.low pair.high pair.first pair.second pair.top (pair.bottom + 1)) old new → CoversLines (IsTouchLine size touch pair) old new
 a_pair size touch pair old new near order h = record { only = λ gap c. there gap ((h gap).0 c); kept = λ gap c. (h gap).1 (inl c); each = λ gap l. itself new gap ((h gap).1 (inr l.line)) }
@@ -111,10 +91,6 @@ a_pair size touch pair old new near order h = record { only = λ gap c. there ga
 
 still_covered : (old new : List Gap) (gap : Gap) → ((g : Gap) → Contains old g → Contains new g) → Covered old gap → Covered new gap
 still_covered old new gap kept v = record { line = v.line; stands = kept v.line v.stands; beside = v.beside; less = v.less }
-
--- no piece of the list yet
-pub no_neighbour : (size : ℕ) (touch : ℕ → ℕ → Type 0) (numbers : List ℕ) (spans : List Span) (i : ℕ) (old : List Gap) → CoversLines (IsNearLine size touch numbers spans i []) old old
-no_neighbour size touch numbers spans i old = nothing (IsNearLine size touch numbers spans i []) old (λ gap l. absurd (omega (arith, l.stands.1)))
 
 -- one piece of the list more
 pub neighbour_more : (size : ℕ) (touch : ℕ → ℕ → Type 0) (numbers : List ℕ) (spans : List Span) (i j : ℕ) (near : List ℕ) (pair : Pair) (old lines new : List Gap) → pair ≡ pair_in numbers spans i j →
@@ -145,9 +121,6 @@ neighbour_more size touch numbers spans i j near pair old lines new e h k' = rec
 
 pub entry_within : (mixed last many : ℕ) → last < many → bit_and mixed last < many
 entry_within mixed last many h = (let l = and_le_r mixed last in omega arith)
-
-pub looked_up : (lines : List Gap) (place : ℕ) (found line : Gap) → slice_get lines place ≡ Some found → IsBeside line found → IsWithLess found line → Covered lines line
-looked_up lines place found line e b l = record { line = found; stands = subst (λ (z : Gap). Contains lines z) (get_or_from_slice_get lines place found found e) (Contains-get_or lines place found (slice_get_within lines place found e)); beside = b; less = l }
 
 pub covered_none : (low high i j top : ℕ) (lines : List Gap) → (gap : Gap) → IsLineOf low high i j top top gap → Covered lines gap
 covered_none low high i j top lines gap l = absurd (omega (arith, l.from_top, l.before_past))
@@ -264,6 +237,3 @@ tested_within box top bottom near n i k q start before after known inside is so_
     let at : next_of near n k ≡ q = get_or_default near k n 0 inside ∙ sym is in
     let small : q < n = subst (λ (x : ℕ). x < n) (sym is) (known k 0 inside) in
     rivals_within n box top bottom i q start before after (subst (λ (m : ℕ). before ≤ start + rivals_of m box top bottom i) at so_far) step small
-
-pub tested_all : (box : ℕ → Bounds) (top bottom : ℕ → ℕ) (near : List ℕ) (n i k start after : ℕ) → length near ≤ k → after ≤ start + rivals_of (next_of near n k) box top bottom i → after ≤ start + rivals_of n box top bottom i
-tested_all box top bottom near n i k start after past h = subst (λ (m : ℕ). after ≤ start + rivals_of m box top bottom i) (get_or_past near k n past) h

@@ -38,10 +38,3 @@ all_grown g (p ∷ rest) fits =
     let all : Bounds = grown_around g (grown_box g p) rest in
     All-weaker (λ q. LiesWithin (grown_box g q) all) (λ q. IsInside (grown_box g q) (frame_over (Some all))) (λ q h. within (grown_box g q) all fits h) (p ∷ rest)
     (All-cons (λ q. LiesWithin (grown_box g q) all) p rest (grows g (grown_box g p) rest) (around g (grown_box g p) rest))
-
--- a box lies in the frame from its lower left corner exactly where it fits one
-pub in_own_frame : (b : Bounds) → IsInside b (frame_over (Some b)) → FitsFrame b
-in_own_frame b h = record { across = omega (arith, ints, h.0.1); up = omega (arith, ints, h.1.1) }
-
-pub fits_own_frame : (b : Bounds) → FitsFrame b → IsInside b (frame_over (Some b))
-fits_own_frame b fits = ((omega (arith, ints), omega (arith, ints, fits.across)), (omega (arith, ints), omega (arith, ints, fits.up)))

@@ -1,5 +1,5 @@
 -- The pieces of a file stand on its layer.
-use Rattle.std.proofs.Common.{◌≡◌, ℕ, ◌+◌, ◌*◌, ℤ, pos, ◌*ℤ◌, ◌≤◌, Bool, true, false, cond, List, [], ◌∷◌, ◌++◌, length, map, take, drop, All, Option, Some, None, Result, Ok, Err, IfOk, refl, sym, subst}
+use Rattle.std.proofs.Common.{◌≡◌, ℕ, ◌+◌, ◌*◌, ℤ, pos, ◌*ℤ◌, Bool, true, false, cond, List, [], ◌∷◌, ◌++◌, length, map, take, drop, All, Option, Some, None, Result, Ok, Err, IfOk, refl, sym, subst}
 use Rattle.std.specs.List.{flat_map, range_with_len}
 use Rattle.std.proofs.lemmas.List.{length-map, get_or-map}
 use Rattle.std.proofs.lemmas.List.Elements.{All-append, All-cons, All-nil, All-take, All-drop, All-map, All-weaker}
@@ -189,7 +189,3 @@ read_on d keeps file p pieces read = each_piece p pieces (subst (λ xs. All (OnL
 pub layers_read : {V W F : Type 0} (d : Dialect W) → KeepsLayer d.table → (items : V → List (Placed Shape)) (result : Result V F) (file : List ℕ) (p : Place) → IfOk result (λ v. IsReadBy d file p (plain_pieces (items v))) → IfOk result (λ v. All (λ q. (q.top ≡ p.layer) × (q.bottom ≡ p.layer)) (items v))
 layers_read d keeps items (Ok v) file p read = read_on d keeps file p (items v) read
 layers_read d keeps items (Err why) file p read = tt
-
--- the room of a place is the reader's
-pub same_room : {E V : Type 0} (items : V → List (Placed Shape)) (r : Result V E) (room other : Room) → other ≡ room → IfOk r (λ v. length (items v) ≤ other.pieces) → IfOk r (λ v. length (items v) ≤ room.pieces)
-same_room items r room other same few = subst (λ (x : Room). IfOk r (λ v. length (items v) ≤ x.pieces)) same few

@@ -4,8 +4,8 @@ use Rattle.std.specs.Prelude.{IfOk, IfErr}
 use Rattle.std.proofs.lemmas.List.{length-map, length-append, length-reverse}
 use Rattle.board_shapes.specs.declared.probe.Probe.{Probe}
 use Rattle.file_reading.specs.Reading.{Item, IsReadTo, said}
-use Rattle.file_reading.proofs.Turning.{read-start, read-more}
-use Rattle.texts.specs.Lines.{Ahead, PlainLine, start, lines_from, lines_of}
+use Rattle.file_reading.proofs.Turning.{read-more}
+use Rattle.texts.specs.Lines.{Ahead, PlainLine, lines_from, lines_of}
 use Rattle.ipc356_records.specs.declared.kind.RecordKind.{RecordKind}
 use Rattle.file_reading.specs.declared.halt.Halt.{Halt}
 use Rattle.file_reading.specs.declared.halt.Halt.TheVariants as halt
@@ -15,7 +15,7 @@ use Rattle.ipc356_records.specs.Line.{RecordLine, finishes}
 use Rattle.ipc356_records.specs.RecordLines.{form_of}
 use Rattle.ipc356_records.specs.RecordEffects.{Known, Effect, effect}
 use Rattle.ipc356_records.specs.NetlistFile.{item_of, items, effect_at, IsRead, IsRefused, IsFault}
-use Rattle.ipc356_records.specs.Reader.{known_of, Obeys, IsNew, Halts, fault_at, Leaves, Faults}
+use Rattle.ipc356_records.specs.Reader.{known_of, Obeys, Halts, fault_at, Leaves, Faults}
 use Rattle.ipc356_records.proofs.Bridge.{State, state-push}
 
 -- the file's end
@@ -32,14 +32,6 @@ pub record ReadSoFar (file : List ℕ) (layers : ℕ) (a : Ahead) (r : Reader) :
   pub read : IsReadTo (effect_at layers) (items file) earlier (items_with file (lines_from a))
   pub number : a.number ≡ length earlier + 1
   pub state : State layers (said earlier) r
-
-pub nothing-read : (file : List ℕ) (layers : ℕ) (r : Reader) → IsNew layers r → ReadSoFar file layers (start file) r
-nothing-read file layers r n = record {
-  earlier = [];
-  read = read-start (effect_at layers) (items file);
-  number = refl;
-  state = record { known = n.known; probes = n.probes };
-}
 
 is_ok : (k k' : Known) (form : RecordLine) (e : Effect) → k ≡ k' → effect k form ≡ Ok e → IsOk (effect k' form)
 is_ok k k' form e same h = let f : effect k' form ≡ Ok e = subst (λ (t : Known). effect t form ≡ Ok e) same h in rw f refl

@@ -40,7 +40,3 @@ tree_hangs near (t ∷ rest) (root, least, hang) (suc k) inner within =
     let h = hang_at near (t.piece ∷ []) rest k hang (omega arith) in
     let j = before (t ∷ rest) (suc k) h.0 (omega arith) h.2 in
     record { place = j.0; before = j.1; named = h.1 ∙ ap Some (sym j.2) }
-
-pub tree_some : (near : ℕ → ℕ → Type 0) (net : List Twig) → IsTree near net → 0 < length net
-tree_some near [] tree = absurd tree
-tree_some near (t ∷ rest) tree = omega arith

@@ -1,8 +1,7 @@
 -- The branches of shorts.
-use Rattle.std.proofs.Common.{◌≡◌, inl, inr, ℕ, ◌+◌, ◌<◌, ◌≤◌, Bool, true, false, List, [], ◌∷◌, ◌++◌, length, map, get_or, set, take, drop, replicate, Contains, All, Option, Some, None, refl, sym, ap, subst, ◌∙◌, append-nil, arith, slice_get}
-use Rattle.std.proofs.lemmas.List.{drop_all, length-set, get_or-set_same, get_or-set_other, length-map, get_or-replicate, length-replicate, map-append, take_more}
+use Rattle.std.proofs.Common.{◌≡◌, ℕ, ◌+◌, ◌<◌, ◌≤◌, Bool, true, false, List, [], ◌∷◌, ◌++◌, length, map, get_or, take, drop, Contains, All, Option, Some, None, refl, sym, ap, subst, ◌∙◌, append-nil, arith, slice_get}
+use Rattle.std.proofs.lemmas.List.{drop_all, length-map, map-append, take_more}
 use Rattle.std.proofs.lemmas.List.Elements.{All-get_or, Contains-append_left}
-use Rattle.std.proofs.lemmas.Bool.{cases_eq}
 use Rattle.verdict.specs.declared.verdict.Twig.{Twig}
 use Rattle.verdict.specs.declared.verdict.Branch.{Branch}
 use Rattle.verdict.specs.declared.verdict.PointLine.{PointLine}
@@ -13,9 +12,8 @@ use Rattle.judge.specs.Judged.{AreFlags}
 use Rattle.judge.proofs.PointLines.{turn}
 use Rattle.std.proofs.lemmas.Option.{slice_get-get_or}
 use Rattle.verdict.specs.declared.verdict.Short.{Short}
-use Rattle.verdict.specs.Places.{twig_at, HasPlaces}
+use Rattle.verdict.specs.Places.{twig_at}
 use Rattle.verdict.specs.Seats.{AreFirst, AreNamed, IsFirst, mark_name, marks_at, branch_name}
-use Rattle.verdict.proofs.Holding.{one_of}
 
 -- the ends of a path that follows these branches
 abbrev pub held : List ℕ → List Branch → List ℕ
@@ -47,25 +45,6 @@ first_is (t ∷ rest) = refl
 
 pub branched_root : (net : List Twig) (homes : List (Option ℕ)) (marks : List Mark) (i : ℕ) (branches : List Branch) (flags : List Bool) → AreBranched net homes marks i branches flags → 0 < length net → get_or flags 0 false ≡ true
 branched_root net homes marks i branches flags b some = (b.flagged 0 some).0 (held_still (first_piece net ∷ []) branches (twig_at net 0).piece (0, omega arith, sym (first_is net)))
-
-pub branched_start : (net : List Twig) (places : List ℕ) (homes : List (Option ℕ)) (marks : List Mark) (ends : List Bool) → 0 < length net → HasPlaces net places → ends ≡ replicate (length net) false → AreBranched net homes marks 0 [] (set ends 0 true)
-branched_start net places homes marks ends some all none =
-    let long : length ends ≡ length net = ap length none ∙ length-replicate (length net) false in
-    record {
-      long = length-set ends 0 true ∙ long;
-      flagged = λ k within.
-          let forth : Contains (first_piece net ∷ []) (twig_at net k).piece → get_or (set ends 0 true) k false ≡ true =
-          λ held. let same : k ≡ 0 = sym (all k within).1 ∙ (ap (λ (x : ℕ). get_or places x 0) (sym (first_is net ∙ one_of (first_piece net) (twig_at net k).piece held)) ∙ (all 0 some).1) in
-          ap (λ (x : ℕ). get_or (set ends 0 true) x false) same ∙ get_or-set_same ends 0 true false (omega arith) in
-          let back : get_or (set ends 0 true) k false ≡ true → Contains (first_piece net ∷ []) (twig_at net k).piece =
-          λ on. elim (cases_eq k 0) [
-            | inl same ↦ (0, omega arith, sym (first_is net) ∙ ap (λ (x : ℕ). (twig_at net x).piece) (sym same))
-            | inr other ↦ absurd (let off : get_or ends k false ≡ false = ap (λ (xs : List Bool). get_or xs k false) none ∙ get_or-replicate (length net) k false false within in let kept = get_or-set_other ends 0 k true false other in cc)
-          ] in
-          (forth, back);
-      names = refl;
-      right = λ number lines firsts. tt;
-    }
 
 pub branched_more : (net : List Twig) (homes : List (Option ℕ)) (marks : List Mark) (i : ℕ) (d : Mark) (branches branches' : List Branch) (flags flags' : List Bool) (home : ℕ) (pieces : List ℕ) → i < length marks → AreBranched net homes marks i branches flags → length flags' ≡ length flags
     → get_or homes (get_or marks i d).probe None ≡ Some home → BeginsAt (λ piece. piece ≡ home) pieces → ((ends : List ℕ) → AreFlags net ends flags → IsPath net ends pieces) → ((ends : List ℕ) → AreFlags net ends flags → AreFlags net (ends ++ pieces) flags')

@@ -1,5 +1,5 @@
 -- Paths up a tree.
-use Rattle.std.proofs.Common.{◌≡◌, inl, inr, ℕ, zero, suc, ◌<◌, Bool, true, false, List, [], ◌∷◌, ◌++◌, length, get_or, set, Contains, All, Option, Some, None, refl, sym, ap, subst, ◌∙◌, append_assoc, append-nil, arith}
+use Rattle.std.proofs.Common.{◌≡◌, inl, inr, ℕ, zero, suc, ◌<◌, Bool, true, false, List, [], ◌∷◌, ◌++◌, length, get_or, set, Contains, All, Option, Some, None, sym, ap, subst, ◌∙◌, append_assoc, arith}
 use Rattle.std.proofs.lemmas.List.{length-set, get_or-set_same, get_or-set_other, get_or_default}
 use Rattle.std.proofs.lemmas.List.Elements.{All-push, Contains-append_left, Contains-append_cases, Contains-push}
 use Rattle.std.proofs.lemmas.Bool.{cases_eq}
@@ -80,9 +80,6 @@ up_inside net flags from pieces k u = All-push (λ piece. Contains (pieces_of ne
 pub record AreFlagged (net : List Twig) (old : List Bool) (done : List ℕ) (flags : List Bool) : Type 0 where
   pub long : length flags ≡ length old
   pub agree : (ends : List ℕ) → AreFlags net ends old → AreFlags net (ends ++ done) flags
-
-pub flagged_start : (net : List Twig) (old : List Bool) → AreFlagged net old [] old
-flagged_start net old = record { long = refl; agree = λ ends a. subst (λ (xs : List ℕ). AreFlags net xs old) (sym (append-nil ends)) a }
 
 pub flagged_more : (net : List Twig) (places : List ℕ) (old : List Bool) (done : List ℕ) (flags : List Bool) (q : ℕ) → HasPlaces net places → length old ≡ length net → Contains (pieces_of net) q → AreFlagged net old done flags → AreFlagged net old (done ++ q ∷ []) (set flags (get_or places q 0) true)
 flagged_more net places old done flags q all long inside f =

@@ -33,10 +33,6 @@ found r (x ∷ pens) h = by (eqb r x) refl h (found r pens)
           there = rw e (ap (λ (n : ℕ). get_or (x ∷ pens) n 0) next ∙ f.there);
         }
 
-either_true : (b : Bool) → (b || true) ≡ true
-either_true true = refl
-either_true false = refl
-
 -- a pen is among the pens with it, and stays there
 added : (r : ℕ) (pens : List ℕ) → list_any (nat_eq r) (with_pen r pens) ≡ true
 added r pens = by (list_any (nat_eq r) pens) refl

@@ -8,7 +8,7 @@ use Rattle.board_maker.specs.declared.files.Part.{Part}
 use Rattle.board_maker.specs.declared.files.Part.TheVariants.{Top, Bottom, Holes, Points}
 use Rattle.board_package.specs.Contents.{drill_place, layer_place}
 use Rattle.board_package.specs.Manifest.{IsManifest, manifest_of}
-use Rattle.board_package.specs.PackageBoard.{Goes, IsHeld}
+use Rattle.board_package.specs.PackageBoard.{IsHeld}
 use Rattle.board_package.specs.Parts.{empty_board, with_pieces}
 use Rattle.board_package.specs.declared.entry.Entry.{Entry}
 use Rattle.board_package.specs.declared.entry.Role.TheVariants.{Copper, Drill, Netlist}
@@ -86,10 +86,6 @@ figures_are : (top bottom drilled : List PlainPiece) (a b c : List Figure) → m
     → map (λ (q : PlainPiece). q.figure) ((top ++ bottom) ++ drilled) ≡ a ++ b ++ c
 figures_are top bottom drilled a b c e f g =
     map-append (λ (q : PlainPiece). q.figure) (top ++ bottom) drilled ∙ rw (map-append (λ (q : PlainPiece). q.figure) top bottom, e, f, g) refl
-
--- a file of a made package is read on
-abbrev Takes : ℕ → ℕ → Entry → PlainBoard → PlainBoard → Type 0
-Takes seed size e before after = Goes (made_files seed size) e before after
 
 pub made_packages_fit : MadeFilesAreShort → MadePackagesFit
 made_packages_fit short seed size few =

@@ -151,18 +151,6 @@ reads_definition : (text : List ℕ) → told (extended (65 ∷ 68 ∷ text)) �
 unfolding command_of attribute_kind extended_row
 reads_definition text = refl
 
-round_is : aperture_at (codes "ADD10C,1.0") Mm ≡ Ok (10, Circle (pos 10_000_000))
-unfolding aperture_at numbered_at solid_by circle_at last_behind diameter_at size_at size_of
-round_is = refl
-
-square_is : aperture_at (codes "ADD11R,0.8X0.8") Mm ≡ Ok (11, Rectangle (pos 8_000_000) (pos 8_000_000))
-unfolding aperture_at numbered_at solid_by last_behind sides_at sides_in side_at size_at size_of
-square_is = refl
-
-pen_is : aperture_at (codes "ADD12C,0.2") Mm ≡ Ok (12, Circle (pos 2_000_000))
-unfolding aperture_at numbered_at solid_by circle_at last_behind diameter_at size_at size_of
-pen_is = refl
-
 -- ---- Effects
 
 -- the settings of the file are in force

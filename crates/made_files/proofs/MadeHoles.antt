@@ -221,10 +221,6 @@ forms_back from to (suc i) few =
 
 -- ---- What each line does
 
-tool_size : diameter_of (Some Mm) (tenth 4) ≡ Ok 4_000_000
-unfolding diameter_of size_of
-tool_size = refl
-
 -- a number of tenths of a millimetre, in u
 place_of : (n : ℕ) → n ≤ 2_500 → value_of Mm (tenth n) ≡ Ok (pos (1_000_000 * n))
 unfolding value_of position_of

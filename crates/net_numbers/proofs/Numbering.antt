@@ -1,5 +1,5 @@
 -- The number of its net for each piece.
-use Rattle.std.proofs.Common.{◌≡◌, inl, inr, ℕ, ◌+◌, ◌<◌, ◌≤◌, List, length, get_or, set, Contains, refl, sym, ap, subst, ◌∙◌, arith}
+use Rattle.std.proofs.Common.{◌≡◌, inl, inr, ℕ, ◌+◌, ◌<◌, ◌≤◌, List, length, get_or, set, Contains, sym, ap, subst, ◌∙◌, arith}
 use Rattle.std.proofs.lemmas.List.{length-set, get_or-set_same, get_or-set_other, get_or_default, length-map}
 use Rattle.std.proofs.lemmas.Bool.{cases_eq}
 use Rattle.verdict.specs.declared.verdict.Twig.{Twig}
@@ -9,9 +9,6 @@ pub record IsNumbered (net : List Twig) (number : ℕ) (old : List ℕ) (i : ℕ
   pub long : length numbers ≡ length old
   pub inside : (k : ℕ) → k < i → get_or numbers (get_or (pieces_of net) k 0) 0 ≡ number
   pub outside : (p : ℕ) → ((k : ℕ) → k < i → get_or (pieces_of net) k 0 ≡ p → ⊥) → get_or numbers p 0 ≡ get_or old p 0
-
-pub numbered_start : (net : List Twig) (number : ℕ) (old : List ℕ) → IsNumbered net number old 0 old
-numbered_start net number old = record { long = refl; inside = λ k h. absurd (omega arith); outside = λ p h. refl }
 
 pub numbered_more : (net : List Twig) (number : ℕ) (old : List ℕ) (i : ℕ) (numbers : List ℕ) (q : ℕ) → IsNumbered net number old i numbers → q ≡ get_or (pieces_of net) i 0 → q < length numbers → IsNumbered net number old (i + 1) (set numbers q number)
 numbered_more net number old i numbers q n item below = record {

@@ -1,6 +1,5 @@
 -- The lines of pieces, one by one.
-use Rattle.std.proofs.Common.{◌≡◌, ℕ, ◌+◌, ◌<◌, ◌≤◌, List, [], ◌∷◌, ◌++◌, length, get_or, drop, refl, sym, ap, ◌∙◌}
-use Rattle.std.proofs.lemmas.List.{drop_all}
+use Rattle.std.proofs.Common.{◌≡◌, ℕ, ◌+◌, ◌<◌, List, ◌++◌, length, get_or, drop, refl, ap, ◌∙◌}
 use Rattle.std.specs.List.{flat_map}
 use Rattle.board_shapes.specs.declared.placed.Placed.{Placed}
 use Rattle.board_shapes.specs.declared.shape.Shape.{Shape}
@@ -25,8 +24,3 @@ line_more layers nets pieces p net piece out out' whole below is same so_far put
     let part : List ℕ = spelled (place_line p (place_of layers (net_of nets p) (plain_piece (get_or pieces p piece)))) in
     let one : out' ≡ out ++ spelled (place_line p (place_of layers (net_of nets p) (plain_piece piece))) = put ∙ ap (λ (n : ℕ). out ++ spelled (place_line p (place_of layers n (plain_piece piece)))) same in
     turn (lines_from layers nets p) part (lines_from layers nets (p + 1)) out out' whole pieces p piece below refl so_far (one ∙ ap (λ (x : Placed Shape). out ++ spelled (place_line p (place_of layers (net_of nets p) (plain_piece x)))) is)
-
-pub lines_done : (layers : ℕ) (nets : List (List Twig)) (pieces : List (Placed Shape)) (p : ℕ) (out out' whole : List ℕ) → length pieces ≤ p → out ++ lines_from layers nets p (drop p pieces) ≡ whole → out' ≡ out ++ spelled (57 ∷ 57 ∷ 57 ∷ []) → out' ≡ whole
-lines_done layers nets pieces p out out' whole past so_far put =
-    let none : drop p pieces ≡ [] = drop_all p pieces past in
-    put ∙ (sym (ap (λ (ps : List (Placed Shape)). out ++ lines_from layers nets p ps) none) ∙ so_far)

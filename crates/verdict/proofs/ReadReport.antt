@@ -139,9 +139,6 @@ first_again (Some more) rest =
     ap (λ (o : Option (List ℕ)). first_behind o (headed true ++ rest)) (two_is_not_one rest)
     ∙ step (behind (headed true) (headed true ++ rest)) (λ r. Some (true, r)) rest (Some (true, rest)) (behind_again (headed true) rest) refl
 
-pub supplement_text : Supplement → List ℕ → List ℕ
-supplement_text more rest = section_text (codes "spots") spot_line more.spots ++ (section_text (codes "sources") source_line more.sources ++ rest)
-
 supplement_takes : (bytes : List ℕ) (more : Supplement) (rest : List ℕ) → supplement_at bytes ≡ Some (more, rest) → (bytes ≡ more_text (Some more) ++ rest) × IsSupplement more
 unfolding supplement_at
 supplement_takes bytes more rest e = bind_then (section_at spot_at (codes "spots") bytes) _ (more, rest) e (λ a ha e1. bind_then (section_at source_at (codes "sources") a.1) _ (more, rest) e1 (λ b hb e2.

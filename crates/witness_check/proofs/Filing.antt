@@ -75,16 +75,6 @@ extent_moved f f' b b' e p q is = subst (λ (x : Frame). IsExtent x b' e) p (sub
 
 -- ---- Filing
 
-pub files_none : (e : Extent) (height piece : ℕ) (old : List Interval) → Files e height piece (strip_of height e.low) old old
-files_none e height piece old = record {
-  kept = λ s h. h;
-  only = λ n all below. all;
-  each = λ k from to. absurd (omega arith);
-  own = λ b is below all. all;
-  sooner = λ all. All-weaker (λ (s : Interval). s.piece < piece) (λ (s : Interval). (s.piece < piece) ⊎ (s.start < place_in (strip_of height e.low) 0)) (λ s h. inl h) old all;
-  once = λ all once. once;
-}
-
 flips : (x y : ℕ) → (x == y) ≡ (y == x)
 flips x y = grind (arith, nat_tests)
 

@@ -1,8 +1,8 @@
 -- Seats of each name, and the first on each net.
-use Rattle.std.proofs.Common.{◌||◌, ◌≡◌, ◌↔◌, inl, inr, ℕ, suc, ◌+◌, ◌<◌, ◌≤◌, Bool, true, false, ◌==◌, Option, None, List, [], ◌∷◌, ◌++◌, length, map, get_or, set, drop, All, IfSome, Some, refl, sym, ap, subst, ◌∙◌, append_assoc, add-zero, arith}
+use Rattle.std.proofs.Common.{◌||◌, ◌≡◌, ◌↔◌, inl, inr, ℕ, suc, ◌+◌, ◌<◌, Bool, true, false, ◌==◌, Option, None, List, [], ◌∷◌, ◌++◌, length, map, get_or, set, drop, All, IfSome, Some, refl, sym, ap, subst, ◌∙◌, append_assoc, add-zero, arith}
 use Rattle.std.proofs.lemmas.Bool.{cases_eq, eq-eqb, ne_eqb}
-use Rattle.std.proofs.lemmas.List.{at_drop_all, at_drop_more, drop_more, get_or-set_other, get_or-set_same, get_or_append_left, get_or_past, get_or_push, length-set, length_push, map-append, append-nil}
-use Rattle.std.proofs.lemmas.List.Elements.{All-get_or, All-nil, All-push}
+use Rattle.std.proofs.lemmas.List.{at_drop_more, drop_more, get_or-set_other, get_or-set_same, get_or_append_left, get_or_push, length-set, length_push, map-append, append-nil}
+use Rattle.std.proofs.lemmas.List.Elements.{All-get_or, All-push}
 use Rattle.std.proofs.lemmas.List.Folds.{list_any-append}
 use Rattle.std.specs.List.{list_any}
 use Rattle.verdict.specs.declared.verdict.PointLine.{PointLine}
@@ -10,7 +10,6 @@ use Rattle.verdict.specs.declared.verdict.Seat.{Seat}
 use Rattle.verdict.specs.declared.verdict.Mark.{Mark}
 use Rattle.verdict.specs.Right.{fresh, net_of, seats_from}
 use Rattle.verdict.specs.Seats.{mark_of, marks_at, marks_from, marks_of_seats, seats_at}
-use Rattle.verdict.proofs.Holding.{le_or_lt}
 use Rattle.verdict.proofs.Marking.{marked_at}
 use Rattle.verdict.proofs.Seating.{fresh_new, fresh_old, seats_none, seats_other, seats_some}
 use Rattle.witness_check.specs.Marked.{AreUpTo}
@@ -67,14 +66,6 @@ not_any false h = refl
 not_true : false ≡ true → ⊥
 not_true e = cc
 
-pub kept_none : (seats : List Seat) (name : ℕ) (stamps : List ℕ) → AreUpTo name stamps → AreKeptTo seats (name + 1) (length stamps) 0 [] stamps
-kept_none seats name stamps lower = record {
-  long = refl;
-  highest = λ net. (let h = lower net in omega arith);
-  marked = λ net. ((λ on. absurd (let h = lower net in omega arith)), λ e. absurd (not_true e));
-  whole = refl;
-}
-
 pub kept_more : (seats : List Seat) (stamp room i : ℕ) (d : Seat) (row : List Seat) (stamps : List ℕ) → i < length seats → (get_or seats i d).net < room → (get_or stamps (get_or seats i d).net 0 ≡ stamp → ⊥) → AreKeptTo seats stamp room i row stamps
     → AreKeptTo seats stamp room (i + 1) (row ++ get_or seats i d ∷ []) (set stamps (get_or seats i d).net stamp)
 kept_more seats stamp room i d row stamps below within new to =
@@ -103,9 +94,6 @@ kept_skip seats stamp room i d row stamps below old to = record {
       (ap (λ (xs : List Seat). row ++ fresh (map net_of row) xs) (sym (drop_more seats i d below)) ∙ to.whole);
 }
 
-pub kept_all : (seats : List Seat) (stamp room i : ℕ) (row : List Seat) (stamps : List ℕ) → length seats ≤ i → AreKeptTo seats stamp room i row stamps → row ≡ fresh [] seats
-kept_all seats stamp room i row stamps past to = sym (append-nil row) ∙ (ap (λ (xs : List Seat). row ++ xs) (sym (at_drop_all (fresh (map net_of row)) seats i past)) ∙ to.whole)
-
 -- ---- The rows of all names
 
 -- The names before n have their first seats, and no stamp is over n.
@@ -114,9 +102,6 @@ pub record AreFirstTo (lines : List PointLine) (room n : ℕ) (groups : List (Li
   pub long : length stamps ≡ room
   pub highest : AreUpTo n stamps
   pub firsts : (name : ℕ) → name < n → seats_at groups name ≡ fresh [] (seats_from name 0 lines)
-
-pub first_none : (lines : List PointLine) (room : ℕ) (stamps : List ℕ) → length stamps ≡ room → ((net : ℕ) → get_or stamps net 0 ≡ 0) → AreFirstTo lines room 0 [] stamps
-first_none lines room stamps long zeros = record { many = refl; long = long; highest = λ net. (let e = zeros net in omega arith); firsts = λ name below. absurd (omega arith) }
 
 pub first_more : (lines : List PointLine) (room n : ℕ) (groups : List (List Seat)) (row all : List Seat) (stamps next : List ℕ) → AreFirstTo lines room n groups stamps → row ≡ fresh [] all → fresh [] all ≡ fresh [] (seats_from n 0 lines) → AreUpTo (n + 1) next → length next ≡ length stamps → AreFirstTo lines room (n + 1) (groups ++ row ∷ []) next
 first_more lines room n groups row all stamps next to is seats highest long = record {
@@ -150,9 +135,6 @@ marks_push name net (t ∷ row) s = ap (λ (xs : List Mark). mark_of name net t 
 abbrev pub AreMarksOf : ℕ → List Seat → List (List Mark) → List (List Mark) → Type 0
 AreMarksOf name row old table = (net : ℕ) → marks_at table net ≡ marks_at old net ++ marks_of_seats name net row
 
-pub marks_none : (name : ℕ) (table : List (List Mark)) → AreMarksOf name [] table table
-marks_none name table net = sym (append-nil (marks_at table net))
-
 pub marks_more : (name : ℕ) (row : List Seat) (s : Seat) (old table table' : List (List Mark)) → s.net < length table → table' ≡ set table s.net (marks_at table s.net ++ record { name = name; probe = s.probe } ∷ []) → AreMarksOf name row old table → AreMarksOf name (row ++ s ∷ []) old table'
 marks_more name row s old table table' below now are net =
     marked_at table table' name net s below now ∙
@@ -170,12 +152,6 @@ rows_push net n (g ∷ groups) row =
 -- The marks are those of the groups so far.
 abbrev pub AreMarksTo : List (List Seat) → List (List Mark) → Type 0
 AreMarksTo groups table = (net : ℕ) → marks_at table net ≡ marks_from net 0 groups
-
-pub rows_none : (table : List (List Mark)) → All (λ row. row ≡ []) table → AreMarksTo [] table
-rows_none table empty net = elim (le_or_lt (length table) net) [
-  | inl past ↦ get_or_past table net [] past
-  | inr within ↦ All-get_or (λ row. row ≡ []) table net [] within empty
-]
 
 pub rows_more : (groups : List (List Seat)) (row : List Seat) (n : ℕ) (old table : List (List Mark)) → length groups ≡ n → AreMarksTo groups old → AreMarksOf n row old table → AreMarksTo (groups ++ row ∷ []) table
 rows_more groups row n old table many before now net =
@@ -205,18 +181,6 @@ fresh_seen seen (t ∷ row) s rest h = by (list_any (λ n. n == t.net) seen) ref
 fresh_again : (row : List Seat) (s : Seat) (rest : List Seat) → begins_on s.net row ≡ true → fresh [] (row ++ s ∷ rest) ≡ fresh [] (row ++ rest)
 fresh_again [] s rest h = absurd (not_true h)
 fresh_again (t ∷ row) s rest h = ap (λ (xs : List Seat). t ∷ xs) (fresh_seen (t.net ∷ []) row s rest (rw h refl))
-
-row_empty : (rows : List (List Seat)) → All (λ row. row ≡ []) rows → (name : ℕ) → seats_at rows name ≡ []
-row_empty rows empty name = elim (le_or_lt (length rows) name) [
-  | inl past ↦ get_or_past rows name [] past
-  | inr within ↦ All-get_or (λ row. row ≡ []) rows name [] within empty
-]
-
-pub seated_none : (lines : List PointLine) (rows : List (List Seat)) → All (λ row. row ≡ []) rows → AreSeatedTo lines 0 rows
-seated_none lines rows empty = record {
-  whole = λ name. ap (λ (xs : List Seat). fresh [] (xs ++ seats_from name 0 lines)) (row_empty rows empty name);
-  within = λ nets netted name. subst (All (λ s. s.net < nets)) (sym (row_empty rows empty name)) (All-nil (λ s. s.net < nets));
-}
 
 pub seated_skip : (lines : List PointLine) (i : ℕ) (d : PointLine) (rows : List (List Seat)) → i < length lines → (get_or lines i d).net ≡ None → AreSeatedTo lines i rows → AreSeatedTo lines (i + 1) rows
 seated_skip lines i d rows below none to = record {
@@ -268,9 +232,3 @@ seated_more lines i net d rows rows' below on takes others to = record {
     within : (nets : ℕ) → All (λ line. IfSome line.net (λ m. m < nets)) lines → Takes row s (seats_at rows' n) → All (λ s. s.net < nets) (seats_at rows' n)
     within nets netted (inl now) = subst (All (λ s. s.net < nets)) (sym now) (All-push (λ s. s.net < nets) row s (to.within nets netted n) (lower nets netted))
     within nets netted (inr (begins, now)) = subst (All (λ s. s.net < nets)) (sym now) (to.within nets netted n)
-
-pub seated_all : (lines : List PointLine) (i : ℕ) (rows : List (List Seat)) → length lines ≤ i → AreSeatedTo lines i rows → HaveFirsts rows lines
-seated_all lines i rows past to = record {
-  firsts = λ name below. ap (fresh []) (sym (append-nil (seats_at rows name))) ∙ (ap (λ (xs : List Seat). fresh [] (seats_at rows name ++ xs)) (sym (at_drop_all (seats_from name i) lines i past)) ∙ to.whole name);
-  within = to.within;
-}
