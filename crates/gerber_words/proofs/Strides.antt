@@ -1,8 +1,8 @@
 -- Bytes over the star are plain.
-use Rattle.std.proofs.Common.{◌≡◌, ℕ, zero, suc, ◌+◌, ◌<◌, Bool, true, false, nat_lt, eqb, List, [], ◌∷◌, take, drop, refl, sym, ap, ◌∙◌, arith, rules}
-use Rattle.std.specs.List.{list_all}
+use Rattle.std.proofs.Common.{◌≡◌, ℕ, zero, suc, ◌+◌, ◌<◌, ◌≤◌, Bool, true, false, not, cond, nat_le, nat_lt, eqb, List, [], ◌∷◌, take, drop, refl, sym, ap, ◌∙◌, subst, arith, rules}
+use Rattle.std.specs.List.{list_all, prefix_len}
 use Rattle.std.proofs.Math.Seq.{take-add}
-use Rattle.std.proofs.lemmas.Bool.{eqb-true}
+use Rattle.std.proofs.lemmas.Bool.{eqb-true, lt-ltb, leb-false}
 use Rattle.std.proofs.lemmas.Grind.{common_steps}
 use Rattle.std.proofs.lemmas.List.Folds.{list_all-append}
 use Rattle.gerber_words.specs.Words.{break_in, is_plain}
@@ -42,6 +42,32 @@ goes_past (suc n) [] h = refl
 goes_past (suc n) (b ∷ bytes) h =
     let q = both (nat_lt 42 b) (list_all (nat_lt 42) (take n bytes)) h in
     goes_past n bytes q.1 ∙ sym (goes_on b bytes q.0)
+
+-- so are the bytes before the first that is not over the star
+is_over : (b : ℕ) → nat_le b 42 ≡ false → nat_lt 42 b ≡ true
+is_over b e = lt-ltb 42 b (leb-false b 42 e)
+
+one_and : (n : ℕ) → 1 + n ≡ suc n
+one_and n = omega arith
+
+over_front : (xs : List ℕ) → list_all (nat_lt 42) (take (prefix_len (λ b. not (nat_le b 42)) xs) xs) ≡ true
+over_front [] = refl
+over_front (b ∷ xs) = by (nat_le b 42) refl (over_front xs)
+  where
+    by : (t : Bool) → nat_le b 42 ≡ t → list_all (nat_lt 42) (take (prefix_len (λ b. not (nat_le b 42)) xs) xs) ≡ true → list_all (nat_lt 42) (take (cond (not t) (1 + prefix_len (λ b. not (nat_le b 42)) xs) 0) (b ∷ xs)) ≡ true
+    by true e more = refl
+    by false e more = rw (one_and (prefix_len (λ b. not (nat_le b 42)) xs), is_over b e) more
+
+shorter : (n m : ℕ) (xs : List ℕ) → n ≤ m → take n (take m xs) ≡ take n xs
+shorter zero m xs le = refl
+shorter (suc n) zero xs le = absurd (omega arith)
+shorter (suc n) (suc m) [] le = refl
+shorter (suc n) (suc m) (x ∷ xs) le = ap (λ (ys : List ℕ). x ∷ ys) (shorter n m xs (omega arith))
+
+pub over_from : (bytes front : List ℕ) (len n : ℕ) → front ≡ take 16 (drop len bytes) → n ≡ prefix_len (λ b. not (nat_le b 42)) front → n ≤ 16 → list_all (nat_lt 42) (take n (drop len bytes)) ≡ true
+over_from bytes front len n is value few =
+    let first : list_all (nat_lt 42) (take n front) ≡ true = rw value (over_front front) in
+    sym (ap (list_all (nat_lt 42)) (shorter n 16 (drop len bytes) few)) ∙ subst (λ (xs : List ℕ). list_all (nat_lt 42) (take n xs) ≡ true) is first
 
 pub drop-further : (xs : List ℕ) (m n : ℕ) → drop (m + n) xs ≡ drop n (drop m xs)
 drop-further xs m n = grind (arith, common_steps)
