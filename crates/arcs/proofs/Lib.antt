@@ -5,12 +5,13 @@ mod Crossing
 mod Each
 mod Ends
 mod Grown
+pub mod Links
 pub mod Lower
 mod Moved
 mod OneDistance
 mod Places
 pub mod Radii
-mod Read
+pub mod Read
 mod Ring
 mod Roots
 mod Taken
