@@ -17,7 +17,7 @@ use Rattle.slants.proofs.Inside.{lies_inside}
 
 -- ---- the cone
 
-abbrev form : ℤ → ℤ → ℤ → ℤ → ℤ → ℤ → ℤ → ℤ
+abbrev pub form : ℤ → ℤ → ℤ → ℤ → ℤ → ℤ → ℤ → ℤ
 form r s t ux uy vx vy = r *ℤ (ux *ℤ vx +ℤ uy *ℤ vy) +ℤ s *ℤ (ux *ℤ vx -ℤ uy *ℤ vy) +ℤ t *ℤ (ux *ℤ vy +ℤ uy *ℤ vx)
 
 scaled : (r s t i x y : ℤ) → (i *ℤ i) *ℤ form r s t x y x y ≡ form r s t (i *ℤ x) (i *ℤ y) (i *ℤ x) (i *ℤ y)
@@ -27,7 +27,7 @@ spread : (r s t j k ux uy vx vy : ℤ) → form r s t (j *ℤ ux +ℤ k *ℤ vx)
     ≡ (j *ℤ j) *ℤ form r s t ux uy ux uy +ℤ ((j *ℤ k) *ℤ form r s t ux uy vx vy +ℤ (j *ℤ k) *ℤ form r s t ux uy vx vy) +ℤ (k *ℤ k) *ℤ form r s t vx vy vx vy
 spread r s t j k ux uy vx vy = simp ring (omega (arith, linear))
 
-in_cone : (r s t i j k x y ux uy vx vy : ℤ) → pos 1 ≤ℤ i → pos 0 ≤ℤ j → pos 0 ≤ℤ k → i *ℤ x ≡ j *ℤ ux +ℤ k *ℤ vx → i *ℤ y ≡ j *ℤ uy +ℤ k *ℤ vy
+pub in_cone : (r s t i j k x y ux uy vx vy : ℤ) → pos 1 ≤ℤ i → pos 0 ≤ℤ j → pos 0 ≤ℤ k → i *ℤ x ≡ j *ℤ ux +ℤ k *ℤ vx → i *ℤ y ≡ j *ℤ uy +ℤ k *ℤ vy
     → pos 0 ≤ℤ form r s t ux uy ux uy → pos 0 ≤ℤ form r s t ux uy vx vy → pos 0 ≤ℤ form r s t vx vy vx vy → pos 0 ≤ℤ form r s t x y x y
 in_cone r s t i j k x y ux uy vx vy hi hj hk across up first middle last =
     let e : (i *ℤ i) *ℤ form r s t x y x y ≡ (j *ℤ j) *ℤ form r s t ux uy ux uy +ℤ ((j *ℤ k) *ℤ form r s t ux uy vx vy +ℤ (j *ℤ k) *ℤ form r s t ux uy vx vy) +ℤ (k *ℤ k) *ℤ form r s t vx vy vx vy =
@@ -70,7 +70,7 @@ module _ (m : Motions) (b c : Spot) (d : Heading) where
 
 -- ---- the turned figure
 
-circle : (x y : ℤ) → (x *ℤ x -ℤ y *ℤ y) *ℤ (x *ℤ x -ℤ y *ℤ y) +ℤ (x *ℤ y +ℤ y *ℤ x) *ℤ (x *ℤ y +ℤ y *ℤ x) ≡ (x *ℤ x +ℤ y *ℤ y) *ℤ (x *ℤ x +ℤ y *ℤ y)
+pub circle : (x y : ℤ) → (x *ℤ x -ℤ y *ℤ y) *ℤ (x *ℤ x -ℤ y *ℤ y) +ℤ (x *ℤ y +ℤ y *ℤ x) *ℤ (x *ℤ y +ℤ y *ℤ x) ≡ (x *ℤ x +ℤ y *ℤ y) *ℤ (x *ℤ x +ℤ y *ℤ y)
 circle x y = simp ring (omega (arith, linear))
 
 -- v leads from where the figure is moved to, to the point

@@ -4,6 +4,7 @@ mod Corners
 mod Halves
 mod Inside
 mod Level
+mod Moved
 mod Near
 mod Parts
 mod Read

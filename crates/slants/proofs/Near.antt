@@ -6,9 +6,11 @@ use Rattle.planar.specs.Plane.{Point}
 use Rattle.planar.specs.declared.Spot.{Spot}
 use Rattle.planar.proofs.Ring.{ring, linear, le_or_lt, one-times, over_zero, square_from_zero, square_over, times_from_zero, times_mono, times_mono_right}
 use Rattle.slants.specs.Cones.{PossiblyTurned, SurelyTurned, cosine, cosine_by, half_of, lessened, scaled, sine, square_of, turns_by}
+use Rattle.slants.specs.Discs.{PossiblyInDisc, SurelyInDisc, turns_of}
 use Rattle.slants.specs.Laws.{IsNear}
 use Rattle.slants.specs.Turned.{IsBetween}
 use Rattle.slants.specs.declared.cones.TheConstants.{ONE, RADIUS, RIGHT_ANGLE}
+use Rattle.slants.specs.declared.discs.TurnedDisc.{TurnedDisc}
 use Rattle.slants.specs.declared.turns.Turn.{Turn}
 use Rattle.slants.proofs.Circle.{sides_tell}
 use Rattle.slants.proofs.Parts.{half_within, product_within, share_within}
@@ -99,3 +101,8 @@ pub surely_possibly : (contour : List Spot) (about : Spot) (angle : ℕ) (p : Po
 surely_possibly contour about angle p acute h =
     let between : IsBetween (turns_by about angle) (middle angle) = near_between about angle (pos 1) (middle angle) acute (near_middle angle) in
     (middle angle, between, h (middle angle) between)
+
+pub disc_copper : (a : TurnedDisc) (p : Point) → a.angle < RIGHT_ANGLE → SurelyInDisc a p → PossiblyInDisc a p
+disc_copper a p acute h =
+    let between : IsBetween (turns_of a) (middle a.angle) = near_between a.about a.angle (pos 1) (middle a.angle) acute (near_middle a.angle) in
+    (middle a.angle, between, h (middle a.angle) between)

@@ -62,6 +62,49 @@ module _ (a b z w : ℤ) (e : a ≡ z) (f : b ≡ w) (h : IsArea z) (k : IsArea 
   pub less_part : IsPart (read (read a -ℤ read b))
   less_part = rw less_read (omega (arith, ints, h, k), omega (arith, ints, h, k))
 
+-- ---- sums of a spot and a spot that it turns to
+
+pub area_to : (a z : ℤ) → a ≡ z → IsArea z → z ≡ read a
+area_to a z e h = rw (e, area_read z h) refl
+
+module _ (a z : ℤ) (e : a ≡ z) (h : IsArea z) where
+  twice_fits : FitsSigned w128 (z +ℤ z)
+  twice_fits = omega (arith, ints, h)
+
+  pub twice_overflow : FitsSigned w128 (read a +ℤ read a)
+  twice_overflow = rw (e, area_read z h) twice_fits
+
+  pub twice_read : read (read a +ℤ read a) ≡ z +ℤ z
+  twice_read = rw (e, area_read z h) (to_z-of_z twice_fits)
+
+  pub twice_part : IsPart (read (read a +ℤ read a))
+  twice_part = rw twice_read (omega (arith, ints, h), omega (arith, ints, h))
+
+abbrev IsSquare : ℤ → Type 0
+IsSquare z = (pos 0 ≤ℤ z) × (z ≤ℤ pos 800000000000000000000)
+
+square_read : (z : ℤ) → IsSquare z → read z ≡ z
+square_read z h = let f : FitsSigned w128 z = omega (arith, ints, h) in to_z-of_z f
+
+pub first_left_overflow : (s a : ℤ) → IsSquare s → IsSquare a → FitsSigned w128 (read s -ℤ read a)
+first_left_overflow s a hs ha = let f : FitsSigned w128 (s -ℤ a) = omega (arith, ints, hs, ha) in rw (square_read s hs, square_read a ha) f
+
+module _ (s a b : ℤ) (hs : IsSquare s) (ha : IsSquare a) (hb : IsSquare b) where
+  first_left : read (read s -ℤ read a) ≡ s -ℤ a
+  first_left = let f : FitsSigned w128 (s -ℤ a) = omega (arith, ints, hs, ha) in rw (square_read s hs, square_read a ha) (to_z-of_z f)
+
+  left_fits : FitsSigned w128 ((s -ℤ a) -ℤ b)
+  left_fits = omega (arith, ints, hs, ha, hb)
+
+  pub left_overflow : FitsSigned w128 (read (read s -ℤ read a) -ℤ read b)
+  left_overflow = rw (first_left, square_read b hb) left_fits
+
+  pub left_read : read (read (read s -ℤ read a) -ℤ read b) ≡ (s -ℤ a) -ℤ b
+  left_read = rw (first_left, square_read b hb) (to_z-of_z left_fits)
+
+  pub left_part : IsPart (read (read (read s -ℤ read a) -ℤ read b))
+  left_part = rw left_read (omega (arith, ints, hs, ha, hb), omega (arith, ints, hs, ha, hb))
+
 -- ---- a heading
 
 abbrev IsShare : ℤ → Type 0

@@ -6,10 +6,12 @@ use Rattle.board_shapes.specs.Figures.{InFigure, filled}
 use Rattle.board_shapes.specs.Rectangles.{rectangle}
 use Rattle.slants.specs.Cones.{FigureAbove, FigureBelow, PossiblyTurned, SurelyTurned, cosine, sine, turns_by}
 use Rattle.slants.specs.Copper.{InSlant}
+use Rattle.slants.specs.Discs.{DiscAbove, DiscBelow, PossiblyInDisc, SurelyInDisc, disc_about}
 use Rattle.slants.specs.Taken.{TakenAbove, TakenBelow}
 use Rattle.slants.specs.Turned.{IsBetween, IsTurn, meet_of}
 use Rattle.slants.specs.declared.Slant.{Slant}
 use Rattle.slants.specs.declared.cones.TheConstants.{RIGHT_ANGLE}
+use Rattle.slants.specs.declared.discs.TurnedDisc.{TurnedDisc}
 use Rattle.slants.specs.declared.turns.Motions.{Motions}
 use Rattle.slants.specs.declared.turns.Turn.{Turn}
 
@@ -73,3 +75,13 @@ NearIsBetween = (about : Spot) (angle : ℕ) (k : ℤ) (t : Turn) → angle < RI
 -- What lies in the figure at each of these turns lies in it at one: there is a copper of it
 abbrev pub SurelyIsPossibly : Type 0
 SurelyIsPossibly = (contour : List Spot) (about : Spot) (angle : ℕ) (p : Point) → angle < RIGHT_ANGLE → SurelyTurned contour about angle p → PossiblyTurned contour about angle p
+
+-- ---- discs turned by an angle
+
+-- A disc about a spot that is taken below lies in the turned disc at each turn by about its angle, and one that is taken above holds it at each
+abbrev pub DiscsAreBetween : Type 0
+DiscsAreBetween = (a : TurnedDisc) (s : Spot) (r : ℕ) (p : Point) → (DiscBelow a s r → InFigure (disc_about s r) p → SurelyInDisc a p) × (DiscAbove a s r → PossiblyInDisc a p → InFigure (disc_about s r) p)
+
+-- There is a copper of a turned disc: what lies in it at each of these turns lies in it at one
+abbrev pub DiscsHaveCopper : Type 0
+DiscsHaveCopper = (a : TurnedDisc) (p : Point) → a.angle < RIGHT_ANGLE → SurelyInDisc a p → PossiblyInDisc a p

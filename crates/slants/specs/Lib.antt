@@ -1,5 +1,6 @@
 pub mod Cones
 pub mod Copper
+pub mod Discs
 pub mod Laws
 pub mod Rounds
 pub mod Taken

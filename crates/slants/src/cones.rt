@@ -101,7 +101,7 @@ pub fn place(angle: u32) -> (u32, u32)
 }
 
 /// The turns about the spot by about the angle.
-fn turns(about: Spot, angle: u32) -> Motions
+pub fn turns(about: Spot, angle: u32) -> Motions
     requires { angle < RIGHT_ANGLE }
     ensures { result ≡ turns_by about angle }
 {

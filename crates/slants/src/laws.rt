@@ -1,5 +1,5 @@
 //! Laws over the definitions. Their calls do nothing.
-ghost use Rattle.slants.specs.Laws.{BelowIsAbove, EachTurnIsTold, LevelIsRectangle, NearIsBetween, OtherWayIsSame, SidesTellCone, SurelyIsPossibly, TakenIsBetween, TurnedIsBetween};
+ghost use Rattle.slants.specs.Laws.{BelowIsAbove, DiscsAreBetween, DiscsHaveCopper, EachTurnIsTold, LevelIsRectangle, NearIsBetween, OtherWayIsSame, SidesTellCone, SurelyIsPossibly, TakenIsBetween, TurnedIsBetween};
 
 /// A contour that is taken below lies in the rectangle, one that is taken above holds it.
 pub fn taken_is_between()
@@ -44,4 +44,14 @@ pub fn near_is_between()
 /// What lies in a turned figure at each turn by about the angle lies in it at one.
 pub fn surely_is_possibly()
     ensures { SurelyIsPossibly }
+{}
+
+/// A disc that is taken below lies in the turned disc, one that is taken above holds it.
+pub fn discs_are_between()
+    ensures { DiscsAreBetween }
+{}
+
+/// What lies in a turned disc at each turn by about the angle lies in it at one.
+pub fn discs_have_copper()
+    ensures { DiscsHaveCopper }
 {}

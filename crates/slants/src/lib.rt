@@ -7,6 +7,7 @@
 //! - `above`: whether a polygon holds one.
 //! - `cones`: turns by about an angle, and whether polygons bound a figure that is turned by it.
 //! - `contours`: closed contours, and which go round once.
+//! - `discs`: discs that are turned by degrees, and whether discs bound them.
 //! - `figure`: figures that are turned by degrees.
 //! - `measures`: whole numbers for the length and the width.
 //! - `turns`: turns, and rigid motions by those between two.
@@ -18,6 +19,7 @@ mod above;
 mod below;
 mod cones;
 mod contours;
+mod discs;
 mod figure;
 pub mod laws;
 mod measures;
@@ -28,6 +30,7 @@ pub use above::is_above;
 pub use below::is_below;
 pub use cones::{RIGHT_ANGLE, is_above_figure, is_below_figure};
 pub use contours::is_closed;
+pub use discs::{TurnedDisc, is_above_disc, is_below_disc};
 pub use figure::TurnedFigure;
 pub use measures::FINE;
 pub use planar::Spot;

@@ -12,10 +12,10 @@ use planar::{Spot, are_placed, cross, dot};
 
 /// How far a spot is on the left of a line, in square u: without a turn, and by the cosine and by the sine of one.
 #[derive(Clone, Copy)]
-struct Parts {
-    still: i128,
-    across: i128,
-    along: i128,
+pub struct Parts {
+    pub still: i128,
+    pub across: i128,
+    pub along: i128,
 }
 
 /// The sum of those, for a heading, times its `n`.
@@ -46,7 +46,7 @@ fn parts_of(m: &Motions, b: Spot, c: Spot, q: Spot) -> Parts
 }
 
 /// Whether that is 0 or over.
-fn leans_so(parts: Parts, d: Heading) -> bool
+pub fn leans_so(parts: Parts, d: Heading) -> bool
     requires parts_bounded { AreBounded parts }
     requires bounded { IsBounded d }
     ensures { IsTrue result ↔ pos 0 ≤ℤ (parts.still *ℤ d.n +ℤ parts.across *ℤ d.x +ℤ parts.along *ℤ d.y) }
