@@ -41,7 +41,7 @@ in_cone r s t i j k x y ux uy vx vy hi hj hk across up first middle last =
     from m z f g h hm e a b c = times_cancel m (pos 0) z hm (omega (arith, linear, e, a, b, c, times-zero m))
 
 -- the spot is on the left, for each turn of the cone
-leans_at : (m : Motions) (t : Turn) (b c q : Spot) → IsBetween m t → Leans m b c q → pos 0 ≤ℤ lean_of m b c (meet_of t t) q
+pub leans_at : (m : Motions) (t : Turn) (b c q : Spot) → IsBetween m t → Leans m b c q → pos 0 ≤ℤ lean_of m b c (meet_of t t) q
 leans_at m t b c q k l = in_cone (cross_of b c m.to) (cross_of b c q -ℤ cross_of b c m.from) (dot_of b c q -ℤ dot_of b c m.from) k.i k.j k.k t.x t.y m.first.x m.first.y m.last.x m.last.y
     k.positive k.from_first k.from_last k.across k.up l.0 l.1 l.2
 
@@ -158,16 +158,21 @@ above_turned (a ∷ rest) m points t p h k inside = lies_inside points p left h.
     left : (b c : Spot) → AllLean (a ∷ rest) m b c → pos 0 ≤ℤ side_of b c p.x p.y p.n
     left b c all = above_left m t inside.some b c a rest p h.closed (each_as (λ q l. leans_at m t b c q k l) (a ∷ rest) all) inside.inside
 
+-- points that are left of a line where they are turned back have their area there
+pub back_left : (m : Motions) (t : Turn) (k : IsBetween m t) (b c a : Spot) (rest : List Spot) (p : Point) → end_from a rest ≡ a → AllLean (a ∷ rest) (back_of m) b c → InArea (edges_from a rest) p
+    → pos 0 ≤ℤ side_of b c (turned_back m t k.some p).x (turned_back m t k.some p).y (turned_back m t k.some p).n
+back_left m t k b c a rest p closed all inside = below_left m t k.some b c a rest p closed (each_as at_back (a ∷ rest) all) inside
+  where
+    at_back : (q : Spot) → Leans (back_of m) b c q → pos 0 ≤ℤ lean_of (back_of m) b c (heading_back t) q
+    at_back q l = subst (λ (d : Heading). pos 0 ≤ℤ lean_of (back_of m) b c d q) (meets_back t) (leans_at (back_of m) (mirrored t) b c q (back_between m t k) l)
+
 pub below_turned : (figure : List Spot) (m : Motions) (points : List Spot) (t : Turn) (p : Point) → TurnedBelow figure m points → IsBetween m t → InFigure (filled points) p → InTurned figure m t p
 below_turned figure m [] t p h k (inl z) = absurd z
 below_turned figure m [] t p h k (inr z) = absurd z
 below_turned figure m (a ∷ rest) t p h k inside = record { some = k.some; inside = lies_inside figure (turned_back m t k.some p) left h.round }
   where
-    at_back : (b c q : Spot) → Leans (back_of m) b c q → pos 0 ≤ℤ lean_of (back_of m) b c (heading_back t) q
-    at_back b c q l = subst (λ (d : Heading). pos 0 ≤ℤ lean_of (back_of m) b c d q) (meets_back t) (leans_at (back_of m) (mirrored t) b c q (back_between m t k) l)
-
     left : (b c : Spot) → AllLean (a ∷ rest) (back_of m) b c → pos 0 ≤ℤ side_of b c (turned_back m t k.some p).x (turned_back m t k.some p).y (turned_back m t k.some p).n
-    left b c all = below_left m t k.some b c a rest p h.closed (each_as (at_back b c) (a ∷ rest) all) inside
+    left b c all = back_left m t k b c a rest p h.closed all inside
 
 pub no_more : {b : Bool} → IsTrue b → b ≡ false → ⊥
 no_more t e = cc

@@ -7,7 +7,9 @@ mod Level
 mod Moved
 mod Near
 mod Parts
+mod Reach
 mod Read
+mod Regular
 mod Runs
 mod Sides
 mod Sums

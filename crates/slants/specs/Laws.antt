@@ -7,11 +7,13 @@ use Rattle.board_shapes.specs.Rectangles.{rectangle}
 use Rattle.slants.specs.Cones.{FigureAbove, FigureBelow, PossiblyTurned, SurelyTurned, cosine, sine, turns_by}
 use Rattle.slants.specs.Copper.{InSlant}
 use Rattle.slants.specs.Discs.{DiscAbove, DiscBelow, PossiblyInDisc, SurelyInDisc, disc_about}
+use Rattle.slants.specs.Polygons.{PolygonAbove, PolygonBelow, PossiblyInPolygon, SurelyInPolygon}
 use Rattle.slants.specs.Taken.{TakenAbove, TakenBelow}
 use Rattle.slants.specs.Turned.{IsBetween, IsTurn, meet_of}
 use Rattle.slants.specs.declared.Slant.{Slant}
 use Rattle.slants.specs.declared.cones.TheConstants.{RIGHT_ANGLE}
 use Rattle.slants.specs.declared.discs.TurnedDisc.{TurnedDisc}
+use Rattle.slants.specs.declared.polygons.RegularPolygon.{RegularPolygon}
 use Rattle.slants.specs.declared.turns.Motions.{Motions}
 use Rattle.slants.specs.declared.turns.Turn.{Turn}
 
@@ -85,3 +87,9 @@ DiscsAreBetween = (a : TurnedDisc) (s : Spot) (r : ℕ) (p : Point) → (DiscBel
 -- There is a copper of a turned disc: what lies in it at each of these turns lies in it at one
 abbrev pub DiscsHaveCopper : Type 0
 DiscsHaveCopper = (a : TurnedDisc) (p : Point) → a.angle < RIGHT_ANGLE → SurelyInDisc a p → PossiblyInDisc a p
+
+-- ---- regular polygons
+
+-- A contour that is taken below lies in the polygon at all turns of its cones, and one that is taken above holds it at each
+abbrev pub PolygonIsBetween : Type 0
+PolygonIsBetween = (g : RegularPolygon) (points : List Spot) (p : Point) → (PolygonBelow g points → InFigure (filled points) p → SurelyInPolygon g p) × (PolygonAbove g points → PossiblyInPolygon g p → InFigure (filled points) p)

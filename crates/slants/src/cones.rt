@@ -3,6 +3,7 @@ ghost use Rattle.board_shapes.specs.Figures.{InFigure, filled};
 ghost use Rattle.planar.specs.Plane.{Point};
 ghost use Rattle.slants.specs.Cones as spec;
 ghost use Rattle.slants.specs.Cones.{FigureAbove, FigureBelow, PossiblyTurned, SurelyTurned, cosine_by, half_of, lessened, scaled, sine_by, square_of, turns_by};
+ghost use Rattle.slants.specs.Turned.{IsSmall};
 ghost use Rattle.std.specs.Prelude.{IsTrue, ◌*◌, ◌/◌, ◌<◌, ◌≡◌, ◌≤◌, ◌↔◌};
 
 use super::figure::TurnedFigure;
@@ -103,7 +104,8 @@ pub fn place(angle: u32) -> (u32, u32)
 /// The turns about the spot by about the angle.
 pub fn turns(about: Spot, angle: u32) -> Motions
     requires { angle < RIGHT_ANGLE }
-    ensures { result ≡ turns_by about angle }
+    ensures value { result ≡ turns_by about angle }
+    ensures small { IsSmall result.first × IsSmall result.last }
 {
     let (across, up) = place(angle);
     let (x, y) = (across as i64, up as i64);

@@ -1,5 +1,5 @@
 //! Laws over the definitions. Their calls do nothing.
-ghost use Rattle.slants.specs.Laws.{BelowIsAbove, DiscsAreBetween, DiscsHaveCopper, EachTurnIsTold, LevelIsRectangle, NearIsBetween, OtherWayIsSame, SidesTellCone, SurelyIsPossibly, TakenIsBetween, TurnedIsBetween};
+ghost use Rattle.slants.specs.Laws.{BelowIsAbove, DiscsAreBetween, DiscsHaveCopper, EachTurnIsTold, LevelIsRectangle, NearIsBetween, OtherWayIsSame, PolygonIsBetween, SidesTellCone, SurelyIsPossibly, TakenIsBetween, TurnedIsBetween};
 
 /// A contour that is taken below lies in the rectangle, one that is taken above holds it.
 pub fn taken_is_between()
@@ -54,4 +54,9 @@ pub fn discs_are_between()
 /// What lies in a turned disc at each turn by about the angle lies in it at one.
 pub fn discs_have_copper()
     ensures { DiscsHaveCopper }
+{}
+
+/// A contour that is taken below lies in the regular polygon, one that is taken above holds it.
+pub fn polygon_is_between()
+    ensures { PolygonIsBetween }
 {}

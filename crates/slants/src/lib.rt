@@ -10,6 +10,7 @@
 //! - `discs`: discs that are turned by degrees, and whether discs bound them.
 //! - `figure`: figures that are turned by degrees.
 //! - `measures`: whole numbers for the length and the width.
+//! - `polygons`: regular polygons in any direction, and whether polygons bound them.
 //! - `turns`: turns, and rigid motions by those between two.
 //! - `turned`: whether polygons bound a figure that is turned by any of them.
 //! - `laws`: laws over the definitions alone.
@@ -23,6 +24,7 @@ mod discs;
 mod figure;
 pub mod laws;
 mod measures;
+mod polygons;
 mod turned;
 mod turns;
 
@@ -34,6 +36,7 @@ pub use discs::{TurnedDisc, is_above_disc, is_below_disc};
 pub use figure::TurnedFigure;
 pub use measures::FINE;
 pub use planar::Spot;
+pub use polygons::{PARTS, RegularPolygon, is_above_polygon, is_below_polygon};
 pub use turned::{is_above_turned, is_below_turned};
 pub use turns::{MOST_PART, Motions, Turn};
 
@@ -46,5 +49,7 @@ pub struct Slant {
     pub width: u64,
 }
 
+#[cfg(test)]
+mod polygon_tests;
 #[cfg(test)]
 mod tests;

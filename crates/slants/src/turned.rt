@@ -55,7 +55,7 @@ pub fn leans_so(parts: Parts, d: Heading) -> bool
 }
 
 /// Whether the spot is on the left of the line from `b` to `c`, where it goes to for the three headings.
-fn leans(m: &Motions, triangle: &Triangle, b: Spot, c: Spot, q: Spot) -> bool
+pub fn leans(m: &Motions, triangle: &Triangle, b: Spot, c: Spot, q: Spot) -> bool
     requires ready { AreReady m.now }
     requires triangle { IsTriangle m.now triangle.now }
     requires b_placed { IsPlaced b }
@@ -70,7 +70,7 @@ fn leans(m: &Motions, triangle: &Triangle, b: Spot, c: Spot, q: Spot) -> bool
 }
 
 /// Whether it is so of each corner of the figure.
-fn all_lean(m: &Motions, triangle: &Triangle, b: Spot, c: Spot, figure: &[Spot]) -> bool
+pub fn all_lean(m: &Motions, triangle: &Triangle, b: Spot, c: Spot, figure: &[Spot]) -> bool
     requires ready { AreReady m.now }
     requires triangle { IsTriangle m.now triangle.now }
     requires b_placed { IsPlaced b }
