@@ -5,13 +5,12 @@ mod Crossing
 mod Each
 mod Ends
 mod Grown
-pub mod Links
 pub mod Lower
 mod Moved
 mod OneDistance
 mod Places
 pub mod Radii
-pub mod Read
+mod Read
 mod Ring
 mod Roots
 mod Taken

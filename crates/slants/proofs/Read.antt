@@ -1,6 +1,7 @@
 -- What the code's numbers and answers tell.
 use Rattle.std.proofs.Common.{◌≡◌, ◌↔◌, Bool, IsTrue, sym, FitsSigned, to_z, of_z, to_z-of_z, ℕ, ◌+◌, ◌*◌, ◌≤◌, ℤ, pos, negsuc, unsigned_abs, ◌+ℤ◌, ◌-ℤ◌, ◌*ℤ◌, ◌≤ℤ◌, ◌<ℤ◌, inl, inr, List, suc, arith, ap, subst, refl, ◌∙◌}
 use Rattle.std.proofs.lemmas.Int.{ints}
+use lib.Signed.{le_z}
 use Rattle.std.specs.Int.{w128}
 use Rattle.planar.specs.declared.Spot.{Spot}
 use Rattle.planar.specs.declared.TheConstants.{TWO_METRES}
@@ -16,6 +17,10 @@ use Rattle.slants.proofs.Inside.{round_as}
 use Rattle.slants.proofs.Sums.{dot_within}
 
 -- ---- numbers of 128 bits
+
+-- whether a number is from 0 on
+pub from_zero_read : (k z : ℤ) → k ≡ z → FitsSigned w128 k → IsTrue (le_z (pos 0) (to_z w128 (of_z w128 k))) ↔ (pos 0 ≤ℤ z)
+from_zero_read k z same fits = rw (to_z-of_z fits, same) (λ yes. omega (arith, ints, yes), λ h. sym (omega (arith, ints, h)))
 
 abs_read : (off : ℕ) (k : ℤ) → FitsSigned w128 k → off ≡ unsigned_abs (to_z w128 (of_z w128 k)) → off ≡ unsigned_abs k
 abs_read off k f e = e ∙ ap unsigned_abs (to_z-of_z f)

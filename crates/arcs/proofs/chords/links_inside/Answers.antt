@@ -1,7 +1,7 @@
 use Rattle.std.proofs.Common.{pos}
 use Rattle.planar.specs.declared.Spot.{Spot}
 use Rattle.arcs.specs.Chains.{EachFrom, IsInner}
-use Rattle.arcs.proofs.Links.{is_not, is_so, link_fails, link_more, links_left}
+use Rattle.tables.proofs.Links.{is_not, is_so, link_fails, link_more, links_left}
 use Rattle.arcs.proofs.chords.links_inside.Goals as goal
 
 pub loop-to-preserved : goal.loop-to-preserved

@@ -1,7 +1,7 @@
 use Rattle.std.proofs.Common.{pos}
 use Rattle.planar.specs.declared.Spot.{Spot}
 use Rattle.arcs.specs.Chains.{EachFrom, EndsAt, IsLink}
-use Rattle.arcs.proofs.Links.{is_not, link_fails, link_more, links_left}
+use Rattle.tables.proofs.Links.{is_not, link_fails, link_more, links_left}
 use Rattle.arcs.proofs.chords.links_round.Goals as goal
 
 pub loop-to-preserved : goal.loop-to-preserved

@@ -3,7 +3,7 @@ use Rattle.planar.specs.Plane.{at}
 use Rattle.planar.specs.declared.Spot.{Spot}
 use Rattle.slants.specs.Copper.{InSlant}
 use Rattle.slants.specs.Taken.{Each}
-use Rattle.arcs.proofs.Links.{is_not, is_so, link_fails, link_more, links_left}
+use Rattle.tables.proofs.Links.{is_not, is_so, link_fails, link_more, links_left}
 use Rattle.slants.proofs.below.has_corners.Goals as goal
 
 pub loop-q-preserved : goal.loop-q-preserved

@@ -22,6 +22,3 @@ returns-clause-least g c =
     let below = slice_get_within c.args.self.now.items.now q u.item u.there in
     let long = c.args.self.now.copied in
     c.around.ensures.held q (omega arith) (subst (λ (s : Spot). InBox (copy_in c.args.self.now.finer.copies.items q) (at s)) (sym c.spot-place.ensures) (c.args.self.now.held c.args.at c.args.layer q u)))
-
-pub zz : goal.zz
-zz c = ?

@@ -1,5 +1,5 @@
 -- Lists gone along, from each item to the next.
-use Rattle.std.proofs.Common.{◌≡◌, ◌↔◌, ℕ, ◌+◌, ◌<◌, ◌≤◌, IsTrue, true, false, List, [], ◌∷◌, length, get_or, drop, sym, subst, refl}
+use Rattle.std.proofs.Common.{◌↔◌, ℕ, ◌+◌, ◌<◌, ◌≤◌, IsTrue, true, false, List, [], ◌∷◌, length, get_or, drop, sym, subst, refl}
 use Rattle.std.proofs.lemmas.List.{drop_all, drop_more}
 
 -- what a test says that is known to hold, or not to
